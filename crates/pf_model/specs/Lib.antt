@@ -1,0 +1,17 @@
+pub mod Fit
+pub mod Substitution
+pub mod Contraction
+pub mod Place
+pub mod Meaning
+pub mod Scopes
+pub mod PlainCode
+pub mod PlainPatterns
+pub mod PlainPatternFalls
+pub mod Plain
+pub mod PlainFalls
+pub mod Results
+pub mod Changes
+pub mod PlainFunctions
+pub mod Stepped
+pub mod Reports
+pub mod Turned

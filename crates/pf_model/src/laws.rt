@@ -1,0 +1,20 @@
+//! Laws of the definitions: functions with empty bodies, whose contracts are the laws.
+
+ghost use Rattle.pf_model.specs.Fit.{FitIsRelation};
+ghost use Rattle.pf_model.specs.Place.{OnePlace};
+ghost use Rattle.pf_model.specs.Meaning.{OneMeaning};
+
+/// The function of fit answers as the relation between a pattern, a value and the variables before and after holds.
+pub fn fit_is_a_relation()
+    ensures { FitIsRelation }
+{}
+
+/// A tree has at most one leftmost innermost redex.
+pub fn one_place()
+    ensures { OnePlace }
+{}
+
+/// Each module, root function and limit of steps has exactly one meaning.
+pub fn one_meaning()
+    ensures { OneMeaning }
+{}

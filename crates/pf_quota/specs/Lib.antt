@@ -1,0 +1,5 @@
+pub mod Limits
+pub mod Charges
+pub mod Refusals
+pub mod Usage
+pub mod Checks

@@ -1,0 +1,114 @@
+//! [`Usage`]: the sums over what a project holds, and its logged calls.
+
+ghost use Rattle.std.specs.Prelude.{◌≡◌, ◌≤◌, ◌<◌, ◌+◌, ℕ, List, [], ◌∷◌, ◌++◌, Some, None};
+ghost use Rattle.std.specs.Prelude.{IfOk, IfErr, OnOk, OnErr, MatchResult};
+ghost use Rattle.pf_quota.specs.declared.charges.Charge.{Charge};
+ghost use Rattle.pf_quota.specs.declared.charges.Held.{Held};
+ghost use Rattle.pf_quota.specs.declared.usage.Usage.{Usage};
+ghost use Rattle.pf_quota.specs.Usage.{usage_of, charged, refunded, Covers, charge_of};
+ghost use Rattle.pf_quota.specs.Checks.{refusal_of, IsWithinLimits};
+
+use crate::charges::{Charge, Held};
+use crate::refusals::{MAX_BYTES, MAX_CALLS, MAX_MODULES, MAX_STEPS, MAX_TRIALS, Refusal};
+
+/// What a project uses of its limits.
+#[derive(Clone, Copy, Debug, Default, PartialEq, Eq)]
+pub struct Usage {
+    /// The modules that it holds.
+    pub modules: u64,
+    /// The bytes of source of those modules.
+    pub bytes: u64,
+    /// The trials that it holds, in any state.
+    pub trials: u64,
+    /// The steps of those trials.
+    pub steps: u64,
+    /// The client calls that it has logged.
+    pub calls: u64,
+}
+
+impl Usage {
+    /// The usage of a project that holds nothing and has logged no call.
+    pub fn new() -> Usage
+        ensures { result ≡ usage_of [] 0 }
+    {
+        Usage::default()
+    }
+
+    /// Adds what a charge takes, if each sum stays within its limit. The checks are, in this order,
+    /// for a call that of the calls, for a module those of the modules and the bytes, for a trial
+    /// those of the trials and the steps. A refused charge changes nothing.
+    pub fn charge(&mut self, charge: Charge) -> Result<(), Refusal>
+        ensures refusal { MatchResult result (λ _. refusal_of self.old charge ≡ None)
+            (λ refusal. refusal_of self.old charge ≡ Some refusal) }
+        ensures ok { OnOk result (self.new ≡ charged self.old charge) }
+        ensures err { OnErr result (self.new ≡ self.old) }
+    {
+        match charge {
+            Charge::Call => self.calls = sum_within(self.calls, 1, MAX_CALLS, Refusal::Calls)?,
+            Charge::Module { bytes } => {
+                let modules = sum_within(self.modules, 1, MAX_MODULES, Refusal::Modules)?;
+                self.bytes = sum_within(self.bytes, bytes, MAX_BYTES, Refusal::Bytes)?;
+                self.modules = modules;
+            }
+            Charge::Trial { steps } => {
+                let trials = sum_within(self.trials, 1, MAX_TRIALS, Refusal::Trials)?;
+                self.steps = sum_within(self.steps, steps, MAX_STEPS, Refusal::Steps)?;
+                self.trials = trials;
+            }
+        }
+        Ok(())
+    }
+
+    /// Gives back what a thing that the project held took: one module and its bytes, or one trial
+    /// and its steps. Calls are never given back.
+    pub fn refund(&mut self, held: Held)
+        requires { Covers self.old held }
+        ensures { self.new ≡ refunded self.old held }
+    {
+        match held {
+            Held::Module { bytes } => {
+                self.modules -= 1;
+                self.bytes -= bytes;
+            }
+            Held::Trial { steps } => {
+                self.trials -= 1;
+                self.steps -= steps;
+            }
+        }
+    }
+}
+
+// The sum of what is used and what is added, or this refusal where the sum passes the limit.
+fn sum_within(used: u64, added: u64, limit: u64, refusal: Refusal) -> Result<u64, Refusal>
+    ensures ok { IfOk result (λ sum. (sum ≡ used + added) × (sum ≤ limit)) }
+    ensures err { IfErr result (λ e. (e ≡ refusal) × (limit < used + added)) }
+{
+    match used.checked_add(added) {
+        Some(sum) if sum <= limit => Ok(sum),
+        _ => Err(refusal),
+    }
+}
+
+/// The law that usage is the sums over what is held, wherever in the list a thing stands; it has no
+/// code. Charging a thing gives the usage with it. Giving it back is allowed where it is held, and
+/// gives the usage without it.
+pub fn usage_follows_held()
+    ensures call { (held : List Held) (calls : ℕ)
+        → charged (usage_of held calls) Charge.Call ≡ usage_of held (calls + 1) }
+    ensures charge { (before after : List Held) (thing : Held) (calls : ℕ) → charged
+        (usage_of (before ++ after) calls) (charge_of thing) ≡ usage_of (before ++ thing ∷ after) calls }
+    ensures covers { (before after : List Held) (thing : Held) (calls : ℕ)
+        → Covers (usage_of (before ++ thing ∷ after) calls) thing }
+    ensures refund { (before after : List Held) (thing : Held) (calls : ℕ)
+        → refunded (usage_of (before ++ thing ∷ after) calls) thing ≡ usage_of (before ++ after) calls }
+{}
+
+/// The law that the limits hold: at first, after each charge that is not refused and after each
+/// refund. It has no code.
+pub fn limits_hold()
+    ensures at_first { IsWithinLimits (usage_of [] 0) }
+    ensures charge { (usage : Usage) (charge : Charge) → IsWithinLimits usage
+        → refusal_of usage charge ≡ None → IsWithinLimits (charged usage charge) }
+    ensures refund { (usage : Usage) (thing : Held) → IsWithinLimits usage
+        → IsWithinLimits (refunded usage thing) }
+{}

@@ -1,0 +1,144 @@
+//! The names of the atoms of a module, each by its number.
+
+ghost use Rattle.std.specs.Prelude.{◌≡◌, ◌+◌, ◌<◌, ◌^◌, length, map, IfOk, IfSome, IfNone, OnErr, OnOk, slice_get, Some, IsTrue, None, false};
+ghost use Rattle.std.specs.List.{list_any};
+ghost use Rattle.std.specs.Str.{bytes_eq};
+ghost use Rattle.pf_terms.specs.Atoms.{fixed_names, name_of, with_name, with_names};
+ghost use Rattle.pf_terms.specs.Order.{TellsApart};
+
+use crate::memory::NoMemory;
+use indexmap::IndexSet;
+use std::alloc::Global;
+use std::marker::Model;
+
+/// An atom, by its number in a table.
+#[derive(Clone, Copy, PartialEq, Eq, Debug)]
+pub struct AtomId(pub u32);
+
+impl AtomId {
+    pub const TRUE: AtomId = AtomId(0);
+    pub const FALSE: AtomId = AtomId(1);
+    pub const UNDEFINED: AtomId = AtomId(2);
+    pub const NORMAL: AtomId = AtomId(3);
+    pub const KILL: AtomId = AtomId(4);
+    pub const KILLED: AtomId = AtomId(5);
+    pub const NOPROC: AtomId = AtomId(6);
+    pub const PROCESS: AtomId = AtomId(7);
+    pub const EXIT: AtomId = AtomId(8);
+    pub const DOWN: AtomId = AtomId(9);
+    pub const BADARG: AtomId = AtomId(10);
+    pub const BADARITH: AtomId = AtomId(11);
+    pub const BADMATCH: AtomId = AtomId(12);
+    pub const CASE_CLAUSE: AtomId = AtomId(13);
+    pub const FUNCTION_CLAUSE: AtomId = AtomId(14);
+    pub const IF_CLAUSE: AtomId = AtomId(15);
+    pub const SYSTEM_LIMIT: AtomId = AtomId(16);
+    pub const UNDEF: AtomId = AtomId(17);
+    pub const TRAP_EXIT: AtomId = AtomId(18);
+    pub const FLUSH: AtomId = AtomId(19);
+}
+
+/// The names of the fixed atoms, in the order of the numbers above.
+const FIXED: [&str; 20] = [
+    "true",
+    "false",
+    "undefined",
+    "normal",
+    "kill",
+    "killed",
+    "noproc",
+    "process",
+    "EXIT",
+    "DOWN",
+    "badarg",
+    "badarith",
+    "badmatch",
+    "case_clause",
+    "function_clause",
+    "if_clause",
+    "system_limit",
+    "undef",
+    "trap_exit",
+    "flush",
+];
+
+/// The names of atoms by number, each once: the fixed ones, which the system itself makes or asks for, and then those
+/// of a module in the order in which they were entered.
+#[derive(Drop)]
+pub struct AtomTable {
+    names: IndexSet<Vec<u8>>,
+}
+
+impl Model for AtomTable {
+    ghost use Rattle.std.specs.Prelude.{List, ℕ, length, map, ◌≤◌, ◌^◌};
+
+    ghost Value = { List (List ℕ) };
+
+    ghost view = { λ a. map (λ name. name.items) a.names.keys };
+
+    ghost invariant = { λ a. length a.names.keys ≤ 2 ^ 32 };
+}
+
+impl AtomTable {
+    /// The table of the fixed atoms.
+    pub fn new(alloc: Global) -> Result<AtomTable, NoMemory>
+        ensures { IfOk result (λ t. t ≡ fixed_names) }
+    {
+        let mut table = AtomTable {
+            names: IndexSet::new(alloc),
+        };
+        table.enter_all(alloc, &FIXED)?;
+        Ok(table)
+    }
+
+    fn enter_all(&mut self, alloc: Global, names: &[&str]) -> Result<(), NoMemory>
+        requires { length self.old + length names.now < 2 ^ 32 }
+        ensures { OnOk result (self.new ≡ with_names self.old (map (λ s. s.now) names.now)) }
+    {
+        for name in names {
+            self.enter(alloc, name.as_bytes())?;
+        }
+        Ok(())
+    }
+
+    /// The name of an atom, as bytes; empty where the table has none of this number.
+    pub fn name(&self, atom: AtomId) -> &[u8]
+        ensures { result.now ≡ name_of self.now atom.0 }
+    {
+        match self.names.get_index(atom.0 as usize) {
+            Some(name) => name.as_slice(),
+            None => &[],
+        }
+    }
+
+    /// How many names there are. No two of them are the same.
+    pub fn len(&self) -> usize
+        ensures len { result ≡ length self.now }
+        ensures distinct { TellsApart (name_of self.now) (length self.now) }
+    {
+        self.names.len()
+    }
+
+    /// The atom of this name, where the table has it.
+    pub fn find(&self, name: &[u8]) -> Option<AtomId>
+        ensures found { IfSome result (λ a. slice_get self.now a.0 ≡ Some name.now) }
+        ensures absent { IfNone result (list_any (bytes_eq name.now) self.now ≡ false) }
+    {
+        let index = self.names.get_index_of(name)?;
+        Some(AtomId(index as u32))
+    }
+
+    /// The atom of this name, which is entered last where it is new.
+    pub fn enter(&mut self, alloc: Global, name: &[u8]) -> Result<AtomId, NoMemory>
+        requires { length self.old < 2 ^ 32 }
+        ensures entered { IfOk result (λ a. slice_get self.new a.0 ≡ Some name.now) }
+        ensures names { OnOk result (self.new ≡ with_name self.old name.now) }
+        ensures err { OnErr result (self.new ≡ self.old) }
+    {
+        if let Some(atom) = self.find(name) {
+            return Ok(atom);
+        }
+        let (index, _) = self.names.insert_full(Vec::from_slice(alloc, name)?)?;
+        Ok(AtomId(index as u32))
+    }
+}

@@ -1,0 +1,122 @@
+//! A reader or a writer that counts its failed calls.
+
+ghost use Rattle.std.specs.Prelude.{◌≡◌, ◌+◌, ◌<◌, ◌≤◌, ℕ, List, length, take, IfErr, IfOk, IfSome, OnErr, OnOk};
+ghost use Rattle.std.specs.Io.{ReadsAtMost};
+ghost use Rattle.std.specs.Io.KnownBytes.{Appends, Consumes, ReadConsumes};
+ghost use Rattle.pf_terms.specs.Ends.{AppendsFront, CountsWhereEnded};
+
+use std::alloc::Global;
+use std::io;
+use std::io::{Read, Write};
+use std::sync::ledger::{Blank, Book, Ledger, Share};
+
+/// A reader or a writer, and how many of its calls failed. A call fails by any error, `Interrupted` too, and a write
+/// also by taking 0 bytes. The count takes no bytes and has no bound: it is a ledger, which only contracts see.
+#[derive(Drop)]
+pub struct Counted<T, L: Ledger> {
+    pub inner: T,
+    failures: Book<L>,
+    share: Share<L>,
+    ghost may_count: { 0 < share.parts },
+}
+
+/// The end failed in a call.
+#[derive(Debug, Drop)]
+pub struct EndFault(pub io::Error);
+
+/// Why nothing was taken from a reader.
+#[derive(Debug, Drop)]
+pub enum TakeFault {
+    /// A growth was refused.
+    Memory,
+    /// The reader failed.
+    End(EndFault),
+}
+
+impl<T, L: Ledger> Counted<T, L> {
+    /// The end, of which no call has failed yet.
+    pub fn new(inner: T, blank: Blank) -> Counted<T, L>
+        requires name { blank.name ≡ L.name }
+        requires parts { blank.parts ≡ L.parts }
+        requires some { 0 < blank.parts }
+        ensures inner { result.inner ≡ inner }
+        ensures failures { result.failures.total ≡ 0 }
+    {
+        let (failures, share) = blank.open::<L>();
+        Counted {
+            inner,
+            failures,
+            share,
+        }
+    }
+
+    /// Counts a failed call, and gives its fault.
+    fn failed(&mut self, error: io::Error) -> EndFault
+        ensures inner { self.new.inner ≡ self.old.inner }
+        ensures counted { self.new.failures.total ≡ self.old.failures.total + 1 }
+    {
+        self.failures.add(&mut self.share, 1);
+        EndFault(error)
+    }
+}
+
+impl<R: Read, L: Ledger> Counted<R, L> {
+    /// Reads once, and answers how many bytes now stand at the front of the buffer; 0 at the end of the input.
+    pub fn take_some(&mut self, buf: &mut [u8]) -> Result<usize, EndFault>
+        ensures bound { ReadsAtMost result buf.new }
+        ensures bytes { ReadConsumes (R.remaining self.old.inner) (R.remaining self.new.inner) result buf.new }
+        ensures kept { OnOk result (self.new.failures.total ≡ self.old.failures.total) }
+        ensures counted { OnErr result (self.new.failures.total ≡ self.old.failures.total + 1) }
+    {
+        match self.inner.read(buf) {
+            Ok(n) => Ok(n),
+            Err(e) => Err(self.failed(e)),
+        }
+    }
+
+    /// Reads up to `limit` bytes, or all that there are. What follows isn't read, so an endless reader ends too.
+    pub fn take_front(&mut self, alloc: Global, limit: usize) -> Result<Vec<u8>, TakeFault>
+        ensures front { IfOk result (λ v. IfSome (R.remaining self.old.inner) (λ input. v.items ≡ take limit input)) }
+        ensures len { IfOk result (λ v. length v.items ≤ limit) }
+        ensures taken { (bytes : List ℕ) × Consumes (R.remaining self.old.inner) (R.remaining self.new.inner) bytes }
+        ensures kept { OnOk result (self.new.failures.total ≡ self.old.failures.total) }
+        ensures counted { IfErr result (λ e. CountsWhereEnded e self.old.failures.total self.new.failures.total) }
+    {
+        let mut bytes = Vec::new(alloc);
+        let mut buf = [0u8; 4096];
+        while bytes.len() < limit {
+            let want = (limit - bytes.len()).min(4096);
+            let n = match self.take_some(&mut buf[..want]) {
+                Ok(n) => n,
+                Err(e) => return Err(TakeFault::End(e)),
+            };
+            if n == 0 {
+                return Ok(bytes);
+            }
+            if bytes.extend_from_slice(&buf[..n]).is_err() {
+                return Err(TakeFault::Memory);
+            }
+        }
+        Ok(bytes)
+    }
+}
+
+impl<W: Write, L: Ledger> Counted<W, L> {
+    /// Writes the whole text; where a call fails, a beginning of it went out.
+    pub fn put(&mut self, text: &[u8]) -> Result<(), EndFault>
+        ensures written { OnOk result (Appends (W.contents self.old.inner) (W.contents self.new.inner) text.now) }
+        ensures front { OnErr result (AppendsFront (W.contents self.old.inner) (W.contents self.new.inner) text.now) }
+        ensures kept { OnOk result (self.new.failures.total ≡ self.old.failures.total) }
+        ensures counted { OnErr result (self.new.failures.total ≡ self.old.failures.total + 1) }
+    {
+        let mut rest = text;
+        while !rest.is_empty() {
+            match self.inner.write(rest) {
+                Ok(0) => return Err(self.failed(io::Error::from(io::ErrorKind::WriteZero))),
+                Ok(n) => rest = rest.split_at(n).1,
+                Err(e) => return Err(self.failed(e)),
+            }
+        }
+        Ok(())
+    }
+}
