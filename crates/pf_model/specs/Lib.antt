@@ -3,6 +3,8 @@ pub mod Substitution
 pub mod Contraction
 pub mod Place
 pub mod Meaning
+pub mod Text
+pub mod Examples
 pub mod Scopes
 pub mod PlainCode
 pub mod PlainPatterns

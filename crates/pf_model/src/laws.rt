@@ -3,6 +3,7 @@
 ghost use Rattle.pf_model.specs.Fit.{FitIsRelation};
 ghost use Rattle.pf_model.specs.Place.{OnePlace};
 ghost use Rattle.pf_model.specs.Meaning.{OneMeaning};
+ghost use Rattle.pf_model.specs.Examples.{TextsOfExamples};
 
 /// The function of fit answers as the relation between a pattern, a value and the variables before and after holds.
 pub fn fit_is_a_relation()
@@ -17,4 +18,9 @@ pub fn one_place()
 /// Each module, root function and limit of steps has exactly one meaning.
 pub fn one_meaning()
     ensures { OneMeaning }
+{}
+
+/// Worked reports have the texts that they are to have.
+pub fn texts_of_examples()
+    ensures { TextsOfExamples }
 {}

@@ -23,13 +23,13 @@ decided_by Greater r h = refl
 
 -- runs of different sizes go by size
 pub by_size : (name : ℕ → List ℕ) (xs ys : List Term) (vs ws : Values) (o : Ordering) → values_of xs ≡ vs → values_of ys ≡ ws → o ≡ nat_cmp (length xs) (length ys) → ¬ (o ≡ Equal)
-  → o ≡ ordering_then (nat_cmp (count vs) (count ws)) (compare_all name vs ws)
+    → o ≡ ordering_then (nat_cmp (count vs) (count ws)) (compare_all name vs ws)
 by_size name xs ys vs ws o e d h n =
     decided_by o (compare_all name vs ws) n ∙ ap (λ p. ordering_then p (compare_all name vs ws)) (h ∙ sizes xs ys vs ws e d)
 
 -- runs of one size go by their elements
 pub by_elements : (name : ℕ → List ℕ) (xs ys : List Term) (vs ws : Values) (o r : Ordering) → values_of xs ≡ vs → values_of ys ≡ ws → o ≡ nat_cmp (length xs) (length ys) → o ≡ Equal
-  → r ≡ compare_all name (values_of xs) (values_of ys) → r ≡ ordering_then (nat_cmp (count vs) (count ws)) (compare_all name vs ws)
+    → r ≡ compare_all name (values_of xs) (values_of ys) → r ≡ ordering_then (nat_cmp (count vs) (count ws)) (compare_all name vs ws)
 by_elements name xs ys vs ws o r e d h n k =
     k ∙ ap (λ us. compare_all name us (values_of ys)) e ∙ ap (compare_all name vs) d
-      ∙ ap (λ p. ordering_then p (compare_all name vs ws)) (sym n ∙ h ∙ sizes xs ys vs ws e d)
+    ∙ ap (λ p. ordering_then p (compare_all name vs ws)) (sym n ∙ h ∙ sizes xs ys vs ws e d)

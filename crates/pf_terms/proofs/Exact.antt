@@ -29,7 +29,7 @@ module _ (name : ℕ → List ℕ) (n : ℕ) (apart : TellsApart name n) where
     all_same_by_order none (more w ws) h k e = absurd (cc)
     all_same_by_order (more v vs) none h k e = absurd (cc)
     all_same_by_order (more v vs) (more w ws) h k e =
-      let both = both_equal (compare name v w) (compare_all name vs ws) e in
-      let first = same_by_order v w h.0 k.0 both.0 in
-      let rest = all_same_by_order vs ws h.1 k.1 both.1 in
-      cc
+        let both = both_equal (compare name v w) (compare_all name vs ws) e in
+        let first = same_by_order v w h.0 k.0 both.0 in
+        let rest = all_same_by_order vs ws h.1 k.1 both.1 in
+        cc

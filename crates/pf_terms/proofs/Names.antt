@@ -21,11 +21,11 @@ module _ {K : Type 0} (name : K → List ℕ) where
   within p (k ∷ ks) i e = (position-Some p (k ∷ ks) i k (sym e)).0
 
   at_place : (text : List ℕ) (ks : List K) (i : ℕ) → Some i ≡ position (λ k. bytes_eq text (name k)) ks
-    → ((k : K) × (i < length ks) × (slice_get ks i ≡ Some k) × (get_or ks i k ≡ k)) ⊎ ((length ks ≤ i) × (slice_get ks i ≡ None))
-    → slice_get (map name ks) i ≡ Some text
+      → ((k : K) × (i < length ks) × (slice_get ks i ≡ Some k) × (get_or ks i k ≡ k)) ⊎ ((length ks ≤ i) × (slice_get ks i ≡ None))
+      → slice_get (map name ks) i ≡ Some text
   at_place text ks i e (inl p) =
-    let passes : bytes_eq text (name p.0) ≡ true = ap (λ k. bytes_eq text (name k)) (sym p.3) ∙ (position-Some (λ k. bytes_eq text (name k)) ks i p.0 (sym e)).1 in
-    slice_get-map name ks i ∙ ap (option_map name) p.2 ∙ ap (λ n. Some n) (sym ((bytes_eq-Decides text (name p.0)).0 passes))
+      let passes : bytes_eq text (name p.0) ≡ true = ap (λ k. bytes_eq text (name k)) (sym p.3) ∙ (position-Some (λ k. bytes_eq text (name k)) ks i p.0 (sym e)).1 in
+      slice_get-map name ks i ∙ ap (option_map name) p.2 ∙ ap (λ n. Some n) (sym ((bytes_eq-Decides text (name p.0)).0 passes))
   at_place text ks i e (inr p) = let h = within (λ k. bytes_eq text (name k)) ks i e in absurd (omega (arith, p.0))
 
   -- the key at the first place that passes bears the name
@@ -39,7 +39,7 @@ module _ {K : Type 0} (name : K → List ℕ) where
   -- a new name goes last
   pub with_name-map : (text : List ℕ) (ks : List K) (k : K) → name k ≡ text → map name (if list_any (λ q. bytes_eq (name k) (name q)) ks then ks else ks ++ k ∷ []) ≡ with_name (map name ks) text
   with_name-map text ks k e =
-    ap (λ n. map name (if list_any (λ q. bytes_eq n (name q)) ks then ks else ks ++ k ∷ [])) e
+      ap (λ n. map name (if list_any (λ q. bytes_eq n (name q)) ks then ks else ks ++ k ∷ [])) e
       ∙ last_or_kept text ks k e (list_any (λ q. bytes_eq text (name q)) ks)
       ∙ ap (λ b. if b then map name ks else map name ks ++ text ∷ []) (sym (list_any-map (bytes_eq text) ks))
 
@@ -50,8 +50,8 @@ module _ {K : Type 0} (name : K → List ℕ) where
   differs : (text : List ℕ) (ks : List K) (i : ℕ) → AllByRecursion (λ q. bytes_eq text (name q) ≡ false) ks → i < length ks → ¬ (text ≡ slice_index_or (map name ks) i [])
   differs text [] i h k e = absurd (omega arith)
   differs text (q ∷ ks) zero h k e =
-    let t = (bytes_eq-Decides text (name q)).1 e in
-    let f = h.0 in cc
+      let t = (bytes_eq-Decides text (name q)).1 e in
+      let f = h.0 in cc
   differs text (q ∷ ks) (suc i) h k e = differs text ks i h.1 (omega arith) e
 
   -- keys that differ bear names that differ

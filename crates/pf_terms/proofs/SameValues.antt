@@ -21,10 +21,10 @@ mutual
   same_all_true : (vs ws : Values) → same_all vs ws ≡ true → vs ≡ ws
   same_all_true none none e = refl
   same_all_true (more v vs) (more w ws) e =
-    let both = both_true (same v w) (same_all vs ws) e in
-    let first = same_true v w both.0 in
-    let rest = same_all_true vs ws both.1 in
-    cc
+      let both = both_true (same v w) (same_all vs ws) e in
+      let first = same_true v w both.0 in
+      let rest = same_all_true vs ws both.1 in
+      cc
   same_all_true _ _ e = absurd (cc)
 
 mutual

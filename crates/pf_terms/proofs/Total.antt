@@ -20,7 +20,7 @@ then_congr Equal p b c q r f g e = ap (λ o. ordering_then o r) (f refl) ∙ ap 
 then_congr Greater p b c q r f g e = absurd (cc)
 
 then_trans : (a b c p q r : Ordering) → (a ≡ Less → b ≡ Less → c ≡ Less) → (a ≡ Equal → c ≡ b) → (b ≡ Equal → c ≡ a) → (p ≡ Less → q ≡ Less → r ≡ Less)
-  → ordering_then a p ≡ Less → ordering_then b q ≡ Less → ordering_then c r ≡ Less
+    → ordering_then a p ≡ Less → ordering_then b q ≡ Less → ordering_then c r ≡ Less
 then_trans Less Less c p q r t f g s d e = ap (λ o. ordering_then o r) (t refl refl)
 then_trans Less Equal c p q r t f g s d e = ap (λ o. ordering_then o r) (g refl)
 then_trans Less Greater c p q r t f g s d e = absurd (cc)
@@ -49,16 +49,16 @@ module _ (name : ℕ → List ℕ) where
   rank_le : (v w : Value) (b : Bool) → alike v w ≡ b → compare name v w ≡ Less → rank v ≤ rank w
   rank_le v w true h e = grind (arith, nat_tests)
   rank_le v w false h e =
-    let r = ranked (rank v) (rank w) Less (sym e ∙ apart v w h) in omega arith
+      let r = ranked (rank v) (rank w) Less (sym e ∙ apart v w h) in omega arith
 
   -- where two of three values are of different kinds, the kinds decide
   mixed : (u v w : Value) → (alike u v && alike v w) ≡ false → compare name u v ≡ Less → compare name v w ≡ Less → compare name u w ≡ Less
   mixed u v w h p q =
-    let a = rank_le u v (alike u v) refl p in
-    let b = rank_le v w (alike v w) refl q in
-    let below : rank u < rank w = grind (arith, nat_tests) in
-    let unlike : alike u w ≡ false = grind (arith, nat_tests) in
-    apart u w unlike ∙ sym (nat_cmp_is (rank u) (rank w) Less below)
+      let a = rank_le u v (alike u v) refl p in
+      let b = rank_le v w (alike v w) refl q in
+      let below : rank u < rank w = grind (arith, nat_tests) in
+      let unlike : alike u w ≡ false = grind (arith, nat_tests) in
+      apart u w unlike ∙ sym (nat_cmp_is (rank u) (rank w) Less below)
 
   rank_same : (v w : Value) (b : Bool) → alike v w ≡ b → compare name v w ≡ Equal → rank v ≡ rank w
   rank_same v w true h e = grind (arith, nat_tests)
@@ -66,10 +66,10 @@ module _ (name : ℕ → List ℕ) where
 
   mixed_congr : (u v w : Value) → (alike u v && alike v w) ≡ false → compare name u v ≡ Equal → compare name u w ≡ compare name v w
   mixed_congr u v w h p =
-    let r = rank_same u v (alike u v) refl p in
-    let left : alike u w ≡ false = grind (arith, nat_tests) in
-    let right : alike v w ≡ false = grind (arith, nat_tests) in
-    apart u w left ∙ ap (λ n. nat_cmp n (rank w)) r ∙ sym (apart v w right)
+      let r = rank_same u v (alike u v) refl p in
+      let left : alike u w ≡ false = grind (arith, nat_tests) in
+      let right : alike v w ≡ false = grind (arith, nat_tests) in
+      apart u w left ∙ ap (λ n. nat_cmp n (rank w)) r ∙ sym (apart v w right)
 
   mutual
     pub antisymm : (v w : Value) → compare name v w ≡ ordering_reverse (compare name w v)
@@ -78,7 +78,7 @@ module _ (name : ℕ → List ℕ) where
     antisymm (ref r) (ref s) = nat_cmp_total.antisymm r s
     antisymm (pid p) (pid q) = nat_cmp_total.antisymm p q
     antisymm (tuple vs) (tuple ws) =
-      ap (λ o. ordering_then o (compare_all name vs ws)) (nat_cmp_total.antisymm (count vs) (count ws))
+        ap (λ o. ordering_then o (compare_all name vs ws)) (nat_cmp_total.antisymm (count vs) (count ws))
         ∙ ap (ordering_then (ordering_reverse (nat_cmp (count ws) (count vs)))) (antisymm_all vs ws)
         ∙ then_flip (nat_cmp (count ws) (count vs)) (compare_all name ws vs)
     antisymm (list vs) (list ws) = antisymm_all vs ws
@@ -89,7 +89,7 @@ module _ (name : ℕ → List ℕ) where
     antisymm_all none (more w ws) = refl
     antisymm_all (more v vs) none = refl
     antisymm_all (more v vs) (more w ws) =
-      ap (λ o. ordering_then o (compare_all name vs ws)) (antisymm v w)
+        ap (λ o. ordering_then o (compare_all name vs ws)) (antisymm v w)
         ∙ ap (ordering_then (ordering_reverse (compare name w v))) (antisymm_all vs ws)
         ∙ then_flip (compare name w v) (compare_all name ws vs)
 
@@ -100,7 +100,7 @@ module _ (name : ℕ → List ℕ) where
     congr (ref r) (ref s) (ref t) e = nat_cmp_total.congr r s t e
     congr (pid p) (pid q) (pid r) e = nat_cmp_total.congr p q r e
     congr (tuple us) (tuple vs) (tuple ws) e =
-      then_congr (nat_cmp (count us) (count vs)) (compare_all name us vs) _ _ _ _ (nat_cmp_total.congr (count us) (count vs) (count ws)) (congr_all us vs ws) e
+        then_congr (nat_cmp (count us) (count vs)) (compare_all name us vs) _ _ _ _ (nat_cmp_total.congr (count us) (count vs) (count ws)) (congr_all us vs ws) e
     congr (list us) (list vs) (list ws) e = congr_all us vs ws e
     congr u v w e = mixed_congr u v w refl e
 
@@ -110,15 +110,15 @@ module _ (name : ℕ → List ℕ) where
     congr_all (more u us) none ws e = absurd (cc)
     congr_all (more u us) (more v vs) none e = refl
     congr_all (more u us) (more v vs) (more w ws) e =
-      then_congr (compare name u v) (compare_all name us vs) _ _ _ _ (congr u v w) (congr_all us vs ws) e
+        then_congr (compare name u v) (compare_all name us vs) _ _ _ _ (congr u v w) (congr_all us vs ws) e
 
   turned : (u v w : Value) → compare name v w ≡ Equal → compare name u w ≡ compare name u v
   turned u v w e =
-    antisymm u w ∙ ap ordering_reverse (congr w v u (antisymm w v ∙ ap ordering_reverse e)) ∙ sym (antisymm u v)
+      antisymm u w ∙ ap ordering_reverse (congr w v u (antisymm w v ∙ ap ordering_reverse e)) ∙ sym (antisymm u v)
 
   nat_turned : (l m n : ℕ) → nat_cmp m n ≡ Equal → nat_cmp l n ≡ nat_cmp l m
   nat_turned l m n e =
-    nat_cmp_total.antisymm l n ∙ ap ordering_reverse (nat_cmp_total.congr n m l (nat_cmp_total.antisymm n m ∙ ap ordering_reverse e)) ∙ sym (nat_cmp_total.antisymm l m)
+      nat_cmp_total.antisymm l n ∙ ap ordering_reverse (nat_cmp_total.congr n m l (nat_cmp_total.antisymm n m ∙ ap ordering_reverse e)) ∙ sym (nat_cmp_total.antisymm l m)
 
   mutual
     pub trans : (u v w : Value) → compare name u v ≡ Less → compare name v w ≡ Less → compare name u w ≡ Less
@@ -127,7 +127,7 @@ module _ (name : ℕ → List ℕ) where
     trans (ref r) (ref s) (ref t) p q = nat_cmp_total.trans r s t p q
     trans (pid x) (pid y) (pid z) p q = nat_cmp_total.trans x y z p q
     trans (tuple us) (tuple vs) (tuple ws) p q =
-      then_trans (nat_cmp (count us) (count vs)) (nat_cmp (count vs) (count ws)) (nat_cmp (count us) (count ws)) (compare_all name us vs) (compare_all name vs ws) (compare_all name us ws)
+        then_trans (nat_cmp (count us) (count vs)) (nat_cmp (count vs) (count ws)) (nat_cmp (count us) (count ws)) (compare_all name us vs) (compare_all name vs ws) (compare_all name us ws)
         (nat_cmp_total.trans (count us) (count vs) (count ws)) (nat_cmp_total.congr (count us) (count vs) (count ws)) (nat_turned (count us) (count vs) (count ws)) (trans_all us vs ws) p q
     trans (list us) (list vs) (list ws) p q = trans_all us vs ws p q
     trans u v w p q = mixed u v w refl p q
@@ -139,7 +139,7 @@ module _ (name : ℕ → List ℕ) where
     trans_all (more u us) none ws p q = absurd (cc)
     trans_all (more u us) (more v vs) none p q = absurd (cc)
     trans_all (more u us) (more v vs) (more w ws) p q =
-      then_trans (compare name u v) (compare name v w) (compare name u w) (compare_all name us vs) (compare_all name vs ws) (compare_all name us ws)
+        then_trans (compare name u v) (compare name v w) (compare name u w) (compare_all name us vs) (compare_all name vs ws) (compare_all name us ws)
         (trans u v w) (congr u v w) (turned u v w) (trans_all us vs ws) p q
 
   pub compare_total : IsTotalOrder (compare name)

@@ -52,7 +52,7 @@ mutual
   pub all_decoded-code_values : (vs : Values) → all_decoded (code_values vs) ≡ vs
   all_decoded-code_values none = refl
   all_decoded-code_values (more v vs) =
-    ap (λ x. more x (all_decoded (code_values vs))) (decoded-code_value v) ∙ ap (λ xs. more v xs) (all_decoded-code_values vs)
+      ap (λ x. more x (all_decoded (code_values vs))) (decoded-code_value v) ∙ ap (λ xs. more v xs) (all_decoded-code_values vs)
 
 abbrev pub coded_value : Coded Value
 coded_value =

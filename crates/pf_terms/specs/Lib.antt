@@ -6,3 +6,4 @@ pub mod Falls
 pub mod Atoms
 pub mod Fixed
 pub mod Ends
+pub mod Faults

@@ -17,24 +17,43 @@ pub struct AtomId(pub u32);
 
 impl AtomId {
     pub const TRUE: AtomId = AtomId(0);
+
     pub const FALSE: AtomId = AtomId(1);
+
     pub const UNDEFINED: AtomId = AtomId(2);
+
     pub const NORMAL: AtomId = AtomId(3);
+
     pub const KILL: AtomId = AtomId(4);
+
     pub const KILLED: AtomId = AtomId(5);
+
     pub const NOPROC: AtomId = AtomId(6);
+
     pub const PROCESS: AtomId = AtomId(7);
+
     pub const EXIT: AtomId = AtomId(8);
+
     pub const DOWN: AtomId = AtomId(9);
+
     pub const BADARG: AtomId = AtomId(10);
+
     pub const BADARITH: AtomId = AtomId(11);
+
     pub const BADMATCH: AtomId = AtomId(12);
+
     pub const CASE_CLAUSE: AtomId = AtomId(13);
+
     pub const FUNCTION_CLAUSE: AtomId = AtomId(14);
+
     pub const IF_CLAUSE: AtomId = AtomId(15);
+
     pub const SYSTEM_LIMIT: AtomId = AtomId(16);
+
     pub const UNDEF: AtomId = AtomId(17);
+
     pub const TRAP_EXIT: AtomId = AtomId(18);
+
     pub const FLUSH: AtomId = AtomId(19);
 }
 

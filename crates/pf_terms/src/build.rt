@@ -43,6 +43,11 @@ impl<T: Drop> From<AllocFailed<T>> for TermFault {
 }
 
 impl fmt::Display for TermFault {
+    ghost use Rattle.std.specs.Prelude.{Some};
+    ghost use Rattle.pf_terms.specs.Faults.{code_of};
+
+    ghost output = { λ fault. Some (code_of fault) };
+
     fn fmt<W: fmt::Write>(&self, f: &mut fmt::Formatter<W>) -> fmt::Result {
         match self {
             TermFault::TooLarge => f.write_str("T1"),

@@ -46,7 +46,11 @@ impl Read for Endless {
     }
 }
 
-fn put_by<W: Write + Drop, L: Ledger>(inner: W, blank: Blank, text: &[u8]) -> (W, Result<(), EndFault>)
+fn put_by<W: Write + Drop, L: Ledger>(
+    inner: W,
+    blank: Blank,
+    text: &[u8],
+) -> (W, Result<(), EndFault>)
     requires name { blank.name ≡ L.name }
     requires parts { blank.parts ≡ L.parts }
     requires some { 0 < blank.parts }
@@ -61,7 +65,12 @@ fn put<W: Write + Drop>(inner: W, text: &[u8]) -> (W, Result<(), EndFault>) {
     put_by::<W, Brand>(inner, Blank::new(1), text)
 }
 
-fn take_by<R: Read + Drop, L: Ledger>(alloc: Global, inner: R, blank: Blank, limit: usize) -> Result<Vec<u8>, TakeFault>
+fn take_by<R: Read + Drop, L: Ledger>(
+    alloc: Global,
+    inner: R,
+    blank: Blank,
+    limit: usize,
+) -> Result<Vec<u8>, TakeFault>
     requires name { blank.name ≡ L.name }
     requires parts { blank.parts ≡ L.parts }
     requires some { 0 < blank.parts }
@@ -77,7 +86,14 @@ fn take<R: Read + Drop>(alloc: Global, inner: R, limit: usize) -> Result<Vec<u8>
 #[test]
 fn short_writes_go_on(rt: HostRuntime) {
     let taken = Vec::new(rt.alloc());
-    let (end, answer) = put(Narrow { taken, most: 3, room: 99 }, b"0/1 <0> wait");
+    let (end, answer) = put(
+        Narrow {
+            taken,
+            most: 3,
+            room: 99,
+        },
+        b"0/1 <0> wait",
+    );
     assert!(rt; answer.is_ok());
     assert_eq!(rt; end.taken.as_slice(), b"0/1 <0> wait".as_slice());
 }
@@ -85,16 +101,38 @@ fn short_writes_go_on(rt: HostRuntime) {
 #[test]
 fn a_write_of_nothing_is_a_fault(rt: HostRuntime) {
     let taken = Vec::new(rt.alloc());
-    let (end, answer) = put(Narrow { taken, most: 3, room: 5 }, b"0/1 <0> wait");
+    let (end, answer) = put(
+        Narrow {
+            taken,
+            most: 3,
+            room: 5,
+        },
+        b"0/1 <0> wait",
+    );
     assert!(rt; matches!(answer, Err(EndFault(e)) if e.kind() == ErrorKind::WriteZero));
     assert_eq!(rt; end.taken.as_slice(), b"0/1 <".as_slice());
 }
 
 #[test]
 fn a_failing_call_leaves_a_beginning(rt: HostRuntime) {
-    for (at, want) in [(1, "".as_bytes()), (2, b"0/1"), (3, b"0/1 <0"), (9, b"0/1 <0> wait")] {
+    for (at, want) in [
+        (1, "".as_bytes()),
+        (2, b"0/1"),
+        (3, b"0/1 <0"),
+        (9, b"0/1 <0> wait"),
+    ] {
         let taken = Vec::new(rt.alloc());
-        let (end, answer) = put(FailAt::new(Narrow { taken, most: 3, room: 99 }, at), b"0/1 <0> wait");
+        let (end, answer) = put(
+            FailAt::new(
+                Narrow {
+                    taken,
+                    most: 3,
+                    room: 99,
+                },
+                at,
+            ),
+            b"0/1 <0> wait",
+        );
         assert!(rt; answer.is_ok() == (at == 9));
         assert_eq!(rt; end.inner.taken.as_slice(), want);
     }
@@ -103,7 +141,12 @@ fn a_failing_call_leaves_a_beginning(rt: HostRuntime) {
 #[test]
 fn a_reader_is_read_to_its_end_or_the_limit(rt: HostRuntime) -> Result<(), Fail> {
     let alloc = rt.alloc();
-    for (limit, want) in [(0, "".as_bytes()), (2, b"ok"), (6, b"ok.yes"), (99, b"ok.yes")] {
+    for (limit, want) in [
+        (0, "".as_bytes()),
+        (2, b"ok"),
+        (6, b"ok.yes"),
+        (99, b"ok.yes"),
+    ] {
         let text = b"ok.yes";
         let bytes = match take(alloc, text.as_slice(), limit) {
             Ok(bytes) => bytes,
@@ -112,6 +155,11 @@ fn a_reader_is_read_to_its_end_or_the_limit(rt: HostRuntime) -> Result<(), Fail>
         assert_eq!(rt; bytes.as_slice(), want);
     }
     assert!(rt; matches!(take(alloc, Endless, 65537), Ok(bytes) if bytes.len() == 65537));
-    assert!(rt; matches!(take(alloc, FailAt::new(Endless, 3), 65537), Err(TakeFault::End(_))));
+    assert!(rt;
+        matches!(
+            take(alloc, FailAt::new(Endless, 3), 65537),
+            Err(TakeFault::End(_))
+        )
+    );
     Ok(())
 }

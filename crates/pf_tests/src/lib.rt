@@ -5,4 +5,6 @@
 #[cfg(test)]
 mod ends;
 #[cfg(test)]
+mod meaning;
+#[cfg(test)]
 mod terms;

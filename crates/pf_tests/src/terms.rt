@@ -59,7 +59,12 @@ fn sizes_count_every_part(rt: HostRuntime) -> Result<(), Fail> {
 fn limits_stand_at_their_numbers(rt: HostRuntime) -> Result<(), Fail> {
     let alloc = rt.alloc();
     let longest = zeros(alloc, 4095)?;
-    assert!(rt; matches!(List::cons(alloc, Term::Int(0), longest.share()?), Err(TermFault::TooLarge)));
+    assert!(rt;
+        matches!(
+            List::cons(alloc, Term::Int(0), longest.share()?),
+            Err(TermFault::TooLarge)
+        )
+    );
     let most = vec![in alloc; Term::List(longest)]?;
     assert!(rt; matches!(tuple_of(alloc, most), Err(TermFault::TooLarge)));
     let near = vec![in alloc; Term::List(zeros(alloc, 4094)?)]?;
@@ -177,7 +182,12 @@ fn long_and_deep_values_drop_on_a_small_stack(rt: HostRuntime) -> Result<(), Fai
 
 #[test]
 fn faults_print_their_codes(rt: HostRuntime) -> Result<(), AllocError> {
-    let text = format!(in rt.alloc(); "{} {} {}", TermFault::TooLarge, TermFault::NoMemory, NoMemory)?;
+    let text = format!(in rt.alloc();
+        "{} {} {}",
+        TermFault::TooLarge,
+        TermFault::NoMemory,
+        NoMemory
+    )?;
     assert_eq!(rt; text.as_str(), "T1 NoMemory NoMemory");
     Ok(())
 }

@@ -24,5 +24,5 @@ returns-in_err-list-clause-too_large c = λ e w.
     let p = err_from_is_err_and c.from_residual.result c.from_residual.ensures.1 in
     let refused : Err c.in_err-list.field-0.0 ≡ Err TooLarge = ap (λ f. Err f) (sym p.2) ∙ sym p.1 ∙ e in
     c.in_err-list.ensures.too_large.0 refused
-      (front_within c.pop.new.self.items (value_of c.in-Some.item) (elements_of c.loop-item.list) c.args.items.items
-        (sym (before-push c.pop.new.self.items c.in-Some.item (elements_of c.loop-item.list)) ∙ rw (sym c.in-Some.ensures.items) c.loop-item.invariant.whole) w)
+    (front_within c.pop.new.self.items (value_of c.in-Some.item) (elements_of c.loop-item.list) c.args.items.items
+    (sym (before-push c.pop.new.self.items c.in-Some.item (elements_of c.loop-item.list)) ∙ rw (sym c.in-Some.ensures.items) c.loop-item.invariant.whole) w)

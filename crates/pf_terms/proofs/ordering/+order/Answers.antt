@@ -20,9 +20,9 @@ order_items-returns-in-len1-up-b t c =
 pub order_elements-returns-in-Equal : goal.order_elements-returns-in-Equal
 order_elements-returns-in-Equal t c =
     by_elements (name_of c.args.atoms.now) c.as_slice-xs.result.now c.as_slice-ys.result.now c.args.a.now c.args.b.now c.cmp.result c.order_items.result
-      c.as_slice-xs.ensures c.as_slice-ys.ensures c.cmp.ensures c.in-Equal.is c.order_items.ensures
+    c.as_slice-xs.ensures c.as_slice-ys.ensures c.cmp.ensures c.in-Equal.is c.order_items.ensures
 
 pub order_elements-returns-in_default : goal.order_elements-returns-in_default
 order_elements-returns-in_default t c =
     by_size (name_of c.args.atoms.now) c.as_slice-xs.result.now c.as_slice-ys.result.now c.args.a.now c.args.b.now c.cmp.result
-      c.as_slice-xs.ensures c.as_slice-ys.ensures c.cmp.ensures c.in_default.not-Equal
+    c.as_slice-xs.ensures c.as_slice-ys.ensures c.cmp.ensures c.in_default.not-Equal

@@ -12,10 +12,10 @@ pub returns-clause-entered : goal.returns-clause-entered
 returns-clause-entered c =
     let s = c.in_ok-index.ensures.stored in
     stored (λ k. k.items) c.args.name.now c.insert_full.new.self.keys c.in_ok-index.index s.0 s.1
-      (ap (λ n. bytes_eq n s.0.items) (sym c.in_ok-from_slice.ensures.items) ∙ s.2)
+    (ap (λ n. bytes_eq n s.0.items) (sym c.in_ok-from_slice.ensures.items) ∙ s.2)
 
 pub returns-clause-names : goal.returns-clause-names
 returns-clause-names c =
     ap (map (λ k. k.items)) c.in_ok-index.ensures.keys
-      ∙ with_name-map (λ k. k.items) c.args.name.now c.self.inside.names.keys c.in_ok-from_slice.field-0 c.in_ok-from_slice.ensures.items
-      ∙ ap (λ names. with_name names c.args.name.now) c.self.view_is
+    ∙ with_name-map (λ k. k.items) c.args.name.now c.self.inside.names.keys c.in_ok-from_slice.field-0 c.in_ok-from_slice.ensures.items
+    ∙ ap (λ names. with_name names c.args.name.now) c.self.view_is

@@ -10,6 +10,6 @@ loop-name-preserved c =
     let longer = length-with_name c.loop-name.self c.as_bytes.result.now in
     record {
       names = entered ∙ ap (with_name c.loop-name.self) c.as_bytes.ensures.value
-        ∙ one_more (λ s. s.now) c.args.self.now c.loop-name.self c.args.names.now c.loop-name.name-index _ (omega arith) i.names;
+          ∙ one_more (λ s. s.now) c.args.self.now c.loop-name.self c.args.names.now c.loop-name.name-index _ (omega arith) i.names;
       small = rw entered (omega (arith, longer, i.small));
     }

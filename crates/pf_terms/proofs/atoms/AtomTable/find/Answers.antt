@@ -11,10 +11,10 @@ returns-in_err-index-clause-absent c =
     let text = c.args.name.now in
     let none : list_any (λ k. bytes_eq text k.items) keys ≡ false = search rules in
     let all : list_any (bytes_eq text) c.args.self.now ≡ false =
-        ap (list_any (bytes_eq text)) (sym c.self.view_is) ∙ list_any-map (λ k. k.items) (bytes_eq text) keys ∙ none in
+    ap (list_any (bytes_eq text)) (sym c.self.view_is) ∙ list_any-map (λ k. k.items) (bytes_eq text) keys ∙ none in
     rw c.from_residual.ensures all
 
 pub returns-clause-found : goal.returns-clause-found
 returns-clause-found c =
     ap (λ names. slice_get names c.in_ok-index.index) (sym c.self.view_is)
-      ∙ named (λ k. k.items) c.args.name.now c.self.inside.names.keys c.in_ok-index.index c.in_ok-index.ensures.index
+    ∙ named (λ k. k.items) c.args.name.now c.self.inside.names.keys c.in_ok-index.index c.in_ok-index.ensures.index

@@ -1,0 +1,10 @@
+mod Boxes
+mod Chains
+mod Crossing
+mod Cuts
+mod Finds
+mod Mails
+mod Memory
+mod Pointers
+mod Pools
+mod Sharing

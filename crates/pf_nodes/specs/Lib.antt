@@ -1,0 +1,7 @@
+pub mod Find
+pub mod Lends
+pub mod Links
+pub mod Mail
+pub mod Nodes
+pub mod Ownership
+pub mod Places

@@ -1,0 +1,223 @@
+//! The mail list: its items in the order in which they came, and a mark.
+ghost use Rattle.std.specs.Prelude.{◌≡◌, ℕ, ◌+◌, ◌-◌, ◌^◌, ◌<◌, ◌≤◌, ◌==◌, [], ◌∷◌, ◌++◌, length, remove, slice_get, Some, IsOk, IfErr, OnOk, OnErr, min};
+ghost use Rattle.std.specs.Fn.{FnReturnsAt};
+ghost use Rattle.pf_nodes.specs.Find.{IsAtMark, PassesRefused, EndsAs};
+ghost use Rattle.pf_nodes.specs.Mail.{mail};
+
+use crate::raw::{Loose, Node, Nodes, Place};
+use crate::spare::{CAPACITY, Pool};
+use std::alloc::Global;
+use std::marker::Model;
+
+/// Where `find_from_mark` found an item.
+#[derive(Clone, Copy, Debug, PartialEq, Eq)]
+pub struct Spot {
+    position: usize,
+}
+
+impl Spot {
+    /// The item's position in the list.
+    pub fn position(&self) -> usize
+        ensures { result ≡ self.now.position }
+    {
+        self.position
+    }
+}
+
+/// A list of items with a mark, which is a position from 0 to the length.
+pub struct MailList<T> {
+    nodes: Nodes<T>,
+    front: Option<Place>,
+    back: Option<Place>,
+    at: Option<Place>,
+    position: usize,
+    count: usize,
+    alloc: Global,
+}
+
+impl<T> Model for MailList<T> {
+    ghost use Rattle.pf_nodes.specs.Mail.{Mail, mail};
+
+    ghost Value = { Mail T };
+
+    ghost use Rattle.pf_nodes.specs.Nodes.{IsMail, values};
+
+    ghost view = { λ m. mail (values m.nodes.items) m.position };
+
+    ghost invariant = { λ m. IsMail m.nodes.items m.front m.back m.at m.position m.count };
+}
+
+impl<T> MailList<T> {
+    /// A list with no item, whose mark is at 0.
+    pub fn new(alloc: Global) -> MailList<T>
+        ensures { result ≡ mail [] 0 }
+    {
+        MailList {
+            nodes: Nodes::new(),
+            front: None,
+            back: None,
+            at: None,
+            position: 0,
+            count: 0,
+            alloc,
+        }
+    }
+
+    /// How many items there are.
+    pub fn len(&self) -> usize
+        ensures { result ≡ length self.now.items }
+    {
+        self.count
+    }
+
+    /// Whether there is no item.
+    pub fn is_empty(&self) -> bool
+        ensures { result ≡ (length self.now.items == 0) }
+    {
+        self.len() == 0
+    }
+
+    /// The position of the mark.
+    pub fn mark(&self) -> usize
+        ensures position { result ≡ self.now.mark }
+        ensures within { result ≤ length self.now.items }
+    {
+        self.position
+    }
+
+    /// Moves the mark to the front.
+    pub fn reset_mark(&mut self)
+        ensures { self.new ≡ mail self.old.items 0 }
+    {
+        self.at = self.front;
+        self.position = 0;
+    }
+
+    /// The first item from the mark on that `f` accepts. The mark moves past each item that `f` refuses, and stays
+    /// at the item that it accepts or at which it fails.
+    pub fn find_from_mark<E, F: Fn(&T) -> Result<bool, E>>(
+        &mut self,
+        f: F,
+    ) -> Result<Option<Spot>, E>
+        requires { F.IsAlwaysCallable f }
+        ensures items { self.new.items ≡ self.old.items }
+        ensures refused { PassesRefused (FnReturnsAt F.Fn f) self.old self.new }
+        ensures found { EndsAs (FnReturnsAt F.Fn f) self.old self.new result }
+    {
+        while let Some(place) = self.at {
+            let node = self.nodes.get(place);
+            let Some(item) = &node.value else {
+                unreachable!();
+            };
+            match f(item) {
+                Ok(false) => {}
+                Ok(true) => {
+                    return Ok(Some(Spot {
+                        position: self.position,
+                    }));
+                }
+                Err(fault) => return Err(fault),
+            }
+            prove!(self.position < self.count);
+            self.at = node.next;
+            self.position += 1;
+        }
+        Ok(None)
+    }
+}
+
+impl<T: Drop> MailList<T> {
+    /// Puts an item at the end. It takes a spare node of the pool, and asks for memory only where the pool has none.
+    /// The item comes back for want of memory, or at `usize::MAX` items.
+    pub fn push_back(&mut self, pool: &mut Pool<T>, value: T) -> Result<(), T>
+        ensures pushed { OnOk result (self.new ≡ mail (self.old.items ++ value ∷ []) self.old.mark) }
+        ensures taken { OnOk result (pool.new ≡ pool.old - 1) }
+        ensures unchanged { OnErr result ((self.new ≡ self.old) × (pool.new ≡ pool.old)) }
+        ensures value_returned { IfErr result (λ back. back ≡ value) }
+        ensures spare { 0 < pool.old → length self.old.items < 2 ^ 64 - 1 → IsOk result }
+    {
+        if self.count == usize::MAX {
+            return Err(value);
+        }
+        let Some(mut node) = pool.node() else {
+            return Err(value);
+        };
+        node.next = None;
+        node.value = Some(value);
+        let place = self.nodes.add(Loose::of(node));
+        self.nodes.join(self.back, Some(place));
+        self.front = self.front.or(Some(place));
+        self.back = Some(place);
+        self.at = self.at.or(Some(place));
+        self.count += 1;
+        Ok(())
+    }
+
+    /// Takes the node at the mark out, with its item.
+    fn cut_at_mark(&mut self) -> Box<Node<T>>
+        requires { self.old.mark < length self.old.items }
+        ensures item { slice_get self.old.items self.old.mark ≡ result.value.value }
+        ensures others { self.new ≡ mail (remove self.old.items self.old.mark) self.old.mark }
+    {
+        let Some(place) = self.at else {
+            unreachable!();
+        };
+        let node = self.nodes.remove(place).into_box(self.alloc);
+        let prev = node.prev;
+        let next = node.next;
+        self.nodes.join(prev, next);
+        self.front = prev.and(self.front).or(next);
+        self.back = next.and(self.back).or(prev);
+        self.at = next;
+        self.count -= 1;
+        node
+    }
+
+    /// Takes the item at the mark out. Its node goes to the pool, or is freed where the pool is full.
+    /// The mark keeps its position, which is that of the next item.
+    pub fn unlink(&mut self, pool: &mut Pool<T>, spot: Spot) -> T
+        requires { IsAtMark spot self.old }
+        ensures item { slice_get self.old.items self.old.mark ≡ Some result }
+        ensures others { self.new ≡ mail (remove self.old.items self.old.mark) self.old.mark }
+        ensures pooled { pool.new ≡ min 1024 (pool.old + 1) }
+    {
+        prove!(spot.position == self.position);
+        let mut node = self.cut_at_mark();
+        let item = node.value.take();
+        pool.put(node);
+        item.unwrap()
+    }
+
+    /// Drops each item. The nodes go to the pool, or are freed once the pool is full.
+    pub fn drain_into(&mut self, pool: &mut Pool<T>)
+        ensures emptied { self.new ≡ mail [] 0 }
+        ensures pooled { pool.new ≡ min 1024 (pool.old + length self.old.items) }
+    {
+        prove!(pool.len() <= CAPACITY);
+        self.reset_mark();
+        while !self.is_empty() {
+            let mut node = self.cut_at_mark();
+            drop(node.value.take());
+            pool.put(node);
+        }
+    }
+}
+
+impl<T: Drop> Drop for MailList<T> {
+    fn drop(mut self) {
+        self.reset_mark();
+        while !self.is_empty() {
+            drop(self.cut_at_mark());
+        }
+        let MailList {
+            nodes,
+            front: _,
+            back: _,
+            at: _,
+            position: _,
+            count: _,
+            alloc: _,
+        } = self;
+        nodes.end();
+    }
+}

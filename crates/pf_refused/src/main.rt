@@ -1,0 +1,99 @@
+//! Makes values, names of atoms and a text, and says so in one line. Where a growth is refused it says `NoMemory` and
+//! ends with status 2, once it has seen that what refused it is as it was; else it ends with status 3. The script under
+//! tests/refused runs it with each growth refused in turn.
+#![tactic(auto)]
+
+use pf_terms::{
+    AtomId, AtomTable, List, NoMemory, Term, TermFault, copy, list_of, nodes, tuple_of,
+};
+use std::alloc::Global;
+use std::io;
+use std::process::ExitCode;
+
+/// What a run of calls came to.
+#[derive(Clone, Copy, PartialEq, Eq)]
+enum Answer {
+    /// All calls answered, and the values have so many nodes.
+    Made(u32),
+    Refused,
+    /// A refused call changed its value.
+    Changed,
+}
+
+impl From<NoMemory> for Answer {
+    fn from(_refused: NoMemory) -> Answer {
+        Answer::Refused
+    }
+}
+
+impl From<TermFault> for Answer {
+    fn from(fault: TermFault) -> Answer {
+        match fault {
+            TermFault::NoMemory => Answer::Refused,
+            TermFault::TooLarge => Answer::Changed,
+        }
+    }
+}
+
+/// Enters a name, and looks at the table where that is refused.
+fn enter(alloc: Global, atoms: &mut AtomTable, name: &[u8]) -> Result<AtomId, Answer> {
+    let len = atoms.len();
+    if len > 99 {
+        return Err(Answer::Changed);
+    }
+    match atoms.enter(alloc, name) {
+        Ok(atom) => Ok(atom),
+        Err(NoMemory) => {
+            if atoms.len() == len && atoms.find(name).is_none() {
+                Err(Answer::Refused)
+            } else {
+                Err(Answer::Changed)
+            }
+        }
+    }
+}
+
+fn pair(alloc: Global, first: Term, second: Term) -> Result<Term, Answer> {
+    let Ok(items) = vec![in alloc; first, second] else {
+        return Err(Answer::Refused);
+    };
+    Ok(tuple_of(alloc, items)?)
+}
+
+fn make(alloc: Global) -> Result<u32, Answer> {
+    let mut atoms = AtomTable::new(alloc)?;
+    let m = enter(alloc, &mut atoms, b"m")?;
+    let kid = enter(alloc, &mut atoms, b"a kid with a longer name")?;
+    let first = pair(alloc, Term::Atom(m), Term::Int(7))?;
+    let second = pair(alloc, Term::Atom(kid), copy(&first)?)?;
+    let Ok(items) = vec![in alloc; first, second] else {
+        return Err(Answer::Refused);
+    };
+    let list = list_of(alloc, items)?;
+    let longer = List::cons(alloc, Term::Pid(0), list.share()?)?;
+    Ok(nodes(&Term::List(longer)))
+}
+
+fn came_to(alloc: Global) -> Answer {
+    match make(alloc) {
+        Ok(nodes) => Answer::Made(nodes),
+        Err(answer) => answer,
+    }
+}
+
+fn main(rt: HostRuntime) -> io::Result<ExitCode> {
+    match came_to(rt.alloc()) {
+        Answer::Made(nodes) => {
+            println!(rt; "made {nodes} nodes")?;
+            Ok(ExitCode::SUCCESS)
+        }
+        Answer::Refused => {
+            println!(rt; "NoMemory")?;
+            Ok(ExitCode::from(2))
+        }
+        Answer::Changed => {
+            println!(rt; "changed")?;
+            Ok(ExitCode::from(3))
+        }
+    }
+}

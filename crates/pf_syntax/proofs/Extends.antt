@@ -1,0 +1,244 @@
+-- Tables that go on where others end: what stands in the others stands in these, and means the same.
+use Rattle.std.proofs.Common.{◌≡◌, ℕ, ◌<◌, ◌≤◌, List, [], ◌∷◌, ◌++◌, length, refl, ap, ◌∙◌, arith, length-append}
+use Rattle.std.specs.Prelude.{map}
+use Rattle.std.specs.List.{All}
+use Rattle.std.proofs.lemmas.List.Elements.{All-head, All-tail, All-weaker}
+use Rattle.std.proofs.lemmas.List.{get_or_append_left}
+use Rattle.std.proofs.Math.Seq.{get_or-append_seam}
+use Rattle.pf_terms.specs.Value.{Value, list, none}
+use Rattle.pf_syntax.specs.Pattern.{Pattern, any, tuple_of}
+use Rattle.pf_syntax.specs.Tree.{lit, tuple, call, builtin}
+use Rattle.pf_syntax.specs.Module.{Tables, literal_at, pattern_at, tree_at}
+use Rattle.pf_syntax.specs.Operators.{builtin_of}
+use Rattle.pf_syntax.specs.Over.{patterns_at, pattern_over, part_over, parts_over, alternatives_over, guard_over, clauses_over, tree_over, function_clause_over, function_over, with_literal, with_pattern, with_tree}
+use Rattle.pf_syntax.specs.Within.{PatternStands, PartStands, GuardStands, ClauseStands, PatternPartsStand, PartsStand, FunctionClauseStands, FunctionStands}
+use Rattle.pf_syntax.specs.declared.node.PatternId.{PatternId}
+use Rattle.pf_syntax.specs.declared.node.Part.{Part}
+use Rattle.pf_syntax.specs.declared.node.Part.TheVariants as part
+use Rattle.pf_syntax.specs.declared.node.PatternNode.{PatternNode}
+use Rattle.pf_syntax.specs.declared.node.PatternNode.TheVariants as asks
+use Rattle.pf_syntax.specs.declared.node.Alternative.{Alternative}
+use Rattle.pf_syntax.specs.declared.node.Guard.{Guard}
+use Rattle.pf_syntax.specs.declared.node.Clause.{Clause}
+use Rattle.pf_syntax.specs.declared.node.Node.{Node}
+use Rattle.pf_syntax.specs.declared.node.Node.TheVariants as does
+use Rattle.pf_syntax.specs.declared.node.FunctionClause.{FunctionClause}
+use Rattle.pf_syntax.specs.declared.node.Function.{Function}
+
+-- u goes on where t ends
+pub record Extends (t u : Tables) : Type 0 where
+  pub literals : (k : ℕ) → k < length t.literals → literal_at u k ≡ literal_at t k
+  pub patterns : (k : ℕ) → k < length t.patterns → pattern_at u k ≡ pattern_at t k
+  pub trees : (k : ℕ) → k < length t.trees → tree_at u k ≡ tree_at t k
+  pub more_literals : length t.literals ≤ length u.literals
+  pub more_patterns : length t.patterns ≤ length u.patterns
+  pub more_trees : length t.trees ≤ length u.trees
+
+pub extends_literal : (t : Tables) (v : Value) → Extends t (with_literal t v)
+extends_literal t v = record {
+  literals = λ k h. get_or_append_left t.literals (v ∷ []) (list none) k h;
+  patterns = λ k h. refl;
+  trees = λ k h. refl;
+  more_literals = omega (arith, length-append t.literals (v ∷ []));
+  more_patterns = omega arith;
+  more_trees = omega arith;
+}
+
+-- the tables with a pattern that is known
+abbrev pub plus_pattern : Tables → Pattern → Tables
+plus_pattern t q = record { literals = t.literals; patterns = t.patterns ++ q ∷ []; trees = t.trees }
+
+pub extends_pattern : (t : Tables) (q : Pattern) → Extends t (plus_pattern t q)
+extends_pattern t q = record {
+  literals = λ k h. refl;
+  patterns = λ k h. get_or_append_left t.patterns (q ∷ []) any k h;
+  trees = λ k h. refl;
+  more_literals = omega arith;
+  more_patterns = omega (arith, length-append t.patterns (q ∷ []));
+  more_trees = omega arith;
+}
+
+pub extends_tree : (t : Tables) (n : Node) → Extends t (with_tree t n)
+extends_tree t n = record {
+  literals = λ k h. refl;
+  patterns = λ k h. refl;
+  trees = λ k h. get_or_append_left t.trees (tree_over t n ∷ []) (lit (list none)) k h;
+  more_literals = omega arith;
+  more_patterns = omega arith;
+  more_trees = omega (arith, length-append t.trees (tree_over t n ∷ []));
+}
+
+pub extends_itself : (t : Tables) → Extends t t
+extends_itself t = record {
+  literals = λ k h. refl;
+  patterns = λ k h. refl;
+  trees = λ k h. refl;
+  more_literals = omega arith;
+  more_patterns = omega arith;
+  more_trees = omega arith;
+}
+
+pub extends_on : (t u w : Tables) → Extends t u → Extends u w → Extends t w
+extends_on t u w e f = record {
+  literals = λ k h. let l = e.more_literals in f.literals k (omega arith) ∙ e.literals k h;
+  patterns = λ k h. let l = e.more_patterns in f.patterns k (omega arith) ∙ e.patterns k h;
+  trees = λ k h. let l = e.more_trees in f.trees k (omega arith) ∙ e.trees k h;
+  more_literals = omega (arith, e.more_literals, f.more_literals);
+  more_patterns = omega (arith, e.more_patterns, f.more_patterns);
+  more_trees = omega (arith, e.more_trees, f.more_trees);
+}
+
+-- what was added last stands at the end
+pub literal_last : (t : Tables) (v : Value) → literal_at (with_literal t v) (length t.literals) ≡ v
+literal_last t v = get_or-append_seam t.literals v [] (list none)
+
+pub pattern_last : (t : Tables) (p : PatternNode) → pattern_at (with_pattern t p) (length t.patterns) ≡ pattern_over t p
+pattern_last t p = get_or-append_seam t.patterns (pattern_over t p) [] any
+
+pub tree_last : (t : Tables) (n : Node) → tree_at (with_tree t n) (length t.trees) ≡ tree_over t n
+tree_last t n = get_or-append_seam t.trees (tree_over t n) [] (lit (list none))
+
+module _ (t u : Tables) (e : Extends t u) where
+  -- ---- the same meaning
+
+  pub patterns_kept : (ps : List PatternId) → All (PatternStands t) ps → patterns_at u ps ≡ patterns_at t ps
+  patterns_kept [] h = refl
+  patterns_kept (p ∷ ps) h =
+      let x = e.patterns p.0 (All-head (PatternStands t) p ps h) in
+      let y = patterns_kept ps (All-tail (PatternStands t) p ps h) in
+      cc
+
+  pub pattern_kept : (n : PatternNode) → PatternPartsStand t n → pattern_over u n ≡ pattern_over t n
+  pattern_kept (asks.Literal l) h = let x = e.literals l.0 h in cc
+  pattern_kept (asks.Tuple ps) h = ap tuple_of (patterns_kept ps.items h)
+  pattern_kept (asks.Cons p q) h = let x = e.patterns p.0 h.0 in let y = e.patterns q.0 h.1 in cc
+  pattern_kept _ h = refl
+
+  pub part_kept : (p : Part) → PartStands t p → part_over u p ≡ part_over t p
+  part_kept (part.Literal l) h = ap lit (e.literals l.0 h)
+  part_kept (part.Node n) h = e.trees n.0 h
+  part_kept _ h = refl
+
+  pub parts_kept : (ps : List Part) → All (PartStands t) ps → parts_over u ps ≡ parts_over t ps
+  parts_kept [] h = refl
+  parts_kept (p ∷ ps) h =
+      let x = part_kept p (All-head (PartStands t) p ps h) in
+      let y = parts_kept ps (All-tail (PartStands t) p ps h) in
+      cc
+
+  alternatives_kept : (gs : List Alternative) → All (λ a. All (PartStands t) a.tests.items) gs → alternatives_over u gs ≡ alternatives_over t gs
+  alternatives_kept [] h = refl
+  alternatives_kept (a ∷ gs) h =
+      let x = parts_kept a.tests.items (All-head (λ a. All (PartStands t) a.tests.items) a gs h) in
+      let y = alternatives_kept gs (All-tail (λ a. All (PartStands t) a.tests.items) a gs h) in
+      cc
+
+  pub guard_kept : (g : Guard) → GuardStands t g → guard_over u g ≡ guard_over t g
+  guard_kept g h = alternatives_kept g.alternatives.items h
+
+  pub clauses_kept : (cs : List Clause) → All (ClauseStands t) cs → clauses_over u cs ≡ clauses_over t cs
+  clauses_kept [] h = refl
+  clauses_kept (c ∷ cs) h =
+      let s = All-head (ClauseStands t) c cs h in
+      let p = e.patterns c.pattern.0 s.0 in
+      let g = guard_kept c.guard s.1 in
+      let b = part_kept c.body s.2 in
+      let y = clauses_kept cs (All-tail (ClauseStands t) c cs h) in
+      cc
+
+  pub tree_kept : (n : Node) → PartsStand t n → tree_over u n ≡ tree_over t n
+  tree_kept (does.Tuple ps) h = ap tuple (parts_kept ps.items h)
+  tree_kept (does.Cons a b) h = let x = part_kept a h.0 in let y = part_kept b h.1 in cc
+  tree_kept (does.Binary o a b) h = let x = part_kept a h.0 in let y = part_kept b h.1 in cc
+  tree_kept (does.Negate a) h = let x = part_kept a h in cc
+  tree_kept (does.Both a b) h = let x = part_kept a h.0 in let y = part_kept b h.1 in cc
+  tree_kept (does.Either a b) h = let x = part_kept a h.0 in let y = part_kept b h.1 in cc
+  tree_kept (does.Call f ps) h = ap (call f.0) (parts_kept ps.items h)
+  tree_kept (does.Builtin f ps) h = ap (builtin (builtin_of f)) (parts_kept ps.items h)
+  tree_kept (does.Match ps a) h = let x = patterns_kept ps.items h.0 in let y = part_kept a h.1 in cc
+  tree_kept (does.Bind ps a r) h = let x = patterns_kept ps.items h.0 in let y = part_kept a h.1 in let z = part_kept r h.2 in cc
+  tree_kept (does.Case a cs) h = let x = part_kept a h.0 in let y = clauses_kept cs.items h.1 in cc
+  tree_kept (does.Decide cs) h = let y = clauses_kept cs.items h in cc
+  tree_kept (does.Receive cs) h = let y = clauses_kept cs.items h in cc
+  tree_kept (does.Send a b) h = let x = part_kept a h.0 in let y = part_kept b h.1 in cc
+
+  function_clause_kept : (c : FunctionClause) → FunctionClauseStands t c → function_clause_over u c ≡ function_clause_over t c
+  function_clause_kept c h =
+      let p = patterns_kept c.parameters.items h.0 in
+      let g = guard_kept c.guard h.1 in
+      let b = part_kept c.body h.2 in
+      cc
+
+  function_clauses_kept : (cs : List FunctionClause) → All (FunctionClauseStands t) cs → map (function_clause_over u) cs ≡ map (function_clause_over t) cs
+  function_clauses_kept [] h = refl
+  function_clauses_kept (c ∷ cs) h =
+      let x = function_clause_kept c (All-head (FunctionClauseStands t) c cs h) in
+      let y = function_clauses_kept cs (All-tail (FunctionClauseStands t) c cs h) in
+      cc
+
+  pub function_kept : (f : Function) → FunctionStands t f → function_over u f ≡ function_over t f
+  function_kept f h = let x = function_clauses_kept f.clauses.items h in cc
+
+  pub functions_kept : (fs : List Function) → All (FunctionStands t) fs → map (function_over u) fs ≡ map (function_over t) fs
+  functions_kept [] h = refl
+  functions_kept (f ∷ fs) h =
+      let x = function_kept f (All-head (FunctionStands t) f fs h) in
+      let y = functions_kept fs (All-tail (FunctionStands t) f fs h) in
+      cc
+
+  -- ---- it still stands
+
+  pub pattern_stands : (p : PatternId) → PatternStands t p → PatternStands u p
+  pattern_stands p h = omega (arith, e.more_patterns)
+
+  pub part_stands : (p : Part) → PartStands t p → PartStands u p
+  part_stands (part.Literal l) h = omega (arith, e.more_literals)
+  part_stands (part.Node n) h = omega (arith, e.more_trees)
+  part_stands _ h = tt
+
+  pub all_patterns_stand : (ps : List PatternId) → All (PatternStands t) ps → All (PatternStands u) ps
+  all_patterns_stand ps h = All-weaker (PatternStands t) (PatternStands u) pattern_stands ps h
+
+  pub all_parts_stand : (ps : List Part) → All (PartStands t) ps → All (PartStands u) ps
+  all_parts_stand ps h = All-weaker (PartStands t) (PartStands u) part_stands ps h
+
+  pub guard_stands : (g : Guard) → GuardStands t g → GuardStands u g
+  guard_stands g h =
+      All-weaker (λ a. All (PartStands t) a.tests.items) (λ a. All (PartStands u) a.tests.items) (λ a x. all_parts_stand a.tests.items x) g.alternatives.items h
+
+  pub clause_stands : (c : Clause) → ClauseStands t c → ClauseStands u c
+  clause_stands c h = (pattern_stands c.pattern h.0, guard_stands c.guard h.1, part_stands c.body h.2)
+
+  pub clauses_stand : (cs : List Clause) → All (ClauseStands t) cs → All (ClauseStands u) cs
+  clauses_stand cs h = All-weaker (ClauseStands t) (ClauseStands u) clause_stands cs h
+
+  pub pattern_parts_stand : (n : PatternNode) → PatternPartsStand t n → PatternPartsStand u n
+  pattern_parts_stand (asks.Literal l) h = omega (arith, e.more_literals)
+  pattern_parts_stand (asks.Tuple ps) h = all_patterns_stand ps.items h
+  pattern_parts_stand (asks.Cons p q) h = (pattern_stands p h.0, pattern_stands q h.1)
+  pattern_parts_stand _ h = tt
+
+  pub parts_stand : (n : Node) → PartsStand t n → PartsStand u n
+  parts_stand (does.Tuple ps) h = all_parts_stand ps.items h
+  parts_stand (does.Cons a b) h = (part_stands a h.0, part_stands b h.1)
+  parts_stand (does.Binary o a b) h = (part_stands a h.0, part_stands b h.1)
+  parts_stand (does.Negate a) h = part_stands a h
+  parts_stand (does.Both a b) h = (part_stands a h.0, part_stands b h.1)
+  parts_stand (does.Either a b) h = (part_stands a h.0, part_stands b h.1)
+  parts_stand (does.Call f ps) h = all_parts_stand ps.items h
+  parts_stand (does.Builtin f ps) h = all_parts_stand ps.items h
+  parts_stand (does.Match ps a) h = (all_patterns_stand ps.items h.0, part_stands a h.1)
+  parts_stand (does.Bind ps a r) h = (all_patterns_stand ps.items h.0, part_stands a h.1, part_stands r h.2)
+  parts_stand (does.Case a cs) h = (part_stands a h.0, clauses_stand cs.items h.1)
+  parts_stand (does.Decide cs) h = clauses_stand cs.items h
+  parts_stand (does.Receive cs) h = clauses_stand cs.items h
+  parts_stand (does.Send a b) h = (part_stands a h.0, part_stands b h.1)
+
+  pub function_clause_stands : (c : FunctionClause) → FunctionClauseStands t c → FunctionClauseStands u c
+  function_clause_stands c h = (all_patterns_stand c.parameters.items h.0, guard_stands c.guard h.1, part_stands c.body h.2)
+
+  function_stands : (f : Function) → FunctionStands t f → FunctionStands u f
+  function_stands f h = All-weaker (FunctionClauseStands t) (FunctionClauseStands u) function_clause_stands f.clauses.items h
+
+  pub functions_stand : (fs : List Function) → All (FunctionStands t) fs → All (FunctionStands u) fs
+  functions_stand fs h = All-weaker (FunctionStands t) (FunctionStands u) function_stands fs h

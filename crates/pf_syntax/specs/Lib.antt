@@ -1,0 +1,16 @@
+pub mod Pattern
+pub mod Tree
+pub mod Numbers
+pub mod Code
+pub mod Operators
+pub mod Module
+pub mod Over
+pub mod Within
+pub mod View
+pub mod Shape
+pub mod Phrase
+pub mod Source
+pub mod SourceCode
+pub mod Measure
+pub mod SourceOver
+pub mod SourceView

@@ -1,0 +1,175 @@
+//! Checked modules: arenas in which each node stands after its parts, so that code is named by numbers.
+
+ghost use Rattle.std.specs.Prelude.{◌≡◌, ◌≤◌, length, IfNone, IfOk, MatchOption, None, OnErr, OnOk, position, slice_get, Some, ◌&&◌, ◌==◌};
+ghost use Rattle.pf_terms.specs.Value.{list, none};
+ghost use Rattle.pf_terms.specs.Term.{value_of};
+ghost use Rattle.pf_syntax.specs.Pattern.{any};
+ghost use Rattle.pf_syntax.specs.Tree.{lit};
+ghost use Rattle.pf_syntax.specs.Module.{empty, first_named, literal_at, pattern_at, tree_at};
+ghost use Rattle.pf_syntax.specs.Over.{function_over, pattern_over, tree_over, with_function, with_literal, with_pattern, with_tables, with_tree};
+ghost use Rattle.pf_syntax.specs.Within.{FunctionStands, PartsStand, PatternPartsStand};
+
+use crate::node::{Function, FunctionId, LiteralId, Node, NodeId, PatternId, PatternNode};
+use crate::table::{entry, next_id};
+use pf_terms::{AtomId, AtomTable, NoMemory, Term};
+use std::alloc::Global;
+use std::marker::Model;
+use std::sync::Arc;
+
+/// A checked module. What is added to it stands after its parts, and nothing is ever taken out or changed.
+#[derive(Drop)]
+pub struct Module {
+    name: AtomId,
+    atoms: AtomTable,
+    literals: Vec<Term>,
+    patterns: Vec<PatternNode>,
+    nodes: Vec<Node>,
+    functions: Vec<Function>,
+}
+
+impl Model for Module {
+    ghost use Rattle.pf_syntax.specs.Module.{Checked, coded_checked};
+
+    ghost Value = { Checked };
+
+    ghost coded = { coded_checked };
+
+    ghost use Rattle.pf_syntax.specs.View.{checked_of, Sound};
+
+    ghost view = { checked_of };
+
+    ghost invariant = { Sound };
+}
+
+/// The place of the first function of this name that takes so many arguments.
+fn place(functions: &[Function], name: AtomId, arity: u32) -> Option<usize>
+    ensures { result ≡ position (λ f. (f.name.0 == name.0) && (f.arity == arity)) functions.now }
+{
+    functions
+        .iter()
+        .position(|f| f.name == name && f.arity == arity)
+}
+
+impl Module {
+    /// The module of this name and these atoms, in which nothing stands yet.
+    pub fn new(alloc: Global, name: AtomId, atoms: AtomTable) -> Module
+        ensures { result ≡ empty name.0 atoms }
+    {
+        Module {
+            name,
+            atoms,
+            literals: Vec::new(alloc),
+            patterns: Vec::new(alloc),
+            nodes: Vec::new(alloc),
+            functions: Vec::new(alloc),
+        }
+    }
+
+    /// Adds a literal. It fails by want of memory, or where there are 2^32 already; and so the calls below.
+    pub fn add_literal(&mut self, literal: Term) -> Result<LiteralId, NoMemory>
+        ensures id { IfOk result (λ l. l.0 ≡ length self.old.tables.literals) }
+        ensures added { OnOk result (self.new ≡ with_tables self.old (with_literal self.old.tables (value_of literal))) }
+        ensures err { OnErr result (self.new ≡ self.old) }
+    {
+        let id = next_id(self.literals.len())?;
+        self.literals.push(literal)?;
+        Ok(LiteralId(id))
+    }
+
+    /// Adds a pattern after its parts.
+    pub fn add_pattern(&mut self, pattern: PatternNode) -> Result<PatternId, NoMemory>
+        requires { PatternPartsStand self.old.tables pattern }
+        ensures id { IfOk result (λ p. p.0 ≡ length self.old.tables.patterns) }
+        ensures added { OnOk result (self.new ≡ with_tables self.old (with_pattern self.old.tables pattern)) }
+        ensures err { OnErr result (self.new ≡ self.old) }
+    {
+        let id = next_id(self.patterns.len())?;
+        self.patterns.push(pattern)?;
+        Ok(PatternId(id))
+    }
+
+    /// Adds a node after its parts.
+    pub fn add_node(&mut self, node: Node) -> Result<NodeId, NoMemory>
+        requires { PartsStand self.old.tables node }
+        ensures id { IfOk result (λ n. n.0 ≡ length self.old.tables.trees) }
+        ensures added { OnOk result (self.new ≡ with_tables self.old (with_tree self.old.tables node)) }
+        ensures err { OnErr result (self.new ≡ self.old) }
+    {
+        let id = next_id(self.nodes.len())?;
+        self.nodes.push(node)?;
+        Ok(NodeId(id))
+    }
+
+    /// Adds a function after its parts.
+    pub fn add_function(&mut self, function: Function) -> Result<FunctionId, NoMemory>
+        requires { FunctionStands self.old.tables function }
+        ensures id { IfOk result (λ f. f.0 ≡ length self.old.functions) }
+        ensures added { OnOk result (self.new ≡ with_function self.old function) }
+        ensures err { OnErr result (self.new ≡ self.old) }
+    {
+        let id = next_id(self.functions.len())?;
+        self.functions.push(function)?;
+        Ok(FunctionId(id))
+    }
+
+    /// The module's name.
+    pub fn name(&self) -> AtomId
+        ensures { result.0 ≡ self.now.name }
+    {
+        self.name
+    }
+
+    /// The names of the module's atoms.
+    pub fn atoms(&self) -> &AtomTable
+        ensures { result.now ≡ self.now.atoms }
+    {
+        &self.atoms
+    }
+
+    /// The literal of this number. Where there is none, the tables have `[]`.
+    pub fn literal(&self, id: LiteralId) -> Option<&Term>
+        ensures found { MatchOption result (literal_at self.now.tables id.0 ≡ list none) (λ l. value_of l.now ≡ literal_at self.now.tables id.0) }
+        ensures absent { IfNone result (length self.now.tables.literals ≤ id.0) }
+    {
+        entry(&self.literals, id.0)
+    }
+
+    /// The pattern of this number, over its parts. Where there is none, the tables have `_`.
+    pub fn pattern(&self, id: PatternId) -> Option<&PatternNode>
+        ensures found { MatchOption result (pattern_at self.now.tables id.0 ≡ any) (λ p. pattern_over self.now.tables p.now ≡ pattern_at self.now.tables id.0) }
+        ensures absent { IfNone result (length self.now.tables.patterns ≤ id.0) }
+    {
+        entry(&self.patterns, id.0)
+    }
+
+    /// The node of this number, over its parts. Where there is none, the tables have the literal `[]`.
+    pub fn node(&self, id: NodeId) -> Option<&Node>
+        ensures found { MatchOption result (tree_at self.now.tables id.0 ≡ lit (list none)) (λ n. tree_over self.now.tables n.now ≡ tree_at self.now.tables id.0) }
+        ensures absent { IfNone result (length self.now.tables.trees ≤ id.0) }
+    {
+        entry(&self.nodes, id.0)
+    }
+
+    /// The function of this number.
+    pub fn function(&self, id: FunctionId) -> Option<&Function>
+        ensures { MatchOption result (slice_get self.now.functions id.0 ≡ None) (λ f. slice_get self.now.functions id.0 ≡ Some (function_over self.now.tables f.now)) }
+    {
+        entry(&self.functions, id.0)
+    }
+
+    /// The first function of this name that takes so many arguments.
+    pub fn find(&self, name: AtomId, arity: u32) -> Option<FunctionId>
+        ensures { MatchOption result (first_named name.0 arity self.now.functions ≡ None) (λ f. first_named name.0 arity self.now.functions ≡ Some f.0) }
+    {
+        let index = place(&self.functions, name, arity)?;
+        Some(FunctionId(index as u32))
+    }
+}
+
+/// A module and a share of it may go to another thread.
+fn crosses_threads(module: &Module, share: &Arc<Module>) {
+    needs_send(module);
+    needs_send(share);
+}
+
+fn needs_send<T: Send>(_value: &T) {}

@@ -1,0 +1,118 @@
+//! The nodes of a checked module: expressions, patterns and functions whose parts are named by numbers.
+
+use crate::operator::{Builtin, Operator};
+use pf_terms::AtomId;
+
+/// A literal, by its number in a module.
+#[derive(Clone, Copy, PartialEq, Eq, Debug)]
+pub struct LiteralId(pub u32);
+
+/// A pattern, by its number in a module.
+#[derive(Clone, Copy, PartialEq, Eq, Debug)]
+pub struct PatternId(pub u32);
+
+/// A node, by its number in a module.
+#[derive(Clone, Copy, PartialEq, Eq, Debug)]
+pub struct NodeId(pub u32);
+
+/// A function, by its number in a module.
+#[derive(Clone, Copy, PartialEq, Eq, Debug)]
+pub struct FunctionId(pub u32);
+
+/// An operand: a variable by its place in scope, a literal, or another node.
+#[derive(Clone, Copy, PartialEq, Eq, Debug)]
+pub enum Part {
+    Slot(u32),
+    Int(i64),
+    Atom(AtomId),
+    /// The list `[]`.
+    Nil,
+    Literal(LiteralId),
+    Node(NodeId),
+}
+
+/// What a pattern asks, with its parts by number (Erlang Reference Manual, "Pattern Matching").
+#[derive(Drop)]
+pub enum PatternNode {
+    /// `_`.
+    Any,
+    /// A variable that is bound here, at the next place in scope.
+    New,
+    /// A variable that is bound already.
+    Slot(u32),
+    Int(i64),
+    Atom(AtomId),
+    /// The list `[]`.
+    Nil,
+    Literal(LiteralId),
+    Tuple(Vec<PatternId>),
+    /// A list by its first element and its tail.
+    Cons(PatternId, PatternId),
+    /// It fits nothing.
+    Never,
+}
+
+/// An alternative of a guard, which holds where all its tests do.
+#[derive(Drop)]
+pub struct Alternative {
+    pub tests: Vec<Part>,
+}
+
+/// The alternatives of a guard. With no `when` it is one alternative with no test.
+#[derive(Drop)]
+pub struct Guard {
+    pub alternatives: Vec<Alternative>,
+}
+
+/// A clause of a `case`, an `if` or a `receive`; in an `if` its pattern is `_`.
+#[derive(Drop)]
+pub struct Clause {
+    pub pattern: PatternId,
+    pub guard: Guard,
+    pub body: Part,
+}
+
+/// An expression that takes a step, with its operands (Erlang Reference Manual, "Expressions").
+#[derive(Drop)]
+pub enum Node {
+    Tuple(Vec<Part>),
+    /// A list by its first element and its tail.
+    Cons(Part, Part),
+    Binary(Operator, Part, Part),
+    Negate(Part),
+    /// `andalso`.
+    Both(Part, Part),
+    /// `orelse`.
+    Either(Part, Part),
+    /// A call of an own function.
+    Call(FunctionId, Vec<Part>),
+    Builtin(Builtin, Vec<Part>),
+    /// `P = .. = E` at the end of a body, the innermost pattern first.
+    Match(Vec<PatternId>, Part),
+    /// `P = .. = E` before a comma and the rest of the body; with no pattern it is `E, rest`.
+    Bind(Vec<PatternId>, Part, Part),
+    Case(Part, Vec<Clause>),
+    /// `if`.
+    Decide(Vec<Clause>),
+    Receive(Vec<Clause>),
+    /// `!`.
+    Send(Part, Part),
+}
+
+/// A clause of a function.
+#[derive(Drop)]
+pub struct FunctionClause {
+    pub parameters: Vec<PatternId>,
+    pub guard: Guard,
+    pub body: Part,
+}
+
+/// A function of a module.
+#[derive(Drop)]
+pub struct Function {
+    pub name: AtomId,
+    pub arity: u32,
+    /// Whether the module exports it, so that a process may begin in it.
+    pub exported: bool,
+    pub clauses: Vec<FunctionClause>,
+}

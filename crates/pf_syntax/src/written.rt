@@ -1,0 +1,115 @@
+//! The nodes of a module as it is written: patterns and expressions whose parts are named by numbers. The names of atoms,
+//! functions and variables are numbers too, of one table that stands beside the source.
+
+use crate::operator::Operator;
+use pf_terms::AtomId;
+
+/// A pattern as it is written, by its number in a source.
+#[derive(Clone, Copy, PartialEq, Eq, Debug)]
+pub struct ShapeId(pub u32);
+
+/// An expression as it is written, by its number in a source.
+#[derive(Clone, Copy, PartialEq, Eq, Debug)]
+pub struct PhraseId(pub u32);
+
+/// A name, and the offset in bytes at which it stands.
+#[derive(Clone, Copy, PartialEq, Eq, Debug)]
+pub struct Word {
+    pub name: AtomId,
+    pub offset: u32,
+}
+
+/// A pattern as it is written (Erlang Reference Manual, "Patterns").
+#[derive(Drop)]
+pub enum ShapeNode {
+    /// An integer with its sign, which is no level of its own.
+    Integer(i64),
+    Atom(AtomId),
+    /// A string, by its character codes.
+    Text(Vec<u8>),
+    Variable(Word),
+    /// `_`.
+    Anything,
+    Tuple(Vec<ShapeId>),
+    /// A list of these elements.
+    List(Vec<ShapeId>),
+    /// A list of these elements and this tail.
+    ListOn(Vec<ShapeId>, ShapeId),
+}
+
+/// An expression as it is written (Erlang Reference Manual, "Expressions").
+#[derive(Drop)]
+pub enum PhraseNode {
+    Integer(i64),
+    Atom(AtomId),
+    /// A string, by its character codes.
+    Text(Vec<u8>),
+    Variable(Word),
+    /// `_`, at this offset.
+    Anonymous(u32),
+    /// Parentheses, which are a level of their own.
+    Parentheses(PhraseId),
+    Tuple(Vec<PhraseId>),
+    /// A list of these elements.
+    List(Vec<PhraseId>),
+    /// A list of these elements and this tail.
+    ListOn(Vec<PhraseId>, PhraseId),
+    /// A call by name, of an own function or of a built-in.
+    Call(Word, Vec<PhraseId>),
+    Binary(Operator, PhraseId, PhraseId),
+    Negate(PhraseId),
+    /// `andalso`.
+    Both(PhraseId, PhraseId),
+    /// `orelse`.
+    Either(PhraseId, PhraseId),
+    /// `!`.
+    Send(PhraseId, PhraseId),
+    /// `P = E`, in a body.
+    Match(ShapeId, PhraseId),
+    Case(PhraseId, Vec<Branch>),
+    /// `if`; its clauses have the pattern `_`.
+    Decide(Vec<Branch>),
+    Receive(Vec<Branch>),
+}
+
+/// An alternative of a guard, as it is written.
+#[derive(Drop)]
+pub struct Tests {
+    pub tests: Vec<PhraseId>,
+}
+
+/// A guard as it is written. With no `when` it is one alternative with no test.
+#[derive(Drop)]
+pub struct Condition {
+    pub alternatives: Vec<Tests>,
+}
+
+/// A clause of a `case`, an `if` or a `receive`, as it is written.
+#[derive(Drop)]
+pub struct Branch {
+    pub shape: ShapeId,
+    pub condition: Condition,
+    pub body: Vec<PhraseId>,
+}
+
+/// A clause of a function, as it is written.
+#[derive(Drop)]
+pub struct Head {
+    pub word: Word,
+    pub parameters: Vec<ShapeId>,
+    pub condition: Condition,
+    pub body: Vec<PhraseId>,
+}
+
+/// A function as it is written: its clauses, each with a head of its own.
+#[derive(Drop)]
+pub struct WrittenFunction {
+    pub heads: Vec<Head>,
+}
+
+/// An entry of an export list.
+#[derive(Clone, Copy, PartialEq, Eq, Debug)]
+pub struct Export {
+    pub word: Word,
+    pub arity: u64,
+}

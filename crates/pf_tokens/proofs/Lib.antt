@@ -1,0 +1,13 @@
+pub mod Runs
+pub mod Tables
+pub mod Classes
+pub mod Written
+pub mod Numerals
+pub mod Quotes
+pub mod Skips
+pub mod Again
+pub mod Closes
+pub mod Says
+pub mod Stands
+pub mod Texts
+pub mod Turns

@@ -1,0 +1,41 @@
+use Rattle.std.proofs.Common.{◌≡◌, ◌⊎◌, inl, inr, ℕ, List, Ok, Err, sym, ap, ◌∙◌}
+use Rattle.pf_tokens.specs.declared.fault.Fault.{Fault}
+use Rattle.pf_tokens.specs.Signs.{Placed}
+use Rattle.pf_tokens.specs.Rules.{HasSomeTokens, HasSomeFault}
+use Rattle.pf_tokens.specs.Scan.{Read, tokens}
+use Rattle.pf_tokens.proofs.Texts.{Tells, tokens_tell, tokens_again, tokens_fail}
+use Rattle.pf_tokens.proofs.scan.one_reading.Goals as goal
+
+-- what is read is tokens or a fault
+some : (text : List ℕ) (read : Read (List Placed)) → Tells text read → HasSomeTokens text ⊎ HasSomeFault text
+some text (Ok ts) tells = inl (ts, tells)
+some text (Err e) tells = inr (e.0, e.1, tells)
+
+abbrev found : List Placed → Read (List Placed)
+found ts = Ok ts
+
+one_list : (ts us : List Placed) → found ts ≡ found us → ts ≡ us
+one_list ts us e = cc
+
+abbrev failed : Fault → ℕ → Read (List Placed)
+failed fault place = Err (fault, place)
+
+one_fault : (f g : Fault) (m n : ℕ) → failed f m ≡ failed g n → (f ≡ g) × (m ≡ n)
+one_fault f g m n e =
+    let same : ◌≡◌ {A = Fault × ℕ} (f, m) (g, n) = cc in
+    (ap (λ (p : Fault × ℕ). p.0) same, ap (λ (p : Fault × ℕ). p.1) same)
+
+pub returns-clause-either : goal.returns-clause-either
+returns-clause-either c text = some text (tokens text) (tokens_tell text)
+
+pub returns-clause-apart : goal.returns-clause-apart
+returns-clause-apart c text some none =
+    let one = tokens_again text some.0 some.1 in
+    let other = tokens_fail text none.0 none.1 none.2 in
+    cc
+
+pub returns-clause-tokens : goal.returns-clause-tokens
+returns-clause-tokens c text ts us a b = one_list ts us (sym (tokens_again text ts a) ∙ tokens_again text us b)
+
+pub returns-clause-fault : goal.returns-clause-fault
+returns-clause-fault c text f g m n a b = one_fault f g m n (sym (tokens_fail text f m a) ∙ tokens_fail text g n b)

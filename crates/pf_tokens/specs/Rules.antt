@@ -1,0 +1,200 @@
+-- The rules of tokens: how the pieces of a text are written, and where a text is at fault.
+use Rattle.std.specs.Prelude.{◌≡◌, ◌≢◌, ◌⊎◌, ℕ, ◌+◌, ◌^◌, ◌<◌, ◌≤◌, Bool, ◌==◌, ◌&&◌, ◌||◌, not, IsTrue, IsFalse, List, [], ◌∷◌, ◌++◌, length, Option, Some, None, codes}
+use Rattle.std.specs.List.{list_all}
+use Rattle.pf_tokens.specs.declared.fault.Fault.{Fault}
+use Rattle.pf_tokens.specs.declared.fault.Fault.TheVariants.{UnexpectedByte, Unfinished, IntegerTooLarge, SourceTooLong}
+use Rattle.pf_tokens.specs.declared.fault.TokensFault.{TokensFault}
+use Rattle.pf_tokens.specs.declared.fault.TokensFault.TheVariants as outcomes
+use Rattle.pf_tokens.specs.declared.marks.Mark.{Mark}
+use Rattle.pf_tokens.specs.declared.words.Reserved.{Reserved}
+use Rattle.pf_tokens.specs.Bytes.{percent, dollar, single_quote, double_quote, backslash, is_blank, is_digit, is_lower, is_upper, is_word, is_visible, is_quotable, is_comment, is_joined, ends, escape_of}
+use Rattle.pf_tokens.specs.Signs.{Sign, Placed, decimal, mark_text, reserved_text, put_first}
+use Rattle.pf_tokens.specs.Signs as signs
+
+-- all the bytes pass, and the text behind them goes on with none that does
+pub record IsRun (test : ℕ → Bool) (bytes rest : List ℕ) : Type 0 where
+  pub each : IsTrue (list_all test bytes)
+  pub whole : IsTrue (ends test rest)
+
+-- a blank is one byte
+abbrev pub IsBlank : List ℕ → Type 0
+IsBlank bytes = (b : ℕ) × IsTrue (is_blank b) × (bytes ≡ b ∷ [])
+
+-- a comment is `%` and all that stands before the line end, or the end
+abbrev pub IsComment : List ℕ → List ℕ → Type 0
+IsComment bytes rest = (words : List ℕ) × (bytes ≡ percent ∷ words) × IsRun is_comment words rest
+
+-- a numeral is a run of digits, and its value is theirs
+pub record IsNumeral (value : ℕ) (bytes rest : List ℕ) : Type 0 where
+  pub some : 0 < length bytes
+  pub digits : IsRun is_digit bytes rest
+  pub value_is : value ≡ decimal bytes
+
+-- a name is a run of bytes of words, the first of which may begin it
+abbrev pub IsName : (ℕ → Bool) → List ℕ → List ℕ → Type 0
+IsName begins [] rest = ⊥
+IsName begins (b ∷ bs) rest = IsTrue (begins b) × IsRun is_word (b ∷ bs) rest
+
+-- a byte is written as itself, where it may be, or as a `\` and the letter that stands for it
+abbrev pub Writes : (ℕ → Bool) → ℕ → List ℕ → Type 0
+Writes plain c bytes =
+    (IsTrue (plain c) × (bytes ≡ c ∷ [])) ⊎ ((letter : ℕ) × (escape_of letter ≡ Some c) × (bytes ≡ backslash ∷ letter ∷ []))
+
+-- within quotes each byte that may stand there is written as itself, but for the quote and `\`
+abbrev pub is_plain_in : ℕ → ℕ → Bool
+is_plain_in quote b = is_quotable b && not (b == quote || b == backslash)
+
+-- behind `$` each visible byte is written as itself, but for `\`
+abbrev pub is_plain_character : ℕ → Bool
+is_plain_character b = is_visible b && not (b == backslash)
+
+-- the bytes are written one behind the other
+abbrev pub WritesAll : ℕ → List ℕ → List ℕ → Type 0
+WritesAll quote [] bytes = bytes ≡ []
+WritesAll quote (c ∷ meant) bytes =
+    (one more : List ℕ) × (bytes ≡ one ++ more) × Writes (is_plain_in quote) c one × WritesAll quote meant more
+
+-- a quoted text is written between two quotes
+abbrev pub IsQuoted : ℕ → List ℕ → List ℕ → Type 0
+IsQuoted quote meant bytes = (body : List ℕ) × WritesAll quote meant body × (bytes ≡ quote ∷ (body ++ quote ∷ []))
+
+-- a character is written behind `$`
+abbrev pub IsCharacter : ℕ → List ℕ → Type 0
+IsCharacter code bytes = (one : List ℕ) × Writes is_plain_character code one × (bytes ≡ dollar ∷ one)
+
+-- a mark is written, and no longer one stands there
+pub record IsLongestMark (m : Mark) (bytes rest : List ℕ) : Type 0 where
+  pub written : bytes ≡ mark_text m
+  pub longest : (other : Mark) (tail : List ℕ) → bytes ++ rest ≡ mark_text other ++ tail → length (mark_text other) ≤ length bytes
+
+-- the bytes are a token of this sign, before this rest
+abbrev pub IsToken : Sign → List ℕ → List ℕ → Type 0
+IsToken (signs.integer value) bytes rest = (IsNumeral value bytes rest × (value < 2 ^ 63)) ⊎ IsCharacter value bytes
+IsToken (signs.atom name) bytes rest =
+    (IsName is_lower bytes rest × (name ≡ bytes) × ((r : Reserved) → bytes ≢ reserved_text r)) ⊎ IsQuoted single_quote name bytes
+IsToken (signs.variable name) bytes rest = IsName is_upper bytes rest × (name ≡ bytes) × (bytes ≢ codes "_")
+IsToken signs.anonymous bytes rest = IsName is_upper bytes rest × (bytes ≡ codes "_")
+IsToken (signs.text meant) bytes rest = IsQuoted double_quote meant bytes
+IsToken signs.own_module bytes rest = (bytes ≡ codes "?MODULE") × IsTrue (ends is_word rest)
+IsToken signs.dot bytes rest = (bytes ≡ codes ".") × IsTrue (ends is_joined rest)
+IsToken (signs.mark m) bytes rest = IsLongestMark m bytes rest
+IsToken (signs.reserved r) bytes rest = IsName is_lower bytes rest × (bytes ≡ reserved_text r)
+
+-- a piece is a blank, a comment or a token
+abbrev pub IsPiece : Option Sign → List ℕ → List ℕ → Type 0
+IsPiece None bytes rest = IsBlank bytes ⊎ IsComment bytes rest
+IsPiece (Some sign) bytes rest = IsToken sign bytes rest
+
+-- a numeral, a quoted text or a character begins with such a byte
+abbrev pub is_opening : ℕ → Bool
+is_opening b = is_digit b || b == double_quote || b == dollar || b == single_quote
+
+-- the first byte is none of those, and no piece stands there
+abbrev pub IsStray : List ℕ → Type 0
+IsStray [] = ⊥
+IsStray (b ∷ bs) = IsFalse (is_opening b)
+    × ((sign : Option Sign) (bytes rest : List ℕ) → b ∷ bs ≡ bytes ++ rest → IsPiece sign bytes rest → ⊥)
+
+-- a `\` and this make no escape
+abbrev pub IsNoEscape : List ℕ → Type 0
+IsNoEscape [] = ⊥
+IsNoEscape (letter ∷ rest) = escape_of letter ≡ None
+
+-- a byte may not stand there, or is a `\` that begins no escape
+abbrev pub IsWrong : (ℕ → Bool) → List ℕ → Type 0
+IsWrong may_stand [] = ⊥
+IsWrong may_stand (b ∷ rest) = IsFalse (may_stand b) ⊎ ((b ≡ backslash) × IsNoEscape rest)
+
+-- the file ends, or ends behind a `\`
+abbrev pub IsCutOff : List ℕ → Type 0
+IsCutOff rest = (rest ≡ []) ⊎ (rest ≡ backslash ∷ [])
+
+-- the text opens a quoted text, writes so many bytes of it with the quote, and goes on
+pub record OpensQuoted (text : List ℕ) (written : ℕ) (rest : List ℕ) : Type 0 where
+  pub quote : ℕ
+  pub is_quote : (quote ≡ single_quote) ⊎ (quote ≡ double_quote)
+  pub meant : List ℕ
+  pub body : List ℕ
+  pub writes : WritesAll quote meant body
+  pub whole : text ≡ quote ∷ (body ++ rest)
+  pub written_is : written ≡ length body + 1
+
+-- a quoted text or a character goes on with a wrong byte, so many bytes on
+abbrev pub HasWrongByte : List ℕ → ℕ → Type 0
+HasWrongByte text n = (rest : List ℕ)
+    × ((OpensQuoted text n rest × IsWrong is_quotable rest) ⊎ ((text ≡ dollar ∷ rest) × (n ≡ 1) × IsWrong is_visible rest))
+
+-- a quoted text or a character is cut off by the end of the file
+abbrev pub IsUnfinished : List ℕ → Type 0
+IsUnfinished text = (rest : List ℕ) × IsCutOff rest × (((n : ℕ) × OpensQuoted text n rest) ⊎ (text ≡ dollar ∷ rest))
+
+-- a numeral is above 9223372036854775807
+abbrev pub IsTooLarge : List ℕ → Type 0
+IsTooLarge text = (value : ℕ) × (bytes rest : List ℕ) × (text ≡ bytes ++ rest) × IsNumeral value bytes rest × (2 ^ 63 ≤ value)
+
+-- a text that begins with no piece has this fault, so many bytes on
+abbrev pub IsFault : Fault → ℕ → List ℕ → Type 0
+IsFault UnexpectedByte n text = (IsStray text × (n ≡ 0)) ⊎ HasWrongByte text n
+IsFault Unfinished n text = IsUnfinished text × (n ≡ 0)
+IsFault IntegerTooLarge n text = IsTooLarge text × (n ≡ 0)
+IsFault SourceTooLong n text = ⊥
+
+-- the bytes of a piece, and what it stands for, unless it is a blank or a comment
+pub record Part : Type 0 where
+  pub sign : Option Sign
+  pub bytes : List ℕ
+
+-- the text is the parts, one behind the other and each a piece, and then the rest
+abbrev pub Begins : List Part → List ℕ → List ℕ → Type 0
+Begins [] text rest = text ≡ rest
+Begins (p ∷ ps) text rest = (tail : List ℕ) × (text ≡ p.bytes ++ tail) × IsPiece p.sign p.bytes tail × Begins ps tail rest
+
+-- the tokens of parts, the first of which stands at the place
+abbrev pub tokens_from : ℕ → List Part → List Placed
+tokens_from place [] = []
+tokens_from place (p ∷ ps) =
+    put_first p.sign place (place + length p.bytes) (tokens_from (place + length p.bytes) ps)
+
+-- how many bytes parts take
+abbrev pub total_length : List Part → ℕ
+total_length [] = 0
+total_length (p ∷ ps) = length p.bytes + total_length ps
+
+-- the text is cut into pieces, and these are its tokens
+pub record HasTokens (text : List ℕ) (tokens : List Placed) : Type 0 where
+  pub short : length text ≤ 65536
+  pub parts : List Part
+  pub whole : Begins parts text []
+  pub tokens_are : tokens ≡ tokens_from 0 parts
+
+-- behind pieces the text has this fault at the place
+pub record HasFaultAt (text : List ℕ) (fault : Fault) (place : ℕ) : Type 0 where
+  pub parts : List Part
+  pub rest : List ℕ
+  pub begins : Begins parts text rest
+  pub further : ℕ
+  pub fault_is : IsFault fault further rest
+  pub place_is : place ≡ total_length parts + further
+
+-- the first fault of the text is this, at the place
+abbrev pub HasFault : List ℕ → Fault → ℕ → Type 0
+HasFault text fault place =
+    ((65536 < length text) × (fault ≡ SourceTooLong) × (place ≡ 0)) ⊎ ((length text ≤ 65536) × HasFaultAt text fault place)
+
+-- the text has tokens
+abbrev pub HasSomeTokens : List ℕ → Type 0
+HasSomeTokens text = (tokens : List Placed) × HasTokens text tokens
+
+-- the text has a first fault
+abbrev pub HasSomeFault : List ℕ → Type 0
+HasSomeFault text = (fault : Fault) × (place : ℕ) × HasFault text fault place
+
+-- tokens stand in order, none of them empty, from the one place to the other
+abbrev pub IsOrdered : ℕ → List Placed → ℕ → Type 0
+IsOrdered start [] end = start ≤ end
+IsOrdered start (t ∷ ts) end = (start ≤ t.start) × (t.start < t.end) × IsOrdered t.end ts end
+
+-- want of memory says nothing of a text, and a fault is its first
+abbrev pub IsFaultOf : List ℕ → TokensFault → Type 0
+IsFaultOf text outcomes.Memory = Unit {0}
+IsFaultOf text (outcomes.At fault place) = HasFault text fault place

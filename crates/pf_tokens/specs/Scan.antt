@@ -1,0 +1,200 @@
+-- The tokens of a text, or its first fault and the fault's place, read from left to right.
+use Rattle.std.specs.Prelude.{◌≡◌, ℕ, zero, suc, ◌+◌, Bool, true, false, List, [], ◌∷◌, length, take, drop, Option, Some, None, option_map, Result, Ok, Err, if◌then◌else◌, nat_eq, nat_le, ◌==◌, ◌&&◌, slice_index, codes}
+use Rattle.std.specs.List.{prefix_len, starts_with}
+use Rattle.std.specs.Str.{bytes_eq}
+use Rattle.pf_tokens.specs.declared.bytes.Class.{Class}
+use Rattle.pf_tokens.specs.declared.bytes.Class.TheVariants as classes
+use Rattle.pf_tokens.specs.declared.fault.Fault.{Fault}
+use Rattle.pf_tokens.specs.declared.fault.Fault.TheVariants.{UnexpectedByte, Unfinished, IntegerTooLarge, SourceTooLong}
+use Rattle.pf_tokens.specs.declared.fault.TokensFault.{TokensFault}
+use Rattle.pf_tokens.specs.declared.fault.TokensFault.TheVariants as outcomes
+use Rattle.pf_tokens.specs.declared.quoted.Step.{Step}
+use Rattle.pf_tokens.specs.declared.quoted.Step.TheVariants as steps
+use Rattle.pf_tokens.specs.declared.piece.Piece.{Piece}
+use Rattle.pf_tokens.specs.declared.words.Reserved.{Reserved}
+use Rattle.pf_tokens.specs.Bytes.{backslash, is_digit, is_word, is_comment, is_joined, is_visible, is_quotable, ends, class_of, escape_of}
+use Rattle.pf_tokens.specs.Signs.{Sign, Placed, sign_of, decimal, checked, longest_mark, mark_text, reserved_of, put_first}
+use Rattle.pf_tokens.specs.Signs as signs
+
+-- a value, or a fault and its place
+abbrev pub Read : Type 0 → Type 0
+Read X = Result X (Fault × ℕ)
+
+-- a piece is the token, unless it is a blank or a comment, and its length
+abbrev pub Cut : Type 0
+Cut = Option Sign × ℕ
+
+-- what a piece of the program shows
+abbrev pub shown : Piece → Cut
+shown p = (option_map sign_of p.kind, p.length)
+
+infixl 10 ◌>>=◌
+abbrev pub ◌>>=◌ : {A B : Type 0} → Read A → (A → Read B) → Read B
+(Ok x) >>= f = f x
+(Err e) >>= f = Err e
+
+-- want of memory says nothing of the text, and a fault is the one that was read
+abbrev pub Fails : {Y : Type 0} → TokensFault → Read Y → Type 0
+Fails outcomes.Memory read = Unit {0}
+Fails (outcomes.At f place) read = read ≡ Err (f, place)
+
+-- a result, seen by a view, is what was read, unless memory ran out
+abbrev pub Gives : {X Y : Type 0} → (X → Y) → Result X TokensFault → Read Y → Type 0
+Gives view (Ok x) read = read ≡ Ok (view x)
+Gives view (Err e) read = Fails e read
+
+-- an escape means a byte, or fails
+abbrev pub escape_step : Option ℕ → Step
+escape_step (Some c) = steps.Means c
+escape_step None = steps.Fails
+
+-- what a byte within quotes does, behind a `\` or not
+abbrev pub step_of : ℕ → Bool → ℕ → Step
+step_of quote true b = escape_step (escape_of b)
+step_of quote false b =
+    if b == quote then steps.Closes
+    else (if b == backslash then steps.Escapes
+    else (if is_quotable b then steps.Means b
+    else steps.Fails))
+
+-- a byte in front of a text and what it is longer
+abbrev pub put_byte : ℕ → Read (List ℕ × ℕ) → Read (List ℕ × ℕ)
+put_byte c read = read >>= λ p. Ok (c ∷ p.0, p.1)
+
+-- a byte stands alone or behind a `\`
+abbrev pub width : Bool → ℕ
+width true = 2
+width false = 1
+
+-- how a step goes on
+abbrev pub go_on : (Bool → ℕ → Read (List ℕ × ℕ)) → ℕ → Bool → ℕ → Step → Read (List ℕ × ℕ)
+go_on more place escaped n steps.Closes = Ok ([], n + 1)
+go_on more place escaped n steps.Escapes = more true n
+go_on more place escaped n (steps.Means c) = put_byte c (more false (n + width escaped))
+go_on more place escaped n steps.Fails = Err (UnexpectedByte, place + n)
+
+-- the bytes up to the closing quote, and the length with it, where n bytes of the text at the place are read
+unfoldable pub closing : ℕ → ℕ → List ℕ → Bool → ℕ → Read (List ℕ × ℕ)
+closing quote place [] escaped n = Err (Unfinished, place)
+closing quote place (b ∷ bs) escaped n = go_on (closing quote place bs) place escaped n (step_of quote escaped b)
+
+-- the bytes in the quotes at the front, and the length with both quotes
+abbrev pub quoted : ℕ → List ℕ → Read (List ℕ × ℕ)
+quoted place bytes = closing (slice_index bytes 0) place (drop 1 bytes) false 1
+
+-- the character that an escape stands for
+abbrev pub escaped_character : ℕ → Option ℕ → Read (ℕ × ℕ)
+escaped_character place (Some c) = Ok (c, 3)
+escaped_character place None = Err (UnexpectedByte, place + 1)
+
+-- the character behind a `\`
+abbrev pub behind_backslash : ℕ → List ℕ → Read (ℕ × ℕ)
+behind_backslash place [] = Err (Unfinished, place)
+behind_backslash place (e ∷ rest) = escaped_character place (escape_of e)
+
+-- the character behind a `$`
+abbrev pub behind_dollar : ℕ → List ℕ → Read (ℕ × ℕ)
+behind_dollar place [] = Err (Unfinished, place)
+behind_dollar place (c ∷ rest) =
+    if c == backslash then behind_backslash place rest
+    else (if is_visible c then Ok (c, 2)
+    else Err (UnexpectedByte, place + 1))
+
+-- the character at the front, and its length with the `$`
+abbrev pub character : ℕ → List ℕ → Read (ℕ × ℕ)
+character place bytes = behind_dollar place (drop 1 bytes)
+
+-- a token of that length
+abbrev pub token : Sign → ℕ → Cut
+token sign n = (Some sign, n)
+
+-- a value, or a fault here
+abbrev pub or_fault : {A : Type 0} → Fault → ℕ → (A → Cut) → Option A → Read Cut
+or_fault fault place make (Some x) = Ok (make x)
+or_fault fault place make None = Err (fault, place)
+
+-- the digits at the front
+abbrev pub number_at : ℕ → List ℕ → Read Cut
+number_at place bytes =
+    let n = prefix_len is_digit bytes in
+    or_fault IntegerTooLarge place (λ value. token (signs.integer value) n) (checked (decimal (take n bytes)))
+
+-- a word is an atom unless it is reserved
+abbrev pub atom_unless : List ℕ → Option Reserved → Sign
+atom_unless word (Some r) = signs.reserved r
+atom_unless word None = signs.atom word
+
+-- a word stands for a reserved word or an atom
+abbrev pub word_sign : List ℕ → Sign
+word_sign word = atom_unless word (reserved_of word)
+
+-- the word at the front
+abbrev pub word_at : List ℕ → Read Cut
+word_at bytes = Ok (token (word_sign (take (prefix_len is_word bytes) bytes)) (prefix_len is_word bytes))
+
+-- `_` alone is the anonymous variable
+abbrev pub variable_sign : List ℕ → Sign
+variable_sign name = if bytes_eq name (codes "_") then signs.anonymous else signs.variable name
+
+-- the variable at the front
+abbrev pub variable_at : List ℕ → Read Cut
+variable_at bytes = Ok (token (variable_sign (take (prefix_len is_word bytes) bytes)) (prefix_len is_word bytes))
+
+-- the character at the front, as an integer
+abbrev pub code_at : ℕ → List ℕ → Read Cut
+code_at place bytes = character place bytes >>= λ p. Ok (token (signs.integer p.0) p.1)
+
+-- the quoted atom at the front
+abbrev pub atom_at : ℕ → List ℕ → Read Cut
+atom_at place bytes = quoted place bytes >>= λ p. Ok (token (signs.atom p.0) p.1)
+
+-- the string at the front
+abbrev pub text_at : ℕ → List ℕ → Read Cut
+text_at place bytes = quoted place bytes >>= λ p. Ok (token (signs.text p.0) p.1)
+
+-- `?MODULE` at the front, with no byte of a word after it
+abbrev pub module_at : ℕ → List ℕ → Read Cut
+module_at place bytes =
+    if starts_with nat_eq bytes (codes "?MODULE") && ends is_word (drop 7 bytes)
+    then Ok (token signs.own_module 7) else Err (UnexpectedByte, place)
+
+-- the dot at the front, with a blank, a comment or nothing after it
+abbrev pub dot_at : ℕ → List ℕ → Read Cut
+dot_at place bytes = if ends is_joined (drop 1 bytes) then Ok (token signs.dot 1) else Err (UnexpectedByte, place)
+
+-- the longest mark at the front
+abbrev pub mark_at : ℕ → List ℕ → Read Cut
+mark_at place bytes = or_fault UnexpectedByte place (λ m. token (signs.mark m) (length (mark_text m))) (longest_mark bytes)
+
+-- the piece at the front, whose first byte has this class
+abbrev pub piece_of : Class → ℕ → List ℕ → Read Cut
+piece_of classes.Blank place bytes = Ok (None, 1)
+piece_of classes.Percent place bytes = Ok (None, prefix_len is_comment bytes)
+piece_of classes.Digit place bytes = number_at place bytes
+piece_of classes.Lower place bytes = word_at bytes
+piece_of classes.Upper place bytes = variable_at bytes
+piece_of classes.Dollar place bytes = code_at place bytes
+piece_of classes.Quote place bytes = atom_at place bytes
+piece_of classes.DoubleQuote place bytes = text_at place bytes
+piece_of classes.Question place bytes = module_at place bytes
+piece_of classes.Dot place bytes = dot_at place bytes
+piece_of classes.Other place bytes = mark_at place bytes
+
+-- the piece at the front
+unfoldable pub piece_at : ℕ → List ℕ → Read Cut
+piece_at place bytes = piece_of (class_of (slice_index bytes 0)) place bytes
+
+-- a piece, and then what is left
+abbrev pub scan_step : (ℕ → List ℕ → Read (List Placed)) → ℕ → List ℕ → Read (List Placed)
+scan_step more place [] = Ok []
+scan_step more place (b ∷ bs) =
+    piece_at place (b ∷ bs) >>= λ p. more (place + p.1) (drop p.1 (b ∷ bs)) >>= λ ts. Ok (put_first p.0 place (place + p.1) ts)
+
+-- the tokens from a place on, of at most so many pieces
+unfoldable pub scan : ℕ → ℕ → List ℕ → Read (List Placed)
+scan zero place bytes = Ok []
+scan (suc n) place bytes = scan_step (scan n) place bytes
+
+-- the tokens of a text, unless it is longer than 65,536 bytes
+abbrev pub tokens : List ℕ → Read (List Placed)
+tokens bytes = if nat_le (length bytes) 65536 then scan (length bytes) 0 bytes else Err (SourceTooLong, 0)

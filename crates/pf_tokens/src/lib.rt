@@ -1,0 +1,23 @@
+//! Cuts the bytes of a source text into tokens, or names the first fault and its place.
+//!
+//! The tokens are Erlang's (Erlang Reference Manual, "Data Types", "Expressions" and "Reserved Words") without floats,
+//! numbers in other bases, binaries, maps, records and macros other than `?MODULE`; `maybe` and `else` are atoms.
+//! `tokens` ties them to the rules of `specs/Rules.antt`, which know nothing of how a text is read.
+#![tactic(auto)]
+
+mod bytes;
+mod fault;
+mod marks;
+mod piece;
+mod quoted;
+mod scan;
+#[cfg(test)]
+mod tests;
+mod token;
+mod words;
+
+pub use fault::{Fault, TokensFault};
+pub use marks::Mark;
+pub use scan::{one_reading, tokens};
+pub use token::{Integer, Kind, Token};
+pub use words::Reserved;

@@ -1,0 +1,200 @@
+//! A piece of a text: a blank, a comment or a token.
+ghost use Rattle.std.specs.Prelude.{◌≡◌, ◌≤◌, ◌<◌, ◌+◌, ◌^◌, length, IfOk, slice_index};
+ghost use Rattle.std.specs.List.{AllPass};
+ghost use Rattle.pf_tokens.specs.Bytes.{is_digit};
+ghost use Rattle.pf_tokens.specs.Signs.{sign_of};
+ghost use Rattle.pf_tokens.specs.Scan.{
+  Gives,
+  shown,
+  word_sign,
+  variable_sign,
+  number_at,
+  word_at,
+  variable_at,
+  code_at,
+  atom_at,
+  text_at,
+  module_at,
+  dot_at,
+  mark_at,
+  piece_at,
+};
+
+use crate::bytes::{
+    Class, class_of, digits_length, ends_form, ends_word, line_length, word_length,
+};
+use crate::fault::{Fault, TokensFault};
+use crate::marks::longest_mark;
+use crate::quoted::{character, quoted};
+use crate::token::{Integer, Kind};
+use crate::words::{integer_of, reserved_of};
+use std::alloc::{AllocError, Global};
+
+/// What stands at the front of a text: the token, unless it is a blank or a comment, and how many bytes it takes.
+#[derive(Drop)]
+pub struct Piece {
+    pub kind: Option<Kind>,
+    pub length: usize,
+}
+
+/// A piece that is a token.
+fn token(kind: Kind, length: usize) -> Piece
+    ensures { result ≡ record { kind = Some kind; length = length } }
+{
+    Piece {
+        kind: Some(kind),
+        length,
+    }
+}
+
+/// The digits at the front.
+fn number(bytes: &[u8], place: usize) -> Result<Piece, TokensFault>
+    ensures given { Gives shown result (number_at place bytes.now) }
+    ensures within { IfOk result (λ p. p.length ≤ length bytes.now) }
+{
+    let length = digits_length(bytes);
+    match integer_of(bytes.split_at(length).0) {
+        Some(value) => Ok(token(Kind::Integer(value), length)),
+        None => Err(TokensFault::At(Fault::IntegerTooLarge, place)),
+    }
+}
+
+/// What a word is: a reserved word or an atom.
+fn word_kind(alloc: Global, text: &[u8]) -> Result<Kind, AllocError>
+    ensures { IfOk result (λ kind. sign_of kind ≡ word_sign text.now) }
+{
+    match reserved_of(text) {
+        Some(reserved) => Ok(Kind::Reserved(reserved)),
+        None => Ok(Kind::Atom(Vec::from_slice(alloc, text)?)),
+    }
+}
+
+/// The word at the front.
+fn word(alloc: Global, bytes: &[u8]) -> Result<Piece, TokensFault>
+    ensures given { Gives shown result (word_at bytes.now) }
+    ensures within { IfOk result (λ p. p.length ≤ length bytes.now) }
+{
+    let length = word_length(bytes);
+    Ok(token(word_kind(alloc, bytes.split_at(length).0)?, length))
+}
+
+/// What a variable is: `_` alone is the anonymous one.
+fn variable_kind(alloc: Global, text: &[u8]) -> Result<Kind, AllocError>
+    ensures { IfOk result (λ kind. sign_of kind ≡ variable_sign text.now) }
+{
+    if text == b"_".as_slice() {
+        return Ok(Kind::Anonymous);
+    }
+    Ok(Kind::Variable(Vec::from_slice(alloc, text)?))
+}
+
+/// The variable at the front.
+fn variable(alloc: Global, bytes: &[u8]) -> Result<Piece, TokensFault>
+    ensures given { Gives shown result (variable_at bytes.now) }
+    ensures within { IfOk result (λ p. p.length ≤ length bytes.now) }
+{
+    let length = word_length(bytes);
+    Ok(token(variable_kind(alloc, bytes.split_at(length).0)?, length))
+}
+
+/// The `$` and the character at the front, as an integer.
+fn code(bytes: &[u8], place: usize) -> Result<Piece, TokensFault>
+    requires some { 0 < length bytes.now }
+    requires short { place + length bytes.now < 2 ^ 32 }
+    ensures given { Gives shown result (code_at place bytes.now) }
+    ensures within { IfOk result (λ p. p.length ≤ length bytes.now) }
+{
+    let (code, length) = character(bytes, place)?;
+    Ok(token(
+        Kind::Integer(Integer {
+            value: u64::from(code),
+        }),
+        length,
+    ))
+}
+
+/// The quoted atom at the front.
+fn atom(alloc: Global, bytes: &[u8], place: usize) -> Result<Piece, TokensFault>
+    requires some { 0 < length bytes.now }
+    requires short { place + length bytes.now < 2 ^ 32 }
+    ensures given { Gives shown result (atom_at place bytes.now) }
+    ensures within { IfOk result (λ p. p.length ≤ length bytes.now) }
+{
+    let (name, length) = quoted(alloc, bytes, place)?;
+    Ok(token(Kind::Atom(name), length))
+}
+
+/// The string at the front.
+fn text(alloc: Global, bytes: &[u8], place: usize) -> Result<Piece, TokensFault>
+    requires some { 0 < length bytes.now }
+    requires short { place + length bytes.now < 2 ^ 32 }
+    ensures given { Gives shown result (text_at place bytes.now) }
+    ensures within { IfOk result (λ p. p.length ≤ length bytes.now) }
+{
+    let (text, length) = quoted(alloc, bytes, place)?;
+    Ok(token(Kind::Text(text), length))
+}
+
+/// `?MODULE` at the front, where no byte of a word follows it.
+fn own_module(bytes: &[u8], place: usize) -> Result<Piece, TokensFault>
+    ensures given { Gives shown result (module_at place bytes.now) }
+    ensures within { IfOk result (λ p. p.length ≤ length bytes.now) }
+{
+    let macro_name = b"?MODULE";
+    if bytes.starts_with(macro_name) && ends_word(bytes.split_at(macro_name.len()).1) {
+        return Ok(token(Kind::Module, macro_name.len()));
+    }
+    Err(TokensFault::At(Fault::UnexpectedByte, place))
+}
+
+/// The dot at the front, where a blank, a comment or nothing follows it.
+fn full_stop(bytes: &[u8], place: usize) -> Result<Piece, TokensFault>
+    requires { 0 < length bytes.now }
+    ensures given { Gives shown result (dot_at place bytes.now) }
+    ensures within { IfOk result (λ p. p.length ≤ length bytes.now) }
+{
+    if ends_form(bytes.split_at(1).1) {
+        return Ok(token(Kind::Dot, 1));
+    }
+    Err(TokensFault::At(Fault::UnexpectedByte, place))
+}
+
+/// The longest mark at the front.
+fn mark(bytes: &[u8], place: usize) -> Result<Piece, TokensFault>
+    ensures given { Gives shown result (mark_at place bytes.now) }
+    ensures within { IfOk result (λ p. p.length ≤ length bytes.now) }
+{
+    match longest_mark(bytes) {
+        Some(mark) => Ok(token(Kind::Mark(mark), mark.text().len())),
+        None => Err(TokensFault::At(Fault::UnexpectedByte, place)),
+    }
+}
+
+/// The piece at the front of what is left of a text, from this place on.
+#[tactic(auto, unfolding(crate::specs::Scan::piece_at))]
+pub fn next_piece(alloc: Global, bytes: &[u8], place: usize) -> Result<Piece, TokensFault>
+    requires some { 0 < length bytes.now }
+    requires short { place + length bytes.now < 2 ^ 32 }
+    ensures given { Gives shown result (piece_at place bytes.now) }
+    ensures within { IfOk result (λ p. p.length ≤ length bytes.now) }
+{
+    match class_of(bytes[0]) {
+        Class::Blank => Ok(Piece {
+            kind: None,
+            length: 1,
+        }),
+        Class::Percent => Ok(Piece {
+            kind: None,
+            length: line_length(bytes),
+        }),
+        Class::Digit => number(bytes, place),
+        Class::Lower => word(alloc, bytes),
+        Class::Upper => variable(alloc, bytes),
+        Class::Dollar => code(bytes, place),
+        Class::Quote => atom(alloc, bytes, place),
+        Class::DoubleQuote => text(alloc, bytes, place),
+        Class::Question => own_module(bytes, place),
+        Class::Dot => full_stop(bytes, place),
+        Class::Other => mark(bytes, place),
+    }
+}

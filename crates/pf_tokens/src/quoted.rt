@@ -1,0 +1,125 @@
+//! Texts in quotes, and characters after `$`.
+ghost use Rattle.std.specs.Prelude.{false, ◌≡◌, ◌≤◌, ◌+◌, ◌^◌, ◌<◌, length, IfOk};
+ghost use Rattle.pf_tokens.specs.Bytes.{is_visible, escape_of};
+ghost use Rattle.pf_tokens.specs.Scan.{Gives, step_of, width, closing, quoted, character};
+
+use crate::bytes::{is_quotable, is_visible};
+use crate::fault::{Fault, TokensFault};
+use std::alloc::Global;
+
+/// What a byte within quotes does.
+#[derive(Clone, Copy)]
+enum Step {
+    /// It closes the text.
+    Closes,
+    /// It begins an escape.
+    Escapes,
+    /// It stands for this byte, or ends an escape that does.
+    Means(u8),
+    /// It may not stand there, or makes no escape.
+    Fails,
+}
+
+/// The byte that a letter stands for after `\`: one of `n`, `t`, `s`, `\`, `'` and `"`.
+fn escape_of(letter: u8) -> Option<u8>
+    ensures { result ≡ escape_of letter }
+{
+    match letter {
+        b'n' => Some(b'\n'),
+        b't' => Some(b'\t'),
+        b's' => Some(b' '),
+        b'\\' | b'\'' | b'"' => Some(letter),
+        _ => None,
+    }
+}
+
+/// How many bytes stand for one.
+fn width(is_escaped: bool) -> usize
+    ensures { result ≡ width is_escaped }
+{
+    if is_escaped { 2 } else { 1 }
+}
+
+/// What a byte within this quote does, behind a `\` or not.
+fn step_of(quote: u8, is_escaped: bool, byte: u8) -> Step
+    ensures { result ≡ step_of quote is_escaped byte }
+{
+    if is_escaped {
+        match escape_of(byte) {
+            Some(meant) => Step::Means(meant),
+            None => Step::Fails,
+        }
+    } else if byte == quote {
+        Step::Closes
+    } else if byte == b'\\' {
+        Step::Escapes
+    } else if is_quotable(byte) {
+        Step::Means(byte)
+    } else {
+        Step::Fails
+    }
+}
+
+/// The bytes up to the quote that closes a text, and the length with both quotes. The text begins with a quote
+/// at the place, and the rest is what stands behind that.
+fn closing(
+    alloc: Global,
+    rest: &[u8],
+    place: usize,
+    quote: u8,
+) -> Result<(Vec<u8>, usize), TokensFault>
+    requires { place + length rest.now < 2 ^ 32 }
+    ensures given { Gives (λ found. (found.0.items, found.1)) result (closing quote place rest.now false 1) }
+    ensures within { IfOk result (λ found. found.1 ≤ length rest.now + 1) }
+{
+    let mut text = Vec::new(alloc);
+    let mut length = 1;
+    let mut is_escaped = false;
+    for byte in rest {
+        match step_of(quote, is_escaped, *byte) {
+            Step::Closes => return Ok((text, length + 1)),
+            Step::Escapes => is_escaped = true,
+            Step::Means(meant) => {
+                text.push(meant)?;
+                length += width(is_escaped);
+                is_escaped = false;
+            }
+            Step::Fails => return Err(TokensFault::At(Fault::UnexpectedByte, place + length)),
+        }
+    }
+    Err(TokensFault::At(Fault::Unfinished, place))
+}
+
+/// The bytes that stand in quotes at the place, and the length of the text with both quotes. The first byte is
+/// the quote that opens it.
+pub fn quoted(alloc: Global, bytes: &[u8], place: usize) -> Result<(Vec<u8>, usize), TokensFault>
+    requires some { 0 < length bytes.now }
+    requires short { place + length bytes.now < 2 ^ 32 }
+    ensures given { Gives (λ found. (found.0.items, found.1)) result (quoted place bytes.now) }
+    ensures within { IfOk result (λ found. found.1 ≤ length bytes.now) }
+{
+    closing(alloc, bytes.split_at(1).1, place, bytes[0])
+}
+
+/// The code of the character at the place, and its length. The first byte is the `$`.
+pub fn character(bytes: &[u8], place: usize) -> Result<(u8, usize), TokensFault>
+    requires some { 0 < length bytes.now }
+    requires short { place + length bytes.now < 2 ^ 32 }
+    ensures given { Gives (λ found. found) result (character place bytes.now) }
+    ensures within { IfOk result (λ found. found.1 ≤ length bytes.now) }
+{
+    let Some((byte, rest)) = bytes.split_at(1).1.split_first() else {
+        return Err(TokensFault::At(Fault::Unfinished, place));
+    };
+    if *byte == b'\\' {
+        let Some((letter, _)) = rest.split_first() else {
+            return Err(TokensFault::At(Fault::Unfinished, place));
+        };
+        let code = escape_of(*letter).ok_or(TokensFault::At(Fault::UnexpectedByte, place + 1))?;
+        return Ok((code, 3));
+    }
+    if is_visible(*byte) {
+        return Ok((*byte, 2));
+    }
+    Err(TokensFault::At(Fault::UnexpectedByte, place + 1))
+}
