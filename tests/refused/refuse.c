@@ -1,13 +1,17 @@
 // Refuses the growth that the variable REFUSE_GROWTH numbers, counted from 1 over malloc and realloc, and no other.
-// Where REFUSE_TOLD names a file, it is made when a growth was refused. Loaded by LD_PRELOAD; no part of any program.
+// Where REFUSE_TOLD names a file, it is made when a growth was refused. Where BLOCKS_TOLD names a file, it is given, at the
+// program's end, how many blocks were asked for and how many were given back. Loaded by LD_PRELOAD; no part of any program.
 #define _GNU_SOURCE
 #include <dlfcn.h>
 #include <errno.h>
 #include <fcntl.h>
+#include <stdio.h>
 #include <stdlib.h>
 #include <unistd.h>
 
 static long left = -1;
+static long asked = 0;
+static long given_back = 0;
 
 static int refuses(void) {
     if (left == -1) {
@@ -28,12 +32,17 @@ static int refuses(void) {
     return 1;
 }
 
+static void *counted(void *block) {
+    asked += block != NULL;
+    return block;
+}
+
 void *malloc(size_t size) {
     static void *(*real)(size_t);
     if (!real) {
         real = (void *(*)(size_t))dlsym(RTLD_NEXT, "malloc");
     }
-    return refuses() ? NULL : real(size);
+    return refuses() ? NULL : counted(real(size));
 }
 
 void *realloc(void *old, size_t size) {
@@ -41,5 +50,30 @@ void *realloc(void *old, size_t size) {
     if (!real) {
         real = (void *(*)(void *, size_t))dlsym(RTLD_NEXT, "realloc");
     }
-    return refuses() ? NULL : real(old, size);
+    if (refuses()) {
+        return NULL;
+    }
+    return old ? real(old, size) : counted(real(old, size));
+}
+
+void free(void *block) {
+    static void (*real)(void *);
+    if (!real) {
+        real = (void (*)(void *))dlsym(RTLD_NEXT, "free");
+    }
+    given_back += block != NULL;
+    real(block);
+}
+
+__attribute__((destructor)) static void tell(void) {
+    const char *told = getenv("BLOCKS_TOLD");
+    int file = told ? open(told, O_WRONLY | O_CREAT | O_TRUNC, 0600) : -1;
+    if (file >= 0) {
+        char line[64];
+        int length = snprintf(line, sizeof line, "%ld asked for, %ld given back\n", asked, given_back);
+        if (write(file, line, (size_t)length) != length) {
+            abort();
+        }
+        close(file);
+    }
 }

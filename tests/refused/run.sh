@@ -1,7 +1,8 @@
 #!/bin/sh
 # Refuses each growth of the built program in turn, until a run meets no refusal. Each run has to end with the whole text
 # and status 0, or with `NoMemory` alone on a line and status 2; a growth that is refused before `main` has begun may end
-# the program with a message on standard error and status 1 or 2. Anything else, a signal or a hang fails.
+# the program with a message on standard error and status 1 or 2. Anything else, a signal or a hang fails. Each run of the
+# program itself, refused or not, has to give back each block that it asked for.
 set -u
 top=$(cd "$(dirname "$0")/../.." && pwd)
 room=$(mktemp -d)
@@ -11,15 +12,24 @@ cc -O2 -shared -fPIC -o "$room/refuse.so" "$top/tests/refused/refuse.c" -ldl || 
 program="$top/crates/pf_refused/out/pf_refused"
 passed=0
 failed=0
+
+gave_all_back() {
+  read -r asked _ _ given _ < "$room/blocks" && [ "$asked" = "$given" ]
+}
+
 k=1
 while [ "$k" -le 10000 ]; do
-  rm -f "$room/told"
-  LD_PRELOAD="$room/refuse.so" REFUSE_GROWTH=$k REFUSE_TOLD="$room/told" timeout 10 "$program" > "$room/out" 2> "$room/err"
+  rm -f "$room/told" "$room/blocks"
+  timeout 10 env LD_PRELOAD="$room/refuse.so" REFUSE_GROWTH=$k REFUSE_TOLD="$room/told" BLOCKS_TOLD="$room/blocks" \
+    "$program" > "$room/out" 2> "$room/err"
   status=$?
   if [ ! -e "$room/told" ]; then
     break
   fi
-  if [ "$status" = 0 ] && cmp -s "$room/out" "$top/crates/pf_refused/stdout"; then
+  if { [ "$status" = 0 ] || [ -s "$room/out" ]; } && ! gave_all_back; then
+    echo "growth $k refused: $(cat "$room/blocks")"
+    failed=$((failed + 1))
+  elif [ "$status" = 0 ] && cmp -s "$room/out" "$top/crates/pf_refused/stdout"; then
     passed=$((passed + 1))
   elif [ "$status" = 2 ] && [ "$(cat "$room/out")" = NoMemory ]; then
     passed=$((passed + 1))
@@ -31,6 +41,10 @@ while [ "$k" -le 10000 ]; do
   fi
   k=$((k + 1))
 done
+if ! gave_all_back; then
+  echo "with no growth refused: $(cat "$room/blocks")"
+  failed=$((failed + 1))
+fi
 if [ "$status" != 0 ] || ! cmp -s "$room/out" "$top/crates/pf_refused/stdout"; then
   echo "with no growth refused: status $status"
   failed=$((failed + 1))

@@ -1,7 +1,9 @@
-//! Makes values, names of atoms and a text, and says so in one line. Where a growth is refused it says `NoMemory` and
+//! Makes values, names of atoms and a mail list, and says so in two lines. Where a growth is refused it says `NoMemory` and
 //! ends with status 2, once it has seen that what refused it is as it was; else it ends with status 3. The script under
 //! tests/refused runs it with each growth refused in turn.
 #![tactic(auto)]
+
+mod mail;
 
 use pf_terms::{
     AtomId, AtomTable, List, NoMemory, Term, TermFault, copy, list_of, nodes, tuple_of,
@@ -10,14 +12,18 @@ use std::alloc::Global;
 use std::io;
 use std::process::ExitCode;
 
-/// What a run of calls came to.
+/// Why a run of calls did not end.
 #[derive(Clone, Copy, PartialEq, Eq)]
 enum Answer {
-    /// All calls answered, and the values have so many nodes.
-    Made(u32),
     Refused,
     /// A refused call changed its value.
     Changed,
+}
+
+/// What the calls made: nodes of a value, and spare nodes of a pool.
+struct Nodes {
+    nodes: u32,
+    spare: usize,
 }
 
 impl From<NoMemory> for Answer {
@@ -74,24 +80,25 @@ fn make(alloc: Global) -> Result<u32, Answer> {
     Ok(nodes(&Term::List(longer)))
 }
 
-fn came_to(alloc: Global) -> Answer {
-    match make(alloc) {
-        Ok(nodes) => Answer::Made(nodes),
-        Err(answer) => answer,
-    }
+fn all_nodes(alloc: Global) -> Result<Nodes, Answer> {
+    Ok(Nodes {
+        nodes: make(alloc)?,
+        spare: mail::spare_after(alloc)?,
+    })
 }
 
 fn main(rt: HostRuntime) -> io::Result<ExitCode> {
-    match came_to(rt.alloc()) {
-        Answer::Made(nodes) => {
+    match all_nodes(rt.alloc()) {
+        Ok(Nodes { nodes, spare }) => {
             println!(rt; "made {nodes} nodes")?;
+            println!(rt; "kept {spare} nodes")?;
             Ok(ExitCode::SUCCESS)
         }
-        Answer::Refused => {
+        Err(Answer::Refused) => {
             println!(rt; "NoMemory")?;
             Ok(ExitCode::from(2))
         }
-        Answer::Changed => {
+        Err(Answer::Changed) => {
             println!(rt; "changed")?;
             Ok(ExitCode::from(3))
         }

@@ -8,3 +8,4 @@ pub mod BookExtends
 pub mod BookFolds
 pub mod BookGrown
 pub mod Measures
+mod Worked

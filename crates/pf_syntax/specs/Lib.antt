@@ -14,3 +14,6 @@ pub mod SourceCode
 pub mod Measure
 pub mod SourceOver
 pub mod SourceView
+pub mod Sight
+pub mod Naming
+pub mod Worked

@@ -1,6 +1,7 @@
 //! The trees of the language, as arenas of nodes: modules as they are written, and checked modules.
 #![tactic(auto)]
 
+mod laws;
 mod measure;
 mod measuring;
 mod module;
@@ -10,6 +11,7 @@ mod source;
 mod table;
 mod written;
 
+pub use laws::names_become_places;
 pub use module::Module;
 pub use node::{
     Alternative, Clause, Function, FunctionClause, FunctionId, Guard, LiteralId, Node, NodeId,

@@ -19,9 +19,9 @@ use std::sync::Arc;
 /// A checked module. What is added to it stands after its parts, and nothing is ever taken out or changed.
 #[derive(Drop)]
 pub struct Module {
+    literals: Vec<Term>,
     name: AtomId,
     atoms: AtomTable,
-    literals: Vec<Term>,
     patterns: Vec<PatternNode>,
     nodes: Vec<Node>,
     functions: Vec<Function>,
@@ -56,9 +56,9 @@ impl Module {
         ensures { result ≡ empty name.0 atoms }
     {
         Module {
+            literals: Vec::new(alloc),
             name,
             atoms,
-            literals: Vec::new(alloc),
             patterns: Vec::new(alloc),
             nodes: Vec::new(alloc),
             functions: Vec::new(alloc),
