@@ -19,6 +19,7 @@ use std::sync::Arc;
 /// A checked module. What is added to it stands after its parts, and nothing is ever taken out or changed.
 #[derive(Drop)]
 pub struct Module {
+    // First, since what looks for `Send` goes only so deep.
     literals: Vec<Term>,
     name: AtomId,
     atoms: AtomTable,
@@ -166,10 +167,19 @@ impl Module {
     }
 }
 
-/// A module and a share of it may go to another thread.
-fn crosses_threads(module: &Module, share: &Arc<Module>) {
+/// What a run may hold of a module.
+#[derive(Drop)]
+struct Held {
+    module: Arc<Module>,
+    at: u32,
+}
+
+/// A module, a share of it, and what holds shares may go to another thread.
+fn crosses_threads(module: &Module, held: &Held, runs: &Vec<(Vec<Term>, Arc<Module>)>) {
     needs_send(module);
-    needs_send(share);
+    needs_send(&held.module);
+    needs_send(held);
+    needs_send(runs);
 }
 
 fn needs_send<T: Send>(_value: &T) {}

@@ -8,3 +8,5 @@ mod ends;
 mod meaning;
 #[cfg(test)]
 mod terms;
+#[cfg(test)]
+mod trees;

@@ -1,0 +1,10 @@
+pub mod Substituted
+pub mod FitFrom
+pub mod Parts
+pub mod Slots
+pub mod Focused
+pub mod Given
+pub mod Matched
+pub mod Selected
+pub mod Entered
+pub mod RunSoFar

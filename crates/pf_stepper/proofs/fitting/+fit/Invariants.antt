@@ -1,0 +1,10 @@
+use Rattle.pf_syntax.specs.Module.{pattern_at}
+use Rattle.pf_syntax.specs.Over.{patterns_at}
+use Rattle.pf_stepper.specs.Lookups.{pattern_size, patterns_size}
+use Rattle.pf_stepper.proofs.fitting.+fit.Given as goal
+
+abbrev pub decreases-fit : goal.decreases-fit
+decreases-fit l = pattern_size (pattern_at l.code.now.tables l.pattern.0)
+
+abbrev pub decreases-fit_all : goal.decreases-fit_all
+decreases-fit_all l = patterns_size (patterns_at l.code.now.tables l.patterns.now)

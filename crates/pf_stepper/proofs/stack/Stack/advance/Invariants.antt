@@ -1,0 +1,13 @@
+use Rattle.std.proofs.Common.{◌≡◌, ◌+◌}
+use Rattle.pf_stepper.specs.Turns.{weight_of, focus_weight}
+use Rattle.pf_stepper.specs.Advanced.{seen, IsSound}
+use Rattle.pf_stepper.proofs.stack.Stack.advance.Given as goal
+
+abbrev pub invariant-loop-next : goal.invariant-loop-next
+invariant-loop-next l = record {
+  process : seen l.code l.self l.focus ≡ seen l.code l.fn.self l.fn.first;
+  sound : IsSound l.self l.focus;
+}
+
+abbrev pub decreases-loop-next : goal.decreases-loop-next
+decreases-loop-next l = weight_of l.code.tables l.self.frames.items + focus_weight l.code.tables l.focus

@@ -1,0 +1,10 @@
+pub mod Lookups
+pub mod Fitted
+pub mod View
+pub mod Sound
+pub mod Turns
+pub mod Advanced
+pub mod Seen
+pub mod Inner
+pub mod Moves
+pub mod Runs

@@ -1,0 +1,188 @@
+//! What each kind of frame does with the value that it waited for. The frame has been taken off the stack.
+
+ghost use Rattle.std.specs.Prelude.{◌≡◌, IfOk};
+ghost use Rattle.pf_stepper.specs.Turns.{Gave, Holds};
+ghost use Rattle.pf_stepper.specs.declared.frame.Kind.TheVariants as kind;
+
+use crate::arithmetic::{applied, negated};
+use crate::clauses::choose;
+use crate::fitting::fit;
+use crate::frame::{Focus, Frame, Kind, Turn};
+use crate::lookups::{arguments, clauses, patterns};
+use crate::reasons::tagged;
+use crate::stack::Stack;
+use pf_syntax::{FunctionId, Module, NodeId, Operator, Part};
+use pf_terms::{AtomId, NoMemory, Term};
+use std::alloc::Global;
+
+impl Stack {
+    /// A left operand: the right one is next.
+    pub(crate) fn left_done(
+        &mut self,
+        code: &Module,
+        frame: Frame,
+        operator: Operator,
+        right: Part,
+        value: Term,
+    ) -> Result<Turn, NoMemory>
+        requires kind { frame.kind ≡ kind.BinaryLeft operator right }
+        requires sound { Holds self.old frame }
+        ensures { IfOk result (λ t. Gave code.now self.old frame value self.new t) }
+    {
+        self.env.truncate(frame.end);
+        self.base = frame.base;
+        self.temps.push(value)?;
+        self.wait(Kind::BinaryRight(operator))?;
+        Ok(Turn::Same(Focus::Eval(right)))
+    }
+
+    /// Both operands.
+    pub(crate) fn right_done(
+        &mut self,
+        code: &Module,
+        frame: Frame,
+        operator: Operator,
+        value: Term,
+    ) -> Result<Turn, NoMemory>
+        requires kind { frame.kind ≡ kind.BinaryRight operator }
+        requires sound { Holds self.old frame }
+        ensures { IfOk result (λ t. Gave code.now self.old frame value self.new t) }
+    {
+        match self.temps.pop() {
+            Some(left) => match applied(operator, &left, &value) {
+                Ok(n) => Ok(Turn::Changed(Focus::Value(Term::Int(n)))),
+                Err(reason) => Ok(Turn::Changed(Focus::Raised(Term::Atom(reason)))),
+            },
+            None => Ok(Turn::Changed(Focus::Raised(Term::Atom(AtomId::UNDEF)))),
+        }
+    }
+
+    /// The operand of a minus.
+    pub(crate) fn negate(
+        &mut self,
+        code: &Module,
+        frame: Frame,
+        value: Term,
+    ) -> Result<Turn, NoMemory>
+        requires kind { frame.kind ≡ kind.Negation }
+        requires sound { Holds self.old frame }
+        ensures { IfOk result (λ t. Gave code.now self.old frame value self.new t) }
+    {
+        match negated(&value) {
+            Ok(n) => Ok(Turn::Changed(Focus::Value(Term::Int(n)))),
+            Err(reason) => Ok(Turn::Changed(Focus::Raised(Term::Atom(reason)))),
+        }
+    }
+
+    /// An argument: the next one, or the call.
+    pub(crate) fn argument_done(
+        &mut self,
+        code: &Module,
+        frame: Frame,
+        function: FunctionId,
+        id: NodeId,
+        done: usize,
+        value: Term,
+    ) -> Result<Turn, NoMemory>
+        requires kind { frame.kind ≡ kind.Argument function id done }
+        requires sound { Holds self.old frame }
+        ensures { IfOk result (λ t. Gave code.now self.old frame value self.new t) }
+    {
+        self.env.truncate(frame.end);
+        self.base = frame.base;
+        self.temps.push(value)?;
+        let _operands = self.temps.len();
+        let count = done + 1;
+        match arguments(code, id).get(count) {
+            None => Ok(Turn::Same(Focus::Enter(function, count))),
+            Some(next) => {
+                self.wait(Kind::Argument(function, id, count))?;
+                Ok(Turn::Same(Focus::Eval(*next)))
+            }
+        }
+    }
+
+    /// The value of a match at the end of a body: its next pattern.
+    pub(crate) fn match_one(
+        &mut self,
+        alloc: Global,
+        code: &Module,
+        frame: Frame,
+        id: NodeId,
+        done: usize,
+        value: Term,
+    ) -> Result<Turn, NoMemory>
+        requires kind { frame.kind ≡ kind.Match id done }
+        requires sound { Holds self.old frame }
+        ensures { IfOk result (λ t. Gave code.now self.old frame value self.new t) }
+    {
+        let patterns = patterns(code, id);
+        match patterns.get(done) {
+            None => Ok(Turn::Changed(Focus::Value(value))),
+            Some(pattern) => {
+                self.env.truncate(frame.end);
+                self.base = frame.base;
+                if !fit(code, *pattern, &value, &mut self.env, frame.base)? {
+                    let reason = tagged(alloc, AtomId::BADMATCH, &value)?;
+                    return Ok(Turn::Changed(Focus::Raised(reason)));
+                }
+                if done + 1 < patterns.len() {
+                    self.wait(Kind::Match(id, done + 1))?;
+                    Ok(Turn::Changed(Focus::Value(value)))
+                } else {
+                    Ok(Turn::Changed(Focus::Value(value)))
+                }
+            }
+        }
+    }
+
+    /// The value of a match before a comma: its next pattern, or the rest of the body.
+    pub(crate) fn bind_one(
+        &mut self,
+        alloc: Global,
+        code: &Module,
+        frame: Frame,
+        id: NodeId,
+        done: usize,
+        rest: Part,
+        value: Term,
+    ) -> Result<Turn, NoMemory>
+        requires kind { frame.kind ≡ kind.Bind id done rest }
+        requires sound { Holds self.old frame }
+        ensures { IfOk result (λ t. Gave code.now self.old frame value self.new t) }
+    {
+        self.env.truncate(frame.end);
+        self.base = frame.base;
+        match patterns(code, id).get(done) {
+            None => Ok(Turn::Changed(Focus::Eval(rest))),
+            Some(pattern) => {
+                if !fit(code, *pattern, &value, &mut self.env, frame.base)? {
+                    let reason = tagged(alloc, AtomId::BADMATCH, &value)?;
+                    return Ok(Turn::Changed(Focus::Raised(reason)));
+                }
+                self.wait(Kind::Bind(id, done + 1, rest))?;
+                Ok(Turn::Changed(Focus::Value(value)))
+            }
+        }
+    }
+
+    /// The value of a `case`: the body of the first clause that it fits.
+    pub(crate) fn select(
+        &mut self,
+        alloc: Global,
+        code: &Module,
+        frame: Frame,
+        id: NodeId,
+        value: Term,
+    ) -> Result<Turn, NoMemory>
+        requires kind { frame.kind ≡ kind.Case id }
+        requires sound { Holds self.old frame }
+        ensures { IfOk result (λ t. Gave code.now self.old frame value self.new t) }
+    {
+        self.env.truncate(frame.end);
+        self.base = frame.base;
+        let clauses = clauses(code, id);
+        let focus = choose(alloc, code, clauses, &value, &mut self.env, frame.base)?;
+        Ok(Turn::Changed(focus))
+    }
+}

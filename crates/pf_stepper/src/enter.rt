@@ -1,0 +1,38 @@
+//! The turn of a call whose arguments are done.
+
+ghost use Rattle.std.specs.Prelude.{IfOk};
+ghost use Rattle.pf_stepper.specs.Sound.{Stacked};
+ghost use Rattle.pf_stepper.specs.Turns.{Turned};
+
+use crate::clauses::first_clause;
+use crate::frame::{Focus, Turn};
+use crate::stack::Stack;
+use pf_syntax::{FunctionId, Module};
+use pf_terms::{AtomId, NoMemory, Term};
+
+impl Stack {
+    /// A call of the last operands: the slots that no frame needs go, so a call at the end of a body keeps none.
+    pub(crate) fn enter(
+        &mut self,
+        code: &Module,
+        function: FunctionId,
+        count: usize,
+    ) -> Result<Turn, NoMemory>
+        requires { Stacked self.old.env.items self.old.temps.items self.old.frames.items count }
+        ensures { IfOk result (λ t. Turned code.now self.old (Focus.Enter function count) self.new t) }
+    {
+        match code.function(function) {
+            None => Ok(Turn::Changed(Focus::Raised(Term::Atom(AtomId::UNDEF)))),
+            Some(found) => {
+                let end = self.top();
+                self.env.truncate(end);
+                self.base = end;
+                let from = self.temps.len() - count;
+                let clauses = found.clauses.as_slice();
+                let focus = first_clause(code, clauses, &self.temps[from..], &mut self.env)?;
+                self.temps.truncate(from);
+                Ok(Turn::Changed(focus))
+            }
+        }
+    }
+}

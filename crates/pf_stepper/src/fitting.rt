@@ -1,0 +1,97 @@
+//! Fit of a pattern of a module: what it binds goes onto the stack of slots.
+
+ghost use Rattle.std.specs.Prelude.{◌≤◌, length, IfOk};
+ghost use Rattle.pf_terms.specs.Term.{value_of, values_of};
+ghost use Rattle.pf_syntax.specs.Module.{pattern_at};
+ghost use Rattle.pf_syntax.specs.Over.{patterns_at};
+ghost use Rattle.pf_model.specs.Fit as spec;
+ghost use Rattle.pf_stepper.specs.Fitted.{Fitted};
+
+use crate::lookups::literal;
+use crate::stack::fits_slot;
+use pf_syntax::{Module, PatternId, PatternNode};
+use pf_terms::{List, NoMemory, Term, copy, equal};
+
+/// Whether a value fits, in the activation that begins at `base`. Where it does not, what was bound so far stays.
+#[cycle(fit)]
+pub(crate) fn fit(
+    code: &Module,
+    pattern: PatternId,
+    value: &Term,
+    env: &mut Vec<Term>,
+    base: usize,
+) -> Result<bool, NoMemory>
+    requires { base ≤ length env.old.items }
+    ensures { IfOk result (λ b. Fitted base env.old.items env.new.items b (spec.fit (pattern_at code.now.tables pattern.0) (value_of value.now))) }
+{
+    match code.pattern(pattern) {
+        None => Ok(true),
+        Some(node) => match node {
+            PatternNode::Any => Ok(true),
+            PatternNode::New => {
+                env.push(copy(value)?)?;
+                Ok(true)
+            }
+            PatternNode::Slot(place) => Ok(fits_slot(env.as_slice(), base, *place, value)),
+            PatternNode::Int(n) => Ok(equal(&Term::Int(*n), value)),
+            PatternNode::Atom(atom) => Ok(equal(&Term::Atom(*atom), value)),
+            PatternNode::Nil => Ok(equal(&Term::List(List::Nil), value)),
+            PatternNode::Literal(id) => Ok(equal(&literal(code, *id)?, value)),
+            PatternNode::Tuple(parts) => match value {
+                Term::Tuple(elements) => fit_all(
+                    code,
+                    parts.as_slice(),
+                    elements.as_slice(),
+                    env,
+                    base,
+                ),
+                _ => Ok(false),
+            },
+            PatternNode::Cons(head, tail) => match value {
+                Term::List(list) => match list.split() {
+                    None => Ok(false),
+                    Some((first, others)) => {
+                        if fit(code, *head, first, env, base)? {
+                            let others = Term::List(others.share()?);
+                            fit(code, *tail, &others, env, base)
+                        } else {
+                            Ok(false)
+                        }
+                    }
+                },
+                _ => Ok(false),
+            },
+            PatternNode::Never => Ok(false),
+        },
+    }
+}
+
+/// Whether each value fits its pattern, from left to right.
+#[cycle(fit)]
+pub(crate) fn fit_all(
+    code: &Module,
+    patterns: &[PatternId],
+    values: &[Term],
+    env: &mut Vec<Term>,
+    base: usize,
+) -> Result<bool, NoMemory>
+    requires { base ≤ length env.old.items }
+    ensures { IfOk result (λ b. Fitted base env.old.items env.new.items b (spec.fit_all (patterns_at code.now.tables patterns.now) (values_of values.now))) }
+{
+    match patterns {
+        [] => match values {
+            [] => Ok(true),
+            [_, ..] => Ok(false),
+        },
+        [pattern, rest @ ..] => match values {
+            [] => Ok(false),
+            [first, others @ ..] => {
+                if fit(code, *pattern, first, env, base)? {
+                    fit_all(code, rest, others, env, base)
+                } else {
+                    Ok(false)
+                }
+            }
+        },
+    }
+}

@@ -1,0 +1,44 @@
+//! The turn of a value: it goes to the innermost frame.
+
+ghost use Rattle.std.specs.Prelude.{IfOk};
+ghost use Rattle.pf_stepper.specs.Sound.{Stacked};
+ghost use Rattle.pf_stepper.specs.Turns.{Turned};
+ghost use Rattle.pf_stepper.specs.declared.frame.Focus.TheVariants.{Value as finished};
+
+use crate::frame::{Kind, Turn};
+use crate::stack::Stack;
+use pf_syntax::Module;
+use pf_terms::{NoMemory, Term};
+use std::alloc::Global;
+
+impl Stack {
+    /// A value for the innermost frame. Where there is none, the process returned it.
+    pub(crate) fn give(
+        &mut self,
+        alloc: Global,
+        code: &Module,
+        value: Term,
+    ) -> Result<Turn, NoMemory>
+        requires { Stacked self.old.env.items self.old.temps.items self.old.frames.items 0 }
+        ensures { IfOk result (λ t. Turned code.now self.old (finished value) self.new t) }
+    {
+        match self.frames.pop() {
+            None => Ok(Turn::Returned(value)),
+            Some(frame) => match frame.kind {
+                Kind::BinaryLeft(operator, right) => {
+                    self.left_done(code, frame, operator, right, value)
+                }
+                Kind::BinaryRight(operator) => self.right_done(code, frame, operator, value),
+                Kind::Negation => self.negate(code, frame, value),
+                Kind::Argument(function, id, done) => {
+                    self.argument_done(code, frame, function, id, done, value)
+                }
+                Kind::Match(id, done) => self.match_one(alloc, code, frame, id, done, value),
+                Kind::Bind(id, done, rest) => {
+                    self.bind_one(alloc, code, frame, id, done, rest, value)
+                }
+                Kind::Case(id) => self.select(alloc, code, frame, id, value),
+            },
+        }
+    }
+}

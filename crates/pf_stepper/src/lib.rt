@@ -1,0 +1,22 @@
+//! A machine of one stack of slots for the forms of one process, and the run of one process by it.
+#![tactic(auto)]
+
+mod advance;
+mod arithmetic;
+mod arms;
+mod clauses;
+mod enter;
+mod evaluate;
+mod fitting;
+mod frame;
+mod give;
+mod lookups;
+mod machine;
+mod reasons;
+mod run;
+mod stack;
+#[cfg(test)]
+mod tests;
+
+pub use machine::{Machine, Move};
+pub use run::run_one;
