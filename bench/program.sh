@@ -1,0 +1,16 @@
+#!/bin/sh
+# Proves and builds the benchmark of this name in a folder of its own, since the gate proves no benchmark, and runs it.
+set -eu
+top=$(cd "$(dirname "$0")/.." && pwd)
+room=$(mktemp -d)
+trap 'rm -rf "$room"' EXIT
+mkdir -p "$room/crates/bench/src"
+cp "$top/HANDLES" "$room/HANDLES"
+cp "$top/bench/$1/main.rt.in" "$room/crates/bench/src/main.rt"
+cp "$top/bench/$1/crates" "$room/crates.txt"
+for crate in $(sed -n 's/^\(pf_[a-z]*\):.*/\1/p' "$room/crates.txt"); do
+  cp -r "$top/crates/$crate" "$room/crates/$crate"
+done
+cd "$room/crates/bench"
+rt run > "$room/build.log" 2>&1 || { tail -n 30 "$room/build.log" >&2; exit 1; }
+"$room/crates/bench/out/bench"
