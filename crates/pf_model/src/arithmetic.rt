@@ -11,7 +11,7 @@ use pf_syntax::Operator;
 use pf_terms::{AtomId, Term};
 
 /// An operator on two values; `Err` has the reason that it raises.
-pub(crate) fn applied(operator: Operator, a: &Term, b: &Term) -> Result<i64, AtomId>
+pub fn applied(operator: Operator, a: &Term, b: &Term) -> Result<i64, AtomId>
     ensures { change_of_integer result ≡ spec.applied (operator_of operator) (value_of a.now) (value_of b.now) }
 {
     match operator {
@@ -75,7 +75,7 @@ fn remainder(x: i64, y: i64) -> Result<i64, AtomId>
 }
 
 /// Unary minus; `Err` has the reason that it raises.
-pub(crate) fn negated(a: &Term) -> Result<i64, AtomId>
+pub fn negated(a: &Term) -> Result<i64, AtomId>
     ensures { change_of_integer result ≡ spec.negated (value_of a.now) }
 {
     match a {

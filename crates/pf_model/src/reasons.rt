@@ -19,7 +19,7 @@ fn pair(alloc: Global, first: Term, second: Term) -> Result<Term, TermFault>
 }
 
 /// `{tag, value}`.
-pub(crate) fn tagged(alloc: Global, tag: AtomId, value: &Term) -> Result<Term, NoMemory>
+pub fn tagged(alloc: Global, tag: AtomId, value: &Term) -> Result<Term, NoMemory>
     ensures { IfOk result (λ t. value_of t ≡ spec.built (λ v. tuple (more (atom tag.0) (more v none))) (value_of value.now)) }
 {
     match pair(alloc, Term::Atom(tag), copy(value)?) {
@@ -35,7 +35,7 @@ pub(crate) fn tagged(alloc: Global, tag: AtomId, value: &Term) -> Result<Term, N
 }
 
 /// `{reason, []}`, with which a process ends that raised the reason.
-pub(crate) fn ending_reason(alloc: Global, reason: &Term) -> Result<Term, NoMemory>
+pub fn ending_reason(alloc: Global, reason: &Term) -> Result<Term, NoMemory>
     ensures { IfOk result (λ t. value_of t ≡ spec.ending_reason (value_of reason.now)) }
 {
     match pair(alloc, copy(reason)?, Term::List(List::Nil)) {

@@ -4,13 +4,13 @@ ghost use Rattle.std.specs.Prelude.{◌≡◌, IfOk};
 ghost use Rattle.pf_stepper.specs.Turns.{Gave, Holds};
 ghost use Rattle.pf_stepper.specs.declared.frame.Kind.TheVariants as kind;
 
-use crate::arithmetic::{applied, negated};
 use crate::clauses::choose;
 use crate::fitting::fit;
 use crate::frame::{Focus, Frame, Kind, Turn};
 use crate::lookups::{arguments, clauses, patterns};
-use crate::reasons::tagged;
 use crate::stack::Stack;
+use pf_model::arithmetic::{applied, negated};
+use pf_model::reasons::tagged;
 use pf_syntax::{FunctionId, Module, NodeId, Operator, Part};
 use pf_terms::{AtomId, NoMemory, Term};
 use std::alloc::Global;

@@ -2,7 +2,6 @@
 #![tactic(auto)]
 
 mod advance;
-mod arithmetic;
 mod arms;
 mod clauses;
 mod enter;
@@ -12,11 +11,8 @@ mod frame;
 mod give;
 mod lookups;
 mod machine;
-mod reasons;
 mod run;
 mod stack;
-#[cfg(test)]
-mod tests;
 
 pub use machine::{Machine, Move};
 pub use run::run_one;

@@ -7,8 +7,8 @@ ghost use Rattle.pf_stepper.specs.Moves.{Moved, with_process};
 
 use crate::advance::Advance;
 use crate::frame::Focus;
-use crate::reasons::ending_reason;
 use crate::stack::Stack;
+use pf_model::reasons::ending_reason;
 use pf_syntax::{FunctionId, Module};
 use pf_terms::{NoMemory, Term, copy};
 use std::alloc::Global;

@@ -5,6 +5,8 @@
 #[cfg(test)]
 mod ends;
 #[cfg(test)]
+mod machine;
+#[cfg(test)]
 mod meaning;
 #[cfg(test)]
 mod terms;

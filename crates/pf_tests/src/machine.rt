@@ -4,8 +4,8 @@ ghost use Rattle.std.specs.Prelude.{◌≡◌, IfOk};
 ghost use Rattle.std.specs.List.{All};
 ghost use Rattle.pf_syntax.specs.Within.{FunctionClauseStands, PartStands, PatternStands};
 
-use crate::{Machine, Move, run_one};
 use pf_model::report::Outcome;
+use pf_stepper::{Machine, Move, run_one};
 use pf_syntax::{
     Alternative, Function, FunctionClause, FunctionId, Guard, Module, Node, Operator, Part,
     PatternId, PatternNode,
