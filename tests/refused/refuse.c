@@ -1,10 +1,12 @@
 // Refuses the growth that the variable REFUSE_GROWTH numbers, counted from 1 over malloc and realloc, and no other.
 // Where REFUSE_TOLD names a file, it is made when a growth was refused. Where BLOCKS_TOLD names a file, it is given, at the
-// program's end, how many blocks were asked for and how many were given back. Loaded by LD_PRELOAD; no part of any program.
+// program's end, how many blocks were asked for, how many were given back, and how many bytes stood in blocks at most.
+// Loaded by LD_PRELOAD; no part of any program.
 #define _GNU_SOURCE
 #include <dlfcn.h>
 #include <errno.h>
 #include <fcntl.h>
+#include <malloc.h>
 #include <stdio.h>
 #include <stdlib.h>
 #include <unistd.h>
@@ -12,6 +14,8 @@
 static long left = -1;
 static long asked = 0;
 static long given_back = 0;
+static long standing = 0;
+static long most = 0;
 
 static int refuses(void) {
     if (left == -1) {
@@ -32,8 +36,14 @@ static int refuses(void) {
     return 1;
 }
 
+static void stands(long bytes) {
+    standing += bytes;
+    most = standing > most ? standing : most;
+}
+
 static void *counted(void *block) {
     asked += block != NULL;
+    stands((long)malloc_usable_size(block));
     return block;
 }
 
@@ -53,7 +63,15 @@ void *realloc(void *old, size_t size) {
     if (refuses()) {
         return NULL;
     }
-    return old ? real(old, size) : counted(real(old, size));
+    if (!old) {
+        return counted(real(old, size));
+    }
+    long before = (long)malloc_usable_size(old);
+    void *block = real(old, size);
+    if (block) {
+        stands((long)malloc_usable_size(block) - before);
+    }
+    return block;
 }
 
 void free(void *block) {
@@ -62,6 +80,7 @@ void free(void *block) {
         real = (void (*)(void *))dlsym(RTLD_NEXT, "free");
     }
     given_back += block != NULL;
+    standing -= (long)malloc_usable_size(block);
     real(block);
 }
 
@@ -69,8 +88,8 @@ __attribute__((destructor)) static void tell(void) {
     const char *told = getenv("BLOCKS_TOLD");
     int file = told ? open(told, O_WRONLY | O_CREAT | O_TRUNC, 0600) : -1;
     if (file >= 0) {
-        char line[64];
-        int length = snprintf(line, sizeof line, "%ld asked for, %ld given back\n", asked, given_back);
+        char line[128];
+        int length = snprintf(line, sizeof line, "%ld asked for, %ld given back, %ld bytes at most\n", asked, given_back, most);
         if (write(file, line, (size_t)length) != length) {
             abort();
         }

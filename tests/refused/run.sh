@@ -1,57 +1,102 @@
 #!/bin/sh
-# Refuses each growth of the built program in turn, until a run meets no refusal. Each run has to end with the whole text
-# and status 0, or with `NoMemory` alone on a line and status 2; a growth that is refused before `main` has begun may end
-# the program with a message on standard error and status 1 or 2. Anything else, a signal or a hang fails. Each run of the
-# program itself, refused or not, has to give back each block that it asked for.
+# Refuses each growth of two built programs in turn, until a run meets no refusal: of `pf_refused`, and of `pulsefarm run` on its
+# stored run. Each run has to end with the whole text and status 0, or with `NoMemory` alone on a line and status 2; a growth that
+# is refused before `main` has begun may end the program with a message on standard error and status 1 or 2. Anything else, a
+# signal or a hang fails. Each run of the program itself, refused or not, has to give back each block that it asked for.
+#
+# Then it runs a loop by tail calls within 1,000 and within 100,000 steps: both have to take the same memory at most.
 set -u
 top=$(cd "$(dirname "$0")/../.." && pwd)
 room=$(mktemp -d)
 trap 'rm -rf "$room"' EXIT
 cc -O2 -shared -fPIC -o "$room/refuse.so" "$top/tests/refused/refuse.c" -ldl || exit 1
-(cd "$top/crates/pf_refused" && rt run) > "$room/build.log" 2>&1 || { tail -n 20 "$room/build.log"; exit 1; }
-program="$top/crates/pf_refused/out/pf_refused"
 passed=0
 failed=0
+
+failure() {
+  echo "$*"
+  failed=$((failed + 1))
+}
+
+# Builds the program of the crate, where the gate has not left it.
+built() {
+  (cd "$top/crates/$1" && rt run) > "$room/build.log" 2>&1 || { tail -n 20 "$room/build.log"; exit 1; }
+  crate="$top/crates/$1"
+  program="$crate/out/$1"
+  tr '\n' ' ' < "$crate/args" > "$room/words" 2> /dev/null || : > "$room/words"
+  [ -e "$crate/stdin" ] && cp "$crate/stdin" "$room/in" || : > "$room/in"
+}
+
+# Runs the program with growth number $1 refused; none is where it is 0.
+refusing() {
+  rm -f "$room/told" "$room/blocks"
+  # The words have no blanks in them.
+  # shellcheck disable=SC2046
+  timeout 10 env LD_PRELOAD="$room/refuse.so" REFUSE_GROWTH="$1" REFUSE_TOLD="$room/told" BLOCKS_TOLD="$room/blocks" \
+    "$program" $(cat "$room/words") < "$room/in" > "$room/out" 2> "$room/err"
+  status=$?
+}
 
 gave_all_back() {
   read -r asked _ _ given _ < "$room/blocks" && [ "$asked" = "$given" ]
 }
 
-k=1
-while [ "$k" -le 10000 ]; do
-  rm -f "$room/told" "$room/blocks"
-  timeout 10 env LD_PRELOAD="$room/refuse.so" REFUSE_GROWTH=$k REFUSE_TOLD="$room/told" BLOCKS_TOLD="$room/blocks" \
-    "$program" > "$room/out" 2> "$room/err"
-  status=$?
-  if [ ! -e "$room/told" ]; then
-    break
+# Whether the run ended as it may.
+ended_well() {
+  { [ "$status" = 0 ] && cmp -s "$room/out" "$crate/stdout"; } \
+    || { [ "$status" = 2 ] && [ "$(cat "$room/out")" = NoMemory ]; } \
+    || { { [ "$status" = 1 ] || [ "$status" = 2 ]; } && [ ! -s "$room/out" ] && [ -s "$room/err" ]; }
+}
+
+# Refuses each growth of the program in turn.
+all_refused() {
+  k=1
+  while [ "$k" -le 10000 ]; do
+    refusing "$k"
+    if [ ! -e "$room/told" ]; then
+      break
+    fi
+    if { [ "$status" = 0 ] || [ -s "$room/out" ]; } && ! gave_all_back; then
+      failure "$1: growth $k refused: $(cat "$room/blocks")"
+    elif ended_well; then
+      passed=$((passed + 1))
+    else
+      failure "$1: growth $k refused: status $status, output: $(head -c 200 "$room/out")"
+    fi
+    k=$((k + 1))
+  done
+  gave_all_back || failure "$1: with no growth refused: $(cat "$room/blocks")"
+  if [ "$status" != 0 ] || ! cmp -s "$room/out" "$crate/stdout"; then
+    failure "$1: with no growth refused: status $status"
   fi
-  if { [ "$status" = 0 ] || [ -s "$room/out" ]; } && ! gave_all_back; then
-    echo "growth $k refused: $(cat "$room/blocks")"
-    failed=$((failed + 1))
-  elif [ "$status" = 0 ] && cmp -s "$room/out" "$top/crates/pf_refused/stdout"; then
-    passed=$((passed + 1))
-  elif [ "$status" = 2 ] && [ "$(cat "$room/out")" = NoMemory ]; then
-    passed=$((passed + 1))
-  elif { [ "$status" = 1 ] || [ "$status" = 2 ]; } && [ ! -s "$room/out" ] && [ -s "$room/err" ]; then
-    passed=$((passed + 1))
-  else
-    echo "growth $k refused: status $status, output: $(head -c 200 "$room/out")"
-    failed=$((failed + 1))
+  if [ "$k" -lt 5 ]; then
+    failure "$1: only $((k - 1)) growths were refused: the library does not reach the program"
   fi
-  k=$((k + 1))
-done
-if ! gave_all_back; then
-  echo "with no growth refused: $(cat "$room/blocks")"
-  failed=$((failed + 1))
-fi
-if [ "$status" != 0 ] || ! cmp -s "$room/out" "$top/crates/pf_refused/stdout"; then
-  echo "with no growth refused: status $status"
-  failed=$((failed + 1))
-fi
-if [ "$k" -lt 5 ]; then
-  echo "only $((k - 1)) growths were refused: the library does not reach the program"
-  failed=$((failed + 1))
+  echo "$1: $((k - 1)) growths refused"
+}
+
+# Sets `most` to the bytes that stood in blocks at most, in a run within $1 steps.
+most_within() {
+  echo "run --root main --limit $1 --schedule none" > "$room/words"
+  refusing 0
+  [ "$status" = 1 ] || failure "a loop within $1 steps: status $status"
+  most=$(sed -n 's/.*, \([0-9]*\) bytes at most$/\1/p' "$room/blocks")
+}
+
+built pf_refused
+all_refused pf_refused
+built pulsefarm
+all_refused pulsefarm
+
+printf '%s\n' '-module(m).' '-export([main/0]).' 'main() -> loop(50000).' 'loop(N) -> case N of 0 -> done; _ -> loop(N - 1) end.' > "$room/in"
+most_within 1000
+few=$most
+most_within 100000
+many=$most
+if [ -n "$few" ] && [ "$few" = "$many" ]; then
+  passed=$((passed + 1))
+else
+  failure "a loop takes $few bytes within 1,000 steps and $many within 100,000"
 fi
 echo "$passed passed, $failed failed"
 [ "$failed" = 0 ]

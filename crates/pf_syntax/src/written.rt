@@ -1,5 +1,5 @@
-//! The nodes of a module as it is written: patterns and expressions whose parts are named by numbers. The names of atoms,
-//! functions and variables are numbers too, of one table that stands beside the source.
+//! The nodes of a module as it is written: patterns and expressions whose parts are named by numbers. The names of atoms
+//! and functions are numbers too, of the table of atoms that stands beside the source; those of variables are numbers of another.
 
 use crate::operator::Operator;
 use pf_terms::AtomId;

@@ -16,8 +16,9 @@ mod tests;
 mod token;
 mod words;
 
+pub use bytes::{is_digit, is_lower, is_word};
 pub use fault::{Fault, TokensFault};
 pub use marks::Mark;
 pub use scan::{one_reading, tokens};
 pub use token::{Integer, Kind, Token};
-pub use words::Reserved;
+pub use words::{Reserved, reserved_of};

@@ -1,0 +1,311 @@
+-- Walks one after another.
+use Rattle.std.proofs.Common.{◌≡◌, ℕ, ◌+◌, ◌<◌, List, get_or, [], ◌∷◌, ◌++◌, length, drop, take, Bool, true, false, refl, sym, ap, ◌∙◌, subst, arith, append_assoc}
+use Rattle.std.specs.Prelude.{if◌then◌else◌, ◌&&◌, ◌||◌, is_some}
+use Rattle.std.proofs.lemmas.List.Sums.{fold-append}
+use Rattle.std.proofs.lemmas.List.{append-nil, at_drop_more}
+use Rattle.std.proofs.Math.Seq.{drop-append_seam}
+use Rattle.pf_syntax.specs.Shape.{Shape, Shapes, no_shapes, shape, variable}
+use Rattle.pf_syntax.specs.Phrase.{Phrase, Phrases, Condition, Branches, no_phrases, phrase, no_tests, tests, no_branches, branch, call}
+use Rattle.pf_syntax.specs.Sight.{Sight, has, is_new, after_shape, after_shapes, after, after_all, leaving, ends_of}
+use Rattle.pf_syntax.specs.Sight.{names_of as seen_names}
+use Rattle.pf_syntax.specs.Naming.{Names, arity_of}
+use Rattle.pf_syntax.specs.Source.{Book, Head}
+use Rattle.pf_syntax.specs.SourceOver.{phrases_at}
+use Rattle.pf_syntax.specs.declared.written.PhraseId.{PhraseId}
+use Rattle.pf_check.specs.Static.{Fault, fault_if, names_of, own_in, is_defined, shape_faults, shapes_faults, phrase_faults, phrases_faults, condition_faults, branches_faults}
+use Rattle.pf_check.specs.Earliest.{earlier, earliest, kept}
+use Rattle.pf_check.specs.Marks.{Stands, Trails, Binds, seen_of, left_of, is_marked}
+use Rattle.pf_check.specs.Walking.{Walks, Clauses, SafeWalked, CallWalked, ShapeWalked, ShapesWalked, PhraseWalked, PhrasesWalked, TestsWalked, ConditionWalked, BranchesWalked, BranchWalked}
+use Rattle.pf_check.specs.declared.seen.Status.{Status}
+use Rattle.pf_check.specs.declared.seen.Status.TheVariants.{New, Unsafe}
+use Rattle.pf_check.specs.declared.walk.Walk.{Walk}
+use Rattle.pf_check.specs.Listing.{Lists, lists}
+use Rattle.pf_check.specs.declared.signatures.Signatures.{Signatures}
+use Rattle.pf_check.proofs.Marking.{moved_named, moved_fresh, moved_unsafe}
+use Rattle.pf_check.proofs.Trailing.{Same, same_stands, trails_same, trails_nothing, trails_then, back, left_before, has_append, new_is, named_is, stands_leaving}
+
+-- ---- the next of a list
+
+pub next_item : {X Y : Type 0} (F : List X → Y) (xs : List X) (i : ℕ) (x : X) → i < length xs → x ≡ get_or xs i x → F (drop i xs) ≡ F (x ∷ drop (i + 1) xs)
+next_item F xs i x h e = at_drop_more F xs i x h ∙ ap (λ y. F (y ∷ drop (i + 1) xs)) (sym e)
+
+-- ---- nothing, and two walks in turn
+
+pub walks_nothing : (w : Walk) → Walks w w (λ g. g) (λ g. [])
+walks_nothing w = record { trails = trails_nothing w.seen; stands = λ g st. st; found = λ g st. refl }
+
+pub walks_then : (a b c : Walk) (f h : Sight → Sight) (s t : Sight → List Fault) → Walks a b f s → Walks b c h t → Walks a c (λ g. h (f g)) (λ g. s g ++ t (f g))
+walks_then a b c f h s t x y = record {
+  trails = trails_then a.seen b.seen c.seen x.trails y.trails;
+  stands = λ g st. y.stands (f g) (x.stands g st);
+  found = λ g st.
+      y.found (f g) (x.stands g st)
+      ∙ ap (λ k. earliest k (t (f g))) (x.found g st)
+      ∙ sym (fold-append earlier (kept a.first) (s g) (t (f g)));
+}
+
+-- ---- a walk that is underway
+
+-- what was walked and what is left are the whole
+pub record Underway (old now : Walk) (whole rest : Sight → Sight) (all left : Sight → List Fault) : Type 0 where
+  pub trails : Trails old.seen now.seen
+  pub here : (g : Sight) → Stands old.seen g → Sight
+  pub stands : (g : Sight) (st : Stands old.seen g) → Stands now.seen (here g st)
+  pub onward : (g : Sight) (st : Stands old.seen g) → rest (here g st) ≡ whole g
+  pub found : (g : Sight) (st : Stands old.seen g) → earliest (kept now.first) (left (here g st)) ≡ earliest (kept old.first) (all g)
+
+pub underway_first : (w : Walk) (whole : Sight → Sight) (all : Sight → List Fault) → Underway w w whole whole all all
+underway_first w whole all = record { trails = trails_nothing w.seen; here = λ g st. g; stands = λ g st. st; onward = λ g st. refl; found = λ g st. refl }
+
+pub underway_more : (old now next : Walk) (whole rest f : Sight → Sight) (all left s : Sight → List Fault) → Underway old now whole (λ g. rest (f g)) all (λ g. s g ++ left (f g)) → Walks now next f s → Underway old next whole rest all left
+underway_more old now next whole rest f all left s u w = record {
+  trails = trails_then old.seen now.seen next.seen u.trails w.trails;
+  here = λ g st. f (u.here g st);
+  stands = λ g st. w.stands (u.here g st) (u.stands g st);
+  onward = λ g st. u.onward g st;
+  found = λ g st.
+      let h = u.here g st in
+      ap (λ k. earliest k (left (f h))) (w.found h (u.stands g st))
+      ∙ sym (fold-append earlier (kept now.first) (s h) (left (f h)))
+      ∙ u.found g st;
+}
+
+pub underway_all : (old now : Walk) (whole : Sight → Sight) (all : Sight → List Fault) → Underway old now whole (λ g. g) all (λ g. []) → Walks old now whole all
+underway_all old now whole all u = record {
+  trails = u.trails;
+  stands = λ g st. subst (Stands now.seen) (u.onward g st) (u.stands g st);
+  found = λ g st. u.found g st;
+}
+
+-- ---- patterns
+
+abbrev pub ShapesUnderway : Walk → Walk → Shapes → Shapes → Type 0
+ShapesUnderway old now qs left = Underway old now (λ g. after_shapes g qs) (λ g. after_shapes g left) (λ g. shapes_faults g qs) (λ g. shapes_faults g left)
+
+pub shapes_more : (old now next : Walk) (qs left rest : Shapes) (q : Shape) → left ≡ shape q rest → ShapesUnderway old now qs left → ShapeWalked now next q → ShapesUnderway old next qs rest
+shapes_more old now next qs left rest q e u w =
+    underway_more old now next (λ g. after_shapes g qs) (λ g. after_shapes g rest) (λ g. after_shape g q) (λ g. shapes_faults g qs) (λ g. shapes_faults g rest) (λ g. shape_faults g q) (subst (ShapesUnderway old now qs) e u) w
+
+pub shapes_all : (old now : Walk) (qs left : Shapes) → left ≡ no_shapes → ShapesUnderway old now qs left → ShapesWalked old now qs
+shapes_all old now qs left e u = underway_all old now (λ g. after_shapes g qs) (λ g. shapes_faults g qs) (subst (ShapesUnderway old now qs) e u)
+
+pub shape_behind : (a b c : Walk) (qs : Shapes) (q : Shape) → ShapesWalked a b qs → ShapeWalked b c q → Walks a c (λ g. after_shape (after_shapes g qs) q) (λ g. shapes_faults g qs ++ shape_faults (after_shapes g qs) q)
+shape_behind a b c qs q x y =
+    walks_then a b c (λ g. after_shapes g qs) (λ g. after_shape g q) (λ g. shapes_faults g qs) (λ g. shape_faults g q) x y
+
+-- ---- expressions
+
+abbrev pub PhrasesUnderway : Names → Walk → Walk → Phrases → Phrases → Type 0
+PhrasesUnderway n old now es left = Underway old now (λ g. after_all g es) (λ g. after_all g left) (λ g. phrases_faults n g es) (λ g. phrases_faults n g left)
+
+pub phrases_more : (n : Names) (old now next : Walk) (es left rest : Phrases) (e : Phrase) → left ≡ phrase e rest → PhrasesUnderway n old now es left → PhraseWalked n now next e → PhrasesUnderway n old next es rest
+phrases_more n old now next es left rest e p u w =
+    underway_more old now next (λ g. after_all g es) (λ g. after_all g rest) (λ g. after g e) (λ g. phrases_faults n g es) (λ g. phrases_faults n g rest) (λ g. phrase_faults n g e) (subst (PhrasesUnderway n old now es) p u) w
+
+pub phrases_all : (n : Names) (old now : Walk) (es left : Phrases) → left ≡ no_phrases → PhrasesUnderway n old now es left → PhrasesWalked n old now es
+phrases_all n old now es left p u = underway_all old now (λ g. after_all g es) (λ g. phrases_faults n g es) (subst (PhrasesUnderway n old now es) p u)
+
+pub phrase_behind : (n : Names) (a b c : Walk) (es : Phrases) (e : Phrase) → PhrasesWalked n a b es → PhraseWalked n b c e → Walks a c (λ g. after (after_all g es) e) (λ g. phrases_faults n g es ++ phrase_faults n (after_all g es) e)
+phrase_behind n a b c es e x y =
+    walks_then a b c (λ g. after_all g es) (λ g. after g e) (λ g. phrases_faults n g es) (λ g. phrase_faults n g e) x y
+
+pub pair : (n : Names) (a b c : Walk) (l r : Phrase) → PhraseWalked n a b l → PhraseWalked n b c r → Walks a c (λ g. after (after g l) r) (λ g. phrase_faults n g l ++ phrase_faults n (after g l) r)
+pair n a b c l r x y = walks_then a b c (λ g. after g l) (λ g. after g r) (λ g. phrase_faults n g l) (λ g. phrase_faults n g r) x y
+
+pub matched : (n : Names) (a b c : Walk) (e : Phrase) (q : Shape) → PhraseWalked n a b e → ShapeWalked b c q → Walks a c (λ g. after_shape (after g e) q) (λ g. phrase_faults n g e ++ shape_faults (after g e) q)
+matched n a b c e q x y = walks_then a b c (λ g. after g e) (λ g. after_shape g q) (λ g. phrase_faults n g e) (λ g. shape_faults g q) x y
+
+pub cased : (n : Names) (a b c : Walk) (e : Phrase) (bs : Branches) → PhraseWalked n a b e → BranchesWalked n b c bs → Walks a c (λ g. leaving (after g e) (ends_of (after g e) bs)) (λ g. phrase_faults n g e ++ branches_faults n (after g e) bs)
+cased n a b c e bs x y = walks_then a b c (λ g. after g e) (λ g. leaving g (ends_of g bs)) (λ g. phrase_faults n g e) (λ g. branches_faults n g bs) x y
+
+arity_length : (b : Book) (ids : List PhraseId) → arity_of (phrases_at b ids) ≡ length ids
+arity_length b [] = refl
+arity_length b (e ∷ ids) = omega (arith, arity_length b ids)
+
+-- a name is found among the functions of the module, or in vain
+defined_is : (fs : List (List Head)) (o : Signatures) (f k : ℕ) → Lists o fs → lists o f k ≡ is_defined (names_of fs) f k
+defined_is fs o f k l = l.same f k ∙ sym (or_no (is_some (own_in fs f k)))
+  where
+    or_no : (a : Bool) → (a || false) ≡ a
+    or_no true = refl
+    or_no false = refl
+
+pub called : (fs : List (List Head)) (o : Signatures) (book : Book) (a b c : Walk) (f at k : ℕ) (ids args : List PhraseId) → Lists o fs → k ≡ length ids → args ≡ ids → CallWalked o a b f at k → PhrasesWalked (names_of fs) b c (phrases_at book args) → PhraseWalked (names_of fs) a c (call f at (phrases_at book ids))
+called fs o book a b c f at k ids args l e d x y =
+    let n = names_of fs in
+    let es = phrases_at book ids in
+    let z : PhrasesWalked n b c es = subst (λ (is : List PhraseId). PhrasesWalked n b c (phrases_at book is)) d y in
+    let same : lists o f k ≡ is_defined n f (arity_of es) = defined_is fs o f k l ∙ ap (is_defined n f) (e ∙ sym (arity_length book ids)) in
+    let w : Walks a b (λ g. g) (λ g. if is_defined n f (arity_of es) then [] else fault_if true 8 at) =
+    subst (λ (v : Bool). Walks a b (λ g. g) (λ g. if v then [] else fault_if true 8 at)) same x in
+    walks_then a b c (λ g. g) (λ g. after_all g es) (λ g. if is_defined n f (arity_of es) then [] else fault_if true 8 at) (λ g. phrases_faults n g es) w z
+
+-- ---- guards
+
+abbrev pub ConditionUnderway : Names → Walk → Walk → Condition → Condition → Type 0
+ConditionUnderway n old now c left = Underway old now (λ g. g) (λ g. g) (λ g. condition_faults n g c) (λ g. condition_faults n g left)
+
+pub condition_more : (n : Names) (old now next : Walk) (c left rest : Condition) (es : Phrases) → left ≡ tests es rest → ConditionUnderway n old now c left → TestsWalked n now next es → ConditionUnderway n old next c rest
+condition_more n old now next c left rest es e u w =
+    underway_more old now next (λ g. g) (λ g. g) (λ g. g) (λ g. condition_faults n g c) (λ g. condition_faults n g rest) (λ g. phrases_faults n g es) (subst (ConditionUnderway n old now c) e u) w
+
+pub condition_all : (n : Names) (old now : Walk) (c left : Condition) → left ≡ no_tests → ConditionUnderway n old now c left → ConditionWalked n old now c
+condition_all n old now c left e u = underway_all old now (λ g. g) (λ g. condition_faults n g c) (subst (ConditionUnderway n old now c) e u)
+
+-- the tests of an alternative are walked, and what they left is forgotten
+pub walks_back : (a b c : Walk) (f : Sight → Sight) (s : Sight → List Fault) → Walks a b f s → kept c.first ≡ kept b.first
+    → ((x : ℕ) → seen_of c.seen x ≡ (if has (drop (length (left_of a.seen)) (left_of b.seen)) x then New else seen_of b.seen x))
+    → left_of c.seen ≡ take (length (left_of a.seen)) (left_of b.seen) → Walks a c (λ g. g) s
+walks_back a b c f s w k set trail =
+    let same = back a.seen b.seen c.seen w.trails set in
+    record {
+      trails = trails_same a.seen c.seen same (trail ∙ left_before a.seen b.seen w.trails);
+      stands = λ g st. same_stands a.seen c.seen g same st;
+      found = λ g st. k ∙ w.found g st;
+    }
+
+-- ---- clauses
+
+-- a clause is walked, and what it left is new again
+pub clause_closed : (a b c : Walk) (f : Sight → Sight) (s : Sight → List Fault) → Walks a b f s → kept c.first ≡ kept b.first
+    → ((x : ℕ) → seen_of c.seen x ≡ (if has (drop (length (left_of a.seen)) (left_of b.seen)) x then New else seen_of b.seen x))
+    → left_of c.seen ≡ left_of b.seen → Clauses a c (λ g. seen_names (f g)) s
+clause_closed a b c f s w k set trail =
+    let same = back a.seen b.seen c.seen w.trails set in
+    let names = w.trails.names in
+    let A = a.seen in
+    let B = b.seen in
+    record {
+      names = names;
+      longer = trail ∙ w.trails.longer;
+      same = same.same;
+      fresh = λ x e. moved_fresh (has names x) (seen_of A x) (seen_of B x) (w.trails.moved x) e;
+      named = λ g st x.
+          moved_named (has names x) (seen_of A x) (seen_of B x) (w.trails.moved x)
+          ∙ ap (λ (v : Bool). v && is_marked (seen_of B x)) (sym (new_is A g st x))
+          ∙ ap (λ (v : Bool). is_new g x && v) (sym (named_is B (f g) (w.stands g st) x));
+      found = λ g st. k ∙ w.found g st;
+    }
+
+-- ---- a variable of a pattern
+
+pub binds : (a b c : Walk) (y at : ℕ) → SafeWalked a b y at → Binds b.seen c.seen y → c.first ≡ b.first → ShapeWalked a c (variable y at)
+binds a b c y at w d e = record {
+  trails = trails_then a.seen b.seen c.seen w.trails d.trails;
+  stands = λ g st. d.stands g (w.stands g st);
+  found = λ g st. ap kept e ∙ w.found g st;
+}
+
+-- ---- clauses that are underway
+
+-- what was walked and what is left are the whole
+pub record ClausesUnderway (old now : Walk) (ends rest : Sight → List ℕ) (all left : Sight → List Fault) : Type 0 where
+  pub names : List ℕ
+  pub longer : left_of now.seen ≡ left_of old.seen ++ names
+  pub same : Same old.seen now.seen
+  pub fresh : (x : ℕ) → has names x ≡ true → is_marked (seen_of old.seen x) ≡ false
+  pub named : (g : Sight) → Stands old.seen g → (x : ℕ) → (has names x || (is_new g x && has (rest g) x)) ≡ (is_new g x && has (ends g) x)
+  pub found : (g : Sight) → Stands old.seen g → earliest (kept now.first) (left g) ≡ earliest (kept old.first) (all g)
+
+pub clauses_first : (w : Walk) (ends : Sight → List ℕ) (all : Sight → List Fault) → ClausesUnderway w w ends ends all all
+clauses_first w ends all = record {
+  names = [];
+  longer = sym (append-nil (left_of w.seen));
+  same = record { same = λ x. refl };
+  fresh = λ x e. absurd (cc);
+  named = λ g st x. refl;
+  found = λ g st. refl;
+}
+
+either_fresh : (h k : Bool) (P : Type 0) → (h ≡ true → P) → (k ≡ true → P) → (h || k) ≡ true → P
+either_fresh true k P f d e = f refl
+either_fresh false k P f d e = d e
+
+one_more : (h k n s r : Bool) → k ≡ (n && s) → ((h || k) || (n && r)) ≡ (h || (n && (s || r)))
+one_more true k n s r e = refl
+one_more false k true s r e = ap (λ (v : Bool). v || r) e
+one_more false k false s r e = ap (λ (v : Bool). v || false) e
+
+pub clauses_more : (old now next : Walk) (ends rest some : Sight → List ℕ) (all left s : Sight → List Fault) → ClausesUnderway old now ends (λ g. some g ++ rest g) all (λ g. s g ++ left g) → Clauses now next some s → ClausesUnderway old next ends rest all left
+clauses_more old now next ends rest some all left s u c = record {
+  names = u.names ++ c.names;
+  longer = c.longer ∙ ap (λ (l : List ℕ). l ++ c.names) u.longer ∙ append_assoc (left_of old.seen) u.names c.names;
+  same = record { same = λ x. c.same x ∙ u.same.same x };
+  fresh = λ x e.
+      either_fresh (has u.names x) (has c.names x) (is_marked (seen_of old.seen x) ≡ false) (u.fresh x) (λ k. ap is_marked (sym (u.same.same x)) ∙ c.fresh x k) (sym (has_append u.names c.names x) ∙ e);
+  named = λ g st x.
+      let here = same_stands old.seen now.seen g u.same st in
+      ap (λ (v : Bool). v || (is_new g x && has (rest g) x)) (has_append u.names c.names x)
+      ∙ one_more (has u.names x) (has c.names x) (is_new g x) (has (some g) x) (has (rest g) x) (c.named g here x)
+      ∙ ap (λ (v : Bool). has u.names x || (is_new g x && v)) (sym (has_append (some g) (rest g) x))
+      ∙ u.named g st x;
+  found = λ g st.
+      ap (λ k. earliest k (left g)) (c.found g (same_stands old.seen now.seen g u.same st))
+      ∙ sym (fold-append earlier (kept now.first) (s g) (left g))
+      ∙ u.found g st;
+}
+
+abbrev pub BranchesUnderway : Names → Walk → Walk → Branches → Branches → Type 0
+BranchesUnderway n old now bs left = ClausesUnderway old now (λ g. ends_of g bs) (λ g. ends_of g left) (λ g. branches_faults n g bs) (λ g. branches_faults n g left)
+
+none_left : (h n : Bool) → (h || (n && false)) ≡ h
+none_left true n = refl
+none_left false true = refl
+none_left false false = refl
+
+-- out of a construct
+pub branches_all : (n : Names) (old now new : Walk) (bs left : Branches) → left ≡ no_branches → BranchesUnderway n old now bs left → new.first ≡ now.first
+    → ((x : ℕ) → seen_of new.seen x ≡ (if has (drop (length (left_of old.seen)) (left_of now.seen)) x then Unsafe else seen_of now.seen x))
+    → left_of new.seen ≡ left_of now.seen → BranchesWalked n old new bs
+branches_all n old now new bs left e v k set trail =
+    let u = subst (BranchesUnderway n old now bs) e v in
+    let names = u.names in
+    let since : drop (length (left_of old.seen)) (left_of now.seen) ≡ names = ap (drop (length (left_of old.seen))) u.longer ∙ drop-append_seam (left_of old.seen) names in
+    let all : (x : ℕ) → seen_of new.seen x ≡ (if has names x then Unsafe else seen_of old.seen x) = λ x.
+    set x ∙ ap (λ (ns : List ℕ). if has ns x then Unsafe else seen_of now.seen x) since ∙ ap (λ (a : Status). if has names x then Unsafe else a) (u.same.same x) in
+    record {
+      trails = record { names = names; longer = trail ∙ u.longer; moved = λ x. moved_unsafe (has names x) (seen_of old.seen x) (seen_of new.seen x) (u.fresh x) (all x) };
+      stands = λ g st. stands_leaving old.seen new.seen g names (ends_of g bs) st u.fresh (λ x. sym (none_left (has names x) (is_new g x)) ∙ u.named g st x) all;
+      found = λ g st. ap kept k ∙ u.found g st;
+    }
+
+-- ---- a clause
+
+abbrev pub Inside : Names → Walk → Walk → Shape → Condition → Phrases → Type 0
+Inside n a b q c es = Walks a b (λ g. after_all (after_shape g q) es) (λ g. shape_faults g q ++ condition_faults n (after_shape g q) c ++ phrases_faults n (after_shape g q) es)
+
+pub inside : (n : Names) (a b d e : Walk) (q : Shape) (c : Condition) (es : Phrases) → ShapeWalked a b q → ConditionWalked n b d c → PhrasesWalked n d e es → Inside n a e q c es
+inside n a b d e q c es x y z =
+    walks_then a d e (λ g. after_shape g q) (λ g. after_all g es) (λ g. shape_faults g q ++ condition_faults n (after_shape g q) c) (λ g. phrases_faults n g es)
+    (walks_then a b d (λ g. after_shape g q) (λ g. g) (λ g. shape_faults g q) (λ g. condition_faults n g c) x y) z
+
+-- a clause among clauses
+pub branch_closed : (n : Names) (a b d e new : Walk) (q : Shape) (c : Condition) (es : Phrases) → ShapeWalked a b q → ConditionWalked n b d c → PhrasesWalked n d e es → new.first ≡ e.first
+    → ((x : ℕ) → seen_of new.seen x ≡ (if has (drop (length (left_of a.seen)) (left_of e.seen)) x then New else seen_of e.seen x))
+    → left_of new.seen ≡ left_of e.seen → BranchWalked n a new (branch q c es no_branches)
+branch_closed n a b d e new q c es x y z k set trail =
+    let f : Sight → Sight = λ g. after_all (after_shape g q) es in
+    let s : Sight → List Fault = λ g. shape_faults g q ++ condition_faults n (after_shape g q) c ++ phrases_faults n (after_shape g q) es in
+    let w = clause_closed a e new f s (inside n a b d e q c es x y z) (ap kept k) set trail in
+    record {
+      names = w.names;
+      longer = w.longer;
+      same = w.same;
+      fresh = w.fresh;
+      named = λ g st v. w.named g st v ∙ ap (λ (ns : List ℕ). is_new g v && has ns v) (sym (append-nil (seen_names (f g))));
+      found = λ g st. w.found g st ∙ ap (earliest (kept a.first)) (sym (append-nil (s g)));
+    }
+
+pub branches_more : (n : Names) (old now next : Walk) (bs left rest : Branches) (q : Shape) (c : Condition) (es : Phrases) → left ≡ branch q c es rest → BranchesUnderway n old now bs left → BranchWalked n now next (branch q c es no_branches) → BranchesUnderway n old next bs rest
+branches_more n old now next bs left rest q c es e v b =
+    let f : Sight → List ℕ = λ g. seen_names (after_all (after_shape g q) es) in
+    let s : Sight → List Fault = λ g. shape_faults g q ++ condition_faults n (after_shape g q) c ++ phrases_faults n (after_shape g q) es in
+    let w : Clauses now next f s = record {
+      names = b.names;
+      longer = b.longer;
+      same = b.same;
+      fresh = b.fresh;
+      named = λ g st x. b.named g st x ∙ ap (λ (ns : List ℕ). is_new g x && has ns x) (append-nil (f g));
+      found = λ g st. b.found g st ∙ ap (earliest (kept now.first)) (append-nil (s g));
+    } in
+    clauses_more old now next (λ g. ends_of g bs) (λ g. ends_of g rest) f (λ g. branches_faults n g bs) (λ g. branches_faults n g rest) s (subst (BranchesUnderway n old now bs) e v) w

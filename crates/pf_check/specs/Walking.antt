@@ -1,0 +1,81 @@
+-- What a walk through a part of a clause does: to what is seen, to the trail, and to the first fault.
+use Rattle.std.specs.Prelude.{◌≡◌, ℕ, true, false, ◌&&◌, if◌then◌else◌, List, [], ◌∷◌, ◌++◌}
+use Rattle.pf_syntax.specs.Shape.{Shape, Shapes}
+use Rattle.pf_syntax.specs.Phrase.{Phrase, Phrases, Condition, Branches}
+use Rattle.pf_syntax.specs.Sight.{Sight, no_sight, has, is_new, is_unsafe, after_shape, after_shapes, after, after_all, leaving, ends_of}
+use Rattle.pf_syntax.specs.Naming.{Names}
+use Rattle.pf_syntax.specs.Source.{Book}
+use Rattle.pf_syntax.specs.SourceOver.{branches_over}
+use Rattle.pf_syntax.specs.declared.written.Branch.{Branch}
+use Rattle.pf_check.specs.Static.{Fault, fault_if, shape_faults, shapes_faults, phrase_faults, phrases_faults, condition_faults, branches_faults}
+use Rattle.pf_check.specs.Earliest.{earliest, kept}
+use Rattle.pf_check.specs.Marks.{Stands, Trails, left_of, seen_of, is_marked}
+use Rattle.pf_check.specs.Listing.{lists}
+use Rattle.pf_check.specs.declared.signatures.Signatures.{Signatures}
+use Rattle.pf_check.specs.declared.walk.Walk.{Walk}
+
+-- a walk whose part changes what is seen so and has these faults
+pub record Walks (old new : Walk) (step : Sight → Sight) (faults : Sight → List Fault) : Type 0 where
+  pub trails : Trails old.seen new.seen
+  pub stands : (g : Sight) → Stands old.seen g → Stands new.seen (step g)
+  pub found : (g : Sight) → Stands old.seen g → kept new.first ≡ earliest (kept old.first) (faults g)
+
+-- through a pattern, and through patterns
+abbrev pub ShapeWalked : Walk → Walk → Shape → Type 0
+ShapeWalked old new q = Walks old new (λ g. after_shape g q) (λ g. shape_faults g q)
+
+abbrev pub ShapesWalked : Walk → Walk → Shapes → Type 0
+ShapesWalked old new qs = Walks old new (λ g. after_shapes g qs) (λ g. shapes_faults g qs)
+
+-- through an expression, and through expressions
+abbrev pub PhraseWalked : Names → Walk → Walk → Phrase → Type 0
+PhraseWalked n old new e = Walks old new (λ g. after g e) (λ g. phrase_faults n g e)
+
+abbrev pub PhrasesWalked : Names → Walk → Walk → Phrases → Type 0
+PhrasesWalked n old new es = Walks old new (λ g. after_all g es) (λ g. phrases_faults n g es)
+
+-- through an alternative of a guard, and through a guard
+abbrev pub TestsWalked : Names → Walk → Walk → Phrases → Type 0
+TestsWalked n old new es = Walks old new (λ g. g) (λ g. phrases_faults n g es)
+
+abbrev pub ConditionWalked : Names → Walk → Walk → Condition → Type 0
+ConditionWalked n old new c = Walks old new (λ g. g) (λ g. condition_faults n g c)
+
+-- through the clauses of a construct, and out of it
+abbrev pub BranchesWalked : Names → Walk → Walk → Branches → Type 0
+BranchesWalked n old new bs = Walks old new (λ g. leaving g (ends_of g bs)) (λ g. branches_faults n g bs)
+
+-- through clauses that end with these names: the trail has those that were new, and what is seen is as before
+pub record Clauses (old new : Walk) (ends : Sight → List ℕ) (faults : Sight → List Fault) : Type 0 where
+  pub names : List ℕ
+  pub longer : left_of new.seen ≡ left_of old.seen ++ names
+  pub same : (x : ℕ) → seen_of new.seen x ≡ seen_of old.seen x
+  pub fresh : (x : ℕ) → has names x ≡ true → is_marked (seen_of old.seen x) ≡ false
+  pub named : (g : Sight) → Stands old.seen g → (x : ℕ) → has names x ≡ (is_new g x && has (ends g) x)
+  pub found : (g : Sight) → Stands old.seen g → kept new.first ≡ earliest (kept old.first) (faults g)
+
+-- a clause alone
+abbrev pub branch_of : Book → Branch → Branches
+branch_of b c = branches_over b (c ∷ [])
+
+abbrev pub BranchWalked : Names → Walk → Walk → Branches → Type 0
+BranchWalked n old new bs = Clauses old new (λ g. ends_of g bs) (λ g. branches_faults n g bs)
+
+-- a variable of a pattern, before it is bound
+abbrev pub SafeWalked : Walk → Walk → ℕ → ℕ → Type 0
+SafeWalked old new x at = Walks old new (λ g. g) (λ g. fault_if (is_unsafe g x) 7 at)
+
+-- a variable in an expression, `_` there, and the name of a call
+abbrev pub VariableWalked : Walk → Walk → ℕ → ℕ → Type 0
+VariableWalked old new x at = Walks old new (λ g. g) (λ g. fault_if (is_unsafe g x) 7 at ++ fault_if (is_new g x) 6 at)
+
+abbrev pub AnonymousWalked : Walk → Walk → ℕ → Type 0
+AnonymousWalked old new at = Walks old new (λ g. g) (λ g. fault_if true 6 at)
+
+abbrev pub CallWalked : Signatures → Walk → Walk → ℕ → ℕ → ℕ → Type 0
+CallWalked o old new f at arity = Walks old new (λ g. g) (λ g. if lists o f arity then [] else fault_if true 8 at)
+
+-- through a part that begins with no variable, behind which there is none again
+pub record BeginsAnew (old new : Walk) (faults : List Fault) : Type 0 where
+  pub stands : Stands old.seen no_sight → Stands new.seen no_sight
+  pub found : Stands old.seen no_sight → kept new.first ≡ earliest (kept old.first) faults

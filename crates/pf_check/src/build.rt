@@ -1,0 +1,120 @@
+//! The checked module of a module as it is written.
+
+ghost use Rattle.std.specs.Prelude.{◌≡◌, [], map, IfOk, List};
+ghost use Rattle.pf_syntax.specs.SourceOver.{head_over, heads_over};
+ghost use Rattle.pf_reader.specs.Grammar.{tree_of};
+ghost use Rattle.pf_check.specs.Built.{Did};
+ghost use Rattle.pf_check.specs.Checks.{IsModule};
+ghost use Rattle.pf_check.specs.Formed.{AreFormed};
+ghost use Rattle.pf_check.specs.Heads.{FunctionMeans, HeadMeans, HeadsMean};
+ghost use Rattle.pf_check.specs.Knows.{Knows};
+ghost use Rattle.pf_check.specs.Static.{faults_of};
+
+use crate::expressions::{body, guard};
+use crate::own::{Own, is_exported};
+use crate::patterns::patterns;
+use crate::places::Places;
+use pf_syntax::{Function, FunctionClause, Head, Module, Source, WrittenFunction};
+use pf_terms::{AtomId, AtomTable, NoMemory};
+use std::alloc::Global;
+
+/// A clause of a function, which begins with no variable.
+fn clause(
+    alloc: Global,
+    source: &Source,
+    own: &Own,
+    places: &mut Places,
+    module: &mut Module,
+    head: &Head,
+) -> Result<FunctionClause, NoMemory>
+    requires knows { Knows own.now source.now.functions }
+    requires none_bound { places.old ≡ [] }
+    ensures { IfOk result (λ c. Did module.old module.new places.new [] (λ t. HeadMeans source.now.functions t (head_over source.now.book head.now) c)) }
+{
+    let parameters = patterns(alloc, source, places, module, head.parameters.as_slice())?;
+    let guard = guard(alloc, source, own, places, module, &head.condition)?;
+    let body = body(alloc, source, own, places, module, head.body.as_slice())?;
+    places.truncate(0);
+    Ok(FunctionClause {
+        parameters,
+        guard,
+        body,
+    })
+}
+
+/// The clauses of a function.
+fn clauses(
+    alloc: Global,
+    source: &Source,
+    own: &Own,
+    places: &mut Places,
+    module: &mut Module,
+    heads: &[Head],
+) -> Result<Vec<FunctionClause>, NoMemory>
+    requires knows { Knows own.now source.now.functions }
+    requires none_bound { places.old ≡ [] }
+    ensures { IfOk result (λ cs. Did module.old module.new places.new []
+        (λ t. HeadsMean source.now.functions t (map (head_over source.now.book) heads.now) cs.items)) }
+{
+    let mut found = Vec::new(alloc);
+    for head in heads {
+        let one = clause(alloc, source, own, places, module, head)?;
+        found.push(one)?;
+    }
+    Ok(found)
+}
+
+/// A function, named by its first clause. One with no clause, which the grammar has not, has no arguments.
+fn function(
+    alloc: Global,
+    source: &Source,
+    own: &Own,
+    places: &mut Places,
+    module: &mut Module,
+    written: &WrittenFunction,
+) -> Result<Function, NoMemory>
+    requires knows { Knows own.now source.now.functions }
+    requires none_bound { places.old ≡ [] }
+    ensures { IfOk result (λ f. Did module.old module.new places.new []
+        (λ t. FunctionMeans source.now.functions source.now.exports t (heads_over source.now.book written.now) f)) }
+{
+    let clauses = clauses(alloc, source, own, places, module, written.heads.as_slice())?;
+    match written.heads.first() {
+        None => Ok(Function {
+            name: AtomId::UNDEFINED,
+            arity: 0,
+            exported: false,
+            clauses,
+        }),
+        Some(head) => {
+            let count = head.parameters.len();
+            let Ok(arity) = u32::try_from(count) else {
+                return Err(NoMemory);
+            };
+            Ok(Function {
+                name: head.word.name,
+                arity,
+                exported: is_exported(source, head.word.name, count as u64),
+                clauses,
+            })
+        }
+    }
+}
+
+/// The checked module of a source that has no static fault and is formed as the grammar says; of another it is some module.
+pub(crate) fn module_of(
+    alloc: Global,
+    source: &Source,
+    atoms: AtomTable,
+) -> Result<Module, NoMemory>
+    ensures { IfOk result (λ m. faults_of atoms (tree_of source.now) ≡ [] → AreFormed source.now.functions → IsModule atoms (tree_of source.now) m) }
+{
+    let own = Own::new(alloc, source)?;
+    let mut places = Places::new(alloc);
+    let mut module = Module::new(alloc, source.name(), atoms);
+    for written in source.functions() {
+        let one = function(alloc, source, &own, &mut places, &mut module, written)?;
+        module.add_function(one)?;
+    }
+    Ok(module)
+}

@@ -1,0 +1,14 @@
+//! Laws of reading: functions with empty bodies, whose contracts are the laws.
+
+ghost use Rattle.std.specs.Prelude.{List, ℕ};
+ghost use Rattle.pf_check.specs.Reads.{Outcome, Reads, SameOutcome};
+
+/// A source is read in one way: as one module, or with one refusal at one place, but for the place of E5, which isn't told.
+pub fn one_outcome()
+    ensures { (bytes : List ℕ) (o p : Outcome) → Reads bytes o → Reads bytes p → SameOutcome o p }
+{}
+
+/// Every source is read in some way.
+pub fn some_outcome()
+    ensures { (bytes : List ℕ) → (o : Outcome) × Reads bytes o }
+{}

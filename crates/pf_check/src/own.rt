@@ -1,0 +1,89 @@
+//! The functions of a module by name and number of arguments, and those that it exports.
+
+ghost use Rattle.std.specs.Prelude.{◌≡◌, ◌==◌, ◌&&◌, ℕ, if◌then◌else◌, IfOk, MatchOption, None, OnOk, Some};
+ghost use Rattle.std.specs.List.{list_any};
+ghost use Rattle.indexmap.specs.IndexMap.{get};
+ghost use Rattle.pf_check.specs.Checks as checks;
+ghost use Rattle.pf_check.specs.Static.{is_named, own_in};
+ghost use Rattle.pf_syntax.specs.Source.{Book};
+ghost use Rattle.pf_syntax.specs.SourceOver.{heads_over};
+ghost use Rattle.pf_check.specs.Knows.{same_key, Knows};
+ghost use Rattle.pf_check.specs.Heads.{first_of};
+
+use indexmap::IndexMap;
+use pf_syntax::{Export, FunctionId, Source, WrittenFunction};
+use pf_terms::{AtomId, NoMemory};
+use std::alloc::Global;
+
+/// The number of the first function of each name and number of arguments.
+#[derive(Drop)]
+pub(crate) struct Own {
+    numbers: IndexMap<(u32, usize), u32>,
+}
+
+impl Own {
+    /// The functions of a source.
+    pub(crate) fn new(alloc: Global, source: &Source) -> Result<Own, NoMemory>
+        ensures { IfOk result (λ own. Knows own source.now.functions) }
+    {
+        let mut own = Own {
+            numbers: IndexMap::new(alloc),
+        };
+        for (number, function) in source.functions().iter().enumerate() {
+            own.enter_function(function, number)?;
+        }
+        Ok(own)
+    }
+
+    /// Notes the number of a function under the name of its first clause.
+    fn enter_function(&mut self, function: &WrittenFunction, number: usize) -> Result<(), NoMemory>
+        ensures { OnOk result ((b : Book) (f a : ℕ) → get same_key self.new.numbers (f, a)
+            ≡ first_of (get same_key self.old.numbers (f, a)) (if is_named f a (heads_over b function.now) then Some number else None)) }
+    {
+        match function.heads.first() {
+            None => Ok(()),
+            Some(head) => self.enter(head.word.name, head.parameters.len(), number),
+        }
+    }
+
+    /// Notes the number of a function, where there is none of this name and number of arguments yet.
+    fn enter(&mut self, name: AtomId, arity: usize, number: usize) -> Result<(), NoMemory>
+        ensures { OnOk result ((f a : ℕ) → get same_key self.new.numbers (f, a)
+            ≡ first_of (get same_key self.old.numbers (f, a)) (if same_key (name.0, arity) (f, a) then Some number else None)) }
+    {
+        let key = (name.0, arity);
+        if self.numbers.contains_key(&key) {
+            return Ok(());
+        }
+        let Ok(short) = u32::try_from(number) else {
+            return Err(NoMemory);
+        };
+        self.numbers.insert(key, short)?;
+        Ok(())
+    }
+
+    /// The first function of this name that takes so many arguments.
+    pub(crate) fn find(&self, source: &Source, name: AtomId, arity: usize) -> Option<FunctionId>
+        requires { Knows self.now source.now.functions }
+        ensures { MatchOption result (own_in source.now.functions name.0 arity ≡ None) (λ f. own_in source.now.functions name.0 arity ≡ Some f.0) }
+    {
+        let number = self.numbers.get(&(name.0, arity))?;
+        Some(FunctionId(*number))
+    }
+}
+
+/// Whether an entry has this name and number of arguments.
+fn has_entry(exports: &[Export], name: AtomId, arity: u64) -> bool
+    ensures { result ≡ list_any (λ e. (e.word.name.0 == name.0) && (e.arity == arity)) exports.now }
+{
+    exports
+        .iter()
+        .any(|e| e.word.name == name && e.arity == arity)
+}
+
+/// Whether a function of this name with so many arguments is exported.
+pub(crate) fn is_exported(source: &Source, name: AtomId, arity: u64) -> bool
+    ensures { result ≡ checks.is_exported source.now.exports name.0 arity }
+{
+    has_entry(source.exports(), name, arity)
+}

@@ -1,0 +1,110 @@
+//! The patterns of a checked module.
+
+ghost use Rattle.std.specs.Prelude.{◌≡◌, IfOk, List};
+ghost use Rattle.pf_syntax.specs.Shape as written;
+ghost use Rattle.pf_syntax.specs.Source.{shape_at};
+ghost use Rattle.pf_syntax.specs.SourceOver.{shapes_at};
+ghost use Rattle.pf_check.specs.Bound.{all_bound_by, bound_by, with_bound};
+ghost use Rattle.pf_check.specs.Built.{Did, ShapeMeans, ShapesMean};
+
+use crate::places::Places;
+use crate::put::{put_known, put_list_pattern, put_pattern};
+use crate::strings::string;
+use pf_syntax::{Module, PatternId, PatternNode, ShapeId, ShapeNode, Source, Word};
+use pf_terms::NoMemory;
+use std::alloc::Global;
+
+/// A variable: its place where it is bound, and else it is bound here.
+fn variable(
+    source: &Source,
+    places: &mut Places,
+    module: &mut Module,
+    word: Word,
+) -> Result<PatternId, NoMemory>
+    ensures { IfOk result (λ p. Did module.old module.new places.new (with_bound places.old word.name.0)
+        (λ t. ShapeMeans source.now.functions t places.old (written.variable word.name.0 word.offset) p)) }
+{
+    match places.place(word.name) {
+        Some(place) => put_pattern(module, PatternNode::Slot(place)),
+        None => {
+            places.bind(word.name)?;
+            put_pattern(module, PatternNode::New)
+        }
+    }
+}
+
+/// A string.
+fn text(
+    alloc: Global,
+    source: &Source,
+    places: &Places,
+    module: &mut Module,
+    codes: &[u8],
+) -> Result<PatternId, NoMemory>
+    ensures { IfOk result (λ p. Did module.old module.new places.now places.now
+        (λ t. ShapeMeans source.now.functions t places.now (written.text codes.now) p)) }
+{
+    let made = string(alloc, codes)?;
+    match made {
+        Some(literal) => put_known(module, literal),
+        None => put_pattern(module, PatternNode::Never),
+    }
+}
+
+/// A pattern, with what it binds.
+#[cycle(pattern)]
+pub(crate) fn pattern(
+    alloc: Global,
+    source: &Source,
+    places: &mut Places,
+    module: &mut Module,
+    id: ShapeId,
+) -> Result<PatternId, NoMemory>
+    ensures { IfOk result (λ p. Did module.old module.new places.new (bound_by places.old (shape_at source.now.book id.0))
+        (λ t. ShapeMeans source.now.functions t places.old (shape_at source.now.book id.0) p)) }
+{
+    match source.shape(id) {
+        None => put_pattern(module, PatternNode::Any),
+        Some(node) => match node {
+            ShapeNode::Integer(n) => put_pattern(module, PatternNode::Int(*n)),
+            ShapeNode::Atom(atom) => put_pattern(module, PatternNode::Atom(*atom)),
+            ShapeNode::Text(codes) => text(alloc, source, places, module, codes.as_slice()),
+            ShapeNode::Variable(word) => variable(source, places, module, *word),
+            ShapeNode::Anything => put_pattern(module, PatternNode::Any),
+            ShapeNode::Tuple(ids) => {
+                let parts = patterns(alloc, source, places, module, ids.as_slice())?;
+                put_pattern(module, PatternNode::Tuple(parts))
+            }
+            ShapeNode::List(ids) => {
+                let parts = patterns(alloc, source, places, module, ids.as_slice())?;
+                let nil = put_pattern(module, PatternNode::Nil)?;
+                put_list_pattern(module, parts, nil)
+            }
+            ShapeNode::ListOn(ids, tail) => {
+                let parts = patterns(alloc, source, places, module, ids.as_slice())?;
+                let rest = pattern(alloc, source, places, module, *tail)?;
+                put_list_pattern(module, parts, rest)
+            }
+        },
+    }
+}
+
+/// Patterns, from left to right.
+#[cycle(pattern)]
+pub(crate) fn patterns(
+    alloc: Global,
+    source: &Source,
+    places: &mut Places,
+    module: &mut Module,
+    ids: &[ShapeId],
+) -> Result<Vec<PatternId>, NoMemory>
+    ensures { IfOk result (λ ps. Did module.old module.new places.new (all_bound_by places.old (shapes_at source.now.book ids.now))
+        (λ t. ShapesMean source.now.functions t places.old (shapes_at source.now.book ids.now) ps.items)) }
+{
+    let mut parts = Vec::new(alloc);
+    for id in ids {
+        let part = pattern(alloc, source, places, module, *id)?;
+        parts.push(part)?;
+    }
+    Ok(parts)
+}

@@ -1,0 +1,5 @@
+pub mod Numerals
+pub mod Asked
+pub mod Roots
+pub mod Rows
+pub mod Alike

@@ -1,0 +1,205 @@
+//! The words of the command line.
+
+ghost use Rattle.std.specs.Prelude.{◌≡◌, ◌⊎◌, IfOk, IfErr, map, true, false, Some, None, codes, option_map};
+ghost use Rattle.clap.specs.Words.{FailsBy, Shape, app_of, fault_of, subcommand_of, subcommand_rows_of, rule_of, new_app, kind_of, first_of, rows_of, found_of};
+ghost use Rattle.clap.specs.declared.builder.command.Command.TheViews.{out-Command};
+ghost use Rattle.pf_command.specs.Words.{IsFaultOf, file_of, file_rule, option_rule, pulsefarm, request, request_of, run_app, run_of, status_of_kind, top_shape};
+
+use crate::numbers::{number_of, schedule_of};
+use clap::error::ErrorKind;
+use clap::{Arg, ArgMatches, Command, Error};
+use std::alloc::{AllocError, Global};
+
+/// What the words of `run` ask for.
+#[derive(Drop)]
+pub struct RunWords<'a> {
+    /// The file of the source; the standard input where there is none.
+    pub file: Option<&'a str>,
+    /// The name of the function that runs first.
+    pub root: &'a str,
+    /// The most steps of the run.
+    pub limit: u32,
+    /// The scheduler's numbers.
+    pub schedule: Vec<u32>,
+}
+
+/// A file that comes without a name before it.
+fn file<'a>(alloc: Global) -> Arg<'a>
+    ensures rule { rule_of result ≡ file_rule }
+    ensures local { result.global ≡ false }
+{
+    Arg::new(alloc, "file").value_name("FILE").help(
+        "File of the module's source, at most 65,536 bytes [default: standard input]",
+    )
+}
+
+/// An option that must be given, with its one value.
+fn option<'a>(alloc: Global, name: &'a str, value: &'a str, help: &'a str) -> Arg<'a>
+    ensures rule { rule_of result ≡ option_rule name.entry.now }
+    ensures local { result.global ≡ false }
+{
+    Arg::new(alloc, name)
+        .long(name)
+        .value_name(value)
+        .required(true)
+        .help(help)
+}
+
+fn root<'a>(alloc: Global) -> Arg<'a>
+    ensures rule { rule_of result ≡ option_rule (codes "root") }
+    ensures local { result.global ≡ false }
+{
+    let help = "Name of the function that runs first, exported and without arguments";
+    option(alloc, "root", "F", help)
+}
+
+fn limit<'a>(alloc: Global) -> Arg<'a>
+    ensures rule { rule_of result ≡ option_rule (codes "limit") }
+    ensures local { result.global ≡ false }
+{
+    let help = "Most steps of the run, from 1 to 100,000";
+    option(alloc, "limit", "N", help)
+}
+
+fn schedule<'a>(alloc: Global) -> Arg<'a>
+    ensures rule { rule_of result ≡ option_rule (codes "schedule") }
+    ensures local { result.global ≡ false }
+{
+    let help =
+        "Scheduler's numbers, each from 0 to 4294967295, at most 100,000 with commas between them, or `none`";
+    option(alloc, "schedule", "L", help)
+}
+
+/// The command without its arguments.
+fn bare_run<'a>(alloc: Global) -> Command<'a>
+    ensures app { app_of result ≡ new_app (codes "run") }
+    ensures local { (out-Command result).has_globals ≡ false }
+{
+    Command::new(alloc, "run").about("Runs a module of one process and reports each of its turns")
+}
+
+fn run_command<'a>(alloc: Global) -> Result<Command<'a>, AllocError>
+    ensures app { IfOk result (λ c. app_of c ≡ run_app) }
+    ensures local { IfOk result (λ c. (out-Command c).has_globals ≡ false) }
+{
+    let run = bare_run(alloc)
+        .arg(file(alloc))?
+        .arg(root(alloc))?
+        .arg(limit(alloc))?
+        .arg(schedule(alloc))?;
+    Ok(run)
+}
+
+/// The program without its commands.
+fn top<'a>(alloc: Global) -> Command<'a>
+    ensures app { app_of result ≡ record (new_app (codes "pulsefarm")) { top = top_shape } }
+    ensures local { (out-Command result).has_globals ≡ false }
+{
+    Command::new(alloc, "pulsefarm")
+        .version("0.1.0")
+        .about("Tests Erlang programs for races")
+        .subcommand_required(true)
+        .disable_help_subcommand(true)
+}
+
+fn command<'a>(alloc: Global) -> Result<Command<'a>, AllocError>
+    ensures { IfOk result (λ c. app_of c ≡ pulsefarm) }
+{
+    let whole = top(alloc).subcommand(run_command(alloc)?)?;
+    Ok(whole)
+}
+
+fn matches<'a>(alloc: Global, words: &'a [&'a str]) -> Result<ArgMatches<'a>, Error>
+    ensures ok { IfOk result (λ m. subcommand_rows_of m ≡ subcommand_of pulsefarm (map (λ w. w.now) words.now)) }
+    ensures kinds { FailsBy (fault_of pulsefarm (map (λ w. w.now) words.now)) result }
+{
+    command(alloc)?.try_get_matches_from(words)
+}
+
+/// The value of an option or a word.
+fn value<'a>(rows: &ArgMatches<'a>, name: &str) -> Option<&'a str>
+    ensures { option_map (λ s. s.now) result ≡ first_of name.now (rows_of (found_of rows.now)) }
+{
+    rows.get_str(name)
+}
+
+/// An error with its text.
+fn mistake(alloc: Global, text: &str) -> Error
+    ensures { (kind_of result ≡ ErrorKind.OutOfMemory) ⊎ (kind_of result ≡ ErrorKind.InvalidValue) }
+{
+    match command(alloc) {
+        Ok(mut command) => match command.error(ErrorKind::InvalidValue, text) {
+            Ok(error) => error,
+            Err(e) => Error::from(e),
+        },
+        Err(e) => Error::from(e),
+    }
+}
+
+/// The run that the values of the options ask for.
+fn run_words<'a>(alloc: Global, rows: &ArgMatches<'a>) -> Result<RunWords<'a>, Error>
+    ensures ok { IfOk result (λ w. run_of (rows_of (found_of rows.now)) ≡ Some (request w)) }
+    ensures file { IfOk result (λ w. option_map (λ s. s.now) w.file ≡ first_of (codes "file") (rows_of (found_of rows.now))) }
+    ensures err { IfErr result (λ e. (kind_of e ≡ ErrorKind.OutOfMemory)
+        ⊎ ((kind_of e ≡ ErrorKind.InvalidValue) × (run_of (rows_of (found_of rows.now)) ≡ None))) }
+{
+    let file = value(rows, "file");
+    let Some(root) = value(rows, "root") else {
+        return Err(mistake(alloc, "--root is missing"));
+    };
+    let Some(limit) = value(rows, "limit") else {
+        return Err(mistake(alloc, "--limit is missing"));
+    };
+    let Some(schedule) = value(rows, "schedule") else {
+        return Err(mistake(alloc, "--schedule is missing"));
+    };
+    let Some(limit) = number_of(limit.as_bytes()) else {
+        return Err(mistake(
+            alloc,
+            "--limit wants a number of steps from 1 to 100000, without leading zeros",
+        ));
+    };
+    match schedule_of(alloc, schedule) {
+        Ok(Some(schedule)) => Ok(RunWords {
+            file,
+            root,
+            limit,
+            schedule,
+        }),
+        Ok(None) => Err(mistake(
+            alloc,
+            "--schedule wants `none`, or numbers from 0 to 4294967295 with commas between them",
+        )),
+        Err(e) => Err(Error::from(e)),
+    }
+}
+
+/// What the words ask for, the first of which names the program. Words that are refused or ask for help or the version
+/// are an error, which prints its text.
+pub fn read_words<'a>(alloc: Global, words: &'a [&'a str]) -> Result<RunWords<'a>, Error>
+    ensures ok { IfOk result (λ w. request_of (map (λ w. w.now) words.now) ≡ Some (request w)) }
+    ensures file { IfOk result (λ w. option_map (λ s. s.now) w.file ≡ file_of (map (λ w. w.now) words.now)) }
+    ensures err { IfErr result (λ e. (kind_of e ≡ ErrorKind.OutOfMemory) ⊎ IsFaultOf (kind_of e) (map (λ w. w.now) words.now)) }
+{
+    let matches = match matches(alloc, words) {
+        Ok(matches) => matches,
+        Err(e) => return Err(e),
+    };
+    let Some((_, rows)) = matches.subcommand() else {
+        return Err(mistake(alloc, "a command is missing"));
+    };
+    match run_words(alloc, rows) {
+        Ok(found) => Ok(found),
+        Err(e) => Err(e),
+    }
+}
+
+/// The status that a kind of error ends the program with.
+pub fn status_of_kind(kind: ErrorKind) -> u8
+    ensures { result ≡ status_of_kind kind }
+{
+    match kind {
+        ErrorKind::DisplayHelp | ErrorKind::DisplayVersion => 0,
+        _ => 2,
+    }
+}

@@ -1,0 +1,12 @@
+use Rattle.std.proofs.Common.{◌≡◌, ◌++◌, take}
+use Rattle.std.specs.Prelude.{map}
+use Rattle.pf_syntax.specs.SourceOver.{export_of}
+use Rattle.pf_reader.proofs.export.add_exports.Given as goal
+
+-- the entries so far were added
+abbrev pub invariant-loop-entry : goal.invariant-loop-entry
+invariant-loop-entry l = record {
+  added : l.source.exports ≡ l.fn.source.exports ++ map export_of (take l.entry-index l.entries);
+  name : l.source.name ≡ l.fn.source.name;
+  functions : l.source.functions ≡ l.fn.source.functions;
+}

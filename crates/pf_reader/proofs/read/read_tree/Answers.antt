@@ -1,0 +1,38 @@
+use Rattle.std.proofs.Common.{◌≡◌, Some, None, subst, rules}
+use Rattle.std.specs.Prelude.{map}
+use Rattle.pf_tokens.specs.Signs.{placed_of}
+use Rattle.pf_reader.specs.Sign.{atoms_of, numbered}
+use Rattle.pf_reader.specs.Grammar.{tree_of}
+use Rattle.pf_reader.specs.Parse.{tree}
+use Rattle.pf_reader.specs.View.{toks}
+use Rattle.pf_reader.specs.Outcome.{IsTreeFault}
+use Rattle.pf_reader.proofs.Whole.{tree_sound, tree_complete}
+use Rattle.pf_reader.proofs.read.read_tree.Goals as goal
+
+pub returns-in-Ok-read_module-clause-found : goal.returns-in-Ok-read_module-clause-found
+returns-in-Ok-read_module-clause-found c =
+    let ts = map placed_of c.args.tokens.now in
+    let read : tree (atoms_of ts) (numbered ts) ≡ Some (tree_of c.in-Ok-read_module.source) = search rules in
+    tree_sound (atoms_of ts) (numbered ts) (tree_of c.in-Ok-read_module.source) read
+
+pub returns-in-Ok-read_module-clause-only : goal.returns-in-Ok-read_module-clause-only
+returns-in-Ok-read_module-clause-only c = λ m d.
+    let ts = map placed_of c.args.tokens.now in
+    let read : tree (atoms_of ts) (numbered ts) ≡ Some (tree_of c.in-Ok-read_module.source) = search rules in
+    let whole = tree_complete (atoms_of ts) (numbered ts) m d in
+    cc
+
+pub returns-clause-only : goal.returns-clause-only
+returns-clause-only c = λ m d.
+    let ts = map placed_of c.args.tokens.now in
+    let read : tree (atoms_of ts) (numbered ts) ≡ None = search rules in
+    let whole = tree_complete (atoms_of ts) (numbered ts) m d in
+    absurd (cc)
+
+pub returns-clause-fault : goal.returns-clause-fault
+returns-clause-fault c =
+    let ts = map placed_of c.args.tokens.now in
+    let atoms : c.in-Ok.numbered.0 ≡ atoms_of ts = search rules in
+    let tokens : toks c.deref-in-Err-Syntax.result.now ≡ numbered ts = search rules in
+    let told = subst (λ us. IsTreeFault c.in-Ok.numbered.0 us c.tree_fault.result) tokens c.tree_fault.ensures in
+    subst (λ names. IsTreeFault names (numbered ts) c.tree_fault.result) atoms told

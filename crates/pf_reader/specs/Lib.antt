@@ -1,0 +1,7 @@
+pub mod Sign
+pub mod Grammar
+pub mod Parse
+pub mod View
+pub mod Given
+pub mod Numbering
+pub mod Outcome

@@ -1,0 +1,126 @@
+//! Export forms.
+
+ghost use Rattle.std.specs.Prelude.{◌≡◌, ◌++◌, length, map, OnOk};
+ghost use Rattle.pf_syntax.specs.SourceOver.{export_of};
+ghost use Rattle.pf_tokens.specs.declared.marks.Mark.TheVariants.{CloseBracket, Comma};
+ghost use Rattle.pf_reader.specs.Sign.{mark};
+ghost use Rattle.pf_reader.specs.Parse.{entry, export, exports, items, until};
+ghost use Rattle.pf_reader.specs.View.{names_of, toks};
+ghost use Rattle.pf_reader.specs.Given.{with_front, Gives};
+
+use crate::fault::ReadFault;
+use crate::sign::{Sign, Tok};
+use crate::token::{Context, behind, read_name, read_number, skip, skip_word};
+use pf_syntax::{Export, Source};
+use pf_terms::NoMemory;
+use pf_tokens::Mark;
+use std::alloc::Global;
+
+/// An entry: a name, a slash and a number of arguments.
+fn read_entry<'a>(context: Context, tokens: &'a [Tok]) -> Result<(Export, &'a [Tok]), ReadFault>
+    ensures { Gives (λ x. (export_of x.0, toks x.1.now)) result (entry (names_of context.entry) (toks tokens.now)) }
+{
+    let (word, rest) = read_name(context, tokens)?;
+    let rest = behind(rest, Sign::Mark(Mark::Slash))?;
+    match read_number(rest) {
+        Some((arity, rest)) => Ok((
+            Export {
+                word,
+                arity: arity.value,
+            },
+            rest,
+        )),
+        None => Err(ReadFault::Syntax),
+    }
+}
+
+/// Entries with commas between them.
+fn read_entries<'a>(
+    alloc: Global,
+    context: Context,
+    tokens: &'a [Tok],
+) -> Result<(Vec<Export>, &'a [Tok]), ReadFault>
+    ensures { Gives (λ x. (map export_of x.0.items, toks x.1.now)) result (items (mark Comma) (entry (names_of context.entry)) (length (toks tokens.now)) (toks tokens.now)) }
+{
+    let mut found = Vec::new(alloc);
+    let mut rest = tokens;
+    for _ in 0..tokens.len() {
+        let (entry, behind_it) = read_entry(context, rest)?;
+        found.push(entry)?;
+        let Some(after) = skip(behind_it, Sign::Mark(Mark::Comma)) else {
+            return Ok((found, behind_it));
+        };
+        rest = after;
+    }
+    Err(ReadFault::Syntax)
+}
+
+/// Entries with commas between them, or none, before a closing bracket.
+fn read_entry_list<'a>(
+    alloc: Global,
+    context: Context,
+    tokens: &'a [Tok],
+) -> Result<(Vec<Export>, &'a [Tok]), ReadFault>
+    ensures { Gives (λ x. (map export_of x.0.items, toks x.1.now)) result (until (mark CloseBracket) (entry (names_of context.entry)) (toks tokens.now)) }
+{
+    if let Some(rest) = skip(tokens, Sign::Mark(Mark::CloseBracket)) {
+        return Ok((Vec::new(alloc), rest));
+    }
+    let (entries, rest) = read_entries(alloc, context, tokens)?;
+    let rest = behind(rest, Sign::Mark(Mark::CloseBracket))?;
+    Ok((entries, rest))
+}
+
+/// What stands behind the minus of an export form: its entries.
+fn read_export<'a>(
+    alloc: Global,
+    context: Context,
+    tokens: &'a [Tok],
+) -> Result<(Vec<Export>, &'a [Tok]), ReadFault>
+    ensures { Gives (λ x. (map export_of x.0.items, toks x.1.now)) result (export (names_of context.entry) (toks tokens.now)) }
+{
+    let Some(rest) = skip_word(context.atoms, b"export", tokens) else {
+        return Err(ReadFault::Syntax);
+    };
+    let rest = behind(rest, Sign::Mark(Mark::OpenParenthesis))?;
+    let rest = behind(rest, Sign::Mark(Mark::OpenBracket))?;
+    let (entries, rest) = read_entry_list(alloc, context, rest)?;
+    let rest = behind(rest, Sign::Mark(Mark::CloseParenthesis))?;
+    let rest = behind(rest, Sign::Dot)?;
+    Ok((entries, rest))
+}
+
+/// Adds entries in their order.
+fn add_exports(source: &mut Source, entries: &[Export]) -> Result<(), NoMemory>
+    ensures added { OnOk result (source.new.exports ≡ source.old.exports ++ map export_of entries.now) }
+    ensures name { source.new.name ≡ source.old.name }
+    ensures functions { source.new.functions ≡ source.old.functions }
+{
+    for entry in entries {
+        source.add_export(*entry)?;
+    }
+    Ok(())
+}
+
+/// Export forms as long as there are some, whose entries go into the source.
+pub(crate) fn read_exports<'a>(
+    alloc: Global,
+    context: Context,
+    source: &mut Source,
+    tokens: &'a [Tok],
+) -> Result<&'a [Tok], ReadFault>
+    ensures given { Gives (λ rest. (source.new.exports, toks rest.now)) result (with_front source.old.exports (exports (names_of context.entry) (length (toks tokens.now)) (toks tokens.now))) }
+    ensures name { source.new.name ≡ source.old.name }
+    ensures functions { source.new.functions ≡ source.old.functions }
+{
+    let mut rest = tokens;
+    for _ in 0..tokens.len() {
+        let Some(form) = skip(rest, Sign::Mark(Mark::Minus)) else {
+            return Ok(rest);
+        };
+        let (entries, after) = read_export(alloc, context, form)?;
+        add_exports(source, &entries)?;
+        rest = after;
+    }
+    Ok(rest)
+}

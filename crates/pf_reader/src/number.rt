@@ -1,0 +1,98 @@
+//! Numbers for the names in tokens.
+
+ghost use Rattle.std.specs.Prelude.{◌≡◌, ◌<◌, ◌^◌, ℕ, length, List, map, IfErr, IfOk, OnOk};
+ghost use Rattle.pf_terms.specs.Atoms.{with_name, with_names};
+ghost use Rattle.pf_tokens.specs.Signs.{placed_of, sign_of};
+ghost use Rattle.pf_reader.specs.declared.fault.ReadFault.TheVariants.{Memory};
+ghost use Rattle.pf_reader.specs.Sign.{atom_name, atoms_of, number_in, numbered, variable_name};
+ghost use Rattle.pf_reader.specs.View.{toks};
+ghost use Rattle.pf_reader.specs.Numbering.{StandsForSign};
+
+use crate::fault::ReadFault;
+use crate::sign::{Sign, Tok};
+use pf_terms::{AtomId, AtomTable};
+use pf_tokens::{Kind, Token};
+use std::alloc::Global;
+
+/// The most names that a table takes.
+const LIMIT: usize = 4_294_967_295;
+
+/// The number of a name, which stays the name's as the table grows. The table has room for one more, before and after.
+fn number_of(alloc: Global, table: &mut AtomTable, name: &[u8]) -> Result<AtomId, ReadFault>
+    requires { length table.old < 2 ^ 32 }
+    ensures number { IfOk result (λ a. (more : List (List ℕ)) → number_in (with_names table.new more) name.now ≡ a.0) }
+    ensures names { OnOk result (table.new ≡ with_name table.old name.now) }
+    ensures room { OnOk result (length table.new < 2 ^ 32) }
+    ensures err { IfErr result (λ e. e ≡ Memory) }
+{
+    let number = table.enter(alloc, name)?;
+    if table.len() > LIMIT {
+        return Err(ReadFault::Memory);
+    }
+    Ok(number)
+}
+
+/// A sign with a number for its name.
+fn number_sign(
+    alloc: Global,
+    atoms: &mut AtomTable,
+    variables: &mut AtomTable,
+    kind: &Kind,
+) -> Result<Sign, ReadFault>
+    requires atoms { length atoms.old < 2 ^ 32 }
+    requires variables { length variables.old < 2 ^ 32 }
+    ensures sign { IfOk result (λ s. StandsForSign atoms.new variables.new (sign_of kind.now) s) }
+    ensures atoms { OnOk result (atoms.new ≡ with_names atoms.old (atom_name (sign_of kind.now))) }
+    ensures variables { OnOk result (variables.new ≡ with_names variables.old (variable_name (sign_of kind.now))) }
+    ensures room { OnOk result ((length atoms.new < 2 ^ 32) × (length variables.new < 2 ^ 32)) }
+    ensures err { IfErr result (λ e. e ≡ Memory) }
+{
+    match kind {
+        Kind::Integer(n) => Ok(Sign::Integer(*n)),
+        Kind::Atom(name) => {
+            let number = number_of(alloc, atoms, name)?;
+            Ok(Sign::Atom(number))
+        }
+        Kind::Variable(name) => {
+            let number = number_of(alloc, variables, name)?;
+            Ok(Sign::Variable(number))
+        }
+        Kind::Anonymous => Ok(Sign::Anonymous),
+        Kind::Text(_) => Ok(Sign::Text),
+        Kind::Module => Ok(Sign::OwnModule),
+        Kind::Dot => Ok(Sign::Dot),
+        Kind::Mark(mark) => Ok(Sign::Mark(*mark)),
+        Kind::Reserved(word) => Ok(Sign::Reserved(*word)),
+    }
+}
+
+/// The offset of a token. A source that has one of 2^32 or more is no source that fits memory.
+fn offset_of(start: usize) -> Result<u32, ReadFault>
+    ensures same { IfOk result (λ at. at ≡ start) }
+    ensures err { IfErr result (λ e. e ≡ Memory) }
+{
+    match u32::try_from(start) {
+        Ok(at) => Ok(at),
+        Err(_) => Err(ReadFault::Memory),
+    }
+}
+
+/// The atoms of the tokens, and the tokens with numbers for their names. It fails by want of memory alone.
+pub(crate) fn number_tokens(
+    alloc: Global,
+    tokens: &[Token],
+) -> Result<(AtomTable, Vec<Tok>), ReadFault>
+    ensures atoms { IfOk result (λ x. x.0 ≡ atoms_of (map placed_of tokens.now)) }
+    ensures toks { IfOk result (λ x. toks x.1.items ≡ numbered (map placed_of tokens.now)) }
+    ensures err { IfErr result (λ e. e ≡ Memory) }
+{
+    let mut atoms = AtomTable::new(alloc)?;
+    let mut variables = AtomTable::new(alloc)?;
+    let mut found = Vec::new(alloc);
+    for token in tokens {
+        let sign = number_sign(alloc, &mut atoms, &mut variables, &token.kind)?;
+        let at = offset_of(token.start)?;
+        found.push(Tok { sign, at })?;
+    }
+    Ok((atoms, found))
+}

@@ -1,0 +1,104 @@
+//! Reads the tokens of a source.
+
+ghost use Rattle.std.specs.Prelude.{◌≡◌, map, option_map, IfErr, IfOk, None};
+ghost use Rattle.pf_tokens.specs.Signs.{placed_of};
+ghost use Rattle.pf_reader.specs.Sign.{atoms_of, numbered};
+ghost use Rattle.pf_reader.specs.Grammar.{tree_of, DerivesTree, Tree};
+ghost use Rattle.pf_reader.specs.Parse.{any_atom, begins, tree};
+ghost use Rattle.pf_reader.specs.View.{toks};
+ghost use Rattle.pf_reader.specs.Given.{Gives};
+ghost use Rattle.pf_reader.specs.Outcome.{IsReadAs, IsTreeFault};
+
+use crate::export::read_exports;
+use crate::fault::{ReadFault, TreeFault};
+use crate::function::read_functions;
+use crate::number::number_tokens;
+use crate::place::fault_place;
+use crate::sign::{Sign, Tok};
+use crate::token::{Context, skip, skip_word};
+use pf_syntax::Source;
+use pf_terms::{AtomId, AtomTable};
+use pf_tokens::{Mark, Token};
+use std::alloc::Global;
+
+/// A module as it is read: its source, and the names of its atoms by number.
+#[derive(Drop)]
+pub struct ReadModule {
+    pub source: Source,
+    pub atoms: AtomTable,
+}
+
+/// The atom that stands first, whose name may have any length, and what follows it.
+fn any_atom(tokens: &[Tok]) -> Option<(AtomId, &[Tok])>
+    ensures { option_map (λ x. (x.0.0, toks x.1.now)) result ≡ any_atom (toks tokens.now) }
+{
+    let (first, rest) = tokens.split_first()?;
+    match first.sign {
+        Sign::Atom(atom) => Some((atom, rest)),
+        _ => None,
+    }
+}
+
+/// The module's name, where the first form stands first, and what follows that.
+fn first_form<'a>(atoms: &AtomTable, tokens: &'a [Tok]) -> Option<(AtomId, &'a [Tok])>
+    ensures { option_map (λ x. (x.0.0, toks x.1.now)) result ≡ begins atoms.now (toks tokens.now) }
+{
+    let rest = skip(tokens, Sign::Mark(Mark::Minus))?;
+    let rest = skip_word(atoms, b"module", rest)?;
+    let rest = skip(rest, Sign::Mark(Mark::OpenParenthesis))?;
+    let (name, rest) = any_atom(rest)?;
+    let rest = skip(rest, Sign::Mark(Mark::CloseParenthesis))?;
+    let rest = skip(rest, Sign::Dot)?;
+    Some((name, rest))
+}
+
+/// The module of these tokens, whose atoms have these names.
+fn read_module(alloc: Global, atoms: &AtomTable, tokens: &[Tok]) -> Result<Source, ReadFault>
+    ensures { Gives tree_of result (tree atoms.now (toks tokens.now)) }
+{
+    let Some((own, rest)) = first_form(atoms, tokens) else {
+        return Err(ReadFault::Syntax);
+    };
+    let context = Context { atoms, own };
+    let mut source = Source::new(alloc, own);
+    let rest = read_exports(alloc, context, &mut source, rest)?;
+    read_functions(alloc, context, &mut source, rest)?;
+    if atoms.name(own).len() > 255 {
+        return Err(ReadFault::Syntax);
+    }
+    Ok(source)
+}
+
+/// Why tokens that aren't a module have no tree.
+fn tree_fault(alloc: Global, atoms: &AtomTable, tokens: &[Tok]) -> TreeFault
+    requires { tree atoms.now (toks tokens.now) ≡ None }
+    ensures { IsTreeFault atoms.now (toks tokens.now) result }
+{
+    if first_form(atoms, tokens).is_none() {
+        return TreeFault::NoHead;
+    }
+    match fault_place(alloc, atoms, tokens) {
+        Ok(place) => TreeFault::NotGrammar(place),
+        Err(_) => TreeFault::Memory,
+    }
+}
+
+/// The module that the tokens of a source are.
+pub fn read_tree(alloc: Global, tokens: &[Token]) -> Result<ReadModule, TreeFault>
+    ensures found { IfOk result (λ t. DerivesTree (atoms_of (map placed_of tokens.now)) (tree_of t.source) (numbered (map placed_of tokens.now))) }
+    ensures atoms { IfOk result (λ t. t.atoms ≡ atoms_of (map placed_of tokens.now)) }
+
+    // What derives the tokens is read, unless memory runs out.
+    ensures only { (m : Tree) → DerivesTree (atoms_of (map placed_of tokens.now)) m (numbered (map placed_of tokens.now)) → IsReadAs m result }
+    ensures fault { IfErr result (IsTreeFault (atoms_of (map placed_of tokens.now)) (numbered (map placed_of tokens.now))) }
+{
+    let (atoms, found) = match number_tokens(alloc, tokens) {
+        Ok(numbered) => numbered,
+        Err(_) => return Err(TreeFault::Memory),
+    };
+    match read_module(alloc, &atoms, &found) {
+        Ok(source) => Ok(ReadModule { source, atoms }),
+        Err(ReadFault::Memory) => Err(TreeFault::Memory),
+        Err(ReadFault::Syntax) => Err(tree_fault(alloc, &atoms, &found)),
+    }
+}

@@ -1,0 +1,116 @@
+//! Whole runs: their texts and statuses, and what is left where a call of an end fails.
+
+use crate::pipes::{Failing, NONE, run};
+use pf_command::RunFault;
+
+const WORDS: [&str; 8] = [
+    "pulsefarm",
+    "run",
+    "--root",
+    "main",
+    "--limit",
+    "1000",
+    "--schedule",
+    "none",
+];
+
+const SUM: &[u8] = b"-module(m).\n-export([main/0]).\nmain() -> 1 + 2 * 3.\n";
+
+const SUM_REPORT: &[u8] = b"0/1 <0> end normal\nfinished 7\nsteps 4\nproperty holds\n";
+
+const ENDLESS: &[u8] = b"-module(m).\n-export([main/0]).\nmain() -> main().\n";
+
+const ENDLESS_REPORT: &[u8] = b"0/1 <0> cut\nlimit\nsteps 100\nproperty fails\n";
+
+#[test]
+fn texts_and_statuses(rt: HostRuntime) {
+    for (root, limit, source, text, status) in [
+        ("main", "1000", SUM, SUM_REPORT, 0),
+        ("main", "100", ENDLESS, ENDLESS_REPORT, 1),
+        ("main", "1000", b"", b"E4 at 0\n", 2),
+        ("other", "1000", SUM, b"B2\n", 2),
+        ("other", "0", SUM, b"B2\n", 2),
+        ("main", "0", SUM, b"B6\n", 2),
+        ("main", "100000", SUM, SUM_REPORT, 0),
+        ("main", "100001", SUM, b"B6\n", 2),
+    ] {
+        let words = [
+            "pulsefarm",
+            "run",
+            "--root",
+            root,
+            "--limit",
+            limit,
+            "--schedule",
+            "none",
+        ];
+        let ran = run(rt.alloc(), &words, source, NONE);
+        assert_eq!(rt; ran.out.as_slice(), text, "--root {root} --limit {limit}");
+        assert!(rt;
+            matches!(ran.answer, Ok(given) if given == status),
+            "--root {root} --limit {limit}"
+        );
+    }
+}
+
+#[test]
+fn words_without_a_run_touch_no_end(rt: HostRuntime) {
+    for (last, status) in [
+        ("--help", 0),
+        ("--version", 0),
+        ("--limit=+5", 2),
+        ("--seed=7", 2),
+    ] {
+        let words = ["pulsefarm", last];
+        let failing = Failing { read: 1, write: 1 };
+        let ran = run(rt.alloc(), &words, SUM, failing);
+        assert!(rt;
+            matches!(ran.answer, Ok(given) if given == status),
+            "{last}"
+        );
+        assert!(rt; ran.out.is_empty(), "{last}");
+    }
+}
+
+#[test]
+fn a_reader_that_fails_leaves_nothing(rt: HostRuntime) {
+    let mut failed = 0u64;
+    for k in 1..1000u64 {
+        let ran = run(rt.alloc(), &WORDS, SUM, Failing { read: k, write: 0 });
+        match ran.answer {
+            Err(RunFault::Read(_)) => {
+                assert!(rt; ran.out.is_empty(), "call {k}");
+                failed = k;
+            }
+            answer => {
+                assert!(rt; matches!(answer, Ok(0)), "call {k}");
+                assert_eq!(rt; ran.out.as_slice(), SUM_REPORT, "call {k}");
+                break;
+            }
+        }
+    }
+    // One call gives the whole source, and one its end.
+    assert_eq!(rt; failed, 2);
+}
+
+#[test]
+fn a_writer_that_fails_leaves_a_beginning(rt: HostRuntime) {
+    let mut failed = 0u64;
+    for k in 1..1000u64 {
+        let ran = run(rt.alloc(), &WORDS, SUM, Failing { read: 0, write: k });
+        match ran.answer {
+            Err(RunFault::Write(_)) => {
+                assert!(rt; SUM_REPORT.starts_with(&ran.out), "call {k}");
+                assert_eq!(rt; ran.out.len() as u64, 7 * (k - 1), "call {k}");
+                failed = k;
+            }
+            answer => {
+                assert!(rt; matches!(answer, Ok(0)), "call {k}");
+                assert_eq!(rt; ran.out.as_slice(), SUM_REPORT, "call {k}");
+                break;
+            }
+        }
+    }
+    // Its 53 bytes go out by 7 bytes a call.
+    assert_eq!(rt; failed, 8);
+}

@@ -1,0 +1,151 @@
+//! The texts of words that ask for no run.
+
+use pf_command::{read_words, status_of_kind};
+use std::test::Fail;
+
+const HELP: &str = "Tests Erlang programs for races
+
+Usage: pulsefarm <COMMAND>
+
+Commands:
+  run  Runs a module of one process and reports each of its turns
+
+Options:
+  -h, --help     Print help
+  -V, --version  Print version
+";
+
+const RUN_HELP: &str = "Runs a module of one process and reports each of its turns
+
+Usage: pulsefarm run --root <F> --limit <N> --schedule <L> [FILE]
+
+Arguments:
+  [FILE]  File of the module's source, at most 65,536 bytes [default: standard input]
+
+Options:
+      --root <F>      Name of the function that runs first, exported and without arguments
+      --limit <N>     Most steps of the run, from 1 to 100,000
+      --schedule <L>  Scheduler's numbers, each from 0 to 4294967295, at most 100,000 with commas between them, or `none`
+  -h, --help          Print help
+";
+
+const MISSING: &str = "error: the following required arguments were not provided:
+  --schedule <L>
+
+Usage: pulsefarm run --root <F> --limit <N> --schedule <L> [FILE]
+
+For more information, try '--help'.
+";
+
+const LIMIT: &str = "error: --limit wants a number of steps from 1 to 100000, without leading zeros
+
+Usage: pulsefarm <COMMAND>
+
+For more information, try '--help'.
+";
+
+const SCHEDULE: &str =
+    "error: --schedule wants `none`, or numbers from 0 to 4294967295 with commas between them
+
+Usage: pulsefarm <COMMAND>
+
+For more information, try '--help'.
+";
+
+#[test]
+fn texts_of_words(rt: HostRuntime) -> Result<(), Fail> {
+    let alloc = rt.alloc();
+    let cases: [(&[&str], &str, u8); 8] = [
+        (&["pulsefarm", "--help"], HELP, 0),
+        (&["pulsefarm", "run", "--help"], RUN_HELP, 0),
+        (&["pulsefarm", "--version"], "pulsefarm 0.1.0\n", 0),
+        (
+            &["pulsefarm", "run", "--root=main", "--limit=5"],
+            MISSING,
+            2,
+        ),
+        (
+            &[
+                "pulsefarm",
+                "run",
+                "--root=main",
+                "--limit=007",
+                "--schedule=none",
+            ],
+            LIMIT,
+            2,
+        ),
+        (
+            &[
+                "pulsefarm",
+                "run",
+                "--root=main",
+                "--limit=+5",
+                "--schedule=none",
+            ],
+            LIMIT,
+            2,
+        ),
+        (
+            &[
+                "pulsefarm",
+                "run",
+                "--root=main",
+                "--limit=5",
+                "--schedule=",
+            ],
+            SCHEDULE,
+            2,
+        ),
+        (
+            &[
+                "pulsefarm",
+                "run",
+                "--root=main",
+                "--limit=5",
+                "--schedule=1,02",
+            ],
+            SCHEDULE,
+            2,
+        ),
+    ];
+    for (words, text, status) in cases {
+        match read_words(alloc, words) {
+            Ok(_) => assert!(rt; false),
+            Err(error) => {
+                let shown = error.to_string(alloc)?;
+                assert_eq!(rt; shown.as_str(), text);
+                assert_eq!(rt; status_of_kind(error.kind()), status);
+            }
+        }
+    }
+    Ok(())
+}
+
+#[test]
+fn values_of_words(rt: HostRuntime) {
+    for (schedule, numbers) in [
+        ("none", [].as_slice()),
+        ("0", [0].as_slice()),
+        ("7,0,4294967295", [7, 0, 4294967295].as_slice()),
+    ] {
+        let words = [
+            "pulsefarm",
+            "run",
+            "a.erl",
+            "--root=main",
+            "--limit=0",
+            "--schedule",
+            schedule,
+        ];
+        match read_words(rt.alloc(), &words) {
+            Ok(asked) => {
+                assert_eq!(rt; asked.file, Some("a.erl"));
+                assert_eq!(rt; asked.root, "main");
+                assert_eq!(rt; asked.limit, 0);
+                assert_eq!(rt; asked.schedule.as_slice(), numbers);
+            }
+            Err(_) => assert!(rt; false, "{schedule}"),
+        }
+    }
+}
