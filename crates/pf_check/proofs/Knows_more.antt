@@ -6,11 +6,7 @@ use Rattle.std.proofs.lemmas.List.{take_more}
 use Rattle.std.proofs.lemmas.Iterator.Adapters.{position_from-zero}
 use Rattle.std.proofs.lemmas.Bool.Decides.{nat_tests}
 use Rattle.pf_syntax.specs.Source.{Book, Head}
-use Rattle.std.specs.List.{list_any}
-use Rattle.std.specs.Prelude.{◌==◌, ◌||◌}
-use Rattle.pf_syntax.specs.SourceOver.{shapes_at, head_over, heads_over, export_of}
-use Rattle.pf_syntax.specs.declared.written.Export.{Export as ExportNode}
-use Rattle.pf_check.specs.Checks.{is_exported}
+use Rattle.pf_syntax.specs.SourceOver.{shapes_at, head_over, heads_over}
 use Rattle.pf_syntax.specs.declared.written.ShapeId.{ShapeId}
 use Rattle.pf_syntax.specs.declared.written.Head.{Head as HeadNode}
 use Rattle.pf_syntax.specs.declared.written.WrittenFunction.{WrittenFunction}
@@ -102,8 +98,3 @@ unnamed b f a (x ∷ hs) e = cc
 pub first_is : {X : Type 0} (xs : List X) (x : X) → Some x ≡ slice_get xs 0 → xs ≡ x ∷ drop 1 xs
 first_is [] x e = cc
 first_is (y ∷ xs) x e = let same : x ≡ y = cc in ap (λ z. z ∷ xs) (sym same)
-
--- an export by its node
-pub exported_map : (f a : ℕ) (es : List ExportNode) → list_any (λ e. (e.word.name.0 == f) && (e.arity == a)) es ≡ is_exported (map export_of es) f a
-exported_map f a [] = refl
-exported_map f a (e ∷ es) = ap (λ b. ((e.word.name.0 == f) && (e.arity == a)) || b) (exported_map f a es)

@@ -1,12 +1,12 @@
 -- The checked module of a module without faults: each name is a place or a number.
 use Rattle.std.specs.Prelude.{◌≡◌, ℕ, Bool, ◌==◌, ◌&&◌, List, [], ◌∷◌}
 use Rattle.std.specs.List.{list_any}
-use Rattle.pf_syntax.specs.Tree.{Function, FunctionClause}
+use Rattle.pf_syntax.specs.Tree.{Function}
 use Rattle.pf_syntax.specs.Module.{Checked}
 use Rattle.pf_syntax.specs.Source.{Export, Head}
 use Rattle.pf_syntax.specs.Naming.{Names, HeadIs}
 use Rattle.pf_reader.specs.Grammar.{Tree}
-use Rattle.pf_check.specs.Static.{is_named, parameters_of, names_of}
+use Rattle.pf_check.specs.Static.{parameters_of, names_of}
 
 -- two lists of the same length, each item of one to its item of the other
 abbrev pub Pairwise : {A B : Type 0} → (A → B → Type 0) → List A → List B → Type 0

@@ -1,7 +1,8 @@
--- The functions that are kept by name and number of arguments, against those of a module.
+-- The functions that are kept by name and number of arguments, against those that a module defines and exports.
 use Rattle.std.specs.Prelude.{◌≡◌, ℕ, Bool, ◌==◌, ◌&&◌, ◌||◌, is_some, List, [], ◌∷◌, ◌++◌}
 use Rattle.std.specs.List.{list_any}
-use Rattle.pf_syntax.specs.Source.{Head}
+use Rattle.pf_syntax.specs.Source.{Export, Head}
+use Rattle.pf_check.specs.Checks.{is_exported}
 use Rattle.pf_check.specs.Static.{Fault, fault_if, own_in, is_builtin, parameters_of}
 use Rattle.pf_check.specs.Earliest.{earliest, kept}
 use Rattle.pf_check.specs.declared.first.First.{First}
@@ -14,6 +15,10 @@ lists o f arity = list_any (λ k. (f == k.name) && (arity == k.arity)) o.signatu
 -- those of these functions are kept, and no others
 pub record Lists (o : Signatures) (fs : List (List Head)) : Type 0 where
   pub same : (f arity : ℕ) → lists o f arity ≡ is_some (own_in fs f arity)
+
+-- the exported functions are kept, and no others
+abbrev pub Exports : Signatures → List Export → Type 0
+Exports exported es = (f arity : ℕ) → lists exported f arity ≡ is_exported es f arity
 
 -- the fault of a function that is defined behind these
 abbrev pub defined_fault : List (List ℕ) → List (List Head) → List Head → List Fault

@@ -8,12 +8,14 @@ ghost use Rattle.pf_check.specs.Checks.{IsModule};
 ghost use Rattle.pf_check.specs.Formed.{AreFormed};
 ghost use Rattle.pf_check.specs.Heads.{FunctionMeans, HeadMeans, HeadsMean};
 ghost use Rattle.pf_check.specs.Knows.{Knows};
+ghost use Rattle.pf_check.specs.Listing.{Exports};
 ghost use Rattle.pf_check.specs.Static.{faults_of};
 
 use crate::expressions::{body, guard};
-use crate::own::{Own, is_exported};
+use crate::own::{Own, exports_of};
 use crate::patterns::patterns;
 use crate::places::Places;
+use crate::signatures::Signatures;
 use pf_syntax::{Function, FunctionClause, Head, Module, Source, WrittenFunction};
 use pf_terms::{AtomId, AtomTable, NoMemory};
 use std::alloc::Global;
@@ -69,11 +71,13 @@ fn function(
     alloc: Global,
     source: &Source,
     own: &Own,
+    exported: &Signatures,
     places: &mut Places,
     module: &mut Module,
     written: &WrittenFunction,
 ) -> Result<Function, NoMemory>
     requires knows { Knows own.now source.now.functions }
+    requires exports { Exports exported.now source.now.exports }
     requires none_bound { places.old ≡ [] }
     ensures { IfOk result (λ f. Did module.old module.new places.new []
         (λ t. FunctionMeans source.now.functions source.now.exports t (heads_over source.now.book written.now) f)) }
@@ -94,7 +98,7 @@ fn function(
             Ok(Function {
                 name: head.word.name,
                 arity,
-                exported: is_exported(source, head.word.name, count as u64),
+                exported: exported.has(head.word.name, count as u64),
                 clauses,
             })
         }
@@ -110,10 +114,19 @@ pub(crate) fn module_of(
     ensures { IfOk result (λ m. faults_of atoms (tree_of source.now) ≡ [] → AreFormed source.now.functions → IsModule atoms (tree_of source.now) m) }
 {
     let own = Own::new(alloc, source)?;
+    let exported = exports_of(alloc, source)?;
     let mut places = Places::new(alloc);
     let mut module = Module::new(alloc, source.name(), atoms);
     for written in source.functions() {
-        let one = function(alloc, source, &own, &mut places, &mut module, written)?;
+        let one = function(
+            alloc,
+            source,
+            &own,
+            &exported,
+            &mut places,
+            &mut module,
+            written,
+        )?;
         module.add_function(one)?;
     }
     Ok(module)

@@ -1,17 +1,17 @@
 //! The functions of a module by name and number of arguments, and those that it exports.
 
-ghost use Rattle.std.specs.Prelude.{◌≡◌, ◌==◌, ◌&&◌, ℕ, if◌then◌else◌, IfOk, MatchOption, None, OnOk, Some};
-ghost use Rattle.std.specs.List.{list_any};
+ghost use Rattle.std.specs.Prelude.{◌≡◌, ℕ, if◌then◌else◌, IfOk, MatchOption, None, OnOk, Some};
 ghost use Rattle.indexmap.specs.IndexMap.{get};
-ghost use Rattle.pf_check.specs.Checks as checks;
 ghost use Rattle.pf_check.specs.Static.{is_named, own_in};
 ghost use Rattle.pf_syntax.specs.Source.{Book};
 ghost use Rattle.pf_syntax.specs.SourceOver.{heads_over};
 ghost use Rattle.pf_check.specs.Knows.{same_key, Knows};
 ghost use Rattle.pf_check.specs.Heads.{first_of};
+ghost use Rattle.pf_check.specs.Listing.{Exports};
 
+use crate::signatures::Signatures;
 use indexmap::IndexMap;
-use pf_syntax::{Export, FunctionId, Source, WrittenFunction};
+use pf_syntax::{FunctionId, Source, WrittenFunction};
 use pf_terms::{AtomId, NoMemory};
 use std::alloc::Global;
 
@@ -72,18 +72,13 @@ impl Own {
     }
 }
 
-/// Whether an entry has this name and number of arguments.
-fn has_entry(exports: &[Export], name: AtomId, arity: u64) -> bool
-    ensures { result ≡ list_any (λ e. (e.word.name.0 == name.0) && (e.arity == arity)) exports.now }
+/// The functions that a source exports.
+pub(crate) fn exports_of(alloc: Global, source: &Source) -> Result<Signatures, NoMemory>
+    ensures { IfOk result (λ exported. Exports exported source.now.exports) }
 {
-    exports
-        .iter()
-        .any(|e| e.word.name == name && e.arity == arity)
-}
-
-/// Whether a function of this name with so many arguments is exported.
-pub(crate) fn is_exported(source: &Source, name: AtomId, arity: u64) -> bool
-    ensures { result ≡ checks.is_exported source.now.exports name.0 arity }
-{
-    has_entry(source.exports(), name, arity)
+    let mut exported = Signatures::new(alloc);
+    for export in source.exports() {
+        exported.add(export.word.name, export.arity)?;
+    }
+    Ok(exported)
 }

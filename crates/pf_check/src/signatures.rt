@@ -1,4 +1,4 @@
-//! The functions that a module defines, by name and number of arguments.
+//! Names of functions with numbers of arguments: those that a module defines, and those that it exports.
 
 ghost use Rattle.std.specs.Prelude.{◌≡◌, ℕ, false, ◌||◌, ◌==◌, ◌&&◌, not, IfOk, OnOk};
 ghost use Rattle.pf_check.specs.Listing.{lists};
@@ -14,7 +14,7 @@ struct Signature {
     arity: u64,
 }
 
-/// The functions that a module defines.
+/// A set of names with numbers of arguments, for the functions that a module defines and for those that it exports.
 #[derive(Drop)]
 pub(crate) struct Signatures {
     signatures: IndexSet<Signature>,

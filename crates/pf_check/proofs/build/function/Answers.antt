@@ -19,5 +19,5 @@ returns-in-Ok c =
     let counted : c.len-count.result ≡ length h.parameters.items = search rules in
     function_done fs b c.args.source.now.exports c.args.module.now c.clauses.new.module c.clauses.new.places (map (head_over b) hs) (head_over b h) (map (head_over b) (drop 1 hs)) _
     (ap (map (head_over b)) (first_is hs h (c.in-Some.ensures.value ∙ ap (λ l. slice_get l 0) c.deref.ensures.value)))
-    refl (short ∙ sym count) (c.is_exported.ensures ∙ ap (is_exported c.args.source.now.exports h.word.name.0) (counted ∙ sym count))
+    refl (short ∙ sym count) (c.has.ensures ∙ c.requires.exports h.word.name.0 c.len-count.result ∙ ap (is_exported c.args.source.now.exports h.word.name.0) (counted ∙ sym count))
     (subst (λ l. Did c.args.module.now c.clauses.new.module c.clauses.new.places [] (λ u. HeadsMean fs u (map (head_over b) l) c.in_ok-clauses.clauses.items)) c.as_slice.ensures.value c.in_ok-clauses.ensures)
