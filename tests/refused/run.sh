@@ -20,11 +20,13 @@ failure() {
 
 # Builds the program of the crate, where the gate has not left it.
 built() {
-  (cd "$top/crates/$1" && rt run) > "$room/build.log" 2>&1 || { tail -n 20 "$room/build.log"; exit 1; }
   crate="$top/crates/$1"
   program="$crate/out/$1"
   tr '\n' ' ' < "$crate/args" > "$room/words" 2> /dev/null || : > "$room/words"
-  [ -e "$crate/stdin" ] && cp "$crate/stdin" "$room/in" || : > "$room/in"
+  if [ -e "$crate/stdin" ]; then cp "$crate/stdin" "$room/in"; else : > "$room/in"; fi
+  # The words have no blanks in them.
+  # shellcheck disable=SC2046
+  (cd "$crate" && rt run -- $(cat "$room/words") < "$room/in") > "$room/build.log" 2>&1 || { tail -n 20 "$room/build.log"; exit 1; }
 }
 
 # Runs the program with growth number $1 refused; none is where it is 0.
