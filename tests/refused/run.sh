@@ -24,9 +24,10 @@ built() {
   program="$crate/out/$1"
   tr '\n' ' ' < "$crate/args" > "$room/words" 2> /dev/null || : > "$room/words"
   if [ -e "$crate/stdin" ]; then cp "$crate/stdin" "$room/in"; else : > "$room/in"; fi
+  words=$(cat "$room/words")
   # The words have no blanks in them.
-  # shellcheck disable=SC2046
-  (cd "$crate" && rt run -- $(cat "$room/words") < "$room/in") > "$room/build.log" 2>&1 || { tail -n 20 "$room/build.log"; exit 1; }
+  # shellcheck disable=SC2086
+  (cd "$crate" && rt run ${words:+-- $words} < "$room/in") > "$room/build.log" 2>&1 || { tail -n 20 "$room/build.log"; exit 1; }
 }
 
 # Runs the program with growth number $1 refused; none is where it is 0.
