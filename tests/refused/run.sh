@@ -22,7 +22,7 @@ failure() {
 built() {
   crate="$top/crates/$1"
   program="$crate/out/$1"
-  tr '\n' ' ' < "$crate/args" > "$room/words" 2> /dev/null || : > "$room/words"
+  if [ -e "$crate/args" ]; then tr '\n' ' ' < "$crate/args" > "$room/words"; else : > "$room/words"; fi
   if [ -e "$crate/stdin" ]; then cp "$crate/stdin" "$room/in"; else : > "$room/in"; fi
   words=$(cat "$room/words")
   # The words have no blanks in them.
