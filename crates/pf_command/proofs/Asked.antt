@@ -1,11 +1,11 @@
 -- What a parse says of what the words ask for.
-use Rattle.std.proofs.Common.{◌≡◌, List, [], ◌∷◌, Option, Some, None, refl, sym, ap, inl, inr, ◌∙◌}
-use Rattle.std.specs.Prelude.{◌⊎◌, option_map, codes}
+use Rattle.std.proofs.Common.{◌≡◌, List, [], ◌∷◌, Option, Some, None, refl, ap, inl, inr, ◌∙◌}
+use Rattle.std.specs.Prelude.{◌⊎◌, codes}
 use Rattle.clap.specs.Words.{Text, Row, Kinds, HasKind, IsAmong, fault_of, first_of, subcommand_of, kind_of}
 use Rattle.clap.specs.declared.error.Error.{Error}
 use Rattle.clap.specs.declared.error.kind.ErrorKind.{ErrorKind}
 use Rattle.clap.specs.declared.error.kind.ErrorKind.TheVariants as kind
-use Rattle.pf_command.specs.Words.{IsFaultOf, pulsefarm, run_of, asked, unless_refused, request_of, file_of}
+use Rattle.pf_command.specs.Words.{IsFaultOf, pulsefarm, steps, of_command, asked, unless_refused, wanted_of, file_of, words_status}
 
 refused : {T : Type 0} (kinds : Kinds) (k : ErrorKind) (r : Option T) → IsAmong k kinds → unless_refused kinds r ≡ None
 refused [] k r h = absurd h
@@ -13,38 +13,37 @@ refused (x ∷ xs) k r h = refl
 
 -- a kind that a parse finds is a fault of the words
 pub words_refused : (words : List Text) (e : Error) → HasKind (fault_of pulsefarm words) e → (kind_of e ≡ kind.OutOfMemory) ⊎ IsFaultOf (kind_of e) words
-unfolding request_of
+unfolding wanted_of
 words_refused words e (inl h) = inl h
-words_refused words e (inr h) = inr (refused (fault_of pulsefarm words) (kind_of e) (asked run_of (subcommand_of pulsefarm words)) h, inl h)
-
-none_asked : {T : Type 0} (kinds : Kinds) (read : List Row → Option T) (s : Option (Text × List Row)) → None ≡ option_map (λ p. p.1) s → unless_refused kinds (asked read s) ≡ None
-none_asked [] read None e = refl
-none_asked [] read (Some p) e = absurd cc
-none_asked (k ∷ ks) read s e = refl
-
--- without a command nothing is asked for
-pub words_none : (words : List Text) → None ≡ option_map (λ p. p.1) (subcommand_of pulsefarm words) → request_of words ≡ None
-unfolding request_of
-words_none words e = none_asked (fault_of pulsefarm words) run_of (subcommand_of pulsefarm words) e
-
-rows_asked : {T : Type 0} (read : List Row → Option T) (s : Option (Text × List Row)) (rows : List Row) → Some rows ≡ option_map (λ p. p.1) s → asked read s ≡ read rows
-rows_asked read None rows e = absurd cc
-rows_asked read (Some p) rows e = let same : rows ≡ p.1 = cc in ap read (sym same)
+words_refused words e (inr h) = inr (refused (fault_of pulsefarm words) (kind_of e) (asked of_command (subcommand_of pulsefarm words)) h, inl h)
 
 unrefused : {T : Type 0} (kinds : Kinds) (r : Option T) → kinds ≡ [] → unless_refused kinds r ≡ r
 unrefused [] r e = refl
 unrefused (x ∷ xs) r e = absurd cc
 
--- with a command the values of its options are what is asked for
-pub words_run : (words : List Text) (rows : List Row) → fault_of pulsefarm words ≡ [] → Some rows ≡ option_map (λ p. p.1) (subcommand_of pulsefarm words) → request_of words ≡ run_of rows
-unfolding request_of
-words_run words rows k e =
-    unrefused (fault_of pulsefarm words) (asked run_of (subcommand_of pulsefarm words)) k ∙ rows_asked run_of (subcommand_of pulsefarm words) rows e
+-- without a command nothing is asked for
+pub words_none : (words : List Text) → fault_of pulsefarm words ≡ [] → subcommand_of pulsefarm words ≡ None → wanted_of words ≡ None
+unfolding wanted_of
+words_none words k e = unrefused (fault_of pulsefarm words) (asked of_command (subcommand_of pulsefarm words)) k ∙ ap (asked of_command) e
 
-pub words_file : (words : List Text) (rows : List Row) → Some rows ≡ option_map (λ p. p.1) (subcommand_of pulsefarm words) → file_of words ≡ first_of (codes "file") rows
+-- with a command the values of its options say what is asked for
+pub words_wanted : (words : List Text) (name : Text) (rows : List Row) → fault_of pulsefarm words ≡ [] → subcommand_of pulsefarm words ≡ Some (name, rows) → wanted_of words ≡ of_command name rows
+unfolding wanted_of
+words_wanted words name rows k e = unrefused (fault_of pulsefarm words) (asked of_command (subcommand_of pulsefarm words)) k ∙ ap (asked of_command) e
+
+pub words_file : (words : List Text) (name : Text) (rows : List Row) → subcommand_of pulsefarm words ≡ Some (name, rows) → file_of words ≡ first_of (codes "file") rows
 unfolding file_of
-words_file words rows e = rows_asked (first_of (codes "file")) (subcommand_of pulsefarm words) rows e
+words_file words name rows e = ap (asked (λ (n : Text). first_of (codes "file"))) e
 
--- a value that is no number or no schedule
-pub values_refused : (words : List Text) (k : ErrorKind) → request_of words ≡ None → fault_of pulsefarm words ≡ [] → k ≡ kind.InvalidValue → IsFaultOf k words
+-- a value that is no number or no schedule, or no command
+pub values_refused : (words : List Text) (k : ErrorKind) → wanted_of words ≡ None → fault_of pulsefarm words ≡ [] → k ≡ kind.InvalidValue → IsFaultOf k words
 values_refused words k e f h = (e, inr (f, h))
+
+some_unrefused : {T : Type 0} (kinds : Kinds) (r : Option T) (t : T) → unless_refused kinds r ≡ Some t → kinds ≡ []
+some_unrefused [] r t e = refl
+some_unrefused (x ∷ xs) r t e = absurd cc
+
+-- words that ask for steps are no fault, and have the status of words that ask for no run
+pub steps_status : (words : List Text) → wanted_of words ≡ Some steps → words_status words ≡ 2
+unfolding wanted_of words_status
+steps_status words e = rw (some_unrefused (fault_of pulsefarm words) (asked of_command (subcommand_of pulsefarm words)) steps e) refl

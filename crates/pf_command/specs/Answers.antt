@@ -1,21 +1,16 @@
 -- What a source is answered with under a request: the text that goes out and the status.
-use Rattle.std.specs.Prelude.{◌≡◌, ◌≤◌, ◌+◌, ℕ, Bool, true, if◌then◌else◌, List, length, take, Option, Some, IfSome, slice_get, codes}
+use Rattle.std.specs.Prelude.{◌≡◌, ◌≤◌, ◌+◌, ℕ, Bool, if◌then◌else◌, List, length, take, Option, None, Some, IfSome, codes}
 use Rattle.std.specs.Io.KnownBytes.{Appends, Consumes}
 use Rattle.pf_terms.specs.Atoms.{name_of}
 use Rattle.pf_terms.specs.Ends.{AppendsFront}
-use Rattle.pf_syntax.specs.Tree.{Function, Program}
-use Rattle.pf_syntax.specs.Module.{first_named}
+use Rattle.pf_syntax.specs.Tree.{Program}
 use Rattle.pf_model.specs.Meaning.{Means, Report}
+use Rattle.pf_model.specs.Root.{root_of}
 use Rattle.pf_model.specs.Text.{line, report_text, returns_holds}
 use Rattle.pf_check.specs.Reads.{Reads, accepted, refused, refusal_text}
 use Rattle.pf_command.specs.Words.{Request}
 use Rattle.pf_command.specs.declared.source.RunFault.{RunFault}
 use Rattle.pf_command.specs.declared.source.RunFault.TheVariants.{Memory, Read, Write}
-
--- function i is exported, takes no argument, and an atom with the name is its name
-abbrev pub IsRoot : List ℕ → List (List ℕ) → Program → ℕ → Type 0
-IsRoot name atoms functions i =
-    (a : ℕ) × (f : Function) × (slice_get atoms a ≡ Some name) × (first_named a 0 functions ≡ Some i) × (slice_get functions i ≡ Some f) × (f.exported ≡ true)
 
 -- a run has from 1 to 100,000 steps, and a schedule at most 100,000 numbers
 abbrev pub IsWithinBounds : Request → Type 0
@@ -31,13 +26,13 @@ pub data Answers (r : Request) (bytes : List ℕ) : List ℕ → ℕ → Type 0 
   source_refused : (number place : ℕ) → Reads bytes (refused number place) → Answers r bytes (line (refusal_text number place)) 2
   -- no exported function without arguments has the root's name
   no_root : (name : ℕ) (atoms : List (List ℕ)) (functions : Program) → Reads bytes (accepted name atoms functions)
-      → ((i : ℕ) → ¬ IsRoot r.root atoms functions i) → Answers r bytes (line (codes "B2")) 2
+      → root_of r.root atoms functions ≡ None → Answers r bytes (line (codes "B2")) 2
   -- the limit or the schedule is out of bounds
   out_of_bounds : (name : ℕ) (atoms : List (List ℕ)) (functions : Program) (i : ℕ) → Reads bytes (accepted name atoms functions)
-      → IsRoot r.root atoms functions i → ¬ IsWithinBounds r → Answers r bytes (line (codes "B6")) 2
+      → root_of r.root atoms functions ≡ Some i → ¬ IsWithinBounds r → Answers r bytes (line (codes "B6")) 2
   -- the report of the module's meaning from the call of the root
   reported : (name : ℕ) (atoms : List (List ℕ)) (functions : Program) (i : ℕ) (report : Report) → Reads bytes (accepted name atoms functions)
-      → IsRoot r.root atoms functions i → IsWithinBounds r → Means functions i r.limit report
+      → root_of r.root atoms functions ≡ Some i → IsWithinBounds r → Means functions i r.limit report
       → Answers r bytes (report_text (name_of atoms) report) (run_status (returns_holds report.outcome))
 
 -- the first 65,537 bytes of what was to be read, where it is known, are answered with the text that went out and the status

@@ -1,13 +1,14 @@
 -- What the words of the command line ask for.
-use Rattle.std.specs.Prelude.{◌≡◌, ◌⊎◌, ℕ, ◌^◌, List, [], ◌∷◌, Option, Some, None, codes, Bool, true, false, ◌&&◌, ◌==◌, not, nat_lt, if◌then◌else◌}
-use Rattle.std.specs.List.{list_all, list_any, slice_split}
+use Rattle.std.specs.Prelude.{◌≡◌, ◌⊎◌, ℕ, List, [], ◌∷◌, Option, Some, None, option_map, codes, Bool, true, false, if◌then◌else◌}
+use Rattle.std.specs.List.{list_any}
 use Rattle.std.specs.Str.{bytes_eq}
-use Rattle.pf_tokens.specs.Bytes.{is_digit}
-use Rattle.pf_tokens.specs.Signs.{decimal}
 use Rattle.clap.specs.Words.{IsAmong, App, Shape, Rule, Row, Text, new_app, new_rule, with_rule, with_subcommand, Kinds, first_of, subcommand_of, fault_of}
 use Rattle.clap.specs.declared.error.kind.ErrorKind.{ErrorKind}
 use Rattle.clap.specs.declared.error.kind.ErrorKind.TheVariants as kind
+use Rattle.pf_text.specs.Numbers.{number_of, schedule_of}
 use Rattle.pf_command.specs.declared.words.RunWords.{RunWords}
+use Rattle.pf_command.specs.declared.words.Words.{Words}
+use Rattle.pf_command.specs.declared.words.Words.TheVariants.{Run, Steps}
 
 -- ---- the words that are taken
 
@@ -24,6 +25,10 @@ abbrev pub run_app : App
 run_app =
     with_rule (with_rule (with_rule (with_rule (new_app (codes "run")) file_rule) (option_rule (codes "root"))) (option_rule (codes "limit"))) (option_rule (codes "schedule"))
 
+-- steps [FILE]
+abbrev pub steps_app : App
+steps_app = with_rule (new_app (codes "steps")) file_rule
+
 -- the program has a version, wants a command, and has no command `help`
 abbrev pub top_shape : Shape
 top_shape =
@@ -31,36 +36,7 @@ top_shape =
 
 -- the command line
 abbrev pub pulsefarm : App
-pulsefarm = with_subcommand (record (new_app (codes "pulsefarm")) { top = top_shape }) run_app.top
-
--- ---- numbers
-
--- a number is in digits, without a zero before others
-abbrev pub is_numeral : Text → Bool
-is_numeral [] = false
-is_numeral (d ∷ []) = is_digit d
-is_numeral (d ∷ e ∷ ds) = not (d == 48) && list_all is_digit (d ∷ e ∷ ds)
-
--- a value below 4,294,967,296
-abbrev pub small : ℕ → Option ℕ
-small value = if nat_lt value (2 ^ 32) then Some value else None
-
--- a number is below 4,294,967,296
-abbrev pub number_of : Text → Option ℕ
-number_of text = if is_numeral text then small (decimal text) else None
-
-abbrev pub with_number : Option ℕ → Option (List ℕ) → Option (List ℕ)
-with_number (Some n) (Some ns) = Some (n ∷ ns)
-with_number _ _ = None
-
--- the numbers of some texts, where each is one
-abbrev pub numbers_of : List Text → Option (List ℕ)
-numbers_of [] = Some []
-numbers_of (t ∷ ts) = with_number (number_of t) (numbers_of ts)
-
--- a schedule is `none`, which has no number, or numbers with commas between them
-abbrev pub schedule_of : Text → Option (List ℕ)
-schedule_of text = if bytes_eq text (codes "none") then Some [] else numbers_of (slice_split (λ b. b == 44) text)
+pulsefarm = with_subcommand (with_subcommand (record (new_app (codes "pulsefarm")) { top = top_shape }) run_app.top) steps_app.top
 
 -- ---- what is asked for
 
@@ -81,27 +57,55 @@ read_values _ _ _ = None
 abbrev pub run_of : List Row → Option Request
 run_of rows = read_values (first_of (codes "root") rows) (first_of (codes "limit") rows) (first_of (codes "schedule") rows)
 
-abbrev pub asked : {T : Type 0} → (List Row → Option T) → Option (Text × List Row) → Option T
+-- a command asks for a run, or for the steps that a file lists
+pub data Wanted : Type 0 where
+  run : Request → Wanted
+  steps : Wanted
+
+-- what the command of this name asks for by the values of its options
+abbrev pub of_command : Text → List Row → Option Wanted
+of_command name rows =
+    if bytes_eq name (codes "run") then option_map run (run_of rows)
+    else (if bytes_eq name (codes "steps") then Some steps else None)
+
+abbrev pub asked : {T : Type 0} → (Text → List Row → Option T) → Option (Text × List Row) → Option T
 asked read None = None
-asked read (Some p) = read p.1
+asked read (Some p) = read p.0 p.1
 
 abbrev pub unless_refused : {T : Type 0} → Kinds → Option T → Option T
 unless_refused [] r = r
 unless_refused (k ∷ ks) r = None
 
--- the request of the words, the first of which names the program; none where they are refused, or ask for help or the version
-unfoldable pub request_of : List Text → Option Request
-request_of words = unless_refused (fault_of pulsefarm words) (asked run_of (subcommand_of pulsefarm words))
+-- what the words ask for, the first of which names the program; nothing where they are refused, or ask for help or the version
+unfoldable pub wanted_of : List Text → Option Wanted
+wanted_of words = unless_refused (fault_of pulsefarm words) (asked of_command (subcommand_of pulsefarm words))
 
--- the file of the source; none where it is the standard input
+abbrev pub run_in : Option Wanted → Option Request
+run_in (Some (run r)) = Some r
+run_in _ = None
+
+-- the run that the words ask for, where they ask for one
+abbrev pub request_of : List Text → Option Request
+request_of words = run_in (wanted_of words)
+
+-- the file of the source or of the steps; none where it is the standard input
 unfoldable pub file_of : List Text → Option Text
-file_of words = asked (first_of (codes "file")) (subcommand_of pulsefarm words)
+file_of words = asked (λ name. first_of (codes "file")) (subcommand_of pulsefarm words)
 
 -- the request that the code's own stands for
 abbrev pub request : RunWords → Request
 request w = record { root = w.root.now; limit = w.limit; schedule = w.schedule.items }
 
--- ---- words that ask for no run
+-- and what the code's own words stand for
+abbrev pub wanted : Words → Wanted
+wanted (Run w) = run (request w)
+wanted (Steps w) = steps
+
+abbrev pub named_file : Words → Option Text
+named_file (Run w) = option_map (λ s. s.now) w.file
+named_file (Steps w) = option_map (λ s. s.now) w.file
+
+-- ---- words that ask for nothing
 
 -- the kinds that ask for a text
 abbrev pub is_shown : ErrorKind → Bool
@@ -116,7 +120,7 @@ status_of_kind k = if is_shown k then 0 else 2
 -- what the command line finds in the words, or else a value that is no number or no schedule
 abbrev pub IsFaultOf : ErrorKind → List Text → Type 0
 IsFaultOf k words =
-    (request_of words ≡ None) × (IsAmong k (fault_of pulsefarm words) ⊎ ((fault_of pulsefarm words ≡ []) × (k ≡ kind.InvalidValue)))
+    (wanted_of words ≡ None) × (IsAmong k (fault_of pulsefarm words) ⊎ ((fault_of pulsefarm words ≡ []) × (k ≡ kind.InvalidValue)))
 
 -- the status of words that ask for no run: 0 where they ask for help or the version, else 2
 unfoldable pub words_status : List Text → ℕ

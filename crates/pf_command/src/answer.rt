@@ -1,20 +1,21 @@
 //! What a source is answered with: a text and a status.
 
-ghost use Rattle.std.specs.Prelude.{◌≡◌, ◌↔◌, ◌++◌, ◌∷◌, [], ℕ, List, IfOk, IsTrue, MatchOption};
+ghost use Rattle.std.specs.Prelude.{◌≡◌, ◌↔◌, ◌++◌, ◌∷◌, [], ℕ, List, IfOk, IsTrue, Some};
+ghost use Rattle.pf_model.specs.Root.{root_of};
 ghost use Rattle.pf_model.specs.Text.{line, returns_holds};
 ghost use Rattle.pf_model.specs.Reports.{outcome_of};
 ghost use Rattle.pf_check.specs.Reads.{Reads, accepted_as, number_of, refusal_text};
 ghost use Rattle.pf_command.specs.Words.{request};
-ghost use Rattle.pf_command.specs.Answers.{Answers, IsRoot, IsWithinBounds, run_status};
+ghost use Rattle.pf_command.specs.Answers.{Answers, IsWithinBounds, run_status};
 
-use crate::report::{report_text, returns_holds};
-use crate::text::{put, put_byte};
 use crate::words::RunWords;
 use pf_check::{ReadFault, Refusal, read};
+use pf_model::find_root;
 use pf_model::report::Outcome;
 use pf_stepper::run_one;
 use pf_syntax::{FunctionId, Module};
 use pf_terms::NoMemory;
+use pf_text::{put, put_byte, put_report, returns_holds};
 use std::alloc::Global;
 use std::sync::Arc;
 
@@ -29,19 +30,6 @@ const MOST_NUMBERS: usize = 100_000;
 pub struct Answer {
     pub text: Vec<u8>,
     pub status: u8,
-}
-
-/// The function that the run begins in: an exported one of this name, without arguments.
-fn find_root(checked: &Module, name: &[u8]) -> Option<FunctionId>
-    ensures { MatchOption result ((i : ℕ) → ¬ IsRoot name.now checked.now.atoms checked.now.functions i)
-        (λ f. IsRoot name.now checked.now.atoms checked.now.functions f.0) }
-{
-    // Its contract says that no two names are the same.
-    let _names = checked.atoms().len();
-    let atom = checked.atoms().find(name)?;
-    let id = checked.find(atom, 0)?;
-    let function = checked.function(id)?;
-    if function.exported { Some(id) } else { None }
 }
 
 fn is_within_bounds(words: &RunWords) -> bool
@@ -82,12 +70,13 @@ fn report_run(
     shared: &Arc<Module>,
     root: FunctionId,
 ) -> Result<Answer, NoMemory>
-    requires root { IsRoot words.now.root.now shared.now.value.atoms shared.now.value.functions root.0 }
+    requires root { root_of words.now.root.now shared.now.value.atoms shared.now.value.functions ≡ Some root.0 }
     requires within { IsWithinBounds (request words.now) }
     ensures { IfOk result (λ a. (bytes : List ℕ) → Reads bytes (accepted_as shared.now.value) → Answers (request words.now) bytes a.text.items a.status) }
 {
     let report = run_one(alloc, shared, root, words.limit)?;
-    let text = report_text(alloc, shared.atoms(), &report)?;
+    let mut text = Vec::new(alloc);
+    put_report(alloc, &mut text, shared.atoms(), &report)?;
     let status = run_status(&report.outcome);
     Ok(Answer { text, status })
 }

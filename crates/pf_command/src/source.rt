@@ -5,7 +5,7 @@ ghost use Rattle.pf_command.specs.Words.{request_of, words_status};
 ghost use Rattle.pf_command.specs.Answers.{Answered, Leaves};
 
 use crate::answer::answer_source;
-use crate::words::{read_words, status_of_kind};
+use crate::words::{Words, read_words, status_of_kind};
 use clap::error::ErrorKind;
 use pf_terms::{Counted, EndFault, NoMemory, TakeFault};
 use std::alloc::Global;
@@ -28,6 +28,9 @@ pub enum RunFault {
 /// The most bytes that are read: one more than a source may have.
 const MOST_BYTES: usize = 65_537;
 
+/// The status of words that ask for no run, nor for help or the version.
+const REFUSED: u8 = 2;
+
 /// Answers a source under the words, the first of which names the program: reads at most 65,537 bytes, writes a text and
 /// gives the status. Words that ask for no run read and write nothing.
 pub fn run_source<R: Read, W: Write, L: Ledger, M: Ledger>(
@@ -46,7 +49,8 @@ pub fn run_source<R: Read, W: Write, L: Ledger, M: Ledger>(
         reader.old.failures.total reader.new.failures.total writer.old.failures.total writer.new.failures.total) }
 {
     let words = match read_words(alloc, words) {
-        Ok(words) => words,
+        Ok(Words::Run(words)) => words,
+        Ok(Words::Steps(_)) => return Ok(REFUSED),
         Err(error) => {
             if error.kind() == ErrorKind::OutOfMemory {
                 return Err(RunFault::Memory);

@@ -3,11 +3,11 @@
 ghost use Rattle.std.specs.Prelude.{◌≡◌, ◌⊎◌, IfOk, IfErr, map, true, false, Some, None, codes, option_map};
 ghost use Rattle.clap.specs.Words.{FailsBy, Shape, app_of, fault_of, subcommand_of, subcommand_rows_of, rule_of, new_app, kind_of, first_of, rows_of, found_of};
 ghost use Rattle.clap.specs.declared.builder.command.Command.TheViews.{out-Command};
-ghost use Rattle.pf_command.specs.Words.{IsFaultOf, file_of, file_rule, option_rule, pulsefarm, request, request_of, run_app, run_of, status_of_kind, top_shape};
+ghost use Rattle.pf_command.specs.Words.{IsFaultOf, file_of, file_rule, named_file, of_command, option_rule, pulsefarm, request, run_app, run_of, status_of_kind, steps_app, top_shape, wanted, wanted_of};
 
-use crate::numbers::{number_of, schedule_of};
 use clap::error::ErrorKind;
 use clap::{Arg, ArgMatches, Command, Error};
+use pf_text::{number_of, schedule_of};
 use std::alloc::{AllocError, Global};
 
 /// What the words of `run` ask for.
@@ -23,14 +23,38 @@ pub struct RunWords<'a> {
     pub schedule: Vec<u32>,
 }
 
+/// What the words of `steps` ask for.
+#[derive(Drop)]
+pub struct StepsWords<'a> {
+    /// The file of the commands; the standard input where there is none.
+    pub file: Option<&'a str>,
+}
+
+/// What the words ask for.
+#[derive(Drop)]
+pub enum Words<'a> {
+    Run(RunWords<'a>),
+    Steps(StepsWords<'a>),
+}
+
+impl<'a> Words<'a> {
+    /// The file that is read; the standard input where there is none.
+    pub fn file(&self) -> Option<&'a str>
+        ensures { option_map (λ s. s.now) result ≡ named_file self.now }
+    {
+        match self {
+            Words::Run(words) => words.file,
+            Words::Steps(words) => words.file,
+        }
+    }
+}
+
 /// A file that comes without a name before it.
-fn file<'a>(alloc: Global) -> Arg<'a>
+fn file<'a>(alloc: Global, help: &'a str) -> Arg<'a>
     ensures rule { rule_of result ≡ file_rule }
     ensures local { result.global ≡ false }
 {
-    Arg::new(alloc, "file").value_name("FILE").help(
-        "File of the module's source, at most 65,536 bytes [default: standard input]",
-    )
+    Arg::new(alloc, "file").value_name("FILE").help(help)
 }
 
 /// An option that must be given, with its one value.
@@ -70,24 +94,36 @@ fn schedule<'a>(alloc: Global) -> Arg<'a>
     option(alloc, "schedule", "L", help)
 }
 
-/// The command without its arguments.
-fn bare_run<'a>(alloc: Global) -> Command<'a>
-    ensures app { app_of result ≡ new_app (codes "run") }
+/// A command without its arguments.
+fn bare<'a>(alloc: Global, name: &'a str, about: &'a str) -> Command<'a>
+    ensures app { app_of result ≡ new_app name.entry.now }
     ensures local { (out-Command result).has_globals ≡ false }
 {
-    Command::new(alloc, "run").about("Runs a module of one process and reports each of its turns")
+    Command::new(alloc, name).about(about)
 }
 
 fn run_command<'a>(alloc: Global) -> Result<Command<'a>, AllocError>
     ensures app { IfOk result (λ c. app_of c ≡ run_app) }
     ensures local { IfOk result (λ c. (out-Command c).has_globals ≡ false) }
 {
-    let run = bare_run(alloc)
-        .arg(file(alloc))?
+    let about = "Runs a module of one process and reports each of its turns";
+    let source = "File of the module's source, at most 65,536 bytes [default: standard input]";
+    let run = bare(alloc, "run", about)
+        .arg(file(alloc, source))?
         .arg(root(alloc))?
         .arg(limit(alloc))?
         .arg(schedule(alloc))?;
     Ok(run)
+}
+
+fn steps_command<'a>(alloc: Global) -> Result<Command<'a>, AllocError>
+    ensures app { IfOk result (λ c. app_of c ≡ steps_app) }
+    ensures local { IfOk result (λ c. (out-Command c).has_globals ≡ false) }
+{
+    let about = "Carries out commands, one after another, and writes what each is answered";
+    let commands = "File of the commands, at most 67,108,864 bytes [default: standard input]";
+    let steps = bare(alloc, "steps", about).arg(file(alloc, commands))?;
+    Ok(steps)
 }
 
 /// The program without its commands.
@@ -105,7 +141,9 @@ fn top<'a>(alloc: Global) -> Command<'a>
 fn command<'a>(alloc: Global) -> Result<Command<'a>, AllocError>
     ensures { IfOk result (λ c. app_of c ≡ pulsefarm) }
 {
-    let whole = top(alloc).subcommand(run_command(alloc)?)?;
+    let whole = top(alloc)
+        .subcommand(run_command(alloc)?)?
+        .subcommand(steps_command(alloc)?)?;
     Ok(whole)
 }
 
@@ -159,7 +197,7 @@ fn run_words<'a>(alloc: Global, rows: &ArgMatches<'a>) -> Result<RunWords<'a>, E
             "--limit wants a number of steps from 1 to 100000, without leading zeros",
         ));
     };
-    match schedule_of(alloc, schedule) {
+    match schedule_of(alloc, schedule.as_bytes()) {
         Ok(Some(schedule)) => Ok(RunWords {
             file,
             root,
@@ -174,21 +212,49 @@ fn run_words<'a>(alloc: Global, rows: &ArgMatches<'a>) -> Result<RunWords<'a>, E
     }
 }
 
+/// The command's name and the values of its options.
+fn entered<'m, 'a>(matches: &'m ArgMatches<'a>) -> Option<(&'a str, &'m ArgMatches<'a>)>
+    ensures { option_map (λ p. (p.0.now, rows_of (found_of p.1.now))) result ≡ subcommand_rows_of matches.now }
+{
+    matches.subcommand()
+}
+
+/// What the command of this name asks for by the values of its options.
+fn command_words<'a>(alloc: Global, name: &str, rows: &ArgMatches<'a>) -> Result<Words<'a>, Error>
+    ensures ok { IfOk result (λ w. of_command name.now (rows_of (found_of rows.now)) ≡ Some (wanted w)) }
+    ensures file { IfOk result (λ w. named_file w ≡ first_of (codes "file") (rows_of (found_of rows.now))) }
+    ensures err { IfErr result (λ e. (kind_of e ≡ ErrorKind.OutOfMemory)
+        ⊎ ((kind_of e ≡ ErrorKind.InvalidValue) × (of_command name.now (rows_of (found_of rows.now)) ≡ None))) }
+{
+    if name == "run" {
+        return match run_words(alloc, rows) {
+            Ok(words) => Ok(Words::Run(words)),
+            Err(e) => Err(e),
+        };
+    }
+    if name == "steps" {
+        return Ok(Words::Steps(StepsWords {
+            file: value(rows, "file"),
+        }));
+    }
+    Err(mistake(alloc, "a command is missing"))
+}
+
 /// What the words ask for, the first of which names the program. Words that are refused or ask for help or the version
 /// are an error, which prints its text.
-pub fn read_words<'a>(alloc: Global, words: &'a [&'a str]) -> Result<RunWords<'a>, Error>
-    ensures ok { IfOk result (λ w. request_of (map (λ w. w.now) words.now) ≡ Some (request w)) }
-    ensures file { IfOk result (λ w. option_map (λ s. s.now) w.file ≡ file_of (map (λ w. w.now) words.now)) }
+pub fn read_words<'a>(alloc: Global, words: &'a [&'a str]) -> Result<Words<'a>, Error>
+    ensures ok { IfOk result (λ w. wanted_of (map (λ w. w.now) words.now) ≡ Some (wanted w)) }
+    ensures file { IfOk result (λ w. named_file w ≡ file_of (map (λ w. w.now) words.now)) }
     ensures err { IfErr result (λ e. (kind_of e ≡ ErrorKind.OutOfMemory) ⊎ IsFaultOf (kind_of e) (map (λ w. w.now) words.now)) }
 {
     let matches = match matches(alloc, words) {
         Ok(matches) => matches,
         Err(e) => return Err(e),
     };
-    let Some((_, rows)) = matches.subcommand() else {
+    let Some((name, rows)) = entered(&matches) else {
         return Err(mistake(alloc, "a command is missing"));
     };
-    match run_words(alloc, rows) {
+    match command_words(alloc, name, rows) {
         Ok(found) => Ok(found),
         Err(e) => Err(e),
     }

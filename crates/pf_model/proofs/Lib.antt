@@ -3,3 +3,5 @@ pub mod Places
 pub mod Meanings
 pub mod Lifts
 pub mod Rest
+pub mod Isolated
+pub mod Roots

@@ -17,3 +17,9 @@ pub mod PlainFunctions
 pub mod Stepped
 pub mod Reports
 pub mod Turned
+pub mod Root
+pub mod Desk
+pub mod History
+pub mod World
+pub mod Told
+pub mod DeskCode

@@ -4,6 +4,7 @@ ghost use Rattle.pf_model.specs.Fit.{FitIsRelation};
 ghost use Rattle.pf_model.specs.Place.{OnePlace};
 ghost use Rattle.pf_model.specs.Meaning.{OneMeaning};
 ghost use Rattle.pf_model.specs.Examples.{TextsOfExamples};
+ghost use Rattle.pf_model.specs.World.{Isolation};
 
 /// The function of fit answers as the relation between a pattern, a value and the variables before and after holds.
 pub fn fit_is_a_relation()
@@ -23,4 +24,10 @@ pub fn one_meaning()
 /// Worked reports have the texts that they are to have.
 pub fn texts_of_examples()
     ensures { TextsOfExamples }
+{}
+
+/// Isolation: for every list of steps, of any length, in any order and of any number of projects, a project is told what it is
+/// told alone, along its own steps.
+pub fn isolation()
+    ensures { Isolation }
 {}

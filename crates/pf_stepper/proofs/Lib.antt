@@ -3,7 +3,9 @@ pub mod FitFrom
 pub mod Parts
 pub mod Slots
 pub mod Focused
+pub mod Follows
 pub mod Given
+pub mod Passed
 pub mod Matched
 pub mod Selected
 pub mod Entered

@@ -26,7 +26,7 @@ impl Stack {
         ensures { IfOk result (λ t. Turned code.now self.old focus self.new t) }
     {
         match focus {
-            Focus::Eval(part) => self.evaluate(code, part),
+            Focus::Eval(part) => self.evaluate(alloc, code, part),
             Focus::Value(value) => self.give(alloc, code, value),
             Focus::Enter(function, count) => self.enter(code, function, count),
             Focus::Raised(reason) => Ok(Turn::Failed(reason)),

@@ -1,7 +1,8 @@
 //! What each kind of frame does with the value that it waited for. The frame has been taken off the stack.
 
 ghost use Rattle.std.specs.Prelude.{◌≡◌, IfOk};
-ghost use Rattle.pf_stepper.specs.Turns.{Gave, Holds};
+ghost use Rattle.pf_model.specs.Results.{change_of_integer};
+ghost use Rattle.pf_stepper.specs.Turns.{Gave, Holds, IsOutcome};
 ghost use Rattle.pf_stepper.specs.declared.frame.Kind.TheVariants as kind;
 
 use crate::clauses::choose;
@@ -15,8 +16,19 @@ use pf_syntax::{FunctionId, Module, NodeId, Operator, Part};
 use pf_terms::{AtomId, NoMemory, Term};
 use std::alloc::Global;
 
+/// What an operator came to.
+fn outcome(answer: Result<i64, AtomId>) -> Focus
+    ensures { IsOutcome (change_of_integer answer) result }
+{
+    match answer {
+        Ok(n) => Focus::Value(Term::Int(n)),
+        Err(reason) => Focus::Raised(Term::Atom(reason)),
+    }
+}
+
 impl Stack {
-    /// A left operand: the right one is next.
+    /// A left operand: the operator, where the right one needs no turn of its own, or the right one is next.
+    #[inline(always)]
     pub(crate) fn left_done(
         &mut self,
         code: &Module,
@@ -31,9 +43,14 @@ impl Stack {
     {
         self.env.truncate(frame.end);
         self.base = frame.base;
-        self.temps.push(value)?;
-        self.wait(Kind::BinaryRight(operator))?;
-        Ok(Turn::Same(Focus::Eval(right)))
+        match self.immediate(code, right)? {
+            Some(other) => Ok(Turn::Changed(outcome(applied(operator, &value, &other)))),
+            None => {
+                self.temps.push(value)?;
+                self.wait(Kind::BinaryRight(operator))?;
+                Ok(Turn::Same(Focus::Eval(right)))
+            }
+        }
     }
 
     /// Both operands.
@@ -49,10 +66,7 @@ impl Stack {
         ensures { IfOk result (λ t. Gave code.now self.old frame value self.new t) }
     {
         match self.temps.pop() {
-            Some(left) => match applied(operator, &left, &value) {
-                Ok(n) => Ok(Turn::Changed(Focus::Value(Term::Int(n)))),
-                Err(reason) => Ok(Turn::Changed(Focus::Raised(Term::Atom(reason)))),
-            },
+            Some(left) => Ok(Turn::Changed(outcome(applied(operator, &left, &value)))),
             None => Ok(Turn::Changed(Focus::Raised(Term::Atom(AtomId::UNDEF)))),
         }
     }
@@ -68,13 +82,10 @@ impl Stack {
         requires sound { Holds self.old frame }
         ensures { IfOk result (λ t. Gave code.now self.old frame value self.new t) }
     {
-        match negated(&value) {
-            Ok(n) => Ok(Turn::Changed(Focus::Value(Term::Int(n)))),
-            Err(reason) => Ok(Turn::Changed(Focus::Raised(Term::Atom(reason)))),
-        }
+        Ok(Turn::Changed(outcome(negated(&value))))
     }
 
-    /// An argument: the next one, or the call.
+    /// An argument: the others are next.
     pub(crate) fn argument_done(
         &mut self,
         code: &Module,
@@ -93,13 +104,7 @@ impl Stack {
         self.temps.push(value)?;
         let _operands = self.temps.len();
         let count = done + 1;
-        match arguments(code, id).get(count) {
-            None => Ok(Turn::Same(Focus::Enter(function, count))),
-            Some(next) => {
-                self.wait(Kind::Argument(function, id, count))?;
-                Ok(Turn::Same(Focus::Eval(*next)))
-            }
-        }
+        self.pass(code, function, id, arguments(code, id), count)
     }
 
     /// The value of a match at the end of a body: its next pattern.
@@ -167,6 +172,7 @@ impl Stack {
     }
 
     /// The value of a `case`: the body of the first clause that it fits.
+    #[inline(always)]
     pub(crate) fn select(
         &mut self,
         alloc: Global,

@@ -1,47 +1,38 @@
 //! The turn of an expression: its value, or its first part in a frame.
 
 ghost use Rattle.std.specs.Prelude.{◌≡◌, IfOk};
-ghost use Rattle.pf_syntax.specs.Tree.{call};
-ghost use Rattle.pf_syntax.specs.Module.{tree_at};
-ghost use Rattle.pf_syntax.specs.Over.{parts_over};
-ghost use Rattle.pf_syntax.specs.declared.node.Part.TheVariants.{Node as names, Slot as stands};
-ghost use Rattle.pf_stepper.specs.Turns.{CanEvaluate, Turned};
+ghost use Rattle.pf_syntax.specs.declared.node.Part.TheVariants.{Node as names};
+ghost use Rattle.pf_stepper.specs.View.{keeps};
+ghost use Rattle.pf_stepper.specs.Turns.{CanEvaluate, Descended, Turned};
 
 use crate::frame::{Focus, Kind, Turn};
-use crate::lookups::literal;
-use crate::stack::{Stack, slot};
-use pf_syntax::{FunctionId, Module, Node, NodeId, Part};
-use pf_terms::{AtomId, List, NoMemory, Term, copy};
+use crate::stack::Stack;
+use pf_syntax::{Module, Node, NodeId, Part};
+use pf_terms::{AtomId, List, NoMemory, Term};
+use std::alloc::Global;
 
 impl Stack {
-    /// An operand.
-    pub(crate) fn evaluate(&mut self, code: &Module, part: Part) -> Result<Turn, NoMemory>
+    /// An operand. A variable that is not in scope raises.
+    pub(crate) fn evaluate(
+        &mut self,
+        alloc: Global,
+        code: &Module,
+        part: Part,
+    ) -> Result<Turn, NoMemory>
         requires { CanEvaluate self.old }
         ensures { IfOk result (λ t. Turned code.now self.old (Focus.Eval part) self.new t) }
     {
-        match part {
-            Part::Slot(place) => self.variable(code, place),
-            Part::Int(n) => Ok(Turn::Same(Focus::Value(Term::Int(n)))),
-            Part::Atom(atom) => Ok(Turn::Same(Focus::Value(Term::Atom(atom)))),
-            Part::Nil => Ok(Turn::Same(Focus::Value(Term::List(List::Nil)))),
-            Part::Literal(id) => Ok(Turn::Same(Focus::Value(literal(code, id)?))),
-            Part::Node(id) => self.visit(code, id),
-        }
-    }
-
-    /// A variable.
-    fn variable(&mut self, code: &Module, place: u32) -> Result<Turn, NoMemory>
-        requires { CanEvaluate self.old }
-        ensures { IfOk result (λ t. Turned code.now self.old (Focus.Eval (stands place)) self.new t) }
-    {
-        match slot(self.env.as_slice(), self.base, place) {
-            Some(value) => Ok(Turn::Same(Focus::Value(copy(value)?))),
-            None => Ok(Turn::Changed(Focus::Raised(Term::Atom(AtomId::UNDEF)))),
+        match self.immediate(code, part)? {
+            Some(value) => Ok(Turn::Same(Focus::Value(value))),
+            None => match part {
+                Part::Node(id) => self.visit(alloc, code, id),
+                _ => Ok(Turn::Changed(Focus::Raised(Term::Atom(AtomId::UNDEF)))),
+            },
         }
     }
 
     /// A node.
-    fn visit(&mut self, code: &Module, id: NodeId) -> Result<Turn, NoMemory>
+    fn visit(&mut self, alloc: Global, code: &Module, id: NodeId) -> Result<Turn, NoMemory>
         requires { CanEvaluate self.old }
         ensures { IfOk result (λ t. Turned code.now self.old (Focus.Eval (names id)) self.new t) }
     {
@@ -49,28 +40,17 @@ impl Stack {
             None => Ok(Turn::Same(Focus::Value(Term::List(List::Nil)))),
             Some(node) => match node {
                 Node::Binary(operator, left, right) => {
-                    self.wait(Kind::BinaryLeft(*operator, *right))?;
-                    Ok(Turn::Same(Focus::Eval(*left)))
+                    self.descend(alloc, code, Kind::BinaryLeft(*operator, *right), *left)
                 }
-                Node::Negate(part) => {
-                    self.wait(Kind::Negation)?;
-                    Ok(Turn::Same(Focus::Eval(*part)))
-                }
+                Node::Negate(part) => self.descend(alloc, code, Kind::Negation, *part),
                 Node::Call(function, arguments) => {
-                    self.begin_call(code, *function, id, arguments.as_slice())
+                    self.pass(code, *function, id, arguments.as_slice(), 0)
                 }
-                Node::Match(_, part) => {
-                    self.wait(Kind::Match(id, 0))?;
-                    Ok(Turn::Same(Focus::Eval(*part)))
-                }
+                Node::Match(_, part) => self.descend(alloc, code, Kind::Match(id, 0), *part),
                 Node::Bind(_, part, rest) => {
-                    self.wait(Kind::Bind(id, 0, *rest))?;
-                    Ok(Turn::Same(Focus::Eval(*part)))
+                    self.descend(alloc, code, Kind::Bind(id, 0, *rest), *part)
                 }
-                Node::Case(part, _) => {
-                    self.wait(Kind::Case(id))?;
-                    Ok(Turn::Same(Focus::Eval(*part)))
-                }
+                Node::Case(part, _) => self.descend(alloc, code, Kind::Case(id), *part),
                 Node::Tuple(_)
                 | Node::Cons(_, _)
                 | Node::Both(_, _)
@@ -83,23 +63,27 @@ impl Stack {
         }
     }
 
-    /// The first argument of a call, or a call of none.
-    fn begin_call(
+    /// The first part of a node: its value at once to the frame that would wait for it, or a turn of its own in that frame.
+    #[inline(always)]
+    fn descend(
         &mut self,
+        alloc: Global,
         code: &Module,
-        function: FunctionId,
-        id: NodeId,
-        arguments: &[Part],
+        kind: Kind,
+        part: Part,
     ) -> Result<Turn, NoMemory>
         requires sound { CanEvaluate self.old }
-        requires node { tree_at code.now.tables id.0 ≡ call function.0 (parts_over code.now.tables arguments.now) }
-        ensures { IfOk result (λ t. Turned code.now self.old (Focus.Eval (names id)) self.new t) }
+        requires keeps { keeps kind ≡ 0 }
+        ensures { IfOk result (λ t. Descended code.now self.old kind part self.new t) }
     {
-        match arguments {
-            [] => Ok(Turn::Same(Focus::Enter(function, 0))),
-            [first, ..] => {
-                self.wait(Kind::Argument(function, id, 0))?;
-                Ok(Turn::Same(Focus::Eval(*first)))
+        match self.immediate(code, part)? {
+            Some(value) => {
+                let frame = self.frame(kind);
+                self.fill(alloc, code, frame, value)
+            }
+            None => {
+                self.wait(kind)?;
+                Ok(Turn::Same(Focus::Eval(part)))
             }
         }
     }

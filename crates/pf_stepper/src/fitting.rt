@@ -1,19 +1,22 @@
 //! Fit of a pattern of a module: what it binds goes onto the stack of slots.
 
 ghost use Rattle.std.specs.Prelude.{◌≤◌, length, IfOk};
-ghost use Rattle.pf_terms.specs.Term.{value_of, values_of};
+ghost use Rattle.pf_terms.specs.Value.{list as values};
+ghost use Rattle.pf_terms.specs.Term.{elements_of, value_of, values_of};
+ghost use Rattle.pf_syntax.specs.Pattern.{cons_of};
 ghost use Rattle.pf_syntax.specs.Module.{pattern_at};
 ghost use Rattle.pf_syntax.specs.Over.{patterns_at};
 ghost use Rattle.pf_model.specs.Fit as spec;
 ghost use Rattle.pf_stepper.specs.Fitted.{Fitted};
 
-use crate::lookups::literal;
-use crate::stack::fits_slot;
+use crate::lookups::fits_literal;
+use crate::stack::{copied, fits_slot};
 use pf_syntax::{Module, PatternId, PatternNode};
-use pf_terms::{List, NoMemory, Term, copy, equal};
+use pf_terms::{List, NoMemory, Term};
 
 /// Whether a value fits, in the activation that begins at `base`. Where it does not, what was bound so far stays.
 #[cycle(fit)]
+#[inline(always)]
 pub(crate) fn fit(
     code: &Module,
     pattern: PatternId,
@@ -29,14 +32,23 @@ pub(crate) fn fit(
         Some(node) => match node {
             PatternNode::Any => Ok(true),
             PatternNode::New => {
-                env.push(copy(value)?)?;
+                env.push(copied(value)?)?;
                 Ok(true)
             }
             PatternNode::Slot(place) => Ok(fits_slot(env.as_slice(), base, *place, value)),
-            PatternNode::Int(n) => Ok(equal(&Term::Int(*n), value)),
-            PatternNode::Atom(atom) => Ok(equal(&Term::Atom(*atom), value)),
-            PatternNode::Nil => Ok(equal(&Term::List(List::Nil), value)),
-            PatternNode::Literal(id) => Ok(equal(&literal(code, *id)?, value)),
+            PatternNode::Int(n) => match value {
+                Term::Int(other) => Ok(n == other),
+                _ => Ok(false),
+            },
+            PatternNode::Atom(atom) => match value {
+                Term::Atom(other) => Ok(atom == other),
+                _ => Ok(false),
+            },
+            PatternNode::Nil => match value {
+                Term::List(list) => Ok(list.split().is_none()),
+                _ => Ok(false),
+            },
+            PatternNode::Literal(id) => Ok(fits_literal(code, *id, value)),
             PatternNode::Tuple(parts) => match value {
                 Term::Tuple(elements) => fit_all(
                     code,
@@ -48,21 +60,37 @@ pub(crate) fn fit(
                 _ => Ok(false),
             },
             PatternNode::Cons(head, tail) => match value {
-                Term::List(list) => match list.split() {
-                    None => Ok(false),
-                    Some((first, others)) => {
-                        if fit(code, *head, first, env, base)? {
-                            let others = Term::List(others.share()?);
-                            fit(code, *tail, &others, env, base)
-                        } else {
-                            Ok(false)
-                        }
-                    }
-                },
+                Term::List(list) => fit_cons(code, *head, *tail, list, env, base),
                 _ => Ok(false),
             },
             PatternNode::Never => Ok(false),
         },
+    }
+}
+
+/// Whether the first element of a list and what comes after it fit their patterns.
+#[cycle(fit)]
+fn fit_cons(
+    code: &Module,
+    head: PatternId,
+    tail: PatternId,
+    list: &List,
+    env: &mut Vec<Term>,
+    base: usize,
+) -> Result<bool, NoMemory>
+    requires { base ≤ length env.old.items }
+    ensures { IfOk result (λ b. Fitted base env.old.items env.new.items b (spec.fit (cons_of (pattern_at code.now.tables head.0) (pattern_at code.now.tables tail.0)) (values (elements_of list.now)))) }
+{
+    match list.split() {
+        None => Ok(false),
+        Some((first, others)) => {
+            if fit(code, head, first, env, base)? {
+                let others = Term::List(others.share()?);
+                fit(code, tail, &others, env, base)
+            } else {
+                Ok(false)
+            }
+        }
     }
 }
 

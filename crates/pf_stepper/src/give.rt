@@ -2,10 +2,10 @@
 
 ghost use Rattle.std.specs.Prelude.{IfOk};
 ghost use Rattle.pf_stepper.specs.Sound.{Stacked};
-ghost use Rattle.pf_stepper.specs.Turns.{Turned};
+ghost use Rattle.pf_stepper.specs.Turns.{Gave, Holds, Turned};
 ghost use Rattle.pf_stepper.specs.declared.frame.Focus.TheVariants.{Value as finished};
 
-use crate::frame::{Kind, Turn};
+use crate::frame::{Frame, Kind, Turn};
 use crate::stack::Stack;
 use pf_syntax::Module;
 use pf_terms::{NoMemory, Term};
@@ -24,21 +24,34 @@ impl Stack {
     {
         match self.frames.pop() {
             None => Ok(Turn::Returned(value)),
-            Some(frame) => match frame.kind {
-                Kind::BinaryLeft(operator, right) => {
-                    self.left_done(code, frame, operator, right, value)
-                }
-                Kind::BinaryRight(operator) => self.right_done(code, frame, operator, value),
-                Kind::Negation => self.negate(code, frame, value),
-                Kind::Argument(function, id, done) => {
-                    self.argument_done(code, frame, function, id, done, value)
-                }
-                Kind::Match(id, done) => self.match_one(alloc, code, frame, id, done, value),
-                Kind::Bind(id, done, rest) => {
-                    self.bind_one(alloc, code, frame, id, done, rest, value)
-                }
-                Kind::Case(id) => self.select(alloc, code, frame, id, value),
-            },
+            Some(frame) => self.fill(alloc, code, frame, value),
+        }
+    }
+
+    /// A value for a frame that is not on the stack.
+    #[inline(always)]
+    pub(crate) fn fill(
+        &mut self,
+        alloc: Global,
+        code: &Module,
+        frame: Frame,
+        value: Term,
+    ) -> Result<Turn, NoMemory>
+        requires { Holds self.old frame }
+        ensures { IfOk result (λ t. Gave code.now self.old frame value self.new t) }
+    {
+        match frame.kind {
+            Kind::BinaryLeft(operator, right) => {
+                self.left_done(code, frame, operator, right, value)
+            }
+            Kind::BinaryRight(operator) => self.right_done(code, frame, operator, value),
+            Kind::Negation => self.negate(code, frame, value),
+            Kind::Argument(function, id, done) => {
+                self.argument_done(code, frame, function, id, done, value)
+            }
+            Kind::Match(id, done) => self.match_one(alloc, code, frame, id, done, value),
+            Kind::Bind(id, done, rest) => self.bind_one(alloc, code, frame, id, done, rest, value),
+            Kind::Case(id) => self.select(alloc, code, frame, id, value),
         }
     }
 }

@@ -11,6 +11,7 @@ mod frame;
 mod give;
 mod lookups;
 mod machine;
+mod pass;
 mod run;
 mod stack;
 

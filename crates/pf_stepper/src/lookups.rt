@@ -1,6 +1,7 @@
 //! What a machine reads of its module.
 
 ghost use Rattle.std.specs.Prelude.{◌≡◌, IfOk};
+ghost use Rattle.pf_terms.specs.Value.{same};
 ghost use Rattle.pf_terms.specs.Term.{value_of};
 ghost use Rattle.pf_syntax.specs.Module.{literal_at, tree_at};
 ghost use Rattle.pf_syntax.specs.Over.{clauses_over, guard_over, parts_over, patterns_at};
@@ -8,7 +9,7 @@ ghost use Rattle.pf_model.specs.Contraction as spec;
 ghost use Rattle.pf_stepper.specs.Lookups.{arguments_in, clauses_in, patterns_in};
 
 use pf_syntax::{Clause, Guard, LiteralId, Module, Node, NodeId, Part, PatternId};
-use pf_terms::{List, NoMemory, Term, copy};
+use pf_terms::{List, NoMemory, Term, copy, equal};
 
 /// The literal of this number.
 pub(crate) fn literal(code: &Module, id: LiteralId) -> Result<Term, NoMemory>
@@ -17,6 +18,16 @@ pub(crate) fn literal(code: &Module, id: LiteralId) -> Result<Term, NoMemory>
     match code.literal(id) {
         Some(literal) => copy(literal),
         None => Ok(Term::List(List::Nil)),
+    }
+}
+
+/// Whether a value is the literal of this number.
+pub(crate) fn fits_literal(code: &Module, id: LiteralId, value: &Term) -> bool
+    ensures { result ≡ same (literal_at code.now.tables id.0) (value_of value.now) }
+{
+    match code.literal(id) {
+        Some(literal) => equal(literal, value),
+        None => equal(&Term::List(List::Nil), value),
     }
 }
 

@@ -1,13 +1,16 @@
 //! One stack of slots for all activations, one of finished operands, and the frames over them.
 
-ghost use Rattle.std.specs.Prelude.{◌≡◌, ◌∷◌, [], ◌++◌, drop, length, option_map, slice_get, OnOk};
+ghost use Rattle.std.specs.Prelude.{◌≡◌, ◌∷◌, [], ◌++◌, drop, length, option_map, slice_get, IfOk, OnOk};
 ghost use Rattle.pf_terms.specs.Term.{value_of};
 ghost use Rattle.pf_model.specs.Fit as spec;
 ghost use Rattle.pf_model.specs.Scopes.{scope_of, scope_if};
+ghost use Rattle.pf_stepper.specs.Lookups.{IsImmediate};
 ghost use Rattle.pf_stepper.specs.Sound.{frame_for, top_end};
 
 use crate::frame::{Frame, Kind};
-use pf_terms::{NoMemory, Term, equal};
+use crate::lookups::literal;
+use pf_syntax::{Module, Part};
+use pf_terms::{List, NoMemory, Term, copy, equal};
 
 /// Slots, finished operands, frames, and where the activation begins.
 #[derive(Drop)]
@@ -16,6 +19,17 @@ pub(crate) struct Stack {
     pub(crate) temps: Vec<Term>,
     pub(crate) frames: Vec<Frame>,
     pub(crate) base: usize,
+}
+
+/// The same value. Most are integers, and these need no call.
+#[inline(always)]
+pub(crate) fn copied(value: &Term) -> Result<Term, NoMemory>
+    ensures { IfOk result (λ t. value_of t ≡ value_of value.now) }
+{
+    match value {
+        Term::Int(n) => Ok(Term::Int(*n)),
+        _ => copy(value),
+    }
 }
 
 /// The value of a place in the activation that begins at `base`.
@@ -36,19 +50,46 @@ pub(crate) fn fits_slot(env: &[Term], base: usize, place: u32, value: &Term) -> 
 }
 
 impl Stack {
+    /// The value of an operand that needs no turn of its own: of a literal, or of a variable in scope.
+    #[inline(always)]
+    pub(crate) fn immediate(&self, code: &Module, part: Part) -> Result<Option<Term>, NoMemory>
+        ensures { IfOk result (λ o. IsImmediate code.now.tables (scope_of (drop self.now.base self.now.env.items)) part o) }
+    {
+        match part {
+            Part::Slot(place) => match slot(self.env.as_slice(), self.base, place) {
+                Some(value) => Ok(Some(copied(value)?)),
+                None => Ok(None),
+            },
+            Part::Int(n) => Ok(Some(Term::Int(n))),
+            Part::Atom(atom) => Ok(Some(Term::Atom(atom))),
+            Part::Nil => Ok(Some(Term::List(List::Nil))),
+            Part::Literal(id) => Ok(Some(literal(code, id)?)),
+            Part::Node(_) => Ok(None),
+        }
+    }
+
     /// A frame for the activation as it stands.
+    #[inline(always)]
+    pub(crate) fn frame(&self, kind: Kind) -> Frame
+        ensures { result ≡ frame_for kind self.now.base (length self.now.env.items) }
+    {
+        Frame {
+            kind,
+            base: self.base,
+            end: self.env.len(),
+        }
+    }
+
+    /// Such a frame on the stack.
+    #[inline(never)]
     pub(crate) fn wait(&mut self, kind: Kind) -> Result<(), NoMemory>
         ensures ok { OnOk result (self.new.frames.items ≡ self.old.frames.items ++ frame_for kind self.old.base (length self.old.env.items) ∷ []) }
         ensures env { self.new.env ≡ self.old.env }
         ensures temps { self.new.temps ≡ self.old.temps }
         ensures base { self.new.base ≡ self.old.base }
     {
-        let end = self.env.len();
-        self.frames.push(Frame {
-            kind,
-            base: self.base,
-            end,
-        })?;
+        let frame = self.frame(kind);
+        self.frames.push(frame)?;
         Ok(())
     }
 

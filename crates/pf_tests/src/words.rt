@@ -1,6 +1,6 @@
-//! The texts of words that ask for no run.
+//! What words ask for, and the texts of words that ask for no command.
 
-use pf_command::{read_words, status_of_kind};
+use pf_command::{Words, read_words, status_of_kind};
 use std::test::Fail;
 
 const HELP: &str = "Tests Erlang programs for races
@@ -8,7 +8,8 @@ const HELP: &str = "Tests Erlang programs for races
 Usage: pulsefarm <COMMAND>
 
 Commands:
-  run  Runs a module of one process and reports each of its turns
+  run    Runs a module of one process and reports each of its turns
+  steps  Carries out commands, one after another, and writes what each is answered
 
 Options:
   -h, --help     Print help
@@ -27,6 +28,24 @@ Options:
       --limit <N>     Most steps of the run, from 1 to 100,000
       --schedule <L>  Scheduler's numbers, each from 0 to 4294967295, at most 100,000 with commas between them, or `none`
   -h, --help          Print help
+";
+
+const STEPS_HELP: &str = "Carries out commands, one after another, and writes what each is answered
+
+Usage: pulsefarm steps [FILE]
+
+Arguments:
+  [FILE]  File of the commands, at most 67,108,864 bytes [default: standard input]
+
+Options:
+  -h, --help  Print help
+";
+
+const TWO_FILES: &str = "error: unexpected argument 'b' found
+
+Usage: pulsefarm steps [FILE]
+
+For more information, try '--help'.
 ";
 
 const MISSING: &str = "error: the following required arguments were not provided:
@@ -55,9 +74,11 @@ For more information, try '--help'.
 #[test]
 fn texts_of_words(rt: HostRuntime) -> Result<(), Fail> {
     let alloc = rt.alloc();
-    let cases: [(&[&str], &str, u8); 8] = [
+    let cases: [(&[&str], &str, u8); 10] = [
         (&["pulsefarm", "--help"], HELP, 0),
         (&["pulsefarm", "run", "--help"], RUN_HELP, 0),
+        (&["pulsefarm", "steps", "--help"], STEPS_HELP, 0),
+        (&["pulsefarm", "steps", "a", "b"], TWO_FILES, 2),
         (&["pulsefarm", "--version"], "pulsefarm 0.1.0\n", 0),
         (
             &["pulsefarm", "run", "--root=main", "--limit=5"],
@@ -139,13 +160,27 @@ fn values_of_words(rt: HostRuntime) {
             schedule,
         ];
         match read_words(rt.alloc(), &words) {
-            Ok(asked) => {
+            Ok(Words::Run(asked)) => {
                 assert_eq!(rt; asked.file, Some("a.erl"));
                 assert_eq!(rt; asked.root, "main");
                 assert_eq!(rt; asked.limit, 0);
                 assert_eq!(rt; asked.schedule.as_slice(), numbers);
             }
-            Err(_) => assert!(rt; false, "{schedule}"),
+            _ => assert!(rt; false, "{schedule}"),
+        }
+    }
+}
+
+#[test]
+fn files_of_steps(rt: HostRuntime) {
+    let cases: [(&[&str], Option<&str>); 2] = [
+        (&["pulsefarm", "steps"], None),
+        (&["pulsefarm", "steps", "a.txt"], Some("a.txt")),
+    ];
+    for (words, file) in cases {
+        match read_words(rt.alloc(), words) {
+            Ok(Words::Steps(asked)) => assert_eq!(rt; asked.file, file),
+            _ => assert!(rt; false),
         }
     }
 }

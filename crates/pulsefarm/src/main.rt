@@ -1,11 +1,12 @@
-// Tests Erlang programs for races: reads words and a source, and writes what the source is answered with.
+// Tests Erlang programs for races: reads words, and a source or commands, and writes what these are answered.
 #![tactic(auto)]
 
 ghost use Rattle.std.specs.Prelude.{◌≡◌, ◌<◌};
 
 use clap::error::ErrorKind;
-use pf_command::{RunFault, read_words, run_source};
-use pf_terms::Counted;
+use pf_command::{RunFault, Words, read_words, run_source};
+use pf_terms::{Counted, EndFault};
+use pf_wire::{StepsFault, run_steps};
 use std::env::Env;
 use std::io::{Read, Write};
 use std::marker::Brand;
@@ -13,14 +14,49 @@ use std::process::ExitCode;
 use std::sync::ledger::{Blank, Ledger};
 use std::{env, fs, io};
 
+/// Why the work of a command stopped: memory ran out, or what is said of an end.
+#[derive(Drop)]
+enum Stop {
+    Memory,
+    End(&'static str, EndFault),
+}
+
+impl From<RunFault> for Stop {
+    fn from(fault: RunFault) -> Stop {
+        match fault {
+            RunFault::Memory => Stop::Memory,
+            RunFault::Read(end) => Stop::End("the source can't be read", end),
+            RunFault::Write(end) => Stop::End("the text can't be written", end),
+        }
+    }
+}
+
+impl From<StepsFault> for Stop {
+    fn from(fault: StepsFault) -> Stop {
+        match fault {
+            StepsFault::Memory => Stop::Memory,
+            StepsFault::Read(end) => Stop::End("the commands can't be read", end),
+            StepsFault::Write(end) => Stop::End("the replies can't be written", end),
+        }
+    }
+}
+
+/// The words of the command line, and what they ask for.
+#[derive(Drop)]
+struct Given<'a> {
+    words: &'a [&'a str],
+    asked: &'a Words<'a>,
+}
+
+/// Does what is asked for between two ends.
 fn answer_by<R: Read + Drop, W: Write + Drop, L: Ledger, M: Ledger>(
     rt: &impl AllocGlobal,
-    words: &[&str],
+    given: &Given,
     reader: R,
     writer: W,
     reads: Blank,
     writes: Blank,
-) -> Result<u8, RunFault>
+) -> Result<u8, Stop>
     requires reads { reads.name ≡ L.name }
     requires read_parts { reads.parts ≡ L.parts }
     requires some_reads { 0 < reads.parts }
@@ -28,18 +64,23 @@ fn answer_by<R: Read + Drop, W: Write + Drop, L: Ledger, M: Ledger>(
     requires write_parts { writes.parts ≡ M.parts }
     requires some_writes { 0 < writes.parts }
 {
+    let alloc = rt.alloc();
     let mut reader = Counted::<R, L>::new(reader, reads);
     let mut writer = Counted::<W, M>::new(writer, writes);
-    run_source(rt.alloc(), &mut reader, words, &mut writer)
+    let status = match given.asked {
+        Words::Run(_) => run_source(alloc, &mut reader, given.words, &mut writer)?,
+        Words::Steps(_) => run_steps(alloc, &mut reader, &mut writer)?,
+    };
+    Ok(status)
 }
 
 fn answer<R: Read + Drop, W: Write + Drop>(
     rt: &impl AllocGlobal,
-    words: &[&str],
+    given: &Given,
     reader: R,
     writer: W,
-) -> Result<u8, RunFault> {
-    answer_by::<R, W, Brand, Brand>(rt, words, reader, writer, Blank::new(1), Blank::new(1))
+) -> Result<u8, Stop> {
+    answer_by::<R, W, Brand, Brand>(rt, given, reader, writer, Blank::new(1), Blank::new(1))
 }
 
 fn given_words(rt: &(impl Env + AllocGlobal)) -> io::Result<Vec<String>> {
@@ -62,8 +103,8 @@ fn failed(rt: &(impl Print + Eprint), what: &str, error: &io::Error) -> ExitCode
     ExitCode::from(2)
 }
 
-/// Prints the text of words that ask for no run.
-fn no_run(rt: &(impl Print + Eprint), error: &clap::Error) -> ExitCode {
+/// Prints the text of words that ask for no command.
+fn no_command(rt: &(impl Print + Eprint), error: &clap::Error) -> ExitCode {
     if error.kind() == ErrorKind::OutOfMemory {
         return no_memory(rt);
     }
@@ -73,12 +114,11 @@ fn no_run(rt: &(impl Print + Eprint), error: &clap::Error) -> ExitCode {
     }
 }
 
-fn end(rt: &(impl Print + Eprint), answered: Result<u8, RunFault>) -> ExitCode {
+fn end(rt: &(impl Print + Eprint), answered: Result<u8, Stop>) -> ExitCode {
     match answered {
         Ok(status) => ExitCode::from(status),
-        Err(RunFault::Memory) => no_memory(rt),
-        Err(RunFault::Read(fault)) => failed(rt, "the source can't be read", &fault.0),
-        Err(RunFault::Write(fault)) => failed(rt, "the text can't be written", &fault.0),
+        Err(Stop::Memory) => no_memory(rt),
+        Err(Stop::End(what, fault)) => failed(rt, what, &fault.0),
     }
 }
 
@@ -94,14 +134,18 @@ fn main(rt: HostRuntime) -> ExitCode {
             return no_memory(&rt);
         }
     }
-    let file = match read_words(alloc, &words) {
-        Ok(asked) => asked.file,
-        Err(error) => return no_run(&rt, &error),
+    let asked = match read_words(alloc, &words) {
+        Ok(asked) => asked,
+        Err(error) => return no_command(&rt, &error),
     };
-    let answered = match file {
-        None => answer(&rt, &words, rt.stdin(), io::writer(&rt)),
+    let given = Given {
+        words: &words,
+        asked: &asked,
+    };
+    let answered = match asked.file() {
+        None => answer(&rt, &given, rt.stdin(), io::writer(&rt)),
         Some(path) => match fs::open(&rt, path) {
-            Ok(opened) => answer(&rt, &words, opened, io::writer(&rt)),
+            Ok(opened) => answer(&rt, &given, opened, io::writer(&rt)),
             Err(error) => return failed(&rt, path, &error),
         },
     };

@@ -1,7 +1,8 @@
-use Rattle.std.proofs.Common.{◌≡◌, ℕ, Bool, true, false, rules}
+use Rattle.std.proofs.Common.{◌≡◌, Bool, None, Some, true, false, rules, sym}
 use Rattle.std.specs.Prelude.{IsTrue, ◌↔◌}
+use Rattle.pf_model.specs.Root.{root_of}
 use Rattle.pf_command.specs.Words.{request}
-use Rattle.pf_command.specs.Answers.{IsRoot, IsWithinBounds}
+use Rattle.pf_command.specs.Answers.{IsWithinBounds}
 use Rattle.pf_command.proofs.Rows.{row_no_root, row_out_of_bounds}
 use Rattle.pf_command.proofs.answer.answer_module.Goals as goal
 
@@ -14,13 +15,13 @@ pub returns-in_default : goal.returns-in_default
 returns-in_default c = λ bytes reads.
     let r = request c.args.words.now in
     let m = c.args.shared.now.value in
-    let none : (i : ℕ) → ¬ IsRoot r.root m.atoms m.functions i = rw c.deref.ensures at (rw c.as_bytes.ensures.value at c.in_default.ensures) in
-    row_no_root r m bytes _ reads none c.in_ok-text.ensures
+    let none : None ≡ root_of r.root m.atoms m.functions = rw c.deref.ensures at (rw c.as_bytes.ensures.value at c.in_default.ensures) in
+    row_no_root r m bytes _ reads (sym none) c.in_ok-text.ensures
 
 pub returns-then-not-is_within_bounds : goal.returns-then-not-is_within_bounds
 returns-then-not-is_within_bounds c = λ bytes reads.
     let r = request c.args.words.now in
     let m = c.args.shared.now.value in
-    let root : IsRoot r.root m.atoms m.functions c.in-Some.root.0 = rw c.deref.ensures at (rw c.as_bytes.ensures.value at c.in-Some.ensures) in
+    let root : Some c.in-Some.root.0 ≡ root_of r.root m.atoms m.functions = rw c.deref.ensures at (rw c.as_bytes.ensures.value at c.in-Some.ensures) in
     let out : ¬ IsWithinBounds r = failed c.is_within_bounds.result (IsWithinBounds r) c.is_within_bounds.ensures (search rules) in
-    row_out_of_bounds r m bytes _ c.in-Some.root.0 reads root out c.in_ok-text-2.ensures
+    row_out_of_bounds r m bytes _ c.in-Some.root.0 reads (sym root) out c.in_ok-text-2.ensures

@@ -10,5 +10,6 @@ pub returns : goal.returns
 returns c = λ bytes reads.
     let m = c.args.shared.now.value in
     let report = report_of c.in_ok-report.report in
-    let text : c.in_ok-text.text.items ≡ report_text (name_of m.atoms) report = rw c.deref.ensures at (rw c.atoms.ensures at c.in_ok-text.ensures) in
-    row_reported (request c.args.words.now) m bytes c.in_ok-text.text.items c.args.root.0 report _ reads c.requires.root c.requires.within c.in_ok-report.ensures text c.run_status-status.ensures
+    let text : c.put_report.new.out.items ≡ report_text (name_of m.atoms) report =
+    rw c.deref.ensures at (rw c.atoms.ensures at (rw c.new-text.ensures.items at c.in_ok-put_report.ensures)) in
+    row_reported (request c.args.words.now) m bytes c.put_report.new.out.items c.args.root.0 report _ reads c.requires.root c.requires.within c.in_ok-report.ensures text c.run_status-status.ensures

@@ -1,0 +1,8 @@
+pub mod Profile
+pub mod View
+pub mod Faults
+pub mod Queued
+pub mod Orders
+pub mod Jobs
+pub mod Plans
+pub mod Kept

@@ -1,0 +1,34 @@
+-- What calls come to.
+use Rattle.std.specs.Prelude.{◌≡◌, [], ◌∷◌, ◌++◌, length, Result, Ok, Err}
+use Rattle.pf_terms.specs.declared.memory.NoMemory.{NoMemory}
+use Rattle.pf_quota.specs.declared.usage.Usage.{Usage}
+use Rattle.pf_quota.specs.declared.charges.Charge.TheVariants as charge
+use Rattle.pf_quota.specs.Usage.{charged}
+use Rattle.pf_model.specs.Desk as desk
+use Rattle.pf_book.specs.declared.fault.Fault.{Fault}
+use Rattle.pf_book.specs.declared.fault.Fault.TheVariants as fault
+use Rattle.pf_book.specs.declared.reply.Reply.TheVariants as reply
+use Rattle.pf_book.specs.declared.plan.Addition.{Addition}
+use Rattle.pf_book.specs.declared.plan.Addition.TheVariants as addition
+use Rattle.pf_book.specs.declared.plan.Plan.{Plan}
+use Rattle.pf_book.specs.View.{reply_seen}
+
+-- the desk with what a call adds
+abbrev pub with_addition : desk.Desk → Addition → desk.Desk
+with_addition d addition.Nothing = d
+with_addition d (addition.Module m) = record d { modules = d.modules ++ m ∷ [] }
+with_addition d (addition.Trial j) = record d { trials = d.trials ++ record { job = j; state = desk.queued } ∷ [] }
+
+abbrev pub plan_seen : desk.Desk → Plan → desk.Desk × desk.Reply
+plan_seen d p = (with_addition d p.addition, reply_seen p.reply)
+
+-- what is used with what a call adds
+abbrev pub used_by : Usage → Addition → Usage
+used_by u addition.Nothing = u
+used_by u (addition.Module m) = charged u (charge.Module (length m.source))
+used_by u (addition.Trial j) = charged u (charge.Trial j.limit)
+
+-- a refusal is replied, and want of memory is told
+abbrev pub Refuses : Fault → Result Plan NoMemory → Type 0
+Refuses fault.Memory r = (e : NoMemory) × (r ≡ Err e)
+Refuses (fault.Refused e) r = r ≡ Ok (record { addition = addition.Nothing; reply = reply.Refused e })

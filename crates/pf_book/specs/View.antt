@@ -1,0 +1,49 @@
+-- What the code's calls, replies and notes stand for.
+use Rattle.pf_check.specs.Reads.{number_of}
+use Rattle.pf_model.specs.Desk as desk
+use Rattle.pf_model.specs.Reports.{report_of}
+use Rattle.pf_book.specs.declared.call.Order.{Order}
+use Rattle.pf_book.specs.declared.call.Call.{Call}
+use Rattle.pf_book.specs.declared.call.Call.TheVariants as call
+use Rattle.pf_book.specs.declared.refusal.Refusal.{Refusal}
+use Rattle.pf_book.specs.declared.refusal.Refusal.TheVariants as refusal
+use Rattle.pf_book.specs.declared.reply.Reply.{Reply}
+use Rattle.pf_book.specs.declared.reply.Reply.TheVariants as reply
+use Rattle.pf_book.specs.declared.entry.Entry.{Entry}
+use Rattle.pf_book.specs.declared.entry.Entry.TheVariants as entry
+use Rattle.pf_book.specs.declared.trial.State.{State}
+use Rattle.pf_book.specs.declared.trial.State.TheVariants as state
+
+abbrev pub order_seen : Order → desk.Call
+order_seen o = desk.order o.module o.root.items o.property.items o.schedule.items o.limit
+
+abbrev pub call_seen : Call → desk.Call
+call_seen (call.Submit s) = desk.submit s
+call_seen (call.Order o) = order_seen o.value
+call_seen (call.Fetch t) = desk.fetch t
+call_seen call.Usage = desk.usage
+
+abbrev pub refusal_seen : Refusal → desk.Refusal
+refusal_seen (refusal.Source code) = desk.source (number_of code)
+refusal_seen refusal.NoModule = desk.no_module
+refusal_seen refusal.NoRoot = desk.no_root
+refusal_seen refusal.NoProperty = desk.no_property
+refusal_seen refusal.NoTrial = desk.no_trial
+refusal_seen refusal.NotDone = desk.not_done
+refusal_seen refusal.OutOfRange = desk.out_of_range
+
+abbrev pub reply_seen : Reply → desk.Reply
+reply_seen (reply.Module n) = desk.number n
+reply_seen (reply.Ticket t) = desk.ticket t
+reply_seen (reply.Report t) = desk.report t.0 t.1
+reply_seen (reply.Usage u) = desk.uses u
+reply_seen (reply.Refused e) = desk.refused (refusal_seen e)
+
+abbrev pub entry_seen : Entry → desk.Entry
+entry_seen (entry.Called c r) = desk.called (call_seen c) (reply_seen r)
+entry_seen (entry.Claimed t) = desk.claimed t
+entry_seen (entry.Filed t) = desk.filed t
+
+abbrev pub state_seen : State → desk.State
+state_seen state.Queued = desk.queued
+state_seen (state.Done r) = desk.done (report_of r.value)

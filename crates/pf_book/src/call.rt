@@ -1,0 +1,28 @@
+//! What a client asks for.
+
+use crate::source::Source;
+use std::sync::Arc;
+
+/// An order of a trial: of a module by its number, from the function of this name, by the words of a schedule and within so
+/// many steps. The property says what is asked of the run.
+#[derive(Drop)]
+pub struct Order {
+    pub module: u64,
+    pub root: Vec<u8>,
+    pub property: Vec<u8>,
+    pub schedule: Vec<u32>,
+    pub limit: u32,
+}
+
+/// A call of a client.
+#[derive(Drop)]
+pub enum Call {
+    /// A number for the module that this source is.
+    Submit(Source),
+    /// A ticket for a trial.
+    Order(Arc<Order>),
+    /// The report of the trial of a ticket.
+    Fetch(u64),
+    /// What the project uses.
+    Usage,
+}

@@ -1,0 +1,101 @@
+//! A run that was ordered.
+
+ghost use Rattle.std.specs.Prelude.{◌≡◌, Ok, IfOk, MatchResult};
+ghost use Rattle.pf_model.specs.Reports.{report_of};
+ghost use Rattle.pf_book.specs.Profile.{profile};
+ghost use Rattle.pf_book.specs.Orders.{job_asked, IsRefusedJob, is_in_range_order};
+
+use crate::call::Order;
+use crate::fault::Fault;
+use crate::numbers::numbered;
+use crate::refusal::Refusal;
+use crate::stored::Stored;
+use pf_model::find_root;
+use pf_model::report::Report;
+use pf_stepper::run_one;
+use pf_syntax::{FunctionId, Module};
+use pf_terms::NoMemory;
+use std::alloc::Global;
+use std::marker::Model;
+use std::sync::Arc;
+
+/// The one property that there is.
+const RETURNS: &[u8] = b"returns";
+
+/// The most steps of a run.
+const MOST_STEPS: u32 = 100_000;
+
+/// The most words of a schedule.
+const MOST_WORDS: usize = 100_000;
+
+/// A run that was ordered: its module, its root and its order, which asks for it.
+#[derive(Drop)]
+pub(crate) struct Job {
+    stored: Stored,
+    root: FunctionId,
+    order: Arc<Order>,
+}
+
+impl Model for Job {
+    ghost use Rattle.pf_model.specs.Desk as desk;
+    ghost use Rattle.pf_model.specs.DeskCode.{coded_job};
+
+    ghost Value = { desk.Job };
+
+    ghost coded = { coded_job };
+
+    ghost use Rattle.pf_book.specs.Jobs.{job_in, IsAsked};
+
+    ghost view = { job_in };
+
+    ghost invariant = { IsAsked };
+}
+
+/// Whether an order asks for 1 to 100,000 steps, and for at most 100,000 words.
+fn is_in_range(order: &Order) -> bool
+    ensures { result ≡ is_in_range_order order.now }
+{
+    1 <= order.limit && order.limit <= MOST_STEPS && order.schedule.len() <= MOST_WORDS
+}
+
+impl Job {
+    /// The job of an order to a project with these modules.
+    pub fn ordered(modules: &[Stored], order: &Arc<Order>) -> Result<Job, Fault>
+        ensures { MatchResult result
+            (λ job. job_asked modules.now order.now.value ≡ Ok job)
+            (IsRefusedJob (job_asked modules.now order.now.value)) }
+    {
+        let stored = numbered(modules, order.module).ok_or(Refusal::NoModule)?;
+        let root = find_root(stored.module(), &order.root).ok_or(Refusal::NoRoot)?;
+        if order.property.as_slice() != RETURNS {
+            return Err(Fault::Refused(Refusal::NoProperty));
+        }
+        if !is_in_range(order) {
+            return Err(Fault::Refused(Refusal::OutOfRange));
+        }
+        Ok(Job {
+            stored: stored.share()?,
+            root,
+            order: Arc::try_clone(order)?,
+        })
+    }
+
+    pub fn module(&self) -> &Arc<Module>
+        ensures { result.now.value.atoms ≡ self.now.stored.atoms }
+    {
+        self.stored.module()
+    }
+
+    pub fn limit(&self) -> u32
+        ensures { result ≡ self.now.limit }
+    {
+        self.order.limit
+    }
+
+    /// The report of the run.
+    pub fn run(&self, alloc: Global) -> Result<Report, NoMemory>
+        ensures { IfOk result (λ r. profile.meaning self.now ≡ report_of r) }
+    {
+        run_one(alloc, self.stored.module(), self.root, self.order.limit)
+    }
+}

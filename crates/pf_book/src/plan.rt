@@ -1,0 +1,73 @@
+//! What a call comes to, before anything is changed.
+
+ghost use Rattle.std.specs.Prelude.{◌≡◌, ◌+◌, IfOk};
+ghost use Rattle.pf_quota.specs.Usage.{charged};
+ghost use Rattle.pf_quota.specs.declared.charges.Charge.TheVariants as charge;
+ghost use Rattle.pf_book.specs.Plans.{Refuses, used_by};
+
+use crate::fault::Fault;
+use crate::job::Job;
+use crate::numbers::sum;
+use crate::reply::Reply;
+use crate::stored::Stored;
+use pf_quota::Usage;
+use pf_terms::NoMemory;
+
+/// What a call adds to its desk.
+#[derive(Drop)]
+pub(crate) enum Addition {
+    Nothing,
+    Module(Stored),
+    Trial(Job),
+}
+
+/// What a call comes to: what it adds to its desk, and its reply.
+#[derive(Drop)]
+pub(crate) struct Plan {
+    pub addition: Addition,
+    pub reply: Reply,
+}
+
+impl Plan {
+    /// A reply alone.
+    pub fn reply(reply: Reply) -> Plan
+        ensures { result ≡ record { addition = Addition.Nothing; reply = reply } }
+    {
+        Plan {
+            addition: Addition::Nothing,
+            reply,
+        }
+    }
+
+    /// The refusal of a call that adds nothing.
+    pub fn refused(fault: Fault) -> Result<Plan, NoMemory>
+        ensures { Refuses fault result }
+    {
+        match fault {
+            Fault::Memory => Err(NoMemory),
+            Fault::Refused(refusal) => Ok(Plan::reply(Reply::Refused(refusal))),
+        }
+    }
+}
+
+impl Addition {
+    /// What is used once a call is noted that adds this.
+    pub fn usage(&self, before: &Usage) -> Result<Usage, NoMemory>
+        ensures { IfOk result (λ u. u ≡ charged (used_by before.now self.now) charge.Call) }
+    {
+        let mut usage = *before;
+        usage.calls = sum(usage.calls, 1)?;
+        match self {
+            Addition::Nothing => {}
+            Addition::Module(stored) => {
+                usage.modules = sum(usage.modules, 1)?;
+                usage.bytes = sum(usage.bytes, stored.size() as u64)?;
+            }
+            Addition::Trial(job) => {
+                usage.trials = sum(usage.trials, 1)?;
+                usage.steps = sum(usage.steps, u64::from(job.limit()))?;
+            }
+        }
+        Ok(usage)
+    }
+}

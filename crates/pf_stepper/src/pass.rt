@@ -1,0 +1,46 @@
+//! The arguments of a call.
+
+ghost use Rattle.std.specs.Prelude.{◌≡◌, ◌≤◌, length, IfOk};
+ghost use Rattle.pf_syntax.specs.Module.{tree_at};
+ghost use Rattle.pf_syntax.specs.Over.{parts_over};
+ghost use Rattle.pf_stepper.specs.Lookups.{arguments_in};
+ghost use Rattle.pf_stepper.specs.Sound.{Stacked};
+ghost use Rattle.pf_stepper.specs.Turns.{Passed};
+
+use crate::frame::{Focus, Kind, Turn};
+use crate::stack::Stack;
+use pf_syntax::{FunctionId, Module, NodeId, Part};
+use pf_terms::NoMemory;
+
+impl Stack {
+    /// The arguments of a call after the first `from`: those that need no turn of their own, up to the first that does,
+    /// or the call.
+    #[inline(always)]
+    pub(crate) fn pass(
+        &mut self,
+        code: &Module,
+        function: FunctionId,
+        id: NodeId,
+        arguments: &[Part],
+        from: usize,
+    ) -> Result<Turn, NoMemory>
+        requires node { parts_over code.now.tables arguments.now ≡ arguments_in (tree_at code.now.tables id.0) }
+        requires stacked { Stacked self.old.env.items self.old.temps.items self.old.frames.items from }
+        requires inside { self.old.base ≤ length self.old.env.items }
+        ensures { IfOk result (λ t. Passed code.now self.old function id from self.new t) }
+    {
+        let mut count = from;
+        while count < arguments.len() {
+            let argument = arguments[count];
+            match self.immediate(code, argument)? {
+                Some(value) => self.temps.push(value)?,
+                None => {
+                    self.wait(Kind::Argument(function, id, count))?;
+                    return Ok(Turn::Same(Focus::Eval(argument)));
+                }
+            }
+            count += 1;
+        }
+        Ok(Turn::Same(Focus::Enter(function, count)))
+    }
+}

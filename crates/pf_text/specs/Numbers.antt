@@ -1,0 +1,33 @@
+-- Numbers and schedules in words.
+use Rattle.std.specs.Prelude.{ℕ, ◌^◌, List, [], ◌∷◌, Option, Some, None, codes, Bool, false, ◌&&◌, ◌==◌, not, nat_lt, if◌then◌else◌}
+use Rattle.std.specs.List.{list_all, slice_split}
+use Rattle.std.specs.Str.{bytes_eq}
+use Rattle.pf_tokens.specs.Bytes.{is_digit}
+use Rattle.pf_tokens.specs.Signs.{decimal}
+
+-- a number is in digits, without a zero before others
+abbrev pub is_numeral : List ℕ → Bool
+is_numeral [] = false
+is_numeral (d ∷ []) = is_digit d
+is_numeral (d ∷ e ∷ ds) = not (d == 48) && list_all is_digit (d ∷ e ∷ ds)
+
+-- a value below 4,294,967,296
+abbrev pub small : ℕ → Option ℕ
+small value = if nat_lt value (2 ^ 32) then Some value else None
+
+-- a number is below 4,294,967,296
+abbrev pub number_of : List ℕ → Option ℕ
+number_of text = if is_numeral text then small (decimal text) else None
+
+abbrev pub with_number : Option ℕ → Option (List ℕ) → Option (List ℕ)
+with_number (Some n) (Some ns) = Some (n ∷ ns)
+with_number _ _ = None
+
+-- the numbers of some texts, where each is one
+abbrev pub numbers_of : List (List ℕ) → Option (List ℕ)
+numbers_of [] = Some []
+numbers_of (t ∷ ts) = with_number (number_of t) (numbers_of ts)
+
+-- a schedule is `none`, which has no number, or numbers with commas between them
+abbrev pub schedule_of : List ℕ → Option (List ℕ)
+schedule_of text = if bytes_eq text (codes "none") then Some [] else numbers_of (slice_split (λ b. b == 44) text)

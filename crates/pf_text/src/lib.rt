@@ -1,0 +1,13 @@
+//! Texts that go out, and numbers in words that come in.
+#![tactic(auto)]
+
+mod names;
+mod numbers;
+mod report;
+mod terms;
+mod text;
+
+pub use numbers::{number_of, schedule_of};
+pub use report::{put_report, returns_holds};
+pub use terms::put_term;
+pub use text::{put, put_byte, put_number};

@@ -1,0 +1,77 @@
+//! Numbers and schedules in words.
+
+ghost use Rattle.std.specs.Prelude.{◌≡◌, ◌==◌, IfOk, option_map, true};
+ghost use Rattle.std.specs.List.{list_all, slice_split};
+ghost use Rattle.pf_tokens.specs.Bytes.{is_digit};
+ghost use Rattle.pf_tokens.specs.Signs.{decimal};
+ghost use Rattle.pf_text.specs.Numbers.{is_numeral, number_of, numbers_of, schedule_of, small};
+
+use pf_tokens::is_digit;
+use std::alloc::{AllocError, Global};
+
+fn are_digits(text: &[u8]) -> bool
+    ensures { result ≡ list_all is_digit text.now }
+{
+    text.iter().all(|byte| is_digit(*byte))
+}
+
+/// Whether a text is a number without a zero before other digits.
+fn is_numeral(text: &[u8]) -> bool
+    ensures { result ≡ is_numeral text.now }
+{
+    match text {
+        [] => false,
+        [digit] => is_digit(*digit),
+        [first, ..] => *first != b'0' && are_digits(text),
+    }
+}
+
+/// The value of the digits, where it is below 4,294,967,296.
+fn value_of(digits: &[u8]) -> Option<u32>
+    requires { list_all is_digit digits.now ≡ true }
+    ensures { result ≡ small (decimal digits.now) }
+{
+    let mut value: u32 = 0;
+    for digit in digits {
+        let digit = u32::from(*digit - b'0');
+        if value > (u32::MAX - digit) / 10 {
+            return None;
+        }
+        value = 10 * value + digit;
+    }
+    Some(value)
+}
+
+/// The number that a text is, from 0 to 4,294,967,295, without a sign or a zero before other digits.
+pub fn number_of(text: &[u8]) -> Option<u32>
+    ensures { result ≡ number_of text.now }
+{
+    if !is_numeral(text) {
+        return None;
+    }
+    value_of(text)
+}
+
+/// The numbers of a text with commas between them, where each piece is one.
+fn numbers_of(alloc: Global, text: &[u8]) -> Result<Option<Vec<u32>>, AllocError>
+    ensures { IfOk result (λ ns. option_map (λ v. v.items) ns ≡ numbers_of (slice_split (λ b. b == 44) text.now)) }
+{
+    let mut numbers = Vec::new(alloc);
+    for piece in text.split(|byte| *byte == b',') {
+        match number_of(piece) {
+            Some(number) => numbers.push(number)?,
+            None => return Ok(None),
+        }
+    }
+    Ok(Some(numbers))
+}
+
+/// The numbers of a schedule: none of `none`, and else those with commas between them.
+pub fn schedule_of(alloc: Global, text: &[u8]) -> Result<Option<Vec<u32>>, AllocError>
+    ensures { IfOk result (λ ns. option_map (λ v. v.items) ns ≡ schedule_of text.now) }
+{
+    if text == b"none".as_slice() {
+        return Ok(Some(Vec::new(alloc)));
+    }
+    numbers_of(alloc, text)
+}

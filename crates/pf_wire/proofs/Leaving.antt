@@ -1,0 +1,105 @@
+-- What is left where the work stops.
+use Rattle.std.proofs.Common.{◌≡◌, ◌==◌, ◌<◌, ◌+◌, ℕ, true, false, List, [], ◌∷◌, ◌++◌, length, take, Option, Some, None, refl, sym, ap, ◌∙◌, subst, arith, append_assoc, eqb-true}
+use Rattle.std.specs.Io.KnownBytes.{Appends}
+use Rattle.std.proofs.lemmas.List.{append-nil}
+use Rattle.pf_terms.specs.Ends.{AppendsFront}
+use Rattle.pf_terms.proofs.Writes.{appends_both}
+use Rattle.pf_model.specs.World.{World}
+use Rattle.pf_model.specs.Told.{outcome_text}
+use Rattle.pf_wire.specs.Steps.{most_bytes, AnswersOne, AnswersInPart, AreRead, StepsAnsweredInPart, StepsText, Stops, StepsLeaves, last_text}
+use Rattle.pf_wire.specs.declared.steps.StepsFault.{StepsFault}
+use Rattle.pf_wire.specs.declared.steps.StepsFault.TheVariants.{Memory, Read, Write}
+use Rattle.pf_wire.proofs.Shorter.{command_shorter}
+use Rattle.pf_wire.proofs.Progress.{SoFar, begun, answered_one, finished_well, finished_ill, goes_on}
+
+not_empty : (b : ℕ) (bs : List ℕ) → (length (b ∷ bs) == 0) ≡ true → ⊥
+not_empty b bs h = omega (arith, eqb-true (length (b ∷ bs)) 0 h)
+
+-- nothing went out
+appends_none : (w : Option (List ℕ)) → Appends w w []
+appends_none None = tt
+appends_none (Some xs) = sym (append-nil xs)
+
+-- a text, and the beginning of what goes on behind it
+front_both : (w0 w1 w2 : Option (List ℕ)) (a b more : List ℕ) → Appends w0 w1 a → AppendsFront w1 w2 b → AppendsFront w0 w2 ((a ++ b) ++ more)
+front_both w0 w1 w2 a b more h k = (
+  a ++ k.0,
+  k.1 ++ more,
+  ap (λ (t : List ℕ). (a ++ t) ++ more) k.2 ∙ ap (λ (t : List ℕ). t ++ more) (sym (append_assoc a k.0 k.1)) ∙ append_assoc (a ++ k.0) k.1 more,
+  appends_both w0 w1 w2 a k.0 h k.3,
+)
+
+-- how far it came, with what went out
+abbrev pub WentOut : (bytes rest : List ℕ) → World → ℕ → (written_old written_new : Option (List ℕ)) → Type 0
+WentOut bytes rest w k w0 w1 = (text : List ℕ) × SoFar bytes rest w text k × Appends w0 w1 text
+
+begins : (bytes : List ℕ) (w : Option (List ℕ)) → WentOut bytes bytes [] 1 w w
+begins bytes w = ([], begun bytes, appends_none w)
+
+pub begins_empty : (bytes : List ℕ) (v : World) (w : Option (List ℕ)) → v ≡ [] → WentOut bytes bytes v 1 w w
+begins_empty bytes v w e = subst (λ (u : World). WentOut bytes bytes u 1 w w) (sym e) (begins bytes w)
+
+-- nothing more went out
+pub stops_here : (bytes rest : List ℕ) (w : World) (k : ℕ) (w0 w1 : Option (List ℕ)) → WentOut bytes rest w k w0 w1 → AnswersInPart bytes w0 w1
+stops_here bytes rest w k w0 w1 p =
+    let m = goes_on bytes rest w p.0 k p.1 in
+    (p.0 ++ m.0, m.1, m.2, (p.0, m.0, refl, p.2))
+
+-- a beginning of one answer more went out
+pub stops_within : (bytes rest : List ℕ) (w w' : World) (k : ℕ) (w0 w1 w2 : Option (List ℕ)) (text : List ℕ) (next : Option (List ℕ)) → (length rest == 0) ≡ false
+    → WentOut bytes rest w k w0 w1 → AnswersOne rest k w text next w' → AppendsFront w1 w2 text → AnswersInPart bytes w0 w2
+stops_within bytes [] w w' k w0 w1 w2 text next some p a f = absurd cc
+stops_within bytes (b ∷ bs) w w' k w0 w1 w2 text (Some rest) some p a f =
+    let s = a.0 in
+    let x = a.1 in
+    let m = goes_on bytes rest w' (p.0 ++ outcome_text s x) (k + 1) (answered_one bytes b bs rest w w' p.0 k s x p.1 a.2 a.3) in
+    ((p.0 ++ outcome_text s x) ++ m.0, m.1, m.2, front_both w0 w1 w2 p.0 (outcome_text s x) m.0 p.2 (subst (AppendsFront w1 w2) a.4 f))
+stops_within bytes (b ∷ bs) w w' k w0 w1 w2 text None some p a f =
+    let last = last_text false k in (
+      p.0 ++ last,
+      2,
+      finished_ill bytes b bs w p.0 k p.1 a.0,
+      subst (AppendsFront w0 w2) (append-nil (p.0 ++ last)) (front_both w0 w1 w2 p.0 last [] p.2 (subst (AppendsFront w1 w2) a.1 f)),
+    )
+
+-- one answer more went out
+pub goes_out : (bytes rest behind : List ℕ) (w w' : World) (k : ℕ) (w0 w1 w2 : Option (List ℕ)) (text : List ℕ) → (length rest == 0) ≡ false
+    → WentOut bytes rest w k w0 w1 → AnswersOne rest k w text (Some behind) w' → Appends w1 w2 text → WentOut bytes behind w' (k + 1) w0 w2 × (length behind < length rest)
+goes_out bytes [] behind w w' k w0 w1 w2 text some p a f = absurd cc
+goes_out bytes (b ∷ bs) behind w w' k w0 w1 w2 text some p a f =
+    let s = a.0 in
+    let x = a.1 in (
+      (p.0 ++ outcome_text s x, answered_one bytes b bs behind w w' p.0 k s x p.1 a.2 a.3, appends_both w0 w1 w2 p.0 (outcome_text s x) p.2 (subst (Appends w1 w2) a.4 f)),
+      omega (arith, command_shorter b bs s behind a.2),
+    )
+
+-- the line that is no command is answered
+pub ends_ill : (bytes rest : List ℕ) (w w' : World) (k : ℕ) (w0 w1 w2 : Option (List ℕ)) (text : List ℕ) → (length rest == 0) ≡ false
+    → WentOut bytes rest w k w0 w1 → AnswersOne rest k w text None w' → Appends w1 w2 text → (all : List ℕ) × StepsText bytes all 2 × Appends w0 w2 all
+ends_ill bytes [] w w' k w0 w1 w2 text some p a f = absurd cc
+ends_ill bytes (b ∷ bs) w w' k w0 w1 w2 text some p a f =
+    let last = last_text false k in
+    (p.0 ++ last, finished_ill bytes b bs w p.0 k p.1 a.0, appends_both w0 w1 w2 p.0 last p.2 (subst (Appends w1 w2) a.1 f))
+
+-- all is answered
+pub ends_well : (bytes rest : List ℕ) (w : World) (k : ℕ) (w0 w1 : Option (List ℕ)) → (length rest == 0) ≡ true → WentOut bytes rest w k w0 w1
+    → (all : List ℕ) × StepsText bytes all 0 × Appends w0 w1 all
+ends_well bytes [] w k w0 w1 none p = (p.0, finished_well bytes w p.0 k p.1, p.2)
+ends_well bytes (b ∷ bs) w k w0 w1 none p = absurd (not_empty b bs none)
+
+first_bytes : (r : Option (List ℕ)) → (bytes : List ℕ) × AreRead r bytes
+first_bytes None = ([], tt)
+first_bytes (Some input) = (take most_bytes input, refl)
+
+-- nothing was answered
+pub stops_before : (r w : Option (List ℕ)) → StepsAnsweredInPart r w w
+stops_before r w =
+    let f = first_bytes r in
+    (f.0, f.1, stops_here f.0 f.0 [] 1 w w (begins f.0 w))
+
+-- what answers some bytes answers those that were read
+pub answers_read : (r w0 w1 : Option (List ℕ)) (bytes : List ℕ) (e : StepsFault) (m0 m1 n0 n1 : ℕ) → m1 ≡ m0 → AreRead r bytes → Stops e bytes w0 w1 n0 n1
+    → StepsLeaves e r w0 w1 m0 m1 n0 n1
+answers_read r w0 w1 bytes Memory m0 m1 n0 n1 k h s = (k, s.0, (bytes, h, s.1))
+answers_read r w0 w1 bytes (Read f) m0 m1 n0 n1 k h s = absurd s
+answers_read r w0 w1 bytes (Write f) m0 m1 n0 n1 k h s = (k, s.0, (bytes, h, s.1))

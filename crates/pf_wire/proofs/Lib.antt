@@ -1,0 +1,4 @@
+pub mod Cutting
+pub mod Shorter
+pub mod Progress
+pub mod Leaving

@@ -1,0 +1,52 @@
+-- What follows a command is shorter than what began with it.
+use Rattle.std.proofs.Common.{◌≡◌, ◌≤◌, ◌==◌, ℕ, Bool, true, false, List, [], ◌∷◌, length, drop, Option, Some, None, sym, ap, arith, length-drop}
+use Rattle.std.specs.Prelude.{◌&&◌, nat_le, take, if◌then◌else◌}
+use Rattle.pf_model.specs.Desk.{submit}
+use Rattle.pf_model.specs.World.{Step, client}
+use Rattle.pf_wire.specs.Commands.{Line, with_byte, first_line, Asked, made, submission, asked_by, words_of, after_source, whole_command, command_at}
+
+pick : {A : Type 0} (P : A → Type 0) (b : Bool) (x y : A) → P x → P y → P (if b then x else y)
+pick P true x y f g = f
+pick P false x y f g = g
+
+behind_line : (bs : List ℕ) → length (first_line bs).rest ≤ length bs
+behind_line [] = omega arith
+behind_line (b ∷ bs) =
+    let rest = behind_line bs in
+    pick (λ (l : Line). length l.rest ≤ length (b ∷ bs)) (b == 10) (record { text = []; is_ended = true; rest = bs }) (with_byte b (first_line bs)) (omega arith) (omega arith)
+
+-- a line that begins with a byte takes it
+line_shorter : (b : ℕ) (bs : List ℕ) → length (first_line (b ∷ bs)).rest ≤ length bs
+line_shorter b bs =
+    let rest = behind_line bs in
+    pick (λ (l : Line). length l.rest ≤ length bs) (b == 10) (record { text = []; is_ended = true; rest = bs }) (with_byte b (first_line bs)) (omega arith) (omega arith)
+
+abbrev rest_of : List ℕ → Option (Step × List ℕ) → List ℕ
+rest_of none None = none
+rest_of none (Some p) = p.1
+
+same_rest : (s t : Step) (xs ys : List ℕ) → ◌≡◌ {A = Option (Step × List ℕ)} (Some (s, xs)) (Some (t, ys)) → ys ≡ xs
+same_rest s t xs ys e = sym (ap (rest_of xs) e)
+
+line_end : (c : Bool) (s t : Step) (bs rest : List ℕ) → if◌then◌else◌ {A = Option (Step × List ℕ)} c (Some (s, bs)) None ≡ Some (t, rest) → rest ≡ bs
+line_end true s t bs rest e = same_rest s t bs rest e
+line_end false s t bs rest e = absurd cc
+
+behind_source : (s t : Step) (bs rest : List ℕ) → after_source s bs ≡ Some (t, rest) → length rest ≤ length bs
+behind_source s t [] rest e = let same = same_rest s t [] rest e in omega (arith, ap length same)
+behind_source s t (b ∷ bs) rest e = let same = line_end (b == 10) s t bs rest e in omega (arith, ap length same)
+
+source_shorter : (c : Bool) (project size : ℕ) (bs : List ℕ) (t : Step) (rest : List ℕ)
+    → if◌then◌else◌ {A = Option (Step × List ℕ)} c (after_source (client project (submit (take size bs))) (drop size bs)) None ≡ Some (t, rest) → length rest ≤ length bs
+source_shorter true project size bs t rest e = omega (arith, behind_source _ t (drop size bs) rest e, length-drop size bs)
+source_shorter false project size bs t rest e = absurd cc
+
+behind_asked : (o : Option Asked) (ended : Bool) (bs : List ℕ) (t : Step) (rest : List ℕ) → whole_command o ended bs ≡ Some (t, rest) → length rest ≤ length bs
+behind_asked None ended bs t rest e = absurd cc
+behind_asked (Some (made s)) ended bs t rest e = let same = same_rest s t bs rest e in omega (arith, ap length same)
+behind_asked (Some (submission project size)) ended bs t rest e = source_shorter (ended && nat_le size (length bs)) project size bs t rest e
+
+pub command_shorter : (b : ℕ) (bs : List ℕ) (s : Step) (rest : List ℕ) → command_at (b ∷ bs) ≡ Some (s, rest) → length rest ≤ length bs
+command_shorter b bs s rest e =
+    let line = first_line (b ∷ bs) in
+    omega (arith, behind_asked (asked_by (words_of line.text)) line.is_ended line.rest s rest e, line_shorter b bs)

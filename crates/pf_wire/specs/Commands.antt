@@ -1,0 +1,107 @@
+-- Commands: what the bytes that `steps` reads ask for. One command stands on a line, its words parted by single spaces.
+use Rattle.std.specs.Prelude.{◌≡◌, ℕ, ◌==◌, Bool, true, false, ◌&&◌, ◌||◌, not, nat_le, if◌then◌else◌, List, [], ◌∷◌, length, take, drop, Option, Some, None, codes}
+use Rattle.std.specs.List.{list_any, slice_split}
+use Rattle.std.specs.Str.{bytes_eq}
+use Rattle.pf_text.specs.Numbers.{number_of, schedule_of}
+use Rattle.pf_model.specs.Desk.{submit, order, fetch, usage}
+use Rattle.pf_model.specs.World.{Step, client, once}
+
+-- ---- lines and words
+
+-- the first line without its end, whether it has one, and what follows
+pub record Line : Type 0 where
+  pub text : List ℕ
+  pub is_ended : Bool
+  pub rest : List ℕ
+
+abbrev pub with_byte : ℕ → Line → Line
+with_byte b l = record { text = b ∷ l.text; is_ended = l.is_ended; rest = l.rest }
+
+abbrev pub first_line : List ℕ → Line
+first_line [] = record { text = []; is_ended = false; rest = [] }
+first_line (b ∷ bs) = if b == 10 then record { text = []; is_ended = true; rest = bs } else with_byte b (first_line bs)
+
+-- a word isn't empty, and has no tabulator and no carriage return
+abbrev pub is_word : List ℕ → Bool
+is_word [] = false
+is_word (b ∷ bs) = not (list_any (λ c. (c == 9) || (c == 13)) (b ∷ bs))
+
+abbrev pub words_of : List ℕ → List (List ℕ)
+words_of text = slice_split (λ b. b == 32) text
+
+-- ---- what a line asks for
+
+-- a line asks for a step, or for the submission of a source whose bytes follow it
+pub data Asked : Type 0 where
+  made : Step → Asked
+  submission : (project size : ℕ) → Asked
+
+abbrev pub with_two : (ℕ → ℕ → Asked) → Option ℕ → Option ℕ → Option Asked
+with_two f (Some m) (Some n) = Some (f m n)
+with_two f _ _ = None
+
+abbrev pub with_one : (ℕ → Asked) → Option ℕ → Option Asked
+with_one f (Some n) = Some (f n)
+with_one f None = None
+
+-- the words after the first, which are two numbers, or one
+abbrev pub of_two : (ℕ → ℕ → Asked) → List (List ℕ) → Option Asked
+of_two f (a ∷ b ∷ []) = with_two f (number_of a) (number_of b)
+of_two f _ = None
+
+abbrev pub of_one : (ℕ → Asked) → List (List ℕ) → Option Asked
+of_one f (a ∷ []) = with_one f (number_of a)
+of_one f _ = None
+
+abbrev pub with_order : (root property : List ℕ) → (project n : Option ℕ) → Option (List ℕ) → Option ℕ → Option Asked
+with_order root property (Some project) (Some n) (Some schedule) (Some limit) = Some (made (client project (order n root property schedule limit)))
+with_order root property _ _ _ _ = None
+
+-- P M ROOT PROPERTY CHOICES LIMIT
+abbrev pub of_order : List (List ℕ) → Option Asked
+of_order (p ∷ m ∷ root ∷ property ∷ choices ∷ limit ∷ []) =
+    if is_word root && is_word property
+    then with_order root property (number_of p) (number_of m) (schedule_of choices) (number_of limit)
+    else None
+of_order _ = None
+
+-- the first word names the command
+abbrev pub asked_by : List (List ℕ) → Option Asked
+asked_by [] = None
+asked_by (w ∷ ws) =
+    if bytes_eq w (codes "submit") then of_two submission ws
+    else (if bytes_eq w (codes "order") then of_order ws
+    else (if bytes_eq w (codes "fetch") then of_two (λ p t. made (client p (fetch t))) ws
+    else (if bytes_eq w (codes "usage") then of_one (λ p. made (client p usage)) ws
+    else (if bytes_eq w (codes "once") then of_two (λ p t. made (once p t)) ws
+    else None))))
+
+-- ---- what some bytes begin with
+
+-- what follows the bytes of a source: a line end, unless nothing follows
+abbrev pub after_source : Step → List ℕ → Option (Step × List ℕ)
+after_source s [] = Some (s, [])
+after_source s (b ∷ bs) = if b == 10 then Some (s, bs) else None
+
+-- the source of so many bytes stands in the lines that follow an ended line
+abbrev pub with_source : Bool → (project size : ℕ) → List ℕ → Option (Step × List ℕ)
+with_source ended project size rest =
+    if ended && nat_le size (length rest)
+    then after_source (client project (submit (take size rest))) (drop size rest)
+    else None
+
+abbrev pub whole_command : Option Asked → Bool → List ℕ → Option (Step × List ℕ)
+whole_command None ended rest = None
+whole_command (Some (made s)) ended rest = Some (s, rest)
+whole_command (Some (submission project size)) ended rest = with_source ended project size rest
+
+-- the command that some bytes begin with, and what follows it
+abbrev pub command_at : List ℕ → Option (Step × List ℕ)
+command_at bytes = whole_command (asked_by (words_of (first_line bytes).text)) (first_line bytes).is_ended (first_line bytes).rest
+
+-- Commands bytes steps good: the bytes are the commands of these steps; then they are over, or a line follows that is no command
+pub data Commands : List ℕ → List Step → Bool → Type 0 where
+  over : Commands [] [] true
+  no_command : (b : ℕ) (bs : List ℕ) → command_at (b ∷ bs) ≡ None → Commands (b ∷ bs) [] false
+  command : (b : ℕ) (bs rest : List ℕ) (s : Step) (ss : List Step) (good : Bool) → command_at (b ∷ bs) ≡ Some (s, rest)
+      → Commands rest ss good → Commands (b ∷ bs) (s ∷ ss) good

@@ -1,0 +1,13 @@
+//! The commands that `steps` reads, the replies that it writes, and its work between a reader and a writer.
+#![tactic(auto)]
+
+mod command;
+mod cut;
+mod line;
+mod outcome;
+mod reply;
+mod steps;
+
+pub use command::{Command, LineFault, read_command};
+pub use outcome::{Asker, Outcome, perform, put_outcome};
+pub use steps::{StepsFault, run_steps};

@@ -1,0 +1,149 @@
+//! The work of `steps` between a reader and a writer.
+
+ghost use Rattle.std.specs.Prelude.{◌≡◌, ℕ, List, Option, false, IfOk, IfErr, OnOk};
+ghost use Rattle.std.specs.Option.{option_copied};
+ghost use Rattle.std.specs.Io.KnownBytes.{Appends, Consumes};
+ghost use Rattle.pf_model.specs.World.{Answer};
+ghost use Rattle.pf_model.specs.Told.{outcome_text};
+ghost use Rattle.pf_wire.specs.View.{command_seen};
+ghost use Rattle.pf_wire.specs.Outcomes.{Comes};
+ghost use Rattle.pf_wire.specs.Steps.{last_text, AnswersOne, StepsText, Stops, StepsAnswered, StepsLeaves};
+
+use crate::command::{Command, LineFault, read_command};
+use crate::outcome::{Asker, perform, put_outcome};
+use pf_book::Book;
+use pf_terms::{Counted, EndFault, NoMemory, TakeFault};
+use pf_text::{put, put_number};
+use std::alloc::Global;
+use std::error::Error;
+use std::fmt;
+use std::io::{Read, Write};
+use std::sync::ledger::Ledger;
+
+/// Why the work stopped.
+#[derive(Debug, Drop)]
+pub enum StepsFault {
+    /// A growth was refused.
+    Memory,
+    /// The commands can't be read.
+    Read(EndFault),
+    /// The replies can't be written.
+    Write(EndFault),
+}
+
+impl fmt::Display for StepsFault {
+    fn fmt<W: fmt::Write>(&self, f: &mut fmt::Formatter<W>) -> fmt::Result {
+        f.write_str(match self {
+            StepsFault::Memory => "NoMemory",
+            StepsFault::Read(_) => "the commands can't be read",
+            StepsFault::Write(_) => "the replies can't be written",
+        })
+    }
+}
+
+impl Error for StepsFault {}
+
+/// The most bytes that are read.
+const MOST_BYTES: usize = 67_108_864;
+
+/// Does what a command asks for, and gives the text of what came of it.
+fn answer(alloc: Global, book: &mut Book, command: Command) -> Result<Vec<u8>, NoMemory>
+    ensures { IfOk result (λ text. (x : Option Answer) × Comes book.old (command_seen command) x book.new × (text.items ≡ outcome_text (command_seen command) x)) }
+{
+    let asker = Asker::of(&command);
+    let outcome = perform(alloc, book, command);
+    let mut text = Vec::new(alloc);
+    put_outcome(alloc, &mut text, asker, &outcome)?;
+    Ok(text)
+}
+
+/// The line that says that the command of this number, counted from 1, is none.
+fn refuse(alloc: Global, number: u64) -> Result<Vec<u8>, NoMemory>
+    ensures { IfOk result (λ text. text.items ≡ last_text false number) }
+{
+    let mut text = Vec::new(alloc);
+    put(&mut text, b"command ")?;
+    put_number(alloc, &mut text, number)?;
+    put(&mut text, b" refused C1\n")?;
+    Ok(text)
+}
+
+/// The text that a command is answered with, and what follows the command; nothing does where the line is none.
+#[derive(Drop)]
+struct Answered<'a> {
+    text: Vec<u8>,
+    rest: Option<&'a [u8]>,
+}
+
+/// Answers the command of this number, which stands in front.
+fn answer_front<'a>(
+    alloc: Global,
+    book: &mut Book,
+    bytes: &'a [u8],
+    number: u64,
+) -> Result<Answered<'a>, NoMemory>
+    ensures { IfOk result (λ a. AnswersOne bytes.now number book.old a.text.items (option_copied a.rest) book.new) }
+{
+    match read_command(alloc, bytes) {
+        Ok((command, rest)) => Ok(Answered {
+            text: answer(alloc, book, command)?,
+            rest: Some(rest),
+        }),
+        Err(LineFault::NoCommand) => Ok(Answered {
+            text: refuse(alloc, number)?,
+            rest: None,
+        }),
+        Err(LineFault::Memory) => Err(NoMemory),
+    }
+}
+
+/// Answers the commands of an input, each before the next is done, and gives the status.
+fn answer_all<W: Write, M: Ledger>(
+    alloc: Global,
+    input: &[u8],
+    writer: &mut Counted<W, M>,
+) -> Result<u8, StepsFault>
+    ensures answered { IfOk result (λ status. (text : List ℕ) × StepsText input.now text status × Appends (W.contents writer.old.inner) (W.contents writer.new.inner) text) }
+    ensures kept { OnOk result (writer.new.failures.total ≡ writer.old.failures.total) }
+    ensures fault { IfErr result (λ e. Stops e input.now (W.contents writer.old.inner) (W.contents writer.new.inner) writer.old.failures.total writer.new.failures.total) }
+{
+    let mut book = Book::new(alloc);
+    let mut rest = input;
+    let mut number: u64 = 1;
+    while !rest.is_empty() {
+        let answered = match answer_front(alloc, &mut book, rest, number) {
+            Ok(answered) => answered,
+            Err(NoMemory) => return Err(StepsFault::Memory),
+        };
+        if let Err(e) = writer.put(&answered.text) {
+            return Err(StepsFault::Write(e));
+        }
+        let Some(behind) = answered.rest else {
+            return Ok(2);
+        };
+        rest = behind;
+        number += 1;
+    }
+    Ok(0)
+}
+
+/// Reads at most 67,108,864 bytes, answers each command as it is done, and gives the status: 2 where a line is no command,
+/// behind which nothing is done, and else 0.
+pub fn run_steps<R: Read, W: Write, L: Ledger, M: Ledger>(
+    alloc: Global,
+    reader: &mut Counted<R, L>,
+    writer: &mut Counted<W, M>,
+) -> Result<u8, StepsFault>
+    ensures answered { IfOk result (λ status. StepsAnswered (R.remaining reader.old.inner) (W.contents writer.old.inner) (W.contents writer.new.inner) status) }
+    ensures taken { (bytes : List ℕ) × Consumes (R.remaining reader.old.inner) (R.remaining reader.new.inner) bytes }
+    ensures counts { OnOk result ((reader.new.failures.total ≡ reader.old.failures.total) × (writer.new.failures.total ≡ writer.old.failures.total)) }
+    ensures fault { IfErr result (λ e. StepsLeaves e (R.remaining reader.old.inner) (W.contents writer.old.inner) (W.contents writer.new.inner)
+        reader.old.failures.total reader.new.failures.total writer.old.failures.total writer.new.failures.total) }
+{
+    let input = match reader.take_front(alloc, MOST_BYTES) {
+        Ok(input) => input,
+        Err(TakeFault::Memory) => return Err(StepsFault::Memory),
+        Err(TakeFault::End(e)) => return Err(StepsFault::Read(e)),
+    };
+    answer_all(alloc, &input, writer)
+}
