@@ -4,6 +4,8 @@
 # is refused before `main` has begun may end the program with a message on standard error and status 1 or 2. Anything else, a
 # signal or a hang fails. Each run of the program itself, refused or not, has to give back each block that it asked for.
 #
+# It does the same with `pulsefarm steps`, whose runs may go on after a refused growth and say so in a line.
+#
 # Then it runs a loop by tail calls within 1,000 and within 100,000 steps: both have to take the same memory at most.
 set -u
 top=$(cd "$(dirname "$0")/../.." && pwd)
@@ -86,10 +88,51 @@ most_within() {
   most=$(sed -n 's/.*, \([0-9]*\) bytes at most$/\1/p' "$room/blocks")
 }
 
+# Whether a run of commands ended as it may: with the whole text; with a line that says where memory was wanting, and nothing else of
+# that command; or with the word `NoMemory` alone on its last line, and status 2.
+commands_ended_well() {
+  { [ "$status" = 0 ] && cmp -s "$room/out" "$room/whole"; } \
+    || { [ "$status" = 0 ] && grep -q -x -e 'p[12] refused NoMemory' -e 'w0 no memory' "$room/out"; } \
+    || { [ "$status" = 2 ] && [ "$(tail -n 1 "$room/out")" = NoMemory ]; } \
+    || { { [ "$status" = 1 ] || [ "$status" = 2 ]; } && [ ! -s "$room/out" ] && [ -s "$room/err" ]; }
+}
+
+# Refuses each growth of `pulsefarm steps` in turn, over the calls of two projects and a worker's work.
+all_commands_refused() {
+  echo steps > "$room/words"
+  source='-module(m).\n-export([main/0]).\nmain() -> 1 + 2 * 3.\n'
+  order='main returns none 100'
+  printf "submit 1 52\n$source\nsubmit 2 52\n$source\norder 1 1 $order\norder 2 1 $order\nonce 1 1\nfetch 1 1\nfetch 2 1\nusage 2\n" > "$room/in"
+  {
+    printf '%s\n' 'p1 module 1' 'p2 module 1' 'p1 ticket 1' 'p2 ticket 1' 'w0 done' 'p1 report 4' '0/1 <0> end normal' 'finished 7' \
+      'steps 4' 'property holds' 'p2 refused B5' 'p2 usage 1 52 1 100 3'
+  } > "$room/whole"
+  k=1
+  while [ "$k" -le 10000 ]; do
+    refusing "$k"
+    if [ ! -e "$room/told" ]; then
+      break
+    fi
+    if { [ "$status" = 0 ] || [ -s "$room/out" ]; } && ! gave_all_back; then
+      failure "steps: growth $k refused: $(cat "$room/blocks")"
+    elif commands_ended_well; then
+      passed=$((passed + 1))
+    else
+      failure "steps: growth $k refused: status $status, output: $(head -c 200 "$room/out")"
+    fi
+    k=$((k + 1))
+  done
+  if [ "$status" != 0 ] || ! cmp -s "$room/out" "$room/whole"; then
+    failure "steps: with no growth refused: status $status"
+  fi
+  echo "steps: $((k - 1)) growths refused"
+}
+
 built pf_refused
 all_refused pf_refused
 built pulsefarm
 all_refused pulsefarm
+all_commands_refused
 
 printf '%s\n' '-module(m).' '-export([main/0]).' 'main() -> loop(50000).' 'loop(N) -> case N of 0 -> done; _ -> loop(N - 1) end.' > "$room/in"
 most_within 1000
