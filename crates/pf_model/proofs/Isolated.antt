@@ -1,15 +1,15 @@
 -- A step does to a project's desk what it does to one desk, and nothing where it doesn't belong to the project.
-use Rattle.std.proofs.Common.{◌≡◌, ℕ, ◌==◌, Bool, true, false, List, [], ◌∷◌, ◌++◌, refl, sym, ap, ◌∙◌, subst, arith}
+use Rattle.std.proofs.Common.{◌≡◌, ℕ, ◌==◌, Bool, true, false, List, [], ◌∷◌, ◌++◌, refl, ap, ◌∙◌, arith}
 use Rattle.std.specs.Prelude.{if◌then◌else◌}
 use Rattle.std.proofs.lemmas.Bool.Decides.{nat_tests}
-use Rattle.pf_model.specs.Desk.{Profile, Desk, no_desk, Reply, numbered, after_call, after_once, is_queued}
+use Rattle.pf_model.specs.Desk.{Profile, Desk, Reply, numbered, after_call, after_once, is_queued}
 use Rattle.pf_model.specs.World.{Step, client, once, Answer, World, desk_at, put_desk, step, answers, whole, named, belongs, replies_in, told, own_steps, desk_after, desk_replies, replies_along, alone}
 
 pick : {A : Type 0} (P : A → Type 0) (b : Bool) (x y : A) → P x → P y → P (if b then x else y)
 pick P true x y f g = f
 pick P false x y f g = g
 
-desk_placed : (q r : ℕ) (d : Desk) (w : World) → desk_at q (put_desk r d w) ≡ (if r == q then d else desk_at q w)
+pub desk_placed : (q r : ℕ) (d : Desk) (w : World) → desk_at q (put_desk r d w) ≡ (if r == q then d else desk_at q w)
 desk_placed q r d [] = grind (arith, nat_tests)
 desk_placed q r d (e ∷ es) = grind (arith, nat_tests, desk_placed q r d es)
 
@@ -48,7 +48,7 @@ local : (p : Profile) (q : ℕ) (w : World) (s : Step) → IsLocal p q w s (step
 local p q w (client r c) = (replies_made q r (λ d. desk_replies p d (client r c)) w, desk_made q r (λ d. after_call p d c) w)
 local p q w (once r t) =
     pick (IsLocal p q w (once r t)) (is_queued (numbered (desk_at r w).trials t)) _ _
-        (refl, desk_made q r (λ d. after_once p d t) w) (no_replies (r == q), refl)
+    (refl, desk_made q r (λ d. after_once p d t) w) (no_replies (r == q), refl)
 
 joined : (p : Profile) (q : ℕ) (s : Step) (a : Answer) (ss : List Step) (xs : List Answer) (d d' : Desk)
     → (if named s == q then replies_in a else []) ≡ (if belongs q s a then desk_replies p d s else [])

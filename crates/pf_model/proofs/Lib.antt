@@ -5,3 +5,4 @@ pub mod Lifts
 pub mod Rest
 pub mod Isolated
 pub mod Roots
+pub mod Histories

@@ -107,8 +107,8 @@ job_from m None property schedule limit = Err no_root
 job_from m (Some root) property schedule limit =
     if bytes_eq property (codes "returns")
     then (if is_in_range schedule limit
-        then Ok (record { stored = m; root = root; schedule = schedule; limit = limit })
-        else Err out_of_range)
+    then Ok (record { stored = m; root = root; schedule = schedule; limit = limit })
+    else Err out_of_range)
     else Err no_property
 
 -- the module comes before all of these

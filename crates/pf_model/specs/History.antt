@@ -1,5 +1,5 @@
 -- Legal histories: what a desk noted, replayed on an empty desk, gives its own replies.
-use Rattle.std.specs.Prelude.{◌≡◌, ℕ, true, List, [], ◌∷◌}
+use Rattle.std.specs.Prelude.{◌≡◌, true, List, [], ◌∷◌}
 use Rattle.pf_model.specs.Desk.{Profile, Desk, no_desk, Entry, called, claimed, filed, numbered, reply_to, after_call, after_claim, after_file, is_queued, is_running}
 
 -- the desk after what this notes

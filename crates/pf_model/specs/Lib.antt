@@ -23,3 +23,4 @@ pub mod History
 pub mod World
 pub mod Told
 pub mod DeskCode
+pub mod Legality

@@ -5,6 +5,7 @@ ghost use Rattle.pf_model.specs.Place.{OnePlace};
 ghost use Rattle.pf_model.specs.Meaning.{OneMeaning};
 ghost use Rattle.pf_model.specs.Examples.{TextsOfExamples};
 ghost use Rattle.pf_model.specs.World.{Isolation};
+ghost use Rattle.pf_model.specs.Legality.{Legality};
 
 /// The function of fit answers as the relation between a pattern, a value and the variables before and after holds.
 pub fn fit_is_a_relation()
@@ -30,4 +31,10 @@ pub fn texts_of_examples()
 /// told alone, along its own steps.
 pub fn isolation()
     ensures { Isolation }
+{}
+
+/// Legality: for every list of steps, each project's desk is what its own history makes of an empty one, and the history is
+/// legal.
+pub fn legality()
+    ensures { Legality }
 {}

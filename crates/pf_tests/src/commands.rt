@@ -70,6 +70,10 @@ const ORDERS_TEXT: &[u8] =
 p7 refused B6\np7 refused B6\np7 ticket 1\nw0 done\np7 report 4\n0/1 <0> cut\nlimit\nsteps 3\nproperty fails\n\
 p7 refused E4\np7 usage 1 74 1 3 10\n";
 
+const NO_COMMAND: &[u8] = b"command 1 refused C1\n";
+
+const SECOND_IS_NONE: &[u8] = b"p1 usage 0 0 0 0 0\ncommand 2 refused C1\n";
+
 #[test]
 fn texts_of_commands(rt: HostRuntime) {
     for (input, text, status) in [
@@ -121,7 +125,7 @@ fn lines_that_are_no_command(rt: HostRuntime) {
         "\n",
     ] {
         let made = made(rt.alloc(), line.as_bytes(), NONE);
-        assert_eq!(rt; made.out.as_slice(), b"command 1 refused C1\n", "{line}");
+        assert_eq!(rt; made.out.as_slice(), NO_COMMAND, "{line}");
         assert!(rt; matches!(made.answer, Ok(2)), "{line}");
     }
 }
@@ -129,10 +133,7 @@ fn lines_that_are_no_command(rt: HostRuntime) {
 #[test]
 fn what_follows_a_line_that_is_no_command_is_not_read(rt: HostRuntime) {
     let made = made(rt.alloc(), b"usage 1\nusage\nusage 1\n", NONE);
-    assert_eq!(rt;
-        made.out.as_slice(),
-        b"p1 usage 0 0 0 0 0\ncommand 2 refused C1\n"
-    );
+    assert_eq!(rt; made.out.as_slice(), SECOND_IS_NONE);
     assert!(rt; matches!(made.answer, Ok(2)));
 }
 
@@ -144,7 +145,7 @@ fn fronts_of_a_submission_are_no_command(rt: HostRuntime) {
             break;
         }
         let made = made(rt.alloc(), &TWO[..end], NONE);
-        assert_eq!(rt; made.out.as_slice(), b"command 1 refused C1\n", "{end}");
+        assert_eq!(rt; made.out.as_slice(), NO_COMMAND, "{end}");
         fronts += 1;
     }
     assert_eq!(rt; fronts, 63);
