@@ -11,18 +11,18 @@ use std::sync::ledger::{Blank, Ledger};
 
 /// What went out, and the answer.
 #[derive(Drop)]
-struct Made {
+struct Work {
     out: Vec<u8>,
     answer: Result<u8, StepsFault>,
 }
 
-fn made_by<L: Ledger, M: Ledger>(
+fn carry_out_by<L: Ledger, M: Ledger>(
     alloc: Global,
     input: &[u8],
     failing: Failing,
     reads: Blank,
     writes: Blank,
-) -> Made
+) -> Work
     requires reads { reads.name ≡ L.name }
     requires read_parts { reads.parts ≡ L.parts }
     requires some_reads { 0 < reads.parts }
@@ -39,12 +39,12 @@ fn made_by<L: Ledger, M: Ledger>(
     let Counted { inner, .. } = writer;
     let FailAt { inner: narrow, .. } = inner;
     let Narrow { taken: out } = narrow;
-    Made { out, answer }
+    Work { out, answer }
 }
 
 /// Makes the commands of an input in memory, with calls that fail.
-fn made(alloc: Global, input: &[u8], failing: Failing) -> Made {
-    made_by::<Brand, Brand>(alloc, input, failing, Blank::new(1), Blank::new(1))
+fn carry_out(alloc: Global, input: &[u8], failing: Failing) -> Work {
+    carry_out_by::<Brand, Brand>(alloc, input, failing, Blank::new(1), Blank::new(1))
 }
 
 /// Two projects with one module, an order of each, and one trial that is run.
@@ -93,9 +93,9 @@ fn texts_of_commands(rt: HostRuntime) {
             0,
         ),
     ] {
-        let made = made(rt.alloc(), input, NONE);
-        assert_eq!(rt; made.out.as_slice(), text);
-        assert!(rt; matches!(made.answer, Ok(given) if given == status));
+        let work = carry_out(rt.alloc(), input, NONE);
+        assert_eq!(rt; work.out.as_slice(), text);
+        assert!(rt; matches!(work.answer, Ok(given) if given == status));
     }
 }
 
@@ -124,17 +124,17 @@ fn lines_that_are_no_command(rt: HostRuntime) {
         "Usage 1",
         "\n",
     ] {
-        let made = made(rt.alloc(), line.as_bytes(), NONE);
-        assert_eq!(rt; made.out.as_slice(), NO_COMMAND, "{line}");
-        assert!(rt; matches!(made.answer, Ok(2)), "{line}");
+        let work = carry_out(rt.alloc(), line.as_bytes(), NONE);
+        assert_eq!(rt; work.out.as_slice(), NO_COMMAND, "{line}");
+        assert!(rt; matches!(work.answer, Ok(2)), "{line}");
     }
 }
 
 #[test]
 fn what_follows_a_line_that_is_no_command_is_not_read(rt: HostRuntime) {
-    let made = made(rt.alloc(), b"usage 1\nusage\nusage 1\n", NONE);
-    assert_eq!(rt; made.out.as_slice(), SECOND_IS_NONE);
-    assert!(rt; matches!(made.answer, Ok(2)));
+    let work = carry_out(rt.alloc(), b"usage 1\nusage\nusage 1\n", NONE);
+    assert_eq!(rt; work.out.as_slice(), SECOND_IS_NONE);
+    assert!(rt; matches!(work.answer, Ok(2)));
 }
 
 #[test]
@@ -144,8 +144,8 @@ fn fronts_of_a_submission_are_no_command(rt: HostRuntime) {
         if end > 63 {
             break;
         }
-        let made = made(rt.alloc(), &TWO[..end], NONE);
-        assert_eq!(rt; made.out.as_slice(), NO_COMMAND, "{end}");
+        let work = carry_out(rt.alloc(), &TWO[..end], NONE);
+        assert_eq!(rt; work.out.as_slice(), NO_COMMAND, "{end}");
         fronts += 1;
     }
     assert_eq!(rt; fronts, 63);
@@ -155,12 +155,12 @@ fn fronts_of_a_submission_are_no_command(rt: HostRuntime) {
 fn a_reader_that_fails_leaves_no_text(rt: HostRuntime) {
     let mut failed = 0u64;
     for k in 1..1000u64 {
-        let made = made(rt.alloc(), TWO, Failing { read: k, write: 0 });
-        match made.answer {
+        let work = carry_out(rt.alloc(), TWO, Failing { read: k, write: 0 });
+        match work.answer {
             Err(StepsFault::Read(_)) => failed += 1,
             _ => break,
         }
-        assert!(rt; made.out.is_empty(), "{k}");
+        assert!(rt; work.out.is_empty(), "{k}");
     }
     assert!(rt; failed > 0);
 }
@@ -169,12 +169,12 @@ fn a_reader_that_fails_leaves_no_text(rt: HostRuntime) {
 fn a_writer_that_fails_leaves_a_beginning(rt: HostRuntime) {
     let mut failed = 0u64;
     for k in 1..1000u64 {
-        let made = made(rt.alloc(), TWO, Failing { read: 0, write: k });
-        match made.answer {
+        let work = carry_out(rt.alloc(), TWO, Failing { read: 0, write: k });
+        match work.answer {
             Err(StepsFault::Write(_)) => failed += 1,
             _ => break,
         }
-        assert!(rt; TWO_TEXT.starts_with(&made.out), "{k}");
+        assert!(rt; TWO_TEXT.starts_with(&work.out), "{k}");
     }
     assert!(rt; failed > 10);
 }
