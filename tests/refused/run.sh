@@ -24,6 +24,7 @@ failure() {
 built() {
   crate="$top/crates/$1"
   program="$crate/out/$1"
+  whole="$crate/stdout"
   if [ -e "$crate/args" ]; then tr '\n' ' ' < "$crate/args" > "$room/words"; else : > "$room/words"; fi
   if [ -e "$crate/stdin" ]; then cp "$crate/stdin" "$room/in"; else : > "$room/in"; fi
   words=$(cat "$room/words")
@@ -48,12 +49,20 @@ gave_all_back() {
 
 # Whether the run ended as it may.
 ended_well() {
-  { [ "$status" = 0 ] && cmp -s "$room/out" "$crate/stdout"; } \
+  { [ "$status" = 0 ] && cmp -s "$room/out" "$whole"; } \
     || { [ "$status" = 2 ] && [ "$(cat "$room/out")" = NoMemory ]; } \
     || { { [ "$status" = 1 ] || [ "$status" = 2 ]; } && [ ! -s "$room/out" ] && [ -s "$room/err" ]; }
 }
 
-# Refuses each growth of the program in turn.
+# Whether a run of commands ended as it may: so too with a line that says where memory was wanting; or with the word `NoMemory` alone on
+# its last line, and status 2.
+commands_ended_well() {
+  ended_well \
+    || { [ "$status" = 0 ] && grep -q -x -e 'p[12] refused NoMemory' -e 'w0 no memory' "$room/out"; } \
+    || { [ "$status" = 2 ] && [ "$(tail -n 1 "$room/out")" = NoMemory ]; }
+}
+
+# Refuses each growth of the program in turn: $1 names the run, and $2 tells whether it ended as it may.
 all_refused() {
   k=1
   while [ "$k" -le 10000 ]; do
@@ -63,7 +72,7 @@ all_refused() {
     fi
     if { [ "$status" = 0 ] || [ -s "$room/out" ]; } && ! gave_all_back; then
       failure "$1: growth $k refused: $(cat "$room/blocks")"
-    elif ended_well; then
+    elif "$2"; then
       passed=$((passed + 1))
     else
       failure "$1: growth $k refused: status $status, output: $(head -c 200 "$room/out")"
@@ -71,13 +80,24 @@ all_refused() {
     k=$((k + 1))
   done
   gave_all_back || failure "$1: with no growth refused: $(cat "$room/blocks")"
-  if [ "$status" != 0 ] || ! cmp -s "$room/out" "$crate/stdout"; then
+  if [ "$status" != 0 ] || ! cmp -s "$room/out" "$whole"; then
     failure "$1: with no growth refused: status $status"
   fi
   if [ "$k" -lt 5 ]; then
     failure "$1: only $((k - 1)) growths were refused: the library does not reach the program"
   fi
   echo "$1: $((k - 1)) growths refused"
+}
+
+# Sets the words and the input of `pulsefarm steps`, over the calls of two projects and a worker's work, and what it writes.
+some_commands() {
+  echo steps > "$room/words"
+  source='-module(m).\n-export([main/0]).\nmain() -> 1 + 2 * 3.\n'
+  order='main returns none 100'
+  printf "submit 1 52\n$source\nsubmit 2 52\n$source\norder 1 1 $order\norder 2 1 $order\nonce 1 1\nfetch 1 1\nfetch 2 1\nusage 2\n" > "$room/in"
+  whole=$room/whole
+  printf '%s\n' 'p1 module 1' 'p2 module 1' 'p1 ticket 1' 'p2 ticket 1' 'w0 done' 'p1 report 4' '0/1 <0> end normal' 'finished 7' \
+    'steps 4' 'property holds' 'p2 refused B5' 'p2 usage 1 52 1 100 3' > "$whole"
 }
 
 # Sets `most` to the bytes that stood in blocks at most, in a run within $1 steps.
@@ -88,51 +108,12 @@ most_within() {
   most=$(sed -n 's/.*, \([0-9]*\) bytes at most$/\1/p' "$room/blocks")
 }
 
-# Whether a run of commands ended as it may: with the whole text; with a line that says where memory was wanting, and nothing else of
-# that command; or with the word `NoMemory` alone on its last line, and status 2.
-commands_ended_well() {
-  { [ "$status" = 0 ] && cmp -s "$room/out" "$room/whole"; } \
-    || { [ "$status" = 0 ] && grep -q -x -e 'p[12] refused NoMemory' -e 'w0 no memory' "$room/out"; } \
-    || { [ "$status" = 2 ] && [ "$(tail -n 1 "$room/out")" = NoMemory ]; } \
-    || { { [ "$status" = 1 ] || [ "$status" = 2 ]; } && [ ! -s "$room/out" ] && [ -s "$room/err" ]; }
-}
-
-# Refuses each growth of `pulsefarm steps` in turn, over the calls of two projects and a worker's work.
-all_commands_refused() {
-  echo steps > "$room/words"
-  source='-module(m).\n-export([main/0]).\nmain() -> 1 + 2 * 3.\n'
-  order='main returns none 100'
-  printf "submit 1 52\n$source\nsubmit 2 52\n$source\norder 1 1 $order\norder 2 1 $order\nonce 1 1\nfetch 1 1\nfetch 2 1\nusage 2\n" > "$room/in"
-  {
-    printf '%s\n' 'p1 module 1' 'p2 module 1' 'p1 ticket 1' 'p2 ticket 1' 'w0 done' 'p1 report 4' '0/1 <0> end normal' 'finished 7' \
-      'steps 4' 'property holds' 'p2 refused B5' 'p2 usage 1 52 1 100 3'
-  } > "$room/whole"
-  k=1
-  while [ "$k" -le 10000 ]; do
-    refusing "$k"
-    if [ ! -e "$room/told" ]; then
-      break
-    fi
-    if { [ "$status" = 0 ] || [ -s "$room/out" ]; } && ! gave_all_back; then
-      failure "steps: growth $k refused: $(cat "$room/blocks")"
-    elif commands_ended_well; then
-      passed=$((passed + 1))
-    else
-      failure "steps: growth $k refused: status $status, output: $(head -c 200 "$room/out")"
-    fi
-    k=$((k + 1))
-  done
-  if [ "$status" != 0 ] || ! cmp -s "$room/out" "$room/whole"; then
-    failure "steps: with no growth refused: status $status"
-  fi
-  echo "steps: $((k - 1)) growths refused"
-}
-
 built pf_refused
-all_refused pf_refused
+all_refused pf_refused ended_well
 built pulsefarm
-all_refused pulsefarm
-all_commands_refused
+all_refused pulsefarm ended_well
+some_commands
+all_refused steps commands_ended_well
 
 printf '%s\n' '-module(m).' '-export([main/0]).' 'main() -> loop(50000).' 'loop(N) -> case N of 0 -> done; _ -> loop(N - 1) end.' > "$room/in"
 most_within 1000
