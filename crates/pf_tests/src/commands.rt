@@ -48,53 +48,53 @@ fn carry_out(alloc: Global, input: &[u8], failing: Failing) -> Work {
 }
 
 /// Two projects with one module, an order of each, and one trial that is run.
-const TWO: &[u8] = b"submit 1 52\n-module(m).\n-export([main/0]).\nmain() -> 1 + 2 * 3.\n\n\
+const TWO: &str = "submit 1 52\n-module(m).\n-export([main/0]).\nmain() -> 1 + 2 * 3.\n\n\
 submit 2 52\n-module(m).\n-export([main/0]).\nmain() -> 1 + 2 * 3.\n\n\
 order 1 1 main returns none 100\norder 2 1 main returns 5,9 100\nusage 1\nusage 2\n\
 once 1 1\nonce 1 1\nfetch 1 1\nfetch 2 1\nfetch 2 2\nonce 3 1\n";
 
-const TWO_TEXT: &[u8] = b"p1 module 1\np2 module 1\np1 ticket 1\np2 ticket 1\n\
+const TWO_TEXT: &str = "p1 module 1\np2 module 1\np1 ticket 1\np2 ticket 1\n\
 p1 usage 1 52 1 100 2\np2 usage 1 52 1 100 2\nw0 done\nw0 not now N2\n\
 p1 report 4\n0/1 <0> end normal\nfinished 7\nsteps 4\nproperty holds\n\
 p2 refused B5\np2 refused B3\nw0 not now N2\n";
 
 /// One project whose module has an exported function of an argument, and a private one without any.
-const ORDERS: &[u8] =
-    b"submit 7 74\n-module(m).\n-export([main/0, f/1]).\nmain() -> g().\nf(X) -> X.\ng() -> g().\n\n\
+const ORDERS: &str =
+    "submit 7 74\n-module(m).\n-export([main/0, f/1]).\nmain() -> g().\nf(X) -> X.\ng() -> g().\n\n\
 order 7 2 none maybe none 0\norder 7 1 f maybe none 0\norder 7 1 g maybe none 0\norder 7 1 main maybe none 0\n\
 order 7 1 main returns none 0\norder 7 1 main returns none 100001\norder 7 1 main returns none 3\nonce 7 1\nfetch 7 1\n\
 submit 7 5\nhello\nusage 7\n";
 
-const ORDERS_TEXT: &[u8] =
-    b"p7 module 1\np7 refused B1\np7 refused B2\np7 refused B2\np7 refused P1\n\
+const ORDERS_TEXT: &str =
+    "p7 module 1\np7 refused B1\np7 refused B2\np7 refused B2\np7 refused P1\n\
 p7 refused B6\np7 refused B6\np7 ticket 1\nw0 done\np7 report 4\n0/1 <0> cut\nlimit\nsteps 3\nproperty fails\n\
 p7 refused E4\np7 usage 1 74 1 3 10\n";
 
-const NO_COMMAND: &[u8] = b"command 1 refused C1\n";
+const NO_COMMAND: &str = "command 1 refused C1\n";
 
-const SECOND_IS_NONE: &[u8] = b"p1 usage 0 0 0 0 0\ncommand 2 refused C1\n";
+const SECOND_IS_NONE: &str = "p1 usage 0 0 0 0 0\ncommand 2 refused C1\n";
 
 #[test]
 fn texts_of_commands(rt: HostRuntime) {
     for (input, text, status) in [
         (TWO, TWO_TEXT, 0),
         (ORDERS, ORDERS_TEXT, 0),
-        (b"", b"", 0),
-        (b"submit 1 0\n", b"p1 refused E4\n", 0),
-        (b"usage 4294967295", b"p4294967295 usage 0 0 0 0 0\n", 0),
+        ("", "", 0),
+        ("submit 1 0\n", "p1 refused E4\n", 0),
+        ("usage 4294967295", "p4294967295 usage 0 0 0 0 0\n", 0),
         (
-            b"usage 1\nusage 1\n",
-            b"p1 usage 0 0 0 0 0\np1 usage 0 0 0 0 1\n",
+            "usage 1\nusage 1\n",
+            "p1 usage 0 0 0 0 0\np1 usage 0 0 0 0 1\n",
             0,
         ),
         (
-            b"submit 1 3\nabc\nusage 1\n",
-            b"p1 refused E4\np1 usage 0 0 0 0 1\n",
+            "submit 1 3\nabc\nusage 1\n",
+            "p1 refused E4\np1 usage 0 0 0 0 1\n",
             0,
         ),
     ] {
-        let work = carry_out(rt.alloc(), input, NONE);
-        assert_eq!(rt; work.out.as_slice(), text);
+        let work = carry_out(rt.alloc(), input.as_bytes(), NONE);
+        assert_eq!(rt; work.out.as_slice(), text.as_bytes());
         assert!(rt; matches!(work.answer, Ok(given) if given == status));
     }
 }
@@ -125,56 +125,72 @@ fn lines_that_are_no_command(rt: HostRuntime) {
         "\n",
     ] {
         let work = carry_out(rt.alloc(), line.as_bytes(), NONE);
-        assert_eq!(rt; work.out.as_slice(), NO_COMMAND, "{line}");
+        assert_eq!(rt; work.out.as_slice(), NO_COMMAND.as_bytes(), "{line}");
         assert!(rt; matches!(work.answer, Ok(2)), "{line}");
     }
 }
 
 #[test]
 fn what_follows_a_line_that_is_no_command_is_not_read(rt: HostRuntime) {
-    let work = carry_out(rt.alloc(), b"usage 1\nusage\nusage 1\n", NONE);
-    assert_eq!(rt; work.out.as_slice(), SECOND_IS_NONE);
+    let work = carry_out(rt.alloc(), "usage 1\nusage\nusage 1\n".as_bytes(), NONE);
+    assert_eq!(rt; work.out.as_slice(), SECOND_IS_NONE.as_bytes());
     assert!(rt; matches!(work.answer, Ok(2)));
 }
 
 #[test]
 fn fronts_of_a_submission_are_no_command(rt: HostRuntime) {
-    let mut fronts = 0u64;
-    for end in 1..TWO.len() {
-        if end > 63 {
+    let mut last = 0usize;
+    for end in 1..64usize {
+        let Some(front) = TWO.as_bytes().get(..end) else {
             break;
-        }
-        let work = carry_out(rt.alloc(), &TWO[..end], NONE);
-        assert_eq!(rt; work.out.as_slice(), NO_COMMAND, "{end}");
-        fronts += 1;
+        };
+        let work = carry_out(rt.alloc(), front, NONE);
+        assert_eq!(rt; work.out.as_slice(), NO_COMMAND.as_bytes(), "{end}");
+        assert!(rt; matches!(work.answer, Ok(2)), "{end}");
+        last = end;
     }
-    assert_eq!(rt; fronts, 63);
+    // With one byte more only the last line end is missing.
+    assert_eq!(rt; last, 63);
 }
 
 #[test]
 fn a_reader_that_fails_leaves_no_text(rt: HostRuntime) {
     let mut failed = 0u64;
     for k in 1..1000u64 {
-        let work = carry_out(rt.alloc(), TWO, Failing { read: k, write: 0 });
+        let work = carry_out(rt.alloc(), TWO.as_bytes(), Failing { read: k, write: 0 });
         match work.answer {
-            Err(StepsFault::Read(_)) => failed += 1,
-            _ => break,
+            Err(StepsFault::Read(_)) => {
+                assert!(rt; work.out.is_empty(), "call {k}");
+                failed = k;
+            }
+            answer => {
+                assert!(rt; matches!(answer, Ok(0)), "call {k}");
+                assert_eq!(rt; work.out.as_slice(), TWO_TEXT.as_bytes(), "call {k}");
+                break;
+            }
         }
-        assert!(rt; work.out.is_empty(), "{k}");
     }
-    assert!(rt; failed > 0);
+    // One call gives all commands, and one their end.
+    assert_eq!(rt; failed, 2);
 }
 
 #[test]
 fn a_writer_that_fails_leaves_a_beginning(rt: HostRuntime) {
     let mut failed = 0u64;
     for k in 1..1000u64 {
-        let work = carry_out(rt.alloc(), TWO, Failing { read: 0, write: k });
+        let work = carry_out(rt.alloc(), TWO.as_bytes(), Failing { read: 0, write: k });
         match work.answer {
-            Err(StepsFault::Write(_)) => failed += 1,
-            _ => break,
+            Err(StepsFault::Write(_)) => {
+                assert!(rt; TWO_TEXT.as_bytes().starts_with(&work.out), "call {k}");
+                failed = k;
+            }
+            answer => {
+                assert!(rt; matches!(answer, Ok(0)), "call {k}");
+                assert_eq!(rt; work.out.as_slice(), TWO_TEXT.as_bytes(), "call {k}");
+                break;
+            }
         }
-        assert!(rt; TWO_TEXT.starts_with(&work.out), "{k}");
     }
-    assert!(rt; failed > 10);
+    // Its 12 answers go out by 7 bytes a call, each in calls of its own: 2 each for the shorter ones, and 12 for the report.
+    assert!(rt; failed >= 24);
 }
