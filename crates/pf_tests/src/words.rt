@@ -160,13 +160,16 @@ fn values_of_words(rt: HostRuntime) {
             schedule,
         ];
         match read_words(rt.alloc(), &words) {
-            Ok(Words::Run(asked)) => {
-                assert_eq!(rt; asked.file, Some("a.erl"));
-                assert_eq!(rt; asked.root, "main");
-                assert_eq!(rt; asked.limit, 0);
-                assert_eq!(rt; asked.schedule.as_slice(), numbers);
-            }
-            _ => assert!(rt; false, "{schedule}"),
+            Ok(asked) => match &asked {
+                Words::Run(run) => {
+                    assert_eq!(rt; run.file, Some("a.erl"));
+                    assert_eq!(rt; run.root, "main");
+                    assert_eq!(rt; run.limit, 0);
+                    assert_eq!(rt; run.schedule.as_slice(), numbers);
+                }
+                Words::Steps(_) => assert!(rt; false, "{schedule}"),
+            },
+            Err(_) => assert!(rt; false, "{schedule}"),
         }
     }
 }
