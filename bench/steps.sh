@@ -1,9 +1,8 @@
 #!/bin/sh
 # Times `pulsefarm steps` on scripts of many projects, each with 16 modules, 64 orders, and a worker's `once` and a `fetch` for each order, and
 # takes how many bytes stand in blocks at most. It prints tables for docs/SPEED.md, and fails where a command costs over 1.5 times as much in one
-# script as in another, or where 100 projects take 3 times the bytes of their sources, reports and logs or more. The bytes of reports and logs
-# are those by which 64 orders and their runs and fetches raise what stands in blocks at most. The program is the one that the gate
-# or install.sh built.
+# script as in another, or where 100 projects take 3 bytes or more for each byte that is read and written: the sources, the calls and the
+# replies with their reports. The program is the one that the gate or install.sh built.
 set -eu
 top=$(cd "$(dirname "$0")/.." && pwd)
 program=${1:-$top/crates/pulsefarm/out/pulsefarm}
@@ -58,21 +57,11 @@ for projects in 8 31 123; do
 done
 [ $((high * 10)) -le $((low * 15)) ] || bad=1
 
-# Sets `most` to the bytes that stand in blocks at most, in a run of the script of 100 projects with $1 modules and $2 orders each.
-most_of() {
-  script 100 "$1" "$2" > "$room/in"
-  LD_PRELOAD="$room/blocks.so" BLOCKS_TOLD="$room/blocks" "$program" steps "$room/in" > "$room/out"
-  most=$(sed -n 's/.*, \([0-9]*\) bytes at most$/\1/p' "$room/blocks")
-}
-
-most_of 1 0
-bare=$most
-most_of 1 64
-logs=$((most - bare))
-most_of 16 0
-sources=$(awk '$1 == "submit" { bytes += $3 } END { print bytes }' "$room/in")
-most_of 16 64
+script 100 16 64 > "$room/in"
+LD_PRELOAD="$room/blocks.so" BLOCKS_TOLD="$room/blocks" "$program" steps "$room/in" > "$room/out"
+most=$(sed -n 's/.*, \([0-9]*\) bytes at most$/\1/p' "$room/blocks")
+text=$(($(wc -c < "$room/in") + $(wc -c < "$room/out")))
 echo
-echo "100 projects, 20,800 commands: at most $most bytes in blocks; $sources bytes of sources, $logs of trials, reports and logs"
-[ "$most" -lt $(((sources + logs) * 3)) ] || bad=1
+echo "100 projects, 20,800 commands: at most $most bytes in blocks, for $text bytes read and written"
+[ "$most" -lt $((text * 3)) ] || bad=1
 exit "$bad"
