@@ -9,7 +9,7 @@ use Rattle.pf_book.specs.Profile.{profile}
 use Rattle.pf_book.specs.declared.plan.Addition.{Addition}
 use Rattle.pf_book.specs.declared.plan.Addition.TheVariants as addition
 use Rattle.pf_book.specs.Plans.{with_addition, used_by}
-use Rattle.pf_book.proofs.Histories.{desk_more}
+use Rattle.pf_model.proofs.Histories.{desk_more}
 use Rattle.pf_book.proofs.Sums.{calls_more, used_more}
 
 same_history : (d : Desk) (a : Addition) → (with_addition d a).history ≡ d.history

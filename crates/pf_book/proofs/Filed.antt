@@ -9,7 +9,7 @@ use Rattle.pf_model.specs.Desk.{Stored, Job, State, queued, running, done, Trial
 use Rattle.pf_model.specs.History.{IsLegalDesk}
 use Rattle.pf_book.specs.Profile.{profile}
 use Rattle.pf_book.specs.Queued.{job_in_state, job_of_trial, job_at}
-use Rattle.pf_book.proofs.Histories.{desk_more}
+use Rattle.pf_model.proofs.Histories.{desk_more}
 use Rattle.pf_book.proofs.Sums.{calls_claimed, calls_filed}
 
 -- ---- trials whose state is set

@@ -1,5 +1,4 @@
 pub mod Profiles
-pub mod Histories
 pub mod Sums
 pub mod Called
 pub mod Filed
