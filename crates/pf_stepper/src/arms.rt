@@ -8,11 +8,11 @@ ghost use Rattle.pf_stepper.specs.declared.frame.Kind.TheVariants as kind;
 use crate::clauses::choose;
 use crate::fitting::fit;
 use crate::frame::{Focus, Frame, Kind, Turn};
-use crate::lookups::{arguments, clauses, patterns};
+use crate::lookups::{arguments, clauses, operation, patterns, rest};
 use crate::stack::Stack;
 use pf_model::arithmetic::{applied, negated};
 use pf_model::reasons::tagged;
-use pf_syntax::{FunctionId, Module, NodeId, Operator, Part};
+use pf_syntax::{FunctionId, Module, NodeId, Operator};
 use pf_terms::{AtomId, NoMemory, Term};
 use std::alloc::Global;
 
@@ -33,16 +33,16 @@ impl Stack {
         &mut self,
         code: &Module,
         frame: Frame,
-        operator: Operator,
-        right: Part,
+        id: NodeId,
         value: Term,
     ) -> Result<Turn, NoMemory>
-        requires kind { frame.kind ≡ kind.BinaryLeft operator right }
+        requires kind { frame.kind ≡ kind.BinaryLeft id }
         requires sound { Holds self.old frame }
         ensures { IfOk result (λ t. Gave code.now self.old frame value self.new t) }
     {
         self.env.truncate(frame.end);
         self.base = frame.base;
+        let (operator, right) = operation(code, id);
         match self.immediate(code, right)? {
             Some(other) => Ok(Turn::Changed(outcome(applied(operator, &value, &other)))),
             None => {
@@ -71,6 +71,25 @@ impl Stack {
         }
     }
 
+    /// A right operand, after a left one that stands in a slot.
+    pub(crate) fn right_after_slot(
+        &mut self,
+        code: &Module,
+        frame: Frame,
+        operator: Operator,
+        place: u32,
+        value: Term,
+    ) -> Result<Turn, NoMemory>
+        requires kind { frame.kind ≡ kind.BinaryAfterSlot operator place }
+        requires sound { Holds self.old frame }
+        ensures { IfOk result (λ t. Gave code.now self.old frame value self.new t) }
+    {
+        self.env.truncate(frame.end);
+        self.base = frame.base;
+        let left = self.slot_or_nil(place)?;
+        Ok(Turn::Changed(outcome(applied(operator, &left, &value))))
+    }
+
     /// The operand of a minus.
     pub(crate) fn negate(
         &mut self,
@@ -92,7 +111,7 @@ impl Stack {
         frame: Frame,
         function: FunctionId,
         id: NodeId,
-        done: usize,
+        done: u32,
         value: Term,
     ) -> Result<Turn, NoMemory>
         requires kind { frame.kind ≡ kind.Argument function id done }
@@ -102,8 +121,7 @@ impl Stack {
         self.env.truncate(frame.end);
         self.base = frame.base;
         self.temps.push(value)?;
-        let _operands = self.temps.len();
-        let count = done + 1;
+        let count = done as usize + 1;
         self.pass(code, function, id, arguments(code, id), count)
     }
 
@@ -149,23 +167,22 @@ impl Stack {
         frame: Frame,
         id: NodeId,
         done: usize,
-        rest: Part,
         value: Term,
     ) -> Result<Turn, NoMemory>
-        requires kind { frame.kind ≡ kind.Bind id done rest }
+        requires kind { frame.kind ≡ kind.Bind id done }
         requires sound { Holds self.old frame }
         ensures { IfOk result (λ t. Gave code.now self.old frame value self.new t) }
     {
         self.env.truncate(frame.end);
         self.base = frame.base;
         match patterns(code, id).get(done) {
-            None => Ok(Turn::Changed(Focus::Eval(rest))),
+            None => Ok(Turn::Changed(Focus::Eval(rest(code, id)))),
             Some(pattern) => {
                 if !fit(code, *pattern, &value, &mut self.env, frame.base)? {
                     let reason = tagged(alloc, AtomId::BADMATCH, &value)?;
                     return Ok(Turn::Changed(Focus::Raised(reason)));
                 }
-                self.wait(Kind::Bind(id, done + 1, rest))?;
+                self.wait(Kind::Bind(id, done + 1))?;
                 Ok(Turn::Changed(Focus::Value(value)))
             }
         }

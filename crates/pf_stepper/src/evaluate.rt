@@ -1,13 +1,19 @@
 //! The turn of an expression: its value, or its first part in a frame.
 
-ghost use Rattle.std.specs.Prelude.{◌≡◌, IfOk};
+ghost use Rattle.std.specs.Prelude.{◌≡◌, drop, IfOk, IfSome};
 ghost use Rattle.pf_syntax.specs.declared.node.Part.TheVariants.{Node as names};
+ghost use Rattle.pf_model.specs.Scopes.{scope_of};
+ghost use Rattle.pf_syntax.specs.Module.{tree_at};
+ghost use Rattle.pf_syntax.specs.Over.{clauses_over};
+ghost use Rattle.pf_stepper.specs.Lookups.{clauses_in, IsLeftInScope};
+ghost use Rattle.pf_stepper.specs.declared.frame.Kind.TheVariants as kind;
 ghost use Rattle.pf_stepper.specs.View.{keeps};
 ghost use Rattle.pf_stepper.specs.Turns.{CanEvaluate, Descended, Turned};
 
+use crate::clauses::choose;
 use crate::frame::{Focus, Kind, Turn};
-use crate::stack::Stack;
-use pf_syntax::{Module, Node, NodeId, Part};
+use crate::stack::{Stack, slot};
+use pf_syntax::{Clause, Module, Node, NodeId, Part};
 use pf_terms::{AtomId, List, NoMemory, Term};
 use std::alloc::Global;
 
@@ -39,18 +45,22 @@ impl Stack {
         match code.node(id) {
             None => Ok(Turn::Same(Focus::Value(Term::List(List::Nil)))),
             Some(node) => match node {
-                Node::Binary(operator, left, right) => {
-                    self.descend(alloc, code, Kind::BinaryLeft(*operator, *right), *left)
-                }
+                Node::Binary(operator, left, right) => match self.left_in_scope(*left, *right) {
+                    Some(place) => {
+                        self.wait(Kind::BinaryAfterSlot(*operator, place))?;
+                        Ok(Turn::Same(Focus::Eval(*right)))
+                    }
+                    None => self.descend(alloc, code, Kind::BinaryLeft(id), *left),
+                },
                 Node::Negate(part) => self.descend(alloc, code, Kind::Negation, *part),
                 Node::Call(function, arguments) => {
                     self.pass(code, *function, id, arguments.as_slice(), 0)
                 }
                 Node::Match(_, part) => self.descend(alloc, code, Kind::Match(id, 0), *part),
-                Node::Bind(_, part, rest) => {
-                    self.descend(alloc, code, Kind::Bind(id, 0, *rest), *part)
+                Node::Bind(_, part, _) => self.descend(alloc, code, Kind::Bind(id, 0), *part),
+                Node::Case(part, clauses) => {
+                    self.case(alloc, code, id, *part, clauses.as_slice())
                 }
-                Node::Case(part, _) => self.descend(alloc, code, Kind::Case(id), *part),
                 Node::Tuple(_)
                 | Node::Cons(_, _)
                 | Node::Both(_, _)
@@ -60,6 +70,50 @@ impl Stack {
                 | Node::Receive(_)
                 | Node::Send(_, _) => Ok(Turn::Changed(Focus::Raised(Term::Atom(AtomId::UNDEF)))),
             },
+        }
+    }
+
+    /// The place of a left operand that is a variable in scope, where the right one is a node, so that the left one can be
+    /// read after it.
+    #[inline(always)]
+    fn left_in_scope(&self, left: Part, right: Part) -> Option<u32>
+        ensures { IfSome result (λ x. IsLeftInScope (scope_of (drop self.now.base self.now.env.items)) left x) }
+    {
+        match left {
+            Part::Slot(place) => match right {
+                Part::Node(_) => {
+                    slot(self.env.as_slice(), self.base, place)?;
+                    Some(place)
+                }
+                _ => None,
+            },
+            _ => None,
+        }
+    }
+
+    /// The value of the `case` at a node: at once the body of the first clause that it fits, or a turn of its own.
+    #[inline(always)]
+    fn case(
+        &mut self,
+        alloc: Global,
+        code: &Module,
+        id: NodeId,
+        part: Part,
+        clauses: &[Clause],
+    ) -> Result<Turn, NoMemory>
+        requires sound { CanEvaluate self.old }
+        requires clauses { clauses_over code.now.tables clauses.now ≡ clauses_in (tree_at code.now.tables id.0) }
+        ensures { IfOk result (λ t. Descended code.now self.old (kind.Case id) part self.new t) }
+    {
+        match self.immediate(code, part)? {
+            Some(value) => {
+                let focus = choose(alloc, code, clauses, &value, &mut self.env, self.base)?;
+                Ok(Turn::Changed(focus))
+            }
+            None => {
+                self.wait(Kind::Case(id))?;
+                Ok(Turn::Same(Focus::Eval(part)))
+            }
         }
     }
 

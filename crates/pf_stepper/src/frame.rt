@@ -6,17 +6,19 @@ use pf_terms::Term;
 /// What waits for a value. A number beside a node counts the arguments or the patterns that are done.
 #[derive(Clone, Copy)]
 pub(crate) enum Kind {
-    /// A left operand, before the right one.
-    BinaryLeft(Operator, Part),
+    /// The left operand of the operator at the node, before the right one.
+    BinaryLeft(NodeId),
     /// A right operand, after the left one.
     BinaryRight(Operator),
+    /// A right operand, where the left one is the variable at this place in the activation.
+    BinaryAfterSlot(Operator, u32),
     Negation,
     /// An argument of the call at the node.
-    Argument(FunctionId, NodeId, usize),
+    Argument(FunctionId, NodeId, u32),
     /// The value of the match at the node.
     Match(NodeId, usize),
     /// The same before a comma and the rest of the body.
-    Bind(NodeId, usize, Part),
+    Bind(NodeId, usize),
     /// The value of the `case` at the node.
     Case(NodeId),
 }

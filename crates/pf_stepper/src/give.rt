@@ -41,16 +41,17 @@ impl Stack {
         ensures { IfOk result (λ t. Gave code.now self.old frame value self.new t) }
     {
         match frame.kind {
-            Kind::BinaryLeft(operator, right) => {
-                self.left_done(code, frame, operator, right, value)
-            }
+            Kind::BinaryLeft(id) => self.left_done(code, frame, id, value),
             Kind::BinaryRight(operator) => self.right_done(code, frame, operator, value),
+            Kind::BinaryAfterSlot(operator, place) => {
+                self.right_after_slot(code, frame, operator, place, value)
+            }
             Kind::Negation => self.negate(code, frame, value),
             Kind::Argument(function, id, done) => {
                 self.argument_done(code, frame, function, id, done, value)
             }
             Kind::Match(id, done) => self.match_one(alloc, code, frame, id, done, value),
-            Kind::Bind(id, done, rest) => self.bind_one(alloc, code, frame, id, done, rest, value),
+            Kind::Bind(id, done) => self.bind_one(alloc, code, frame, id, done, value),
             Kind::Case(id) => self.select(alloc, code, frame, id, value),
         }
     }

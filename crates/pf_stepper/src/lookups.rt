@@ -4,11 +4,12 @@ ghost use Rattle.std.specs.Prelude.{◌≡◌, IfOk};
 ghost use Rattle.pf_terms.specs.Value.{same};
 ghost use Rattle.pf_terms.specs.Term.{value_of};
 ghost use Rattle.pf_syntax.specs.Module.{literal_at, tree_at};
-ghost use Rattle.pf_syntax.specs.Over.{clauses_over, guard_over, parts_over, patterns_at};
+ghost use Rattle.pf_syntax.specs.Over.{clauses_over, guard_over, part_over, parts_over, patterns_at};
+ghost use Rattle.pf_syntax.specs.Operators.{operator_of};
 ghost use Rattle.pf_model.specs.Contraction as spec;
-ghost use Rattle.pf_stepper.specs.Lookups.{arguments_in, clauses_in, patterns_in};
+ghost use Rattle.pf_stepper.specs.Lookups.{arguments_in, clauses_in, operator_in, patterns_in, rest_in, right_in};
 
-use pf_syntax::{Clause, Guard, LiteralId, Module, Node, NodeId, Part, PatternId};
+use pf_syntax::{Clause, Guard, LiteralId, Module, Node, NodeId, Operator, Part, PatternId};
 use pf_terms::{List, NoMemory, Term, copy, equal};
 
 /// The literal of this number.
@@ -31,6 +32,17 @@ pub(crate) fn fits_literal(code: &Module, id: LiteralId, value: &Term) -> bool
     }
 }
 
+/// The operator at a node with its right operand, `+` and `[]` where it is none.
+pub(crate) fn operation(code: &Module, id: NodeId) -> (Operator, Part)
+    ensures operator { operator_of result.0 ≡ operator_in (tree_at code.now.tables id.0) }
+    ensures right { part_over code.now.tables result.1 ≡ right_in (tree_at code.now.tables id.0) }
+{
+    match code.node(id) {
+        Some(Node::Binary(operator, _, right)) => (*operator, *right),
+        _ => (Operator::Plus, Part::Nil),
+    }
+}
+
 /// The arguments of the call at a node, none where it is no call.
 pub(crate) fn arguments(code: &Module, id: NodeId) -> &[Part]
     ensures { parts_over code.now.tables result.now ≡ arguments_in (tree_at code.now.tables id.0) }
@@ -49,6 +61,16 @@ pub(crate) fn patterns(code: &Module, id: NodeId) -> &[PatternId]
         Some(Node::Match(patterns, _)) => patterns.as_slice(),
         Some(Node::Bind(patterns, _, _)) => patterns.as_slice(),
         _ => &[],
+    }
+}
+
+/// The rest of the body after the match at a node, `[]` where it is none.
+pub(crate) fn rest(code: &Module, id: NodeId) -> Part
+    ensures { part_over code.now.tables result ≡ rest_in (tree_at code.now.tables id.0) }
+{
+    match code.node(id) {
+        Some(Node::Bind(_, _, rest)) => *rest,
+        _ => Part::Nil,
     }
 }
 

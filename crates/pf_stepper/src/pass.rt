@@ -12,6 +12,13 @@ use crate::stack::Stack;
 use pf_syntax::{FunctionId, Module, NodeId, Part};
 use pf_terms::NoMemory;
 
+/// A count of arguments as a frame notes it. It fails at 2^32, which no machine has the room for.
+fn noted(count: usize) -> Result<u32, NoMemory>
+    ensures { IfOk result (λ n. n ≡ count) }
+{
+    u32::try_from(count).map_err(|_| NoMemory)
+}
+
 impl Stack {
     /// The arguments of a call after the first `from`: those that need no turn of their own, up to the first that does,
     /// or the call.
@@ -35,7 +42,8 @@ impl Stack {
             match self.immediate(code, argument)? {
                 Some(value) => self.temps.push(value)?,
                 None => {
-                    self.wait(Kind::Argument(function, id, count))?;
+                    let done = noted(count)?;
+                    self.wait(Kind::Argument(function, id, done))?;
                     return Ok(Turn::Same(Focus::Eval(argument)));
                 }
             }

@@ -4,7 +4,7 @@ ghost use Rattle.std.specs.Prelude.{◌≡◌, ◌∷◌, [], ◌++◌, drop, le
 ghost use Rattle.pf_terms.specs.Term.{value_of};
 ghost use Rattle.pf_model.specs.Fit as spec;
 ghost use Rattle.pf_model.specs.Scopes.{scope_of, scope_if};
-ghost use Rattle.pf_stepper.specs.Lookups.{IsImmediate};
+ghost use Rattle.pf_stepper.specs.Lookups.{IsImmediate, value_at};
 ghost use Rattle.pf_stepper.specs.Sound.{frame_for, top_end};
 
 use crate::frame::{Frame, Kind};
@@ -65,6 +65,17 @@ impl Stack {
             Part::Nil => Ok(Some(Term::List(List::Nil))),
             Part::Literal(id) => Ok(Some(literal(code, id)?)),
             Part::Node(_) => Ok(None),
+        }
+    }
+
+    /// The value of a place in the activation, `[]` where there is none.
+    #[inline(always)]
+    pub(crate) fn slot_or_nil(&self, place: u32) -> Result<Term, NoMemory>
+        ensures { IfOk result (λ t. value_of t ≡ value_at (scope_of (drop self.now.base self.now.env.items)) place) }
+    {
+        match slot(self.env.as_slice(), self.base, place) {
+            Some(value) => copied(value),
+            None => Ok(Term::List(List::Nil)),
         }
     }
 

@@ -5,4 +5,4 @@ pub mod Counts
 pub mod SameValues
 pub mod Total
 pub mod Exact
-pub mod Entered
+pub mod Fronts

@@ -1,20 +1,45 @@
 -- A table of names over keys that hold bytes.
-use Rattle.std.proofs.Common.{◌≡◌, ℕ, zero, suc, ◌<◌, ◌≤◌, List, [], ◌∷◌, ◌++◌, length, Bool, true, false, Some, None, refl, sym, ap, ◌∙◌, arith, get_or, inl, inr}
-use Rattle.std.specs.Prelude.{map, option_map, slice_get, slice_index_or, if◌then◌else◌, position, ◌||◌, ◌⊎◌}
-use Rattle.std.specs.List.{list_any, IsDistinct, AllByRecursion}
+use Rattle.std.proofs.Common.{◌≡◌, ℕ, zero, suc, ◌+◌, ◌<◌, ◌≤◌, List, [], ◌∷◌, ◌++◌, length, Bool, true, false, Some, None, refl, sym, ap, ◌∙◌, arith, get_or, inl, inr, ltb-false}
+use Rattle.std.specs.Prelude.{map, option_map, slice_get, slice_index_or, if◌then◌else◌, cond, not, nat_lt, position, ◌||◌, ◌⊎◌}
+use Rattle.std.specs.List.{list_any, position_or_len, IsDistinct, AllByRecursion}
 use Rattle.std.specs.Str.{bytes_eq}
-use Rattle.std.proofs.lemmas.List.{map-append}
+use Rattle.std.proofs.lemmas.List.{map-append, length-map}
 use Rattle.std.proofs.lemmas.List.Quantifiers.{position-Some}
 use Rattle.std.proofs.lemmas.Option.{slice_get-map, slice_get_cases}
 use Rattle.std.proofs.lemmas.Slice.Eq.{bytes_eq-Decides}
 use Rattle.pf_terms.specs.Atoms.{with_name, name_of}
 use Rattle.pf_terms.specs.Order.{TellsApart}
 
+module _ {X : Type 0} (p : X → Bool) where
+  fails_too : (b c : Bool) (m n : ℕ) → suc m ≤ cond (not b) (1 + n) 0 → (m ≤ n → c ≡ false) → (b || c) ≡ false
+  fails_too true c m n h rest = absurd (omega arith)
+  fails_too false c m n h rest = rest (omega arith)
+
+  fail_within : (xs : List X) → length xs ≤ position_or_len p xs → list_any p xs ≡ false
+  fail_within [] h = refl
+  fail_within (x ∷ xs) h = fails_too (p x) (list_any p xs) (length xs) (position_or_len p xs) h (fail_within xs)
+
+  past : (i n : ℕ) (b : Bool) → b ≡ nat_lt i n → None ≡ cond b (Some i) None → n ≤ i
+  past i n true e none = absurd (cc)
+  past i n false e none = omega (arith, ltb-false i n (sym e))
+
+  -- where no place is the first that passes, nothing passes
+  none_passes : (xs : List X) → None ≡ position p xs → list_any p xs ≡ false
+  none_passes xs none = fail_within xs (past (position_or_len p xs) (length xs) (nat_lt (position_or_len p xs) (length xs)) refl none)
+
 module _ {K : Type 0} (name : K → List ℕ) where
   -- a test of names is a test of the keys that hold them
   pub list_any-map : (p : List ℕ → Bool) (ks : List K) → list_any p (map name ks) ≡ list_any (λ k. p (name k)) ks
   list_any-map p [] = refl
   list_any-map p (k ∷ ks) = ap (λ b. p (name k) || b) (list_any-map p ks)
+
+  position_or_len-map : (p : List ℕ → Bool) (ks : List K) → position_or_len p (map name ks) ≡ position_or_len (λ k. p (name k)) ks
+  position_or_len-map p [] = refl
+  position_or_len-map p (k ∷ ks) = ap (λ n. cond (not (p (name k))) (1 + n) 0) (position_or_len-map p ks)
+
+  -- so is a search for a name
+  pub position-map : (p : List ℕ → Bool) (ks : List K) → position p (map name ks) ≡ position (λ k. p (name k)) ks
+  position-map p ks = rw (position_or_len-map p ks, length-map ks name)
 
   within : (p : K → Bool) (ks : List K) (i : ℕ) → Some i ≡ position p ks → i < length ks
   within p [] i e = cc
@@ -31,6 +56,10 @@ module _ {K : Type 0} (name : K → List ℕ) where
   -- the key at the first place that passes bears the name
   pub named : (text : List ℕ) (ks : List K) (i : ℕ) → Some i ≡ position (λ k. bytes_eq text (name k)) ks → slice_get (map name ks) i ≡ Some text
   named text ks i e = at_place text ks i e (slice_get_cases ks i).1
+
+  -- where no key passes, none bears the name
+  pub absent : (text : List ℕ) (ks : List K) → None ≡ position (λ k. bytes_eq text (name k)) ks → list_any (bytes_eq text) (map name ks) ≡ false
+  absent text ks e = list_any-map (bytes_eq text) ks ∙ none_passes (λ k. bytes_eq text (name k)) ks e
 
   last_or_kept : (text : List ℕ) (ks : List K) (k : K) → name k ≡ text → (b : Bool) → map name (if b then ks else ks ++ k ∷ []) ≡ (if b then map name ks else map name ks ++ text ∷ [])
   last_or_kept text ks k e true = refl

@@ -1,9 +1,9 @@
 //! The names of the atoms of a module, each by its number.
 
-ghost use Rattle.std.specs.Prelude.{◌≡◌, ◌+◌, ◌<◌, ◌^◌, length, map, IfOk, IfSome, IfNone, OnErr, OnOk, slice_get, Some, IsTrue, None, false};
+ghost use Rattle.std.specs.Prelude.{◌≡◌, ◌<◌, ◌^◌, length, map, position, IfOk, IfSome, IfNone, OnErr, OnOk, slice_get, Some, false};
 ghost use Rattle.std.specs.List.{list_any};
 ghost use Rattle.std.specs.Str.{bytes_eq};
-ghost use Rattle.pf_terms.specs.Atoms.{fixed_names, name_of, with_name, with_names};
+ghost use Rattle.pf_terms.specs.Atoms.{fixed_names, name_of, with_name};
 ghost use Rattle.pf_terms.specs.Order.{TellsApart};
 
 use crate::memory::NoMemory;
@@ -82,20 +82,48 @@ const FIXED: [&str; 20] = [
 ];
 
 /// The names of atoms by number, each once: the fixed ones, which the system itself makes or asks for, and then those
-/// of a module in the order in which they were entered.
+/// of a module in the order in which they were entered. Only the latter are stored.
 #[derive(Drop)]
 pub struct AtomTable {
-    names: IndexSet<Vec<u8>>,
+    entered: IndexSet<Vec<u8>>,
 }
 
 impl Model for AtomTable {
-    ghost use Rattle.std.specs.Prelude.{List, ℕ, length, map, ◌≤◌, ◌^◌};
+    ghost use Rattle.std.specs.Prelude.{List, ℕ, length, map, false, ◌≡◌, ◌++◌, ◌+◌, ◌≤◌, ◌^◌};
+    ghost use Rattle.std.specs.List.{list_any};
+    ghost use Rattle.std.specs.Str.{bytes_eq};
+    ghost use Rattle.pf_terms.specs.Atoms.{fixed_names};
 
     ghost Value = { List (List ℕ) };
 
-    ghost view = { λ a. map (λ name. name.items) a.names.keys };
+    ghost view = { λ a. fixed_names ++ map (λ name. name.items) a.entered.keys };
 
-    ghost invariant = { λ a. length a.names.keys ≤ 2 ^ 32 };
+    ghost invariant = { λ a. (length fixed_names + length a.entered.keys ≤ 2 ^ 32)
+        × (list_any (λ name. list_any (bytes_eq name.items) fixed_names) a.entered.keys ≡ false) };
+}
+
+/// The name at an index, as bytes.
+fn name_at(names: &[&'static str], index: usize) -> &'static [u8]
+    requires { index < length names.now }
+    ensures { result.now ≡ name_of (map (λ s. s.now) names.now) index }
+{
+    names[index].as_bytes()
+}
+
+/// The index of a name, where it is among these.
+fn index_of(names: &[&'static str], name: &[u8]) -> Option<usize>
+    ensures { result ≡ position (bytes_eq name.now) (map (λ s. s.now) names.now) }
+{
+    names.iter().position(|s| name == s.as_bytes())
+}
+
+/// The fixed atom of this name, where there is one.
+fn find_fixed(name: &[u8]) -> Option<AtomId>
+    ensures found { IfSome result (λ a. slice_get fixed_names a.0 ≡ Some name.now) }
+    ensures absent { IfNone result (list_any (bytes_eq name.now) fixed_names ≡ false) }
+{
+    let index = index_of(&FIXED, name)?;
+    Some(AtomId(index as u32))
 }
 
 impl AtomTable {
@@ -103,28 +131,21 @@ impl AtomTable {
     pub fn new(alloc: Global) -> Result<AtomTable, NoMemory>
         ensures { IfOk result (λ t. t ≡ fixed_names) }
     {
-        let mut table = AtomTable {
-            names: IndexSet::new(alloc),
-        };
-        table.enter_all(alloc, &FIXED)?;
-        Ok(table)
-    }
-
-    fn enter_all(&mut self, alloc: Global, names: &[&str]) -> Result<(), NoMemory>
-        requires { length self.old + length names.now < 2 ^ 32 }
-        ensures { OnOk result (self.new ≡ with_names self.old (map (λ s. s.now) names.now)) }
-    {
-        for name in names {
-            self.enter(alloc, name.as_bytes())?;
-        }
-        Ok(())
+        Ok(AtomTable {
+            entered: IndexSet::new(alloc),
+        })
     }
 
     /// The name of an atom, as bytes; empty where the table has none of this number.
     pub fn name(&self, atom: AtomId) -> &[u8]
         ensures { result.now ≡ name_of self.now atom.0 }
     {
-        match self.names.get_index(atom.0 as usize) {
+        let entered = &self.entered;
+        let number = atom.0 as usize;
+        if number < FIXED.len() {
+            return name_at(&FIXED, number);
+        }
+        match entered.get_index(number - FIXED.len()) {
             Some(name) => name.as_slice(),
             None => &[],
         }
@@ -135,7 +156,7 @@ impl AtomTable {
         ensures len { result ≡ length self.now }
         ensures distinct { TellsApart (name_of self.now) (length self.now) }
     {
-        self.names.len()
+        FIXED.len() + self.entered.len()
     }
 
     /// The atom of this name, where the table has it.
@@ -143,8 +164,12 @@ impl AtomTable {
         ensures found { IfSome result (λ a. slice_get self.now a.0 ≡ Some name.now) }
         ensures absent { IfNone result (list_any (bytes_eq name.now) self.now ≡ false) }
     {
-        let index = self.names.get_index_of(name)?;
-        Some(AtomId(index as u32))
+        let entered = &self.entered;
+        if let Some(atom) = find_fixed(name) {
+            return Some(atom);
+        }
+        let index = entered.get_index_of(name)?;
+        Some(AtomId((FIXED.len() + index) as u32))
     }
 
     /// The atom of this name, which is entered last where it is new.
@@ -157,7 +182,7 @@ impl AtomTable {
         if let Some(atom) = self.find(name) {
             return Ok(atom);
         }
-        let (index, _) = self.names.insert_full(Vec::from_slice(alloc, name)?)?;
-        Ok(AtomId(index as u32))
+        let (index, _) = self.entered.insert_full(Vec::from_slice(alloc, name)?)?;
+        Ok(AtomId((FIXED.len() + index) as u32))
     }
 }

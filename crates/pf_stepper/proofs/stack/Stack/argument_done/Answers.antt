@@ -1,14 +1,7 @@
-use Rattle.std.proofs.Common.{◌+◌, ap, arith}
-use Rattle.pf_stepper.specs.View.{keeps}
-use Rattle.pf_stepper.proofs.Slots.{kept_push}
+use Rattle.std.proofs.Common.{◌+◌}
 use Rattle.pf_stepper.proofs.Follows.{passed}
 use Rattle.pf_stepper.proofs.Given.{argument_done, argument_stacked, inside_cut}
 use Rattle.pf_stepper.proofs.stack.Stack.argument_done.Goals as goal
-
-pub overflow_add-count : goal.overflow_add-count
-overflow_add-count c =
-    let z = ap keeps c.requires.kind in
-    omega (arith, c.len-operands.type_inv, c.len-operands.ensures, c.in_ok-push.ensures.len, c.args.self.now.temps.ok.0, c.requires.sound.operands, kept_push c.args.self.now.frames.items c.args.frame)
 
 pub pass-requires-clause-stacked : goal.pass-requires-clause-stacked
 pass-requires-clause-stacked c =

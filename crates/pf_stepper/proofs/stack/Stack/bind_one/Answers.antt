@@ -11,14 +11,14 @@ fit-requires c = rw c.truncate.ensures.items (inside_cut c.args.code.now _ _ 0 _
 pub returns-in-None : goal.returns-in-None
 returns-in-None c =
     rw c.truncate.ensures.items
-    (bind_done _ _ _ _ _ c.args.frame c.args.value c.requires.sound c.args.id c.args.done c.args.rest c.requires.kind
+    (bind_done _ _ _ _ _ c.args.frame c.args.value c.requires.sound c.args.id c.args.done _ c.requires.kind c.rest.ensures
     (ap (patterns_after c.args.done) (sym c.patterns.ensures) ∙ patterns_none c.args.code.now.tables c.patterns.result.now c.args.done c.in-None.ensures.lookup.0))
 
 pub returns-then-not-branch : goal.returns-then-not-branch
 returns-then-not-branch c =
     bind_fails_as _ _ _ _ _ c.args.frame c.args.value c.requires.sound c.args.id c.args.done _ _
     (ap (patterns_after c.args.done) (sym c.patterns.ensures) ∙ patterns_some c.args.code.now.tables c.patterns.result.now c.args.done c.in-Some.pattern.now c.in-Some.ensures.lookup.0 c.in-Some.ensures.lookup.1)
-    _ _ c.truncate.ensures.items _ c.in_ok-fit-in-Some.ensures c.args.rest _ c.requires.kind (search rules) c.in_ok-reason-in-Some.ensures
+    _ _ c.truncate.ensures.items _ c.in_ok-fit-in-Some.ensures _ c.requires.kind (search rules) c.in_ok-reason-in-Some.ensures
 
 pub returns-in_ok-wait-in-Some : goal.returns-in_ok-wait-in-Some
 returns-in_ok-wait-in-Some c =
@@ -26,4 +26,4 @@ returns-in_ok-wait-in-Some c =
     rw (w.ok, w.env, w.temps, w.base)
     (bind_more_as _ _ _ _ _ c.args.frame c.args.value c.requires.sound c.args.id c.args.done _ _
     (ap (patterns_after c.args.done) (sym c.patterns.ensures) ∙ patterns_some c.args.code.now.tables c.patterns.result.now c.args.done c.in-Some.pattern.now c.in-Some.ensures.lookup.0 c.in-Some.ensures.lookup.1)
-    _ _ c.truncate.ensures.items _ c.in_ok-fit-in-Some.ensures c.args.rest c.requires.kind (search rules))
+    _ _ c.truncate.ensures.items _ c.in_ok-fit-in-Some.ensures c.requires.kind (search rules))
