@@ -20,7 +20,7 @@ failure() {
   failed=$((failed + 1))
 }
 
-# Builds the program of the crate, where the gate has not left it.
+# Builds the program of the crate, where the gate has left none that is newer than the sources.
 built() {
   crate="$top/crates/$1"
   program="$crate/out/$1"
@@ -28,6 +28,9 @@ built() {
   if [ -e "$crate/args" ]; then tr '\n' ' ' < "$crate/args" > "$room/words"; else : > "$room/words"; fi
   if [ -e "$crate/stdin" ]; then cp "$crate/stdin" "$room/in"; else : > "$room/in"; fi
   words=$(cat "$room/words")
+  if [ -x "$program" ] && [ -z "$(find "$top/crates" -name out -prune -o -name '*.rt' -newer "$program" -print -quit)" ]; then
+    return
+  fi
   # The words have no blanks in them.
   # shellcheck disable=SC2086
   (cd "$crate" && rt run ${words:+-- $words} < "$room/in") > "$room/build.log" 2>&1 || { tail -n 20 "$room/build.log"; exit 1; }
