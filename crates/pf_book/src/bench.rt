@@ -13,7 +13,7 @@ ghost use Rattle.pf_book.specs.Queued.{job_at};
 use crate::call::{Call, Order};
 use crate::entry::Entry;
 use crate::job::Job;
-use crate::numbers::numbered;
+use crate::numbers::{make_room, numbered};
 use crate::plan::{Addition, Plan};
 use crate::refusal::Refusal;
 use crate::reply::Reply;
@@ -74,7 +74,7 @@ impl Bench {
         let Plan { addition, reply } = self.plan(alloc, &call)?;
         let usage = addition.usage(&self.usage)?;
         let noted = reply.share()?;
-        self.history.reserve(1)?;
+        make_room(&mut self.history, 1)?;
         match addition {
             Addition::Nothing => {}
             Addition::Module(stored) => self.modules.push(stored)?,
@@ -141,7 +141,7 @@ impl Bench {
             return Ok(false);
         };
         let report = Arc::new(alloc, job.run(alloc)?)?;
-        self.history.reserve(2)?;
+        make_room(&mut self.history, 2)?;
         file(&mut self.trials, ticket, report);
         self.history.push_reserved(Entry::Claimed(ticket));
         self.history.push_reserved(Entry::Filed(ticket));

@@ -58,7 +58,7 @@ fn clauses(
     ensures { IfOk result (λ cs. Did module.old module.new places.new []
         (λ t. HeadsMean source.now.functions t (map (head_over source.now.book) heads.now) cs.items)) }
 {
-    let mut found = Vec::new(alloc);
+    let mut found = Vec::with_capacity(alloc, heads.len())?;
     for head in heads {
         let one = clause(alloc, source, own, places, module, head)?;
         found.push(one)?;
@@ -129,5 +129,6 @@ pub(crate) fn module_of(
         )?;
         module.add_function(one)?;
     }
+    module.shrink_to_fit();
     Ok(module)
 }

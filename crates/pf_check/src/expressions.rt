@@ -202,7 +202,7 @@ fn expressions(
     ensures { IfOk result (λ xs. Did module.old module.new places.new places.old
         (λ t. PhrasesMean source.now.functions t places.old (phrases_at source.now.book ids.now) xs.items)) }
 {
-    let mut parts = Vec::new(alloc);
+    let mut parts = Vec::with_capacity(alloc, ids.len())?;
     for id in ids {
         let part = expression(alloc, source, own, places, module, *id)?;
         parts.push(part)?;
@@ -305,7 +305,7 @@ pub(crate) fn guard(
     ensures { IfOk result (λ d. Did module.old module.new places.new places.old
         (λ t. GuardMeans source.now.functions t places.old (condition_over source.now.book condition.now) d)) }
 {
-    let mut alternatives = Vec::new(alloc);
+    let mut alternatives = Vec::with_capacity(alloc, condition.alternatives.len())?;
     for one in &condition.alternatives {
         let tests = expressions(alloc, source, own, places, module, one.tests.as_slice())?;
         alternatives.push(Alternative { tests })?;
@@ -353,7 +353,7 @@ fn branches(
     ensures { IfOk result (λ cs. Did module.old module.new places.new places.old
         (λ t. BranchesMean source.now.functions t places.old (branches_over source.now.book arms.now) cs.items)) }
 {
-    let mut clauses = Vec::new(alloc);
+    let mut clauses = Vec::with_capacity(alloc, arms.len())?;
     for arm in arms {
         let clause = branch(alloc, source, own, places, module, arm)?;
         clauses.push(clause)?;

@@ -101,7 +101,7 @@ pub(crate) fn patterns(
     ensures { IfOk result (λ ps. Did module.old module.new places.new (all_bound_by places.old (shapes_at source.now.book ids.now))
         (λ t. ShapesMean source.now.functions t places.old (shapes_at source.now.book ids.now) ps.items)) }
 {
-    let mut parts = Vec::new(alloc);
+    let mut parts = Vec::with_capacity(alloc, ids.len())?;
     for id in ids {
         let part = pattern(alloc, source, places, module, *id)?;
         parts.push(part)?;

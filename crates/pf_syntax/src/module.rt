@@ -113,6 +113,16 @@ impl Module {
         Ok(FunctionId(id))
     }
 
+    /// Gives back the room that its lists have beyond what stands in them. It changes nothing else, and can't fail.
+    pub fn shrink_to_fit(&mut self)
+        ensures { self.new ≡ self.old }
+    {
+        self.literals.shrink_to_fit();
+        self.patterns.shrink_to_fit();
+        self.nodes.shrink_to_fit();
+        self.functions.shrink_to_fit();
+    }
+
     /// The module's name.
     pub fn name(&self) -> AtomId
         ensures { result.0 ≡ self.now.name }

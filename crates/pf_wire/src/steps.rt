@@ -140,10 +140,11 @@ pub fn run_steps<R: Read, W: Write, L: Ledger, M: Ledger>(
     ensures fault { IfErr result (λ e. StepsLeaves e (R.remaining reader.old.inner) (W.contents writer.old.inner) (W.contents writer.new.inner)
         reader.old.failures.total reader.new.failures.total writer.old.failures.total writer.new.failures.total) }
 {
-    let input = match reader.take_front(alloc, MOST_BYTES) {
+    let mut input = match reader.take_front(alloc, MOST_BYTES) {
         Ok(input) => input,
         Err(TakeFault::Memory) => return Err(StepsFault::Memory),
         Err(TakeFault::End(e)) => return Err(StepsFault::Read(e)),
     };
+    input.shrink_to_fit();
     answer_all(alloc, &input, writer)
 }

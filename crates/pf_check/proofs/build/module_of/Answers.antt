@@ -3,7 +3,9 @@ use Rattle.std.specs.Prelude.{flat_map}
 use Rattle.std.proofs.lemmas.List.{take_all}
 use Rattle.pf_syntax.specs.SourceOver.{heads_over}
 use Rattle.pf_syntax.specs.Over.{function_over}
+use Rattle.pf_reader.specs.Grammar.{tree_of}
 use Rattle.pf_check.specs.Static.{export_fault, defined_faults}
+use Rattle.pf_check.specs.Checks.{IsModule}
 use Rattle.pf_check.proofs.Shapes_mean.{right_empty}
 use Rattle.pf_check.proofs.Knows_more.{next_function, length_mapped}
 use Rattle.pf_check.proofs.Heads_mean.{EachFunction, one_function_more, functions_are}
@@ -37,9 +39,10 @@ returns c = λ clean formed.
     let es = c.args.source.now.exports in
     let long : length fs ≤ c.loop-written.written-index = omega (arith, ap length c.functions-written-items.ensures, length_mapped (heads_over b) c.functions-written-items.result.now) in
     let each : EachFunction fs es fs c.loop-written.module.functions = subst (λ l. EachFunction fs es l c.loop-written.module.functions) (take_all c.loop-written.written-index fs long) i.functions in
-    record {
+    let built : IsModule c.args.atoms (tree_of c.args.source.now) c.loop-written.module = record {
       name = i.name;
       atoms_are = i.atoms ∙ ap (λ m. m.atoms) c.new-module.ensures;
       functions = functions_are fs es fs c.loop-written.module.functions each formed
           (right_empty (flat_map (export_fault fs) es ++ defined_faults c.args.atoms [] fs) _ clean);
-    }
+    } in
+    subst (IsModule c.args.atoms (tree_of c.args.source.now)) (sym c.shrink_to_fit.ensures) built

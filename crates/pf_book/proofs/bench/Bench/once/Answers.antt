@@ -29,7 +29,7 @@ invariant_of-self-2 c =
     let r = report_of c.in_ok-report.report.value in
     let waits : job_at d.trials t ≡ Some j = ap (λ (l : List Trial). job_at l t) (sym c.deref.ensures.value) ∙ sym c.in-Some.ensures in
     let means : profile.meaning j ≡ r = c.in_ok-run.ensures ∙ ap report_of (sym c.in_ok-report.ensures.ok) in
-    let history = noted t c.self.inside.history.items _ _ _ c.reserve.ensures.items c.push_reserved.ensures.items c.push_reserved-2.ensures.items in
+    let history = noted t c.self.inside.history.items _ _ _ c.make_room.ensures.items c.push_reserved.ensures.items c.push_reserved-2.ensures.items in
     let d' = desk_in (record { modules = c.self.inside.modules; trials = c.file.new.trials; history = c.push_reserved-2.new.self; usage = c.self.inside.usage }) in
     let is : d' ≡ after_once profile d t = once_is d j r means d' t waits refl c.file.ensures history in
     record {
@@ -45,5 +45,5 @@ returns-clause-desk c =
     let r = report_of c.in_ok-report.report.value in
     let waits : job_at d.trials t ≡ Some j = ap (λ (l : List Trial). job_at l t) (sym c.deref.ensures.value) ∙ sym c.in-Some.ensures in
     let means : profile.meaning j ≡ r = c.in_ok-run.ensures ∙ ap report_of (sym c.in_ok-report.ensures.ok) in
-    let history = noted t c.self.inside.history.items _ _ _ c.reserve.ensures.items c.push_reserved.ensures.items c.push_reserved-2.ensures.items in
+    let history = noted t c.self.inside.history.items _ _ _ c.make_room.ensures.items c.push_reserved.ensures.items c.push_reserved-2.ensures.items in
     once_is d j r means _ t waits refl c.file.ensures history ∙ ap (λ (k : Desk). after_once profile k t) c.self.view_is
