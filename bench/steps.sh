@@ -1,8 +1,11 @@
 #!/bin/sh
 # Times `pulsefarm steps` on scripts of many projects, each with 16 modules, 64 orders, and a worker's `once` and a `fetch` for each order, and
-# takes how many bytes stand in blocks at most. It prints tables for docs/SPEED.md, and fails where a command costs over 1.5 times as much in one
-# script as in another, or where 100 projects take 3 bytes or more for each byte that is read and written: the sources, the calls and the
-# replies with their reports. The program is the one that the gate or install.sh built.
+# takes how many bytes stand in blocks at most. It prints tables for docs/SPEED.md, and fails where
+# - a command costs over 1.5 times as much in one script as in another,
+# - 100 projects take 3 bytes or more for each byte of their sources, reports and logs, each thing counted once and at its own size (below),
+# - one more fetch of a report takes as much as a note and a copy of the report,
+# - large sources take 2.5 bytes or more for each byte that is read: the input and the one copy that desk and log share are 2.
+# The program is the one that the gate or install.sh built.
 set -eu
 top=$(cd "$(dirname "$0")/.." && pwd)
 program=${1:-$top/crates/pulsefarm/out/pulsefarm}
@@ -57,11 +60,45 @@ for projects in 8 31 123; do
 done
 [ $((high * 10)) -le $((low * 15)) ] || bad=1
 
+# Sets `most` to the bytes that stand in blocks at most, and `text` to those that are read and written.
+measure() {
+  LD_PRELOAD="$room/blocks.so" BLOCKS_TOLD="$room/blocks" "$program" steps "$room/in" > "$room/out"
+  most=$(sed -n 's/.*, \([0-9]*\) bytes at most$/\1/p' "$room/blocks")
+  text=$(($(wc -c < "$room/in") + $(wc -c < "$room/out")))
+}
+
+# The bytes of what is noted, ordered and told, as the types have it, without what stands in blocks of their own: a note (a call with its
+# reply, a claim or a file), an order (its two words have 11 bytes), and a report with its one event.
+note=72
+order=$((88 + 11))
+report=$((64 + 48))
+
 script 100 16 64 > "$room/in"
-LD_PRELOAD="$room/blocks.so" BLOCKS_TOLD="$room/blocks" "$program" steps "$room/in" > "$room/out"
-most=$(sed -n 's/.*, \([0-9]*\) bytes at most$/\1/p' "$room/blocks")
-text=$(($(wc -c < "$room/in") + $(wc -c < "$room/out")))
+measure
+sources=$(awk '/^submit/ { n += $3 } END { print n }' "$room/in")
+held=$((sources + 100 * ((16 + 4 * 64) * note + 64 * (order + report))))
 echo
-echo "100 projects, 20,800 commands: at most $most bytes in blocks, for $text bytes read and written"
-[ "$most" -lt $((text * 3)) ] || bad=1
+echo "100 projects, 20,800 commands: at most $most bytes in blocks, for $held bytes of sources, reports and logs ($text bytes read and written)"
+[ "$most" -lt $((held * 3)) ] || bad=1
+
+script 10 16 64 > "$room/in"
+measure
+before=$most
+awk 'BEGIN { for (n = 1; n <= 10; n++) for (t = 1; t <= 64; t++) for (p = 1; p <= 10; p++) printf "fetch %d %d\n", p, t }' > "$room/more"
+lines=$(wc -c < "$room/more")
+cat "$room/more" >> "$room/in"
+measure
+each=$(((most - before - lines) / 6400))
+echo "one more fetch: $each bytes, beside its line, where a note has $note and a report $report"
+[ "$each" -lt $((note + report)) ] || bad=1
+
+awk 'BEGIN {
+  line = "% a line of comment, of which there are many in this source\n"
+  while (length(comment) + length(line) < 60000) comment = comment line
+  text = "-module(m).\n-export([main/0]).\n" comment "main() -> 1.\n"
+  for (p = 1; p <= 100; p++) printf "submit %d %d\n%s\n", p, length(text), text
+}' > "$room/in"
+measure
+echo "100 sources of 60,000 bytes: at most $most bytes in blocks, for $text bytes read and written"
+[ $((most * 10)) -lt $((text * 25)) ] || bad=1
 exit "$bad"
