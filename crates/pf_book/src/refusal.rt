@@ -1,8 +1,5 @@
 //! Why a call is refused.
 
-ghost use Rattle.std.specs.Prelude.{◌≡◌};
-ghost use Rattle.pf_check.specs.Reads.{number_of};
-
 use pf_check::Code;
 use std::fmt;
 
@@ -25,25 +22,6 @@ pub enum Refusal {
     OutOfRange,
 }
 
-/// The number in the code of a source's fault.
-fn number(code: Code) -> u32
-    ensures { result ≡ number_of code }
-{
-    match code {
-        Code::UnexpectedByte => 1,
-        Code::Unfinished => 2,
-        Code::IntegerTooLarge => 3,
-        Code::NoHead => 4,
-        Code::NotGrammar => 5,
-        Code::Unbound => 6,
-        Code::Unsafe => 7,
-        Code::Undefined => 8,
-        Code::DefinedTwice => 9,
-        Code::ExportOfNothing => 10,
-        Code::SourceTooLong => 11,
-    }
-}
-
 impl fmt::Display for Refusal {
     ghost use Rattle.std.specs.Prelude.{Some};
     ghost use Rattle.pf_model.specs.Told.{refusal_code};
@@ -53,7 +31,7 @@ impl fmt::Display for Refusal {
 
     fn fmt<W: fmt::Write>(&self, f: &mut fmt::Formatter<W>) -> fmt::Result {
         match self {
-            Refusal::Source(code) => write!(f, "E{}", number(*code)),
+            Refusal::Source(code) => write!(f, "E{}", code.number()),
             Refusal::NoModule => f.write_str("B1"),
             Refusal::NoRoot => f.write_str("B2"),
             Refusal::NoProperty => f.write_str("P1"),

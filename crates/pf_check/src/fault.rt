@@ -6,7 +6,7 @@ ghost use Rattle.pf_check.specs.declared.fault.ReadFault.TheVariants.{Memory};
 use pf_terms::NoMemory;
 use std::fmt;
 
-/// What a source is refused for. It prints as its code.
+/// What a source is refused for. A refusal prints it as its code.
 #[derive(Clone, Copy, Debug, PartialEq, Eq)]
 pub enum Code {
     /// `E1`: a byte begins no token, or may not stand there.
@@ -33,6 +33,29 @@ pub enum Code {
     SourceTooLong,
 }
 
+impl Code {
+    ghost use Rattle.pf_check.specs.Reads.{number_of};
+
+    /// The number in the code, as it prints: of `E1` to `E11`.
+    pub fn number(self) -> u32
+        ensures { result ≡ number_of self }
+    {
+        match self {
+            Code::UnexpectedByte => 1,
+            Code::Unfinished => 2,
+            Code::IntegerTooLarge => 3,
+            Code::NoHead => 4,
+            Code::NotGrammar => 5,
+            Code::Unbound => 6,
+            Code::Unsafe => 7,
+            Code::Undefined => 8,
+            Code::DefinedTwice => 9,
+            Code::ExportOfNothing => 10,
+            Code::SourceTooLong => 11,
+        }
+    }
+}
+
 /// A refusal, and its place in bytes from 0. It prints as `E6 at 41`.
 #[derive(Clone, Copy, Debug, PartialEq, Eq)]
 pub struct Refusal {
@@ -47,20 +70,7 @@ impl fmt::Display for Refusal {
     ghost output = { λ r. Some (refusal_text (number_of r.code) r.place) };
 
     fn fmt<W: fmt::Write>(&self, f: &mut fmt::Formatter<W>) -> fmt::Result {
-        let number = match self.code {
-            Code::UnexpectedByte => 1u32,
-            Code::Unfinished => 2,
-            Code::IntegerTooLarge => 3,
-            Code::NoHead => 4,
-            Code::NotGrammar => 5,
-            Code::Unbound => 6,
-            Code::Unsafe => 7,
-            Code::Undefined => 8,
-            Code::DefinedTwice => 9,
-            Code::ExportOfNothing => 10,
-            Code::SourceTooLong => 11,
-        };
-        write!(f, "E{} at {}", number, self.place)
+        write!(f, "E{} at {}", self.code.number(), self.place)
     }
 }
 
