@@ -5,6 +5,7 @@ pub mod Earliest
 pub mod Marks
 pub mod Listing
 pub mod Walking
+pub mod Kinds
 pub mod Formed
 pub mod Bound
 pub mod Grown

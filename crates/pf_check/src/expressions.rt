@@ -3,10 +3,11 @@
 ghost use Rattle.std.specs.Prelude.{◌≡◌, IfOk, IfSome, IfNone, List};
 ghost use Rattle.pf_syntax.specs.Phrase as written;
 ghost use Rattle.pf_syntax.specs.Source.{phrase_at, shape_at};
-ghost use Rattle.pf_syntax.specs.SourceOver.{branches_over, condition_over, phrases_at};
+ghost use Rattle.pf_syntax.specs.SourceOver.{branches_over, condition_over, phrase_over, phrases_at};
 ghost use Rattle.pf_check.specs.Bound.{all_bound_after, bound_after, IsPlain};
 ghost use Rattle.pf_check.specs.Built.{BodyMeans, BranchesMean, Did, GuardMeans, PhraseMeans, PhrasesMean};
 ghost use Rattle.pf_check.specs.Bodies.{BranchMeans, EachElementMeans, ElementBuilt};
+ghost use Rattle.pf_check.specs.Kinds.{IsConstruct, IsOperation, IsSequence};
 ghost use Rattle.pf_check.specs.Knows.{Knows};
 
 use crate::bodies::{Element, put_binds, put_last};
@@ -107,63 +108,131 @@ pub(crate) fn expression(
             PhraseNode::Atom(atom) => Ok(Part::Atom(*atom)),
             PhraseNode::Text(codes) => text(alloc, source, places, module, codes.as_slice()),
             PhraseNode::Variable(word) => Ok(variable(source, places, module, *word)),
-            PhraseNode::Anonymous(_) => Ok(Part::Nil),
-            PhraseNode::Parentheses(a) => {
-                let inner = expression(alloc, source, own, places, module, *a)?;
-                Ok(inner)
-            }
-            PhraseNode::Tuple(ids) => {
-                let parts = expressions(alloc, source, own, places, module, ids.as_slice())?;
-                put_node(module, Node::Tuple(parts))
-            }
-            PhraseNode::List(ids) => {
-                let parts = expressions(alloc, source, own, places, module, ids.as_slice())?;
-                put_list(module, parts, Part::Nil)
-            }
-            PhraseNode::ListOn(ids, tail) => {
-                let parts = expressions(alloc, source, own, places, module, ids.as_slice())?;
-                let rest = expression(alloc, source, own, places, module, *tail)?;
-                put_list(module, parts, rest)
-            }
-            PhraseNode::Call(word, ids) => {
-                let parts = expressions(alloc, source, own, places, module, ids.as_slice())?;
-                call(source, own, places, module, *word, ids.as_slice(), parts)
-            }
-            PhraseNode::Binary(operator, a, b) => {
-                let both = pair(alloc, source, own, places, module, *a, *b)?;
-                put_node(module, Node::Binary(*operator, both.0, both.1))
-            }
-            PhraseNode::Negate(a) => {
-                let inner = expression(alloc, source, own, places, module, *a)?;
-                put_node(module, Node::Negate(inner))
-            }
-            PhraseNode::Both(a, b) => {
-                let both = pair(alloc, source, own, places, module, *a, *b)?;
-                put_node(module, Node::Both(both.0, both.1))
-            }
-            PhraseNode::Either(a, b) => {
-                let both = pair(alloc, source, own, places, module, *a, *b)?;
-                put_node(module, Node::Either(both.0, both.1))
-            }
-            PhraseNode::Send(a, b) => {
-                let both = pair(alloc, source, own, places, module, *a, *b)?;
-                put_node(module, Node::Send(both.0, both.1))
-            }
-            PhraseNode::Match(_, _) => Ok(Part::Nil),
-            PhraseNode::Case(a, arms) => {
-                let value = expression(alloc, source, own, places, module, *a)?;
-                let clauses = branches(alloc, source, own, places, module, arms.as_slice())?;
-                put_node(module, Node::Case(value, clauses))
-            }
-            PhraseNode::Decide(arms) => {
-                let clauses = branches(alloc, source, own, places, module, arms.as_slice())?;
-                put_node(module, Node::Decide(clauses))
-            }
-            PhraseNode::Receive(arms) => {
-                let clauses = branches(alloc, source, own, places, module, arms.as_slice())?;
-                put_node(module, Node::Receive(clauses))
+            PhraseNode::Anonymous(_) | PhraseNode::Match(_, _) => Ok(Part::Nil),
+            PhraseNode::Parentheses(a) => expression(alloc, source, own, places, module, *a),
+            PhraseNode::Tuple(_)
+            | PhraseNode::List(_)
+            | PhraseNode::ListOn(_, _)
+            | PhraseNode::Call(_, _) => sequence(alloc, source, own, places, module, node),
+            PhraseNode::Binary(_, _, _)
+            | PhraseNode::Negate(_)
+            | PhraseNode::Both(_, _)
+            | PhraseNode::Either(_, _)
+            | PhraseNode::Send(_, _) => operation(alloc, source, own, places, module, node),
+            PhraseNode::Case(_, _) | PhraseNode::Decide(_) | PhraseNode::Receive(_) => {
+                construct(alloc, source, own, places, module, node)
             }
         },
+    }
+}
+
+/// A tuple, a list or a call, after its elements or arguments.
+#[cycle(phrase)]
+fn sequence(
+    alloc: Global,
+    source: &Source,
+    own: &Own,
+    places: &mut Places,
+    module: &mut Module,
+    node: &PhraseNode,
+) -> Result<Part, NoMemory>
+    requires knows { Knows own.now source.now.functions }
+    requires kind { IsSequence node.now }
+    ensures { IfOk result (λ x. Did module.old module.new places.new places.old
+        (λ t. PhraseMeans source.now.functions t places.old (phrase_over source.now.book node.now) x)) }
+{
+    match node {
+        PhraseNode::Tuple(ids) => {
+            let parts = expressions(alloc, source, own, places, module, ids.as_slice())?;
+            put_node(module, Node::Tuple(parts))
+        }
+        PhraseNode::List(ids) => {
+            let parts = expressions(alloc, source, own, places, module, ids.as_slice())?;
+            put_list(module, parts, Part::Nil)
+        }
+        PhraseNode::ListOn(ids, tail) => {
+            let parts = expressions(alloc, source, own, places, module, ids.as_slice())?;
+            let rest = expression(alloc, source, own, places, module, *tail)?;
+            put_list(module, parts, rest)
+        }
+        PhraseNode::Call(word, ids) => {
+            let parts = expressions(alloc, source, own, places, module, ids.as_slice())?;
+            call(source, own, places, module, *word, ids.as_slice(), parts)
+        }
+        _ => Ok(Part::Nil),
+    }
+}
+
+/// An operator with its operands.
+#[cycle(phrase)]
+fn operation(
+    alloc: Global,
+    source: &Source,
+    own: &Own,
+    places: &mut Places,
+    module: &mut Module,
+    node: &PhraseNode,
+) -> Result<Part, NoMemory>
+    requires knows { Knows own.now source.now.functions }
+    requires kind { IsOperation node.now }
+    ensures { IfOk result (λ x. Did module.old module.new places.new places.old
+        (λ t. PhraseMeans source.now.functions t places.old (phrase_over source.now.book node.now) x)) }
+{
+    match node {
+        PhraseNode::Negate(a) => {
+            let inner = expression(alloc, source, own, places, module, *a)?;
+            put_node(module, Node::Negate(inner))
+        }
+        PhraseNode::Binary(operator, a, b) => {
+            let both = pair(alloc, source, own, places, module, *a, *b)?;
+            put_node(module, Node::Binary(*operator, both.0, both.1))
+        }
+        PhraseNode::Both(a, b) => {
+            let both = pair(alloc, source, own, places, module, *a, *b)?;
+            put_node(module, Node::Both(both.0, both.1))
+        }
+        PhraseNode::Either(a, b) => {
+            let both = pair(alloc, source, own, places, module, *a, *b)?;
+            put_node(module, Node::Either(both.0, both.1))
+        }
+        PhraseNode::Send(a, b) => {
+            let both = pair(alloc, source, own, places, module, *a, *b)?;
+            put_node(module, Node::Send(both.0, both.1))
+        }
+        _ => Ok(Part::Nil),
+    }
+}
+
+/// A construct of clauses: `case`, `if` or `receive`.
+#[cycle(phrase)]
+fn construct(
+    alloc: Global,
+    source: &Source,
+    own: &Own,
+    places: &mut Places,
+    module: &mut Module,
+    node: &PhraseNode,
+) -> Result<Part, NoMemory>
+    requires knows { Knows own.now source.now.functions }
+    requires kind { IsConstruct node.now }
+    ensures { IfOk result (λ x. Did module.old module.new places.new places.old
+        (λ t. PhraseMeans source.now.functions t places.old (phrase_over source.now.book node.now) x)) }
+{
+    match node {
+        PhraseNode::Case(a, arms) => {
+            let value = expression(alloc, source, own, places, module, *a)?;
+            let clauses = branches(alloc, source, own, places, module, arms.as_slice())?;
+            put_node(module, Node::Case(value, clauses))
+        }
+        PhraseNode::Decide(arms) => {
+            let clauses = branches(alloc, source, own, places, module, arms.as_slice())?;
+            put_node(module, Node::Decide(clauses))
+        }
+        PhraseNode::Receive(arms) => {
+            let clauses = branches(alloc, source, own, places, module, arms.as_slice())?;
+            put_node(module, Node::Receive(clauses))
+        }
+        _ => Ok(Part::Nil),
     }
 }
 

@@ -35,79 +35,80 @@ pub expression-returns-in-Atom : goal.expression-returns-in-Atom
 expression-returns-in-Atom t c =
     phrase_here c.args.source.now.functions c.args.module.now c.args.places.now _ _ (part.Atom c.in-Atom.atom) (ap (phrase_over c.args.source.now.book) (sym c.in-Atom.is) ∙ c.in-Some.ensures.found) tt (λ g h f k. w.atom g c.in-Atom.atom.0)
 
-pub expression-returns-in_ok-inner-in-Parentheses : goal.expression-returns-in_ok-inner-in-Parentheses
-expression-returns-in_ok-inner-in-Parentheses t c =
-    parentheses_did c.args.source.now.functions _ _ _ _ _ _ c.in_ok-inner-in-Parentheses.inner (ap (phrase_over c.args.source.now.book) (sym c.in-Parentheses.is) ∙ c.in-Some.ensures.found) c.in_ok-inner-in-Parentheses.ensures
+pub expression-returns-in-Parentheses : goal.expression-returns-in-Parentheses
+expression-returns-in-Parentheses t c =
+    by_ok _ _ _ c.expression.ensures
+    (λ x h. parentheses_did c.args.source.now.functions _ _ _ _ _ _ x (ap (phrase_over c.args.source.now.book) (sym c.in-Parentheses.is) ∙ c.in-Some.ensures.found) h)
 
-pub expression-returns-in_ok-parts-in-Tuple : goal.expression-returns-in_ok-parts-in-Tuple
-expression-returns-in_ok-parts-in-Tuple t c =
+pub sequence-returns-in_ok-parts-in-Tuple : goal.sequence-returns-in_ok-parts-in-Tuple
+sequence-returns-in_ok-parts-in-Tuple t c =
     let d = c.in_ok-parts-in-Tuple.ensures in
     by_ok _ _ _ c.put_node.ensures
-    (λ x h. phrase_put c.args.source.now.functions _ _ _ _ _ _ _ _ x (ap (λ l. p.tuple (phrases_at c.args.source.now.book l)) c.as_slice-in-Tuple.ensures.value ∙ ap (phrase_over c.args.source.now.book) (sym c.in-Tuple.is) ∙ c.in-Some.ensures.found) d.bound_is d.grown (λ g e f k. w.tuple g _ _ (d.answer.means g e f k)) h)
+    (λ x h. phrase_put c.args.source.now.functions _ _ _ _ _ _ _ _ x (ap (λ l. p.tuple (phrases_at c.args.source.now.book l)) c.as_slice.ensures.value ∙ ap (phrase_over c.args.source.now.book) (sym c.in-Tuple.is)) d.bound_is d.grown (λ g e f k. w.tuple g _ _ (d.answer.means g e f k)) h)
 
-pub expression-returns-in_ok-parts-in-List : goal.expression-returns-in_ok-parts-in-List
-expression-returns-in_ok-parts-in-List t c =
+pub sequence-returns-in_ok-parts-in-List : goal.sequence-returns-in_ok-parts-in-List
+sequence-returns-in_ok-parts-in-List t c =
     let d = c.in_ok-parts-in-List.ensures in
     by_ok _ _ _ c.put_list.ensures
-    (λ x h. phrase_put c.args.source.now.functions _ _ _ _ _ _ _ _ x (ap (λ l. p.list (phrases_at c.args.source.now.book l)) c.as_slice-in-List.ensures.value ∙ ap (phrase_over c.args.source.now.book) (sym c.in-List.is) ∙ c.in-Some.ensures.found) d.bound_is d.grown (λ g e f k. w.list g _ _ (d.answer.means g e f k)) h)
+    (λ x h. phrase_put c.args.source.now.functions _ _ _ _ _ _ _ _ x (ap (λ l. p.list (phrases_at c.args.source.now.book l)) c.as_slice-in-List.ensures.value ∙ ap (phrase_over c.args.source.now.book) (sym c.in-List.is)) d.bound_is d.grown (λ g e f k. w.list g _ _ (d.answer.means g e f k)) h)
 
-pub expression-returns-in_ok-rest-in-ListOn : goal.expression-returns-in_ok-rest-in-ListOn
-expression-returns-in_ok-rest-in-ListOn t c =
+pub sequence-returns-in_ok-rest-in-ListOn : goal.sequence-returns-in_ok-rest-in-ListOn
+sequence-returns-in_ok-rest-in-ListOn t c =
     by_ok _ _ _ c.put_list-in-ListOn.ensures
-    (λ x h. list_on_put c.args.source.now.functions _ _ _ _ _ _ _ _ _ _ _ c.in_ok-rest-in-ListOn.rest x (ap (λ l. p.list_on (phrases_at c.args.source.now.book l) (phrase_at c.args.source.now.book c.in-ListOn.tail.0)) c.as_slice-in-ListOn.ensures.value ∙ ap (phrase_over c.args.source.now.book) (sym c.in-ListOn.is) ∙ c.in-Some.ensures.found)
+    (λ x h. list_on_put c.args.source.now.functions _ _ _ _ _ _ _ _ _ _ _ c.in_ok-rest-in-ListOn.rest x (ap (λ l. p.list_on (phrases_at c.args.source.now.book l) (phrase_at c.args.source.now.book c.in-ListOn.tail.0)) c.as_slice-in-ListOn.ensures.value ∙ ap (phrase_over c.args.source.now.book) (sym c.in-ListOn.is))
     c.in_ok-parts-in-ListOn.ensures c.in_ok-rest-in-ListOn.ensures h)
 
-pub expression-returns-in_ok-both-in-Binary : goal.expression-returns-in_ok-both-in-Binary
-expression-returns-in_ok-both-in-Binary t c =
+pub operation-returns-in_ok-both-in-Binary : goal.operation-returns-in_ok-both-in-Binary
+operation-returns-in_ok-both-in-Binary t c =
     let d = c.in_ok-both-in-Binary.ensures in
     by_ok _ _ _ c.put_node-in-Binary.ensures
-    (λ x h. phrase_put c.args.source.now.functions _ _ _ _ _ _ _ _ x (ap (phrase_over c.args.source.now.book) (sym c.in-Binary.is) ∙ c.in-Some.ensures.found) d.bound_is d.grown
+    (λ x h. phrase_put c.args.source.now.functions _ _ _ _ _ _ _ _ x (ap (phrase_over c.args.source.now.book) (sym c.in-Binary.is)) d.bound_is d.grown
     (λ g e f k. let two = two_mean c.args.source.now.functions _ _ _ _ _ _ d.answer g e f k in w.binary g _ _ _ _ _ two.0 two.1) h)
 
-pub expression-returns-in_ok-both-in-Both : goal.expression-returns-in_ok-both-in-Both
-expression-returns-in_ok-both-in-Both t c =
+pub operation-returns-in_ok-both-in-Both : goal.operation-returns-in_ok-both-in-Both
+operation-returns-in_ok-both-in-Both t c =
     let d = c.in_ok-both-in-Both.ensures in
     by_ok _ _ _ c.put_node-in-Both.ensures
-    (λ x h. phrase_put c.args.source.now.functions _ _ _ _ _ _ _ _ x (ap (phrase_over c.args.source.now.book) (sym c.in-Both.is) ∙ c.in-Some.ensures.found) d.bound_is d.grown
+    (λ x h. phrase_put c.args.source.now.functions _ _ _ _ _ _ _ _ x (ap (phrase_over c.args.source.now.book) (sym c.in-Both.is)) d.bound_is d.grown
     (λ g e f k. let two = two_mean c.args.source.now.functions _ _ _ _ _ _ d.answer g e f k in w.both g _ _ _ _ two.0 two.1) h)
 
-pub expression-returns-in_ok-both-in-Either : goal.expression-returns-in_ok-both-in-Either
-expression-returns-in_ok-both-in-Either t c =
+pub operation-returns-in_ok-both-in-Either : goal.operation-returns-in_ok-both-in-Either
+operation-returns-in_ok-both-in-Either t c =
     let d = c.in_ok-both-in-Either.ensures in
     by_ok _ _ _ c.put_node-in-Either.ensures
-    (λ x h. phrase_put c.args.source.now.functions _ _ _ _ _ _ _ _ x (ap (phrase_over c.args.source.now.book) (sym c.in-Either.is) ∙ c.in-Some.ensures.found) d.bound_is d.grown
+    (λ x h. phrase_put c.args.source.now.functions _ _ _ _ _ _ _ _ x (ap (phrase_over c.args.source.now.book) (sym c.in-Either.is)) d.bound_is d.grown
     (λ g e f k. let two = two_mean c.args.source.now.functions _ _ _ _ _ _ d.answer g e f k in w.either g _ _ _ _ two.0 two.1) h)
 
-pub expression-returns-in_ok-both-in-Send : goal.expression-returns-in_ok-both-in-Send
-expression-returns-in_ok-both-in-Send t c =
+pub operation-returns-in_ok-both-in-Send : goal.operation-returns-in_ok-both-in-Send
+operation-returns-in_ok-both-in-Send t c =
     let d = c.in_ok-both-in-Send.ensures in
     by_ok _ _ _ c.put_node-in-Send.ensures
-    (λ x h. phrase_put c.args.source.now.functions _ _ _ _ _ _ _ _ x (ap (phrase_over c.args.source.now.book) (sym c.in-Send.is) ∙ c.in-Some.ensures.found) d.bound_is d.grown
+    (λ x h. phrase_put c.args.source.now.functions _ _ _ _ _ _ _ _ x (ap (phrase_over c.args.source.now.book) (sym c.in-Send.is)) d.bound_is d.grown
     (λ g e f k. let two = two_mean c.args.source.now.functions _ _ _ _ _ _ d.answer g e f k in w.send g _ _ _ _ two.0 two.1) h)
 
-pub expression-returns-in_ok-inner-in-Negate : goal.expression-returns-in_ok-inner-in-Negate
-expression-returns-in_ok-inner-in-Negate t c =
+pub operation-returns-in_ok-inner-in-Negate : goal.operation-returns-in_ok-inner-in-Negate
+operation-returns-in_ok-inner-in-Negate t c =
     let d = c.in_ok-inner-in-Negate.ensures in
-    by_ok _ _ _ c.put_node-in-Negate.ensures
-    (λ x h. phrase_put c.args.source.now.functions _ _ _ _ _ _ _ _ x (ap (phrase_over c.args.source.now.book) (sym c.in-Negate.is) ∙ c.in-Some.ensures.found) d.bound_is d.grown (λ g e f k. w.negate g _ _ (d.answer.means g e f k)) h)
+    by_ok _ _ _ c.put_node.ensures
+    (λ x h. phrase_put c.args.source.now.functions _ _ _ _ _ _ _ _ x (ap (phrase_over c.args.source.now.book) (sym c.in-Negate.is)) d.bound_is d.grown (λ g e f k. w.negate g _ _ (d.answer.means g e f k)) h)
 
-pub expression-returns-in_ok-clauses-in-Case : goal.expression-returns-in_ok-clauses-in-Case
-expression-returns-in_ok-clauses-in-Case t c =
-    by_ok _ _ _ c.put_node-in-Case.ensures
-    (λ x h. case_put c.args.source.now.functions _ _ _ _ _ _ _ _ _ _ c.in_ok-value-in-Case.value x _ (ap (λ l. p.case (phrase_at c.args.source.now.book c.in-Case.a.0) (branches_over c.args.source.now.book l)) c.as_slice-in-Case.ensures.value ∙ ap (phrase_over c.args.source.now.book) (sym c.in-Case.is) ∙ c.in-Some.ensures.found)
+pub construct-returns-in_ok-clauses-in-Case : goal.construct-returns-in_ok-clauses-in-Case
+construct-returns-in_ok-clauses-in-Case t c =
+    by_ok _ _ _ c.put_node.ensures
+    (λ x h. case_put c.args.source.now.functions _ _ _ _ _ _ _ _ _ _ c.in_ok-value-in-Case.value x _ (ap (λ l. p.case (phrase_at c.args.source.now.book c.in-Case.a.0) (branches_over c.args.source.now.book l)) c.as_slice.ensures.value ∙ ap (phrase_over c.args.source.now.book) (sym c.in-Case.is))
     c.in_ok-value-in-Case.ensures c.in_ok-clauses-in-Case.ensures h)
 
-pub expression-returns-in_ok-clauses-in-Decide : goal.expression-returns-in_ok-clauses-in-Decide
-expression-returns-in_ok-clauses-in-Decide t c =
+pub construct-returns-in_ok-clauses-in-Decide : goal.construct-returns-in_ok-clauses-in-Decide
+construct-returns-in_ok-clauses-in-Decide t c =
     let d = c.in_ok-clauses-in-Decide.ensures in
     by_ok _ _ _ c.put_node-in-Decide.ensures
-    (λ x h. phrase_put c.args.source.now.functions _ _ _ _ _ _ _ _ x (ap (λ l. p.decide (branches_over c.args.source.now.book l)) c.as_slice-in-Decide.ensures.value ∙ ap (phrase_over c.args.source.now.book) (sym c.in-Decide.is) ∙ c.in-Some.ensures.found) d.bound_is d.grown (λ g e f k. w.decide g _ _ (d.answer.means g e f k)) h)
+    (λ x h. phrase_put c.args.source.now.functions _ _ _ _ _ _ _ _ x (ap (λ l. p.decide (branches_over c.args.source.now.book l)) c.as_slice-in-Decide.ensures.value ∙ ap (phrase_over c.args.source.now.book) (sym c.in-Decide.is)) d.bound_is d.grown (λ g e f k. w.decide g _ _ (d.answer.means g e f k)) h)
 
-pub expression-returns-in_ok-clauses-in-Receive : goal.expression-returns-in_ok-clauses-in-Receive
-expression-returns-in_ok-clauses-in-Receive t c =
+pub construct-returns-in_ok-clauses-in-Receive : goal.construct-returns-in_ok-clauses-in-Receive
+construct-returns-in_ok-clauses-in-Receive t c =
     let d = c.in_ok-clauses-in-Receive.ensures in
     by_ok _ _ _ c.put_node-in-Receive.ensures
-    (λ x h. phrase_put c.args.source.now.functions _ _ _ _ _ _ _ _ x (ap (λ l. p.receive (branches_over c.args.source.now.book l)) c.as_slice-in-Receive.ensures.value ∙ ap (phrase_over c.args.source.now.book) (sym c.in-Receive.is) ∙ c.in-Some.ensures.found) d.bound_is d.grown (λ g e f k. w.receive g _ _ (d.answer.means g e f k)) h)
+    (λ x h. phrase_put c.args.source.now.functions _ _ _ _ _ _ _ _ x (ap (λ l. p.receive (branches_over c.args.source.now.book l)) c.as_slice-in-Receive.ensures.value ∙ ap (phrase_over c.args.source.now.book) (sym c.in-Receive.is)) d.bound_is d.grown (λ g e f k. w.receive g _ _ (d.answer.means g e f k)) h)
 
 pub expressions-expression-requires : goal.expressions-expression-requires
 expressions-expression-requires t c =
