@@ -6,7 +6,7 @@ use Rattle.std.proofs.lemmas.List.{append-nil, at_drop_more}
 use Rattle.std.proofs.Math.Seq.{drop-append_seam}
 use Rattle.pf_syntax.specs.Shape.{Shape, Shapes, no_shapes, shape, variable}
 use Rattle.pf_syntax.specs.Phrase.{Phrase, Phrases, Condition, Branches, no_phrases, phrase, no_tests, tests, no_branches, branch, call}
-use Rattle.pf_syntax.specs.Sight.{Sight, has, is_new, after_shape, after_shapes, after, after_all, leaving, ends_of}
+use Rattle.pf_syntax.specs.Sight.{Sight, has, is_new, after_shape, after_shapes, after, after_all, ends_of}
 use Rattle.pf_syntax.specs.Sight.{names_of as seen_names}
 use Rattle.pf_syntax.specs.Naming.{Names, arity_of}
 use Rattle.pf_syntax.specs.Source.{Book, Head}
@@ -104,19 +104,6 @@ phrases_more n old now next es left rest e p u w =
 
 pub phrases_all : (n : Names) (old now : Walk) (es left : Phrases) → left ≡ no_phrases → PhrasesUnderway n old now es left → PhrasesWalked n old now es
 phrases_all n old now es left p u = underway_all old now (λ g. after_all g es) (λ g. phrases_faults n g es) (subst (PhrasesUnderway n old now es) p u)
-
-pub phrase_behind : (n : Names) (a b c : Walk) (es : Phrases) (e : Phrase) → PhrasesWalked n a b es → PhraseWalked n b c e → Walks a c (λ g. after (after_all g es) e) (λ g. phrases_faults n g es ++ phrase_faults n (after_all g es) e)
-phrase_behind n a b c es e x y =
-    walks_then a b c (λ g. after_all g es) (λ g. after g e) (λ g. phrases_faults n g es) (λ g. phrase_faults n g e) x y
-
-pub pair : (n : Names) (a b c : Walk) (l r : Phrase) → PhraseWalked n a b l → PhraseWalked n b c r → Walks a c (λ g. after (after g l) r) (λ g. phrase_faults n g l ++ phrase_faults n (after g l) r)
-pair n a b c l r x y = walks_then a b c (λ g. after g l) (λ g. after g r) (λ g. phrase_faults n g l) (λ g. phrase_faults n g r) x y
-
-pub matched : (n : Names) (a b c : Walk) (e : Phrase) (q : Shape) → PhraseWalked n a b e → ShapeWalked b c q → Walks a c (λ g. after_shape (after g e) q) (λ g. phrase_faults n g e ++ shape_faults (after g e) q)
-matched n a b c e q x y = walks_then a b c (λ g. after g e) (λ g. after_shape g q) (λ g. phrase_faults n g e) (λ g. shape_faults g q) x y
-
-pub cased : (n : Names) (a b c : Walk) (e : Phrase) (bs : Branches) → PhraseWalked n a b e → BranchesWalked n b c bs → Walks a c (λ g. leaving (after g e) (ends_of (after g e) bs)) (λ g. phrase_faults n g e ++ branches_faults n (after g e) bs)
-cased n a b c e bs x y = walks_then a b c (λ g. after g e) (λ g. leaving g (ends_of g bs)) (λ g. phrase_faults n g e) (λ g. branches_faults n g bs) x y
 
 arity_length : (b : Book) (ids : List PhraseId) → arity_of (phrases_at b ids) ≡ length ids
 arity_length b [] = refl

@@ -34,6 +34,10 @@ PhraseWalked n old new e = Walks old new (λ g. after g e) (λ g. phrase_faults 
 abbrev pub PhrasesWalked : Names → Walk → Walk → Phrases → Type 0
 PhrasesWalked n old new es = Walks old new (λ g. after_all g es) (λ g. phrases_faults n g es)
 
+-- through two expressions
+abbrev pub PairWalked : Names → Walk → Walk → Phrase → Phrase → Type 0
+PairWalked n old new a b = Walks old new (λ g. after (after g a) b) (λ g. phrase_faults n g a ++ phrase_faults n (after g a) b)
+
 -- through an alternative of a guard, and through a guard
 abbrev pub TestsWalked : Names → Walk → Walk → Phrases → Type 0
 TestsWalked n old new es = Walks old new (λ g. g) (λ g. phrases_faults n g es)

@@ -1,11 +1,12 @@
 //! The walk over expressions: what is seen at each place of a function's clause, and the first fault up to there.
 
 ghost use Rattle.std.specs.Prelude.{OnOk};
-ghost use Rattle.pf_syntax.specs.Source.{phrase_at};
+ghost use Rattle.pf_syntax.specs.Phrase as written;
+ghost use Rattle.pf_syntax.specs.Source.{phrase_at, shape_at};
 ghost use Rattle.pf_syntax.specs.SourceOver.{branches_over, condition_over, phrase_over, phrases_at};
 ghost use Rattle.pf_check.specs.Static.{names_of};
 ghost use Rattle.pf_check.specs.Listing.{Lists};
-ghost use Rattle.pf_check.specs.Walking.{branch_of, AnonymousWalked, BranchWalked, BranchesWalked, CallWalked, ConditionWalked, PhraseWalked, PhrasesWalked, TestsWalked, VariableWalked};
+ghost use Rattle.pf_check.specs.Walking.{branch_of, AnonymousWalked, BranchWalked, BranchesWalked, CallWalked, ConditionWalked, PairWalked, PhraseWalked, PhrasesWalked, TestsWalked, VariableWalked};
 
 mod heads;
 mod patterns;
@@ -13,7 +14,7 @@ mod patterns;
 use crate::first::{CheckFault, First};
 use crate::seen::{Seen, Status};
 use crate::signatures::Signatures;
-use pf_syntax::{Branch, Condition, PhraseId, PhraseNode, Source, Word};
+use pf_syntax::{Branch, Condition, PhraseId, PhraseNode, ShapeId, Source, Word};
 use pf_terms::NoMemory;
 
 /// What is seen at a place of a function's clause, and the first fault up to there.
@@ -67,24 +68,63 @@ impl Walk {
             PhraseNode::Binary(_, left, right)
             | PhraseNode::Both(left, right)
             | PhraseNode::Either(left, right)
-            | PhraseNode::Send(left, right) => {
-                self.phrase(source, own, *left)?;
-                self.phrase(source, own, *right)?;
-            }
-            PhraseNode::Match(shape, value) => {
-                self.phrase(source, own, *value)?;
-                self.shape(source, *shape)?;
-            }
-            PhraseNode::Case(part, branches) => {
-                self.phrase(source, own, *part)?;
-                self.branches(source, own, branches)?;
-            }
+            | PhraseNode::Send(left, right) => self.pair(source, own, *left, *right)?,
+            PhraseNode::Match(shape, value) => self.matching(source, own, *shape, *value)?,
+            PhraseNode::Case(part, branches) => self.case(source, own, *part, branches)?,
             PhraseNode::Decide(branches) | PhraseNode::Receive(branches) => {
                 self.branches(source, own, branches)?;
             }
             PhraseNode::Integer(_) | PhraseNode::Atom(_) | PhraseNode::Text(_) => {}
         }
         Ok(())
+    }
+
+    /// Through two operands, from left to right.
+    #[cycle(phrases)]
+    fn pair(
+        &mut self,
+        source: &Source,
+        own: &Signatures,
+        left: PhraseId,
+        right: PhraseId,
+    ) -> Result<(), NoMemory>
+        requires { Lists own.now source.now.functions }
+        ensures { OnOk result (PairWalked (names_of source.now.functions) self.old self.new (phrase_at source.now.book left.0) (phrase_at source.now.book right.0)) }
+    {
+        self.phrase(source, own, left)?;
+        self.phrase(source, own, right)
+    }
+
+    /// Through a match: its right side, and then its pattern.
+    #[cycle(phrases)]
+    fn matching(
+        &mut self,
+        source: &Source,
+        own: &Signatures,
+        shape: ShapeId,
+        value: PhraseId,
+    ) -> Result<(), NoMemory>
+        requires { Lists own.now source.now.functions }
+        ensures { OnOk result (PhraseWalked (names_of source.now.functions) self.old self.new (written.match (shape_at source.now.book shape.0) (phrase_at source.now.book value.0))) }
+    {
+        self.phrase(source, own, value)?;
+        self.shape(source, shape)
+    }
+
+    /// Through a `case`: its expression, and then its clauses.
+    #[cycle(phrases)]
+    fn case(
+        &mut self,
+        source: &Source,
+        own: &Signatures,
+        part: PhraseId,
+        branches: &[Branch],
+    ) -> Result<(), NoMemory>
+        requires { Lists own.now source.now.functions }
+        ensures { OnOk result (PhraseWalked (names_of source.now.functions) self.old self.new (written.case (phrase_at source.now.book part.0) (branches_over source.now.book branches.now))) }
+    {
+        self.phrase(source, own, part)?;
+        self.branches(source, own, branches)
     }
 
     /// Through expressions, from left to right.

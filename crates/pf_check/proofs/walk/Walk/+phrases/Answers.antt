@@ -1,4 +1,4 @@
-use Rattle.std.proofs.Common.{◌≡◌, ℕ, ◌+◌, List, drop, take, get_or, refl, sym, ap, ◌∙◌, subst, arith, inl, inr}
+use Rattle.std.proofs.Common.{◌≡◌, ℕ, ◌+◌, List, drop, take, get_or, refl, sym, ap, ◌∙◌, subst, arith}
 use Rattle.std.specs.Prelude.{if◌then◌else◌}
 use Rattle.std.proofs.lemmas.List.{at_drop_more, at_drop_all}
 use Rattle.pf_syntax.specs.Phrase.{phrases_depth, condition_depth, branches_depth, phrase, tests, branch}
@@ -12,7 +12,7 @@ use Rattle.pf_check.specs.Static.{names_of, phrases_faults}
 use Rattle.pf_check.specs.Marks.{seen_of, left_of}
 use Rattle.pf_check.specs.Walking.{PhraseWalked, PhrasesWalked, ConditionWalked}
 use Rattle.pf_check.specs.declared.seen.Status.TheVariants.{New, Unsafe}
-use Rattle.pf_check.proofs.Passing.{next_item, phrases_more, phrases_all, condition_more, condition_all, branches_more, branches_all, branch_closed, walks_back, called, pair, underway_first}
+use Rattle.pf_check.proofs.Passing.{next_item, phrases_more, phrases_all, condition_more, condition_all, branches_more, branches_all, branch_closed, walks_back, called, underway_first}
 use Rattle.pf_check.proofs.walk.Walk.+phrases.Goals as goal
 
 pub phrases-loop-part-init : goal.phrases-loop-part-init
@@ -122,16 +122,3 @@ phrase_node-returns-in_ok-phrases-in-Call t c =
     subst (λ (m : PhraseNode). PhraseWalked (names_of fs) old new (phrase_over book m)) (sym c.in-Call.is)
     (called fs c.args.own.now book old c.call.new.self new w.name.0 w.offset c.len.result ids.items c.deref-in-Call.result.now c.requires (omega (arith, ids.ok.0)) c.deref-in-Call.ensures.value c.call.ensures
     c.in_ok-phrases-in-Call.ensures)
-
-pub phrase_node-returns-in_ok-phrase-in-Binary-2 : goal.phrase_node-returns-in_ok-phrase-in-Binary-2
-phrase_node-returns-in_ok-phrase-in-Binary-2 t c =
-    let n = names_of c.args.source.now.functions in
-    let book = c.args.source.now.book in
-    let old = c.args.self.now in
-    let new = c.phrase-in-Binary-2.new.self in
-    let P : PhraseNode → Type 0 = λ m. PhraseWalked n old new (phrase_over book m) in
-    let both = pair n old c.phrase-in-Binary.new.self new (phrase_at book c.in-Binary.left.0) (phrase_at book c.in-Binary.right.0) c.in_ok-phrase-in-Binary.ensures c.in_ok-phrase-in-Binary-2.ensures in
-    elim c.in-Binary.is [
-      | inl o ↦ subst P (sym o.1) both
-      | inr more ↦ elim more [ inl e ↦ subst P (sym e) both | inr others ↦ elim others [ inl e ↦ subst P (sym e) both | inr e ↦ subst P (sym e) both ] ]
-    ]

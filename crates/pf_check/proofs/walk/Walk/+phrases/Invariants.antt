@@ -1,4 +1,5 @@
 use Rattle.std.proofs.Common.{◌+◌, ◌*◌, ◌≤◌, drop}
+use Rattle.std.specs.Prelude.{max}
 use Rattle.pf_syntax.specs.Phrase.{phrase_depth, phrases_depth, condition_depth, branches_depth}
 use Rattle.pf_syntax.specs.Source.{phrase_at}
 use Rattle.pf_syntax.specs.SourceOver.{alternatives_at, branches_over, condition_over, phrase_over, phrases_at, branch_depth}
@@ -11,6 +12,15 @@ decreases-phrase l = 8 * phrase_depth (phrase_at l.source.now.book l.id.0) + 1
 
 abbrev pub decreases-phrase_node : goal.decreases-phrase_node
 decreases-phrase_node l = 8 * phrase_depth (phrase_over l.source.now.book l.node.now)
+
+abbrev pub decreases-pair : goal.decreases-pair
+decreases-pair l = 8 * max (phrase_depth (phrase_at l.source.now.book l.left.0)) (phrase_depth (phrase_at l.source.now.book l.right.0)) + 2
+
+abbrev pub decreases-matching : goal.decreases-matching
+decreases-matching l = 8 * phrase_depth (phrase_at l.source.now.book l.value.0) + 2
+
+abbrev pub decreases-case : goal.decreases-case
+decreases-case l = 8 * max (phrase_depth (phrase_at l.source.now.book l.part.0)) (branches_depth (branches_over l.source.now.book l.branches.now)) + 7
 
 abbrev pub decreases-phrases : goal.decreases-phrases
 decreases-phrases l = 8 * phrases_depth (phrases_at l.source.now.book l.parts.now) + 2
