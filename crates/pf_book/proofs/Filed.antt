@@ -9,15 +9,10 @@ use Rattle.pf_model.specs.Desk.{Stored, Job, State, queued, running, done, Trial
 use Rattle.pf_model.specs.History.{IsLegalDesk}
 use Rattle.pf_book.specs.Profile.{profile}
 use Rattle.pf_book.specs.Queued.{job_in_state, job_of_trial, job_at}
-use Rattle.pf_model.proofs.Histories.{desk_more}
+use Rattle.pf_model.proofs.Histories.{desk_more, set_found}
 use Rattle.pf_book.proofs.Sums.{calls_claimed, calls_filed}
 
 -- ---- trials whose state is set
-
-set_found : (ts : List Trial) (i : ℕ) (x y : Trial) → slice_get ts i ≡ Some x → slice_get (slice_set ts i y) i ≡ Some y
-set_found [] i x y h = absurd (cc)
-set_found (t ∷ ts) zero x y h = refl
-set_found (t ∷ ts) (suc i) x y h = set_found ts i x y h
 
 set_again : (ts : List Trial) (i : ℕ) (y z : Trial) → slice_set (slice_set ts i y) i z ≡ slice_set ts i z
 set_again [] i y z = refl

@@ -52,10 +52,11 @@ module _ (p : Profile) (d : Desk) where
 
 -- ---- the work of a worker
 
-set_found : (ts : List Trial) (i : ℕ) (x y : Trial) → slice_get ts i ≡ Some x → slice_get (slice_set ts i y) i ≡ Some y
+-- what is set where an item is found, is found there
+pub set_found : {X : Type 0} (xs : List X) (i : ℕ) (x y : X) → slice_get xs i ≡ Some x → slice_get (slice_set xs i y) i ≡ Some y
 set_found [] i x y h = absurd (cc)
-set_found (t ∷ ts) zero x y h = refl
-set_found (t ∷ ts) (suc i) x y h = set_found ts i x y h
+set_found (z ∷ xs) zero x y h = refl
+set_found (z ∷ xs) (suc i) x y h = set_found xs i x y h
 
 -- a trial that was claimed is running
 runs_at : (ts : List Trial) (i : ℕ) (o : Option Trial) → slice_get ts i ≡ o → is_queued o ≡ true
