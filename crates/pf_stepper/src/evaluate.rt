@@ -1,10 +1,11 @@
 //! The turn of an expression: its value, or its first part in a frame.
 
 ghost use Rattle.std.specs.Prelude.{◌≡◌, drop, IfOk, IfSome};
+ghost use Rattle.pf_syntax.specs.declared.node.Node.TheVariants as does;
 ghost use Rattle.pf_syntax.specs.declared.node.Part.TheVariants.{Node as names};
 ghost use Rattle.pf_model.specs.Scopes.{scope_of};
 ghost use Rattle.pf_syntax.specs.Module.{tree_at};
-ghost use Rattle.pf_syntax.specs.Over.{clauses_over};
+ghost use Rattle.pf_syntax.specs.Over.{clauses_over, tree_over};
 ghost use Rattle.pf_stepper.specs.Lookups.{clauses_in, IsLeftInScope};
 ghost use Rattle.pf_stepper.specs.declared.frame.Kind.TheVariants as kind;
 ghost use Rattle.pf_stepper.specs.View.{keeps};
@@ -13,7 +14,7 @@ ghost use Rattle.pf_stepper.specs.Turns.{CanEvaluate, Descended, Turned};
 use crate::clauses::choose;
 use crate::frame::{Focus, Kind, Turn};
 use crate::stack::{Stack, slot};
-use pf_syntax::{Clause, Module, Node, NodeId, Part};
+use pf_syntax::{Clause, Module, Node, NodeId, Operator, Part};
 use pf_terms::{AtomId, List, NoMemory, Term};
 use std::alloc::Global;
 
@@ -45,13 +46,9 @@ impl Stack {
         match code.node(id) {
             None => Ok(Turn::Same(Focus::Value(Term::List(List::Nil)))),
             Some(node) => match node {
-                Node::Binary(operator, left, right) => match self.left_in_scope(*left, *right) {
-                    Some(place) => {
-                        self.wait(Kind::BinaryAfterSlot(*operator, place))?;
-                        Ok(Turn::Same(Focus::Eval(*right)))
-                    }
-                    None => self.descend(alloc, code, Kind::BinaryLeft(id), *left),
-                },
+                Node::Binary(operator, left, right) => {
+                    self.operation(alloc, code, id, *operator, *left, *right)
+                }
                 Node::Negate(part) => self.descend(alloc, code, Kind::Negation, *part),
                 Node::Call(function, arguments) => {
                     self.pass(code, *function, id, arguments.as_slice(), 0)
@@ -88,6 +85,30 @@ impl Stack {
                 _ => None,
             },
             _ => None,
+        }
+    }
+
+    /// The operands of the operator at a node: the right one at once where the left one stays in its slot, or the left one.
+    #[inline(always)]
+    fn operation(
+        &mut self,
+        alloc: Global,
+        code: &Module,
+        id: NodeId,
+        operator: Operator,
+        left: Part,
+        right: Part,
+    ) -> Result<Turn, NoMemory>
+        requires sound { CanEvaluate self.old }
+        requires found { tree_over code.now.tables (does.Binary operator left right) ≡ tree_at code.now.tables id.0 }
+        ensures { IfOk result (λ t. Turned code.now self.old (Focus.Eval (names id)) self.new t) }
+    {
+        match self.left_in_scope(left, right) {
+            Some(place) => {
+                self.wait(Kind::BinaryAfterSlot(operator, place))?;
+                Ok(Turn::Same(Focus::Eval(right)))
+            }
+            None => self.descend(alloc, code, Kind::BinaryLeft(id), left),
         }
     }
 

@@ -3,7 +3,7 @@
 ghost use Rattle.std.specs.Prelude.{◌≤◌, length, IfOk};
 ghost use Rattle.pf_terms.specs.Value.{list as values};
 ghost use Rattle.pf_terms.specs.Term.{elements_of, value_of, values_of};
-ghost use Rattle.pf_syntax.specs.Pattern.{cons_of};
+ghost use Rattle.pf_syntax.specs.Pattern.{cons_of, tuple_of};
 ghost use Rattle.pf_syntax.specs.Module.{pattern_at};
 ghost use Rattle.pf_syntax.specs.Over.{patterns_at};
 ghost use Rattle.pf_model.specs.Fit as spec;
@@ -36,35 +36,36 @@ pub(crate) fn fit(
                 Ok(true)
             }
             PatternNode::Slot(place) => Ok(fits_slot(env.as_slice(), base, *place, value)),
-            PatternNode::Int(n) => match value {
-                Term::Int(other) => Ok(n == other),
-                _ => Ok(false),
-            },
-            PatternNode::Atom(atom) => match value {
-                Term::Atom(other) => Ok(atom == other),
-                _ => Ok(false),
-            },
-            PatternNode::Nil => match value {
-                Term::List(list) => Ok(list.split().is_none()),
-                _ => Ok(false),
-            },
+            PatternNode::Int(n) => Ok(matches!(value, Term::Int(other) if n == other)),
+            PatternNode::Atom(atom) => Ok(matches!(value, Term::Atom(other) if atom == other)),
+            PatternNode::Nil => Ok(matches!(value, Term::List(list) if list.split().is_none())),
             PatternNode::Literal(id) => Ok(fits_literal(code, *id, value)),
-            PatternNode::Tuple(parts) => match value {
-                Term::Tuple(elements) => fit_all(
-                    code,
-                    parts.as_slice(),
-                    elements.as_slice(),
-                    env,
-                    base,
-                ),
-                _ => Ok(false),
-            },
+            PatternNode::Tuple(parts) => fit_tuple(code, parts.as_slice(), value, env, base),
             PatternNode::Cons(head, tail) => match value {
                 Term::List(list) => fit_cons(code, *head, *tail, list, env, base),
                 _ => Ok(false),
             },
             PatternNode::Never => Ok(false),
         },
+    }
+}
+
+/// Whether a value is a tuple whose elements fit the patterns.
+#[cycle(fit)]
+#[inline(always)]
+fn fit_tuple(
+    code: &Module,
+    patterns: &[PatternId],
+    value: &Term,
+    env: &mut Vec<Term>,
+    base: usize,
+) -> Result<bool, NoMemory>
+    requires { base ≤ length env.old.items }
+    ensures { IfOk result (λ b. Fitted base env.old.items env.new.items b (spec.fit (tuple_of (patterns_at code.now.tables patterns.now)) (value_of value.now))) }
+{
+    match value {
+        Term::Tuple(elements) => fit_all(code, patterns, elements.as_slice(), env, base),
+        _ => Ok(false),
     }
 }
 

@@ -5,10 +5,13 @@ use Rattle.pf_stepper.specs.Lookups.{pattern_size, patterns_size}
 use Rattle.pf_stepper.proofs.fitting.+fit.Given as goal
 
 abbrev pub decreases-fit : goal.decreases-fit
-decreases-fit l = 2 * pattern_size (pattern_at l.code.now.tables l.pattern.0)
+decreases-fit l = 3 * pattern_size (pattern_at l.code.now.tables l.pattern.0)
 
 abbrev pub decreases-fit_all : goal.decreases-fit_all
-decreases-fit_all l = 2 * patterns_size (patterns_at l.code.now.tables l.patterns.now) + 1
+decreases-fit_all l = 3 * patterns_size (patterns_at l.code.now.tables l.patterns.now) + 1
 
 abbrev pub decreases-fit_cons : goal.decreases-fit_cons
-decreases-fit_cons l = 2 * (pattern_size (pattern_at l.code.now.tables l.head.0) + pattern_size (pattern_at l.code.now.tables l.tail.0)) + 1
+decreases-fit_cons l = 3 * (pattern_size (pattern_at l.code.now.tables l.head.0) + pattern_size (pattern_at l.code.now.tables l.tail.0)) + 1
+
+abbrev pub decreases-fit_tuple : goal.decreases-fit_tuple
+decreases-fit_tuple l = 3 * patterns_size (patterns_at l.code.now.tables l.patterns.now) + 2

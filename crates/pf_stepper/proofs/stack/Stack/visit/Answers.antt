@@ -2,7 +2,7 @@ use Rattle.std.proofs.Common.{refl, sym, ap, ◌∙◌}
 use Rattle.pf_syntax.specs.Over.{tree_over}
 use Rattle.pf_model.specs.Substitution.{sub}
 use Rattle.pf_syntax.specs.declared.node.Part.TheVariants.{Node as names}
-use Rattle.pf_stepper.proofs.Focused.{stays_here, binary_arm, after_slot_arm, negate_arm, match_arm, bind_arm, case_arm, raising_arm}
+use Rattle.pf_stepper.proofs.Focused.{stays_here, negate_arm, match_arm, bind_arm, case_arm, raising_arm}
 use Rattle.pf_stepper.proofs.Follows.{descended, passed}
 use Rattle.pf_stepper.proofs.Passed.{begins_call}
 use Rattle.pf_stepper.proofs.stack.Stack.visit.Goals as goal
@@ -10,17 +10,8 @@ use Rattle.pf_stepper.proofs.stack.Stack.visit.Goals as goal
 pub returns-in-None : goal.returns-in-None
 returns-in-None c = stays_here _ _ _ _ _ (names c.args.id) _ c.requires (ap (sub _) c.in-None.ensures.found)
 
-pub returns-in_ok-wait-in-Some-left_in_scope : goal.returns-in_ok-wait-in-Some-left_in_scope
-returns-in_ok-wait-in-Some-left_in_scope c =
-    let w = c.in_ok-wait-in-Some-left_in_scope.ensures in
-    rw (w.ok, w.env, w.temps, w.base)
-    (after_slot_arm _ _ _ _ _ c.args.id c.requires _ c.in-Some.ensures.found _ _ _ _ c.in-Binary.is c.in-Some-left_in_scope.ensures)
-
-pub returns-in-None-left_in_scope : goal.returns-in-None-left_in_scope
-returns-in-None-left_in_scope c = descended _ c.args.self.now _ _ c.descend.new.self _ _ _ _ _ _ (binary_arm _ _ _ _ _ c.args.id c.requires _ c.in-Some.ensures.found _ _ _ c.in-Binary.is) c.descend.ensures
-
 pub returns-in-Negate : goal.returns-in-Negate
-returns-in-Negate c = descended _ c.args.self.now _ _ c.descend-in-Negate.new.self _ _ _ _ _ _ (negate_arm _ _ _ _ _ c.args.id c.requires _ c.in-Some.ensures.found _ c.in-Negate.is) c.descend-in-Negate.ensures
+returns-in-Negate c = descended _ c.args.self.now _ _ c.descend.new.self _ _ _ _ _ _ (negate_arm _ _ _ _ _ c.args.id c.requires _ c.in-Some.ensures.found _ c.in-Negate.is) c.descend.ensures
 
 pub returns-in-Call : goal.returns-in-Call
 returns-in-Call c = passed _ c.args.self.now _ _ _ c.pass.new.self _ _ _ _ _ _ (begins_call _ _ _ _ _ c.args.id c.in-Call.function _ c.requires (ap (tree_over c.args.code.now.tables) (sym c.in-Call.is) ∙ c.in-Some.ensures.found)) c.pass.ensures
