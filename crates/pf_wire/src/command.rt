@@ -12,6 +12,7 @@ use crate::line::{Request, read_line};
 use pf_book::{Call, Source};
 use pf_terms::NoMemory;
 use std::alloc::{AllocError, Global};
+use std::error::Error;
 use std::fmt;
 
 /// What a line asks for.
@@ -67,6 +68,8 @@ impl fmt::Display for LineFault {
         })
     }
 }
+
+impl Error for LineFault {}
 
 /// The source of so many bytes that stands in front, and what follows the line end after it.
 fn split_source(bytes: &[u8], size: usize) -> Option<(&[u8], &[u8])>
