@@ -32,6 +32,11 @@ pub enum StepsFault {
 }
 
 impl fmt::Display for StepsFault {
+    ghost use Rattle.std.specs.Prelude.{Some};
+    ghost use Rattle.pf_wire.specs.Faults.{stop_text};
+
+    ghost output = { λ e. Some (stop_text e) };
+
     fn fmt<W: fmt::Write>(&self, f: &mut fmt::Formatter<W>) -> fmt::Result {
         f.write_str(match self {
             StepsFault::Memory => "NoMemory",
