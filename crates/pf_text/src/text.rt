@@ -1,38 +1,44 @@
 //! Text that grows at its end.
 
-ghost use Rattle.std.specs.Prelude.{◌≡◌, ◌++◌, ◌∷◌, [], OnOk};
+ghost use Rattle.std.specs.Prelude.{◌≡◌, ◌+◌, ◌<◌, ◌≤◌, ◌++◌, ◌∷◌, [], length, vec_capacity, vec_len, OnErr, OnOk};
 ghost use Rattle.std.specs.Fmt.{decimal, signed_decimal};
 
 use pf_terms::NoMemory;
 use std::alloc::Global;
 
-/// Puts bytes at the end.
+/// Puts bytes at the end, or nothing where there is no room and a growth was refused.
 pub fn put(out: &mut Vec<u8>, bytes: &[u8]) -> Result<(), NoMemory>
-    ensures { OnOk result (out.new.items ≡ out.old.items ++ bytes.now) }
+    ensures ok { OnOk result (out.new.items ≡ out.old.items ++ bytes.now) }
+    ensures err { OnErr result (out.new.items ≡ out.old.items) }
+    ensures full { OnErr result (vec_capacity out.old < vec_len out.old + length bytes.now) }
 {
     out.extend_from_slice(bytes)?;
     Ok(())
 }
 
-/// Puts one byte at the end.
+/// Puts one byte at the end, or nothing where there is no room and a growth was refused.
 pub fn put_byte(out: &mut Vec<u8>, byte: u8) -> Result<(), NoMemory>
-    ensures { OnOk result (out.new.items ≡ out.old.items ++ byte ∷ []) }
+    ensures ok { OnOk result (out.new.items ≡ out.old.items ++ byte ∷ []) }
+    ensures err { OnErr result (out.new.items ≡ out.old.items) }
+    ensures full { OnErr result (vec_capacity out.old ≤ vec_len out.old) }
 {
     out.push(byte)?;
     Ok(())
 }
 
-/// Puts the digits of a number.
+/// Puts the digits of a number, or nothing where a growth was refused.
 pub fn put_number(alloc: Global, out: &mut Vec<u8>, number: u64) -> Result<(), NoMemory>
-    ensures { OnOk result (out.new.items ≡ out.old.items ++ decimal number) }
+    ensures ok { OnOk result (out.new.items ≡ out.old.items ++ decimal number) }
+    ensures err { OnErr result (out.new.items ≡ out.old.items) }
 {
     let digits = format!(in alloc; "{number}")?;
     put(out, digits.as_bytes())
 }
 
-/// Puts a number that may have a sign.
+/// Puts a number that may have a sign, or nothing where a growth was refused.
 pub(crate) fn put_signed(alloc: Global, out: &mut Vec<u8>, value: i64) -> Result<(), NoMemory>
-    ensures { OnOk result (out.new.items ≡ out.old.items ++ signed_decimal value) }
+    ensures ok { OnOk result (out.new.items ≡ out.old.items ++ signed_decimal value) }
+    ensures err { OnErr result (out.new.items ≡ out.old.items) }
 {
     let digits = format!(in alloc; "{value}")?;
     put(out, digits.as_bytes())

@@ -17,4 +17,4 @@ told_client q (once p t) b0 b1 b2 e h1 h2 = absurd cc
 
 pub returns-in_ok-put_project-in-Client : goal.returns-in_ok-put_project-in-Client
 returns-in_ok-put_project-in-Client c = λ s e.
-    on_ok_weaker c.put.result (told_client c.in-Client.project s _ _ _ (sym c.in-Client.is ∙ e) c.in_ok-put_project-in-Client.ensures) c.put.ensures
+    on_ok_weaker c.put.result (told_client c.in-Client.project s _ _ _ (sym c.in-Client.is ∙ e) c.in_ok-put_project-in-Client.ensures) c.put.ensures.ok

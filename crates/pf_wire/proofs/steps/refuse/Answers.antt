@@ -11,4 +11,4 @@ joined b0 b1 b2 b3 d h0 h1 h2 h3 =
     h3 ∙ ap (λ (t : List ℕ). t ++ codes " refused C1\n") two ∙ simp append_assoc
 
 pub returns : goal.returns
-returns c = joined _ _ _ _ (decimal c.args.number) c.new-text.ensures.items c.in_ok-put.ensures c.in_ok-put_number.ensures c.in_ok-put-2.ensures
+returns c = joined _ _ _ _ (decimal c.args.number) c.new-text.ensures.items c.in_ok-put.ensures.ok c.in_ok-put_number.ensures.ok c.in_ok-put-2.ensures.ok
