@@ -1,5 +1,4 @@
 use Rattle.std.proofs.Common.{refl}
-use Rattle.pf_syntax.specs.declared.node.Node.TheVariants as does
 use Rattle.pf_stepper.proofs.Focused.{binary_arm, after_slot_arm}
 use Rattle.pf_stepper.proofs.Follows.{descended}
 use Rattle.pf_stepper.proofs.stack.Stack.operation.Goals as goal
