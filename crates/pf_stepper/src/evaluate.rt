@@ -6,7 +6,7 @@ ghost use Rattle.pf_syntax.specs.declared.node.Part.TheVariants.{Node as names};
 ghost use Rattle.pf_model.specs.Scopes.{scope_of};
 ghost use Rattle.pf_syntax.specs.Module.{tree_at};
 ghost use Rattle.pf_syntax.specs.Over.{clauses_over, tree_over};
-ghost use Rattle.pf_stepper.specs.Lookups.{clauses_in, IsLeftInScope};
+ghost use Rattle.pf_stepper.specs.Lookups.{clauses_in, left_place, IsLeftInScope};
 ghost use Rattle.pf_stepper.specs.declared.frame.Kind.TheVariants as kind;
 ghost use Rattle.pf_stepper.specs.View.{keeps};
 ghost use Rattle.pf_stepper.specs.Turns.{CanEvaluate, Descended, Turned};
@@ -74,7 +74,8 @@ impl Stack {
     /// read after it.
     #[inline(always)]
     fn left_in_scope(&self, left: Part, right: Part) -> Option<u32>
-        ensures { IfSome result (λ x. IsLeftInScope (scope_of (drop self.now.base self.now.env.items)) left x) }
+        ensures in_scope { IfSome result (λ x. IsLeftInScope (scope_of (drop self.now.base self.now.env.items)) left x) }
+        ensures place { result ≡ left_place (scope_of (drop self.now.base self.now.env.items)) left right }
     {
         match left {
             Part::Slot(place) => match right {

@@ -7,7 +7,7 @@ pub returns-in_ok-wait-in-Some : goal.returns-in_ok-wait-in-Some
 returns-in_ok-wait-in-Some c =
     let w = c.in_ok-wait-in-Some.ensures in
     rw (w.ok, w.env, w.temps, w.base)
-    (after_slot_arm _ _ _ _ _ c.args.id c.requires.sound _ c.requires.found _ _ _ _ refl c.in-Some.ensures)
+    (after_slot_arm _ _ _ _ _ c.args.id c.requires.sound _ c.requires.found _ _ _ _ refl c.in-Some.ensures.in_scope)
 
 pub returns-in-None : goal.returns-in-None
 returns-in-None c = descended _ c.args.self.now _ _ c.descend.new.self _ _ _ _ _ _ (binary_arm _ _ _ _ _ c.args.id c.requires.sound _ c.requires.found _ _ _ refl) c.descend.ensures
