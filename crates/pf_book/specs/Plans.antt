@@ -1,5 +1,5 @@
 -- What calls come to.
-use Rattle.std.specs.Prelude.{◌≡◌, [], ◌∷◌, ◌++◌, length, Result, Ok, Err}
+use Rattle.std.specs.Prelude.{◌≡◌, ◌^◌, ◌≤◌, max, [], ◌∷◌, ◌++◌, length, Result, Ok, Err}
 use Rattle.pf_terms.specs.declared.memory.NoMemory.{NoMemory}
 use Rattle.pf_quota.specs.declared.usage.Usage.{Usage}
 use Rattle.pf_quota.specs.declared.charges.Charge.TheVariants as charge
@@ -27,6 +27,10 @@ abbrev pub used_by : Usage → Addition → Usage
 used_by u addition.Nothing = u
 used_by u (addition.Module m) = charged u (charge.Module (length m.source))
 used_by u (addition.Trial j) = charged u (charge.Trial j.limit)
+
+-- one of the sums doesn't fit 64 bits
+abbrev pub IsPastSums : Usage → Type 0
+IsPastSums u = 2 ^ 64 ≤ max u.modules (max u.bytes (max u.trials (max u.steps u.calls)))
 
 -- a refusal is replied, and want of memory is told
 abbrev pub Refuses : Fault → Result Plan NoMemory → Type 0

@@ -1,6 +1,6 @@
 //! Numbers, sums and room.
 
-ghost use Rattle.std.specs.Prelude.{◌≡◌, ◌+◌, ◌≤◌, IfOk, OnOk};
+ghost use Rattle.std.specs.Prelude.{◌≡◌, ◌+◌, ◌^◌, ◌<◌, ◌≤◌, MatchResult, OnErr, OnOk};
 ghost use Rattle.std.specs.Option.{option_copied};
 ghost use Rattle.std.specs.Vec.{vec_len, vec_capacity};
 ghost use Rattle.pf_model.specs.Desk as desk;
@@ -19,17 +19,18 @@ pub(crate) fn numbered<T>(things: &[T], number: u64) -> Option<&T>
 
 /// The sum, or want of memory where it doesn't fit, which no machine has the room for.
 pub(crate) fn sum(left: u64, right: u64) -> Result<u64, NoMemory>
-    ensures { IfOk result (λ n. n ≡ left + right) }
+    ensures { MatchResult result (λ n. n ≡ left + right) (λ _. 2 ^ 64 ≤ left + right) }
 {
     left.checked_add(right).ok_or(NoMemory)
 }
 
-/// Makes room for so many more in a list. Where there is none it grows by a quarter at least: what is unused stays small, and a push
-/// costs a fixed number of moves on the average.
+/// Makes room for so many more in a list, and tells want of memory only where there was none. Where there is none it grows by a
+/// quarter at least: what is unused stays small, and a push costs a fixed number of moves on the average.
 pub(crate) fn make_room<T>(list: &mut Vec<T>, more: usize) -> Result<(), NoMemory>
     ensures items { list.new.items ≡ list.old.items }
     ensures len { vec_len list.new ≡ vec_len list.old }
     ensures room { OnOk result (vec_len list.new + more ≤ vec_capacity list.new) }
+    ensures full { OnErr result (vec_capacity list.old < vec_len list.old + more) }
 {
     if list.capacity() - list.len() < more {
         list.reserve_exact(more.max(list.len() / 4))?;

@@ -1,9 +1,9 @@
 //! What a call comes to, before anything is changed.
 
-ghost use Rattle.std.specs.Prelude.{◌≡◌, ◌+◌, IfOk};
+ghost use Rattle.std.specs.Prelude.{◌≡◌, MatchResult};
 ghost use Rattle.pf_quota.specs.Usage.{charged};
 ghost use Rattle.pf_quota.specs.declared.charges.Charge.TheVariants as charge;
-ghost use Rattle.pf_book.specs.Plans.{Refuses, used_by};
+ghost use Rattle.pf_book.specs.Plans.{IsPastSums, Refuses, used_by};
 
 use crate::fault::Fault;
 use crate::job::Job;
@@ -51,9 +51,11 @@ impl Plan {
 }
 
 impl Addition {
-    /// What is used once a call is noted that adds this.
+    /// What is used once a call is noted that adds this, or want of memory where a sum doesn't fit.
     pub fn usage(&self, before: &Usage) -> Result<Usage, NoMemory>
-        ensures { IfOk result (λ u. u ≡ charged (used_by before.now self.now) charge.Call) }
+        ensures { MatchResult result
+            (λ u. u ≡ charged (used_by before.now self.now) charge.Call)
+            (λ _. IsPastSums (charged (used_by before.now self.now) charge.Call)) }
     {
         let mut usage = *before;
         usage.calls = sum(usage.calls, 1)?;
