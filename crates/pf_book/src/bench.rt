@@ -1,6 +1,6 @@
 //! The desk of one project.
 
-ghost use Rattle.std.specs.Prelude.{◌≡◌, IfOk, OnOk, OnErr, if◌then◌else◌};
+ghost use Rattle.std.specs.Prelude.{◌≡◌, true, IfOk, OnOk, OnErr, if◌then◌else◌};
 ghost use Rattle.std.specs.Option.{option_copied};
 ghost use Rattle.pf_model.specs.Desk as desk;
 ghost use Rattle.pf_model.specs.Desk.{no_desk, answered, reply_to, after_call, after_once, is_queued, fetched};
@@ -130,12 +130,13 @@ impl Bench {
         }
     }
 
-    /// A worker claims a trial, runs it whole and files its report; says false where the trial isn't queued. After want of memory
-    /// nothing has changed.
+    /// A worker claims a trial, runs it whole and files its report; says false where the trial isn't queued, which wants no memory.
+    /// After want of memory nothing has changed.
     pub fn once(&mut self, alloc: Global, ticket: u64) -> Result<bool, NoMemory>
         ensures queued { IfOk result (λ b. b ≡ is_queued (desk.numbered self.old.trials ticket)) }
         ensures desk { IfOk result (λ b. self.new ≡ (if b then after_once profile self.old ticket else self.old)) }
         ensures err { OnErr result (self.new ≡ self.old) }
+        ensures wanting { OnErr result (is_queued (desk.numbered self.old.trials ticket) ≡ true) }
     {
         let Some(job) = queued(&self.trials, ticket) else {
             return Ok(false);

@@ -97,12 +97,13 @@ impl Book {
         Ok(reply)
     }
 
-    /// A worker claims a queued trial, runs it whole and files its report; says false where the trial isn't queued. After want of
-    /// memory nothing has changed and nothing is noted.
+    /// A worker claims a queued trial, runs it whole and files its report; says false where the trial isn't queued, which wants no
+    /// memory. After want of memory nothing has changed and nothing is noted.
     pub fn once(&mut self, alloc: Global, project: u32, ticket: u64) -> Result<bool, NoMemory>
         ensures answer { IfOk result (λ b. (step profile self.old (once project ticket)).1 ≡ (if b then did else not_now)) }
         ensures desks { OnOk result (self.new ≡ (step profile self.old (once project ticket)).0) }
         ensures err { OnErr result (self.new ≡ self.old) }
+        ensures wanting { OnErr result ((step profile self.old (once project ticket)).1 ≡ did) }
     {
         if let Some(bench) = self.desks.get_mut(&project) {
             return bench.once(alloc, ticket);

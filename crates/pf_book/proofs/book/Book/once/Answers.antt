@@ -1,4 +1,4 @@
-use Rattle.std.proofs.Common.{◌≡◌, nat_eq, Some, None, sym, ap, ◌∙◌, rules}
+use Rattle.std.proofs.Common.{◌≡◌, nat_eq, Some, None, Ok, true, sym, ap, ◌∙◌, rules}
 use Rattle.std.specs.Map.{lookup, set_value}
 use Rattle.std.proofs.lemmas.Result.{on_err_weaker}
 use Rattle.std.proofs.lemmas.Map.Steps.{set_value_same}
@@ -36,6 +36,14 @@ returns-in-Some-clause-err c =
     let put = (c.get_mut.follows.holds c.once.new.self).0 in
     on_err_weaker c.once.result (λ same. put ∙ ap (λ (k : Desk). set_value (nat_eq c.args.project) es k) same ∙ set_value_same (nat_eq c.args.project) es d found ∙ c.self.view_is)
     c.once.ensures.err
+
+pub returns-in-Some-clause-wanting : goal.returns-in-Some-clause-wanting
+returns-in-Some-clause-wanting c =
+    let es = c.self.inside.desks.entries in
+    let d = c.in-Some.bench.now in
+    let found : lookup (nat_eq c.args.project) es ≡ Some d = sym c.in-Some.ensures.value in
+    let here : desk_at c.args.project c.args.self.now ≡ d = ap (desk_at c.args.project) (sym c.self.view_is) ∙ at_some c.args.project es d found in
+    on_err_weaker c.once.result (λ queued. step_answer profile c.args.self.now c.args.project c.args.ticket d here (Ok true) (sym queued)) c.once.ensures.wanting
 
 pub returns-clause-answer : goal.returns-clause-answer
 returns-clause-answer c =
