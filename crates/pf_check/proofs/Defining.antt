@@ -86,10 +86,6 @@ defines_nothing atoms o first = record {
     or_no true = refl
     or_no false = refl
 
-pub parameters_length : (b : Book) (ids : List ShapeId) → parameters_of (shapes_at b ids) ≡ length ids
-parameters_length b [] = refl
-parameters_length b (q ∷ ids) = ap suc (parameters_length b ids)
-
 -- what was listed before is no fresh name
 pub listed_before : (fresh a b : Bool) → fresh ≡ not a → fresh ≡ false → (a || b) ≡ true
 listed_before fresh true b e f = refl

@@ -51,12 +51,12 @@ place_of x (y ∷ names) h = by_first (y == x) refl (place_of x names)
     by_first false e further = let i = further (no_or (y == x) (has names x) e h) in (suc i.0, i.1)
 
 -- what two tests leave open
-new_by_tests : (at : ℕ) (u b : Bool) → fault_if u 7 at ≡ [] → b ≡ false → IsTrue (not (b || u))
+pub new_by_tests : (at : ℕ) (u b : Bool) → fault_if u 7 at ≡ [] → b ≡ false → IsTrue (not (b || u))
 new_by_tests at true b h e = cc
 new_by_tests at false true h e = cc
 new_by_tests at false false h e = refl
 
-bound_by_tests : (at : ℕ) (u b : Bool) → fault_if u 7 at ++ fault_if (not (b || u)) 6 at ≡ [] → b ≡ true
+pub bound_by_tests : (at : ℕ) (u b : Bool) → fault_if u 7 at ++ fault_if (not (b || u)) 6 at ≡ [] → b ≡ true
 bound_by_tests at true b h = cc
 bound_by_tests at false true h = refl
 bound_by_tests at false false h = cc

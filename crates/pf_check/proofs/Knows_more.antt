@@ -13,6 +13,7 @@ use Rattle.pf_syntax.specs.declared.written.WrittenFunction.{WrittenFunction}
 use Rattle.pf_check.specs.Static.{own_in, is_named, parameters_of}
 use Rattle.pf_check.specs.Knows.{same_key}
 use Rattle.pf_check.specs.Heads.{first_of}
+use Rattle.pf_check.proofs.Counts.{parameters_length}
 
 -- ---- one key entered
 
@@ -80,16 +81,12 @@ knows_more b ws fs k x f a old new e lt at h n =
 
 -- ---- a function's name
 
-pub parameters_are : (b : Book) (ids : List ShapeId) → parameters_of (shapes_at b ids) ≡ length ids
-parameters_are b [] = refl
-parameters_are b (id ∷ ids) = ap (λ n. suc n) (parameters_are b ids)
-
 pub named_first : (b : Book) (f a : ℕ) (hs : List HeadNode) (h : HeadNode) → Some h ≡ slice_get hs 0
     → same_key (h.word.name.0, length h.parameters.items) (f, a) ≡ is_named f a (map (head_over b) hs)
 named_first b f a [] h e = cc
 named_first b f a (x ∷ hs) h e =
     let same : h ≡ x = cc in
-    ap (λ y. same_key (y.word.name.0, length y.parameters.items) (f, a)) same ∙ ap (λ n. nat_eq x.word.name.0 f && nat_eq n a) (sym (parameters_are b x.parameters.items))
+    ap (λ y. same_key (y.word.name.0, length y.parameters.items) (f, a)) same ∙ ap (λ n. nat_eq x.word.name.0 f && nat_eq n a) (sym (parameters_length b x.parameters.items))
 
 pub unnamed : (b : Book) (f a : ℕ) (hs : List HeadNode) → None ≡ slice_get hs 0 → false ≡ is_named f a (map (head_over b) hs)
 unnamed b f a [] e = refl

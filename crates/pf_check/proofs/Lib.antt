@@ -1,3 +1,4 @@
+pub mod Counts
 pub mod Marking
 pub mod Trailing
 pub mod Passing

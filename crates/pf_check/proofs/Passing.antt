@@ -21,6 +21,7 @@ use Rattle.pf_check.specs.declared.seen.Status.TheVariants.{New, Unsafe}
 use Rattle.pf_check.specs.declared.walk.Walk.{Walk}
 use Rattle.pf_check.specs.Listing.{Lists, lists}
 use Rattle.pf_check.specs.declared.signatures.Signatures.{Signatures}
+use Rattle.pf_check.proofs.Counts.{arity_length}
 use Rattle.pf_check.proofs.Marking.{moved_named, moved_fresh, moved_unsafe}
 use Rattle.pf_check.proofs.Trailing.{Same, same_stands, trails_same, trails_nothing, trails_then, back, left_before, has_append, new_is, named_is, stands_leaving}
 
@@ -104,10 +105,6 @@ phrases_more n old now next es left rest e p u w =
 
 pub phrases_all : (n : Names) (old now : Walk) (es left : Phrases) → left ≡ no_phrases → PhrasesUnderway n old now es left → PhrasesWalked n old now es
 phrases_all n old now es left p u = underway_all old now (λ g. after_all g es) (λ g. phrases_faults n g es) (subst (PhrasesUnderway n old now es) p u)
-
-arity_length : (b : Book) (ids : List PhraseId) → arity_of (phrases_at b ids) ≡ length ids
-arity_length b [] = refl
-arity_length b (e ∷ ids) = omega (arith, arity_length b ids)
 
 -- a name is found among the functions of the module, or in vain
 defined_is : (fs : List (List Head)) (o : Signatures) (f k : ℕ) → Lists o fs → lists o f k ≡ is_defined (names_of fs) f k

@@ -24,6 +24,7 @@ use Rattle.pf_check.specs.Formed.{PhraseFormed, PhrasesFormed}
 use Rattle.pf_check.specs.Bound.{bound_by, bound_after, IsPlain}
 use Rattle.pf_check.specs.Grown.{Grown, PartPut}
 use Rattle.pf_check.specs.Built.{Did, PhraseMeans, PhrasesMean, BranchesMean}
+use Rattle.pf_check.proofs.Exists.{bound_by_tests}
 use Rattle.pf_check.proofs.Growing.{grown_itself, grown_on, phrase_put, phrase_means_on}
 use Rattle.pf_check.proofs.Threads.{Threaded, SoFar}
 use Rattle.pf_check.proofs.Shapes_mean.{left_empty, right_empty, shape_bound}
@@ -188,13 +189,8 @@ module _ (fs : List (List Head)) where
 
 -- ---- variables and calls
 
-no_new : (at : ℕ) (u b : Bool) → fault_if u 7 at ++ fault_if (not (b || u)) 6 at ≡ [] → b ≡ true
-no_new at true b h = cc
-no_new at false true h = refl
-no_new at false false h = cc
-
 pub variable_bound : (fs : List (List Head)) (g : Sight) (names : List ℕ) (x at : ℕ) → g.bound ≡ names → phrase_faults (names_of fs) g (p.variable x at) ≡ [] → has names x ≡ true
-variable_bound fs g names x at e h = sym (ap (λ n. has n x) e) ∙ no_new at (is_unsafe g x) (has g.bound x) h
+variable_bound fs g names x at e h = sym (ap (λ n. has n x) e) ∙ bound_by_tests at (is_unsafe g x) (has g.bound x) h
 
 pub variable_means : (fs : List (List Head)) (g : Sight) (names : List ℕ) (x at k : ℕ) → g.bound ≡ names → slice_get names k ≡ Some x → PhraseIs (names_of fs) g (p.variable x at) (var k)
 variable_means fs g names x at k e there = w.variable g x at k (ap (λ n. slice_get n k) e ∙ there)
@@ -208,10 +204,6 @@ call_defined fs g f at es e h = undefined fs f at (arity_of es) (own_in fs f (ar
 
 pub call_clean : (fs : List (List Head)) (g : Sight) (f at : ℕ) (es : Phrases) → phrase_faults (names_of fs) g (p.call f at es) ≡ [] → phrases_faults (names_of fs) g es ≡ []
 call_clean fs g f at es h = right_empty (if is_defined (names_of fs) f (arity_of es) then [] else fault_if true 8 at) _ h
-
-pub arity_is : (b : Book) (ids : List PhraseId) → arity_of (phrases_at b ids) ≡ length ids
-arity_is b [] = refl
-arity_is b (id ∷ ids) = let h = arity_is b ids in omega arith
 
 -- ---- several
 

@@ -20,6 +20,7 @@ use Rattle.pf_check.specs.Bound.{bound_by, all_bound_by}
 use Rattle.pf_check.specs.Built.{Did, ShapeMeans, ShapesMean}
 use Rattle.pf_check.specs.Grown.{PatternPut}
 use Rattle.pf_syntax.proofs.Extends.{Extends, patterns_kept}
+use Rattle.pf_check.proofs.Exists.{new_by_tests}
 use Rattle.pf_check.proofs.Threads.{Threaded, SoFar}
 use Rattle.pf_check.proofs.Growing.{shape_means_on, shape_put, grown_on}
 
@@ -60,11 +61,6 @@ mutual
       ∙ ap (λ n. all_bound_by n qs) (shape_bound g q (left_empty (shape_faults g q) _ h))
 
 -- ---- variables
-
-new_by_tests : (at : ℕ) (u b : Bool) → fault_if u 7 at ≡ [] → b ≡ false → IsTrue (not (b || u))
-new_by_tests at true b h e = cc
-new_by_tests at false true h e = cc
-new_by_tests at false false h e = refl
 
 pub fresh_means : (fs : List (List Head)) (g : Sight) (names : List ℕ) (x at : ℕ) → g.bound ≡ names → has names x ≡ false → shape_faults g (s.variable x at) ≡ []
     → ShapeIs (names_of fs) g (s.variable x at) new

@@ -35,15 +35,19 @@ pub data Answers (r : Request) (bytes : List ℕ) : List ℕ → ℕ → Type 0 
       → root_of r.root atoms functions ≡ Some i → IsWithinBounds r → Means functions i r.limit report
       → Answers r bytes (report_text (name_of atoms) report) (run_status (returns_holds report.outcome))
 
+-- one more byte than a source may have: so many are read at most
+abbrev pub most_bytes : ℕ
+most_bytes = 65537
+
 -- the first 65,537 bytes of what was to be read, where it is known, are answered with the text that went out and the status
 abbrev pub Answered : Request → (read_old written_old written_new : Option (List ℕ)) → ℕ → Type 0
 Answered r r0 w0 w1 status =
-    (bytes : List ℕ) × (text : List ℕ) × IfSome r0 (λ input. bytes ≡ take 65537 input) × Answers r bytes text status × Appends w0 w1 text
+    (bytes : List ℕ) × (text : List ℕ) × IfSome r0 (λ input. bytes ≡ take most_bytes input) × Answers r bytes text status × Appends w0 w1 text
 
 -- a beginning of the text of an answer went out
 abbrev pub AnsweredInPart : Request → (read_old written_old written_new : Option (List ℕ)) → Type 0
 AnsweredInPart r r0 w0 w1 =
-    (bytes : List ℕ) × (text : List ℕ) × (status : ℕ) × IfSome r0 (λ input. bytes ≡ take 65537 input) × Answers r bytes text status × AppendsFront w0 w1 text
+    (bytes : List ℕ) × (text : List ℕ) × (status : ℕ) × IfSome r0 (λ input. bytes ≡ take most_bytes input) × Answers r bytes text status × AppendsFront w0 w1 text
 
 -- what a fault leaves: which end failed once more, and what was read and went out
 abbrev pub Leaves : RunFault → Option Request → (read_old read_new written_old written_new : Option (List ℕ)) → (reads_old reads_new writes_old writes_new : ℕ) → Type 0

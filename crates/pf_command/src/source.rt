@@ -1,8 +1,9 @@
 //! The work of `run` between a reader and a writer.
 
-ghost use Rattle.std.specs.Prelude.{◌≡◌, IfOk, IfErr, IfSome, OnOk, map, None};
+ghost use Rattle.std.specs.Prelude.{◌≡◌, ◌≤◌, ℕ, List, length, IfOk, IfErr, IfSome, OnOk, map, None};
+ghost use Rattle.std.specs.Io.KnownBytes.{Consumes};
 ghost use Rattle.pf_command.specs.Words.{request_of, words_status};
-ghost use Rattle.pf_command.specs.Answers.{Answered, Leaves};
+ghost use Rattle.pf_command.specs.Answers.{most_bytes, Answered, Leaves};
 
 use crate::answer::answer_source;
 use crate::words::{Words, read_words, status_of_kind};
@@ -44,6 +45,7 @@ pub fn run_source<R: Read, W: Write, L: Ledger, M: Ledger>(
     ensures counts { OnOk result ((reader.new.failures.total ≡ reader.old.failures.total) × (writer.new.failures.total ≡ writer.old.failures.total)) }
     ensures refused { request_of (map (λ w. w.now) words.now) ≡ None → IfOk result (λ status. status ≡ words_status (map (λ w. w.now) words.now)) }
     ensures untouched { request_of (map (λ w. w.now) words.now) ≡ None → (reader.new ≡ reader.old) × (writer.new ≡ writer.old) }
+    ensures taken { (bytes : List ℕ) × (length bytes ≤ most_bytes) × Consumes (R.remaining reader.old.inner) (R.remaining reader.new.inner) bytes }
     ensures fault { IfErr result (λ e. Leaves e (request_of (map (λ w. w.now) words.now))
         (R.remaining reader.old.inner) (R.remaining reader.new.inner) (W.contents writer.old.inner) (W.contents writer.new.inner)
         reader.old.failures.total reader.new.failures.total writer.old.failures.total writer.new.failures.total) }

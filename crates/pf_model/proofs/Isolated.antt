@@ -5,7 +5,7 @@ use Rattle.std.proofs.lemmas.Bool.Decides.{nat_tests}
 use Rattle.pf_model.specs.Desk.{Profile, Desk, Reply, numbered, after_call, after_once, is_queued}
 use Rattle.pf_model.specs.World.{Step, client, once, Answer, World, desk_at, put_desk, step, answers, whole, named, belongs, replies_in, told, own_steps, desk_after, desk_replies, replies_along, alone}
 
-pick : {A : Type 0} (P : A → Type 0) (b : Bool) (x y : A) → P x → P y → P (if b then x else y)
+pub pick : {A : Type 0} (P : A → Type 0) (b : Bool) (x y : A) → P x → P y → P (if b then x else y)
 pick P true x y f g = f
 pick P false x y f g = g
 

@@ -80,7 +80,7 @@ means_ok m root most l q k (Ok x) some t e = means m root most l q k (report_of 
 means_ok m root most l q k (Err f) some t e = tt
 
 -- a turn that the limit stopped leaves a process that has not ended
-cut_is_limit : (m : Program) (n : ℕ) (p q : Process) (l : Label) (k : ℕ) → l ≡ cut → Turn m n p l q k → outcome_of q ≡ limit
+pub cut_is_limit : (m : Program) (n : ℕ) (p q : Process) (l : Label) (k : ℕ) → l ≡ cut → Turn m n p l q k → outcome_of q ≡ limit
 cut_is_limit m _ _ _ _ _ e (stop_running t) = refl
 cut_is_limit m _ _ _ _ _ e (stop_ending r) = refl
 cut_is_limit m _ _ _ _ _ e (finish n v) = absurd (cc)

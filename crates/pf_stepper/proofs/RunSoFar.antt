@@ -12,7 +12,7 @@ use Rattle.pf_model.specs.Place.{Frame, after, Process, Running, Ending, Ended, 
 use Rattle.pf_model.specs.Meaning.{IsEnabled, Label, ends, cut, Turn, stop_running, stop_ending, finish, give_up, go, Means, outcome_of, limit, finished, ended}
 use Rattle.pf_model.specs.Reports.{of_one_turn, report_of}
 use Rattle.pf_model.specs.declared.report.Report.{Report}
-use Rattle.pf_model.proofs.Rest.{Rest, means_ok}
+use Rattle.pf_model.proofs.Rest.{Rest, cut_is_limit, means_ok}
 use Rattle.pf_stepper.specs.Seen.{Seen, at_call}
 use Rattle.pf_stepper.specs.Moves.{Stepped, with_process}
 use Rattle.pf_stepper.specs.Turns.{Contracts}
@@ -77,13 +77,6 @@ module _ (m : Program) (left used : ℕ) (start : Process) where
 -- ---- the report of the one turn is the meaning
 
 -- a turn that the limit stopped leaves a process that has not ended
-cut_is_limit : (m : Program) (n : ℕ) (p q : Process) (l : Label) (k : ℕ) → l ≡ cut → Turn m n p l q k → outcome_of q ≡ limit
-cut_is_limit m _ _ _ _ _ e (stop_running t) = refl
-cut_is_limit m _ _ _ _ _ e (stop_ending r) = refl
-cut_is_limit m _ _ _ _ _ e (finish n v) = absurd (cc)
-cut_is_limit m _ _ _ _ _ e (give_up n r) = absurd (cc)
-cut_is_limit m _ _ _ _ _ e (go n k t p q l s r) = cut_is_limit m n p q l k e r
-
 module _ (m : Program) (root most : ℕ) (some : 0 < most) (x : Ran) (h : IsRun m most (Running (call root no_trees)) x) (y : Result Report NoMemory) where
   pub returned_ok : (v : Term) (k : ℕ) → x ≡ r.Returned v k → IfOk y (λ z. report_of z ≡ of_one_turn (ends normal) (finished (value_of v)) k) → IfOk y (λ z. Means m root most (report_of z))
   returned_ok v k is told = means_ok m root most (ends normal) (Ended (returned (value_of v))) k y some (subst (IsRun m most (Running (call root no_trees))) is h) told

@@ -74,11 +74,11 @@ impl<R: Read, L: Ledger> Counted<R, L> {
         }
     }
 
-    /// Reads up to `limit` bytes, or all that there are. What follows isn't read, so an endless reader ends too.
+    /// Reads up to `limit` bytes, or all that there are. What follows isn't read, also where it ends by a fault, so an endless reader ends too.
     pub fn take_front(&mut self, alloc: Global, limit: usize) -> Result<Vec<u8>, TakeFault>
         ensures front { IfOk result (λ v. IfSome (R.remaining self.old.inner) (λ input. v.items ≡ take limit input)) }
         ensures len { IfOk result (λ v. length v.items ≤ limit) }
-        ensures taken { (bytes : List ℕ) × Consumes (R.remaining self.old.inner) (R.remaining self.new.inner) bytes }
+        ensures taken { (bytes : List ℕ) × (length bytes ≤ limit) × Consumes (R.remaining self.old.inner) (R.remaining self.new.inner) bytes }
         ensures kept { OnOk result (self.new.failures.total ≡ self.old.failures.total) }
         ensures counted { IfErr result (λ e. CountsWhereEnded e self.old.failures.total self.new.failures.total) }
     {

@@ -4,10 +4,7 @@ use Rattle.std.specs.Prelude.{◌&&◌, nat_le, take, if◌then◌else◌}
 use Rattle.pf_model.specs.Desk.{submit}
 use Rattle.pf_model.specs.World.{Step, client}
 use Rattle.pf_wire.specs.Commands.{Line, with_byte, first_line, Asked, made, submission, asked_by, words_of, after_source, whole_command, command_at}
-
-pick : {A : Type 0} (P : A → Type 0) (b : Bool) (x y : A) → P x → P y → P (if b then x else y)
-pick P true x y f g = f
-pick P false x y f g = g
+use Rattle.pf_model.proofs.Isolated.{pick}
 
 behind_line : (bs : List ℕ) → length (first_line bs).rest ≤ length bs
 behind_line [] = omega arith

@@ -1,13 +1,13 @@
 //! The work of `steps` between a reader and a writer.
 
-ghost use Rattle.std.specs.Prelude.{◌≡◌, ℕ, List, Option, false, IfOk, IfErr, OnOk};
+ghost use Rattle.std.specs.Prelude.{◌≡◌, ◌≤◌, ℕ, List, Option, false, length, IfOk, IfErr, OnOk};
 ghost use Rattle.std.specs.Option.{option_copied};
 ghost use Rattle.std.specs.Io.KnownBytes.{Appends, Consumes};
 ghost use Rattle.pf_model.specs.World.{Answer};
 ghost use Rattle.pf_model.specs.Told.{outcome_text};
 ghost use Rattle.pf_wire.specs.View.{command_seen};
 ghost use Rattle.pf_wire.specs.Outcomes.{Comes};
-ghost use Rattle.pf_wire.specs.Steps.{last_text, AnswersOne, StepsText, Stops, StepsAnswered, StepsLeaves};
+ghost use Rattle.pf_wire.specs.Steps.{last_text, most_bytes, AnswersOne, StepsText, Stops, StepsAnswered, StepsLeaves};
 
 use crate::command::{Command, LineFault, read_command};
 use crate::outcome::{Asker, perform, put_outcome};
@@ -140,7 +140,7 @@ pub fn run_steps<R: Read, W: Write, L: Ledger, M: Ledger>(
     writer: &mut Counted<W, M>,
 ) -> Result<u8, StepsFault>
     ensures answered { IfOk result (λ status. StepsAnswered (R.remaining reader.old.inner) (W.contents writer.old.inner) (W.contents writer.new.inner) status) }
-    ensures taken { (bytes : List ℕ) × Consumes (R.remaining reader.old.inner) (R.remaining reader.new.inner) bytes }
+    ensures taken { (bytes : List ℕ) × (length bytes ≤ most_bytes) × Consumes (R.remaining reader.old.inner) (R.remaining reader.new.inner) bytes }
     ensures counts { OnOk result ((reader.new.failures.total ≡ reader.old.failures.total) × (writer.new.failures.total ≡ writer.old.failures.total)) }
     ensures fault { IfErr result (λ e. StepsLeaves e (R.remaining reader.old.inner) (W.contents writer.old.inner) (W.contents writer.new.inner)
         reader.old.failures.total reader.new.failures.total writer.old.failures.total writer.new.failures.total) }

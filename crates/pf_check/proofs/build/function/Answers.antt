@@ -4,7 +4,8 @@ use Rattle.pf_syntax.specs.SourceOver.{head_over}
 use Rattle.pf_check.specs.Checks.{is_exported}
 use Rattle.pf_check.specs.Built.{Did}
 use Rattle.pf_check.specs.Heads.{HeadsMean}
-use Rattle.pf_check.proofs.Knows_more.{first_is, parameters_are}
+use Rattle.pf_check.proofs.Counts.{parameters_length}
+use Rattle.pf_check.proofs.Knows_more.{first_is}
 use Rattle.pf_check.proofs.Heads_mean.{function_done}
 use Rattle.pf_check.proofs.build.function.Goals as goal
 
@@ -14,7 +15,7 @@ returns-in-Ok c =
     let b = c.args.source.now.book in
     let hs = c.args.written.now.heads.items in
     let h = c.in-Some.head.now in
-    let count = parameters_are b h.parameters.items in
+    let count = parameters_length b h.parameters.items in
     let short : c.in-Ok.arity ≡ length h.parameters.items = search rules in
     let counted : c.len-count.result ≡ length h.parameters.items = search rules in
     function_done fs b c.args.source.now.exports c.args.module.now c.clauses.new.module c.clauses.new.places (map (head_over b) hs) (head_over b h) (map (head_over b) (drop 1 hs)) _

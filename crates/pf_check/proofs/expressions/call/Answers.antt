@@ -5,7 +5,8 @@ use Rattle.pf_syntax.specs.SourceOver.{phrases_at}
 use Rattle.pf_syntax.specs.declared.node.Part.TheVariants as part
 use Rattle.pf_check.specs.Static.{own_in}
 use Rattle.pf_check.proofs.Growing.{by_ok, phrase_put, grown_itself}
-use Rattle.pf_check.proofs.Phrases_mean.{phrase_here, call_defined, call_clean, arity_is}
+use Rattle.pf_check.proofs.Counts.{arity_length}
+use Rattle.pf_check.proofs.Phrases_mean.{phrase_here, call_defined, call_clean}
 use Rattle.pf_check.proofs.expressions.call.Goals as goal
 
 pub returns-in-Some : goal.returns-in-Some
@@ -17,7 +18,7 @@ returns-in-Some c =
     let at = c.args.word.offset in
     by_ok _ _ _ c.put_node.ensures
     (λ x h. phrase_put fs m m _ _ c.args.places.now _ (p.call f at es) _ x refl refl (grown_itself m)
-    (λ g e i k. w.own g f at c.in-Some.function.0 es _ (ap (own_in fs f) (arity_is c.args.source.now.book c.args.ids.now) ∙ c.in-Some.ensures)
+    (λ g e i k. w.own g f at c.in-Some.function.0 es _ (ap (own_in fs f) (arity_length c.args.source.now.book c.args.ids.now) ∙ c.in-Some.ensures)
     (c.requires.parts_are.means g e i (call_clean fs g f at es k))) h)
 
 pub returns-in-None : goal.returns-in-None
@@ -28,4 +29,4 @@ returns-in-None c =
     let f = c.args.word.name.0 in
     let at = c.args.word.offset in
     phrase_here fs m c.args.places.now _ (p.call f at es) part.Nil refl tt
-    (λ g e i k. absurd (call_defined fs g f at es (ap (own_in fs f) (arity_is c.args.source.now.book c.args.ids.now) ∙ c.in-None.ensures) k))
+    (λ g e i k. absurd (call_defined fs g f at es (ap (own_in fs f) (arity_length c.args.source.now.book c.args.ids.now) ∙ c.in-None.ensures) k))

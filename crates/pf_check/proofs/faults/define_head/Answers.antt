@@ -3,7 +3,8 @@ use Rattle.std.specs.Prelude.{◌||◌}
 use Rattle.pf_syntax.specs.SourceOver.{head_over}
 use Rattle.pf_check.specs.Static.{is_builtin}
 use Rattle.pf_check.specs.Listing.{lists}
-use Rattle.pf_check.proofs.Defining.{defines, noted_fault, noted_nothing, parameters_length, listed_before, listed_builtin, listed_nowhere}
+use Rattle.pf_check.proofs.Counts.{parameters_length}
+use Rattle.pf_check.proofs.Defining.{defines, noted_fault, noted_nothing, listed_before, listed_builtin, listed_nowhere}
 use Rattle.pf_check.proofs.faults.define_head.Goals as goal
 use Rattle.pf_check.proofs.faults.define_head.Goals.{then-not-fresh-via-then-not-fresh, then-not-fresh-via-else-not-fresh+then-is_builtin}
 

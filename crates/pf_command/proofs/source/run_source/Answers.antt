@@ -33,4 +33,4 @@ returns-in-Err-End-clause-fault g c =
     let asked : wanted_of words ≡ Some (run (request c.in-Ok-Run.words)) = rw c.in-Ok-Run.field-0-is at c.in-Ok-Run.ensures.ok in
     let counted = rw c.in-Err-End.field-0-is at c.in-Err-End.ensures.counted in
     let taken = c.in-Err-End.ensures.taken in
-    (counted, refl, refl, request c.in-Ok-Run.words, ap run_in asked, taken.0, taken.1)
+    (counted, refl, refl, request c.in-Ok-Run.words, ap run_in asked, taken.0, taken.2)
