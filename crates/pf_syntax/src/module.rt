@@ -121,6 +121,7 @@ impl Module {
         self.patterns.shrink_to_fit();
         self.nodes.shrink_to_fit();
         self.functions.shrink_to_fit();
+        self.atoms.shrink_to_fit();
     }
 
     /// The module's name.

@@ -185,4 +185,11 @@ impl AtomTable {
         let (index, _) = self.entered.insert_full(Vec::from_slice(alloc, name)?)?;
         Ok(AtomId((FIXED.len() + index) as u32))
     }
+
+    /// Gives back the room that its set has beyond what stands in it. It changes nothing else, and can't fail.
+    pub fn shrink_to_fit(&mut self)
+        ensures { self.new ≡ self.old }
+    {
+        self.entered.shrink_to_fit();
+    }
 }
