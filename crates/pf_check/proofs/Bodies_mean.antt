@@ -11,14 +11,14 @@ use Rattle.pf_syntax.specs.Phrase as p
 use Rattle.pf_syntax.specs.Phrase.{Phrase, Phrases, Condition, Branches, no_phrases, phrase, no_tests, tests, no_branches, branch, phrases_depth, condition_depth, branches_depth}
 use Rattle.pf_syntax.specs.Pattern.{pattern}
 use Rattle.pf_syntax.specs.Tree as tr
-use Rattle.pf_syntax.specs.Tree.{Tree}
+use Rattle.pf_syntax.specs.Tree.{Tree, no_trees, no_alternatives, no_guard}
 use Rattle.pf_syntax.specs.Source.{Book, Head, shape_at, phrase_at}
 use Rattle.pf_syntax.specs.SourceOver.{phrases_at, alternatives_at, condition_over, branches_over, branch_depth}
 use Rattle.pf_syntax.specs.Sight.{Sight, has, after, after_shape}
 use Rattle.pf_syntax.specs.Naming as w
 use Rattle.pf_syntax.specs.Naming.{PhraseIs, ElementIs, BodyIs, GuardIs, BranchesAre, behind, ending}
 use Rattle.pf_syntax.specs.Module.{Checked, Tables, pattern_at}
-use Rattle.pf_syntax.specs.Over.{part_over, patterns_at, alternatives_over, clauses_over}
+use Rattle.pf_syntax.specs.Over.{part_over, patterns_at, alternatives_over, guard_from, clauses_over}
 use Rattle.pf_syntax.specs.Within.{PatternStands, PartStands, ClauseStands}
 use Rattle.pf_syntax.proofs.Extends.{Extends, patterns_kept, part_kept, parts_kept, guard_kept, all_patterns_stand, part_stands, all_parts_stand, pattern_stands, guard_stands}
 use Rattle.pf_syntax.specs.declared.node.PatternId.{PatternId}
@@ -29,14 +29,15 @@ use Rattle.pf_syntax.specs.declared.node.Clause.{Clause}
 use Rattle.pf_syntax.specs.declared.written.PhraseId.{PhraseId}
 use Rattle.pf_syntax.specs.declared.written.Tests.{Tests}
 use Rattle.pf_syntax.specs.declared.written.Branch.{Branch}
+use Rattle.pf_reader.specs.Grammar.{unguarded}
 use Rattle.pf_check.specs.declared.bodies.Element.{Element}
 use Rattle.pf_check.specs.Static.{names_of, shape_faults, phrase_faults, phrases_faults, condition_faults, branches_faults}
-use Rattle.pf_check.specs.Formed.{PhrasesFormed, ConditionFormed, BranchesFormed, HasFirst}
+use Rattle.pf_check.specs.Formed.{PhrasesFormed, ConditionFormed, BranchesFormed, HasFirst, HasAlternative}
 use Rattle.pf_check.specs.Bound.{bound_by, all_bound_by, bound_after, all_bound_after, IsPlain}
 use Rattle.pf_check.specs.Grown.{Grown, PartPut}
 use Rattle.pf_check.specs.Built.{Did, ShapeMeans, PhraseMeans, PhrasesMean, ElementMeans, BodyMeans, GuardMeans, BranchesMean}
 use Rattle.pf_check.specs.Bodies.{ElementStands, binds, ElementBuilt, EachElementMeans, BranchMeans}
-use Rattle.pf_check.proofs.Growing.{grown_on, shape_means_on}
+use Rattle.pf_check.proofs.Growing.{grown_on, grown_itself, shape_means_on}
 use Rattle.pf_check.proofs.Threads.{Threaded, SoFar}
 use Rattle.pf_check.proofs.Shapes_mean.{left_empty, right_empty, shape_bound}
 use Rattle.pf_check.proofs.Phrases_mean.{element_bound, plain_formed, plain_bound}
@@ -305,6 +306,27 @@ module _ (fs : List (List Head)) (b : Book) where
   alternatives_mean t names [] (d ∷ ds) h s e f k = absurd h
   alternatives_mean t names (g ∷ gs) [] h s e f k = absurd h
 
+  -- a guard that has an alternative is that of its list
+  guard_means : (t : Tables) (names : List ℕ) (gs : List Tests) (ds : List Alternative) → Threaded next_tests (EachTests t) names gs ds
+      → (s : Sight) → s.bound ≡ names → HasAlternative (alternatives_at b gs) → ConditionFormed (alternatives_at b gs)
+      → condition_faults (names_of fs) s (alternatives_at b gs) ≡ [] → GuardIs (names_of fs) s (alternatives_at b gs) (guard_from t ds)
+  guard_means t names [] ds h s e some f k = absurd some
+  guard_means t names (g ∷ gs) (d ∷ ds) h s e some f k = alternatives_mean t names (g ∷ gs) (d ∷ ds) h s e f k
+  guard_means t names (g ∷ gs) [] h s e some f k = absurd h
+
+  -- a clause with no `when` has the empty list
+  pub unguarded_done : (m : Checked) (names : List ℕ) (c : Condition) (d : Guard) → d.alternatives.items ≡ [] → c ≡ unguarded → Did m m names names (λ t. GuardMeans fs t names c d)
+  unguarded_done m names c d none e = record {
+    grown = grown_itself m;
+    bound_is = refl;
+    answer = record {
+      stands = subst (All (AlternativeStands m.tables)) (sym none) (All-nil (AlternativeStands m.tables));
+      means = λ s _ some f k.
+          subst (λ ds. GuardIs (names_of fs) s c (guard_from m.tables ds)) (sym none)
+          (subst (λ x. GuardIs (names_of fs) s x no_guard) (sym e) (w.or_tests s no_phrases no_tests no_trees no_alternatives (w.no_more s) (w.no_more_tests s)));
+    };
+  }
+
   all_next_tests : (names : List ℕ) (gs : List Tests) → fold next_tests names gs ≡ names
   all_next_tests names [] = refl
   all_next_tests names (g ∷ gs) = all_next_tests names gs
@@ -318,7 +340,7 @@ module _ (fs : List (List Head)) (b : Book) where
         bound_is = whole.bound_is ∙ all_next_tests names gs;
         answer = record {
           stands = alternatives_stand m1.tables names gs d.alternatives.items whole.answer;
-          means = alternatives_mean m1.tables names gs d.alternatives.items whole.answer;
+          means = guard_means m1.tables names gs d.alternatives.items whole.answer;
         };
       }
 
@@ -342,9 +364,9 @@ module _ (fs : List (List Head)) (b : Book) where
         answer = record {
           stands = (asked.stands, guard_stands m2.tables m3.tables on23 d p2.answer.stands, p3.answer.stands);
           pattern = asked.means;
-          guard = λ g e here f k.
+          guard = λ g e here some f k.
               subst (GuardIs (names_of fs) (after_shape g q) (condition_over b r.condition)) (sym (guard_kept m2.tables m3.tables on23 d p2.answer.stands))
-              (p2.answer.means (after_shape g q) (shape_bound g q here ∙ ap (λ n. bound_by n q) e ∙ sym p1.bound_is) f k);
+              (p2.answer.means (after_shape g q) (shape_bound g q here ∙ ap (λ n. bound_by n q) e ∙ sym p1.bound_is) some f k);
           body = λ g e here i f k. p3.answer.means (after_shape g q) (shape_bound g q here ∙ ap (λ n. bound_by n q) e ∙ sym at2) i f k;
         };
       }
@@ -361,7 +383,7 @@ module _ (fs : List (List Head)) (b : Book) where
       record {
         stands = (pattern_stands t u on c.pattern h.stands.0, guard_stands t u on c.guard h.stands.1, part_stands t u on c.body h.stands.2);
         pattern = λ g e f k. subst (w.ShapeIs (names_of fs) g q) (sym (on.patterns c.pattern.0 h.stands.0)) (h.pattern g e f k);
-        guard = λ g e here f k. subst (GuardIs (names_of fs) (after_shape g q) (condition_over b r.condition)) (sym (guard_kept t u on c.guard h.stands.1)) (h.guard g e here f k);
+        guard = λ g e here some f k. subst (GuardIs (names_of fs) (after_shape g q) (condition_over b r.condition)) (sym (guard_kept t u on c.guard h.stands.1)) (h.guard g e here some f k);
         body = λ g e here i f k. subst (BodyIs (names_of fs) (after_shape g q) (phrases_at b r.body.items)) (sym (part_kept t u on c.body h.stands.2)) (h.body g e here i f k);
       }
 
@@ -386,8 +408,8 @@ module _ (fs : List (List Head)) (b : Book) where
       let two : shape_faults g q ++ condition_faults n (after_shape g q) c1 ≡ [] = left_empty _ (phrases_faults n (after_shape g q) es) first in
       let here : shape_faults g q ≡ [] = left_empty (shape_faults g q) _ two in
       let in_guard : condition_faults n (after_shape g q) c1 ≡ [] = right_empty (shape_faults g q) _ two in
-      w.and_branches g q c1 es (branches_over b rs) _ _ _ _ (h.0.pattern g e f.0 here) (h.0.guard g e here f.1 in_guard) (h.0.body g e here f.2 f.3 in_body)
-      (branches_mean t names rs cs h.1 g e f.4 rest)
+      w.and_branches g q c1 es (branches_over b rs) _ _ _ _ (h.0.pattern g e f.0 here) (h.0.guard g e here f.1 f.2 in_guard) (h.0.body g e here f.3 f.4 in_body)
+      (branches_mean t names rs cs h.1 g e f.5 rest)
   branches_mean t names [] (c ∷ cs) h g e f k = absurd h
   branches_mean t names (r ∷ rs) [] h g e f k = absurd h
 

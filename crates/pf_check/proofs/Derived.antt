@@ -9,7 +9,7 @@ use Rattle.pf_syntax.specs.Phrase.{Phrase, Phrases, Condition, Branches, no_phra
 use Rattle.pf_syntax.specs.Source.{Head}
 use Rattle.pf_reader.specs.Sign.{Tok}
 use Rattle.pf_reader.specs.Grammar.{Names, level_of, element, unguarded, DerivesShape, DerivesShapes, Derives, DerivesAll, DerivesBody, DerivesBranches, DerivesHead, DerivesFunction, DerivesFunctions, DerivesTree, Tree}
-use Rattle.pf_check.specs.Formed.{ShapeFormed, ShapesFormed, PhraseFormed, PhrasesFormed, ConditionFormed, BranchesFormed, HasFirst, HeadFormed, FunctionFormed, AreFormed}
+use Rattle.pf_check.specs.Formed.{ShapeFormed, ShapesFormed, PhraseFormed, PhrasesFormed, ConditionFormed, BranchesFormed, HasFirst, HasAlternative, HeadFormed, FunctionFormed, AreFormed}
 
 module _ (n : Names) where
   shape_formed : (q : Shape) (ts : List Tok) → DerivesShape n q ts → ShapeFormed q
@@ -40,8 +40,8 @@ module _ (n : Names) where
   tighter_still : (o : Operator) (m : Bool) → element ≤ level_of o - 1 → IsTrue m
   tighter_still o m h = let k = tight o in absurd (omega (arith, h, k))
 
-  unguarded_formed : (c : Condition) → c ≡ unguarded → ConditionFormed c
-  unguarded_formed c e = subst ConditionFormed (sym e) (tt, tt)
+  unguarded_formed : (c : Condition) → c ≡ unguarded → HasAlternative c × ConditionFormed c
+  unguarded_formed c e = subst (λ d. HasAlternative d × ConditionFormed d) (sym e) (tt, (tt, tt))
 
   mutual
     -- at a level below that of a match there is none
@@ -81,16 +81,20 @@ module _ (n : Names) where
     branches_formed : (bs : Branches) (ts : List Tok) → DerivesBranches n bs ts → BranchesFormed bs
     branches_formed no_branches ts h = absurd h
     branches_formed (branch q c es no_branches) ts h =
-        let body = body_formed es h.1.2 h.1.6 in (shape_formed q h.1.0 h.1.5, unguarded_formed c h.0, body.0, body.1, tt)
+        let guard = unguarded_formed c h.0 in
+        let body = body_formed es h.1.2 h.1.6 in
+        (shape_formed q h.1.0 h.1.5, guard.0, guard.1, body.0, body.1, tt)
     branches_formed (branch q c es (branch r d fs bs)) ts h =
         let one = h.1.5 in
+        let guard = unguarded_formed c h.0 in
         let body = body_formed es one.2 one.6 in
-        (shape_formed q one.0 one.5, unguarded_formed c h.0, body.0, body.1, branches_formed (branch r d fs bs) h.1.2 h.1.6)
+        (shape_formed q one.0 one.5, guard.0, guard.1, body.0, body.1, branches_formed (branch r d fs bs) h.1.2 h.1.6)
 
   head_formed : (h : Head) (ts : List Tok) → DerivesHead n h ts → HeadFormed h
   head_formed h ts d =
+      let guard = unguarded_formed h.condition d.condition_is in
       let body = body_formed h.body d.parts.2 d.parts.6 in
-      (shapes_formed h.parameters d.parts.5.4.0 d.parts.5.4.4, unguarded_formed h.condition d.condition_is, body.0, body.1)
+      (shapes_formed h.parameters d.parts.5.4.0 d.parts.5.4.4, guard.0, guard.1, body.0, body.1)
 
   function_formed : (hs : List Head) (ts : List Tok) → DerivesFunction n hs ts → FunctionFormed hs
   function_formed [] ts d = absurd d

@@ -194,9 +194,9 @@ module _ (n : Names) where
         let here = shape_faults g q ++ condition_faults n seen c ++ phrases_faults n seen es in
         let parts = all_three_empty (shape_faults g q) (condition_faults n seen c) (phrases_faults n seen es) (left_empty here (branches_faults n g bs) h) in
         let y = some_shape g q parts.0 in
-        let d = some_guard seen c f.1 parts.1 in
-        let x = some_body seen es f.2 f.3 parts.2 in
-        let cs = some_branches g bs f.4 (right_empty here (branches_faults n g bs) h) in
+        let d = some_guard seen c f.2 parts.1 in
+        let x = some_body seen es f.3 f.4 parts.2 in
+        let cs = some_branches g bs f.5 (right_empty here (branches_faults n g bs) h) in
         (clause y.0 d.0 x.0 cs.0, w.and_branches g q c es bs y.0 d.0 x.0 cs.0 y.1 d.1 x.1 cs.1)
 
   -- ---- functions
@@ -206,8 +206,8 @@ module _ (n : Names) where
       let seen = after_shapes no_sight h.parameters in
       let parts = all_three_empty (shapes_faults no_sight h.parameters) (condition_faults n seen h.condition) (phrases_faults n seen h.body) none in
       let ys = some_shapes no_sight h.parameters parts.0 in
-      let d = some_guard seen h.condition f.1 parts.1 in
-      let x = some_body seen h.body f.2 f.3 parts.2 in
+      let d = some_guard seen h.condition f.2 parts.1 in
+      let x = some_body seen h.body f.3 f.4 parts.2 in
       (record { parameters = ys.0; guard = d.0; body = x.0 }, record { parameters = ys.1; guard = d.1; body = x.1 })
 
   some_heads : (hs : List Head) → All HeadFormed hs → flat_map (head_faults n) hs ≡ [] → (cs : List FunctionClause) × Pairwise (HeadIs n) hs cs

@@ -65,8 +65,8 @@ module _ (fs : List (List Head)) (b : Book) where
               let seen : s.bound ≡ all_bound_by names qs = shapes_bound no_sight qs here ∙ ap (λ l. all_bound_by l qs) (sym none) in
               record {
                 parameters = subst (λ y. ShapesAre n no_sight qs y) (sym front) (p1.answer.means no_sight (sym none) f.0 here);
-                guard = subst (λ y. GuardIs n s c1 y) (sym middle) (p2.answer.means s (seen ∙ sym p1.bound_is) f.1 in_guard);
-                body = subst (λ y. BodyIs n s es y) (sym end) (p3.answer.means s (seen ∙ sym at2) f.2 f.3 in_body);
+                guard = subst (λ y. GuardIs n s c1 y) (sym middle) (p2.answer.means s (seen ∙ sym p1.bound_is) f.1 f.2 in_guard);
+                body = subst (λ y. BodyIs n s es y) (sym end) (p3.answer.means s (seen ∙ sym at2) f.3 f.4 in_body);
               };
         };
       }

@@ -15,7 +15,7 @@ use Rattle.pf_syntax.specs.declared.written.Branch.{Branch}
 use Rattle.pf_syntax.specs.declared.node.Clause.{Clause}
 use Rattle.pf_check.specs.declared.bodies.Element.{Element}
 use Rattle.pf_check.specs.Static.{names_of, shape_faults, condition_faults, phrases_faults}
-use Rattle.pf_check.specs.Formed.{ShapeFormed, ConditionFormed, HasFirst, PhrasesFormed}
+use Rattle.pf_check.specs.Formed.{ShapeFormed, ConditionFormed, HasFirst, HasAlternative, PhrasesFormed}
 use Rattle.pf_check.specs.Bound.{bound_after}
 use Rattle.pf_check.specs.Built.{ElementMeans}
 
@@ -43,7 +43,7 @@ pub record BranchMeans (fs : List (List Head)) (b : Book) (t : Tables) (names : 
   pub stands : ClauseStands t c
   pub pattern : (g : Sight) → g.bound ≡ names → ShapeFormed (shape_at b r.shape.0) → shape_faults g (shape_at b r.shape.0) ≡ []
       → ShapeIs (names_of fs) g (shape_at b r.shape.0) (pattern_at t c.pattern.0)
-  pub guard : (g : Sight) → g.bound ≡ names → shape_faults g (shape_at b r.shape.0) ≡ [] → ConditionFormed (condition_over b r.condition)
+  pub guard : (g : Sight) → g.bound ≡ names → shape_faults g (shape_at b r.shape.0) ≡ [] → HasAlternative (condition_over b r.condition) → ConditionFormed (condition_over b r.condition)
       → condition_faults (names_of fs) (after_shape g (shape_at b r.shape.0)) (condition_over b r.condition) ≡ []
       → GuardIs (names_of fs) (after_shape g (shape_at b r.shape.0)) (condition_over b r.condition) (guard_over t c.guard)
   pub body : (g : Sight) → g.bound ≡ names → shape_faults g (shape_at b r.shape.0) ≡ [] → HasFirst (phrases_at b r.body.items) → PhrasesFormed true (phrases_at b r.body.items)

@@ -14,7 +14,7 @@ use Rattle.pf_syntax.specs.declared.node.Part.{Part}
 use Rattle.pf_syntax.specs.declared.node.Guard.{Guard}
 use Rattle.pf_syntax.specs.declared.node.Clause.{Clause}
 use Rattle.pf_check.specs.Static.{names_of, shape_faults, shapes_faults, phrase_faults, phrases_faults, condition_faults, branches_faults}
-use Rattle.pf_check.specs.Formed.{ShapeFormed, ShapesFormed, PhraseFormed, PhrasesFormed, ConditionFormed, BranchesFormed, HasFirst}
+use Rattle.pf_check.specs.Formed.{ShapeFormed, ShapesFormed, PhraseFormed, PhrasesFormed, ConditionFormed, BranchesFormed, HasFirst, HasAlternative}
 use Rattle.pf_check.specs.Grown.{Grown}
 
 -- ---- each of them, where these names are bound
@@ -47,7 +47,7 @@ module _ (fs : List (List Head)) (t : Tables) (names : List ℕ) where
 
   pub record GuardMeans (c : Condition) (d : Guard) : Type 0 where
     pub stands : GuardStands t d
-    pub means : (g : Sight) → g.bound ≡ names → ConditionFormed c → condition_faults (names_of fs) g c ≡ [] → GuardIs (names_of fs) g c (guard_over t d)
+    pub means : (g : Sight) → g.bound ≡ names → HasAlternative c → ConditionFormed c → condition_faults (names_of fs) g c ≡ [] → GuardIs (names_of fs) g c (guard_over t d)
 
   pub record BranchesMean (bs : Branches) (cs : List Clause) : Type 0 where
     pub stands : All (ClauseStands t) cs

@@ -1,5 +1,5 @@
--- What the grammar makes true of a module, and the static rules don't ask again: matches stand in bodies alone, a body and a function
--- aren't empty, and a string is within the limits of a value.
+-- What the grammar makes true of a module, and the static rules don't ask again: matches stand in bodies alone, a body, a guard and
+-- a function aren't empty, and a string is within the limits of a value.
 use Rattle.std.specs.Prelude.{Bool, true, false, IsTrue, List, [], ◌∷◌}
 use Rattle.std.specs.List.{All}
 use Rattle.pf_terms.specs.Value.{IsWithinLimits}
@@ -30,6 +30,11 @@ abbrev mutual
 abbrev pub HasFirst : Phrases → Type 0
 HasFirst no_phrases = ⊥
 HasFirst (phrase e es) = Unit {0}
+
+-- a guard has an alternative
+abbrev pub HasAlternative : Condition → Type 0
+HasAlternative no_tests = ⊥
+HasAlternative (tests es c) = Unit {0}
 
 abbrev mutual
   -- an expression, or where the flag says so an element of a body, which alone may be a match
@@ -64,11 +69,11 @@ abbrev mutual
 
   pub BranchesFormed : Branches → Type 0
   BranchesFormed no_branches = Unit {0}
-  BranchesFormed (branch q c es bs) = ShapeFormed q × ConditionFormed c × HasFirst es × PhrasesFormed true es × BranchesFormed bs
+  BranchesFormed (branch q c es bs) = ShapeFormed q × HasAlternative c × ConditionFormed c × HasFirst es × PhrasesFormed true es × BranchesFormed bs
 
 -- a clause of a function
 abbrev pub HeadFormed : Head → Type 0
-HeadFormed h = ShapesFormed h.parameters × ConditionFormed h.condition × HasFirst h.body × PhrasesFormed true h.body
+HeadFormed h = ShapesFormed h.parameters × HasAlternative h.condition × ConditionFormed h.condition × HasFirst h.body × PhrasesFormed true h.body
 
 -- a function has a clause
 abbrev pub FunctionFormed : List Head → Type 0

@@ -1,9 +1,10 @@
 //! The expressions and the bodies of a checked module.
 
-ghost use Rattle.std.specs.Prelude.{◌≡◌, IfOk, IfSome, IfNone, List};
+ghost use Rattle.std.specs.Prelude.{◌≡◌, ◌↔◌, IfOk, IfSome, IfNone, IsTrue, List};
 ghost use Rattle.pf_syntax.specs.Phrase as written;
-ghost use Rattle.pf_syntax.specs.Source.{phrase_at, shape_at};
+ghost use Rattle.pf_syntax.specs.Source.{Book, phrase_at, shape_at};
 ghost use Rattle.pf_syntax.specs.SourceOver.{branches_over, condition_over, phrase_over, phrases_at};
+ghost use Rattle.pf_reader.specs.Grammar.{unguarded};
 ghost use Rattle.pf_check.specs.Bound.{all_bound_after, bound_after, IsPlain};
 ghost use Rattle.pf_check.specs.Built.{BodyMeans, BranchesMean, Did, GuardMeans, PhraseMeans, PhrasesMean};
 ghost use Rattle.pf_check.specs.Bodies.{BranchMeans, EachElementMeans, ElementBuilt};
@@ -360,7 +361,17 @@ pub(crate) fn body(
     }
 }
 
-/// A guard, which binds nothing.
+/// Whether a clause has no `when`: its guard is one alternative with no test.
+fn is_unguarded(condition: &Condition) -> bool
+    ensures { (b : Book) → IsTrue result ↔ (condition_over b condition.now ≡ unguarded) }
+{
+    match condition.alternatives.as_slice() {
+        [alternative] => alternative.tests.as_slice().is_empty(),
+        _ => false,
+    }
+}
+
+/// A guard, which binds nothing. A clause with no `when` gets the empty list, which takes no memory.
 #[cycle(phrase)]
 pub(crate) fn guard(
     alloc: Global,
@@ -374,6 +385,10 @@ pub(crate) fn guard(
     ensures { IfOk result (λ d. Did module.old module.new places.new places.old
         (λ t. GuardMeans source.now.functions t places.old (condition_over source.now.book condition.now) d)) }
 {
+    if is_unguarded(condition) {
+        let alternatives = Vec::new(alloc);
+        return Ok(Guard { alternatives });
+    }
     let mut alternatives = Vec::with_capacity(alloc, condition.alternatives.len())?;
     for one in &condition.alternatives {
         let tests = expressions(alloc, source, own, places, module, one.tests.as_slice())?;

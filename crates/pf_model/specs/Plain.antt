@@ -1,6 +1,6 @@
 -- The trees that the plain program's own stand for.
 use Rattle.pf_terms.specs.Term.{value_of}
-use Rattle.pf_syntax.specs.Tree.{Tree, Trees, Clauses, Guard, lit, var, op, neg, call, match, bind, case, no_trees, tree, no_clauses, clause, no_alternatives, alternative}
+use Rattle.pf_syntax.specs.Tree.{Tree, Trees, Clauses, lit, var, op, neg, call, match, bind, case, no_trees, tree, no_clauses, clause, no_guard}
 use Rattle.pf_syntax.specs.Operators.{operator_of}
 use Rattle.pf_model.specs.PlainPatterns.{pattern_of}
 use Rattle.pf_model.specs.declared.plain.Node.{Node}
@@ -9,10 +9,6 @@ use Rattle.pf_model.specs.declared.plain.TreeLink.{TreeLink}
 use Rattle.pf_model.specs.declared.plain.TreeLink.TheVariants as tl
 use Rattle.pf_model.specs.declared.plain.ClauseLink.{ClauseLink}
 use Rattle.pf_model.specs.declared.plain.ClauseLink.TheVariants as cl
-
--- a guard that makes no test
-abbrev pub no_guard : Guard
-no_guard = alternative no_trees no_alternatives
 
 abbrev pub tree_of : Node → Tree
 tree_of (n.Value t) = lit (value_of t)

@@ -1,7 +1,6 @@
 -- The functions that the plain program's own stand for: each of one clause, without a guard.
 use Rattle.std.specs.Prelude.{List, [], ◌∷◌, map}
-use Rattle.pf_syntax.specs.Tree.{Function, Program}
-use Rattle.pf_model.specs.Plain.{no_guard}
+use Rattle.pf_syntax.specs.Tree.{Function, Program, no_guard}
 use Rattle.pf_model.specs.declared.functions.PlainFunction.{PlainFunction}
 
 abbrev pub function_of : PlainFunction → Function

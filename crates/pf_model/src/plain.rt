@@ -216,8 +216,7 @@ impl PlainTrees {
 }
 
 impl PlainClauses {
-    ghost use Rattle.pf_syntax.specs.Tree.{clause};
-    ghost use Rattle.pf_model.specs.Plain.{no_guard};
+    ghost use Rattle.pf_syntax.specs.Tree.{clause, no_guard};
     ghost use Rattle.pf_model.specs.PlainPatterns.{pattern_of};
 
     pub fn empty(alloc: Global) -> Result<Arc<PlainClauses>, NoMemory>

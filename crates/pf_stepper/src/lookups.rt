@@ -89,6 +89,7 @@ pub(crate) fn is_open(code: &Module, guard: &Guard) -> bool
     ensures { result ≡ spec.is_open (guard_over code.now.tables guard.now) }
 {
     match guard.alternatives.as_slice() {
+        [] => true,
         [alternative] => alternative.tests.as_slice().is_empty(),
         _ => false,
     }

@@ -10,7 +10,7 @@ use Rattle.pf_syntax.specs.Pattern.{Pattern, any, tuple_of}
 use Rattle.pf_syntax.specs.Tree.{lit, tuple, call, builtin}
 use Rattle.pf_syntax.specs.Module.{Tables, literal_at, pattern_at, tree_at}
 use Rattle.pf_syntax.specs.Operators.{builtin_of}
-use Rattle.pf_syntax.specs.Over.{patterns_at, pattern_over, part_over, parts_over, alternatives_over, guard_over, clauses_over, tree_over, function_clause_over, function_over, with_literal, with_pattern, with_tree}
+use Rattle.pf_syntax.specs.Over.{patterns_at, pattern_over, part_over, parts_over, alternatives_over, guard_from, guard_over, clauses_over, tree_over, function_clause_over, function_over, with_literal, with_pattern, with_tree}
 use Rattle.pf_syntax.specs.Within.{PatternStands, PartStands, GuardStands, ClauseStands, PatternPartsStand, PartsStand, FunctionClauseStands, FunctionStands}
 use Rattle.pf_syntax.specs.declared.node.PatternId.{PatternId}
 use Rattle.pf_syntax.specs.declared.node.Part.{Part}
@@ -133,8 +133,12 @@ module _ (t u : Tables) (e : Extends t u) where
       let y = alternatives_kept gs (All-tail (λ a. All (PartStands t) a.tests.items) a gs h) in
       cc
 
+  guard_from_kept : (gs : List Alternative) → All (λ a. All (PartStands t) a.tests.items) gs → guard_from u gs ≡ guard_from t gs
+  guard_from_kept [] h = refl
+  guard_from_kept (a ∷ gs) h = alternatives_kept (a ∷ gs) h
+
   pub guard_kept : (g : Guard) → GuardStands t g → guard_over u g ≡ guard_over t g
-  guard_kept g h = alternatives_kept g.alternatives.items h
+  guard_kept g h = guard_from_kept g.alternatives.items h
 
   pub clauses_kept : (cs : List Clause) → All (ClauseStands t) cs → clauses_over u cs ≡ clauses_over t cs
   clauses_kept [] h = refl

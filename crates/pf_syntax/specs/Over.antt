@@ -2,7 +2,7 @@
 use Rattle.std.specs.Prelude.{List, [], ◌∷◌, ◌++◌, map}
 use Rattle.pf_terms.specs.Value.{Value, int, atom, list, none}
 use Rattle.pf_syntax.specs.Pattern.{Pattern, Patterns, any, new, slot, known, tuple_of, cons_of, never, no_patterns, pattern}
-use Rattle.pf_syntax.specs.Tree.{Tree, Trees, Clauses, Guard, lit, var, tuple, cons, op, neg, both, either, call, builtin, match, bind, case, decide, receive, send, no_trees, tree, no_clauses, clause, no_alternatives, alternative, Function, FunctionClause}
+use Rattle.pf_syntax.specs.Tree.{Tree, Trees, Clauses, Guard, lit, var, tuple, cons, op, neg, both, either, call, builtin, match, bind, case, decide, receive, send, no_trees, tree, no_clauses, clause, no_alternatives, alternative, no_guard, Function, FunctionClause}
 use Rattle.pf_syntax.specs.Operators.{operator_of, builtin_of}
 use Rattle.pf_syntax.specs.Module.{Tables, Checked, literal_at, pattern_at, tree_at}
 use Rattle.pf_syntax.specs.declared.node.PatternId.{PatternId}
@@ -59,9 +59,14 @@ abbrev pub alternatives_over : Tables → List Alternative → Guard
 alternatives_over t [] = no_alternatives
 alternatives_over t (a ∷ gs) = alternative (parts_over t a.tests.items) (alternatives_over t gs)
 
+-- the guard of a clause with these alternatives. With none of them the clause has no `when`
+abbrev pub guard_from : Tables → List Alternative → Guard
+guard_from t [] = no_guard
+guard_from t (a ∷ gs) = alternatives_over t (a ∷ gs)
+
 -- a guard, over the trees of its tests
 abbrev pub guard_over : Tables → GuardNode → Guard
-guard_over t g = alternatives_over t g.alternatives.items
+guard_over t g = guard_from t g.alternatives.items
 
 -- clauses, each with its pattern, its guard and its body
 abbrev pub clauses_over : Tables → List Clause → Clauses

@@ -84,6 +84,10 @@ mutual
     no_alternatives : Guard
     alternative : Trees → Guard → Guard
 
+-- the guard of a clause with no `when`: it makes no test
+abbrev pub no_guard : Guard
+no_guard = alternative no_trees no_alternatives
+
 -- a clause of a function: the patterns of its arguments, its guard and its body
 pub record FunctionClause : Type 0 where
   pub parameters : Patterns

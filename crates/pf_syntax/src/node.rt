@@ -58,7 +58,7 @@ pub struct Alternative {
     pub tests: Vec<Part>,
 }
 
-/// The alternatives of a guard. With no `when` it is one alternative with no test.
+/// The alternatives of a guard. With no `when` there is none.
 #[derive(Drop)]
 pub struct Guard {
     pub alternatives: Vec<Alternative>,

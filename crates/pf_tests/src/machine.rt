@@ -7,8 +7,8 @@ ghost use Rattle.pf_syntax.specs.Within.{FunctionClauseStands, PartStands, Patte
 use pf_model::report::Outcome;
 use pf_stepper::{Machine, Move, run_one};
 use pf_syntax::{
-    Alternative, Function, FunctionClause, FunctionId, Guard, Module, Node, Operator, Part,
-    PatternId, PatternNode,
+    Function, FunctionClause, FunctionId, Guard, Module, Node, Operator, Part, PatternId,
+    PatternNode,
 };
 use pf_terms::{AtomId, AtomTable, NoMemory, Term};
 use std::alloc::Global;
@@ -37,11 +37,7 @@ fn clause(
     requires body { PartStands within.now.tables body }
     ensures { IfOk result (λ c. FunctionClauseStands within.now.tables c) }
 {
-    let alternatives = vec![in alloc;
-        Alternative {
-            tests: Vec::new(alloc)
-        },
-    ]?;
+    let alternatives = Vec::new(alloc);
     Ok(FunctionClause {
         parameters,
         guard: Guard { alternatives },

@@ -3,8 +3,8 @@
 ghost use Rattle.std.specs.Prelude.{◌≡◌, ◌+◌, length, OnOk};
 
 use pf_syntax::{
-    Alternative, Export, Function, FunctionClause, FunctionId, Guard, Module, Node, Operator, Part,
-    PatternId, PatternNode, PhraseId, PhraseNode, ShapeNode, Source, Word,
+    Export, Function, FunctionClause, FunctionId, Guard, Module, Node, Operator, Part, PatternId,
+    PatternNode, PhraseId, PhraseNode, ShapeNode, Source, Word,
 };
 use pf_terms::{AtomId, AtomTable, NoMemory, Term};
 use std::alloc::Global;
@@ -79,11 +79,7 @@ fn parts_may_be_several(rt: HostRuntime) -> Result<(), Fail> {
 fn add_identity(alloc: Global, module: &mut Module, name: AtomId) -> Result<FunctionId, NoMemory> {
     let new = module.add_pattern(PatternNode::New)?;
     let parameters = vec![in alloc; new]?;
-    let alternatives = vec![in alloc;
-        Alternative {
-            tests: Vec::new(alloc)
-        },
-    ]?;
+    let alternatives = Vec::new(alloc);
     let guard = Guard { alternatives };
     let clauses = vec![in alloc;
         FunctionClause {

@@ -7,7 +7,7 @@ use Rattle.pf_terms.specs.Value.{int}
 use Rattle.pf_syntax.specs.Tree.{lit}
 use Rattle.pf_syntax.specs.Phrase as p
 use Rattle.pf_syntax.specs.Source.{phrase_at}
-use Rattle.pf_syntax.specs.SourceOver.{phrase_over, phrases_at, branches_over, branch_depth}
+use Rattle.pf_syntax.specs.SourceOver.{phrase_over, phrases_at, condition_over, branches_over, branch_depth}
 use Rattle.pf_syntax.specs.Naming as w
 use Rattle.pf_syntax.specs.Naming.{PhraseIs}
 use Rattle.pf_syntax.specs.declared.node.Part.TheVariants as part
@@ -17,7 +17,7 @@ use Rattle.pf_check.specs.Built.{Did, ElementMeans, PhrasesMean, BodyMeans}
 use Rattle.pf_check.specs.Bodies.{ElementStands}
 use Rattle.pf_check.proofs.Growing.{by_ok, phrase_put}
 use Rattle.pf_check.proofs.Phrases_mean.{phrase_here, parentheses_did, two_mean, list_on_put, case_put, next_phrase, EachPhrase, each_phrase_on, phrases_done, phrase_shallow}
-use Rattle.pf_check.proofs.Bodies_mean.{plain_did, match_did, next_element, EachElement, each_element_on, elements_done, each_stands, no_body, body_done, elements_stand_on, next_tests, EachTests, each_tests_on, guard_done, branch_done, next_branch, EachBranch, each_branch_on, branches_done, tests_shallow, branch_shallow, no_items}
+use Rattle.pf_check.proofs.Bodies_mean.{plain_did, match_did, next_element, EachElement, each_element_on, elements_done, each_stands, no_body, body_done, elements_stand_on, next_tests, EachTests, each_tests_on, guard_done, unguarded_done, branch_done, next_branch, EachBranch, each_branch_on, branches_done, tests_shallow, branch_shallow, no_items}
 use Rattle.pf_check.proofs.Threads.{step, step_at, SoFar}
 use Rattle.pf_check.proofs.expressions.+phrase.Goals as goal
 
@@ -209,6 +209,12 @@ guard-loop-one-preserved t c =
     c.loop-one.alternatives.items c.one-item.result (record { tests = c.in_ok-tests.tests }) lt at c.loop-one.invariant
     (subst (λ l. Did c.loop-one.module c.expressions.new.module c.expressions.new.places c.loop-one.places (λ u. PhrasesMean fs u c.loop-one.places (phrases_at b l) c.in_ok-tests.tests.items))
     c.as_slice.ensures.value c.in_ok-tests.ensures))
+
+pub guard-returns-then-is_unguarded : goal.guard-returns-then-is_unguarded
+guard-returns-then-is_unguarded t c =
+    let b = c.args.source.now.book in
+    unguarded_done c.args.source.now.functions b c.args.module.now c.args.places.now (condition_over b c.args.condition.now) (record { alternatives = c.new-alternatives.result })
+    c.new-alternatives.ensures.items ((c.is_unguarded.ensures b).0 c.if-is_unguarded.true)
 
 pub guard-returns : goal.guard-returns
 guard-returns t c =
