@@ -1,0 +1,14 @@
+-- Sources and the modules that they are read as.
+use Rattle.std.specs.Prelude.{ℕ, List}
+use Rattle.std.specs.Str.{bytes_eq}
+use Rattle.indexmap.specs.IndexSet.{insert_key}
+use Rattle.pf_check.specs.Reads.{accepted, Reads}
+use Rattle.pf_model.specs.Desk.{Stored}
+
+-- a source is read as a module, under some name
+abbrev pub IsReadAs : List ℕ → Stored → Type 0
+IsReadAs source m = (name : ℕ) × Reads source (accepted name m.atoms m.functions)
+
+-- the sources with one that goes at the end where it is new
+abbrev pub with_source : List (List ℕ) → List ℕ → List (List ℕ)
+with_source sources source = insert_key bytes_eq sources source

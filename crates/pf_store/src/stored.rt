@@ -1,0 +1,90 @@
+//! A module with the source that it was read from.
+
+ghost use Rattle.std.specs.Prelude.{◌≡◌, length, IfErr, IfOk};
+ghost use Rattle.pf_check.specs.Reads.{IsRefusalOf, Reads, accepted_as};
+ghost use Rattle.pf_store.specs.Sources.{IsReadAs};
+
+use crate::source::Source;
+use pf_check::{ReadFault, read};
+use pf_syntax::Module;
+use pf_terms::NoMemory;
+use std::alloc::Global;
+use std::marker::Model;
+use std::sync::Arc;
+
+/// A module with the source that it was read from. Contracts see the source, the names of the module's atoms and its functions.
+#[derive(Drop)]
+pub struct Stored {
+    source: Source,
+    module: Arc<Module>,
+}
+
+impl Model for Stored {
+    ghost use Rattle.std.specs.Arc.{arc_value};
+    ghost use Rattle.pf_check.specs.Reads.{Reads, accepted_as};
+    ghost use Rattle.pf_model.specs.Desk as desk;
+    ghost use Rattle.pf_model.specs.DeskCode.{coded_stored};
+
+    ghost Value = { desk.Stored };
+
+    ghost coded = { coded_stored };
+
+    ghost view = { λ s. record { source = s.source; atoms = (arc_value s.module).atoms; functions = (arc_value s.module).functions } };
+
+    ghost invariant = { λ s. Reads s.source (accepted_as (arc_value s.module)) };
+}
+
+impl Stored {
+    /// A module with its source.
+    pub(crate) fn of(source: &Source, module: Arc<Module>) -> Result<Stored, NoMemory>
+        requires { Reads source.now (accepted_as «module».value) }
+        ensures { IfOk result (λ s. (s.source ≡ source.now) × IsReadAs source.now s) }
+    {
+        Ok(Stored {
+            source: source.share()?,
+            module,
+        })
+    }
+
+    /// The module that a source is, or why it is none.
+    pub(crate) fn read(alloc: Global, source: &Source) -> Result<Stored, ReadFault>
+        ensures read { IfOk result (λ s. (s.source ≡ source.now) × IsReadAs source.now s) }
+        ensures fault { IfErr result (IsRefusalOf source.now) }
+    {
+        let Ok(module) = Arc::new(alloc, read(alloc, source.bytes())?) else {
+            return Err(ReadFault::Memory);
+        };
+        Ok(Stored::of(source, module)?)
+    }
+
+    pub fn module(&self) -> &Arc<Module>
+        ensures atoms { result.now.value.atoms ≡ self.now.atoms }
+        ensures functions { result.now.value.functions ≡ self.now.functions }
+        ensures read { Reads self.now.source (accepted_as result.now.value) }
+    {
+        &self.module
+    }
+
+    pub fn source(&self) -> &Source
+        ensures { result.now ≡ self.now.source }
+    {
+        &self.source
+    }
+
+    /// How many bytes the source has.
+    pub fn size(&self) -> usize
+        ensures { result ≡ length self.now.source }
+    {
+        self.source.bytes().len()
+    }
+
+    /// The same module once more.
+    pub fn share(&self) -> Result<Stored, NoMemory>
+        ensures { IfOk result (λ s. s ≡ self.now) }
+    {
+        Ok(Stored {
+            source: self.source.share()?,
+            module: Arc::try_clone(&self.module)?,
+        })
+    }
+}
