@@ -1,22 +1,19 @@
 -- The profile reads and means what the language does.
-use Rattle.std.proofs.Common.{◌≡◌, ℕ, List, Result, Ok, Err, sym, ap, ◌∙◌, subst}
+use Rattle.std.proofs.Common.{◌≡◌, ℕ, ◌+◌, List, [], ◌∷◌, ◌++◌, length, Result, Ok, Err, sym, ap, ◌∙◌, subst}
 use Rattle.std.specs.Prelude.{IfOk}
 use Rattle.pf_terms.specs.declared.memory.NoMemory.{NoMemory}
 use Rattle.pf_syntax.specs.Tree.{Program}
-use Rattle.pf_syntax.specs.Module.{Checked}
-use Rattle.pf_check.specs.Reads.{Outcome, accepted, refused, Reads, SameOutcome, accepted_as, number_of, IsRefusalOf}
-use Rattle.pf_check.specs.declared.fault.ReadFault.{ReadFault}
-use Rattle.pf_check.specs.declared.fault.ReadFault.TheVariants as read
+use Rattle.pf_check.specs.Reads.{Outcome, accepted, refused, Reads, SameOutcome}
 use Rattle.pf_check.proofs.AnyOutcome.{any_outcome}
 use Rattle.pf_check.proofs.Same.{same_outcome}
 use Rattle.pf_model.specs.Meaning as meaning
 use Rattle.pf_model.specs.Meaning.{Means}
-use Rattle.pf_model.specs.Desk.{readable, faulty, Job}
+use Rattle.pf_model.specs.Desk as desk
+use Rattle.pf_model.specs.Desk.{readable, faulty, Stored, Job, Desk, Reply, number, source, submitted}
 use Rattle.pf_model.specs.Reports.{report_of}
 use Rattle.pf_model.specs.declared.report.Report.{Report}
 use Rattle.pf_model.proofs.Meanings.{one_meaning}
 use Rattle.pf_book.specs.Profile.{profile, reading_from}
-use Rattle.pf_book.specs.Faults.{fault_of_read, IsUnreadable}
 
 same_reading : (o p : Outcome) → SameOutcome o p → reading_from o ≡ reading_from p
 same_reading (accepted n a f) (accepted m b g) h = let same_atoms = h.1 in let same_functions = h.2 in cc
@@ -32,17 +29,18 @@ pub meaning_is : (j : Job) (r : meaning.Report) → Means j.stored.functions j.r
 unfolding profile
 meaning_is j r h = sym ((one_meaning j.stored.functions j.root j.limit).2 r h)
 
--- the reading of a source that was read as a module
-pub readable_as : (bytes seen : List ℕ) (m n : Checked) → seen ≡ bytes → n ≡ m → Reads seen (accepted_as m)
-    → profile.reading bytes ≡ readable n.atoms n.functions
-readable_as bytes seen m n same held h =
-    reading_is bytes (accepted_as m) (subst (λ (b : List ℕ). Reads b (accepted_as m)) same h) ∙ ap (λ (k : Checked). readable k.atoms k.functions) (sym held)
+-- what a source is answered with that was read as a module
+pub submitted_read : (d : Desk) (bytes : List ℕ) (s : Stored) (name : ℕ) → s.source ≡ bytes → Reads bytes (accepted name s.atoms s.functions)
+    → ◌≡◌ {A = Desk × Reply} (record d { modules = d.modules ++ s ∷ [] }, number (length d.modules + 1)) (submitted d bytes (profile.reading bytes))
+submitted_read d bytes s name same h =
+    let text : s ≡ record { source = bytes; atoms = s.atoms; functions = s.functions } = λ i. record { source = same i; atoms = s.atoms; functions = s.functions } in
+    ap (λ (m : Stored). (record d { modules = d.modules ++ m ∷ [] }, number (length d.modules + 1))) text
+    ∙ ap (submitted d bytes) (sym (reading_is bytes (accepted name s.atoms s.functions) h))
 
--- the reading of a source that was refused
-pub unreadable : (bytes seen : List ℕ) (f : ReadFault) → seen ≡ bytes → IsRefusalOf seen f → IsUnreadable (profile.reading bytes) (fault_of_read f)
-unreadable bytes seen read.Memory same h = tt
-unreadable bytes seen (read.Refused r) same h =
-    reading_is bytes (refused (number_of r.code) r.place) (subst (λ (b : List ℕ). Reads b (refused (number_of r.code) r.place)) same h)
+-- what a source is answered with that was refused
+pub submitted_refused : (d : Desk) (bytes : List ℕ) (code place : ℕ) → Reads bytes (refused code place)
+    → ◌≡◌ {A = Desk × Reply} (d, desk.refused (source code)) (submitted d bytes (profile.reading bytes))
+submitted_refused d bytes code place h = ap (submitted d bytes) (sym (reading_is bytes (refused code place) h))
 
 -- the meaning of a job that was run
 pub means_run : (j : Job) (r : Result Report NoMemory) (functions : Program) (root limit : ℕ) → functions ≡ j.stored.functions → root ≡ j.root

@@ -1,6 +1,6 @@
 pub mod Profile
 pub mod View
-pub mod Faults
+pub mod Trials
 pub mod Queued
 pub mod Orders
 pub mod Jobs

@@ -1,17 +1,14 @@
 -- What calls come to.
-use Rattle.std.specs.Prelude.{◌≡◌, ◌^◌, ◌≤◌, max, [], ◌∷◌, ◌++◌, length, Result, Ok, Err}
-use Rattle.pf_terms.specs.declared.memory.NoMemory.{NoMemory}
+use Rattle.std.specs.Prelude.{◌≡◌, ◌^◌, ◌≤◌, max, [], ◌∷◌, ◌++◌, length}
 use Rattle.pf_quota.specs.declared.usage.Usage.{Usage}
 use Rattle.pf_quota.specs.declared.charges.Charge.TheVariants as charge
 use Rattle.pf_quota.specs.Usage.{charged}
 use Rattle.pf_model.specs.Desk as desk
-use Rattle.pf_book.specs.declared.fault.Fault.{Fault}
-use Rattle.pf_book.specs.declared.fault.Fault.TheVariants as fault
-use Rattle.pf_book.specs.declared.reply.Reply.TheVariants as reply
 use Rattle.pf_book.specs.declared.plan.Addition.{Addition}
 use Rattle.pf_book.specs.declared.plan.Addition.TheVariants as addition
 use Rattle.pf_book.specs.declared.plan.Plan.{Plan}
-use Rattle.pf_book.specs.View.{reply_seen}
+use Rattle.pf_book.specs.Profile.{profile}
+use Rattle.pf_book.specs.View.{entry_seen, reply_seen}
 
 -- the desk with what a call adds
 abbrev pub with_addition : desk.Desk → Addition → desk.Desk
@@ -19,8 +16,10 @@ with_addition d addition.Nothing = d
 with_addition d (addition.Module m) = record d { modules = d.modules ++ m ∷ [] }
 with_addition d (addition.Trial j) = record d { trials = d.trials ++ record { job = j; state = desk.queued } ∷ [] }
 
-abbrev pub plan_seen : desk.Desk → Plan → desk.Desk × desk.Reply
-plan_seen d p = (with_addition d p.addition, reply_seen p.reply)
+-- what a call to a desk comes to is what it is answered with, and it is noted so
+abbrev pub IsPlan : desk.Desk → desk.Call → Plan → Type 0
+IsPlan d c p = (◌≡◌ {A = desk.Desk × desk.Reply} (with_addition d p.addition, reply_seen p.reply) (desk.answered profile d c))
+    × (entry_seen p.noted ≡ desk.called c (reply_seen p.reply))
 
 -- what is used with what a call adds
 abbrev pub used_by : Usage → Addition → Usage
@@ -31,8 +30,3 @@ used_by u (addition.Trial j) = charged u (charge.Trial j.limit)
 -- one of the sums doesn't fit 64 bits
 abbrev pub IsPastSums : Usage → Type 0
 IsPastSums u = 2 ^ 64 ≤ max u.modules (max u.bytes (max u.trials (max u.steps u.calls)))
-
--- a refusal is replied, and want of memory is told
-abbrev pub Refuses : Fault → Result Plan NoMemory → Type 0
-Refuses fault.Memory r = (e : NoMemory) × (r ≡ Err e)
-Refuses (fault.Refused e) r = r ≡ Ok (record { addition = addition.Nothing; reply = reply.Refused e })

@@ -1,7 +1,6 @@
 -- What the code's calls, replies and notes stand for.
 use Rattle.pf_check.specs.Reads.{number_of}
 use Rattle.pf_model.specs.Desk as desk
-use Rattle.pf_model.specs.Reports.{report_of}
 use Rattle.pf_book.specs.declared.call.Order.{Order}
 use Rattle.pf_book.specs.declared.call.Call.{Call}
 use Rattle.pf_book.specs.declared.call.Call.TheVariants as call
@@ -40,10 +39,16 @@ reply_seen (reply.Usage u) = desk.uses u
 reply_seen (reply.Refused e) = desk.refused (refusal_seen e)
 
 abbrev pub entry_seen : Entry → desk.Entry
-entry_seen (entry.Called c r) = desk.called (call_seen c) (reply_seen r)
+entry_seen (entry.Submitted s n) = desk.called (desk.submit s) (desk.number n)
+entry_seen (entry.SubmitRefused s e) = desk.called (desk.submit s) (desk.refused (refusal_seen e))
+entry_seen (entry.Ordered o t) = desk.called (order_seen o.value) (desk.ticket t)
+entry_seen (entry.OrderRefused o e) = desk.called (order_seen o.value) (desk.refused (refusal_seen e))
+entry_seen (entry.Fetched t told) = desk.called (desk.fetch t) (desk.report told.0 told.1)
+entry_seen (entry.FetchRefused t e) = desk.called (desk.fetch t) (desk.refused (refusal_seen e))
+entry_seen (entry.Used u) = desk.called desk.usage (desk.uses u.value)
 entry_seen (entry.Claimed t) = desk.claimed t
 entry_seen (entry.Filed t) = desk.filed t
 
 abbrev pub state_seen : State → desk.State
 state_seen state.Queued = desk.queued
-state_seen (state.Done r) = desk.done (report_of r.value)
+state_seen (state.Done told) = desk.done told.1

@@ -1,27 +1,27 @@
 //! The desk of one project.
 
-ghost use Rattle.std.specs.Prelude.{◌≡◌, true, IfOk, OnOk, OnErr, if◌then◌else◌};
+ghost use Rattle.std.specs.Prelude.{◌≡◌, true, IfOk, OnOk, OnErr, MatchResult, if◌then◌else◌};
 ghost use Rattle.std.specs.Option.{option_copied};
 ghost use Rattle.pf_model.specs.Desk as desk;
-ghost use Rattle.pf_model.specs.Desk.{no_desk, answered, reply_to, after_call, after_once, is_queued, fetched};
-ghost use Rattle.pf_model.specs.Reports.{report_of};
+ghost use Rattle.pf_model.specs.Desk.{no_desk, reply_to, after_call, after_once, is_queued, fetched};
 ghost use Rattle.pf_book.specs.Profile.{profile};
-ghost use Rattle.pf_book.specs.View.{call_seen, order_seen, reply_seen};
-ghost use Rattle.pf_book.specs.Plans.{plan_seen};
+ghost use Rattle.pf_book.specs.View.{call_seen, order_seen, refusal_seen, reply_seen};
+ghost use Rattle.pf_book.specs.Plans.{IsPlan};
 ghost use Rattle.pf_book.specs.Queued.{job_at};
+ghost use Rattle.pf_book.specs.Trials.{AtomsAt};
 
 use crate::call::{Call, Order};
 use crate::entry::Entry;
+use crate::fault::Fault;
 use crate::job::Job;
 use crate::numbers::{make_room, numbered};
 use crate::plan::{Addition, Plan};
 use crate::refusal::Refusal;
-use crate::reply::Reply;
-use crate::source::Source;
-use crate::stored::Stored;
+use crate::reply::{Reply, Told};
 use crate::trial::Trial;
-use pf_model::report::Report;
+use pf_check::ReadFault;
 use pf_quota::Usage;
+use pf_store::{Source, Store, Stored};
 use pf_terms::NoMemory;
 use std::alloc::Global;
 use std::marker::Model;
@@ -64,69 +64,98 @@ impl Bench {
         }
     }
 
-    /// Answers a call and notes it with its reply. After want of memory nothing has changed; a sum of what is used that doesn't fit
-    /// is want of memory too.
-    pub fn call(&mut self, alloc: Global, call: Call) -> Result<Reply, NoMemory>
+    /// Answers a call and notes it with its reply; a source that is in store isn't read again. After want of memory nothing has
+    /// changed; a sum of what is used that doesn't fit is want of memory too.
+    pub fn call(&mut self, alloc: Global, store: &mut Store, call: Call) -> Result<Reply, NoMemory>
         ensures reply { IfOk result (λ r. reply_seen r ≡ reply_to profile self.old (call_seen call)) }
         ensures desk { OnOk result (self.new ≡ after_call profile self.old (call_seen call)) }
         ensures err { OnErr result (self.new ≡ self.old) }
     {
-        let Plan { addition, reply } = self.plan(alloc, &call)?;
+        let Plan {
+            addition,
+            noted,
+            reply,
+        } = self.plan(alloc, store, call)?;
         let usage = addition.usage(&self.usage)?;
-        let noted = reply.share()?;
         make_room(&mut self.history, 1)?;
         match addition {
             Addition::Nothing => {}
             Addition::Module(stored) => self.modules.push(stored)?,
             Addition::Trial(job) => self.trials.push(Trial::new(job))?,
         }
-        self.history.push_reserved(Entry::Called(call, noted));
+        self.history.push_reserved(noted);
         self.usage = usage;
         Ok(reply)
     }
 
     /// What a call comes to.
-    fn plan(&self, alloc: Global, call: &Call) -> Result<Plan, NoMemory>
-        ensures { IfOk result (λ p. plan_seen self.now p ≡ answered profile self.now (call_seen call.now)) }
+    fn plan(&self, alloc: Global, store: &mut Store, call: Call) -> Result<Plan, NoMemory>
+        ensures { IfOk result (λ p. IsPlan self.now (call_seen call) p) }
     {
         match call {
-            Call::Submit(source) => self.submission(alloc, source),
+            Call::Submit(source) => self.submission(alloc, store, source),
             Call::Order(order) => self.ordering(order),
-            Call::Fetch(ticket) => Ok(Plan::reply(self.fetched(*ticket)?)),
-            Call::Usage => Ok(Plan::reply(Reply::Usage(self.usage))),
+            Call::Fetch(ticket) => self.fetching(ticket),
+            Call::Usage => {
+                let noted = Entry::Used(Box::new(alloc, self.usage)?);
+                Ok(Plan::told(noted, Reply::Usage(self.usage)))
+            }
         }
     }
 
-    fn submission(&self, alloc: Global, source: &Source) -> Result<Plan, NoMemory>
-        ensures { IfOk result (λ p. plan_seen self.now p ≡ answered profile self.now (desk.submit source.now)) }
+    fn submission(&self, alloc: Global, store: &mut Store, source: Source) -> Result<Plan, NoMemory>
+        ensures { IfOk result (λ p. IsPlan self.now (desk.submit source) p) }
     {
-        match Stored::read(alloc, source) {
-            Ok(stored) => Ok(Plan {
-                reply: Reply::Module(self.modules.len() as u64 + 1),
-                addition: Addition::Module(stored),
-            }),
-            Err(fault) => Plan::refused(fault),
+        match store.take_or_read(alloc, &source) {
+            Ok(stored) => {
+                let number = self.modules.len() as u64 + 1;
+                Ok(Plan {
+                    noted: Entry::Submitted(stored.source().share()?, number),
+                    addition: Addition::Module(stored),
+                    reply: Reply::Module(number),
+                })
+            }
+            Err(ReadFault::Memory) => Err(NoMemory),
+            Err(ReadFault::Refused(refused)) => {
+                let refusal = Refusal::Source(refused.code);
+                let noted = Entry::SubmitRefused(source, refusal);
+                Ok(Plan::told(noted, Reply::Refused(refusal)))
+            }
         }
     }
 
-    fn ordering(&self, order: &Arc<Order>) -> Result<Plan, NoMemory>
-        ensures { IfOk result (λ p. plan_seen self.now p ≡ answered profile self.now (order_seen order.now.value)) }
+    fn ordering(&self, order: Arc<Order>) -> Result<Plan, NoMemory>
+        ensures { IfOk result (λ p. IsPlan self.now (order_seen order.value) p) }
     {
-        match Job::ordered(&self.modules, order) {
-            Ok(job) => Ok(Plan {
-                reply: Reply::Ticket(self.trials.len() as u64 + 1),
-                addition: Addition::Trial(job),
-            }),
-            Err(fault) => Plan::refused(fault),
+        match Job::ordered(&self.modules, &order) {
+            Ok(job) => {
+                let ticket = self.trials.len() as u64 + 1;
+                Ok(Plan {
+                    noted: Entry::Ordered(order, ticket),
+                    addition: Addition::Trial(job),
+                    reply: Reply::Ticket(ticket),
+                })
+            }
+            Err(Fault::Memory) => Err(NoMemory),
+            Err(Fault::Refused(refusal)) => {
+                let noted = Entry::OrderRefused(order, refusal);
+                Ok(Plan::told(noted, Reply::Refused(refusal)))
+            }
         }
     }
 
-    fn fetched(&self, ticket: u64) -> Result<Reply, NoMemory>
-        ensures { IfOk result (λ r. reply_seen r ≡ fetched (desk.numbered self.now.trials ticket)) }
+    fn fetching(&self, ticket: u64) -> Result<Plan, NoMemory>
+        ensures { IfOk result (λ p. IsPlan self.now (desk.fetch ticket) p) }
     {
-        match numbered(&self.trials, ticket) {
-            Some(trial) => trial.reply(),
-            None => Ok(Reply::Refused(Refusal::NoTrial)),
+        match told(&self.trials, ticket) {
+            Ok(told) => {
+                let noted = Entry::Fetched(ticket, told.share()?);
+                Ok(Plan::told(noted, Reply::Report(told.share()?)))
+            }
+            Err(refusal) => {
+                let noted = Entry::FetchRefused(ticket, refusal);
+                Ok(Plan::told(noted, Reply::Refused(refusal)))
+            }
         }
     }
 
@@ -141,9 +170,9 @@ impl Bench {
         let Some(job) = queued(&self.trials, ticket) else {
             return Ok(false);
         };
-        let report = Arc::new(alloc, job.run(alloc)?)?;
+        let told = Told::new(alloc, job.module(), job.run(alloc)?)?;
         make_room(&mut self.history, 2)?;
-        file(&mut self.trials, ticket, report);
+        file(&mut self.trials, ticket, told);
         self.history.push_reserved(Entry::Claimed(ticket));
         self.history.push_reserved(Entry::Filed(ticket));
         Ok(true)
@@ -157,13 +186,23 @@ fn queued(trials: &[Trial], ticket: u64) -> Option<&Job>
     numbered(trials, ticket)?.queued()
 }
 
-/// Files the report of the trial of a ticket.
-fn file(trials: &mut Vec<Trial>, ticket: u64, report: Arc<Report>)
-    ensures { trials.new.items ≡ desk.with_state trials.old.items ticket (λ j. desk.done (report_of report.value)) }
+/// The report of the trial of a ticket, where it is filed.
+fn told(trials: &[Trial], ticket: u64) -> Result<&Told, Refusal>
+    ensures { MatchResult result
+        (λ t. fetched (desk.numbered trials.now ticket) ≡ desk.report t.now.0 t.now.1)
+        (λ e. fetched (desk.numbered trials.now ticket) ≡ desk.refused (refusal_seen e)) }
+{
+    numbered(trials, ticket).ok_or(Refusal::NoTrial)?.told()
+}
+
+/// Files the report of the trial of a ticket, which speaks of the atoms of its module.
+fn file(trials: &mut Vec<Trial>, ticket: u64, told: Told)
+    requires { AtomsAt trials.old.items ticket told.0 }
+    ensures { trials.new.items ≡ desk.with_state trials.old.items ticket (λ j. desk.done told.1) }
 {
     if ticket == 0 || ticket > trials.len() as u64 {
         return;
     }
     let trial = &mut trials[ticket as usize - 1];
-    trial.file(report);
+    trial.file(told);
 }

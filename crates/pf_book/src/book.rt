@@ -10,18 +10,20 @@ ghost use Rattle.pf_book.specs.View.{call_seen, order_seen, reply_seen};
 use crate::bench::Bench;
 use crate::call::{Call, Order};
 use crate::reply::Reply;
-use crate::source::Source;
 use indexmap::IndexMap;
+use pf_store::{Source, Store};
 use pf_terms::NoMemory;
 use std::alloc::Global;
 use std::marker::Model;
 use std::sync::Arc;
 
-/// The desks of all projects, each opened by the first call of its project. Contracts see the desks by project, in the order in
-/// which they were opened. No call of one project reads or changes the desk of another.
+/// The desks of all projects, each opened by the first call of its project, and the store of what was submitted, from which desks
+/// share the modules of equal sources. Contracts see the desks by project, in the order in which they were opened; that modules are
+/// shared isn't seen. No call of one project reads or changes the desk of another.
 #[derive(Drop)]
 pub struct Book {
     desks: IndexMap<u32, Bench>,
+    store: Store,
 }
 
 impl Model for Book {
@@ -41,6 +43,7 @@ impl Book {
     {
         Book {
             desks: IndexMap::new(alloc),
+            store: Store::new(alloc),
         }
     }
 
@@ -89,10 +92,10 @@ impl Book {
         ensures err { OnErr result (self.new ≡ self.old) }
     {
         if let Some(bench) = self.desks.get_mut(&project) {
-            return bench.call(alloc, call);
+            return bench.call(alloc, &mut self.store, call);
         }
         let mut bench = Bench::new(alloc);
-        let reply = bench.call(alloc, call)?;
+        let reply = bench.call(alloc, &mut self.store, call)?;
         self.desks.insert(project, bench)?;
         Ok(reply)
     }

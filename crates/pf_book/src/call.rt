@@ -1,15 +1,19 @@
 //! What a client asks for.
 
-use crate::source::Source;
+use pf_store::Source;
+use smallvec::SmallVec;
 use std::sync::Arc;
+
+/// A word of a call. One of at most 16 bytes takes no block of memory.
+pub type Word = SmallVec<u8, 16>;
 
 /// An order of a trial: of a module by its number, from the function of this name, by the words of a schedule and within so
 /// many steps. The property says what is asked of the run.
 #[derive(Drop)]
 pub struct Order {
     pub module: u64,
-    pub root: Vec<u8>,
-    pub property: Vec<u8>,
+    pub root: Word,
+    pub property: Word,
     pub schedule: Vec<u32>,
     pub limit: u32,
 }

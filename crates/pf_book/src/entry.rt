@@ -1,12 +1,29 @@
 //! What a desk notes.
 
-use crate::call::Call;
-use crate::reply::Reply;
+use crate::call::Order;
+use crate::refusal::Refusal;
+use crate::reply::Told;
+use pf_quota::Usage;
+use pf_store::Source;
+use std::sync::Arc;
 
 /// What a desk notes: a call with its reply, and that a worker claimed the trial of a ticket or filed its report.
 #[derive(Drop)]
 pub(crate) enum Entry {
-    Called(Call, Reply),
+    /// A source was submitted, and given this number.
+    Submitted(Source, u64),
+    /// A source was submitted, and refused.
+    SubmitRefused(Source, Refusal),
+    /// A trial was ordered, and given this ticket.
+    Ordered(Arc<Order>, u64),
+    /// A trial was ordered, and refused.
+    OrderRefused(Arc<Order>, Refusal),
+    /// The report of the trial of a ticket was told.
+    Fetched(u64, Told),
+    /// The report of the trial of a ticket was refused.
+    FetchRefused(u64, Refusal),
+    /// What the project uses was told.
+    Used(Box<Usage>),
     Claimed(u64),
     Filed(u64),
 }

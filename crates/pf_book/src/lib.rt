@@ -12,13 +12,10 @@ mod numbers;
 mod plan;
 mod refusal;
 mod reply;
-mod source;
-mod stored;
 mod trial;
 
 pub use book::Book;
-pub use call::{Call, Order};
+pub use call::{Call, Order, Word};
 pub use laws::profile_is_right;
 pub use refusal::Refusal;
 pub use reply::{Reply, Told};
-pub use source::Source;

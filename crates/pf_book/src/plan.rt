@@ -3,14 +3,14 @@
 ghost use Rattle.std.specs.Prelude.{◌≡◌, MatchResult};
 ghost use Rattle.pf_quota.specs.Usage.{charged};
 ghost use Rattle.pf_quota.specs.declared.charges.Charge.TheVariants as charge;
-ghost use Rattle.pf_book.specs.Plans.{IsPastSums, Refuses, used_by};
+ghost use Rattle.pf_book.specs.Plans.{IsPastSums, used_by};
 
-use crate::fault::Fault;
+use crate::entry::Entry;
 use crate::job::Job;
 use crate::numbers::sum;
 use crate::reply::Reply;
-use crate::stored::Stored;
 use pf_quota::Usage;
+use pf_store::Stored;
 use pf_terms::NoMemory;
 
 /// What a call adds to its desk.
@@ -21,31 +21,23 @@ pub(crate) enum Addition {
     Trial(Job),
 }
 
-/// What a call comes to: what it adds to its desk, and its reply.
+/// What a call comes to: what it adds to its desk, what is noted of it, and its reply.
 #[derive(Drop)]
 pub(crate) struct Plan {
     pub addition: Addition,
+    pub noted: Entry,
     pub reply: Reply,
 }
 
 impl Plan {
-    /// A reply alone.
-    pub fn reply(reply: Reply) -> Plan
-        ensures { result ≡ record { addition = Addition.Nothing; reply = reply } }
+    /// A note and a reply alone.
+    pub fn told(noted: Entry, reply: Reply) -> Plan
+        ensures { result ≡ record { addition = Addition.Nothing; noted = noted; reply = reply } }
     {
         Plan {
             addition: Addition::Nothing,
+            noted,
             reply,
-        }
-    }
-
-    /// The refusal of a call that adds nothing.
-    pub fn refused(fault: Fault) -> Result<Plan, NoMemory>
-        ensures { Refuses fault result }
-    {
-        match fault {
-            Fault::Memory => Err(NoMemory),
-            Fault::Refused(refusal) => Ok(Plan::reply(Reply::Refused(refusal))),
         }
     }
 }

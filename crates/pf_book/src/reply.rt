@@ -8,15 +8,21 @@ use pf_model::report::Report;
 use pf_quota::Usage;
 use pf_syntax::Module;
 use pf_terms::{AtomTable, NoMemory};
+use std::alloc::Global;
 use std::marker::Model;
 use std::sync::Arc;
 
-/// The report of a trial, with the module whose atoms it speaks of; many may hold both. Contracts see the names of the atoms
-/// and the report.
+/// The report of a trial, with the module whose atoms it speaks of.
+#[derive(Drop)]
+struct Filed {
+    module: Arc<Module>,
+    report: Report,
+}
+
+/// The report of a trial, which many may hold. Contracts see the names of its atoms and the report.
 #[derive(Drop)]
 pub struct Told {
-    module: Arc<Module>,
-    report: Arc<Report>,
+    filed: Arc<Filed>,
 }
 
 impl Model for Told {
@@ -31,16 +37,20 @@ impl Model for Told {
 
     ghost coded = { coded× coded_names coded_report };
 
-    ghost view = { λ t. ((arc_value t.module).atoms, report_of (arc_value t.report)) };
+    ghost view = { λ t. ((arc_value t.filed).module.value.atoms, report_of (arc_value t.filed).report) };
 }
 
 impl Told {
-    pub(crate) fn new(code: &Arc<Module>, report: &Arc<Report>) -> Result<Told, NoMemory>
-        ensures { IfOk result (λ t. t ≡ (code.now.value.atoms, report_of report.now.value)) }
+    /// This report, which speaks of the atoms of this module.
+    pub(crate) fn new(alloc: Global, code: &Arc<Module>, report: Report) -> Result<Told, NoMemory>
+        ensures { IfOk result (λ t. t ≡ (code.now.value.atoms, report_of report)) }
     {
-        Ok(Told {
+        let filed = Filed {
             module: Arc::try_clone(code)?,
-            report: Arc::try_clone(report)?,
+            report,
+        };
+        Ok(Told {
+            filed: Arc::new(alloc, filed)?,
         })
     }
 
@@ -48,20 +58,22 @@ impl Told {
     pub fn atoms(&self) -> &AtomTable
         ensures { result.now ≡ self.now.0 }
     {
-        self.module.atoms()
+        self.filed.module.atoms()
     }
 
     pub fn report(&self) -> &Report
         ensures { report_of result.now ≡ self.now.1 }
     {
-        &self.report
+        &self.filed.report
     }
 
     /// The same once more.
     pub(crate) fn share(&self) -> Result<Told, NoMemory>
         ensures { IfOk result (λ t. t ≡ self.now) }
     {
-        Told::new(&self.module, &self.report)
+        Ok(Told {
+            filed: Arc::try_clone(&self.filed)?,
+        })
     }
 }
 
@@ -75,19 +87,4 @@ pub enum Reply {
     Report(Told),
     Usage(Usage),
     Refused(Refusal),
-}
-
-impl Reply {
-    /// The same reply once more.
-    pub(crate) fn share(&self) -> Result<Reply, NoMemory>
-        ensures { IfOk result (λ r. r ≡ self.now) }
-    {
-        Ok(match self {
-            Reply::Module(number) => Reply::Module(*number),
-            Reply::Ticket(ticket) => Reply::Ticket(*ticket),
-            Reply::Report(told) => Reply::Report(told.share()?),
-            Reply::Usage(usage) => Reply::Usage(*usage),
-            Reply::Refused(refusal) => Reply::Refused(*refusal),
-        })
-    }
 }

@@ -1,26 +1,22 @@
 //! Trials of a desk.
 
-ghost use Rattle.std.specs.Prelude.{◌≡◌, Some, IfOk};
+ghost use Rattle.std.specs.Prelude.{◌≡◌, MatchResult};
 ghost use Rattle.std.specs.Option.{option_copied};
 ghost use Rattle.pf_model.specs.Desk as desk;
-ghost use Rattle.pf_model.specs.Reports.{report_of};
-ghost use Rattle.pf_book.specs.View.{reply_seen};
+ghost use Rattle.pf_book.specs.View.{refusal_seen};
 ghost use Rattle.pf_book.specs.Queued.{queued_job};
 
 use crate::job::Job;
 use crate::refusal::Refusal;
-use crate::reply::{Reply, Told};
-use pf_model::report::Report;
-use pf_terms::NoMemory;
+use crate::reply::Told;
 use std::marker::Model;
-use std::sync::Arc;
 
 /// How far a trial is.
 #[derive(Drop)]
 pub(crate) enum State {
     Queued,
     /// Its report is filed.
-    Done(Arc<Report>),
+    Done(Told),
 }
 
 /// A job, and how far it is.
@@ -39,8 +35,11 @@ impl Model for Trial {
     ghost coded = { coded_trial };
 
     ghost use Rattle.pf_book.specs.View.{state_seen};
+    ghost use Rattle.pf_book.specs.Trials.{SpeaksOf};
 
     ghost view = { λ t. record { job = t.job; state = state_seen t.state } };
+
+    ghost invariant = { λ t. SpeaksOf t.job.stored.atoms t.state };
 }
 
 impl Trial {
@@ -64,20 +63,23 @@ impl Trial {
         }
     }
 
-    /// Files its report.
-    pub fn file(&mut self, report: Arc<Report>)
-        ensures { self.new ≡ record { job = self.old.job; state = desk.done (report_of report.value) } }
+    /// Files its report, which speaks of the atoms of its module.
+    pub fn file(&mut self, told: Told)
+        requires { told.0 ≡ self.old.job.stored.atoms }
+        ensures { self.new ≡ record { job = self.old.job; state = desk.done told.1 } }
     {
-        self.state = State::Done(report);
+        self.state = State::Done(told);
     }
 
-    /// The reply to who asks for its report.
-    pub fn reply(&self) -> Result<Reply, NoMemory>
-        ensures { IfOk result (λ r. reply_seen r ≡ desk.fetched (Some self.now)) }
+    /// Its report, where it is filed.
+    pub fn told(&self) -> Result<&Told, Refusal>
+        ensures { MatchResult result
+            (λ t. desk.report_in self.now.job.stored.atoms self.now.state ≡ desk.report t.now.0 t.now.1)
+            (λ e. desk.report_in self.now.job.stored.atoms self.now.state ≡ desk.refused (refusal_seen e)) }
     {
         match &self.state {
-            State::Queued => Ok(Reply::Refused(Refusal::NotDone)),
-            State::Done(report) => Ok(Reply::Report(Told::new(self.job.module(), report)?)),
+            State::Queued => Err(Refusal::NotDone),
+            State::Done(told) => Ok(told),
         }
     }
 }

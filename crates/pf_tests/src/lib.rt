@@ -19,6 +19,8 @@ mod reading;
 #[cfg(test)]
 mod runs;
 #[cfg(test)]
+mod sharing;
+#[cfg(test)]
 mod terms;
 #[cfg(test)]
 mod trees;

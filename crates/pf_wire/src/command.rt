@@ -9,7 +9,8 @@ ghost use Rattle.pf_wire.specs.View.{command_seen};
 
 use crate::cut::first_line;
 use crate::line::{Request, read_line};
-use pf_book::{Call, Source};
+use pf_book::Call;
+use pf_store::Source;
 use pf_terms::NoMemory;
 use std::alloc::{AllocError, Global};
 use std::error::Error;

@@ -10,7 +10,7 @@ ghost use Rattle.pf_wire.specs.View.{request_seen};
 
 use crate::command::Command;
 use crate::cut::{first_word, only_word};
-use pf_book::{Call, Order};
+use pf_book::{Call, Order, Word};
 use pf_terms::NoMemory;
 use pf_text::{number_of, schedule_of};
 use std::alloc::Global;
@@ -137,8 +137,8 @@ fn read_order(alloc: Global, words: &[u8]) -> Result<Option<Request>, NoMemory>
     };
     let order = Order {
         module: u64::from(module),
-        root: Vec::from_slice(alloc, words.root)?,
-        property: Vec::from_slice(alloc, words.property)?,
+        root: Word::from_slice(alloc, words.root)?,
+        property: Word::from_slice(alloc, words.property)?,
         schedule,
         limit,
     };

@@ -7,9 +7,9 @@ use Rattle.pf_book.specs.View.{call_seen, reply_seen, entry_seen}
 use Rattle.pf_quota.specs.declared.charges.Charge.TheVariants as charge
 use Rattle.pf_quota.specs.Usage.{charged}
 use Rattle.pf_book.specs.declared.plan.Addition.{Addition}
-use Rattle.pf_book.specs.Plans.{with_addition, plan_seen, used_by}
+use Rattle.pf_book.specs.Plans.{with_addition, IsPlan, used_by}
 use Rattle.pf_book.specs.Kept.{desk_in}
-use Rattle.pf_book.specs.declared.entry.Entry.TheVariants.{Called}
+use Rattle.pf_book.specs.declared.entry.Entry.{Entry}
 use Rattle.pf_book.proofs.Called.{called_legal, called_sums}
 use Rattle.pf_book.proofs.bench.Bench.call.Goals as goal
 use Rattle.pf_book.proofs.bench.Bench.call.Goals.{in-Nothing, in-Module+in_ok-push-in-Module, in-Trial+in_ok-push-in-Trial}
@@ -17,21 +17,21 @@ use Rattle.pf_book.proofs.bench.Bench.call.Goals.{in-Nothing, in-Module+in_ok-pu
 pub invariant_of-self-2 : goal.invariant_of-self-2
 invariant_of-self-2 c =
     let d = desk_in c.self.inside in
-    let m = c.match-addition-4.self-inside in
+    let m = c.match-addition-3.self-inside in
     let a = c.in_ok-addition.addition in
     let reply = reply_seen c.in_ok-addition.field-0.reply in
     let call = call_seen c.args.call in
     let added : with_addition d a ≡ record { modules = m.modules.items; trials = m.trials.items; history = d.history } =
-    elim c.match-addition-4.branch [ in-Nothing w ↦ search rules | in-Module+in_ok-push-in-Module w ↦ search rules | in-Trial+in_ok-push-in-Trial w ↦ search rules ] in
+    elim c.match-addition-3.branch [ in-Nothing w ↦ search rules | in-Module+in_ok-push-in-Module w ↦ search rules | in-Trial+in_ok-push-in-Trial w ↦ search rules ] in
     let kept : m.history.items ≡ c.self.inside.history.items =
-    elim c.match-addition-4.branch [ in-Nothing w ↦ search rules | in-Module+in_ok-push-in-Module w ↦ search rules | in-Trial+in_ok-push-in-Trial w ↦ search rules ] in
-    let longer : c.push_reserved.new.self.items ≡ c.self.inside.history.items ++ Called c.args.call c.in_ok-noted.noted ∷ [] = c.push_reserved.ensures.items ∙ ap (λ l. l ++ Called c.args.call c.in_ok-noted.noted ∷ []) kept in
-    let same : reply_seen c.in_ok-noted.noted ≡ reply = ap reply_seen c.in_ok-noted.ensures in
+    elim c.match-addition-3.branch [ in-Nothing w ↦ search rules | in-Module+in_ok-push-in-Module w ↦ search rules | in-Trial+in_ok-push-in-Trial w ↦ search rules ] in
+    let planned : IsPlan d call c.in_ok-addition.field-0 = subst (λ k. IsPlan k call c.in_ok-addition.field-0) (sym c.self.view_is) c.in_ok-addition.ensures in
+    let e = c.in_ok-addition.field-0.noted in
+    let longer : c.push_reserved.new.self.items ≡ c.self.inside.history.items ++ e ∷ [] = c.push_reserved.ensures.items ∙ ap (λ (l : List Entry). l ++ e ∷ []) kept in
     let history : map entry_seen c.push_reserved.new.self.items ≡ d.history ++ called call reply ∷ [] =
-    ap (map entry_seen) longer ∙ map_push entry_seen c.self.inside.history.items (Called c.args.call c.in_ok-noted.noted) ∙ ap (λ (x : desk.Reply). d.history ++ called call x ∷ []) same in
-    let P : Desk → Type 0 = λ k. plan_seen k c.in_ok-addition.field-0 ≡ answered profile k call in
+    ap (map entry_seen) longer ∙ map_push entry_seen c.self.inside.history.items e ∙ ap (λ (x : desk.Entry). d.history ++ x ∷ []) planned.1 in
     let plan : ◌≡◌ {A = Desk × desk.Reply} (with_addition d a, reply) (answered profile d call) =
-    ap (λ (x : Addition). (with_addition d x, reply)) (sym c.in_ok-addition.addition-is) ∙ subst P (sym c.self.view_is) c.in_ok-addition.ensures in
+    ap (λ (x : Addition). (with_addition d x, reply)) (sym c.in_ok-addition.addition-is) ∙ planned.0 in
     let spent : c.in_ok-usage.usage ≡ charged (used_by c.self.inside.usage a) charge.Call = search rules in
     let d' = desk_in (record { modules = m.modules; trials = m.trials; history = c.push_reserved.new.self; usage = c.in_ok-usage.usage }) in
     let with_history : List desk.Entry → Desk = λ es. record { modules = m.modules.items; trials = m.trials.items; history = es } in

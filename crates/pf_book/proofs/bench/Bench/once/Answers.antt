@@ -2,7 +2,7 @@ use Rattle.std.proofs.Common.{◌≡◌, ℕ, List, [], ◌∷◌, ◌++◌, map
 use Rattle.std.proofs.lemmas.List.{map_push}
 use Rattle.pf_quota.specs.Usage.{usage_of}
 use Rattle.pf_model.specs.Desk.{Desk, Trial, claimed, filed, held_by, calls_in, after_once}
-use Rattle.pf_model.specs.Reports.{report_of}
+use Rattle.pf_model.specs.Meaning.{Report}
 use Rattle.pf_model.specs.History.{IsLegalDesk}
 use Rattle.pf_book.specs.Profile.{profile}
 use Rattle.pf_book.specs.View.{entry_seen}
@@ -26,9 +26,9 @@ invariant_of-self-2 c =
     let d = desk_in c.self.inside in
     let t = c.args.ticket in
     let j = c.in-Some.job.now in
-    let r = report_of c.in_ok-report.report.value in
+    let r = c.in_ok-told.told.1 in
     let waits : job_at d.trials t ≡ Some j = ap (λ (l : List Trial). job_at l t) (sym c.deref.ensures.value) ∙ sym c.in-Some.ensures in
-    let means : profile.meaning j ≡ r = c.in_ok-run.ensures ∙ ap report_of (sym c.in_ok-report.ensures.ok) in
+    let means : profile.meaning j ≡ r = c.in_ok-run.ensures ∙ sym (ap (λ (x : List (List ℕ) × Report). x.1) c.in_ok-told.ensures) in
     let history = noted t c.self.inside.history.items _ _ _ c.make_room.ensures.items c.push_reserved.ensures.items c.push_reserved-2.ensures.items in
     let d' = desk_in (record { modules = c.self.inside.modules; trials = c.file.new.trials; history = c.push_reserved-2.new.self; usage = c.self.inside.usage }) in
     let is : d' ≡ after_once profile d t = once_is d j r means d' t waits refl c.file.ensures history in
@@ -42,8 +42,8 @@ returns-clause-desk c =
     let d = desk_in c.self.inside in
     let t = c.args.ticket in
     let j = c.in-Some.job.now in
-    let r = report_of c.in_ok-report.report.value in
+    let r = c.in_ok-told.told.1 in
     let waits : job_at d.trials t ≡ Some j = ap (λ (l : List Trial). job_at l t) (sym c.deref.ensures.value) ∙ sym c.in-Some.ensures in
-    let means : profile.meaning j ≡ r = c.in_ok-run.ensures ∙ ap report_of (sym c.in_ok-report.ensures.ok) in
+    let means : profile.meaning j ≡ r = c.in_ok-run.ensures ∙ sym (ap (λ (x : List (List ℕ) × Report). x.1) c.in_ok-told.ensures) in
     let history = noted t c.self.inside.history.items _ _ _ c.make_room.ensures.items c.push_reserved.ensures.items c.push_reserved-2.ensures.items in
     once_is d j r means _ t waits refl c.file.ensures history ∙ ap (λ (k : Desk). after_once profile k t) c.self.view_is

@@ -1,0 +1,14 @@
+-- Whose atoms reports speak of.
+use Rattle.std.specs.Prelude.{◌≡◌, ℕ, List, IfSome}
+use Rattle.pf_model.specs.Desk.{Trial, numbered}
+use Rattle.pf_book.specs.declared.trial.State.{State}
+use Rattle.pf_book.specs.declared.trial.State.TheVariants.{Queued, Done}
+
+-- a report that is filed speaks of these atoms
+abbrev pub SpeaksOf : List (List ℕ) → State → Type 0
+SpeaksOf atoms Queued = Unit {0}
+SpeaksOf atoms (Done told) = told.0 ≡ atoms
+
+-- the trial of a ticket, where there is one, is of a module with these atoms
+abbrev pub AtomsAt : List Trial → ℕ → List (List ℕ) → Type 0
+AtomsAt ts t atoms = IfSome (numbered ts t) (λ x. atoms ≡ x.job.stored.atoms)
