@@ -2,10 +2,12 @@
 # Times `pulsefarm steps` on scripts of many projects, each with 16 modules, 64 orders, and a worker's `once` and a `fetch` for each order, and
 # takes how many bytes stand in blocks at most. It prints tables for docs/SPEED.md, and fails where
 # - a command costs over 1.5 times as much in one script as in another,
-# - 100 projects take 3 bytes or more for each byte that is read and written: the sources, the calls and the replies with their reports,
+# - 100 projects that submit the same 16 modules take 3 bytes or more for each byte that is read and written: the sources, the calls and the replies
+#   with their reports,
+# - 100 projects that submit modules of their own take 3 bytes or more for each byte of their sources, reports and logs as these stand in memory,
 # - one more fetch of a report takes as much as a note and a copy of the report,
 # - large sources take 2.5 bytes or more for each byte that is read: the input and the one copy that desk and log share are 2.
-# It also prints what 100 projects take for each byte of their sources, reports and logs as these stand in memory; by that it doesn't fail.
+# It also prints what 100 projects with modules of their own take for each byte that is read and written; by that it doesn't fail.
 # The program is the one that the gate or install.sh built.
 set -eu
 top=$(cd "$(dirname "$0")/.." && pwd)
@@ -15,12 +17,12 @@ trap 'rm -rf "$room"' EXIT
 cc -O2 -shared -fPIC -o "$room/blocks.so" "$top/tests/refused/refuse.c" -ldl
 
 # The script of $1 projects with $2 modules and $3 orders each: each command for all projects before the next, so that no two in a row
-# are of one project.
+# are of one project. The modules are those of all projects, or where $4 is `own` each its project's own.
 script() {
-  awk -v projects="$1" -v modules="$2" -v orders="$3" 'BEGIN {
-    for (m = 1; m <= modules; m++) {
-      text = "-module(m).\n-export([main/0]).\n% module " m " of its project\nmain() -> sum(" m + 20 ").\nsum(N) -> case N of 0 -> 0; _ -> N + sum(N - 1) end.\n"
-      for (p = 1; p <= projects; p++) printf "submit %d %d\n%s\n", p, length(text), text
+  awk -v projects="$1" -v modules="$2" -v orders="$3" -v whose="$4" 'BEGIN {
+    for (m = 1; m <= modules; m++) for (p = 1; p <= projects; p++) {
+      text = "-module(m).\n-export([main/0]).\n% module " m " of " (whose == "own" ? "project " p : "all") "\nmain() -> sum(" m + 20 ").\nsum(N) -> case N of 0 -> 0; _ -> N + sum(N - 1) end.\n"
+      printf "submit %d %d\n%s\n", p, length(text), text
     }
     for (t = 1; t <= orders; t++) {
       for (p = 1; p <= projects; p++) printf "order %d %d main returns none 1000\n", p, 1 + t % modules
@@ -52,7 +54,7 @@ high=
 echo "| commands | a command |"
 echo "|---|---|"
 for projects in 8 31 123; do
-  script "$projects" 16 64 > "$room/in"
+  script "$projects" 16 64 own > "$room/in"
   commands=$((projects * 208))
   each=$((($(least) - start_up) / commands))
   echo "| $commands | $each ns |"
@@ -68,28 +70,31 @@ measure() {
   text=$(($(wc -c < "$room/in") + $(wc -c < "$room/out")))
 }
 
-# The bytes of what is noted, ordered and told, without what stands in blocks of their own: a note (a call with its reply, a claim or a file)
-# as its type has it, and what each kind of note would need alone; an order (its two words have 11 bytes); and a report with its one event.
-note=72
-submitted=40
-ordered=40
-fetched=48
-worked=16
-order=$((88 + 11))
+# The bytes of what is noted, ordered and told, as the types have them and without what blocks have beside: a note (a call with its reply, a
+# claim or a file), an order with its two words, and a report with its one event.
+note=24
+order=96
 report=$((64 + 48))
 
-script 100 16 64 > "$room/in"
-measure
-sources=$(awk '/^submit/ { n += $3 } END { print n }' "$room/in")
-things=$((sources + 100 * 64 * (order + report)))
-by_type=$((things + 100 * (16 + 4 * 64) * note))
-by_kind=$((things + 100 * (16 * submitted + 64 * (ordered + fetched + 2 * worked))))
+# Sets `things` to the bytes of the sources, reports and logs of 100 projects as they stand in memory, each once.
+count_things() {
+  sources=$(awk '/^submit/ { n += $3 } END { print n }' "$room/in")
+  things=$((sources + 100 * (16 + 4 * 64) * note + 100 * 64 * (order + report)))
+}
+
 echo
-echo "100 projects, 20,800 commands: at most $most bytes in blocks, for $text bytes read and written"
-echo "sources, reports and logs in memory: $by_type bytes with each note as its type has it, $by_kind with each as its kind needs"
+script 100 16 64 all > "$room/in"
+measure
+echo "100 projects with the same modules, 20,800 commands: at most $most bytes in blocks, for $text bytes read and written"
 [ "$most" -lt $((text * 3)) ] || bad=1
 
-script 10 16 64 > "$room/in"
+script 100 16 64 own > "$room/in"
+measure
+count_things
+echo "100 projects with modules of their own: at most $most bytes in blocks, for $text bytes read and written, and $things bytes of sources, reports and logs in memory"
+[ "$most" -lt $((things * 3)) ] || bad=1
+
+script 10 16 64 own > "$room/in"
 measure
 before=$most
 awk 'BEGIN { for (n = 1; n <= 10; n++) for (t = 1; t <= 64; t++) for (p = 1; p <= 10; p++) printf "fetch %d %d\n", p, t }' > "$room/more"
@@ -103,8 +108,10 @@ echo "one more fetch: $each bytes, beside its line, where a note has $note and a
 awk 'BEGIN {
   line = "% a line of comment, of which there are many in this source\n"
   while (length(comment) + length(line) < 60000) comment = comment line
-  text = "-module(m).\n-export([main/0]).\n" comment "main() -> 1.\n"
-  for (p = 1; p <= 100; p++) printf "submit %d %d\n%s\n", p, length(text), text
+  for (p = 1; p <= 100; p++) {
+    text = "-module(m).\n-export([main/0]).\n% of project " p "\n" comment "main() -> 1.\n"
+    printf "submit %d %d\n%s\n", p, length(text), text
+  }
 }' > "$room/in"
 measure
 echo "100 sources of 60,000 bytes: at most $most bytes in blocks, for $text bytes read and written"
