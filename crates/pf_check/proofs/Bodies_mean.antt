@@ -5,18 +5,18 @@ use Rattle.std.specs.List.{All}
 use Rattle.std.proofs.lemmas.List.{take_all}
 use Rattle.std.proofs.Math.Seq.{take-append_seam}
 use Rattle.std.proofs.lemmas.List.Elements.{All-nil, All-cons, All-head, All-tail, All-append, All-pop, All-weaker}
-use Rattle.pf_syntax.specs.Shape as s
-use Rattle.pf_syntax.specs.Shape.{Shape, Shapes, no_shapes, shape, shape_depth}
-use Rattle.pf_syntax.specs.Phrase as p
-use Rattle.pf_syntax.specs.Phrase.{Phrase, Phrases, Condition, Branches, no_phrases, phrase, no_tests, tests, no_branches, branch, phrases_depth, condition_depth, branches_depth}
+use Rattle.pf_syntax.specs.WrittenPattern as s
+use Rattle.pf_syntax.specs.WrittenPattern.{WrittenPattern, WrittenPatterns, no_written_patterns, written_pattern, written_pattern_depth}
+use Rattle.pf_syntax.specs.WrittenExpression as p
+use Rattle.pf_syntax.specs.WrittenExpression.{WrittenExpression, WrittenExpressions, Condition, Branches, no_written_expressions, written_expression, no_tests, tests, no_branches, branch, written_expressions_depth, condition_depth, branches_depth}
 use Rattle.pf_syntax.specs.Pattern.{pattern}
 use Rattle.pf_syntax.specs.Tree as tr
 use Rattle.pf_syntax.specs.Tree.{Tree, no_trees, no_alternatives, no_guard}
-use Rattle.pf_syntax.specs.Source.{Book, Head, shape_at, phrase_at}
-use Rattle.pf_syntax.specs.SourceOver.{phrases_at, alternatives_at, condition_over, branches_over, branch_depth}
-use Rattle.pf_syntax.specs.Sight.{Sight, has, after, after_shape}
+use Rattle.pf_syntax.specs.Source.{NodeTable, Head, written_pattern_at, written_expression_at}
+use Rattle.pf_syntax.specs.SourceOver.{written_expressions_at, alternatives_at, condition_over, branches_over, branch_depth}
+use Rattle.pf_syntax.specs.Scope.{Scope, has, after, after_written_pattern}
 use Rattle.pf_syntax.specs.Naming as w
-use Rattle.pf_syntax.specs.Naming.{PhraseIs, ElementIs, BodyIs, GuardIs, BranchesAre, behind, ending}
+use Rattle.pf_syntax.specs.Naming.{WrittenExpressionIs, ElementIs, BodyIs, GuardIs, BranchesAre, behind, ending}
 use Rattle.pf_syntax.specs.Module.{Checked, Tables, pattern_at}
 use Rattle.pf_syntax.specs.Over.{part_over, patterns_at, alternatives_over, guard_from, clauses_over}
 use Rattle.pf_syntax.specs.Within.{PatternStands, PartStands, ClauseStands}
@@ -26,21 +26,21 @@ use Rattle.pf_syntax.specs.declared.node.Part.{Part}
 use Rattle.pf_syntax.specs.declared.node.Alternative.{Alternative}
 use Rattle.pf_syntax.specs.declared.node.Guard.{Guard}
 use Rattle.pf_syntax.specs.declared.node.Clause.{Clause}
-use Rattle.pf_syntax.specs.declared.written.PhraseId.{PhraseId}
+use Rattle.pf_syntax.specs.declared.written.WrittenExpressionId.{WrittenExpressionId}
 use Rattle.pf_syntax.specs.declared.written.Tests.{Tests}
 use Rattle.pf_syntax.specs.declared.written.Branch.{Branch}
 use Rattle.pf_reader.specs.Grammar.{unguarded}
 use Rattle.pf_check.specs.declared.bodies.Element.{Element}
-use Rattle.pf_check.specs.Static.{names_of, shape_faults, phrase_faults, phrases_faults, condition_faults, branches_faults}
-use Rattle.pf_check.specs.Formed.{PhrasesFormed, ConditionFormed, BranchesFormed, HasFirst, HasAlternative}
+use Rattle.pf_check.specs.Static.{names_of, written_pattern_faults, written_expression_faults, written_expressions_faults, condition_faults, branches_faults}
+use Rattle.pf_check.specs.Formed.{WrittenExpressionsFormed, ConditionFormed, BranchesFormed, HasFirst, HasAlternative}
 use Rattle.pf_check.specs.Bound.{bound_by, all_bound_by, bound_after, all_bound_after, IsPlain}
 use Rattle.pf_check.specs.Grown.{Grown, PartPut}
-use Rattle.pf_check.specs.Built.{Did, ShapeMeans, PhraseMeans, PhrasesMean, ElementMeans, BodyMeans, GuardMeans, BranchesMean}
+use Rattle.pf_check.specs.Built.{Did, WrittenPatternMeans, WrittenExpressionMeans, WrittenExpressionsMean, ElementMeans, BodyMeans, GuardMeans, BranchesMean}
 use Rattle.pf_check.specs.Bodies.{ElementStands, binds, ElementBuilt, EachElementMeans, BranchMeans}
-use Rattle.pf_check.proofs.Growing.{grown_on, grown_itself, shape_means_on}
+use Rattle.pf_check.proofs.Growing.{grown_on, grown_itself, written_pattern_means_on}
 use Rattle.pf_check.proofs.Threads.{Threaded, SoFar}
-use Rattle.pf_check.proofs.Shapes_mean.{left_empty, right_empty, shape_bound}
-use Rattle.pf_check.proofs.Phrases_mean.{element_bound, plain_formed, plain_bound}
+use Rattle.pf_check.proofs.WrittenPatterns_mean.{left_empty, right_empty, written_pattern_bound}
+use Rattle.pf_check.proofs.WrittenExpressions_mean.{element_bound, plain_formed, plain_bound}
 
 -- ---- names that were bound stay the first ones
 
@@ -59,7 +59,7 @@ begins_one names x true = begins_itself names
 begins_one names x false = (x ∷ [], refl)
 
 mutual
-  pub begins_by : (names : List ℕ) (q : Shape) → Begins names (bound_by names q)
+  pub begins_by : (names : List ℕ) (q : WrittenPattern) → Begins names (bound_by names q)
   begins_by names (s.variable x at) = begins_one names x (has names x)
   begins_by names (s.tuple qs) = begins_by_all names qs
   begins_by names (s.list qs) = begins_by_all names qs
@@ -69,11 +69,11 @@ mutual
   begins_by names (s.text cs) = begins_itself names
   begins_by names s.anything = begins_itself names
 
-  pub begins_by_all : (names : List ℕ) (qs : Shapes) → Begins names (all_bound_by names qs)
-  begins_by_all names no_shapes = begins_itself names
-  begins_by_all names (shape q qs) = begins_on names _ _ (begins_by names q) (begins_by_all (bound_by names q) qs)
+  pub begins_by_all : (names : List ℕ) (qs : WrittenPatterns) → Begins names (all_bound_by names qs)
+  begins_by_all names no_written_patterns = begins_itself names
+  begins_by_all names (written_pattern q qs) = begins_on names _ _ (begins_by names q) (begins_by_all (bound_by names q) qs)
 
-begins_after : (names : List ℕ) (e : Phrase) → Begins names (bound_after names e)
+begins_after : (names : List ℕ) (e : WrittenExpression) → Begins names (bound_after names e)
 begins_after names (p.match q a) = begins_on names _ _ (begins_after names a) (begins_by (bound_after names a) q)
 begins_after names (p.integer z) = begins_itself names
 begins_after names (p.atom a) = begins_itself names
@@ -87,19 +87,19 @@ begins_after names (p.list_on es e) = begins_itself names
 begins_after names (p.call x at es) = begins_itself names
 begins_after names (p.binary o a b) = begins_itself names
 begins_after names (p.negate a) = begins_itself names
-begins_after names (p.both a b) = begins_itself names
-begins_after names (p.either a b) = begins_itself names
+begins_after names (p.and_also a b) = begins_itself names
+begins_after names (p.or_else a b) = begins_itself names
 begins_after names (p.send a b) = begins_itself names
 begins_after names (p.case a bs) = begins_itself names
-begins_after names (p.decide bs) = begins_itself names
+begins_after names (p.if_expression bs) = begins_itself names
 begins_after names (p.receive bs) = begins_itself names
 
-begins_after_all : (names : List ℕ) (es : Phrases) → Begins names (all_bound_after names es)
-begins_after_all names no_phrases = begins_itself names
-begins_after_all names (phrase e es) = begins_on names _ _ (begins_after names e) (begins_after_all (bound_after names e) es)
+begins_after_all : (names : List ℕ) (es : WrittenExpressions) → Begins names (all_bound_after names es)
+begins_after_all names no_written_expressions = begins_itself names
+begins_after_all names (written_expression e es) = begins_on names _ _ (begins_after names e) (begins_after_all (bound_after names e) es)
 
 -- so the first ones alone are left when the others are forgotten
-pub forgotten : (names : List ℕ) (q : Shape) (es : Phrases) → take (length names) (all_bound_after (bound_by names q) es) ≡ names
+pub forgotten : (names : List ℕ) (q : WrittenPattern) (es : WrittenExpressions) → take (length names) (all_bound_after (bound_by names q) es) ≡ names
 forgotten names q es =
     let h = begins_on names _ _ (begins_by names q) (begins_after_all (bound_by names q) es) in
     ap (take (length names)) h.1 ∙ take-append_seam names h.0
@@ -111,7 +111,7 @@ patterns_behind t [] y = refl
 patterns_behind t (x ∷ ys) y = ap (pattern (pattern_at t x.0)) (patterns_behind t ys y)
 
 module _ (fs : List (List Head)) where
-  pub element_means_on : (t u : Tables) → Extends t u → (names : List ℕ) (e : Phrase) (ys : List PatternId) (x : Part) → ElementMeans fs t names e ys x → ElementMeans fs u names e ys x
+  pub element_means_on : (t u : Tables) → Extends t u → (names : List ℕ) (e : WrittenExpression) (ys : List PatternId) (x : Part) → ElementMeans fs t names e ys x → ElementMeans fs u names e ys x
   element_means_on t u on names e ys x h =
       let front : patterns_at u ys ≡ patterns_at t ys = patterns_kept t u on ys h.patterns_stand in
       let value : part_over u x ≡ part_over t x = part_kept t u on x h.stands in
@@ -124,7 +124,7 @@ module _ (fs : List (List Head)) where
             (subst (λ v. ElementIs (names_of fs) g e v (part_over t x)) (sym front) m);
       }
 
-  pub plain_did : (m0 m1 : Checked) (b names : List ℕ) (e : Phrase) (x : Part) → IsPlain e → Did m0 m1 b names (λ t. PhraseMeans fs t names e x)
+  pub plain_did : (m0 m1 : Checked) (b names : List ℕ) (e : WrittenExpression) (x : Part) → IsPlain e → Did m0 m1 b names (λ t. WrittenExpressionMeans fs t names e x)
       → Did m0 m1 b (bound_after names e) (λ t. ElementMeans fs t names e [] x)
   plain_did m0 m1 b names e x plain d = record {
     grown = d.grown;
@@ -136,8 +136,8 @@ module _ (fs : List (List Head)) where
     };
   }
 
-  pub match_did : (m0 m1 m2 : Checked) (b1 b2 names : List ℕ) (q : Shape) (a e : Phrase) (ys : List PatternId) (y : PatternId) (x : Part) → e ≡ p.match q a
-      → Did m0 m1 b1 (bound_after names a) (λ t. ElementMeans fs t names a ys x) → Did m1 m2 b2 (bound_by b1 q) (λ t. ShapeMeans fs t b1 q y)
+  pub match_did : (m0 m1 m2 : Checked) (b1 b2 names : List ℕ) (q : WrittenPattern) (a e : WrittenExpression) (ys : List PatternId) (y : PatternId) (x : Part) → e ≡ p.match q a
+      → Did m0 m1 b1 (bound_after names a) (λ t. ElementMeans fs t names a ys x) → Did m1 m2 b2 (bound_by b1 q) (λ t. WrittenPatternMeans fs t b1 q y)
       → Did m0 m2 b2 (bound_after names e) (λ t. ElementMeans fs t names e (ys ++ y ∷ []) x)
   match_did m0 m1 m2 b1 b2 names q a e ys y x is d r =
       let inner = element_means_on m1.tables m2.tables r.grown.tables names a ys x d.answer in
@@ -149,37 +149,37 @@ module _ (fs : List (List Head)) where
           patterns_stand = All-append (PatternStands m2.tables) ys (y ∷ []) inner.patterns_stand (All-cons (PatternStands m2.tables) y [] r.answer.stands (All-nil (PatternStands m2.tables)));
           stands = inner.stands;
           means = λ g h f k.
-              let here : phrase_faults (names_of fs) g a ≡ [] = left_empty (phrase_faults (names_of fs) g a) _ k in
-              let later : shape_faults (after g a) q ≡ [] = right_empty (phrase_faults (names_of fs) g a) _ k in
+              let here : written_expression_faults (names_of fs) g a ≡ [] = left_empty (written_expression_faults (names_of fs) g a) _ k in
+              let later : written_pattern_faults (after g a) q ≡ [] = right_empty (written_expression_faults (names_of fs) g a) _ k in
               let seen : (after g a).bound ≡ b1 = element_bound fs g a f.2 here ∙ ap (λ n. bound_after n a) h ∙ sym d.bound_is in
               subst (λ v. ElementIs (names_of fs) g (p.match q a) v (part_over m2.tables x)) (sym (patterns_behind m2.tables ys y))
               (w.match g q a _ _ _ (inner.means g h f.2 here) (r.answer.means (after g a) seen f.1 later));
         };
       })
 
-module _ (fs : List (List Head)) (b : Book) where
-  abbrev pub next_element : List ℕ → PhraseId → List ℕ
-  next_element names id = bound_after names (phrase_at b id.0)
+module _ (fs : List (List Head)) (b : NodeTable) where
+  abbrev pub next_element : List ℕ → WrittenExpressionId → List ℕ
+  next_element names id = bound_after names (written_expression_at b id.0)
 
-  abbrev pub EachElement : Tables → List ℕ → PhraseId → Element → Type 0
-  EachElement t names id x = ElementBuilt fs t names (phrase_at b id.0) x
+  abbrev pub EachElement : Tables → List ℕ → WrittenExpressionId → Element → Type 0
+  EachElement t names id x = ElementBuilt fs t names (written_expression_at b id.0) x
 
-  pub each_element_on : (t u : Tables) → Extends t u → (names : List ℕ) (id : PhraseId) (x : Element) → EachElement t names id x → EachElement u names id x
-  each_element_on t u e names id x h = element_means_on fs t u e names (phrase_at b id.0) x.patterns.items x.value h
+  pub each_element_on : (t u : Tables) → Extends t u → (names : List ℕ) (id : WrittenExpressionId) (x : Element) → EachElement t names id x → EachElement u names id x
+  each_element_on t u e names id x h = element_means_on fs t u e names (written_expression_at b id.0) x.patterns.items x.value h
 
-  each_mean : (t : Tables) (names : List ℕ) (ids : List PhraseId) (xs : List Element) → Threaded next_element (EachElement t) names ids xs → EachElementMeans fs b t names ids xs
+  each_mean : (t : Tables) (names : List ℕ) (ids : List WrittenExpressionId) (xs : List Element) → Threaded next_element (EachElement t) names ids xs → EachElementMeans fs b t names ids xs
   each_mean t names [] [] h = tt
   each_mean t names (id ∷ ids) (x ∷ xs) h = (h.0, each_mean t (next_element names id) ids xs h.1)
   each_mean t names [] (x ∷ xs) h = absurd h
   each_mean t names (id ∷ ids) [] h = absurd h
 
-  all_next_element : (names : List ℕ) (ids : List PhraseId) → fold next_element names ids ≡ all_bound_after names (phrases_at b ids)
+  all_next_element : (names : List ℕ) (ids : List WrittenExpressionId) → fold next_element names ids ≡ all_bound_after names (written_expressions_at b ids)
   all_next_element names [] = refl
   all_next_element names (id ∷ ids) = all_next_element (next_element names id) ids
 
-  pub elements_done : (m0 m1 : Checked) (names now : List ℕ) (ids : List PhraseId) (k : ℕ) (xs : List Element) → length ids ≤ k
+  pub elements_done : (m0 m1 : Checked) (names now : List ℕ) (ids : List WrittenExpressionId) (k : ℕ) (xs : List Element) → length ids ≤ k
       → SoFar next_element EachElement m0 m1 names now (take k ids) xs
-      → Did m0 m1 now (all_bound_after names (phrases_at b ids)) (λ t. EachElementMeans fs b t names ids xs)
+      → Did m0 m1 now (all_bound_after names (written_expressions_at b ids)) (λ t. EachElementMeans fs b t names ids xs)
   elements_done m0 m1 names now ids k xs le h =
       let whole : SoFar next_element EachElement m0 m1 names now ids xs = subst (λ l. SoFar next_element EachElement m0 m1 names now l xs) (take_all k ids le) h in
       record {
@@ -190,34 +190,34 @@ module _ (fs : List (List Head)) (b : Book) where
 
   -- ---- bodies
 
-  pub each_stands : (t : Tables) (names : List ℕ) (ids : List PhraseId) (xs : List Element) → EachElementMeans fs b t names ids xs → All (ElementStands t) xs
+  pub each_stands : (t : Tables) (names : List ℕ) (ids : List WrittenExpressionId) (xs : List Element) → EachElementMeans fs b t names ids xs → All (ElementStands t) xs
   each_stands t names [] [] h = All-nil (ElementStands t)
   each_stands t names (id ∷ ids) (x ∷ xs) h = All-cons (ElementStands t) x xs (h.0.patterns_stand, h.0.stands) (each_stands t (next_element names id) ids xs h.1)
   each_stands t names [] (x ∷ xs) h = absurd h
   each_stands t names (id ∷ ids) [] h = absurd h
 
-  no_elements : (t : Tables) (names : List ℕ) (ids : List PhraseId) (xs : List Element) → xs ≡ [] → EachElementMeans fs b t names ids xs → HasFirst (phrases_at b ids) → ⊥
+  no_elements : (t : Tables) (names : List ℕ) (ids : List WrittenExpressionId) (xs : List Element) → xs ≡ [] → EachElementMeans fs b t names ids xs → HasFirst (written_expressions_at b ids) → ⊥
   no_elements t names [] xs e h f = f
   no_elements t names (id ∷ ids) [] e h f = h
   no_elements t names (id ∷ ids) (x ∷ xs) e h f = cc
 
-  body_is : (t : Tables) (names : List ℕ) (ids : List PhraseId) (front : List Element) (last : Element) → EachElementMeans fs b t names ids (front ++ last ∷ [])
-      → (g : Sight) → g.bound ≡ names → PhrasesFormed true (phrases_at b ids) → phrases_faults (names_of fs) g (phrases_at b ids) ≡ []
-      → BodyIs (names_of fs) g (phrases_at b ids) (binds t front (ending (patterns_at t last.patterns.items) (part_over t last.value)))
+  body_is : (t : Tables) (names : List ℕ) (ids : List WrittenExpressionId) (front : List Element) (last : Element) → EachElementMeans fs b t names ids (front ++ last ∷ [])
+      → (g : Scope) → g.bound ≡ names → WrittenExpressionsFormed true (written_expressions_at b ids) → written_expressions_faults (names_of fs) g (written_expressions_at b ids) ≡ []
+      → BodyIs (names_of fs) g (written_expressions_at b ids) (binds t front (ending (patterns_at t last.patterns.items) (part_over t last.value)))
   body_is t names [] [] last h g e f k = absurd h
   body_is t names [] (x ∷ front) last h g e f k = absurd h
   body_is t names (id ∷ []) [] last h g e f k =
-      w.last g (phrase_at b id.0) _ _ (h.0.means g e f.0 (left_empty (phrase_faults (names_of fs) g (phrase_at b id.0)) _ k))
+      w.last g (written_expression_at b id.0) _ _ (h.0.means g e f.0 (left_empty (written_expression_faults (names_of fs) g (written_expression_at b id.0)) _ k))
   body_is t names (id ∷ other ∷ ids) [] last h g e f k = absurd h.1
   body_is t names (id ∷ ids) (x ∷ front) last h g e f k =
-      let e0 = phrase_at b id.0 in
-      let here : phrase_faults (names_of fs) g e0 ≡ [] = left_empty (phrase_faults (names_of fs) g e0) _ k in
-      let later : phrases_faults (names_of fs) (after g e0) (phrases_at b ids) ≡ [] = right_empty (phrase_faults (names_of fs) g e0) _ k in
-      w.before g e0 (phrases_at b ids) _ _ _ (h.0.means g e f.0 here)
+      let e0 = written_expression_at b id.0 in
+      let here : written_expression_faults (names_of fs) g e0 ≡ [] = left_empty (written_expression_faults (names_of fs) g e0) _ k in
+      let later : written_expressions_faults (names_of fs) (after g e0) (written_expressions_at b ids) ≡ [] = right_empty (written_expression_faults (names_of fs) g e0) _ k in
+      w.before g e0 (written_expressions_at b ids) _ _ _ (h.0.means g e f.0 here)
       (body_is t (next_element names id) ids front last h.1 (after g e0) (element_bound fs g e0 f.0 here ∙ ap (λ n. bound_after n e0) e) f.1 later)
 
-  pub no_body : (m0 m1 : Checked) (bound wanted names : List ℕ) (ids : List PhraseId) (xs : List Element) (x : Part) → PartStands m1.tables x → xs ≡ []
-      → Did m0 m1 bound wanted (λ t. EachElementMeans fs b t names ids xs) → Did m0 m1 bound wanted (λ t. BodyMeans fs t names (phrases_at b ids) x)
+  pub no_body : (m0 m1 : Checked) (bound wanted names : List ℕ) (ids : List WrittenExpressionId) (xs : List Element) (x : Part) → PartStands m1.tables x → xs ≡ []
+      → Did m0 m1 bound wanted (λ t. EachElementMeans fs b t names ids xs) → Did m0 m1 bound wanted (λ t. BodyMeans fs t names (written_expressions_at b ids) x)
   no_body m0 m1 bound wanted names ids xs x st e d = record {
     grown = d.grown;
     bound_is = d.bound_is;
@@ -236,10 +236,10 @@ binds_kept t u on (e ∷ es) x h =
 pub elements_stand_on : (t u : Tables) → Extends t u → (es : List Element) → All (ElementStands t) es → All (ElementStands u) es
 elements_stand_on t u on es h = All-weaker (ElementStands t) (ElementStands u) (λ e s. (all_patterns_stand t u on e.patterns.items s.0, part_stands t u on e.value s.1)) es h
 
-pub body_done : (fs : List (List Head)) (b : Book) (m0 m1 m2 m3 : Checked) (bound wanted names : List ℕ) (ids : List PhraseId) (xs front : List Element) (last : Element) (end x : Part)
+pub body_done : (fs : List (List Head)) (b : NodeTable) (m0 m1 m2 m3 : Checked) (bound wanted names : List ℕ) (ids : List WrittenExpressionId) (xs front : List Element) (last : Element) (end x : Part)
     → xs ≡ front ++ last ∷ [] → Did m0 m1 bound wanted (λ t. EachElementMeans fs b t names ids xs)
     → PartPut m1 m2 (ending (patterns_at m1.tables last.patterns.items) (part_over m1.tables last.value)) end
-    → PartPut m2 m3 (binds m2.tables front (part_over m2.tables end)) x → Did m0 m3 bound wanted (λ t. BodyMeans fs t names (phrases_at b ids) x)
+    → PartPut m2 m3 (binds m2.tables front (part_over m2.tables end)) x → Did m0 m3 bound wanted (λ t. BodyMeans fs t names (written_expressions_at b ids) x)
 body_done fs b m0 m1 m2 m3 bound wanted names ids xs front last end x e d put_end put =
     let each : EachElementMeans fs b m1.tables names ids (front ++ last ∷ []) = subst (EachElementMeans fs b m1.tables names ids) e d.answer in
     let stand = All-pop (ElementStands m1.tables) xs front (Some last) e (each_stands fs b m1.tables names ids xs d.answer) in
@@ -250,7 +250,7 @@ body_done fs b m0 m1 m2 m3 bound wanted names ids xs front last end x e d put_en
       bound_is = d.bound_is;
       answer = record {
         stands = put.stands;
-        means = λ g h i f k. subst (BodyIs (names_of fs) g (phrases_at b ids)) (sym (put.is ∙ whole)) (body_is fs b m1.tables names ids front last each g h f k);
+        means = λ g h i f k. subst (BodyIs (names_of fs) g (written_expressions_at b ids)) (sym (put.is ∙ whole)) (body_is fs b m1.tables names ids front last each g h f k);
       };
     }
 
@@ -273,17 +273,17 @@ bind_step m0 m1 m2 all rest e l k whole is g h put was =
 
 -- ---- guards
 
-module _ (fs : List (List Head)) (b : Book) where
+module _ (fs : List (List Head)) (b : NodeTable) where
   abbrev pub next_tests : List ℕ → Tests → List ℕ
   next_tests names g = names
 
   abbrev pub EachTests : Tables → List ℕ → Tests → Alternative → Type 0
-  EachTests t names g a = PhrasesMean fs t names (phrases_at b g.tests.items) a.tests.items
+  EachTests t names g a = WrittenExpressionsMean fs t names (written_expressions_at b g.tests.items) a.tests.items
 
   pub each_tests_on : (t u : Tables) → Extends t u → (names : List ℕ) (g : Tests) (a : Alternative) → EachTests t names g a → EachTests u names g a
   each_tests_on t u on names g a h = record {
     stands = all_parts_stand t u on a.tests.items h.stands;
-    means = λ s e f k. subst (w.PhrasesAre (names_of fs) s (phrases_at b g.tests.items)) (sym (parts_kept t u on a.tests.items h.stands)) (h.means s e f k);
+    means = λ s e f k. subst (w.WrittenExpressionsAre (names_of fs) s (written_expressions_at b g.tests.items)) (sym (parts_kept t u on a.tests.items h.stands)) (h.means s e f k);
   }
 
   abbrev AlternativeStands : Tables → Alternative → Type 0
@@ -296,19 +296,19 @@ module _ (fs : List (List Head)) (b : Book) where
   alternatives_stand t names (g ∷ gs) [] h = absurd h
 
   alternatives_mean : (t : Tables) (names : List ℕ) (gs : List Tests) (ds : List Alternative) → Threaded next_tests (EachTests t) names gs ds
-      → (s : Sight) → s.bound ≡ names → ConditionFormed (alternatives_at b gs) → condition_faults (names_of fs) s (alternatives_at b gs) ≡ []
+      → (s : Scope) → s.bound ≡ names → ConditionFormed (alternatives_at b gs) → condition_faults (names_of fs) s (alternatives_at b gs) ≡ []
       → GuardIs (names_of fs) s (alternatives_at b gs) (alternatives_over t ds)
   alternatives_mean t names [] [] h s e f k = w.no_more_tests s
   alternatives_mean t names (g ∷ gs) (d ∷ ds) h s e f k =
-      let es = phrases_at b g.tests.items in
-      w.or_tests s es (alternatives_at b gs) _ _ (h.0.means s e f.0 (left_empty (phrases_faults (names_of fs) s es) _ k))
-      (alternatives_mean t names gs ds h.1 s e f.1 (right_empty (phrases_faults (names_of fs) s es) _ k))
+      let es = written_expressions_at b g.tests.items in
+      w.or_tests s es (alternatives_at b gs) _ _ (h.0.means s e f.0 (left_empty (written_expressions_faults (names_of fs) s es) _ k))
+      (alternatives_mean t names gs ds h.1 s e f.1 (right_empty (written_expressions_faults (names_of fs) s es) _ k))
   alternatives_mean t names [] (d ∷ ds) h s e f k = absurd h
   alternatives_mean t names (g ∷ gs) [] h s e f k = absurd h
 
   -- a guard that has an alternative is that of its list
   guard_means : (t : Tables) (names : List ℕ) (gs : List Tests) (ds : List Alternative) → Threaded next_tests (EachTests t) names gs ds
-      → (s : Sight) → s.bound ≡ names → HasAlternative (alternatives_at b gs) → ConditionFormed (alternatives_at b gs)
+      → (s : Scope) → s.bound ≡ names → HasAlternative (alternatives_at b gs) → ConditionFormed (alternatives_at b gs)
       → condition_faults (names_of fs) s (alternatives_at b gs) ≡ [] → GuardIs (names_of fs) s (alternatives_at b gs) (guard_from t ds)
   guard_means t names [] ds h s e some f k = absurd some
   guard_means t names (g ∷ gs) (d ∷ ds) h s e some f k = alternatives_mean t names (g ∷ gs) (d ∷ ds) h s e f k
@@ -323,7 +323,7 @@ module _ (fs : List (List Head)) (b : Book) where
       stands = subst (All (AlternativeStands m.tables)) (sym none) (All-nil (AlternativeStands m.tables));
       means = λ s _ some f k.
           subst (λ ds. GuardIs (names_of fs) s c (guard_from m.tables ds)) (sym none)
-          (subst (λ x. GuardIs (names_of fs) s x no_guard) (sym e) (w.or_tests s no_phrases no_tests no_trees no_alternatives (w.no_more s) (w.no_more_tests s)));
+          (subst (λ x. GuardIs (names_of fs) s x no_guard) (sym e) (w.or_tests s no_written_expressions no_tests no_trees no_alternatives (w.no_more s) (w.no_more_tests s)));
     };
   }
 
@@ -347,27 +347,27 @@ module _ (fs : List (List Head)) (b : Book) where
   -- ---- clauses
 
   pub branch_done : (m0 m1 m2 m3 : Checked) (b1 b2 b3 b4 names : List ℕ) (r : Branch) (y : PatternId) (d : Guard) (x : Part)
-      → Did m0 m1 b1 (bound_by names (shape_at b r.shape.0)) (λ t. ShapeMeans fs t names (shape_at b r.shape.0) y)
+      → Did m0 m1 b1 (bound_by names (written_pattern_at b r.written_pattern.0)) (λ t. WrittenPatternMeans fs t names (written_pattern_at b r.written_pattern.0) y)
       → Did m1 m2 b2 b1 (λ t. GuardMeans fs t b1 (condition_over b r.condition) d)
-      → Did m2 m3 b3 (all_bound_after b2 (phrases_at b r.body.items)) (λ t. BodyMeans fs t b2 (phrases_at b r.body.items) x)
+      → Did m2 m3 b3 (all_bound_after b2 (written_expressions_at b r.body.items)) (λ t. BodyMeans fs t b2 (written_expressions_at b r.body.items) x)
       → b4 ≡ take (length names) b3
       → Did m0 m3 b4 names (λ t. BranchMeans fs b t names r (record { pattern = y; guard = d; body = x }))
   branch_done m0 m1 m2 m3 b1 b2 b3 b4 names r y d x p1 p2 p3 cut =
-      let q = shape_at b r.shape.0 in
+      let q = written_pattern_at b r.written_pattern.0 in
       let on23 = p3.grown.tables in
       let on13 = (grown_on m1 m2 m3 p2.grown p3.grown).tables in
-      let asked = shape_means_on fs m1.tables m3.tables on13 names q y p1.answer in
+      let asked = written_pattern_means_on fs m1.tables m3.tables on13 names q y p1.answer in
       let at2 : b2 ≡ bound_by names q = p2.bound_is ∙ p1.bound_is in
       record {
         grown = grown_on m0 m1 m3 p1.grown (grown_on m1 m2 m3 p2.grown p3.grown);
-        bound_is = cut ∙ ap (take (length names)) (p3.bound_is ∙ ap (λ n. all_bound_after n (phrases_at b r.body.items)) at2) ∙ forgotten names q (phrases_at b r.body.items);
+        bound_is = cut ∙ ap (take (length names)) (p3.bound_is ∙ ap (λ n. all_bound_after n (written_expressions_at b r.body.items)) at2) ∙ forgotten names q (written_expressions_at b r.body.items);
         answer = record {
           stands = (asked.stands, guard_stands m2.tables m3.tables on23 d p2.answer.stands, p3.answer.stands);
           pattern = asked.means;
           guard = λ g e here some f k.
-              subst (GuardIs (names_of fs) (after_shape g q) (condition_over b r.condition)) (sym (guard_kept m2.tables m3.tables on23 d p2.answer.stands))
-              (p2.answer.means (after_shape g q) (shape_bound g q here ∙ ap (λ n. bound_by n q) e ∙ sym p1.bound_is) some f k);
-          body = λ g e here i f k. p3.answer.means (after_shape g q) (shape_bound g q here ∙ ap (λ n. bound_by n q) e ∙ sym at2) i f k;
+              subst (GuardIs (names_of fs) (after_written_pattern g q) (condition_over b r.condition)) (sym (guard_kept m2.tables m3.tables on23 d p2.answer.stands))
+              (p2.answer.means (after_written_pattern g q) (written_pattern_bound g q here ∙ ap (λ n. bound_by n q) e ∙ sym p1.bound_is) some f k);
+          body = λ g e here i f k. p3.answer.means (after_written_pattern g q) (written_pattern_bound g q here ∙ ap (λ n. bound_by n q) e ∙ sym at2) i f k;
         };
       }
 
@@ -379,12 +379,12 @@ module _ (fs : List (List Head)) (b : Book) where
 
   pub each_branch_on : (t u : Tables) → Extends t u → (names : List ℕ) (r : Branch) (c : Clause) → EachBranch t names r c → EachBranch u names r c
   each_branch_on t u on names r c h =
-      let q = shape_at b r.shape.0 in
+      let q = written_pattern_at b r.written_pattern.0 in
       record {
         stands = (pattern_stands t u on c.pattern h.stands.0, guard_stands t u on c.guard h.stands.1, part_stands t u on c.body h.stands.2);
-        pattern = λ g e f k. subst (w.ShapeIs (names_of fs) g q) (sym (on.patterns c.pattern.0 h.stands.0)) (h.pattern g e f k);
-        guard = λ g e here some f k. subst (GuardIs (names_of fs) (after_shape g q) (condition_over b r.condition)) (sym (guard_kept t u on c.guard h.stands.1)) (h.guard g e here some f k);
-        body = λ g e here i f k. subst (BodyIs (names_of fs) (after_shape g q) (phrases_at b r.body.items)) (sym (part_kept t u on c.body h.stands.2)) (h.body g e here i f k);
+        pattern = λ g e f k. subst (w.WrittenPatternIs (names_of fs) g q) (sym (on.patterns c.pattern.0 h.stands.0)) (h.pattern g e f k);
+        guard = λ g e here some f k. subst (GuardIs (names_of fs) (after_written_pattern g q) (condition_over b r.condition)) (sym (guard_kept t u on c.guard h.stands.1)) (h.guard g e here some f k);
+        body = λ g e here i f k. subst (BodyIs (names_of fs) (after_written_pattern g q) (written_expressions_at b r.body.items)) (sym (part_kept t u on c.body h.stands.2)) (h.body g e here i f k);
       }
 
   branches_stand : (t : Tables) (names : List ℕ) (rs : List Branch) (cs : List Clause) → Threaded next_branch (EachBranch t) names rs cs → All (ClauseStands t) cs
@@ -394,20 +394,20 @@ module _ (fs : List (List Head)) (b : Book) where
   branches_stand t names (r ∷ rs) [] h = absurd h
 
   branches_mean : (t : Tables) (names : List ℕ) (rs : List Branch) (cs : List Clause) → Threaded next_branch (EachBranch t) names rs cs
-      → (g : Sight) → g.bound ≡ names → BranchesFormed (branches_over b rs) → branches_faults (names_of fs) g (branches_over b rs) ≡ []
+      → (g : Scope) → g.bound ≡ names → BranchesFormed (branches_over b rs) → branches_faults (names_of fs) g (branches_over b rs) ≡ []
       → BranchesAre (names_of fs) g (branches_over b rs) (clauses_over t cs)
   branches_mean t names [] [] h g e f k = w.no_more_branches g
   branches_mean t names (r ∷ rs) (c ∷ cs) h g e f k =
-      let q = shape_at b r.shape.0 in
+      let q = written_pattern_at b r.written_pattern.0 in
       let n = names_of fs in
       let c1 = condition_over b r.condition in
-      let es = phrases_at b r.body.items in
-      let first : (shape_faults g q ++ condition_faults n (after_shape g q) c1) ++ phrases_faults n (after_shape g q) es ≡ [] = left_empty _ (branches_faults n g (branches_over b rs)) k in
-      let rest : branches_faults n g (branches_over b rs) ≡ [] = right_empty ((shape_faults g q ++ condition_faults n (after_shape g q) c1) ++ phrases_faults n (after_shape g q) es) _ k in
-      let in_body : phrases_faults n (after_shape g q) es ≡ [] = right_empty (shape_faults g q ++ condition_faults n (after_shape g q) c1) _ first in
-      let two : shape_faults g q ++ condition_faults n (after_shape g q) c1 ≡ [] = left_empty _ (phrases_faults n (after_shape g q) es) first in
-      let here : shape_faults g q ≡ [] = left_empty (shape_faults g q) _ two in
-      let in_guard : condition_faults n (after_shape g q) c1 ≡ [] = right_empty (shape_faults g q) _ two in
+      let es = written_expressions_at b r.body.items in
+      let first : (written_pattern_faults g q ++ condition_faults n (after_written_pattern g q) c1) ++ written_expressions_faults n (after_written_pattern g q) es ≡ [] = left_empty _ (branches_faults n g (branches_over b rs)) k in
+      let rest : branches_faults n g (branches_over b rs) ≡ [] = right_empty ((written_pattern_faults g q ++ condition_faults n (after_written_pattern g q) c1) ++ written_expressions_faults n (after_written_pattern g q) es) _ k in
+      let in_body : written_expressions_faults n (after_written_pattern g q) es ≡ [] = right_empty (written_pattern_faults g q ++ condition_faults n (after_written_pattern g q) c1) _ first in
+      let two : written_pattern_faults g q ++ condition_faults n (after_written_pattern g q) c1 ≡ [] = left_empty _ (written_expressions_faults n (after_written_pattern g q) es) first in
+      let here : written_pattern_faults g q ≡ [] = left_empty (written_pattern_faults g q) _ two in
+      let in_guard : condition_faults n (after_written_pattern g q) c1 ≡ [] = right_empty (written_pattern_faults g q) _ two in
       w.and_branches g q c1 es (branches_over b rs) _ _ _ _ (h.0.pattern g e f.0 here) (h.0.guard g e here f.1 f.2 in_guard) (h.0.body g e here f.3 f.4 in_body)
       (branches_mean t names rs cs h.1 g e f.5 rest)
   branches_mean t names [] (c ∷ cs) h g e f k = absurd h
@@ -432,12 +432,12 @@ module _ (fs : List (List Head)) (b : Book) where
 
 -- ---- parts are no deeper than the whole
 
-pub tests_shallow : (b : Book) (gs : List Tests) (k : ℕ) (d : Tests) → k < length gs → phrases_depth (phrases_at b (get_or gs k d).tests.items) ≤ condition_depth (alternatives_at b gs)
+pub tests_shallow : (b : NodeTable) (gs : List Tests) (k : ℕ) (d : Tests) → k < length gs → written_expressions_depth (written_expressions_at b (get_or gs k d).tests.items) ≤ condition_depth (alternatives_at b gs)
 tests_shallow b [] k d lt = absurd (omega arith)
 tests_shallow b (g ∷ gs) zero d lt = omega arith
 tests_shallow b (g ∷ gs) (suc k) d lt = let h = tests_shallow b gs k d (omega arith) in omega arith
 
-pub branch_shallow : (b : Book) (rs : List Branch) (k : ℕ) (d : Branch) → k < length rs → branch_depth b (get_or rs k d) ≤ branches_depth (branches_over b rs)
+pub branch_shallow : (b : NodeTable) (rs : List Branch) (k : ℕ) (d : Branch) → k < length rs → branch_depth b (get_or rs k d) ≤ branches_depth (branches_over b rs)
 branch_shallow b [] k d lt = absurd (omega arith)
 branch_shallow b (r ∷ rs) zero d lt = omega arith
 branch_shallow b (r ∷ rs) (suc k) d lt = let h = branch_shallow b rs k d (omega arith) in omega arith

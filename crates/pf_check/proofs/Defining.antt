@@ -6,10 +6,10 @@ use Rattle.std.proofs.lemmas.Bool.Decides.{nat_tests}
 use Rattle.std.proofs.lemmas.List.{append-nil, take-append-drop, at_drop_all}
 use Rattle.std.proofs.lemmas.List.Folds.{list_any-append}
 use Rattle.std.proofs.lemmas.List.Sums.{fold-append}
-use Rattle.pf_syntax.specs.Source.{Book, Head}
-use Rattle.pf_syntax.specs.SourceOver.{shapes_at}
-use Rattle.pf_syntax.specs.declared.written.ShapeId.{ShapeId}
-use Rattle.pf_syntax.specs.Sight.{no_sight}
+use Rattle.pf_syntax.specs.Source.{NodeTable, Head}
+use Rattle.pf_syntax.specs.SourceOver.{written_patterns_at}
+use Rattle.pf_syntax.specs.declared.written.WrittenPatternId.{WrittenPatternId}
+use Rattle.pf_syntax.specs.Scope.{no_scope}
 use Rattle.pf_check.specs.Static.{Fault, fault_if, own_in, is_named, is_builtin, parameters_of, defined_faults}
 use Rattle.pf_check.specs.Earliest.{earlier, earliest, kept}
 use Rattle.pf_check.specs.Listing.{Lists, Defines, lists, defined_fault}
@@ -130,8 +130,8 @@ whole_front xs i h = sym (append-nil (take i xs)) ∙ ap (λ r. take i xs ++ r) 
 
 -- the faults of the parts that are left
 pub record Onward (old now : Walk) (left all : List Fault) : Type 0 where
-  pub stands : Stands old.seen no_sight → Stands now.seen no_sight
-  pub found : Stands old.seen no_sight → earliest (kept now.first) left ≡ earliest (kept old.first) all
+  pub stands : Stands old.seen no_scope → Stands now.seen no_scope
+  pub found : Stands old.seen no_scope → earliest (kept now.first) left ≡ earliest (kept old.first) all
 
 pub onward_first : (w : Walk) (all : List Fault) → Onward w w all all
 onward_first w all = record { stands = λ st. st; found = λ st. refl }

@@ -4,10 +4,10 @@ use Rattle.std.specs.Prelude.{fold, map, flat_map}
 use Rattle.std.specs.List.{All}
 use Rattle.std.proofs.lemmas.List.{take_all}
 use Rattle.std.proofs.lemmas.List.Elements.{All-nil, All-cons, All-head, All-tail}
-use Rattle.pf_syntax.specs.Source.{Book, Head, Export}
-use Rattle.pf_syntax.specs.SourceOver.{shapes_at, phrases_at, condition_over, head_over}
-use Rattle.pf_syntax.specs.Sight.{no_sight, after_shapes}
-use Rattle.pf_syntax.specs.Naming.{ShapesAre, GuardIs, BodyIs, HeadIs}
+use Rattle.pf_syntax.specs.Source.{NodeTable, Head, Export}
+use Rattle.pf_syntax.specs.SourceOver.{written_patterns_at, written_expressions_at, condition_over, head_over}
+use Rattle.pf_syntax.specs.Scope.{no_scope, after_written_patterns}
+use Rattle.pf_syntax.specs.Naming.{WrittenPatternsAre, GuardIs, BodyIs, HeadIs}
 use Rattle.pf_syntax.specs.Tree.{Function as Made}
 use Rattle.pf_syntax.specs.Module.{Checked, Tables}
 use Rattle.pf_syntax.specs.Over.{patterns_at, guard_over, part_over, function_clause_over}
@@ -19,29 +19,29 @@ use Rattle.pf_syntax.specs.declared.node.Guard.{Guard}
 use Rattle.pf_syntax.specs.declared.node.FunctionClause.{FunctionClause}
 use Rattle.pf_syntax.specs.declared.node.Function.{Function}
 use Rattle.pf_syntax.specs.declared.written.Head.{Head as HeadNode}
-use Rattle.pf_check.specs.Static.{names_of, shapes_faults, condition_faults, phrases_faults, head_faults, parameters_of}
+use Rattle.pf_check.specs.Static.{names_of, written_patterns_faults, condition_faults, written_expressions_faults, head_faults, parameters_of}
 use Rattle.pf_check.specs.Formed.{HeadFormed, FunctionFormed, AreFormed}
 use Rattle.pf_check.specs.Bound.{all_bound_by, all_bound_after}
 use Rattle.pf_check.specs.Checks.{Pairwise, FunctionIs, is_exported}
-use Rattle.pf_check.specs.Built.{Did, ShapesMean, GuardMeans, BodyMeans}
+use Rattle.pf_check.specs.Built.{Did, WrittenPatternsMean, GuardMeans, BodyMeans}
 use Rattle.pf_check.specs.Heads.{HeadMeans, HeadsMean, FunctionMeans}
 use Rattle.pf_check.proofs.Growing.{grown_on}
 use Rattle.pf_check.proofs.Threads.{Threaded, SoFar}
-use Rattle.pf_check.proofs.Shapes_mean.{left_empty, right_empty, shapes_bound}
+use Rattle.pf_check.proofs.WrittenPatterns_mean.{left_empty, right_empty, written_patterns_bound}
 
-module _ (fs : List (List Head)) (b : Book) where
+module _ (fs : List (List Head)) (b : NodeTable) where
   pub clause_done : (m0 m1 m2 m3 : Checked) (b1 b2 b3 b4 names : List ℕ) (h : HeadNode) (ys : List PatternId) (d : Guard) (x : Part) (c : FunctionClause)
       → names ≡ [] → c.parameters.items ≡ ys → c.guard ≡ d → c.body ≡ x
-      → Did m0 m1 b1 (all_bound_by names (shapes_at b h.parameters.items)) (λ t. ShapesMean fs t names (shapes_at b h.parameters.items) ys)
+      → Did m0 m1 b1 (all_bound_by names (written_patterns_at b h.parameters.items)) (λ t. WrittenPatternsMean fs t names (written_patterns_at b h.parameters.items) ys)
       → Did m1 m2 b2 b1 (λ t. GuardMeans fs t b1 (condition_over b h.condition) d)
-      → Did m2 m3 b3 (all_bound_after b2 (phrases_at b h.body.items)) (λ t. BodyMeans fs t b2 (phrases_at b h.body.items) x)
+      → Did m2 m3 b3 (all_bound_after b2 (written_expressions_at b h.body.items)) (λ t. BodyMeans fs t b2 (written_expressions_at b h.body.items) x)
       → b4 ≡ [] → Did m0 m3 b4 [] (λ t. HeadMeans fs t (head_over b h) c)
   clause_done m0 m1 m2 m3 b1 b2 b3 b4 names h ys d x c none cys cd cx p1 p2 p3 cut =
       let n = names_of fs in
-      let qs = shapes_at b h.parameters.items in
+      let qs = written_patterns_at b h.parameters.items in
       let c1 = condition_over b h.condition in
-      let es = phrases_at b h.body.items in
-      let s = after_shapes no_sight qs in
+      let es = written_expressions_at b h.body.items in
+      let s = after_written_patterns no_scope qs in
       let on23 = p3.grown.tables in
       let on13 = (grown_on m1 m2 m3 p2.grown p3.grown).tables in
       let at2 : b2 ≡ all_bound_by names qs = p2.bound_is ∙ p1.bound_is in
@@ -58,13 +58,13 @@ module _ (fs : List (List Head)) (b : Book) where
             subst (λ y. PartStands m3.tables y) (sym cx) p3.answer.stands,
           );
           means = λ f k.
-              let two : shapes_faults no_sight qs ++ condition_faults n s c1 ≡ [] = left_empty _ (phrases_faults n s es) k in
-              let in_body : phrases_faults n s es ≡ [] = right_empty (shapes_faults no_sight qs ++ condition_faults n s c1) _ k in
-              let here : shapes_faults no_sight qs ≡ [] = left_empty (shapes_faults no_sight qs) _ two in
-              let in_guard : condition_faults n s c1 ≡ [] = right_empty (shapes_faults no_sight qs) _ two in
-              let seen : s.bound ≡ all_bound_by names qs = shapes_bound no_sight qs here ∙ ap (λ l. all_bound_by l qs) (sym none) in
+              let two : written_patterns_faults no_scope qs ++ condition_faults n s c1 ≡ [] = left_empty _ (written_expressions_faults n s es) k in
+              let in_body : written_expressions_faults n s es ≡ [] = right_empty (written_patterns_faults no_scope qs ++ condition_faults n s c1) _ k in
+              let here : written_patterns_faults no_scope qs ≡ [] = left_empty (written_patterns_faults no_scope qs) _ two in
+              let in_guard : condition_faults n s c1 ≡ [] = right_empty (written_patterns_faults no_scope qs) _ two in
+              let seen : s.bound ≡ all_bound_by names qs = written_patterns_bound no_scope qs here ∙ ap (λ l. all_bound_by l qs) (sym none) in
               record {
-                parameters = subst (λ y. ShapesAre n no_sight qs y) (sym front) (p1.answer.means no_sight (sym none) f.0 here);
+                parameters = subst (λ y. WrittenPatternsAre n no_scope qs y) (sym front) (p1.answer.means no_scope (sym none) f.0 here);
                 guard = subst (λ y. GuardIs n s c1 y) (sym middle) (p2.answer.means s (seen ∙ sym p1.bound_is) f.1 f.2 in_guard);
                 body = subst (λ y. BodyIs n s es y) (sym end) (p3.answer.means s (seen ∙ sym at2) f.3 f.4 in_body);
               };

@@ -5,9 +5,9 @@ use Rattle.std.specs.List.{position_from}
 use Rattle.std.proofs.lemmas.List.{take_more}
 use Rattle.std.proofs.lemmas.Iterator.Adapters.{position_from-zero}
 use Rattle.std.proofs.lemmas.Bool.Decides.{nat_tests}
-use Rattle.pf_syntax.specs.Source.{Book, Head}
-use Rattle.pf_syntax.specs.SourceOver.{shapes_at, head_over, heads_over}
-use Rattle.pf_syntax.specs.declared.written.ShapeId.{ShapeId}
+use Rattle.pf_syntax.specs.Source.{NodeTable, Head}
+use Rattle.pf_syntax.specs.SourceOver.{written_patterns_at, head_over, heads_over}
+use Rattle.pf_syntax.specs.declared.written.WrittenPatternId.{WrittenPatternId}
 use Rattle.pf_syntax.specs.declared.written.Head.{Head as HeadNode}
 use Rattle.pf_syntax.specs.declared.written.WrittenFunction.{WrittenFunction}
 use Rattle.pf_check.specs.Static.{own_in, is_named, parameters_of}
@@ -63,14 +63,14 @@ length-taken [] (suc k) h = absurd (omega arith)
 length-taken (x ∷ xs) (suc k) h = let e = length-taken xs k (omega arith) in omega arith
 
 -- the functions so far, and the next one
-pub next_function : (b : Book) (ws : List WrittenFunction) (fs : List (List Head)) (k : ℕ) (x : WrittenFunction) → map (heads_over b) ws ≡ fs → k < length ws → x ≡ get_or ws k x
+pub next_function : (b : NodeTable) (ws : List WrittenFunction) (fs : List (List Head)) (k : ℕ) (x : WrittenFunction) → map (heads_over b) ws ≡ fs → k < length ws → x ≡ get_or ws k x
     → take (k + 1) fs ≡ take k fs ++ heads_over b x ∷ []
 next_function b ws fs k x e lt at =
     let more = take_more (map (heads_over b) ws) k (heads_over b x) (omega (arith, length_mapped (heads_over b) ws)) in
     let item = get_or-map (heads_over b) ws k x in
     ap (take (k + 1)) (sym e) ∙ more ∙ ap (λ y. take k (map (heads_over b) ws) ++ y ∷ []) (item ∙ ap (heads_over b) (sym at)) ∙ ap (λ l. take k l ++ heads_over b x ∷ []) e
 
-pub knows_more : (b : Book) (ws : List WrittenFunction) (fs : List (List Head)) (k : ℕ) (x : WrittenFunction) (f a : ℕ) (old new : Option ℕ) → map (heads_over b) ws ≡ fs → k < length ws → x ≡ get_or ws k x
+pub knows_more : (b : NodeTable) (ws : List WrittenFunction) (fs : List (List Head)) (k : ℕ) (x : WrittenFunction) (f a : ℕ) (old new : Option ℕ) → map (heads_over b) ws ≡ fs → k < length ws → x ≡ get_or ws k x
     → old ≡ own_in (take k fs) f a → new ≡ first_of old (if is_named f a (heads_over b x) then Some k else None) → new ≡ own_in (take (k + 1) fs) f a
 knows_more b ws fs k x f a old new e lt at h n =
     let long : length (take k fs) ≡ k = length-taken fs k (omega (arith, ap length e, length_mapped (heads_over b) ws)) in
@@ -81,14 +81,14 @@ knows_more b ws fs k x f a old new e lt at h n =
 
 -- ---- a function's name
 
-pub named_first : (b : Book) (f a : ℕ) (hs : List HeadNode) (h : HeadNode) → Some h ≡ slice_get hs 0
+pub named_first : (b : NodeTable) (f a : ℕ) (hs : List HeadNode) (h : HeadNode) → Some h ≡ slice_get hs 0
     → same_key (h.word.name.0, length h.parameters.items) (f, a) ≡ is_named f a (map (head_over b) hs)
 named_first b f a [] h e = cc
 named_first b f a (x ∷ hs) h e =
     let same : h ≡ x = cc in
     ap (λ y. same_key (y.word.name.0, length y.parameters.items) (f, a)) same ∙ ap (λ n. nat_eq x.word.name.0 f && nat_eq n a) (sym (parameters_length b x.parameters.items))
 
-pub unnamed : (b : Book) (f a : ℕ) (hs : List HeadNode) → None ≡ slice_get hs 0 → false ≡ is_named f a (map (head_over b) hs)
+pub unnamed : (b : NodeTable) (f a : ℕ) (hs : List HeadNode) → None ≡ slice_get hs 0 → false ≡ is_named f a (map (head_over b) hs)
 unnamed b f a [] e = refl
 unnamed b f a (x ∷ hs) e = cc
 

@@ -14,9 +14,9 @@ pub mod Outcomes
 pub mod Places_of
 pub mod Growing
 pub mod Threads
-pub mod Shapes_mean
+pub mod WrittenPatterns_mean
 pub mod Lists_put
-pub mod Phrases_mean
+pub mod WrittenExpressions_mean
 pub mod Bodies_mean
 pub mod Knows_more
 pub mod Heads_mean

@@ -4,18 +4,18 @@ use Rattle.std.specs.Prelude.{if◌then◌else◌, ◌&&◌, ◌||◌, is_some}
 use Rattle.std.proofs.lemmas.List.Sums.{fold-append}
 use Rattle.std.proofs.lemmas.List.{append-nil, at_drop_more}
 use Rattle.std.proofs.Math.Seq.{drop-append_seam}
-use Rattle.pf_syntax.specs.Shape.{Shape, Shapes, no_shapes, shape, variable}
-use Rattle.pf_syntax.specs.Phrase.{Phrase, Phrases, Condition, Branches, no_phrases, phrase, no_tests, tests, no_branches, branch, call}
-use Rattle.pf_syntax.specs.Sight.{Sight, has, is_new, after_shape, after_shapes, after, after_all, ends_of}
-use Rattle.pf_syntax.specs.Sight.{names_of as seen_names}
+use Rattle.pf_syntax.specs.WrittenPattern.{WrittenPattern, WrittenPatterns, no_written_patterns, written_pattern, variable}
+use Rattle.pf_syntax.specs.WrittenExpression.{WrittenExpression, WrittenExpressions, Condition, Branches, no_written_expressions, written_expression, no_tests, tests, no_branches, branch, call}
+use Rattle.pf_syntax.specs.Scope.{Scope, has, is_new, after_written_pattern, after_written_patterns, after, after_all, ends_of}
+use Rattle.pf_syntax.specs.Scope.{names_of as seen_names}
 use Rattle.pf_syntax.specs.Naming.{Names, arity_of}
-use Rattle.pf_syntax.specs.Source.{Book, Head}
-use Rattle.pf_syntax.specs.SourceOver.{phrases_at}
-use Rattle.pf_syntax.specs.declared.written.PhraseId.{PhraseId}
-use Rattle.pf_check.specs.Static.{Fault, fault_if, names_of, own_in, is_defined, shape_faults, shapes_faults, phrase_faults, phrases_faults, condition_faults, branches_faults}
+use Rattle.pf_syntax.specs.Source.{NodeTable, Head}
+use Rattle.pf_syntax.specs.SourceOver.{written_expressions_at}
+use Rattle.pf_syntax.specs.declared.written.WrittenExpressionId.{WrittenExpressionId}
+use Rattle.pf_check.specs.Static.{Fault, fault_if, names_of, own_in, is_defined, written_pattern_faults, written_patterns_faults, written_expression_faults, written_expressions_faults, condition_faults, branches_faults}
 use Rattle.pf_check.specs.Earliest.{earlier, earliest, kept}
 use Rattle.pf_check.specs.Marks.{Stands, Trails, Binds, seen_of, left_of, is_marked}
-use Rattle.pf_check.specs.Walking.{Walks, Clauses, SafeWalked, CallWalked, ShapeWalked, ShapesWalked, PhraseWalked, PhrasesWalked, TestsWalked, ConditionWalked, BranchesWalked, BranchWalked}
+use Rattle.pf_check.specs.Walking.{Walks, Clauses, SafeWalked, CallWalked, WrittenPatternWalked, WrittenPatternsWalked, WrittenExpressionWalked, WrittenExpressionsWalked, TestsWalked, ConditionWalked, BranchesWalked, BranchWalked}
 use Rattle.pf_check.specs.declared.seen.Status.{Status}
 use Rattle.pf_check.specs.declared.seen.Status.TheVariants.{New, Unsafe}
 use Rattle.pf_check.specs.declared.walk.Walk.{Walk}
@@ -35,7 +35,7 @@ next_item F xs i x h e = at_drop_more F xs i x h ∙ ap (λ y. F (y ∷ drop (i 
 pub walks_nothing : (w : Walk) → Walks w w (λ g. g) (λ g. [])
 walks_nothing w = record { trails = trails_nothing w.seen; stands = λ g st. st; found = λ g st. refl }
 
-pub walks_then : (a b c : Walk) (f h : Sight → Sight) (s t : Sight → List Fault) → Walks a b f s → Walks b c h t → Walks a c (λ g. h (f g)) (λ g. s g ++ t (f g))
+pub walks_then : (a b c : Walk) (f h : Scope → Scope) (s t : Scope → List Fault) → Walks a b f s → Walks b c h t → Walks a c (λ g. h (f g)) (λ g. s g ++ t (f g))
 walks_then a b c f h s t x y = record {
   trails = trails_then a.seen b.seen c.seen x.trails y.trails;
   stands = λ g st. y.stands (f g) (x.stands g st);
@@ -48,17 +48,17 @@ walks_then a b c f h s t x y = record {
 -- ---- a walk that is underway
 
 -- what was walked and what is left are the whole
-pub record Underway (old now : Walk) (whole rest : Sight → Sight) (all left : Sight → List Fault) : Type 0 where
+pub record Underway (old now : Walk) (whole rest : Scope → Scope) (all left : Scope → List Fault) : Type 0 where
   pub trails : Trails old.seen now.seen
-  pub here : (g : Sight) → Stands old.seen g → Sight
-  pub stands : (g : Sight) (st : Stands old.seen g) → Stands now.seen (here g st)
-  pub onward : (g : Sight) (st : Stands old.seen g) → rest (here g st) ≡ whole g
-  pub found : (g : Sight) (st : Stands old.seen g) → earliest (kept now.first) (left (here g st)) ≡ earliest (kept old.first) (all g)
+  pub here : (g : Scope) → Stands old.seen g → Scope
+  pub stands : (g : Scope) (st : Stands old.seen g) → Stands now.seen (here g st)
+  pub onward : (g : Scope) (st : Stands old.seen g) → rest (here g st) ≡ whole g
+  pub found : (g : Scope) (st : Stands old.seen g) → earliest (kept now.first) (left (here g st)) ≡ earliest (kept old.first) (all g)
 
-pub underway_first : (w : Walk) (whole : Sight → Sight) (all : Sight → List Fault) → Underway w w whole whole all all
+pub underway_first : (w : Walk) (whole : Scope → Scope) (all : Scope → List Fault) → Underway w w whole whole all all
 underway_first w whole all = record { trails = trails_nothing w.seen; here = λ g st. g; stands = λ g st. st; onward = λ g st. refl; found = λ g st. refl }
 
-pub underway_more : (old now next : Walk) (whole rest f : Sight → Sight) (all left s : Sight → List Fault) → Underway old now whole (λ g. rest (f g)) all (λ g. s g ++ left (f g)) → Walks now next f s → Underway old next whole rest all left
+pub underway_more : (old now next : Walk) (whole rest f : Scope → Scope) (all left s : Scope → List Fault) → Underway old now whole (λ g. rest (f g)) all (λ g. s g ++ left (f g)) → Walks now next f s → Underway old next whole rest all left
 underway_more old now next whole rest f all left s u w = record {
   trails = trails_then old.seen now.seen next.seen u.trails w.trails;
   here = λ g st. f (u.here g st);
@@ -71,7 +71,7 @@ underway_more old now next whole rest f all left s u w = record {
       ∙ u.found g st;
 }
 
-pub underway_all : (old now : Walk) (whole : Sight → Sight) (all : Sight → List Fault) → Underway old now whole (λ g. g) all (λ g. []) → Walks old now whole all
+pub underway_all : (old now : Walk) (whole : Scope → Scope) (all : Scope → List Fault) → Underway old now whole (λ g. g) all (λ g. []) → Walks old now whole all
 underway_all old now whole all u = record {
   trails = u.trails;
   stands = λ g st. subst (Stands now.seen) (u.onward g st) (u.stands g st);
@@ -80,31 +80,31 @@ underway_all old now whole all u = record {
 
 -- ---- patterns
 
-abbrev pub ShapesUnderway : Walk → Walk → Shapes → Shapes → Type 0
-ShapesUnderway old now qs left = Underway old now (λ g. after_shapes g qs) (λ g. after_shapes g left) (λ g. shapes_faults g qs) (λ g. shapes_faults g left)
+abbrev pub WrittenPatternsUnderway : Walk → Walk → WrittenPatterns → WrittenPatterns → Type 0
+WrittenPatternsUnderway old now qs left = Underway old now (λ g. after_written_patterns g qs) (λ g. after_written_patterns g left) (λ g. written_patterns_faults g qs) (λ g. written_patterns_faults g left)
 
-pub shapes_more : (old now next : Walk) (qs left rest : Shapes) (q : Shape) → left ≡ shape q rest → ShapesUnderway old now qs left → ShapeWalked now next q → ShapesUnderway old next qs rest
-shapes_more old now next qs left rest q e u w =
-    underway_more old now next (λ g. after_shapes g qs) (λ g. after_shapes g rest) (λ g. after_shape g q) (λ g. shapes_faults g qs) (λ g. shapes_faults g rest) (λ g. shape_faults g q) (subst (ShapesUnderway old now qs) e u) w
+pub written_patterns_more : (old now next : Walk) (qs left rest : WrittenPatterns) (q : WrittenPattern) → left ≡ written_pattern q rest → WrittenPatternsUnderway old now qs left → WrittenPatternWalked now next q → WrittenPatternsUnderway old next qs rest
+written_patterns_more old now next qs left rest q e u w =
+    underway_more old now next (λ g. after_written_patterns g qs) (λ g. after_written_patterns g rest) (λ g. after_written_pattern g q) (λ g. written_patterns_faults g qs) (λ g. written_patterns_faults g rest) (λ g. written_pattern_faults g q) (subst (WrittenPatternsUnderway old now qs) e u) w
 
-pub shapes_all : (old now : Walk) (qs left : Shapes) → left ≡ no_shapes → ShapesUnderway old now qs left → ShapesWalked old now qs
-shapes_all old now qs left e u = underway_all old now (λ g. after_shapes g qs) (λ g. shapes_faults g qs) (subst (ShapesUnderway old now qs) e u)
+pub written_patterns_all : (old now : Walk) (qs left : WrittenPatterns) → left ≡ no_written_patterns → WrittenPatternsUnderway old now qs left → WrittenPatternsWalked old now qs
+written_patterns_all old now qs left e u = underway_all old now (λ g. after_written_patterns g qs) (λ g. written_patterns_faults g qs) (subst (WrittenPatternsUnderway old now qs) e u)
 
-pub shape_behind : (a b c : Walk) (qs : Shapes) (q : Shape) → ShapesWalked a b qs → ShapeWalked b c q → Walks a c (λ g. after_shape (after_shapes g qs) q) (λ g. shapes_faults g qs ++ shape_faults (after_shapes g qs) q)
-shape_behind a b c qs q x y =
-    walks_then a b c (λ g. after_shapes g qs) (λ g. after_shape g q) (λ g. shapes_faults g qs) (λ g. shape_faults g q) x y
+pub written_pattern_behind : (a b c : Walk) (qs : WrittenPatterns) (q : WrittenPattern) → WrittenPatternsWalked a b qs → WrittenPatternWalked b c q → Walks a c (λ g. after_written_pattern (after_written_patterns g qs) q) (λ g. written_patterns_faults g qs ++ written_pattern_faults (after_written_patterns g qs) q)
+written_pattern_behind a b c qs q x y =
+    walks_then a b c (λ g. after_written_patterns g qs) (λ g. after_written_pattern g q) (λ g. written_patterns_faults g qs) (λ g. written_pattern_faults g q) x y
 
 -- ---- expressions
 
-abbrev pub PhrasesUnderway : Names → Walk → Walk → Phrases → Phrases → Type 0
-PhrasesUnderway n old now es left = Underway old now (λ g. after_all g es) (λ g. after_all g left) (λ g. phrases_faults n g es) (λ g. phrases_faults n g left)
+abbrev pub WrittenExpressionsUnderway : Names → Walk → Walk → WrittenExpressions → WrittenExpressions → Type 0
+WrittenExpressionsUnderway n old now es left = Underway old now (λ g. after_all g es) (λ g. after_all g left) (λ g. written_expressions_faults n g es) (λ g. written_expressions_faults n g left)
 
-pub phrases_more : (n : Names) (old now next : Walk) (es left rest : Phrases) (e : Phrase) → left ≡ phrase e rest → PhrasesUnderway n old now es left → PhraseWalked n now next e → PhrasesUnderway n old next es rest
-phrases_more n old now next es left rest e p u w =
-    underway_more old now next (λ g. after_all g es) (λ g. after_all g rest) (λ g. after g e) (λ g. phrases_faults n g es) (λ g. phrases_faults n g rest) (λ g. phrase_faults n g e) (subst (PhrasesUnderway n old now es) p u) w
+pub written_expressions_more : (n : Names) (old now next : Walk) (es left rest : WrittenExpressions) (e : WrittenExpression) → left ≡ written_expression e rest → WrittenExpressionsUnderway n old now es left → WrittenExpressionWalked n now next e → WrittenExpressionsUnderway n old next es rest
+written_expressions_more n old now next es left rest e p u w =
+    underway_more old now next (λ g. after_all g es) (λ g. after_all g rest) (λ g. after g e) (λ g. written_expressions_faults n g es) (λ g. written_expressions_faults n g rest) (λ g. written_expression_faults n g e) (subst (WrittenExpressionsUnderway n old now es) p u) w
 
-pub phrases_all : (n : Names) (old now : Walk) (es left : Phrases) → left ≡ no_phrases → PhrasesUnderway n old now es left → PhrasesWalked n old now es
-phrases_all n old now es left p u = underway_all old now (λ g. after_all g es) (λ g. phrases_faults n g es) (subst (PhrasesUnderway n old now es) p u)
+pub written_expressions_all : (n : Names) (old now : Walk) (es left : WrittenExpressions) → left ≡ no_written_expressions → WrittenExpressionsUnderway n old now es left → WrittenExpressionsWalked n old now es
+written_expressions_all n old now es left p u = underway_all old now (λ g. after_all g es) (λ g. written_expressions_faults n g es) (subst (WrittenExpressionsUnderway n old now es) p u)
 
 -- a name is found among the functions of the module, or in vain
 defined_is : (fs : List (List Head)) (o : Signatures) (f k : ℕ) → Lists o fs → lists o f k ≡ is_defined (names_of fs) f k
@@ -114,30 +114,30 @@ defined_is fs o f k l = l.same f k ∙ sym (or_no (is_some (own_in fs f k)))
     or_no true = refl
     or_no false = refl
 
-pub called : (fs : List (List Head)) (o : Signatures) (book : Book) (a b c : Walk) (f at k : ℕ) (ids args : List PhraseId) → Lists o fs → k ≡ length ids → args ≡ ids → CallWalked o a b f at k → PhrasesWalked (names_of fs) b c (phrases_at book args) → PhraseWalked (names_of fs) a c (call f at (phrases_at book ids))
-called fs o book a b c f at k ids args l e d x y =
+pub called : (fs : List (List Head)) (o : Signatures) (node_table : NodeTable) (a b c : Walk) (f at k : ℕ) (ids args : List WrittenExpressionId) → Lists o fs → k ≡ length ids → args ≡ ids → CallWalked o a b f at k → WrittenExpressionsWalked (names_of fs) b c (written_expressions_at node_table args) → WrittenExpressionWalked (names_of fs) a c (call f at (written_expressions_at node_table ids))
+called fs o node_table a b c f at k ids args l e d x y =
     let n = names_of fs in
-    let es = phrases_at book ids in
-    let z : PhrasesWalked n b c es = subst (λ (is : List PhraseId). PhrasesWalked n b c (phrases_at book is)) d y in
-    let same : lists o f k ≡ is_defined n f (arity_of es) = defined_is fs o f k l ∙ ap (is_defined n f) (e ∙ sym (arity_length book ids)) in
+    let es = written_expressions_at node_table ids in
+    let z : WrittenExpressionsWalked n b c es = subst (λ (is : List WrittenExpressionId). WrittenExpressionsWalked n b c (written_expressions_at node_table is)) d y in
+    let same : lists o f k ≡ is_defined n f (arity_of es) = defined_is fs o f k l ∙ ap (is_defined n f) (e ∙ sym (arity_length node_table ids)) in
     let w : Walks a b (λ g. g) (λ g. if is_defined n f (arity_of es) then [] else fault_if true 8 at) =
     subst (λ (v : Bool). Walks a b (λ g. g) (λ g. if v then [] else fault_if true 8 at)) same x in
-    walks_then a b c (λ g. g) (λ g. after_all g es) (λ g. if is_defined n f (arity_of es) then [] else fault_if true 8 at) (λ g. phrases_faults n g es) w z
+    walks_then a b c (λ g. g) (λ g. after_all g es) (λ g. if is_defined n f (arity_of es) then [] else fault_if true 8 at) (λ g. written_expressions_faults n g es) w z
 
 -- ---- guards
 
 abbrev pub ConditionUnderway : Names → Walk → Walk → Condition → Condition → Type 0
 ConditionUnderway n old now c left = Underway old now (λ g. g) (λ g. g) (λ g. condition_faults n g c) (λ g. condition_faults n g left)
 
-pub condition_more : (n : Names) (old now next : Walk) (c left rest : Condition) (es : Phrases) → left ≡ tests es rest → ConditionUnderway n old now c left → TestsWalked n now next es → ConditionUnderway n old next c rest
+pub condition_more : (n : Names) (old now next : Walk) (c left rest : Condition) (es : WrittenExpressions) → left ≡ tests es rest → ConditionUnderway n old now c left → TestsWalked n now next es → ConditionUnderway n old next c rest
 condition_more n old now next c left rest es e u w =
-    underway_more old now next (λ g. g) (λ g. g) (λ g. g) (λ g. condition_faults n g c) (λ g. condition_faults n g rest) (λ g. phrases_faults n g es) (subst (ConditionUnderway n old now c) e u) w
+    underway_more old now next (λ g. g) (λ g. g) (λ g. g) (λ g. condition_faults n g c) (λ g. condition_faults n g rest) (λ g. written_expressions_faults n g es) (subst (ConditionUnderway n old now c) e u) w
 
 pub condition_all : (n : Names) (old now : Walk) (c left : Condition) → left ≡ no_tests → ConditionUnderway n old now c left → ConditionWalked n old now c
 condition_all n old now c left e u = underway_all old now (λ g. g) (λ g. condition_faults n g c) (subst (ConditionUnderway n old now c) e u)
 
 -- the tests of an alternative are walked, and what they left is forgotten
-pub walks_back : (a b c : Walk) (f : Sight → Sight) (s : Sight → List Fault) → Walks a b f s → kept c.first ≡ kept b.first
+pub walks_back : (a b c : Walk) (f : Scope → Scope) (s : Scope → List Fault) → Walks a b f s → kept c.first ≡ kept b.first
     → ((x : ℕ) → seen_of c.seen x ≡ (if has (drop (length (left_of a.seen)) (left_of b.seen)) x then New else seen_of b.seen x))
     → left_of c.seen ≡ take (length (left_of a.seen)) (left_of b.seen) → Walks a c (λ g. g) s
 walks_back a b c f s w k set trail =
@@ -151,7 +151,7 @@ walks_back a b c f s w k set trail =
 -- ---- clauses
 
 -- a clause is walked, and what it left is new again
-pub clause_closed : (a b c : Walk) (f : Sight → Sight) (s : Sight → List Fault) → Walks a b f s → kept c.first ≡ kept b.first
+pub clause_closed : (a b c : Walk) (f : Scope → Scope) (s : Scope → List Fault) → Walks a b f s → kept c.first ≡ kept b.first
     → ((x : ℕ) → seen_of c.seen x ≡ (if has (drop (length (left_of a.seen)) (left_of b.seen)) x then New else seen_of b.seen x))
     → left_of c.seen ≡ left_of b.seen → Clauses a c (λ g. seen_names (f g)) s
 clause_closed a b c f s w k set trail =
@@ -173,7 +173,7 @@ clause_closed a b c f s w k set trail =
 
 -- ---- a variable of a pattern
 
-pub binds : (a b c : Walk) (y at : ℕ) → SafeWalked a b y at → Binds b.seen c.seen y → c.first ≡ b.first → ShapeWalked a c (variable y at)
+pub binds : (a b c : Walk) (y at : ℕ) → SafeWalked a b y at → Binds b.seen c.seen y → c.first ≡ b.first → WrittenPatternWalked a c (variable y at)
 binds a b c y at w d e = record {
   trails = trails_then a.seen b.seen c.seen w.trails d.trails;
   stands = λ g st. d.stands g (w.stands g st);
@@ -183,15 +183,15 @@ binds a b c y at w d e = record {
 -- ---- clauses that are underway
 
 -- what was walked and what is left are the whole
-pub record ClausesUnderway (old now : Walk) (ends rest : Sight → List ℕ) (all left : Sight → List Fault) : Type 0 where
+pub record ClausesUnderway (old now : Walk) (ends rest : Scope → List ℕ) (all left : Scope → List Fault) : Type 0 where
   pub names : List ℕ
   pub longer : left_of now.seen ≡ left_of old.seen ++ names
   pub same : Same old.seen now.seen
   pub fresh : (x : ℕ) → has names x ≡ true → is_marked (seen_of old.seen x) ≡ false
-  pub named : (g : Sight) → Stands old.seen g → (x : ℕ) → (has names x || (is_new g x && has (rest g) x)) ≡ (is_new g x && has (ends g) x)
-  pub found : (g : Sight) → Stands old.seen g → earliest (kept now.first) (left g) ≡ earliest (kept old.first) (all g)
+  pub named : (g : Scope) → Stands old.seen g → (x : ℕ) → (has names x || (is_new g x && has (rest g) x)) ≡ (is_new g x && has (ends g) x)
+  pub found : (g : Scope) → Stands old.seen g → earliest (kept now.first) (left g) ≡ earliest (kept old.first) (all g)
 
-pub clauses_first : (w : Walk) (ends : Sight → List ℕ) (all : Sight → List Fault) → ClausesUnderway w w ends ends all all
+pub clauses_first : (w : Walk) (ends : Scope → List ℕ) (all : Scope → List Fault) → ClausesUnderway w w ends ends all all
 clauses_first w ends all = record {
   names = [];
   longer = sym (append-nil (left_of w.seen));
@@ -210,7 +210,7 @@ one_more true k n s r e = refl
 one_more false k true s r e = ap (λ (v : Bool). v || r) e
 one_more false k false s r e = ap (λ (v : Bool). v || false) e
 
-pub clauses_more : (old now next : Walk) (ends rest some : Sight → List ℕ) (all left s : Sight → List Fault) → ClausesUnderway old now ends (λ g. some g ++ rest g) all (λ g. s g ++ left g) → Clauses now next some s → ClausesUnderway old next ends rest all left
+pub clauses_more : (old now next : Walk) (ends rest some : Scope → List ℕ) (all left s : Scope → List Fault) → ClausesUnderway old now ends (λ g. some g ++ rest g) all (λ g. s g ++ left g) → Clauses now next some s → ClausesUnderway old next ends rest all left
 clauses_more old now next ends rest some all left s u c = record {
   names = u.names ++ c.names;
   longer = c.longer ∙ ap (λ (l : List ℕ). l ++ c.names) u.longer ∙ append_assoc (left_of old.seen) u.names c.names;
@@ -255,21 +255,21 @@ branches_all n old now new bs left e v k set trail =
 
 -- ---- a clause
 
-abbrev pub Inside : Names → Walk → Walk → Shape → Condition → Phrases → Type 0
-Inside n a b q c es = Walks a b (λ g. after_all (after_shape g q) es) (λ g. shape_faults g q ++ condition_faults n (after_shape g q) c ++ phrases_faults n (after_shape g q) es)
+abbrev pub Inside : Names → Walk → Walk → WrittenPattern → Condition → WrittenExpressions → Type 0
+Inside n a b q c es = Walks a b (λ g. after_all (after_written_pattern g q) es) (λ g. written_pattern_faults g q ++ condition_faults n (after_written_pattern g q) c ++ written_expressions_faults n (after_written_pattern g q) es)
 
-pub inside : (n : Names) (a b d e : Walk) (q : Shape) (c : Condition) (es : Phrases) → ShapeWalked a b q → ConditionWalked n b d c → PhrasesWalked n d e es → Inside n a e q c es
+pub inside : (n : Names) (a b d e : Walk) (q : WrittenPattern) (c : Condition) (es : WrittenExpressions) → WrittenPatternWalked a b q → ConditionWalked n b d c → WrittenExpressionsWalked n d e es → Inside n a e q c es
 inside n a b d e q c es x y z =
-    walks_then a d e (λ g. after_shape g q) (λ g. after_all g es) (λ g. shape_faults g q ++ condition_faults n (after_shape g q) c) (λ g. phrases_faults n g es)
-    (walks_then a b d (λ g. after_shape g q) (λ g. g) (λ g. shape_faults g q) (λ g. condition_faults n g c) x y) z
+    walks_then a d e (λ g. after_written_pattern g q) (λ g. after_all g es) (λ g. written_pattern_faults g q ++ condition_faults n (after_written_pattern g q) c) (λ g. written_expressions_faults n g es)
+    (walks_then a b d (λ g. after_written_pattern g q) (λ g. g) (λ g. written_pattern_faults g q) (λ g. condition_faults n g c) x y) z
 
 -- a clause among clauses
-pub branch_closed : (n : Names) (a b d e new : Walk) (q : Shape) (c : Condition) (es : Phrases) → ShapeWalked a b q → ConditionWalked n b d c → PhrasesWalked n d e es → new.first ≡ e.first
+pub branch_closed : (n : Names) (a b d e new : Walk) (q : WrittenPattern) (c : Condition) (es : WrittenExpressions) → WrittenPatternWalked a b q → ConditionWalked n b d c → WrittenExpressionsWalked n d e es → new.first ≡ e.first
     → ((x : ℕ) → seen_of new.seen x ≡ (if has (drop (length (left_of a.seen)) (left_of e.seen)) x then New else seen_of e.seen x))
     → left_of new.seen ≡ left_of e.seen → BranchWalked n a new (branch q c es no_branches)
 branch_closed n a b d e new q c es x y z k set trail =
-    let f : Sight → Sight = λ g. after_all (after_shape g q) es in
-    let s : Sight → List Fault = λ g. shape_faults g q ++ condition_faults n (after_shape g q) c ++ phrases_faults n (after_shape g q) es in
+    let f : Scope → Scope = λ g. after_all (after_written_pattern g q) es in
+    let s : Scope → List Fault = λ g. written_pattern_faults g q ++ condition_faults n (after_written_pattern g q) c ++ written_expressions_faults n (after_written_pattern g q) es in
     let w = clause_closed a e new f s (inside n a b d e q c es x y z) (ap kept k) set trail in
     record {
       names = w.names;
@@ -280,10 +280,10 @@ branch_closed n a b d e new q c es x y z k set trail =
       found = λ g st. w.found g st ∙ ap (earliest (kept a.first)) (sym (append-nil (s g)));
     }
 
-pub branches_more : (n : Names) (old now next : Walk) (bs left rest : Branches) (q : Shape) (c : Condition) (es : Phrases) → left ≡ branch q c es rest → BranchesUnderway n old now bs left → BranchWalked n now next (branch q c es no_branches) → BranchesUnderway n old next bs rest
+pub branches_more : (n : Names) (old now next : Walk) (bs left rest : Branches) (q : WrittenPattern) (c : Condition) (es : WrittenExpressions) → left ≡ branch q c es rest → BranchesUnderway n old now bs left → BranchWalked n now next (branch q c es no_branches) → BranchesUnderway n old next bs rest
 branches_more n old now next bs left rest q c es e v b =
-    let f : Sight → List ℕ = λ g. seen_names (after_all (after_shape g q) es) in
-    let s : Sight → List Fault = λ g. shape_faults g q ++ condition_faults n (after_shape g q) c ++ phrases_faults n (after_shape g q) es in
+    let f : Scope → List ℕ = λ g. seen_names (after_all (after_written_pattern g q) es) in
+    let s : Scope → List Fault = λ g. written_pattern_faults g q ++ condition_faults n (after_written_pattern g q) c ++ written_expressions_faults n (after_written_pattern g q) es in
     let w : Clauses now next f s = record {
       names = b.names;
       longer = b.longer;

@@ -5,7 +5,7 @@ use Rattle.std.proofs.lemmas.List.Quantifiers.{position-Some}
 use Rattle.std.proofs.lemmas.Option.{slice_get_cases}
 use Rattle.std.proofs.lemmas.Bool.Decides.{nat_tests}
 use Rattle.std.specs.Prelude.{◌||◌}
-use Rattle.pf_syntax.specs.Sight.{has}
+use Rattle.pf_syntax.specs.Scope.{has}
 use Rattle.std.specs.Prelude.{if◌then◌else◌}
 use Rattle.pf_check.specs.Bound.{with_bound}
 

@@ -5,7 +5,7 @@ use Rattle.std.proofs.lemmas.List.{append-nil, length-map}
 use Rattle.std.proofs.lemmas.List.Folds.{list_any-append}
 use Rattle.std.proofs.Math.Seq.{drop-append_seam, take-append_seam}
 use Rattle.pf_terms.specs.declared.atoms.AtomId.{AtomId}
-use Rattle.pf_syntax.specs.Sight.{Sight, has, is_new, leaving, names_of}
+use Rattle.pf_syntax.specs.Scope.{Scope, has, is_new, leaving, names_of}
 use Rattle.pf_check.specs.Marks.{Stands, Trails, Binds, Moved, seen_of, left_of, is_bound, is_marked_unsafe, is_marked}
 use Rattle.pf_check.specs.declared.seen.Status.{Status}
 use Rattle.pf_check.specs.declared.seen.Status.TheVariants.{New, Bound, Unsafe}
@@ -45,7 +45,7 @@ trails_then a b c s t = record {
 }
 
 -- what is new by the rules is not marked
-pub new_is : (s : Seen) (g : Sight) → Stands s g → (x : ℕ) → is_new g x ≡ not (is_marked (seen_of s x))
+pub new_is : (s : Seen) (g : Scope) → Stands s g → (x : ℕ) → is_new g x ≡ not (is_marked (seen_of s x))
 new_is s g st x =
     let b = st.bound x in
     let u = st.unsafe x in
@@ -53,7 +53,7 @@ new_is s g st x =
     ap not (ap (λ (v : Bool). v || has g.unsafe x) b ∙ ap (λ (v : Bool). is_bound (seen_of s x) || v) u ∙ m)
 
 -- a name of those that are seen is marked
-pub named_is : (s : Seen) (g : Sight) → Stands s g → (x : ℕ) → has (names_of g) x ≡ is_marked (seen_of s x)
+pub named_is : (s : Seen) (g : Scope) → Stands s g → (x : ℕ) → has (names_of g) x ≡ is_marked (seen_of s x)
 named_is s g st x =
     has_append g.bound g.unsafe x ∙ ap (λ (v : Bool). v || has g.unsafe x) (st.bound x) ∙ ap (λ (v : Bool). is_bound (seen_of s x) || v) (st.unsafe x) ∙ marked_is (seen_of s x)
 
@@ -65,7 +65,7 @@ bound_before s y m = record {
   stands = λ g st. subst (λ (v : Bool). Stands s (if v then record { bound = g.bound ++ y ∷ []; unsafe = g.unsafe } else g)) (sym (new_is s g st y ∙ ap not m)) st;
 }
 
-stands_push : (old new : Seen) (y : ℕ) (g : Sight) → seen_of old y ≡ New → ((x : ℕ) → seen_of new x ≡ (if y == x then Bound else seen_of old x)) → Stands old g → Stands new (record { bound = g.bound ++ y ∷ []; unsafe = g.unsafe })
+stands_push : (old new : Seen) (y : ℕ) (g : Scope) → seen_of old y ≡ New → ((x : ℕ) → seen_of new x ≡ (if y == x then Bound else seen_of old x)) → Stands old g → Stands new (record { bound = g.bound ++ y ∷ []; unsafe = g.unsafe })
 stands_push old new y g n set st = record {
   bound = λ x. has_append g.bound (y ∷ []) x ∙ bound_one (y == x) (has g.bound x) (seen_of old x) (seen_of new x) (st.bound x) (set x);
   unsafe = λ x. unsafe_one (y == x) (has g.unsafe x) (seen_of old x) (seen_of new x) (λ e. st.unsafe x ∙ ap is_marked_unsafe (ap (seen_of old) (sym (eqb-true y x e)) ∙ n)) (st.unsafe x) (set x);
@@ -87,7 +87,7 @@ bound_new old new y n set longer = record {
 pub record Same (old new : Seen) : Type 0 where
   pub same : (x : ℕ) → seen_of new x ≡ seen_of old x
 
-pub same_stands : (old new : Seen) (g : Sight) → Same old new → Stands old g → Stands new g
+pub same_stands : (old new : Seen) (g : Scope) → Same old new → Stands old g → Stands new g
 same_stands old new g s st = record {
   bound = λ x. st.bound x ∙ ap is_bound (sym (s.same x));
   unsafe = λ x. st.unsafe x ∙ ap is_marked_unsafe (sym (s.same x));
@@ -132,7 +132,7 @@ has_filter p (n ∷ ns) x = one p n ns x (p n) refl (has_filter p ns x)
     one p n ns x true e ih = ap (λ (v : Bool). (n == x) || v) ih ∙ kept_one (n == x) (has ns x) (p x) (λ q. ap p (sym (eqb-true n x q)) ∙ e)
     one p n ns x false e ih = ih ∙ left_one (n == x) (has ns x) (p x) (λ q. ap p (sym (eqb-true n x q)) ∙ e)
 
-pub stands_leaving : (old new : Seen) (g : Sight) (names ends : List ℕ) → Stands old g → ((x : ℕ) → has names x ≡ true → is_marked (seen_of old x) ≡ false) → ((x : ℕ) → has names x ≡ (is_new g x && has ends x)) → ((x : ℕ) → seen_of new x ≡ (if has names x then Unsafe else seen_of old x)) → Stands new (leaving g ends)
+pub stands_leaving : (old new : Seen) (g : Scope) (names ends : List ℕ) → Stands old g → ((x : ℕ) → has names x ≡ true → is_marked (seen_of old x) ≡ false) → ((x : ℕ) → has names x ≡ (is_new g x && has ends x)) → ((x : ℕ) → seen_of new x ≡ (if has names x then Unsafe else seen_of old x)) → Stands new (leaving g ends)
 stands_leaving old new g names ends st fresh named set = record {
   bound = λ x. st.bound x ∙ bound_left (has names x) (seen_of old x) (seen_of new x) (fresh x) (set x);
   unsafe = λ x.

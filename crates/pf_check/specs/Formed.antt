@@ -3,33 +3,33 @@
 use Rattle.std.specs.Prelude.{Bool, true, false, IsTrue, List, [], ◌∷◌}
 use Rattle.std.specs.List.{All}
 use Rattle.pf_terms.specs.Value.{IsWithinLimits}
-use Rattle.pf_syntax.specs.Shape as s
-use Rattle.pf_syntax.specs.Shape.{Shape, Shapes, no_shapes, shape}
-use Rattle.pf_syntax.specs.Phrase as p
-use Rattle.pf_syntax.specs.Phrase.{Phrase, Phrases, Condition, Branches, no_phrases, phrase, no_tests, tests, no_branches, branch}
+use Rattle.pf_syntax.specs.WrittenPattern as s
+use Rattle.pf_syntax.specs.WrittenPattern.{WrittenPattern, WrittenPatterns, no_written_patterns, written_pattern}
+use Rattle.pf_syntax.specs.WrittenExpression as p
+use Rattle.pf_syntax.specs.WrittenExpression.{WrittenExpression, WrittenExpressions, Condition, Branches, no_written_expressions, written_expression, no_tests, tests, no_branches, branch}
 use Rattle.pf_syntax.specs.Source.{Head}
 use Rattle.pf_syntax.specs.Naming.{string}
 
 -- the strings of a pattern are within the limits
 abbrev mutual
-  pub ShapeFormed : Shape → Type 0
-  ShapeFormed (s.text cs) = IsWithinLimits (string cs)
-  ShapeFormed (s.tuple qs) = ShapesFormed qs
-  ShapeFormed (s.list qs) = ShapesFormed qs
-  ShapeFormed (s.list_on qs q) = ShapesFormed qs × ShapeFormed q
-  ShapeFormed (s.integer z) = Unit {0}
-  ShapeFormed (s.atom a) = Unit {0}
-  ShapeFormed (s.variable x at) = Unit {0}
-  ShapeFormed s.anything = Unit {0}
+  pub WrittenPatternFormed : WrittenPattern → Type 0
+  WrittenPatternFormed (s.text cs) = IsWithinLimits (string cs)
+  WrittenPatternFormed (s.tuple qs) = WrittenPatternsFormed qs
+  WrittenPatternFormed (s.list qs) = WrittenPatternsFormed qs
+  WrittenPatternFormed (s.list_on qs q) = WrittenPatternsFormed qs × WrittenPatternFormed q
+  WrittenPatternFormed (s.integer z) = Unit {0}
+  WrittenPatternFormed (s.atom a) = Unit {0}
+  WrittenPatternFormed (s.variable x at) = Unit {0}
+  WrittenPatternFormed s.anything = Unit {0}
 
-  pub ShapesFormed : Shapes → Type 0
-  ShapesFormed no_shapes = Unit {0}
-  ShapesFormed (shape q qs) = ShapeFormed q × ShapesFormed qs
+  pub WrittenPatternsFormed : WrittenPatterns → Type 0
+  WrittenPatternsFormed no_written_patterns = Unit {0}
+  WrittenPatternsFormed (written_pattern q qs) = WrittenPatternFormed q × WrittenPatternsFormed qs
 
 -- a body has an element
-abbrev pub HasFirst : Phrases → Type 0
-HasFirst no_phrases = ⊥
-HasFirst (phrase e es) = Unit {0}
+abbrev pub HasFirst : WrittenExpressions → Type 0
+HasFirst no_written_expressions = ⊥
+HasFirst (written_expression e es) = Unit {0}
 
 -- a guard has an alternative
 abbrev pub HasAlternative : Condition → Type 0
@@ -38,42 +38,42 @@ HasAlternative (tests es c) = Unit {0}
 
 abbrev mutual
   -- an expression, or where the flag says so an element of a body, which alone may be a match
-  pub PhraseFormed : Bool → Phrase → Type 0
-  PhraseFormed m (p.integer z) = Unit {0}
-  PhraseFormed m (p.atom a) = Unit {0}
-  PhraseFormed m (p.text cs) = IsWithinLimits (string cs)
-  PhraseFormed m (p.variable x at) = Unit {0}
-  PhraseFormed m (p.anonymous at) = Unit {0}
-  PhraseFormed m (p.parentheses a) = PhraseFormed false a
-  PhraseFormed m (p.tuple es) = PhrasesFormed false es
-  PhraseFormed m (p.list es) = PhrasesFormed false es
-  PhraseFormed m (p.list_on es e) = PhrasesFormed false es × PhraseFormed false e
-  PhraseFormed m (p.call f at es) = PhrasesFormed false es
-  PhraseFormed m (p.binary o a b) = PhraseFormed false a × PhraseFormed false b
-  PhraseFormed m (p.negate a) = PhraseFormed false a
-  PhraseFormed m (p.both a b) = PhraseFormed false a × PhraseFormed false b
-  PhraseFormed m (p.either a b) = PhraseFormed false a × PhraseFormed false b
-  PhraseFormed m (p.send a b) = PhraseFormed false a × PhraseFormed false b
-  PhraseFormed m (p.match q a) = IsTrue m × ShapeFormed q × PhraseFormed true a
-  PhraseFormed m (p.case a bs) = PhraseFormed false a × BranchesFormed bs
-  PhraseFormed m (p.decide bs) = BranchesFormed bs
-  PhraseFormed m (p.receive bs) = BranchesFormed bs
+  pub WrittenExpressionFormed : Bool → WrittenExpression → Type 0
+  WrittenExpressionFormed m (p.integer z) = Unit {0}
+  WrittenExpressionFormed m (p.atom a) = Unit {0}
+  WrittenExpressionFormed m (p.text cs) = IsWithinLimits (string cs)
+  WrittenExpressionFormed m (p.variable x at) = Unit {0}
+  WrittenExpressionFormed m (p.anonymous at) = Unit {0}
+  WrittenExpressionFormed m (p.parentheses a) = WrittenExpressionFormed false a
+  WrittenExpressionFormed m (p.tuple es) = WrittenExpressionsFormed false es
+  WrittenExpressionFormed m (p.list es) = WrittenExpressionsFormed false es
+  WrittenExpressionFormed m (p.list_on es e) = WrittenExpressionsFormed false es × WrittenExpressionFormed false e
+  WrittenExpressionFormed m (p.call f at es) = WrittenExpressionsFormed false es
+  WrittenExpressionFormed m (p.binary o a b) = WrittenExpressionFormed false a × WrittenExpressionFormed false b
+  WrittenExpressionFormed m (p.negate a) = WrittenExpressionFormed false a
+  WrittenExpressionFormed m (p.and_also a b) = WrittenExpressionFormed false a × WrittenExpressionFormed false b
+  WrittenExpressionFormed m (p.or_else a b) = WrittenExpressionFormed false a × WrittenExpressionFormed false b
+  WrittenExpressionFormed m (p.send a b) = WrittenExpressionFormed false a × WrittenExpressionFormed false b
+  WrittenExpressionFormed m (p.match q a) = IsTrue m × WrittenPatternFormed q × WrittenExpressionFormed true a
+  WrittenExpressionFormed m (p.case a bs) = WrittenExpressionFormed false a × BranchesFormed bs
+  WrittenExpressionFormed m (p.if_expression bs) = BranchesFormed bs
+  WrittenExpressionFormed m (p.receive bs) = BranchesFormed bs
 
-  pub PhrasesFormed : Bool → Phrases → Type 0
-  PhrasesFormed m no_phrases = Unit {0}
-  PhrasesFormed m (phrase e es) = PhraseFormed m e × PhrasesFormed m es
+  pub WrittenExpressionsFormed : Bool → WrittenExpressions → Type 0
+  WrittenExpressionsFormed m no_written_expressions = Unit {0}
+  WrittenExpressionsFormed m (written_expression e es) = WrittenExpressionFormed m e × WrittenExpressionsFormed m es
 
   pub ConditionFormed : Condition → Type 0
   ConditionFormed no_tests = Unit {0}
-  ConditionFormed (tests es c) = PhrasesFormed false es × ConditionFormed c
+  ConditionFormed (tests es c) = WrittenExpressionsFormed false es × ConditionFormed c
 
   pub BranchesFormed : Branches → Type 0
   BranchesFormed no_branches = Unit {0}
-  BranchesFormed (branch q c es bs) = ShapeFormed q × HasAlternative c × ConditionFormed c × HasFirst es × PhrasesFormed true es × BranchesFormed bs
+  BranchesFormed (branch q c es bs) = WrittenPatternFormed q × HasAlternative c × ConditionFormed c × HasFirst es × WrittenExpressionsFormed true es × BranchesFormed bs
 
 -- a clause of a function
 abbrev pub HeadFormed : Head → Type 0
-HeadFormed h = ShapesFormed h.parameters × HasAlternative h.condition × ConditionFormed h.condition × HasFirst h.body × PhrasesFormed true h.body
+HeadFormed h = WrittenPatternsFormed h.parameters × HasAlternative h.condition × ConditionFormed h.condition × HasFirst h.body × WrittenExpressionsFormed true h.body
 
 -- a function has a clause
 abbrev pub FunctionFormed : List Head → Type 0

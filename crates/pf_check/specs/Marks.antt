@@ -1,6 +1,6 @@
 -- What is known of variables while a clause is walked, against the sets of the rules.
 use Rattle.std.specs.Prelude.{◌≡◌, ℕ, Bool, true, false, List, ◌++◌, map, slice_index_or}
-use Rattle.pf_syntax.specs.Sight.{Sight, has, binding}
+use Rattle.pf_syntax.specs.Scope.{Scope, has, binding}
 use Rattle.pf_check.specs.declared.seen.Status.{Status}
 use Rattle.pf_check.specs.declared.seen.Status.TheVariants.{New, Bound, Unsafe}
 use Rattle.pf_check.specs.declared.seen.Seen.{Seen}
@@ -26,7 +26,7 @@ is_marked New = false
 is_marked _ = true
 
 -- what is known is what the rules see
-pub record Stands (s : Seen) (g : Sight) : Type 0 where
+pub record Stands (s : Seen) (g : Scope) : Type 0 where
   pub bound : (x : ℕ) → has g.bound x ≡ is_bound (seen_of s x)
   pub unsafe : (x : ℕ) → has g.unsafe x ≡ is_marked_unsafe (seen_of s x)
 
@@ -44,4 +44,4 @@ pub record Trails (old new : Seen) : Type 0 where
 -- a variable that was new is bound now, and nothing else is changed
 pub record Binds (old new : Seen) (y : ℕ) : Type 0 where
   pub trails : Trails old new
-  pub stands : (g : Sight) → Stands old g → Stands new (binding g y)
+  pub stands : (g : Scope) → Stands old g → Stands new (binding g y)

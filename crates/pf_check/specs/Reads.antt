@@ -3,11 +3,11 @@ use Rattle.std.specs.Prelude.{◌≡◌, ℕ, List, [], ◌++◌, codes}
 use Rattle.std.specs.Fmt.{decimal}
 use Rattle.pf_tokens.specs.declared.fault.Fault.{Fault}
 use Rattle.pf_tokens.specs.declared.fault.Fault.TheVariants as faults_of_tokens
-use Rattle.pf_tokens.specs.Signs.{Placed}
+use Rattle.pf_tokens.specs.TokenKinds.{Placed}
 use Rattle.pf_tokens.specs.Rules.{HasTokens, HasFault}
 use Rattle.pf_syntax.specs.Tree.{Program}
 use Rattle.pf_syntax.specs.Module.{Checked}
-use Rattle.pf_reader.specs.Sign.{atoms_of, numbered}
+use Rattle.pf_reader.specs.NumberedTokens.{atoms_of, numbered}
 use Rattle.pf_reader.specs.Grammar.{Tree, HasHead, DerivesTree}
 use Rattle.pf_check.specs.Static.{faults_of, IsFirst}
 use Rattle.pf_check.specs.Static as rules

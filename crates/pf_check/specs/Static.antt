@@ -4,12 +4,12 @@ use Rattle.std.specs.Prelude.{◌≡◌, ◌⊎◌, ℕ, suc, ◌<◌, ◌≤◌
 use Rattle.std.specs.List.{list_any}
 use Rattle.std.specs.Str.{bytes_eq}
 use Rattle.pf_terms.specs.Atoms.{name_of}
-use Rattle.pf_syntax.specs.Shape as s
-use Rattle.pf_syntax.specs.Shape.{Shape, Shapes, no_shapes, shape}
-use Rattle.pf_syntax.specs.Phrase as p
-use Rattle.pf_syntax.specs.Phrase.{Phrase, Phrases, Condition, Branches, no_phrases, phrase, no_tests, tests, no_branches, branch}
+use Rattle.pf_syntax.specs.WrittenPattern as s
+use Rattle.pf_syntax.specs.WrittenPattern.{WrittenPattern, WrittenPatterns, no_written_patterns, written_pattern}
+use Rattle.pf_syntax.specs.WrittenExpression as p
+use Rattle.pf_syntax.specs.WrittenExpression.{WrittenExpression, WrittenExpressions, Condition, Branches, no_written_expressions, written_expression, no_tests, tests, no_branches, branch}
 use Rattle.pf_syntax.specs.Source.{Export, Head}
-use Rattle.pf_syntax.specs.Sight.{Sight, no_sight, is_unsafe, is_new, after_shape, after_shapes, after, after_all}
+use Rattle.pf_syntax.specs.Scope.{Scope, no_scope, is_unsafe, is_new, after_written_pattern, after_written_patterns, after, after_all}
 use Rattle.pf_syntax.specs.Naming.{Names, arity_of}
 use Rattle.pf_reader.specs.Grammar.{Tree}
 
@@ -24,9 +24,9 @@ fault_if b number offset = if b then record { number = number; offset = offset }
 -- ---- names of functions
 
 -- how many arguments a head takes
-abbrev pub parameters_of : Shapes → ℕ
-parameters_of no_shapes = 0
-parameters_of (shape q qs) = suc (parameters_of qs)
+abbrev pub parameters_of : WrittenPatterns → ℕ
+parameters_of no_written_patterns = 0
+parameters_of (written_pattern q qs) = suc (parameters_of qs)
 
 -- a function is named by its first head, with the number of its arguments
 abbrev pub is_named : ℕ → ℕ → List Head → Bool
@@ -56,19 +56,19 @@ is_builtin atoms f arity = list_any (λ b. bytes_eq b.0 (name_of atoms f) && (b.
 -- ---- patterns: an unsafe variable
 
 abbrev mutual
-  pub shape_faults : Sight → Shape → List Fault
-  shape_faults g (s.variable x at) = fault_if (is_unsafe g x) 7 at
-  shape_faults g (s.tuple qs) = shapes_faults g qs
-  shape_faults g (s.list qs) = shapes_faults g qs
-  shape_faults g (s.list_on qs q) = shapes_faults g qs ++ shape_faults (after_shapes g qs) q
-  shape_faults g (s.integer z) = []
-  shape_faults g (s.atom a) = []
-  shape_faults g (s.text cs) = []
-  shape_faults g s.anything = []
+  pub written_pattern_faults : Scope → WrittenPattern → List Fault
+  written_pattern_faults g (s.variable x at) = fault_if (is_unsafe g x) 7 at
+  written_pattern_faults g (s.tuple qs) = written_patterns_faults g qs
+  written_pattern_faults g (s.list qs) = written_patterns_faults g qs
+  written_pattern_faults g (s.list_on qs q) = written_patterns_faults g qs ++ written_pattern_faults (after_written_patterns g qs) q
+  written_pattern_faults g (s.integer z) = []
+  written_pattern_faults g (s.atom a) = []
+  written_pattern_faults g (s.text cs) = []
+  written_pattern_faults g s.anything = []
 
-  pub shapes_faults : Sight → Shapes → List Fault
-  shapes_faults g no_shapes = []
-  shapes_faults g (shape q qs) = shape_faults g q ++ shapes_faults (after_shape g q) qs
+  pub written_patterns_faults : Scope → WrittenPatterns → List Fault
+  written_patterns_faults g no_written_patterns = []
+  written_patterns_faults g (written_pattern q qs) = written_pattern_faults g q ++ written_patterns_faults (after_written_pattern g q) qs
 
 -- ---- expressions
 
@@ -77,49 +77,49 @@ abbrev pub is_defined : Names → ℕ → ℕ → Bool
 is_defined n f arity = is_some (n.own_of f arity) || is_some (n.builtin_of f arity)
 
 abbrev mutual
-  pub phrase_faults : Names → Sight → Phrase → List Fault
-  phrase_faults n g (p.integer z) = []
-  phrase_faults n g (p.atom a) = []
-  phrase_faults n g (p.text cs) = []
-  phrase_faults n g (p.variable x at) = fault_if (is_unsafe g x) 7 at ++ fault_if (is_new g x) 6 at
-  phrase_faults n g (p.anonymous at) = fault_if true 6 at
-  phrase_faults n g (p.parentheses a) = phrase_faults n g a
-  phrase_faults n g (p.tuple es) = phrases_faults n g es
-  phrase_faults n g (p.list es) = phrases_faults n g es
-  phrase_faults n g (p.list_on es e) = phrases_faults n g es ++ phrase_faults n (after_all g es) e
-  phrase_faults n g (p.call f at es) = (if is_defined n f (arity_of es) then [] else fault_if true 8 at) ++ phrases_faults n g es
-  phrase_faults n g (p.binary o a b) = phrase_faults n g a ++ phrase_faults n (after g a) b
-  phrase_faults n g (p.negate a) = phrase_faults n g a
-  phrase_faults n g (p.both a b) = phrase_faults n g a ++ phrase_faults n (after g a) b
-  phrase_faults n g (p.either a b) = phrase_faults n g a ++ phrase_faults n (after g a) b
-  phrase_faults n g (p.send a b) = phrase_faults n g a ++ phrase_faults n (after g a) b
-  phrase_faults n g (p.match q a) = phrase_faults n g a ++ shape_faults (after g a) q
-  phrase_faults n g (p.case a bs) = phrase_faults n g a ++ branches_faults n (after g a) bs
-  phrase_faults n g (p.decide bs) = branches_faults n g bs
-  phrase_faults n g (p.receive bs) = branches_faults n g bs
+  pub written_expression_faults : Names → Scope → WrittenExpression → List Fault
+  written_expression_faults n g (p.integer z) = []
+  written_expression_faults n g (p.atom a) = []
+  written_expression_faults n g (p.text cs) = []
+  written_expression_faults n g (p.variable x at) = fault_if (is_unsafe g x) 7 at ++ fault_if (is_new g x) 6 at
+  written_expression_faults n g (p.anonymous at) = fault_if true 6 at
+  written_expression_faults n g (p.parentheses a) = written_expression_faults n g a
+  written_expression_faults n g (p.tuple es) = written_expressions_faults n g es
+  written_expression_faults n g (p.list es) = written_expressions_faults n g es
+  written_expression_faults n g (p.list_on es e) = written_expressions_faults n g es ++ written_expression_faults n (after_all g es) e
+  written_expression_faults n g (p.call f at es) = (if is_defined n f (arity_of es) then [] else fault_if true 8 at) ++ written_expressions_faults n g es
+  written_expression_faults n g (p.binary o a b) = written_expression_faults n g a ++ written_expression_faults n (after g a) b
+  written_expression_faults n g (p.negate a) = written_expression_faults n g a
+  written_expression_faults n g (p.and_also a b) = written_expression_faults n g a ++ written_expression_faults n (after g a) b
+  written_expression_faults n g (p.or_else a b) = written_expression_faults n g a ++ written_expression_faults n (after g a) b
+  written_expression_faults n g (p.send a b) = written_expression_faults n g a ++ written_expression_faults n (after g a) b
+  written_expression_faults n g (p.match q a) = written_expression_faults n g a ++ written_pattern_faults (after g a) q
+  written_expression_faults n g (p.case a bs) = written_expression_faults n g a ++ branches_faults n (after g a) bs
+  written_expression_faults n g (p.if_expression bs) = branches_faults n g bs
+  written_expression_faults n g (p.receive bs) = branches_faults n g bs
 
-  pub phrases_faults : Names → Sight → Phrases → List Fault
-  phrases_faults n g no_phrases = []
-  phrases_faults n g (phrase e es) = phrase_faults n g e ++ phrases_faults n (after g e) es
+  pub written_expressions_faults : Names → Scope → WrittenExpressions → List Fault
+  written_expressions_faults n g no_written_expressions = []
+  written_expressions_faults n g (written_expression e es) = written_expression_faults n g e ++ written_expressions_faults n (after g e) es
 
-  pub condition_faults : Names → Sight → Condition → List Fault
+  pub condition_faults : Names → Scope → Condition → List Fault
   condition_faults n g no_tests = []
-  condition_faults n g (tests es c) = phrases_faults n g es ++ condition_faults n g c
+  condition_faults n g (tests es c) = written_expressions_faults n g es ++ condition_faults n g c
 
   -- each clause begins with what is seen at its construct
-  pub branches_faults : Names → Sight → Branches → List Fault
+  pub branches_faults : Names → Scope → Branches → List Fault
   branches_faults n g no_branches = []
   branches_faults n g (branch q c es bs) =
-      shape_faults g q ++ condition_faults n (after_shape g q) c ++ phrases_faults n (after_shape g q) es ++ branches_faults n g bs
+      written_pattern_faults g q ++ condition_faults n (after_written_pattern g q) c ++ written_expressions_faults n (after_written_pattern g q) es ++ branches_faults n g bs
 
 -- ---- modules
 
 -- a clause of a function begins with no variable
 abbrev pub head_faults : Names → Head → List Fault
 head_faults n h =
-    shapes_faults no_sight h.parameters
-    ++ condition_faults n (after_shapes no_sight h.parameters) h.condition
-    ++ phrases_faults n (after_shapes no_sight h.parameters) h.body
+    written_patterns_faults no_scope h.parameters
+    ++ condition_faults n (after_written_patterns no_scope h.parameters) h.condition
+    ++ written_expressions_faults n (after_written_patterns no_scope h.parameters) h.body
 
 -- a function whose name and number of arguments an earlier one or a built-in has
 abbrev pub defined_faults : List (List ℕ) → List (List Head) → List (List Head) → List Fault

@@ -1,13 +1,13 @@
 -- What a walk through a part of a clause does: to what is seen, to the trail, and to the first fault.
 use Rattle.std.specs.Prelude.{◌≡◌, ℕ, true, false, ◌&&◌, if◌then◌else◌, List, [], ◌∷◌, ◌++◌}
-use Rattle.pf_syntax.specs.Shape.{Shape, Shapes}
-use Rattle.pf_syntax.specs.Phrase.{Phrase, Phrases, Condition, Branches}
-use Rattle.pf_syntax.specs.Sight.{Sight, no_sight, has, is_new, is_unsafe, after_shape, after_shapes, after, after_all, leaving, ends_of}
+use Rattle.pf_syntax.specs.WrittenPattern.{WrittenPattern, WrittenPatterns}
+use Rattle.pf_syntax.specs.WrittenExpression.{WrittenExpression, WrittenExpressions, Condition, Branches}
+use Rattle.pf_syntax.specs.Scope.{Scope, no_scope, has, is_new, is_unsafe, after_written_pattern, after_written_patterns, after, after_all, leaving, ends_of}
 use Rattle.pf_syntax.specs.Naming.{Names}
-use Rattle.pf_syntax.specs.Source.{Book}
+use Rattle.pf_syntax.specs.Source.{NodeTable}
 use Rattle.pf_syntax.specs.SourceOver.{branches_over}
 use Rattle.pf_syntax.specs.declared.written.Branch.{Branch}
-use Rattle.pf_check.specs.Static.{Fault, fault_if, shape_faults, shapes_faults, phrase_faults, phrases_faults, condition_faults, branches_faults}
+use Rattle.pf_check.specs.Static.{Fault, fault_if, written_pattern_faults, written_patterns_faults, written_expression_faults, written_expressions_faults, condition_faults, branches_faults}
 use Rattle.pf_check.specs.Earliest.{earliest, kept}
 use Rattle.pf_check.specs.Marks.{Stands, Trails, left_of, seen_of, is_marked}
 use Rattle.pf_check.specs.Listing.{lists}
@@ -15,32 +15,32 @@ use Rattle.pf_check.specs.declared.signatures.Signatures.{Signatures}
 use Rattle.pf_check.specs.declared.walk.Walk.{Walk}
 
 -- a walk whose part changes what is seen so and has these faults
-pub record Walks (old new : Walk) (step : Sight → Sight) (faults : Sight → List Fault) : Type 0 where
+pub record Walks (old new : Walk) (step : Scope → Scope) (faults : Scope → List Fault) : Type 0 where
   pub trails : Trails old.seen new.seen
-  pub stands : (g : Sight) → Stands old.seen g → Stands new.seen (step g)
-  pub found : (g : Sight) → Stands old.seen g → kept new.first ≡ earliest (kept old.first) (faults g)
+  pub stands : (g : Scope) → Stands old.seen g → Stands new.seen (step g)
+  pub found : (g : Scope) → Stands old.seen g → kept new.first ≡ earliest (kept old.first) (faults g)
 
 -- through a pattern, and through patterns
-abbrev pub ShapeWalked : Walk → Walk → Shape → Type 0
-ShapeWalked old new q = Walks old new (λ g. after_shape g q) (λ g. shape_faults g q)
+abbrev pub WrittenPatternWalked : Walk → Walk → WrittenPattern → Type 0
+WrittenPatternWalked old new q = Walks old new (λ g. after_written_pattern g q) (λ g. written_pattern_faults g q)
 
-abbrev pub ShapesWalked : Walk → Walk → Shapes → Type 0
-ShapesWalked old new qs = Walks old new (λ g. after_shapes g qs) (λ g. shapes_faults g qs)
+abbrev pub WrittenPatternsWalked : Walk → Walk → WrittenPatterns → Type 0
+WrittenPatternsWalked old new qs = Walks old new (λ g. after_written_patterns g qs) (λ g. written_patterns_faults g qs)
 
 -- through an expression, and through expressions
-abbrev pub PhraseWalked : Names → Walk → Walk → Phrase → Type 0
-PhraseWalked n old new e = Walks old new (λ g. after g e) (λ g. phrase_faults n g e)
+abbrev pub WrittenExpressionWalked : Names → Walk → Walk → WrittenExpression → Type 0
+WrittenExpressionWalked n old new e = Walks old new (λ g. after g e) (λ g. written_expression_faults n g e)
 
-abbrev pub PhrasesWalked : Names → Walk → Walk → Phrases → Type 0
-PhrasesWalked n old new es = Walks old new (λ g. after_all g es) (λ g. phrases_faults n g es)
+abbrev pub WrittenExpressionsWalked : Names → Walk → Walk → WrittenExpressions → Type 0
+WrittenExpressionsWalked n old new es = Walks old new (λ g. after_all g es) (λ g. written_expressions_faults n g es)
 
 -- through two expressions
-abbrev pub PairWalked : Names → Walk → Walk → Phrase → Phrase → Type 0
-PairWalked n old new a b = Walks old new (λ g. after (after g a) b) (λ g. phrase_faults n g a ++ phrase_faults n (after g a) b)
+abbrev pub PairWalked : Names → Walk → Walk → WrittenExpression → WrittenExpression → Type 0
+PairWalked n old new a b = Walks old new (λ g. after (after g a) b) (λ g. written_expression_faults n g a ++ written_expression_faults n (after g a) b)
 
 -- through an alternative of a guard, and through a guard
-abbrev pub TestsWalked : Names → Walk → Walk → Phrases → Type 0
-TestsWalked n old new es = Walks old new (λ g. g) (λ g. phrases_faults n g es)
+abbrev pub TestsWalked : Names → Walk → Walk → WrittenExpressions → Type 0
+TestsWalked n old new es = Walks old new (λ g. g) (λ g. written_expressions_faults n g es)
 
 abbrev pub ConditionWalked : Names → Walk → Walk → Condition → Type 0
 ConditionWalked n old new c = Walks old new (λ g. g) (λ g. condition_faults n g c)
@@ -50,16 +50,16 @@ abbrev pub BranchesWalked : Names → Walk → Walk → Branches → Type 0
 BranchesWalked n old new bs = Walks old new (λ g. leaving g (ends_of g bs)) (λ g. branches_faults n g bs)
 
 -- through clauses that end with these names: the trail has those that were new, and what is seen is as before
-pub record Clauses (old new : Walk) (ends : Sight → List ℕ) (faults : Sight → List Fault) : Type 0 where
+pub record Clauses (old new : Walk) (ends : Scope → List ℕ) (faults : Scope → List Fault) : Type 0 where
   pub names : List ℕ
   pub longer : left_of new.seen ≡ left_of old.seen ++ names
   pub same : (x : ℕ) → seen_of new.seen x ≡ seen_of old.seen x
   pub fresh : (x : ℕ) → has names x ≡ true → is_marked (seen_of old.seen x) ≡ false
-  pub named : (g : Sight) → Stands old.seen g → (x : ℕ) → has names x ≡ (is_new g x && has (ends g) x)
-  pub found : (g : Sight) → Stands old.seen g → kept new.first ≡ earliest (kept old.first) (faults g)
+  pub named : (g : Scope) → Stands old.seen g → (x : ℕ) → has names x ≡ (is_new g x && has (ends g) x)
+  pub found : (g : Scope) → Stands old.seen g → kept new.first ≡ earliest (kept old.first) (faults g)
 
 -- a clause alone
-abbrev pub branch_of : Book → Branch → Branches
+abbrev pub branch_of : NodeTable → Branch → Branches
 branch_of b c = branches_over b (c ∷ [])
 
 abbrev pub BranchWalked : Names → Walk → Walk → Branches → Type 0
@@ -81,5 +81,5 @@ CallWalked o old new f at arity = Walks old new (λ g. g) (λ g. if lists o f ar
 
 -- through a part that begins with no variable, behind which there is none again
 pub record BeginsAnew (old new : Walk) (faults : List Fault) : Type 0 where
-  pub stands : Stands old.seen no_sight → Stands new.seen no_sight
-  pub found : Stands old.seen no_sight → kept new.first ≡ earliest (kept old.first) faults
+  pub stands : Stands old.seen no_scope → Stands new.seen no_scope
+  pub found : Stands old.seen no_scope → kept new.first ≡ earliest (kept old.first) faults

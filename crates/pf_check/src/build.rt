@@ -31,7 +31,7 @@ fn clause(
 ) -> Result<FunctionClause, NoMemory>
     requires knows { Knows own.now source.now.functions }
     requires none_bound { places.old ≡ [] }
-    ensures { IfOk result (λ c. Did module.old module.new places.new [] (λ t. HeadMeans source.now.functions t (head_over source.now.book head.now) c)) }
+    ensures { IfOk result (λ c. Did module.old module.new places.new [] (λ t. HeadMeans source.now.functions t (head_over source.now.node_table head.now) c)) }
 {
     let parameters = patterns(alloc, source, places, module, head.parameters.as_slice())?;
     let guard = guard(alloc, source, own, places, module, &head.condition)?;
@@ -56,7 +56,7 @@ fn clauses(
     requires knows { Knows own.now source.now.functions }
     requires none_bound { places.old ≡ [] }
     ensures { IfOk result (λ cs. Did module.old module.new places.new []
-        (λ t. HeadsMean source.now.functions t (map (head_over source.now.book) heads.now) cs.items)) }
+        (λ t. HeadsMean source.now.functions t (map (head_over source.now.node_table) heads.now) cs.items)) }
 {
     let mut found = Vec::with_capacity(alloc, heads.len())?;
     for head in heads {
@@ -80,7 +80,7 @@ fn function(
     requires exports { Exports exported.now source.now.exports }
     requires none_bound { places.old ≡ [] }
     ensures { IfOk result (λ f. Did module.old module.new places.new []
-        (λ t. FunctionMeans source.now.functions source.now.exports t (heads_over source.now.book written.now) f)) }
+        (λ t. FunctionMeans source.now.functions source.now.exports t (heads_over source.now.node_table written.now) f)) }
 {
     let clauses = clauses(alloc, source, own, places, module, written.heads.as_slice())?;
     match written.heads.first() {

@@ -1,12 +1,12 @@
 //! The expressions and the bodies of a checked module.
 
 ghost use Rattle.std.specs.Prelude.{◌≡◌, ◌↔◌, IfOk, IfSome, IfNone, IsTrue, List};
-ghost use Rattle.pf_syntax.specs.Phrase as written;
-ghost use Rattle.pf_syntax.specs.Source.{Book, phrase_at, shape_at};
-ghost use Rattle.pf_syntax.specs.SourceOver.{branches_over, condition_over, phrase_over, phrases_at};
+ghost use Rattle.pf_syntax.specs.WrittenExpression as written;
+ghost use Rattle.pf_syntax.specs.Source.{NodeTable, written_expression_at, written_pattern_at};
+ghost use Rattle.pf_syntax.specs.SourceOver.{branches_over, condition_over, written_expression_over, written_expressions_at};
 ghost use Rattle.pf_reader.specs.Grammar.{unguarded};
 ghost use Rattle.pf_check.specs.Bound.{all_bound_after, bound_after, IsPlain};
-ghost use Rattle.pf_check.specs.Built.{BodyMeans, BranchesMean, Did, GuardMeans, PhraseMeans, PhrasesMean};
+ghost use Rattle.pf_check.specs.Built.{BodyMeans, BranchesMean, Did, GuardMeans, WrittenExpressionMeans, WrittenExpressionsMean};
 ghost use Rattle.pf_check.specs.Bodies.{BranchMeans, EachElementMeans, ElementBuilt};
 ghost use Rattle.pf_check.specs.Kinds.{IsConstruct, IsOperation, IsSequence};
 ghost use Rattle.pf_check.specs.Knows.{Knows};
@@ -18,8 +18,8 @@ use crate::places::Places;
 use crate::put::{put_list, put_literal, put_node};
 use crate::strings::string;
 use pf_syntax::{
-    Alternative, Branch, Clause, Condition, Guard, Module, Node, Part, PhraseId, PhraseNode,
-    ShapeId, Source, Word,
+    Alternative, Branch, Clause, Condition, Guard, Module, Node, Part, Source, Word,
+    WrittenExpressionId, WrittenExpressionNode, WrittenPatternId,
 };
 use pf_terms::NoMemory;
 use std::alloc::Global;
@@ -27,7 +27,7 @@ use std::alloc::Global;
 /// A variable: its place. An unbound one is `[]`, which no module without faults has.
 fn variable(source: &Source, places: &Places, module: &Module, word: Word) -> Part
     ensures { Did module.now module.now places.now places.now
-        (λ t. PhraseMeans source.now.functions t places.now (written.variable word.name.0 word.offset) result) }
+        (λ t. WrittenExpressionMeans source.now.functions t places.now (written.variable word.name.0 word.offset) result) }
 {
     match places.place(word.name) {
         Some(place) => Part::Slot(place),
@@ -44,7 +44,7 @@ fn text(
     codes: &[u8],
 ) -> Result<Part, NoMemory>
     ensures { IfOk result (λ x. Did module.old module.new places.now places.now
-        (λ t. PhraseMeans source.now.functions t places.now (written.text codes.now) x)) }
+        (λ t. WrittenExpressionMeans source.now.functions t places.now (written.text codes.now) x)) }
 {
     let made = string(alloc, codes)?;
     match made {
@@ -60,13 +60,13 @@ fn call(
     places: &Places,
     module: &mut Module,
     word: Word,
-    ids: &[PhraseId],
+    ids: &[WrittenExpressionId],
     parts: Vec<Part>,
 ) -> Result<Part, NoMemory>
     requires knows { Knows own.now source.now.functions }
-    requires parts_are { PhrasesMean source.now.functions module.old.tables places.now (phrases_at source.now.book ids.now) parts.items }
+    requires parts_are { WrittenExpressionsMean source.now.functions module.old.tables places.now (written_expressions_at source.now.node_table ids.now) parts.items }
     ensures { IfOk result (λ x. Did module.old module.new places.now places.now
-        (λ t. PhraseMeans source.now.functions t places.now (written.call word.name.0 word.offset (phrases_at source.now.book ids.now)) x)) }
+        (λ t. WrittenExpressionMeans source.now.functions t places.now (written.call word.name.0 word.offset (written_expressions_at source.now.node_table ids.now)) x)) }
 {
     match own.find(source, word.name, ids.len()) {
         Some(function) => put_node(module, Node::Call(function, parts)),
@@ -75,52 +75,71 @@ fn call(
 }
 
 /// The pattern and the right side of a match.
-fn as_match(source: &Source, id: PhraseId) -> Option<(ShapeId, PhraseId)>
-    ensures some { IfSome result (λ m. phrase_at source.now.book id.0 ≡ written.match (shape_at source.now.book m.0.0) (phrase_at source.now.book m.1.0)) }
-    ensures none { IfNone result (IsPlain (phrase_at source.now.book id.0)) }
+fn as_match(
+    source: &Source,
+    id: WrittenExpressionId,
+) -> Option<(WrittenPatternId, WrittenExpressionId)>
+    ensures some { IfSome result (λ m. written_expression_at source.now.node_table id.0 ≡ written.match (written_pattern_at source.now.node_table m.0.0) (written_expression_at source.now.node_table m.1.0)) }
+    ensures none { IfNone result (IsPlain (written_expression_at source.now.node_table id.0)) }
 {
-    match source.phrase(id) {
+    match source.written_expression(id) {
         None => None,
         Some(node) => match node {
-            PhraseNode::Match(pattern, right) => Some((*pattern, *right)),
+            WrittenExpressionNode::Match(pattern, right) => Some((*pattern, *right)),
             _ => None,
         },
     }
 }
 
 /// An expression. What breaks a static rule, and a match outside bodies, is `[]`.
-#[cycle(phrase)]
+#[cycle(written_expression)]
 pub(crate) fn expression(
     alloc: Global,
     source: &Source,
     own: &Own,
     places: &mut Places,
     module: &mut Module,
-    id: PhraseId,
+    id: WrittenExpressionId,
 ) -> Result<Part, NoMemory>
     requires { Knows own.now source.now.functions }
     ensures { IfOk result (λ x. Did module.old module.new places.new places.old
-        (λ t. PhraseMeans source.now.functions t places.old (phrase_at source.now.book id.0) x)) }
+        (λ t. WrittenExpressionMeans source.now.functions t places.old (written_expression_at source.now.node_table id.0) x)) }
 {
-    match source.phrase(id) {
+    match source.written_expression(id) {
         None => Ok(Part::Nil),
         Some(node) => match node {
-            PhraseNode::Integer(n) => Ok(Part::Int(*n)),
-            PhraseNode::Atom(atom) => Ok(Part::Atom(*atom)),
-            PhraseNode::Text(codes) => text(alloc, source, places, module, codes.as_slice()),
-            PhraseNode::Variable(word) => Ok(variable(source, places, module, *word)),
-            PhraseNode::Anonymous(_) | PhraseNode::Match(_, _) => Ok(Part::Nil),
-            PhraseNode::Parentheses(a) => expression(alloc, source, own, places, module, *a),
-            PhraseNode::Tuple(_)
-            | PhraseNode::List(_)
-            | PhraseNode::ListOn(_, _)
-            | PhraseNode::Call(_, _) => sequence(alloc, source, own, places, module, node),
-            PhraseNode::Binary(_, _, _)
-            | PhraseNode::Negate(_)
-            | PhraseNode::Both(_, _)
-            | PhraseNode::Either(_, _)
-            | PhraseNode::Send(_, _) => operation(alloc, source, own, places, module, node),
-            PhraseNode::Case(_, _) | PhraseNode::Decide(_) | PhraseNode::Receive(_) => {
+            WrittenExpressionNode::Integer(n) => Ok(Part::Int(*n)),
+            WrittenExpressionNode::Atom(atom) => Ok(Part::Atom(*atom)),
+            WrittenExpressionNode::Text(codes) => text(
+                alloc,
+                source,
+                places,
+                module,
+                codes.as_slice(),
+            ),
+            WrittenExpressionNode::Variable(word) => Ok(variable(source, places, module, *word)),
+            WrittenExpressionNode::Anonymous(_) | WrittenExpressionNode::Match(_, _) => Ok(
+                Part::Nil,
+            ),
+            WrittenExpressionNode::Parentheses(a) => expression(
+                alloc, source, own, places, module, *a,
+            ),
+            WrittenExpressionNode::Tuple(_)
+            | WrittenExpressionNode::List(_)
+            | WrittenExpressionNode::ListOn(_, _)
+            | WrittenExpressionNode::Call(_, _) => sequence(
+                alloc, source, own, places, module, node,
+            ),
+            WrittenExpressionNode::Binary(_, _, _)
+            | WrittenExpressionNode::Negate(_)
+            | WrittenExpressionNode::AndAlso(_, _)
+            | WrittenExpressionNode::OrElse(_, _)
+            | WrittenExpressionNode::Send(_, _) => operation(
+                alloc, source, own, places, module, node,
+            ),
+            WrittenExpressionNode::Case(_, _)
+            | WrittenExpressionNode::If(_)
+            | WrittenExpressionNode::Receive(_) => {
                 construct(alloc, source, own, places, module, node)
             }
         },
@@ -128,35 +147,35 @@ pub(crate) fn expression(
 }
 
 /// A tuple, a list or a call, after its elements or arguments.
-#[cycle(phrase)]
+#[cycle(written_expression)]
 fn sequence(
     alloc: Global,
     source: &Source,
     own: &Own,
     places: &mut Places,
     module: &mut Module,
-    node: &PhraseNode,
+    node: &WrittenExpressionNode,
 ) -> Result<Part, NoMemory>
     requires knows { Knows own.now source.now.functions }
     requires kind { IsSequence node.now }
     ensures { IfOk result (λ x. Did module.old module.new places.new places.old
-        (λ t. PhraseMeans source.now.functions t places.old (phrase_over source.now.book node.now) x)) }
+        (λ t. WrittenExpressionMeans source.now.functions t places.old (written_expression_over source.now.node_table node.now) x)) }
 {
     match node {
-        PhraseNode::Tuple(ids) => {
+        WrittenExpressionNode::Tuple(ids) => {
             let parts = expressions(alloc, source, own, places, module, ids.as_slice())?;
             put_node(module, Node::Tuple(parts))
         }
-        PhraseNode::List(ids) => {
+        WrittenExpressionNode::List(ids) => {
             let parts = expressions(alloc, source, own, places, module, ids.as_slice())?;
             put_list(module, parts, Part::Nil)
         }
-        PhraseNode::ListOn(ids, tail) => {
+        WrittenExpressionNode::ListOn(ids, tail) => {
             let parts = expressions(alloc, source, own, places, module, ids.as_slice())?;
             let rest = expression(alloc, source, own, places, module, *tail)?;
             put_list(module, parts, rest)
         }
-        PhraseNode::Call(word, ids) => {
+        WrittenExpressionNode::Call(word, ids) => {
             let parts = expressions(alloc, source, own, places, module, ids.as_slice())?;
             call(source, own, places, module, *word, ids.as_slice(), parts)
         }
@@ -165,71 +184,71 @@ fn sequence(
 }
 
 /// An operator with its operands.
-#[cycle(phrase)]
+#[cycle(written_expression)]
 fn operation(
     alloc: Global,
     source: &Source,
     own: &Own,
     places: &mut Places,
     module: &mut Module,
-    node: &PhraseNode,
+    node: &WrittenExpressionNode,
 ) -> Result<Part, NoMemory>
     requires knows { Knows own.now source.now.functions }
     requires kind { IsOperation node.now }
     ensures { IfOk result (λ x. Did module.old module.new places.new places.old
-        (λ t. PhraseMeans source.now.functions t places.old (phrase_over source.now.book node.now) x)) }
+        (λ t. WrittenExpressionMeans source.now.functions t places.old (written_expression_over source.now.node_table node.now) x)) }
 {
     match node {
-        PhraseNode::Negate(a) => {
+        WrittenExpressionNode::Negate(a) => {
             let inner = expression(alloc, source, own, places, module, *a)?;
             put_node(module, Node::Negate(inner))
         }
-        PhraseNode::Binary(operator, a, b) => {
-            let both = pair(alloc, source, own, places, module, *a, *b)?;
-            put_node(module, Node::Binary(*operator, both.0, both.1))
+        WrittenExpressionNode::Binary(operator, a, b) => {
+            let and_also = pair(alloc, source, own, places, module, *a, *b)?;
+            put_node(module, Node::Binary(*operator, and_also.0, and_also.1))
         }
-        PhraseNode::Both(a, b) => {
-            let both = pair(alloc, source, own, places, module, *a, *b)?;
-            put_node(module, Node::Both(both.0, both.1))
+        WrittenExpressionNode::AndAlso(a, b) => {
+            let and_also = pair(alloc, source, own, places, module, *a, *b)?;
+            put_node(module, Node::AndAlso(and_also.0, and_also.1))
         }
-        PhraseNode::Either(a, b) => {
-            let both = pair(alloc, source, own, places, module, *a, *b)?;
-            put_node(module, Node::Either(both.0, both.1))
+        WrittenExpressionNode::OrElse(a, b) => {
+            let and_also = pair(alloc, source, own, places, module, *a, *b)?;
+            put_node(module, Node::OrElse(and_also.0, and_also.1))
         }
-        PhraseNode::Send(a, b) => {
-            let both = pair(alloc, source, own, places, module, *a, *b)?;
-            put_node(module, Node::Send(both.0, both.1))
+        WrittenExpressionNode::Send(a, b) => {
+            let and_also = pair(alloc, source, own, places, module, *a, *b)?;
+            put_node(module, Node::Send(and_also.0, and_also.1))
         }
         _ => Ok(Part::Nil),
     }
 }
 
 /// A construct of clauses: `case`, `if` or `receive`.
-#[cycle(phrase)]
+#[cycle(written_expression)]
 fn construct(
     alloc: Global,
     source: &Source,
     own: &Own,
     places: &mut Places,
     module: &mut Module,
-    node: &PhraseNode,
+    node: &WrittenExpressionNode,
 ) -> Result<Part, NoMemory>
     requires knows { Knows own.now source.now.functions }
     requires kind { IsConstruct node.now }
     ensures { IfOk result (λ x. Did module.old module.new places.new places.old
-        (λ t. PhraseMeans source.now.functions t places.old (phrase_over source.now.book node.now) x)) }
+        (λ t. WrittenExpressionMeans source.now.functions t places.old (written_expression_over source.now.node_table node.now) x)) }
 {
     match node {
-        PhraseNode::Case(a, arms) => {
+        WrittenExpressionNode::Case(a, arms) => {
             let value = expression(alloc, source, own, places, module, *a)?;
             let clauses = branches(alloc, source, own, places, module, arms.as_slice())?;
             put_node(module, Node::Case(value, clauses))
         }
-        PhraseNode::Decide(arms) => {
+        WrittenExpressionNode::If(arms) => {
             let clauses = branches(alloc, source, own, places, module, arms.as_slice())?;
-            put_node(module, Node::Decide(clauses))
+            put_node(module, Node::If(clauses))
         }
-        PhraseNode::Receive(arms) => {
+        WrittenExpressionNode::Receive(arms) => {
             let clauses = branches(alloc, source, own, places, module, arms.as_slice())?;
             put_node(module, Node::Receive(clauses))
         }
@@ -238,20 +257,20 @@ fn construct(
 }
 
 /// Two operands, from left to right.
-#[cycle(phrase)]
+#[cycle(written_expression)]
 fn pair(
     alloc: Global,
     source: &Source,
     own: &Own,
     places: &mut Places,
     module: &mut Module,
-    first: PhraseId,
-    second: PhraseId,
+    first: WrittenExpressionId,
+    second: WrittenExpressionId,
 ) -> Result<(Part, Part), NoMemory>
     requires { Knows own.now source.now.functions }
     ensures { IfOk result (λ x. Did module.old module.new places.new places.old
-        (λ t. PhraseMeans source.now.functions t places.old (phrase_at source.now.book first.0) x.0
-        × PhraseMeans source.now.functions t places.old (phrase_at source.now.book second.0) x.1)) }
+        (λ t. WrittenExpressionMeans source.now.functions t places.old (written_expression_at source.now.node_table first.0) x.0
+        × WrittenExpressionMeans source.now.functions t places.old (written_expression_at source.now.node_table second.0) x.1)) }
 {
     let a = expression(alloc, source, own, places, module, first)?;
     let b = expression(alloc, source, own, places, module, second)?;
@@ -259,18 +278,18 @@ fn pair(
 }
 
 /// Expressions, from left to right.
-#[cycle(phrase)]
+#[cycle(written_expression)]
 fn expressions(
     alloc: Global,
     source: &Source,
     own: &Own,
     places: &mut Places,
     module: &mut Module,
-    ids: &[PhraseId],
+    ids: &[WrittenExpressionId],
 ) -> Result<Vec<Part>, NoMemory>
     requires { Knows own.now source.now.functions }
     ensures { IfOk result (λ xs. Did module.old module.new places.new places.old
-        (λ t. PhrasesMean source.now.functions t places.old (phrases_at source.now.book ids.now) xs.items)) }
+        (λ t. WrittenExpressionsMean source.now.functions t places.old (written_expressions_at source.now.node_table ids.now) xs.items)) }
 {
     let mut parts = Vec::with_capacity(alloc, ids.len())?;
     for id in ids {
@@ -281,18 +300,18 @@ fn expressions(
 }
 
 /// An element of a body, with the patterns of its matches.
-#[cycle(phrase)]
+#[cycle(written_expression)]
 fn element(
     alloc: Global,
     source: &Source,
     own: &Own,
     places: &mut Places,
     module: &mut Module,
-    id: PhraseId,
+    id: WrittenExpressionId,
 ) -> Result<Element, NoMemory>
     requires { Knows own.now source.now.functions }
-    ensures { IfOk result (λ x. Did module.old module.new places.new (bound_after places.old (phrase_at source.now.book id.0))
-        (λ t. ElementBuilt source.now.functions t places.old (phrase_at source.now.book id.0) x)) }
+    ensures { IfOk result (λ x. Did module.old module.new places.new (bound_after places.old (written_expression_at source.now.node_table id.0))
+        (λ t. ElementBuilt source.now.functions t places.old (written_expression_at source.now.node_table id.0) x)) }
 {
     match as_match(source, id) {
         None => {
@@ -302,9 +321,9 @@ fn element(
                 value,
             })
         }
-        Some((shape, right)) => {
+        Some((written_pattern, right)) => {
             let inner = element(alloc, source, own, places, module, right)?;
-            let outer = pattern(alloc, source, places, module, shape)?;
+            let outer = pattern(alloc, source, places, module, written_pattern)?;
             let mut patterns = inner.patterns;
             patterns.push(outer)?;
             Ok(Element {
@@ -316,18 +335,18 @@ fn element(
 }
 
 /// The elements of a body, from left to right.
-#[cycle(phrase)]
+#[cycle(written_expression)]
 fn elements(
     alloc: Global,
     source: &Source,
     own: &Own,
     places: &mut Places,
     module: &mut Module,
-    ids: &[PhraseId],
+    ids: &[WrittenExpressionId],
 ) -> Result<Vec<Element>, NoMemory>
     requires { Knows own.now source.now.functions }
-    ensures { IfOk result (λ xs. Did module.old module.new places.new (all_bound_after places.old (phrases_at source.now.book ids.now))
-        (λ t. EachElementMeans source.now.functions source.now.book t places.old ids.now xs.items)) }
+    ensures { IfOk result (λ xs. Did module.old module.new places.new (all_bound_after places.old (written_expressions_at source.now.node_table ids.now))
+        (λ t. EachElementMeans source.now.functions source.now.node_table t places.old ids.now xs.items)) }
 {
     let mut found = Vec::new(alloc);
     for id in ids {
@@ -338,18 +357,18 @@ fn elements(
 }
 
 /// A body, built from its last element.
-#[cycle(phrase)]
+#[cycle(written_expression)]
 pub(crate) fn body(
     alloc: Global,
     source: &Source,
     own: &Own,
     places: &mut Places,
     module: &mut Module,
-    ids: &[PhraseId],
+    ids: &[WrittenExpressionId],
 ) -> Result<Part, NoMemory>
     requires { Knows own.now source.now.functions }
-    ensures { IfOk result (λ x. Did module.old module.new places.new (all_bound_after places.old (phrases_at source.now.book ids.now))
-        (λ t. BodyMeans source.now.functions t places.old (phrases_at source.now.book ids.now) x)) }
+    ensures { IfOk result (λ x. Did module.old module.new places.new (all_bound_after places.old (written_expressions_at source.now.node_table ids.now))
+        (λ t. BodyMeans source.now.functions t places.old (written_expressions_at source.now.node_table ids.now) x)) }
 {
     let mut front = elements(alloc, source, own, places, module, ids)?;
     match front.pop() {
@@ -363,7 +382,7 @@ pub(crate) fn body(
 
 /// Whether a clause has no `when`: its guard is one alternative with no test.
 fn is_unguarded(condition: &Condition) -> bool
-    ensures { (b : Book) → IsTrue result ↔ (condition_over b condition.now ≡ unguarded) }
+    ensures { (b : NodeTable) → IsTrue result ↔ (condition_over b condition.now ≡ unguarded) }
 {
     match condition.alternatives.as_slice() {
         [alternative] => alternative.tests.as_slice().is_empty(),
@@ -372,7 +391,7 @@ fn is_unguarded(condition: &Condition) -> bool
 }
 
 /// A guard, which binds nothing. A clause with no `when` gets the empty list, which takes no memory.
-#[cycle(phrase)]
+#[cycle(written_expression)]
 pub(crate) fn guard(
     alloc: Global,
     source: &Source,
@@ -383,7 +402,7 @@ pub(crate) fn guard(
 ) -> Result<Guard, NoMemory>
     requires { Knows own.now source.now.functions }
     ensures { IfOk result (λ d. Did module.old module.new places.new places.old
-        (λ t. GuardMeans source.now.functions t places.old (condition_over source.now.book condition.now) d)) }
+        (λ t. GuardMeans source.now.functions t places.old (condition_over source.now.node_table condition.now) d)) }
 {
     if is_unguarded(condition) {
         let alternatives = Vec::new(alloc);
@@ -398,7 +417,7 @@ pub(crate) fn guard(
 }
 
 /// A clause of a construct. What it binds is forgotten at its end.
-#[cycle(phrase)]
+#[cycle(written_expression)]
 fn branch(
     alloc: Global,
     source: &Source,
@@ -409,10 +428,10 @@ fn branch(
 ) -> Result<Clause, NoMemory>
     requires { Knows own.now source.now.functions }
     ensures { IfOk result (λ x. Did module.old module.new places.new places.old
-        (λ t. BranchMeans source.now.functions source.now.book t places.old arm.now x)) }
+        (λ t. BranchMeans source.now.functions source.now.node_table t places.old arm.now x)) }
 {
     let bound = places.len();
-    let asked = pattern(alloc, source, places, module, arm.shape)?;
+    let asked = pattern(alloc, source, places, module, arm.written_pattern)?;
     let guard = guard(alloc, source, own, places, module, &arm.condition)?;
     let body = body(alloc, source, own, places, module, arm.body.as_slice())?;
     places.truncate(bound);
@@ -424,7 +443,7 @@ fn branch(
 }
 
 /// The clauses of a construct, each of which begins with what is bound there.
-#[cycle(phrase)]
+#[cycle(written_expression)]
 fn branches(
     alloc: Global,
     source: &Source,
@@ -435,7 +454,7 @@ fn branches(
 ) -> Result<Vec<Clause>, NoMemory>
     requires { Knows own.now source.now.functions }
     ensures { IfOk result (λ cs. Did module.old module.new places.new places.old
-        (λ t. BranchesMean source.now.functions t places.old (branches_over source.now.book arms.now) cs.items)) }
+        (λ t. BranchesMean source.now.functions t places.old (branches_over source.now.node_table arms.now) cs.items)) }
 {
     let mut clauses = Vec::with_capacity(alloc, arms.len())?;
     for arm in arms {

@@ -1,7 +1,7 @@
 //! The first static fault of a module as it is written.
 
 ghost use Rattle.std.specs.Prelude.{◌≡◌, flat_map, List, [], ◌∷◌, IfNone, IfOk, IfSome, OnOk};
-ghost use Rattle.pf_syntax.specs.Source.{Book, Head as HeadTree};
+ghost use Rattle.pf_syntax.specs.Source.{NodeTable, Head as HeadTree};
 ghost use Rattle.pf_syntax.specs.SourceOver.{head_over, heads_over};
 ghost use Rattle.pf_reader.specs.Grammar.{tree_of};
 ghost use Rattle.pf_check.specs.Static.{defined_faults, export_fault, faults_of, IsFirst};
@@ -60,7 +60,7 @@ fn define_function(
     function: &WrittenFunction,
     first: &mut First,
 ) -> Result<(), NoMemory>
-    ensures { OnOk result ((b : Book) → Defines atoms.now (heads_over b function.now) own.old own.new first.old first.new) }
+    ensures { OnOk result ((b : NodeTable) → Defines atoms.now (heads_over b function.now) own.old own.new first.old first.new) }
 {
     match function.heads.as_slice() {
         [] => {}
@@ -76,7 +76,7 @@ fn define_head(
     head: &Head,
     first: &mut First,
 ) -> Result<(), NoMemory>
-    ensures { OnOk result ((b : Book) (hs : List HeadTree) → Defines atoms.now (head_over b head.now ∷ hs) own.old own.new first.old first.new) }
+    ensures { OnOk result ((b : NodeTable) (hs : List HeadTree) → Defines atoms.now (head_over b head.now ∷ hs) own.old own.new first.old first.new) }
 {
     let arity = head.parameters.len() as u64;
     let fresh = own.add(head.word.name, arity)?;

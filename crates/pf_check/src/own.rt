@@ -3,7 +3,7 @@
 ghost use Rattle.std.specs.Prelude.{◌≡◌, ℕ, if◌then◌else◌, IfOk, MatchOption, None, OnOk, Some};
 ghost use Rattle.indexmap.specs.IndexMap.{get};
 ghost use Rattle.pf_check.specs.Static.{is_named, own_in};
-ghost use Rattle.pf_syntax.specs.Source.{Book};
+ghost use Rattle.pf_syntax.specs.Source.{NodeTable};
 ghost use Rattle.pf_syntax.specs.SourceOver.{heads_over};
 ghost use Rattle.pf_check.specs.Knows.{same_key, Knows};
 ghost use Rattle.pf_check.specs.Heads.{first_of};
@@ -37,7 +37,7 @@ impl Own {
 
     /// Notes the number of a function under the name of its first clause.
     fn enter_function(&mut self, function: &WrittenFunction, number: usize) -> Result<(), NoMemory>
-        ensures { OnOk result ((b : Book) (f a : ℕ) → get same_key self.new.numbers (f, a)
+        ensures { OnOk result ((b : NodeTable) (f a : ℕ) → get same_key self.new.numbers (f, a)
             ≡ first_of (get same_key self.old.numbers (f, a)) (if is_named f a (heads_over b function.now) then Some number else None)) }
     {
         match function.heads.first() {

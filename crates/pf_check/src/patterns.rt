@@ -1,16 +1,18 @@
 //! The patterns of a checked module.
 
 ghost use Rattle.std.specs.Prelude.{◌≡◌, IfOk, List};
-ghost use Rattle.pf_syntax.specs.Shape as written;
-ghost use Rattle.pf_syntax.specs.Source.{shape_at};
-ghost use Rattle.pf_syntax.specs.SourceOver.{shapes_at};
+ghost use Rattle.pf_syntax.specs.WrittenPattern as written;
+ghost use Rattle.pf_syntax.specs.Source.{written_pattern_at};
+ghost use Rattle.pf_syntax.specs.SourceOver.{written_patterns_at};
 ghost use Rattle.pf_check.specs.Bound.{all_bound_by, bound_by, with_bound};
-ghost use Rattle.pf_check.specs.Built.{Did, ShapeMeans, ShapesMean};
+ghost use Rattle.pf_check.specs.Built.{Did, WrittenPatternMeans, WrittenPatternsMean};
 
 use crate::places::Places;
 use crate::put::{put_known, put_list_pattern, put_pattern};
 use crate::strings::string;
-use pf_syntax::{Module, PatternId, PatternNode, ShapeId, ShapeNode, Source, Word};
+use pf_syntax::{
+    Module, PatternId, PatternNode, Source, Word, WrittenPatternId, WrittenPatternNode,
+};
 use pf_terms::NoMemory;
 use std::alloc::Global;
 
@@ -22,7 +24,7 @@ fn variable(
     word: Word,
 ) -> Result<PatternId, NoMemory>
     ensures { IfOk result (λ p. Did module.old module.new places.new (with_bound places.old word.name.0)
-        (λ t. ShapeMeans source.now.functions t places.old (written.variable word.name.0 word.offset) p)) }
+        (λ t. WrittenPatternMeans source.now.functions t places.old (written.variable word.name.0 word.offset) p)) }
 {
     match places.place(word.name) {
         Some(place) => put_pattern(module, PatternNode::Slot(place)),
@@ -42,7 +44,7 @@ fn text(
     codes: &[u8],
 ) -> Result<PatternId, NoMemory>
     ensures { IfOk result (λ p. Did module.old module.new places.now places.now
-        (λ t. ShapeMeans source.now.functions t places.now (written.text codes.now) p)) }
+        (λ t. WrittenPatternMeans source.now.functions t places.now (written.text codes.now) p)) }
 {
     let made = string(alloc, codes)?;
     match made {
@@ -58,29 +60,35 @@ pub(crate) fn pattern(
     source: &Source,
     places: &mut Places,
     module: &mut Module,
-    id: ShapeId,
+    id: WrittenPatternId,
 ) -> Result<PatternId, NoMemory>
-    ensures { IfOk result (λ p. Did module.old module.new places.new (bound_by places.old (shape_at source.now.book id.0))
-        (λ t. ShapeMeans source.now.functions t places.old (shape_at source.now.book id.0) p)) }
+    ensures { IfOk result (λ p. Did module.old module.new places.new (bound_by places.old (written_pattern_at source.now.node_table id.0))
+        (λ t. WrittenPatternMeans source.now.functions t places.old (written_pattern_at source.now.node_table id.0) p)) }
 {
-    match source.shape(id) {
+    match source.written_pattern(id) {
         None => put_pattern(module, PatternNode::Any),
         Some(node) => match node {
-            ShapeNode::Integer(n) => put_pattern(module, PatternNode::Int(*n)),
-            ShapeNode::Atom(atom) => put_pattern(module, PatternNode::Atom(*atom)),
-            ShapeNode::Text(codes) => text(alloc, source, places, module, codes.as_slice()),
-            ShapeNode::Variable(word) => variable(source, places, module, *word),
-            ShapeNode::Anything => put_pattern(module, PatternNode::Any),
-            ShapeNode::Tuple(ids) => {
+            WrittenPatternNode::Integer(n) => put_pattern(module, PatternNode::Int(*n)),
+            WrittenPatternNode::Atom(atom) => put_pattern(module, PatternNode::Atom(*atom)),
+            WrittenPatternNode::Text(codes) => text(
+                alloc,
+                source,
+                places,
+                module,
+                codes.as_slice(),
+            ),
+            WrittenPatternNode::Variable(word) => variable(source, places, module, *word),
+            WrittenPatternNode::Anything => put_pattern(module, PatternNode::Any),
+            WrittenPatternNode::Tuple(ids) => {
                 let parts = patterns(alloc, source, places, module, ids.as_slice())?;
                 put_pattern(module, PatternNode::Tuple(parts))
             }
-            ShapeNode::List(ids) => {
+            WrittenPatternNode::List(ids) => {
                 let parts = patterns(alloc, source, places, module, ids.as_slice())?;
                 let nil = put_pattern(module, PatternNode::Nil)?;
                 put_list_pattern(module, parts, nil)
             }
-            ShapeNode::ListOn(ids, tail) => {
+            WrittenPatternNode::ListOn(ids, tail) => {
                 let parts = patterns(alloc, source, places, module, ids.as_slice())?;
                 let rest = pattern(alloc, source, places, module, *tail)?;
                 put_list_pattern(module, parts, rest)
@@ -96,10 +104,10 @@ pub(crate) fn patterns(
     source: &Source,
     places: &mut Places,
     module: &mut Module,
-    ids: &[ShapeId],
+    ids: &[WrittenPatternId],
 ) -> Result<Vec<PatternId>, NoMemory>
-    ensures { IfOk result (λ ps. Did module.old module.new places.new (all_bound_by places.old (shapes_at source.now.book ids.now))
-        (λ t. ShapesMean source.now.functions t places.old (shapes_at source.now.book ids.now) ps.items)) }
+    ensures { IfOk result (λ ps. Did module.old module.new places.new (all_bound_by places.old (written_patterns_at source.now.node_table ids.now))
+        (λ t. WrittenPatternsMean source.now.functions t places.old (written_patterns_at source.now.node_table ids.now) ps.items)) }
 {
     let mut parts = Vec::with_capacity(alloc, ids.len())?;
     for id in ids {

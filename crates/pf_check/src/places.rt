@@ -1,7 +1,7 @@
 //! The places of bound variables: where each name stands among those that are bound, in the order of binding.
 
 ghost use Rattle.std.specs.Prelude.{◌≡◌, [], false, length, take, IfOk, MatchOption, OnOk, slice_get, Some};
-ghost use Rattle.pf_syntax.specs.Sight.{has};
+ghost use Rattle.pf_syntax.specs.Scope.{has};
 ghost use Rattle.pf_check.specs.Bound.{with_bound};
 
 use indexmap::IndexSet;

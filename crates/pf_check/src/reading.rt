@@ -1,9 +1,9 @@
 //! A source, from its bytes to a checked module.
 
 ghost use Rattle.std.specs.Prelude.{◌≡◌, [], ℕ, List, IfErr, IfOk, OnOk};
-ghost use Rattle.pf_tokens.specs.Signs.{Placed};
+ghost use Rattle.pf_tokens.specs.TokenKinds.{Placed};
 ghost use Rattle.pf_tokens.specs.Rules.{HasTokens, IsFaultOf};
-ghost use Rattle.pf_reader.specs.Sign.{atoms_of, numbered};
+ghost use Rattle.pf_reader.specs.NumberedTokens.{atoms_of, numbered};
 ghost use Rattle.pf_reader.specs.Outcome.{IsTreeFault};
 ghost use Rattle.pf_reader.specs.Grammar.{tree_of};
 ghost use Rattle.pf_check.specs.Earliest.{number_of_fault};

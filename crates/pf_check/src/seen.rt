@@ -1,7 +1,7 @@
 //! Which variables are bound and which are unsafe at a place of a function's clause.
 
 ghost use Rattle.std.specs.Prelude.{◌≡◌, ℕ, [], ◌==◌, drop, length, take, if◌then◌else◌, OnOk};
-ghost use Rattle.pf_syntax.specs.Sight.{has};
+ghost use Rattle.pf_syntax.specs.Scope.{has};
 ghost use Rattle.pf_check.specs.Marks.{left_of, seen_of, Binds};
 
 use pf_terms::{AtomId, NoMemory};

@@ -1,12 +1,12 @@
 //! The walk over expressions: what is seen at each place of a function's clause, and the first fault up to there.
 
 ghost use Rattle.std.specs.Prelude.{OnOk};
-ghost use Rattle.pf_syntax.specs.Phrase as written;
-ghost use Rattle.pf_syntax.specs.Source.{phrase_at, shape_at};
-ghost use Rattle.pf_syntax.specs.SourceOver.{branches_over, condition_over, phrase_over, phrases_at};
+ghost use Rattle.pf_syntax.specs.WrittenExpression as written;
+ghost use Rattle.pf_syntax.specs.Source.{written_expression_at, written_pattern_at};
+ghost use Rattle.pf_syntax.specs.SourceOver.{branches_over, condition_over, written_expression_over, written_expressions_at};
 ghost use Rattle.pf_check.specs.Static.{names_of};
 ghost use Rattle.pf_check.specs.Listing.{Lists};
-ghost use Rattle.pf_check.specs.Walking.{branch_of, AnonymousWalked, BranchWalked, BranchesWalked, CallWalked, ConditionWalked, PairWalked, PhraseWalked, PhrasesWalked, TestsWalked, VariableWalked};
+ghost use Rattle.pf_check.specs.Walking.{branch_of, AnonymousWalked, BranchWalked, BranchesWalked, CallWalked, ConditionWalked, PairWalked, WrittenExpressionWalked, WrittenExpressionsWalked, TestsWalked, VariableWalked};
 
 mod heads;
 mod patterns;
@@ -14,7 +14,9 @@ mod patterns;
 use crate::first::{CheckFault, First};
 use crate::seen::{Seen, Status};
 use crate::signatures::Signatures;
-use pf_syntax::{Branch, Condition, PhraseId, PhraseNode, ShapeId, Source, Word};
+use pf_syntax::{
+    Branch, Condition, Source, Word, WrittenExpressionId, WrittenExpressionNode, WrittenPatternId,
+};
 use pf_terms::NoMemory;
 
 /// What is seen at a place of a function's clause, and the first fault up to there.
@@ -26,126 +28,138 @@ pub(crate) struct Walk {
 
 impl Walk {
     /// Through an expression.
-    #[cycle(phrases)]
-    fn phrase(&mut self, source: &Source, own: &Signatures, id: PhraseId) -> Result<(), NoMemory>
+    #[cycle(written_expressions)]
+    fn written_expression(
+        &mut self,
+        source: &Source,
+        own: &Signatures,
+        id: WrittenExpressionId,
+    ) -> Result<(), NoMemory>
         requires { Lists own.now source.now.functions }
-        ensures { OnOk result (PhraseWalked (names_of source.now.functions) self.old self.new (phrase_at source.now.book id.0)) }
+        ensures { OnOk result (WrittenExpressionWalked (names_of source.now.functions) self.old self.new (written_expression_at source.now.node_table id.0)) }
     {
-        match source.phrase(id) {
-            Some(node) => self.phrase_node(source, own, node),
+        match source.written_expression(id) {
+            Some(node) => self.written_expression_node(source, own, node),
             None => Ok(()),
         }
     }
 
     /// Through an expression, by its node.
-    #[cycle(phrases)]
-    fn phrase_node(
+    #[cycle(written_expressions)]
+    fn written_expression_node(
         &mut self,
         source: &Source,
         own: &Signatures,
-        node: &PhraseNode,
+        node: &WrittenExpressionNode,
     ) -> Result<(), NoMemory>
         requires { Lists own.now source.now.functions }
-        ensures { OnOk result (PhraseWalked (names_of source.now.functions) self.old self.new (phrase_over source.now.book node.now)) }
+        ensures { OnOk result (WrittenExpressionWalked (names_of source.now.functions) self.old self.new (written_expression_over source.now.node_table node.now)) }
     {
         match node {
-            PhraseNode::Variable(word) => self.variable(*word),
-            PhraseNode::Anonymous(offset) => self.anonymous(*offset),
-            PhraseNode::Parentheses(part) | PhraseNode::Negate(part) => {
-                self.phrase(source, own, *part)?;
+            WrittenExpressionNode::Variable(word) => self.variable(*word),
+            WrittenExpressionNode::Anonymous(offset) => self.anonymous(*offset),
+            WrittenExpressionNode::Parentheses(part) | WrittenExpressionNode::Negate(part) => {
+                self.written_expression(source, own, *part)?;
             }
-            PhraseNode::Tuple(parts) | PhraseNode::List(parts) => {
-                self.phrases(source, own, parts)?;
+            WrittenExpressionNode::Tuple(parts) | WrittenExpressionNode::List(parts) => {
+                self.written_expressions(source, own, parts)?;
             }
-            PhraseNode::ListOn(parts, tail) => {
-                self.phrases(source, own, parts)?;
-                self.phrase(source, own, *tail)?;
+            WrittenExpressionNode::ListOn(parts, tail) => {
+                self.written_expressions(source, own, parts)?;
+                self.written_expression(source, own, *tail)?;
             }
-            PhraseNode::Call(word, arguments) => {
+            WrittenExpressionNode::Call(word, arguments) => {
                 self.call(own, *word, arguments.len());
-                self.phrases(source, own, arguments)?;
+                self.written_expressions(source, own, arguments)?;
             }
-            PhraseNode::Binary(_, left, right)
-            | PhraseNode::Both(left, right)
-            | PhraseNode::Either(left, right)
-            | PhraseNode::Send(left, right) => self.pair(source, own, *left, *right)?,
-            PhraseNode::Match(shape, value) => self.matching(source, own, *shape, *value)?,
-            PhraseNode::Case(part, branches) => self.case(source, own, *part, branches)?,
-            PhraseNode::Decide(branches) | PhraseNode::Receive(branches) => {
+            WrittenExpressionNode::Binary(_, left, right)
+            | WrittenExpressionNode::AndAlso(left, right)
+            | WrittenExpressionNode::OrElse(left, right)
+            | WrittenExpressionNode::Send(left, right) => self.pair(source, own, *left, *right)?,
+            WrittenExpressionNode::Match(written_pattern, value) => self.matching(
+                source,
+                own,
+                *written_pattern,
+                *value,
+            )?,
+            WrittenExpressionNode::Case(part, branches) => self.case(source, own, *part, branches)?,
+            WrittenExpressionNode::If(branches) | WrittenExpressionNode::Receive(branches) => {
                 self.branches(source, own, branches)?;
             }
-            PhraseNode::Integer(_) | PhraseNode::Atom(_) | PhraseNode::Text(_) => {}
+            WrittenExpressionNode::Integer(_)
+            | WrittenExpressionNode::Atom(_)
+            | WrittenExpressionNode::Text(_) => {}
         }
         Ok(())
     }
 
     /// Through two operands, from left to right.
-    #[cycle(phrases)]
+    #[cycle(written_expressions)]
     fn pair(
         &mut self,
         source: &Source,
         own: &Signatures,
-        left: PhraseId,
-        right: PhraseId,
+        left: WrittenExpressionId,
+        right: WrittenExpressionId,
     ) -> Result<(), NoMemory>
         requires { Lists own.now source.now.functions }
-        ensures { OnOk result (PairWalked (names_of source.now.functions) self.old self.new (phrase_at source.now.book left.0) (phrase_at source.now.book right.0)) }
+        ensures { OnOk result (PairWalked (names_of source.now.functions) self.old self.new (written_expression_at source.now.node_table left.0) (written_expression_at source.now.node_table right.0)) }
     {
-        self.phrase(source, own, left)?;
-        self.phrase(source, own, right)
+        self.written_expression(source, own, left)?;
+        self.written_expression(source, own, right)
     }
 
     /// Through a match: its right side, and then its pattern.
-    #[cycle(phrases)]
+    #[cycle(written_expressions)]
     fn matching(
         &mut self,
         source: &Source,
         own: &Signatures,
-        shape: ShapeId,
-        value: PhraseId,
+        written_pattern: WrittenPatternId,
+        value: WrittenExpressionId,
     ) -> Result<(), NoMemory>
         requires { Lists own.now source.now.functions }
-        ensures { OnOk result (PhraseWalked (names_of source.now.functions) self.old self.new (written.match (shape_at source.now.book shape.0) (phrase_at source.now.book value.0))) }
+        ensures { OnOk result (WrittenExpressionWalked (names_of source.now.functions) self.old self.new (written.match (written_pattern_at source.now.node_table written_pattern.0) (written_expression_at source.now.node_table value.0))) }
     {
-        self.phrase(source, own, value)?;
-        self.shape(source, shape)
+        self.written_expression(source, own, value)?;
+        self.written_pattern(source, written_pattern)
     }
 
     /// Through a `case`: its expression, and then its clauses.
-    #[cycle(phrases)]
+    #[cycle(written_expressions)]
     fn case(
         &mut self,
         source: &Source,
         own: &Signatures,
-        part: PhraseId,
+        part: WrittenExpressionId,
         branches: &[Branch],
     ) -> Result<(), NoMemory>
         requires { Lists own.now source.now.functions }
-        ensures { OnOk result (PhraseWalked (names_of source.now.functions) self.old self.new (written.case (phrase_at source.now.book part.0) (branches_over source.now.book branches.now))) }
+        ensures { OnOk result (WrittenExpressionWalked (names_of source.now.functions) self.old self.new (written.case (written_expression_at source.now.node_table part.0) (branches_over source.now.node_table branches.now))) }
     {
-        self.phrase(source, own, part)?;
+        self.written_expression(source, own, part)?;
         self.branches(source, own, branches)
     }
 
     /// Through expressions, from left to right.
-    #[cycle(phrases)]
-    fn phrases(
+    #[cycle(written_expressions)]
+    fn written_expressions(
         &mut self,
         source: &Source,
         own: &Signatures,
-        parts: &[PhraseId],
+        parts: &[WrittenExpressionId],
     ) -> Result<(), NoMemory>
         requires { Lists own.now source.now.functions }
-        ensures { OnOk result (PhrasesWalked (names_of source.now.functions) self.old self.new (phrases_at source.now.book parts.now)) }
+        ensures { OnOk result (WrittenExpressionsWalked (names_of source.now.functions) self.old self.new (written_expressions_at source.now.node_table parts.now)) }
     {
         for part in parts {
-            self.phrase(source, own, *part)?;
+            self.written_expression(source, own, *part)?;
         }
         Ok(())
     }
 
     /// Through a guard, behind which the same is seen as before it.
-    #[cycle(phrases)]
+    #[cycle(written_expressions)]
     fn condition(
         &mut self,
         source: &Source,
@@ -153,7 +167,7 @@ impl Walk {
         condition: &Condition,
     ) -> Result<(), NoMemory>
         requires { Lists own.now source.now.functions }
-        ensures { OnOk result (ConditionWalked (names_of source.now.functions) self.old self.new (condition_over source.now.book condition.now)) }
+        ensures { OnOk result (ConditionWalked (names_of source.now.functions) self.old self.new (condition_over source.now.node_table condition.now)) }
     {
         for alternative in &condition.alternatives {
             self.tests(source, own, &alternative.tests)?;
@@ -162,25 +176,25 @@ impl Walk {
     }
 
     /// Through an alternative of a guard, behind which the same is seen as before it.
-    #[cycle(phrases)]
+    #[cycle(written_expressions)]
     fn tests(
         &mut self,
         source: &Source,
         own: &Signatures,
-        tests: &[PhraseId],
+        tests: &[WrittenExpressionId],
     ) -> Result<(), NoMemory>
         requires { Lists own.now source.now.functions }
-        ensures { OnOk result (TestsWalked (names_of source.now.functions) self.old self.new (phrases_at source.now.book tests.now)) }
+        ensures { OnOk result (TestsWalked (names_of source.now.functions) self.old self.new (written_expressions_at source.now.node_table tests.now)) }
     {
         let start = self.seen.trail_len();
-        self.phrases(source, own, tests)?;
+        self.written_expressions(source, own, tests)?;
         self.seen.forget(start)?;
         Ok(())
     }
 
     /// Through the clauses of a construct, each of which begins with what is seen at the construct. Behind it the names
     /// that they leave are unsafe.
-    #[cycle(phrases)]
+    #[cycle(written_expressions)]
     fn branches(
         &mut self,
         source: &Source,
@@ -188,7 +202,7 @@ impl Walk {
         branches: &[Branch],
     ) -> Result<(), NoMemory>
         requires { Lists own.now source.now.functions }
-        ensures { OnOk result (BranchesWalked (names_of source.now.functions) self.old self.new (branches_over source.now.book branches.now)) }
+        ensures { OnOk result (BranchesWalked (names_of source.now.functions) self.old self.new (branches_over source.now.node_table branches.now)) }
     {
         let start = self.seen.trail_len();
         for branch in branches {
@@ -199,15 +213,15 @@ impl Walk {
     }
 
     /// Through a clause, whose names become new again but stay in the trail.
-    #[cycle(phrases)]
+    #[cycle(written_expressions)]
     fn branch(&mut self, source: &Source, own: &Signatures, branch: &Branch) -> Result<(), NoMemory>
         requires { Lists own.now source.now.functions }
-        ensures { OnOk result (BranchWalked (names_of source.now.functions) self.old self.new (branch_of source.now.book branch.now)) }
+        ensures { OnOk result (BranchWalked (names_of source.now.functions) self.old self.new (branch_of source.now.node_table branch.now)) }
     {
         let start = self.seen.trail_len();
-        self.shape(source, branch.shape)?;
+        self.written_pattern(source, branch.written_pattern)?;
         self.condition(source, own, &branch.condition)?;
-        self.phrases(source, own, &branch.body)?;
+        self.written_expressions(source, own, &branch.body)?;
         self.seen.set_since(start, Status::New)?;
         Ok(())
     }

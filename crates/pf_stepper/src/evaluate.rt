@@ -60,10 +60,10 @@ impl Stack {
                 }
                 Node::Tuple(_)
                 | Node::Cons(_, _)
-                | Node::Both(_, _)
-                | Node::Either(_, _)
+                | Node::AndAlso(_, _)
+                | Node::OrElse(_, _)
                 | Node::Builtin(_, _)
-                | Node::Decide(_)
+                | Node::If(_)
                 | Node::Receive(_)
                 | Node::Send(_, _) => Ok(Turn::Changed(Focus::Raised(Term::Atom(AtomId::UNDEF)))),
             },

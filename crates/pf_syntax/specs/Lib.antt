@@ -7,13 +7,13 @@ pub mod Module
 pub mod Over
 pub mod Within
 pub mod View
-pub mod Shape
-pub mod Phrase
+pub mod WrittenPattern
+pub mod WrittenExpression
 pub mod Source
 pub mod SourceCode
 pub mod Measure
 pub mod SourceOver
 pub mod SourceView
-pub mod Sight
+pub mod Scope
 pub mod Naming
 pub mod Worked

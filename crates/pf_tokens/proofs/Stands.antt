@@ -4,8 +4,8 @@ use Rattle.pf_tokens.specs.declared.bytes.Class.TheVariants as classes
 use Rattle.pf_tokens.specs.declared.fault.Fault.{Fault}
 use Rattle.pf_tokens.specs.declared.fault.Fault.TheVariants.{UnexpectedByte, Unfinished, IntegerTooLarge, SourceTooLong}
 use Rattle.pf_tokens.specs.Bytes.{is_digit, is_lower, is_upper}
-use Rattle.pf_tokens.specs.Signs.{Sign}
-use Rattle.pf_tokens.specs.Signs as signs
+use Rattle.pf_tokens.specs.TokenKinds.{TokenKind}
+use Rattle.pf_tokens.specs.TokenKinds as kinds
 use Rattle.pf_tokens.specs.Scan.{Read, Cut, ◌>>=◌, token, closing, piece_at}
 use Rattle.pf_tokens.specs.Rules.{IsNumeral, IsName, IsPiece, IsFault, IsStray, OpensQuoted, WritesAll, is_opening}
 use Rattle.pf_tokens.proofs.Runs.{both}
@@ -19,20 +19,20 @@ name_some test [] rest h = absurd h
 name_some test (b ∷ bs) rest h = omega arith
 
 -- a piece takes a byte at least
-pub piece_some : (sign : Option Sign) (bytes rest : List ℕ) → IsPiece sign bytes rest → 0 < length bytes
+pub piece_some : (kind : Option TokenKind) (bytes rest : List ℕ) → IsPiece kind bytes rest → 0 < length bytes
 piece_some None bytes rest (inl (b, e, is)) = rw is (omega arith)
 piece_some None bytes rest (inr (words, is, run)) = rw is (omega arith)
-piece_some (Some (signs.integer value)) bytes rest (inl (h, lt)) = h.some
-piece_some (Some (signs.integer value)) bytes rest (inr (one, writes, is)) = rw is (omega arith)
-piece_some (Some (signs.atom name)) bytes rest (inl (h, is, free)) = name_some is_lower bytes rest h
-piece_some (Some (signs.atom name)) bytes rest (inr (body, writes, is)) = rw is (omega arith)
-piece_some (Some (signs.variable name)) bytes rest (h, is, free) = name_some is_upper bytes rest h
-piece_some (Some signs.anonymous) bytes rest (h, is) = name_some is_upper bytes rest h
-piece_some (Some (signs.text meant)) bytes rest (body, writes, is) = rw is (omega arith)
-piece_some (Some signs.own_module) bytes rest (is, e) = rw is (omega arith)
-piece_some (Some signs.dot) bytes rest (is, e) = rw is (omega arith)
-piece_some (Some (signs.mark m)) bytes rest h = rw h.written (mark_some m)
-piece_some (Some (signs.reserved r)) bytes rest (h, is) = name_some is_lower bytes rest h
+piece_some (Some (kinds.integer value)) bytes rest (inl (h, lt)) = h.some
+piece_some (Some (kinds.integer value)) bytes rest (inr (one, writes, is)) = rw is (omega arith)
+piece_some (Some (kinds.atom name)) bytes rest (inl (h, is, free)) = name_some is_lower bytes rest h
+piece_some (Some (kinds.atom name)) bytes rest (inr (body, writes, is)) = rw is (omega arith)
+piece_some (Some (kinds.variable name)) bytes rest (h, is, free) = name_some is_upper bytes rest h
+piece_some (Some kinds.anonymous) bytes rest (h, is) = name_some is_upper bytes rest h
+piece_some (Some (kinds.text meant)) bytes rest (body, writes, is) = rw is (omega arith)
+piece_some (Some kinds.own_module) bytes rest (is, e) = rw is (omega arith)
+piece_some (Some kinds.dot) bytes rest (is, e) = rw is (omega arith)
+piece_some (Some (kinds.mark m)) bytes rest h = rw h.written (mark_some m)
+piece_some (Some (kinds.reserved r)) bytes rest (h, is) = name_some is_lower bytes rest h
 
 -- no fault stands in an empty text
 pub fault_some : (fault : Fault) (n : ℕ) → IsFault fault n [] → ⊥
@@ -93,11 +93,11 @@ quoted_breaks place text n rest opens e is = by opens.quote opens.is_quote opens
     by quote (inl same) whole writes =
         let atom : text ≡ 39 ∷ (opens.body ++ rest) = whole ∙ ap (λ q. q ∷ (opens.body ++ rest)) same in
         ap (piece_at place) atom ∙ piece_is place (39 ∷ (opens.body ++ rest)) classes.Quote refl
-        ∙ breaks 39 place opens.meant opens.body rest (λ p. Ok (token (signs.atom p.0) p.1)) e (refl, refl) (subst (λ q. WritesAll q opens.meant opens.body) same writes) (is 39 (refl, refl))
+        ∙ breaks 39 place opens.meant opens.body rest (λ p. Ok (token (kinds.atom p.0) p.1)) e (refl, refl) (subst (λ q. WritesAll q opens.meant opens.body) same writes) (is 39 (refl, refl))
     by quote (inr same) whole writes =
         let string : text ≡ 34 ∷ (opens.body ++ rest) = whole ∙ ap (λ q. q ∷ (opens.body ++ rest)) same in
         ap (piece_at place) string ∙ piece_is place (34 ∷ (opens.body ++ rest)) classes.DoubleQuote refl
-        ∙ breaks 34 place opens.meant opens.body rest (λ p. Ok (token (signs.text p.0) p.1)) e (refl, refl) (subst (λ q. WritesAll q opens.meant opens.body) same writes) (is 34 (refl, refl))
+        ∙ breaks 34 place opens.meant opens.body rest (λ p. Ok (token (kinds.text p.0) p.1)) e (refl, refl) (subst (λ q. WritesAll q opens.meant opens.body) same writes) (is 34 (refl, refl))
 
 -- a fault that stands there is read
 pub fault_again : (place : ℕ) (fault : Fault) (n : ℕ) (text : List ℕ) → IsFault fault n text → piece_at place text ≡ Err (fault, place + n)

@@ -4,7 +4,7 @@ use Rattle.std.proofs.lemmas.Bool.{leb-true, leb-false, le-leb, lt-leb}
 use Rattle.std.proofs.lemmas.List.{drop_at}
 use Rattle.pf_tokens.specs.declared.fault.Fault.{Fault}
 use Rattle.pf_tokens.specs.declared.fault.Fault.TheVariants.{SourceTooLong}
-use Rattle.pf_tokens.specs.Signs.{Sign, Placed, put_first}
+use Rattle.pf_tokens.specs.TokenKinds.{TokenKind, Placed, put_first}
 use Rattle.pf_tokens.specs.Scan.{Read, Cut, ◌>>=◌, piece_at, scan, tokens}
 use Rattle.pf_tokens.specs.Rules.{IsPiece, IsFault, Part, Begins, tokens_from, total_length, HasTokens, HasFault, IsOrdered}
 use Rattle.pf_tokens.proofs.Again.{piece_again}
@@ -22,9 +22,9 @@ rest_is text bytes rest n whole len = ap (drop n) whole ∙ drop_at bytes rest n
 
 after_piece : (place : ℕ) (text : List ℕ) (p : Cut) (cuts : Cuts text p.0 p.1) (read : Read (List Placed)) → SaysAll (place + p.1) cuts.rest read → SaysAll place text (read >>= λ ts. Ok (put_first p.0 place (place + p.1) ts))
 after_piece place text p cuts (Ok ts) (parts, begins, is) =
-    (record { sign = p.0; bytes = cuts.bytes } ∷ parts, (cuts.rest, cuts.whole, cuts.piece, begins), rw (is, cuts.length_is) refl)
+    (record { kind = p.0; bytes = cuts.bytes } ∷ parts, (cuts.rest, cuts.whole, cuts.piece, begins), rw (is, cuts.length_is) refl)
 after_piece place text p cuts (Err e) (parts, rest, further, begins, fault, at) =
-    (record { sign = p.0; bytes = cuts.bytes } ∷ parts, rest, further, (cuts.rest, cuts.whole, cuts.piece, begins), fault, omega (arith, at, cuts.length_is))
+    (record { kind = p.0; bytes = cuts.bytes } ∷ parts, rest, further, (cuts.rest, cuts.whole, cuts.piece, begins), fault, omega (arith, at, cuts.length_is))
 
 -- what is read of a text stands there
 pub scan_says : (n place : ℕ) (text : List ℕ) → length text ≤ n → SaysAll place text (scan n place text)
@@ -43,19 +43,19 @@ scan_says (suc n) place (b ∷ bs) le = by (piece_at place (b ∷ bs)) (piece_sa
     by (Err e) (further, at, fault) later = ([], b ∷ bs, further, refl, fault, omega (arith, at))
 
 -- a piece that stands there is read, and then the rest
-scan_piece : (n place : ℕ) (text : List ℕ) (p : Part) (tail : List ℕ) → text ≡ p.bytes ++ tail → IsPiece p.sign p.bytes tail
-    → scan (suc n) place text ≡ (scan n (place + length p.bytes) tail >>= λ ts. Ok (put_first p.sign place (place + length p.bytes) ts))
+scan_piece : (n place : ℕ) (text : List ℕ) (p : Part) (tail : List ℕ) → text ≡ p.bytes ++ tail → IsPiece p.kind p.bytes tail
+    → scan (suc n) place text ≡ (scan n (place + length p.bytes) tail >>= λ ts. Ok (put_first p.kind place (place + length p.bytes) ts))
 unfolding scan
-scan_piece n place [] p tail whole piece = let some = piece_some p.sign p.bytes tail piece in absurd (omega (arith, ap length whole, length-append p.bytes tail))
+scan_piece n place [] p tail whole piece = let some = piece_some p.kind p.bytes tail piece in absurd (omega (arith, ap length whole, length-append p.bytes tail))
 scan_piece n place (b ∷ bs) p tail whole piece =
-    let reads : piece_at place (b ∷ bs) ≡ Ok (p.sign, length p.bytes) = ap (piece_at place) whole ∙ piece_again place p.sign p.bytes tail piece in
+    let reads : piece_at place (b ∷ bs) ≡ Ok (p.kind, length p.bytes) = ap (piece_at place) whole ∙ piece_again place p.kind p.bytes tail piece in
     rw (reads, rest_is (b ∷ bs) p.bytes tail (length p.bytes) whole refl) refl
 
-part_within : (n : ℕ) (text : List ℕ) (p : Part) (tail : List ℕ) → text ≡ p.bytes ++ tail → IsPiece p.sign p.bytes tail → length text ≤ suc n → length tail ≤ n
-part_within n text p tail whole piece le = let some = piece_some p.sign p.bytes tail piece in omega (arith, ap length whole, length-append p.bytes tail)
+part_within : (n : ℕ) (text : List ℕ) (p : Part) (tail : List ℕ) → text ≡ p.bytes ++ tail → IsPiece p.kind p.bytes tail → length text ≤ suc n → length tail ≤ n
+part_within n text p tail whole piece le = let some = piece_some p.kind p.bytes tail piece in omega (arith, ap length whole, length-append p.bytes tail)
 
-part_some : (text : List ℕ) (p : Part) (tail : List ℕ) → text ≡ p.bytes ++ tail → IsPiece p.sign p.bytes tail → length text ≤ 0 → ⊥
-part_some text p tail whole piece le = let some = piece_some p.sign p.bytes tail piece in omega (arith, ap length whole, length-append p.bytes tail)
+part_some : (text : List ℕ) (p : Part) (tail : List ℕ) → text ≡ p.bytes ++ tail → IsPiece p.kind p.bytes tail → length text ≤ 0 → ⊥
+part_some text p tail whole piece le = let some = piece_some p.kind p.bytes tail piece in omega (arith, ap length whole, length-append p.bytes tail)
 
 scan_none : (n place : ℕ) → scan n place [] ≡ Ok []
 unfolding scan
@@ -123,12 +123,12 @@ from_earlier earlier place (t ∷ ts) end le (a, b, c) = (omega arith, b, c)
 ordered_parts : (place : ℕ) (parts : List Part) (text : List ℕ) → Begins parts text [] → IsOrdered place (tokens_from place parts) (place + length text)
 ordered_parts place [] text is = omega arith
 ordered_parts place (p ∷ ps) text (tail, whole, piece, later) =
-    let some = piece_some p.sign p.bytes tail piece in
+    let some = piece_some p.kind p.bytes tail piece in
     let others = ordered_parts (place + length p.bytes) ps tail later in
     let long : place + length p.bytes + length tail ≡ place + length text = omega (arith, ap length whole, length-append p.bytes tail) in
-    first p.sign (omega arith) (subst (λ (k : ℕ). IsOrdered (place + length p.bytes) (tokens_from (place + length p.bytes) ps) k) long others)
+    first p.kind (omega arith) (subst (λ (k : ℕ). IsOrdered (place + length p.bytes) (tokens_from (place + length p.bytes) ps) k) long others)
   where
-    first : (s : Option Sign) → place < place + length p.bytes → IsOrdered (place + length p.bytes) (tokens_from (place + length p.bytes) ps) (place + length text)
+    first : (s : Option TokenKind) → place < place + length p.bytes → IsOrdered (place + length p.bytes) (tokens_from (place + length p.bytes) ps) (place + length text)
         → IsOrdered place (put_first s place (place + length p.bytes) (tokens_from (place + length p.bytes) ps)) (place + length text)
     first None lt others = from_earlier place (place + length p.bytes) (tokens_from (place + length p.bytes) ps) (place + length text) (omega arith) others
     first (Some s) lt others = (omega arith, lt, others)

@@ -3,7 +3,7 @@ use Rattle.std.proofs.Common.{◌≡◌, ℕ, zero, suc, ◌+◌, ◌<◌, List,
 use Rattle.std.proofs.lemmas.List.{append-nil}
 use Rattle.pf_tokens.specs.declared.fault.TokensFault.{TokensFault}
 use Rattle.pf_tokens.specs.declared.fault.TokensFault.TheVariants as outcomes
-use Rattle.pf_tokens.specs.Signs.{Sign, Placed, one, put_first}
+use Rattle.pf_tokens.specs.TokenKinds.{TokenKind, Placed, one, put_first}
 use Rattle.pf_tokens.specs.Scan.{Read, Cut, ◌>>=◌, piece_at, scan, Fails}
 
 -- the tokens found before, and those behind them
@@ -11,9 +11,9 @@ abbrev pub with_front : List Placed → Read (List Placed) → Read (List Placed
 with_front front read = read >>= λ ts. Ok (front ++ ts)
 
 -- a token that was found is one more of those before
-with_front-put_first : (front : List Placed) (s : Option Sign) (start end : ℕ) (read : Read (List Placed)) → with_front front (read >>= λ ts. Ok (put_first s start end ts)) ≡ with_front (front ++ one s start end) read
+with_front-put_first : (front : List Placed) (s : Option TokenKind) (start end : ℕ) (read : Read (List Placed)) → with_front front (read >>= λ ts. Ok (put_first s start end ts)) ≡ with_front (front ++ one s start end) read
 with_front-put_first front None start end (Ok ts) = ap (λ (l : List Placed). Ok (l ++ ts)) (sym (append-nil front))
-with_front-put_first front (Some s) start end (Ok ts) = ap (λ (l : List Placed). Ok l) (sym (append_assoc front (record { sign = s; start = start; end = end } ∷ []) ts))
+with_front-put_first front (Some s) start end (Ok ts) = ap (λ (l : List Placed). Ok l) (sym (append_assoc front (record { kind = s; start = start; end = end } ∷ []) ts))
 with_front-put_first front s start end (Err e) = refl
 
 -- the next piece

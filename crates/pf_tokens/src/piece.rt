@@ -2,12 +2,12 @@
 ghost use Rattle.std.specs.Prelude.{◌≡◌, ◌≤◌, ◌<◌, ◌+◌, ◌^◌, length, IfOk, slice_index};
 ghost use Rattle.std.specs.List.{AllPass};
 ghost use Rattle.pf_tokens.specs.Bytes.{is_digit};
-ghost use Rattle.pf_tokens.specs.Signs.{sign_of};
+ghost use Rattle.pf_tokens.specs.TokenKinds.{kind_of};
 ghost use Rattle.pf_tokens.specs.Scan.{
   Gives,
   shown,
-  word_sign,
-  variable_sign,
+  word_kind,
+  variable_kind,
   number_at,
   word_at,
   variable_at,
@@ -61,7 +61,7 @@ fn number(bytes: &[u8], place: usize) -> Result<Piece, TokensFault>
 
 /// What a word is: a reserved word or an atom.
 fn word_kind(alloc: Global, text: &[u8]) -> Result<Kind, AllocError>
-    ensures { IfOk result (λ kind. sign_of kind ≡ word_sign text.now) }
+    ensures { IfOk result (λ kind. kind_of kind ≡ word_kind text.now) }
 {
     match reserved_of(text) {
         Some(reserved) => Ok(Kind::Reserved(reserved)),
@@ -80,7 +80,7 @@ fn word(alloc: Global, bytes: &[u8]) -> Result<Piece, TokensFault>
 
 /// What a variable is: `_` alone is the anonymous one.
 fn variable_kind(alloc: Global, text: &[u8]) -> Result<Kind, AllocError>
-    ensures { IfOk result (λ kind. sign_of kind ≡ variable_sign text.now) }
+    ensures { IfOk result (λ kind. kind_of kind ≡ variable_kind text.now) }
 {
     if text == b"_".as_slice() {
         return Ok(Kind::Anonymous);

@@ -1,6 +1,6 @@
 //! The tokens of a text, piece by piece.
 ghost use Rattle.std.specs.Prelude.{◌≡◌, ◌<◌, ◌+◌, ◌++◌, ◌^◌, ◌⊎◌, ℕ, List, length, map, OnOk, IfOk, IfErr, option_map};
-ghost use Rattle.pf_tokens.specs.Signs.{Placed, sign_of, placed_of, one};
+ghost use Rattle.pf_tokens.specs.TokenKinds.{Placed, kind_of, placed_of, one};
 ghost use Rattle.pf_tokens.specs.Rules.{HasTokens, HasFault, HasSomeTokens, HasSomeFault, IsOrdered, IsFaultOf};
 ghost use Rattle.pf_tokens.specs.Scan.{Gives, scan, tokens};
 
@@ -20,7 +20,7 @@ fn put(
     end: usize,
 ) -> Result<(), AllocError>
     ensures { OnOk result (map placed_of found.new.items
-        ≡ map placed_of found.old.items ++ one (option_map sign_of kind) start end) }
+        ≡ map placed_of found.old.items ++ one (option_map kind_of kind) start end) }
 {
     if let Some(kind) = kind {
         found.push(Token { kind, start, end })?;

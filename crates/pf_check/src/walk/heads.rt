@@ -26,7 +26,7 @@ impl Walk {
     /// Through the clauses of a function.
     fn heads(&mut self, source: &Source, own: &Signatures, heads: &[Head]) -> Result<(), NoMemory>
         requires { Lists own.now source.now.functions }
-        ensures { OnOk result (BeginsAnew self.old self.new (flat_map (head_faults (names_of source.now.functions)) (map (head_over source.now.book) heads.now))) }
+        ensures { OnOk result (BeginsAnew self.old self.new (flat_map (head_faults (names_of source.now.functions)) (map (head_over source.now.node_table) heads.now))) }
     {
         for head in heads {
             self.head(source, own, head)?;
@@ -37,12 +37,12 @@ impl Walk {
     /// Through a clause, behind which no variable is known again.
     fn head(&mut self, source: &Source, own: &Signatures, head: &Head) -> Result<(), NoMemory>
         requires { Lists own.now source.now.functions }
-        ensures { OnOk result (BeginsAnew self.old self.new (head_faults (names_of source.now.functions) (head_over source.now.book head.now))) }
+        ensures { OnOk result (BeginsAnew self.old self.new (head_faults (names_of source.now.functions) (head_over source.now.node_table head.now))) }
     {
         let start = self.seen.trail_len();
-        self.shapes(source, &head.parameters)?;
+        self.written_patterns(source, &head.parameters)?;
         self.condition(source, own, &head.condition)?;
-        self.phrases(source, own, &head.body)?;
+        self.written_expressions(source, own, &head.body)?;
         self.seen.forget(start)?;
         Ok(())
     }

@@ -1,60 +1,75 @@
 //! The walk over patterns.
 
 ghost use Rattle.std.specs.Prelude.{OnOk};
-ghost use Rattle.pf_syntax.specs.Shape.{variable};
-ghost use Rattle.pf_syntax.specs.Source.{shape_at};
-ghost use Rattle.pf_syntax.specs.SourceOver.{shape_over, shapes_at};
-ghost use Rattle.pf_check.specs.Walking.{SafeWalked, ShapeWalked, ShapesWalked};
+ghost use Rattle.pf_syntax.specs.WrittenPattern.{variable};
+ghost use Rattle.pf_syntax.specs.Source.{written_pattern_at};
+ghost use Rattle.pf_syntax.specs.SourceOver.{written_pattern_over, written_patterns_at};
+ghost use Rattle.pf_check.specs.Walking.{SafeWalked, WrittenPatternWalked, WrittenPatternsWalked};
 
 use crate::first::CheckFault;
 use crate::seen::Status;
 use crate::walk::Walk;
-use pf_syntax::{ShapeId, ShapeNode, Source, Word};
+use pf_syntax::{Source, Word, WrittenPatternId, WrittenPatternNode};
 use pf_terms::NoMemory;
 
 impl Walk {
     /// Through a pattern.
-    #[cycle(shapes)]
-    pub(super) fn shape(&mut self, source: &Source, id: ShapeId) -> Result<(), NoMemory>
-        ensures { OnOk result (ShapeWalked self.old self.new (shape_at source.now.book id.0)) }
+    #[cycle(written_patterns)]
+    pub(super) fn written_pattern(
+        &mut self,
+        source: &Source,
+        id: WrittenPatternId,
+    ) -> Result<(), NoMemory>
+        ensures { OnOk result (WrittenPatternWalked self.old self.new (written_pattern_at source.now.node_table id.0)) }
     {
-        match source.shape(id) {
-            Some(node) => self.shape_node(source, node),
+        match source.written_pattern(id) {
+            Some(node) => self.written_pattern_node(source, node),
             None => Ok(()),
         }
     }
 
     /// Through a pattern, by its node.
-    #[cycle(shapes)]
-    fn shape_node(&mut self, source: &Source, node: &ShapeNode) -> Result<(), NoMemory>
-        ensures { OnOk result (ShapeWalked self.old self.new (shape_over source.now.book node.now)) }
+    #[cycle(written_patterns)]
+    fn written_pattern_node(
+        &mut self,
+        source: &Source,
+        node: &WrittenPatternNode,
+    ) -> Result<(), NoMemory>
+        ensures { OnOk result (WrittenPatternWalked self.old self.new (written_pattern_over source.now.node_table node.now)) }
     {
         match node {
-            ShapeNode::Variable(word) => self.shape_variable(*word),
-            ShapeNode::Tuple(parts) | ShapeNode::List(parts) => self.shapes(source, parts),
-            ShapeNode::ListOn(parts, tail) => {
-                self.shapes(source, parts)?;
-                self.shape(source, *tail)
+            WrittenPatternNode::Variable(word) => self.written_pattern_variable(*word),
+            WrittenPatternNode::Tuple(parts) | WrittenPatternNode::List(parts) =>
+                self.written_patterns(source, parts),
+            WrittenPatternNode::ListOn(parts, tail) => {
+                self.written_patterns(source, parts)?;
+                self.written_pattern(source, *tail)
             }
-            ShapeNode::Integer(_) | ShapeNode::Atom(_) | ShapeNode::Text(_) | ShapeNode::Anything =>
-                Ok(()),
+            WrittenPatternNode::Integer(_)
+            | WrittenPatternNode::Atom(_)
+            | WrittenPatternNode::Text(_)
+            | WrittenPatternNode::Anything => Ok(()),
         }
     }
 
     /// Through patterns, from left to right.
-    #[cycle(shapes)]
-    pub(super) fn shapes(&mut self, source: &Source, parts: &[ShapeId]) -> Result<(), NoMemory>
-        ensures { OnOk result (ShapesWalked self.old self.new (shapes_at source.now.book parts.now)) }
+    #[cycle(written_patterns)]
+    pub(super) fn written_patterns(
+        &mut self,
+        source: &Source,
+        parts: &[WrittenPatternId],
+    ) -> Result<(), NoMemory>
+        ensures { OnOk result (WrittenPatternsWalked self.old self.new (written_patterns_at source.now.node_table parts.now)) }
     {
         for part in parts {
-            self.shape(source, *part)?;
+            self.written_pattern(source, *part)?;
         }
         Ok(())
     }
 
     /// A variable in a pattern, which becomes bound where it is new.
-    fn shape_variable(&mut self, word: Word) -> Result<(), NoMemory>
-        ensures { OnOk result (ShapeWalked self.old self.new (variable word.name.0 word.offset)) }
+    fn written_pattern_variable(&mut self, word: Word) -> Result<(), NoMemory>
+        ensures { OnOk result (WrittenPatternWalked self.old self.new (variable word.name.0 word.offset)) }
     {
         self.safe(word);
         self.seen.bind(word.name)?;

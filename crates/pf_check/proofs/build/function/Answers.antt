@@ -12,7 +12,7 @@ use Rattle.pf_check.proofs.build.function.Goals as goal
 pub returns-in-Ok : goal.returns-in-Ok
 returns-in-Ok c =
     let fs = c.args.source.now.functions in
-    let b = c.args.source.now.book in
+    let b = c.args.source.now.node_table in
     let hs = c.args.written.now.heads.items in
     let h = c.in-Some.head.now in
     let count = parameters_length b h.parameters.items in

@@ -6,7 +6,7 @@ use Rattle.pf_syntax.specs.Over.{function_over}
 use Rattle.pf_reader.specs.Grammar.{tree_of}
 use Rattle.pf_check.specs.Static.{export_fault, defined_faults}
 use Rattle.pf_check.specs.Checks.{IsModule}
-use Rattle.pf_check.proofs.Shapes_mean.{right_empty}
+use Rattle.pf_check.proofs.WrittenPatterns_mean.{right_empty}
 use Rattle.pf_check.proofs.Knows_more.{next_function, length_mapped}
 use Rattle.pf_check.proofs.Heads_mean.{EachFunction, one_function_more, functions_are}
 use Rattle.pf_check.proofs.build.module_of.Goals as goal
@@ -14,7 +14,7 @@ use Rattle.pf_check.proofs.build.module_of.Goals as goal
 pub loop-written-preserved : goal.loop-written-preserved
 loop-written-preserved c =
     let i = c.loop-written.invariant in
-    let b = c.args.source.now.book in
+    let b = c.args.source.now.node_table in
     let fs = c.args.source.now.functions in
     let es = c.args.source.now.exports in
     let d = c.in_ok-one.ensures in
@@ -34,7 +34,7 @@ loop-written-preserved c =
 pub returns : goal.returns
 returns c = λ clean formed.
     let i = c.loop-written.invariant in
-    let b = c.args.source.now.book in
+    let b = c.args.source.now.node_table in
     let fs = c.args.source.now.functions in
     let es = c.args.source.now.exports in
     let long : length fs ≤ c.loop-written.written-index = omega (arith, ap length c.functions-written-items.ensures, length_mapped (heads_over b) c.functions-written-items.result.now) in

@@ -1,7 +1,7 @@
 use Rattle.std.proofs.Common.{refl}
-use Rattle.pf_syntax.specs.Phrase as p
+use Rattle.pf_syntax.specs.WrittenExpression as p
 use Rattle.pf_syntax.specs.declared.node.Part.TheVariants as part
-use Rattle.pf_check.proofs.Phrases_mean.{phrase_here, variable_means}
+use Rattle.pf_check.proofs.WrittenExpressions_mean.{written_expression_here, variable_means}
 use Rattle.pf_check.proofs.expressions.variable.Goals as goal
 
 pub returns-in-Some : goal.returns-in-Some
@@ -9,5 +9,5 @@ returns-in-Some c =
     let fs = c.args.source.now.functions in
     let x = c.args.word.name.0 in
     let at = c.args.word.offset in
-    phrase_here fs c.args.module.now c.args.places.now _ (p.variable x at) (part.Slot c.in-Some.place) refl tt
+    written_expression_here fs c.args.module.now c.args.places.now _ (p.variable x at) (part.Slot c.in-Some.place) refl tt
     (λ g e f k. variable_means fs g c.args.places.now x at c.in-Some.place e c.in-Some.ensures)

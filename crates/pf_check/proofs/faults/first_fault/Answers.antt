@@ -1,6 +1,6 @@
 use Rattle.std.proofs.Common.{sym, ap, subst}
 use Rattle.std.specs.Prelude.{flat_map, []}
-use Rattle.pf_syntax.specs.Sight.{no_sight}
+use Rattle.pf_syntax.specs.Scope.{no_scope}
 use Rattle.pf_reader.specs.Grammar.{tree_of}
 use Rattle.pf_check.specs.Static.{defined_faults, export_fault, head_faults, faults_of, names_of}
 use Rattle.pf_check.specs.Earliest.{kept, IsLeast}
@@ -12,7 +12,7 @@ pub returns : goal.returns
 returns c =
     let m = c.args.source.now in
     let all = faults_of c.args.atoms.now (tree_of m) in
-    let nothing : Stands c.new.result no_sight = record { bound = λ x. sym (ap is_bound (c.new.ensures.new x)); unsafe = λ x. sym (ap is_marked_unsafe (c.new.ensures.new x)) } in
+    let nothing : Stands c.new.result no_scope = record { bound = λ x. sym (ap is_bound (c.new.ensures.new x)); unsafe = λ x. sym (ap is_marked_unsafe (c.new.ensures.new x)) } in
     let least = first_of_all (defined_faults c.args.atoms.now [] m.functions) (flat_map (export_fault m.functions) m.exports) (flat_map (flat_map (head_faults (names_of m.functions))) m.functions)
     (kept c.new-first.result) (kept c.own_functions.new.first) (kept c.note_exports.new.first) (kept c.functions.new.self.first)
     c.new-first.ensures c.in_ok-own.ensures.found c.note_exports.ensures (c.in_ok-functions.ensures.found nothing) in

@@ -1,6 +1,6 @@
 use Rattle.std.proofs.Common.{◌≡◌, ◌⊎◌, inl, inr, ℕ, List, Ok, Err, sym, ap, ◌∙◌}
 use Rattle.pf_tokens.specs.declared.fault.Fault.{Fault}
-use Rattle.pf_tokens.specs.Signs.{Placed}
+use Rattle.pf_tokens.specs.TokenKinds.{Placed}
 use Rattle.pf_tokens.specs.Rules.{HasSomeTokens, HasSomeFault}
 use Rattle.pf_tokens.specs.Scan.{Read, tokens}
 use Rattle.pf_tokens.proofs.Texts.{Tells, tokens_tell, tokens_again, tokens_fail}

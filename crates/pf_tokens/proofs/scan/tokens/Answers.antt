@@ -3,7 +3,7 @@ use Rattle.std.specs.Prelude.{map}
 use Rattle.pf_tokens.specs.declared.token.Token.{Token}
 use Rattle.pf_tokens.specs.declared.fault.TokensFault.{TokensFault}
 use Rattle.pf_tokens.specs.declared.fault.TokensFault.TheVariants as outcomes
-use Rattle.pf_tokens.specs.Signs.{Placed, placed_of}
+use Rattle.pf_tokens.specs.TokenKinds.{Placed, placed_of}
 use Rattle.pf_tokens.specs.Rules.{HasTokens, IsOrdered, IsFaultOf}
 use Rattle.pf_tokens.specs.Scan.{Read, Gives, tokens}
 use Rattle.pf_tokens.proofs.Texts.{Tells, tokens_tell, tokens_again, tokens_fail, ordered}

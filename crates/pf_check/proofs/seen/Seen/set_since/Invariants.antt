@@ -1,6 +1,6 @@
 use Rattle.std.proofs.Common.{◌≡◌, ℕ, drop}
 use Rattle.std.specs.Prelude.{if◌then◌else◌}
-use Rattle.pf_syntax.specs.Sight.{has}
+use Rattle.pf_syntax.specs.Scope.{has}
 use Rattle.pf_check.specs.Marks.{left_of, seen_of}
 use Rattle.pf_check.proofs.seen.Seen.set_since.Given as goal
 
