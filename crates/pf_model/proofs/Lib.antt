@@ -4,5 +4,4 @@ pub mod Meanings
 pub mod Lifts
 pub mod Rest
 pub mod Isolated
-pub mod Roots
 pub mod Histories

@@ -17,7 +17,6 @@ pub mod PlainFunctions
 pub mod Stepped
 pub mod Reports
 pub mod Turned
-pub mod Root
 pub mod Desk
 pub mod History
 pub mod World

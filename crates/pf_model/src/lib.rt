@@ -9,9 +9,7 @@ pub mod laws;
 pub mod plain;
 pub mod reasons;
 pub mod report;
-mod root;
 pub mod run;
 mod steps;
 mod substitution;
 
-pub use root::find_root;

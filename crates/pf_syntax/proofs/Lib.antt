@@ -8,4 +8,5 @@ pub mod BookExtends
 pub mod BookFolds
 pub mod BookGrown
 pub mod Measures
+pub mod Roots
 mod Worked

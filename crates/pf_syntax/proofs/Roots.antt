@@ -12,7 +12,7 @@ use Rattle.pf_terms.specs.Atoms.{name_of}
 use Rattle.pf_terms.specs.Order.{TellsApart}
 use Rattle.pf_syntax.specs.Tree.{Function, Program}
 use Rattle.pf_syntax.specs.Module.{first_named}
-use Rattle.pf_model.specs.Root.{root_of, root_at, exported_at, exported_of}
+use Rattle.pf_syntax.specs.Root.{root_of, root_at, exported_at, exported_of}
 
 -- where no name is this one, none stands at a place
 none_any : {X : Type 0} (p : X → Bool) (xs : List X) → list_any p xs ≡ false → position_or_len p xs ≡ length xs
