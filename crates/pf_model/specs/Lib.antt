@@ -6,17 +6,7 @@ pub mod Meaning
 pub mod Text
 pub mod Examples
 pub mod Scopes
-pub mod PlainCode
-pub mod PlainPatterns
-pub mod PlainPatternFalls
-pub mod Plain
-pub mod PlainFalls
-pub mod Results
-pub mod Changes
-pub mod PlainFunctions
-pub mod Stepped
 pub mod Reports
-pub mod Turned
 pub mod Desk
 pub mod History
 pub mod World

@@ -4,7 +4,7 @@ ghost use Rattle.std.specs.Prelude.{◌≡◌, Err, IfOk, OnOk};
 ghost use Rattle.pf_terms.specs.Value.{atom, list, more, none, tuple, IsWithinLimits};
 ghost use Rattle.pf_terms.specs.Term.{value_of};
 ghost use Rattle.pf_terms.specs.declared.build.TermFault.TheVariants.{TooLarge};
-ghost use Rattle.pf_model.specs.Contraction as spec;
+ghost use Rattle.pf_ops.specs.Reasons as spec;
 
 use pf_terms::{AtomId, List, NoMemory, Term, TermFault, copy, tuple_of};
 use std::alloc::Global;
@@ -20,7 +20,7 @@ fn pair(alloc: Global, first: Term, second: Term) -> Result<Term, TermFault>
 
 /// `{tag, value}`.
 pub fn tagged(alloc: Global, tag: AtomId, value: &Term) -> Result<Term, NoMemory>
-    ensures { IfOk result (λ t. value_of t ≡ spec.built (λ v. tuple (more (atom tag.0) (more v none))) (value_of value.now)) }
+    ensures { IfOk result (λ t. value_of t ≡ spec.tagged (atom tag.0) (value_of value.now)) }
 {
     match pair(alloc, Term::Atom(tag), copy(value)?) {
         Ok(term) => Ok(term),

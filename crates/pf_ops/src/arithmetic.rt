@@ -4,15 +4,15 @@ ghost use Rattle.std.specs.Prelude.{◌≡◌};
 ghost use Rattle.pf_terms.specs.Term.{value_of};
 ghost use Rattle.pf_syntax.specs.Operators.{operator_of};
 ghost use Rattle.pf_syntax.specs.Tree.{quotient as quotient_operator, remainder as remainder_operator};
-ghost use Rattle.pf_model.specs.Contraction as spec;
-ghost use Rattle.pf_model.specs.Results.{change_of_integer};
+ghost use Rattle.pf_ops.specs.Arithmetic as spec;
+ghost use Rattle.pf_ops.specs.Results.{result_of};
 
 use pf_syntax::Operator;
 use pf_terms::{AtomId, Term};
 
 /// An operator on two values; `Err` has the reason that it raises.
 pub fn applied(operator: Operator, a: &Term, b: &Term) -> Result<i64, AtomId>
-    ensures { change_of_integer result ≡ spec.applied (operator_of operator) (value_of a.now) (value_of b.now) }
+    ensures { result_of result ≡ spec.applied (operator_of operator) (value_of a.now) (value_of b.now) }
 {
     match operator {
         Operator::Plus
@@ -28,7 +28,7 @@ pub fn applied(operator: Operator, a: &Term, b: &Term) -> Result<i64, AtomId>
 }
 
 fn on_integers(operator: Operator, x: i64, y: i64) -> Result<i64, AtomId>
-    ensures { change_of_integer result ≡ spec.on_integers (operator_of operator) x y }
+    ensures { result_of result ≡ spec.on_integers (operator_of operator) x y }
 {
     match operator {
         Operator::Plus => match x.checked_add(y) {
@@ -50,7 +50,7 @@ fn on_integers(operator: Operator, x: i64, y: i64) -> Result<i64, AtomId>
 }
 
 fn quotient(x: i64, y: i64) -> Result<i64, AtomId>
-    ensures { change_of_integer result ≡ spec.on_integers quotient_operator x y }
+    ensures { result_of result ≡ spec.on_integers quotient_operator x y }
 {
     if y == 0 {
         return Err(AtomId::BADARITH);
@@ -63,7 +63,7 @@ fn quotient(x: i64, y: i64) -> Result<i64, AtomId>
 
 /// The least integer over -1 leaves 0, though its quotient passes 64 bits.
 fn remainder(x: i64, y: i64) -> Result<i64, AtomId>
-    ensures { change_of_integer result ≡ spec.on_integers remainder_operator x y }
+    ensures { result_of result ≡ spec.on_integers remainder_operator x y }
 {
     if y == 0 {
         Err(AtomId::BADARITH)
@@ -76,7 +76,7 @@ fn remainder(x: i64, y: i64) -> Result<i64, AtomId>
 
 /// Unary minus; `Err` has the reason that it raises.
 pub fn negated(a: &Term) -> Result<i64, AtomId>
-    ensures { change_of_integer result ≡ spec.negated (value_of a.now) }
+    ensures { result_of result ≡ spec.negated (value_of a.now) }
 {
     match a {
         Term::Int(x) => match x.checked_neg() {
