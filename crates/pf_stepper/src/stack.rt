@@ -50,7 +50,7 @@ pub(crate) fn fits_slot(env: &[Term], base: usize, place: u32, value: &Term) -> 
 }
 
 impl Stack {
-    /// The value of an operand that needs no turn of its own: of a literal, or of a variable in scope.
+    /// The value of an operand that needs no micro-step of its own: of a literal, or of a variable in scope.
     #[inline(always)]
     pub(crate) fn immediate(&self, code: &Module, part: Part) -> Result<Option<Term>, NoMemory>
         ensures { IfOk result (λ o. IsImmediate code.now.tables (scope_of (drop self.now.base self.now.env.items)) part o) }

@@ -1,4 +1,4 @@
-use Rattle.pf_stepper.proofs.Given.{turns_right, applies_at_once}
+use Rattle.pf_stepper.proofs.Given.{goes_right, applies_at_once}
 use Rattle.pf_stepper.proofs.stack.Stack.left_done.Goals as goal
 
 pub returns-in-Some : goal.returns-in-Some
@@ -10,4 +10,4 @@ returns-in-Some c =
 pub returns-in_ok-wait-in-None : goal.returns-in_ok-wait-in-None
 returns-in_ok-wait-in-None c =
     let w = c.in_ok-wait-in-None.ensures in
-    rw (w.ok, w.env, w.temps, w.base, c.in_ok-push-in-None.ensures.items, c.truncate.ensures.items) (turns_right _ _ _ _ _ c.args.frame c.args.value c.requires.sound c.args.id _ _ c.requires.kind (c.operation-operator.ensures.operator, c.operation-operator.ensures.right))
+    rw (w.ok, w.env, w.temps, w.base, c.in_ok-push-in-None.ensures.items, c.truncate.ensures.items) (goes_right _ _ _ _ _ c.args.frame c.args.value c.requires.sound c.args.id _ _ c.requires.kind (c.operation-operator.ensures.operator, c.operation-operator.ensures.right))

@@ -1,24 +1,24 @@
 //! What each kind of frame does with the value that it waited for. The frame has been taken off the stack.
 
 ghost use Rattle.std.specs.Prelude.{◌≡◌, IfOk};
-ghost use Rattle.pf_model.specs.Results.{change_of_integer};
-ghost use Rattle.pf_stepper.specs.Turns.{Gave, Holds, IsOutcome};
+ghost use Rattle.pf_model.specs.Contraction.{change_of_result};
+ghost use Rattle.pf_ops.specs.Results.{result_of};
+ghost use Rattle.pf_stepper.specs.MicroSteps.{Gave, Holds, IsOutcome};
 ghost use Rattle.pf_stepper.specs.declared.frame.Kind.TheVariants as kind;
 
 use crate::clauses::choose;
 use crate::fitting::fit;
-use crate::frame::{Focus, Frame, Kind, Turn};
+use crate::frame::{Focus, Frame, Kind, MicroStep};
 use crate::lookups::{arguments, clauses, operation, patterns, rest};
 use crate::stack::Stack;
-use pf_model::arithmetic::{applied, negated};
-use pf_model::reasons::tagged;
+use pf_ops::{applied, negated, tagged};
 use pf_syntax::{FunctionId, Module, NodeId, Operator};
 use pf_terms::{AtomId, NoMemory, Term};
 use std::alloc::Global;
 
 /// What an operator came to.
 fn outcome(answer: Result<i64, AtomId>) -> Focus
-    ensures { IsOutcome (change_of_integer answer) result }
+    ensures { IsOutcome (change_of_result (result_of answer)) result }
 {
     match answer {
         Ok(n) => Focus::Value(Term::Int(n)),
@@ -27,7 +27,7 @@ fn outcome(answer: Result<i64, AtomId>) -> Focus
 }
 
 impl Stack {
-    /// A left operand: the operator, where the right one needs no turn of its own, or the right one is next.
+    /// A left operand: the operator, where the right one needs no micro-step of its own, or the right one is next.
     #[inline(always)]
     pub(crate) fn left_done(
         &mut self,
@@ -35,7 +35,7 @@ impl Stack {
         frame: Frame,
         id: NodeId,
         value: Term,
-    ) -> Result<Turn, NoMemory>
+    ) -> Result<MicroStep, NoMemory>
         requires kind { frame.kind ≡ kind.BinaryLeft id }
         requires sound { Holds self.old frame }
         ensures { IfOk result (λ t. Gave code.now self.old frame value self.new t) }
@@ -44,11 +44,11 @@ impl Stack {
         self.base = frame.base;
         let (operator, right) = operation(code, id);
         match self.immediate(code, right)? {
-            Some(other) => Ok(Turn::Changed(outcome(applied(operator, &value, &other)))),
+            Some(other) => Ok(MicroStep::Changed(outcome(applied(operator, &value, &other)))),
             None => {
                 self.temps.push(value)?;
                 self.wait(Kind::BinaryRight(operator))?;
-                Ok(Turn::Same(Focus::Eval(right)))
+                Ok(MicroStep::Same(Focus::Eval(right)))
             }
         }
     }
@@ -60,14 +60,14 @@ impl Stack {
         frame: Frame,
         operator: Operator,
         value: Term,
-    ) -> Result<Turn, NoMemory>
+    ) -> Result<MicroStep, NoMemory>
         requires kind { frame.kind ≡ kind.BinaryRight operator }
         requires sound { Holds self.old frame }
         ensures { IfOk result (λ t. Gave code.now self.old frame value self.new t) }
     {
         match self.temps.pop() {
-            Some(left) => Ok(Turn::Changed(outcome(applied(operator, &left, &value)))),
-            None => Ok(Turn::Changed(Focus::Raised(Term::Atom(AtomId::UNDEF)))),
+            Some(left) => Ok(MicroStep::Changed(outcome(applied(operator, &left, &value)))),
+            None => Ok(MicroStep::Changed(Focus::Raised(Term::Atom(AtomId::UNDEF)))),
         }
     }
 
@@ -79,7 +79,7 @@ impl Stack {
         operator: Operator,
         place: u32,
         value: Term,
-    ) -> Result<Turn, NoMemory>
+    ) -> Result<MicroStep, NoMemory>
         requires kind { frame.kind ≡ kind.BinaryAfterSlot operator place }
         requires sound { Holds self.old frame }
         ensures { IfOk result (λ t. Gave code.now self.old frame value self.new t) }
@@ -87,7 +87,7 @@ impl Stack {
         self.env.truncate(frame.end);
         self.base = frame.base;
         let left = self.slot_or_nil(place)?;
-        Ok(Turn::Changed(outcome(applied(operator, &left, &value))))
+        Ok(MicroStep::Changed(outcome(applied(operator, &left, &value))))
     }
 
     /// The operand of a minus.
@@ -96,12 +96,12 @@ impl Stack {
         code: &Module,
         frame: Frame,
         value: Term,
-    ) -> Result<Turn, NoMemory>
+    ) -> Result<MicroStep, NoMemory>
         requires kind { frame.kind ≡ kind.Negation }
         requires sound { Holds self.old frame }
         ensures { IfOk result (λ t. Gave code.now self.old frame value self.new t) }
     {
-        Ok(Turn::Changed(outcome(negated(&value))))
+        Ok(MicroStep::Changed(outcome(negated(&value))))
     }
 
     /// An argument: the others are next.
@@ -113,7 +113,7 @@ impl Stack {
         id: NodeId,
         done: u32,
         value: Term,
-    ) -> Result<Turn, NoMemory>
+    ) -> Result<MicroStep, NoMemory>
         requires kind { frame.kind ≡ kind.Argument function id done }
         requires sound { Holds self.old frame }
         ensures { IfOk result (λ t. Gave code.now self.old frame value self.new t) }
@@ -134,26 +134,26 @@ impl Stack {
         id: NodeId,
         done: usize,
         value: Term,
-    ) -> Result<Turn, NoMemory>
+    ) -> Result<MicroStep, NoMemory>
         requires kind { frame.kind ≡ kind.Match id done }
         requires sound { Holds self.old frame }
         ensures { IfOk result (λ t. Gave code.now self.old frame value self.new t) }
     {
         let patterns = patterns(code, id);
         match patterns.get(done) {
-            None => Ok(Turn::Changed(Focus::Value(value))),
+            None => Ok(MicroStep::Changed(Focus::Value(value))),
             Some(pattern) => {
                 self.env.truncate(frame.end);
                 self.base = frame.base;
                 if !fit(code, *pattern, &value, &mut self.env, frame.base)? {
                     let reason = tagged(alloc, AtomId::BADMATCH, &value)?;
-                    return Ok(Turn::Changed(Focus::Raised(reason)));
+                    return Ok(MicroStep::Changed(Focus::Raised(reason)));
                 }
                 if done + 1 < patterns.len() {
                     self.wait(Kind::Match(id, done + 1))?;
-                    Ok(Turn::Changed(Focus::Value(value)))
+                    Ok(MicroStep::Changed(Focus::Value(value)))
                 } else {
-                    Ok(Turn::Changed(Focus::Value(value)))
+                    Ok(MicroStep::Changed(Focus::Value(value)))
                 }
             }
         }
@@ -168,7 +168,7 @@ impl Stack {
         id: NodeId,
         done: usize,
         value: Term,
-    ) -> Result<Turn, NoMemory>
+    ) -> Result<MicroStep, NoMemory>
         requires kind { frame.kind ≡ kind.Bind id done }
         requires sound { Holds self.old frame }
         ensures { IfOk result (λ t. Gave code.now self.old frame value self.new t) }
@@ -176,14 +176,14 @@ impl Stack {
         self.env.truncate(frame.end);
         self.base = frame.base;
         match patterns(code, id).get(done) {
-            None => Ok(Turn::Changed(Focus::Eval(rest(code, id)))),
+            None => Ok(MicroStep::Changed(Focus::Eval(rest(code, id)))),
             Some(pattern) => {
                 if !fit(code, *pattern, &value, &mut self.env, frame.base)? {
                     let reason = tagged(alloc, AtomId::BADMATCH, &value)?;
-                    return Ok(Turn::Changed(Focus::Raised(reason)));
+                    return Ok(MicroStep::Changed(Focus::Raised(reason)));
                 }
                 self.wait(Kind::Bind(id, done + 1))?;
-                Ok(Turn::Changed(Focus::Value(value)))
+                Ok(MicroStep::Changed(Focus::Value(value)))
             }
         }
     }
@@ -197,7 +197,7 @@ impl Stack {
         frame: Frame,
         id: NodeId,
         value: Term,
-    ) -> Result<Turn, NoMemory>
+    ) -> Result<MicroStep, NoMemory>
         requires kind { frame.kind ≡ kind.Case id }
         requires sound { Holds self.old frame }
         ensures { IfOk result (λ t. Gave code.now self.old frame value self.new t) }
@@ -206,6 +206,6 @@ impl Stack {
         self.base = frame.base;
         let clauses = clauses(code, id);
         let focus = choose(alloc, code, clauses, &value, &mut self.env, frame.base)?;
-        Ok(Turn::Changed(focus))
+        Ok(MicroStep::Changed(focus))
     }
 }

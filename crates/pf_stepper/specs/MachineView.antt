@@ -10,13 +10,13 @@ use Rattle.pf_syntax.specs.Module.{coded_function}
 use Rattle.pf_model.specs.Place.{Process, Running, Ending, Ended, returned, failed, after_values}
 
 -- a machine: its pid, the functions that it runs, and its process, None once memory was wanting
-pub record Seen : Type 0 where
+pub record MachineView : Type 0 where
   pub own : ℕ
   pub program : Program
   pub process : Option Process
 
 -- a machine at the call of a function with these arguments
-abbrev pub at_call : ℕ → Program → ℕ → Values → Seen
+abbrev pub at_call : ℕ → Program → ℕ → Values → MachineView
 at_call own m f vs = record { own = own; program = m; process = Some (Running (call f (after_values vs no_trees))) }
 
 -- ---- how the logic stores these
@@ -42,7 +42,7 @@ process_from-parts_of (Ended (failed r)) = refl
 abbrev pub coded_process : Coded Process
 coded_process = code_by _ (coded⊎ coded_tree (coded⊎ coded_value (coded⊎ coded_value coded_value))) parts_of process_from process_from-parts_of
 
-abbrev pub coded_seen : Coded Seen
-coded_seen =
+abbrev pub coded_machine_view : Coded MachineView
+coded_machine_view =
     code_by _ (coded× coded_ℕ (coded× (coded_list coded_function) (coded_option coded_process)))
     (λ s. (s.own, (s.program, s.process))) (λ p. record { own = p.0; program = p.1.0; process = p.1.1 }) (λ _. refl)
