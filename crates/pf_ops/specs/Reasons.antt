@@ -7,13 +7,17 @@ use Rattle.pf_terms.specs.Fixed.{badmatch, case_clause, system_limit}
 abbrev pub fits_limits : Value → Bool
 fits_limits v = nat_le (nodes v) 4096 && nat_le (depth v) 64
 
+-- {V, W}
+abbrev pub pair : Value → Value → Value
+pair v w = tuple (more v (more w none))
+
 -- a term that the system builds around an inner value; where it would be too large, `system_limit` stands for that value
 abbrev pub built : (Value → Value) → Value → Value
 built around v = if fits_limits (around v) then around v else around system_limit
 
 -- {T, V}
 abbrev pub tagged : Value → Value → Value
-tagged t = built (λ v. tuple (more t (more v none)))
+tagged t = built (pair t)
 
 -- {badmatch, V} and {case_clause, V}
 abbrev pub no_match : Value → Value
@@ -24,4 +28,4 @@ no_case = tagged case_clause
 
 -- {E, []}: the reason with which a process ends that raised E
 abbrev pub ending_reason : Value → Value
-ending_reason = built (λ e. tuple (more e (more (list none) none)))
+ending_reason = built (λ e. pair e (list none))

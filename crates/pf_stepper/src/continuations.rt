@@ -40,8 +40,7 @@ impl Stack {
         requires sound { Holds self.old frame }
         ensures { IfOk result (λ t. Gave code.now self.old frame value self.new t) }
     {
-        self.env.truncate(frame.end);
-        self.base = frame.base;
+        self.resume(frame);
         let (operator, right) = operation(code, id);
         match self.immediate(code, right)? {
             Some(other) => Ok(MicroStep::Changed(outcome(applied(operator, &value, &other)))),
@@ -84,8 +83,7 @@ impl Stack {
         requires sound { Holds self.old frame }
         ensures { IfOk result (λ t. Gave code.now self.old frame value self.new t) }
     {
-        self.env.truncate(frame.end);
-        self.base = frame.base;
+        self.resume(frame);
         let left = self.slot_or_nil(place)?;
         Ok(MicroStep::Changed(outcome(applied(operator, &left, &value))))
     }
@@ -118,8 +116,7 @@ impl Stack {
         requires sound { Holds self.old frame }
         ensures { IfOk result (λ t. Gave code.now self.old frame value self.new t) }
     {
-        self.env.truncate(frame.end);
-        self.base = frame.base;
+        self.resume(frame);
         self.temps.push(value)?;
         let count = done as usize + 1;
         self.pass(code, function, id, arguments(code, id), count)
@@ -143,8 +140,7 @@ impl Stack {
         match patterns.get(done) {
             None => Ok(MicroStep::Changed(Focus::Value(value))),
             Some(pattern) => {
-                self.env.truncate(frame.end);
-                self.base = frame.base;
+                self.resume(frame);
                 if !fit(code, *pattern, &value, &mut self.env, frame.base)? {
                     let reason = tagged(alloc, AtomId::BADMATCH, &value)?;
                     return Ok(MicroStep::Changed(Focus::Raised(reason)));
@@ -173,8 +169,7 @@ impl Stack {
         requires sound { Holds self.old frame }
         ensures { IfOk result (λ t. Gave code.now self.old frame value self.new t) }
     {
-        self.env.truncate(frame.end);
-        self.base = frame.base;
+        self.resume(frame);
         match patterns(code, id).get(done) {
             None => Ok(MicroStep::Changed(Focus::Eval(rest(code, id)))),
             Some(pattern) => {
@@ -202,8 +197,7 @@ impl Stack {
         requires sound { Holds self.old frame }
         ensures { IfOk result (λ t. Gave code.now self.old frame value self.new t) }
     {
-        self.env.truncate(frame.end);
-        self.base = frame.base;
+        self.resume(frame);
         let clauses = clauses(code, id);
         let focus = choose(alloc, code, clauses, &value, &mut self.env, frame.base)?;
         Ok(MicroStep::Changed(focus))
