@@ -44,31 +44,6 @@ impl Stack {
         ensures { IfOk result (λ t. IsMicroStep code.now self.old (Focus.Eval (names id)) self.new t) }
     {
         match code.node(id) {
-<<<<<<< HEAD
-            None => Ok(Turn::Same(Focus::Value(Term::List(List::Nil)))),
-            Some(node) => match node {
-                Node::Binary(operator, left, right) => {
-                    self.operation(alloc, code, id, *operator, *left, *right)
-                }
-                Node::Negate(part) => self.descend(alloc, code, Kind::Negation, *part),
-                Node::Call(function, arguments) => {
-                    self.pass(code, *function, id, arguments.as_slice(), 0)
-                }
-                Node::Match(_, part) => self.descend(alloc, code, Kind::Match(id, 0), *part),
-                Node::Bind(_, part, _) => self.descend(alloc, code, Kind::Bind(id, 0), *part),
-                Node::Case(part, clauses) => {
-                    self.case(alloc, code, id, *part, clauses.as_slice())
-                }
-                Node::Tuple(_)
-                | Node::Cons(_, _)
-                | Node::AndAlso(_, _)
-                | Node::OrElse(_, _)
-                | Node::Builtin(_, _)
-                | Node::If(_)
-                | Node::Receive(_)
-                | Node::Send(_, _) => Ok(Turn::Changed(Focus::Raised(Term::Atom(AtomId::UNDEF)))),
-            },
-=======
             None => Ok(MicroStep::Same(Focus::Value(Term::List(List::Nil)))),
             Some(node) => self.visit_node(alloc, code, id, node),
         }
@@ -106,7 +81,6 @@ impl Stack {
             | Node::If(_)
             | Node::Receive(_)
             | Node::Send(_, _) => Ok(MicroStep::Changed(Focus::Raised(Term::Atom(AtomId::UNDEF)))),
->>>>>>> 87afcad74eb4802a06699dc67f93264fbd455567
         }
     }
 
