@@ -1,6 +1,10 @@
 //! The refusal of a source.
 
+ghost use Rattle.std.specs.Prelude.{◌≡◌};
+ghost use Rattle.pf_fault.specs.declared.fault.OrNoMemory.TheVariants.{Fault};
+
 use crate::code::Code;
+use crate::fault::OrNoMemory;
 use std::fmt;
 
 /// A refusal, and its place in bytes from 0. It prints as `E6 at 41`.
@@ -18,5 +22,14 @@ impl fmt::Display for Refusal {
 
     fn fmt<W: fmt::Write>(&self, f: &mut fmt::Formatter<W>) -> fmt::Result {
         write!(f, "{} at {}", self.code, self.place)
+    }
+}
+
+impl OrNoMemory<Refusal> {
+    /// The refusal of this code at this place.
+    pub fn refusal(code: Code, place: usize) -> OrNoMemory<Refusal>
+        ensures { result ≡ Fault (record { code = code; place = place }) }
+    {
+        OrNoMemory::Fault(Refusal { code, place })
     }
 }
