@@ -1,5 +1,6 @@
 //! Each form of token once, and each fault at its place.
-use crate::{Kind, Token, TokensFault, tokens};
+use crate::{Kind, Token, tokens};
+use pf_fault::OrNoMemory;
 use std::alloc::Global;
 use std::fmt::Write;
 use std::test::Fail;
@@ -30,8 +31,8 @@ fn describe(out: &mut String, token: &Token) -> Result<(), Fail> {
 fn read(alloc: Global, source: &[u8]) -> Result<String, Fail> {
     let mut out = String::new(alloc);
     let found = match tokens(alloc, source) {
-        Err(TokensFault::At(fault, place)) => {
-            write!(out, "{fault} at {place}")?;
+        Err(OrNoMemory::Fault(refusal)) => {
+            write!(out, "{refusal}")?;
             return Ok(out);
         }
         outcome => outcome?,

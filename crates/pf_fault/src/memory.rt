@@ -1,4 +1,4 @@
-//! Want of memory, as every crate answers it.
+//! Out of memory, as every crate answers it.
 
 use std::alloc::{AllocError, AllocFailed};
 use std::error::Error;
@@ -21,9 +21,10 @@ impl<T: Drop> From<AllocFailed<T>> for NoMemory {
 }
 
 impl fmt::Display for NoMemory {
-    ghost use Rattle.std.specs.Prelude.{Some, codes};
+    ghost use Rattle.std.specs.Prelude.{Some};
+    ghost use Rattle.pf_fault.specs.Codes.{no_memory_text};
 
-    ghost output = { λ _. Some (codes "NoMemory") };
+    ghost output = { λ _. Some no_memory_text };
 
     fn fmt<W: fmt::Write>(&self, f: &mut fmt::Formatter<W>) -> fmt::Result {
         f.write_str("NoMemory")
