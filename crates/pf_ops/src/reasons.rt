@@ -3,16 +3,17 @@
 ghost use Rattle.std.specs.Prelude.{◌≡◌, if◌then◌else◌, Err, IfOk, OnOk};
 ghost use Rattle.pf_terms.specs.Value.{atom, IsWithinLimits};
 ghost use Rattle.pf_terms.specs.Term.{value_of};
-ghost use Rattle.pf_terms.specs.declared.build.TermFault.TheVariants.{TooLarge};
+ghost use Rattle.pf_terms.specs.Faults.{past_limits};
 ghost use Rattle.pf_ops.specs.Reasons as spec;
 
-use pf_terms::{AtomId, List, NoMemory, Term, TermFault, copy, tuple_of};
+use pf_fault::{NoMemory, OrNoMemory};
+use pf_terms::{AtomId, List, Term, TooLarge, copy, tuple_of};
 use std::alloc::Global;
 
-fn pair(alloc: Global, first: Term, second: Term) -> Result<Term, TermFault>
+fn pair(alloc: Global, first: Term, second: Term) -> Result<Term, OrNoMemory<TooLarge>>
     ensures made { IfOk result (λ t. value_of t ≡ spec.pair (value_of first) (value_of second)) }
     ensures within { OnOk result (IsWithinLimits (spec.pair (value_of first) (value_of second))) }
-    ensures too_large { result ≡ Err TooLarge → ¬ IsWithinLimits (spec.pair (value_of first) (value_of second)) }
+    ensures too_large { result ≡ Err past_limits → ¬ IsWithinLimits (spec.pair (value_of first) (value_of second)) }
 {
     let items = vec![in alloc; first, second]?;
     tuple_of(alloc, items)
@@ -26,8 +27,10 @@ fn pair_or(alloc: Global, wanted: (Term, Term), smaller: (Term, Term)) -> Result
 {
     match pair(alloc, wanted.0, wanted.1) {
         Ok(term) => Ok(term),
-        Err(TermFault::NoMemory) => Err(NoMemory),
-        Err(TermFault::TooLarge) => pair(alloc, smaller.0, smaller.1).map_err(|_| NoMemory),
+        Err(OrNoMemory::NoMemory) => Err(NoMemory),
+        Err(OrNoMemory::Fault(TooLarge)) => {
+            pair(alloc, smaller.0, smaller.1).map_err(|_| NoMemory)
+        }
     }
 }
 
