@@ -10,8 +10,6 @@ mod marks;
 mod piece;
 mod quoted;
 mod scan;
-#[cfg(test)]
-mod tests;
 mod token;
 mod words;
 
