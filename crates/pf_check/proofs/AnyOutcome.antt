@@ -6,14 +6,15 @@ use Rattle.pf_tokens.specs.Scan.{Read, tokens}
 use Rattle.pf_tokens.proofs.Texts.{Tells, tokens_tell}
 use Rattle.pf_syntax.specs.Module.{Checked, empty}
 use Rattle.pf_reader.specs.NumberedTokens.{NumberedToken, atoms_of, numbered}
-use Rattle.pf_reader.specs.Grammar.{Tree, HasHead, DerivesTree}
+use Rattle.pf_reader.specs.Grammar.{HasHead, DerivesTree}
+use Rattle.pf_syntax.specs.WrittenModule.{Tree}
 use Rattle.pf_reader.specs.Parse.{begins, tree}
 use Rattle.pf_reader.proofs.Whole.{begins_sound, begins_complete, tree_sound, tree_complete}
-use Rattle.pf_check.specs.Static.{Fault, faults_of, export_fault, defined_faults, head_faults, names_of, NotAfter, IsFirst}
-use Rattle.pf_check.specs.Checks.{IsModule}
+use Rattle.pf_rules.specs.Static.{Fault, faults_of, export_fault, defined_faults, head_faults, names_of, NotAfter, IsFirst}
+use Rattle.pf_rules.specs.Checks.{IsModule}
 use Rattle.pf_check.specs.Reads.{Outcome, refused, Reads, token_fault, no_head, no_tree, static, checked, accepted_as, token_number}
 use Rattle.pf_check.proofs.Derived.{tree_formed}
-use Rattle.pf_check.proofs.Exists.{right_empty, some_functions}
+use Rattle.pf_lower.proofs.Exists.{right_empty, some_functions}
 
 -- ---- the first fault
 

@@ -5,16 +5,17 @@ use Rattle.pf_tokens.specs.TokenKinds.{Placed}
 use Rattle.pf_tokens.specs.Rules.{HasTokens}
 use Rattle.pf_syntax.specs.Module.{Checked}
 use Rattle.pf_reader.specs.NumberedTokens.{atoms_of, numbered}
-use Rattle.pf_reader.specs.Grammar.{Tree, DerivesTree}
+use Rattle.pf_reader.specs.Grammar.{DerivesTree}
+use Rattle.pf_syntax.specs.WrittenModule.{Tree}
 use Rattle.pf_check.specs.declared.fault.Code.{Code}
 use Rattle.pf_check.specs.declared.fault.ReadFault.{ReadFault}
 use Rattle.pf_check.specs.declared.fault.ReadFault.TheVariants as faults
-use Rattle.pf_check.specs.declared.first.Found.{Found}
-use Rattle.pf_check.specs.Static.{Fault, faults_of, IsFirst}
-use Rattle.pf_check.specs.Checks.{IsModule}
-use Rattle.pf_check.specs.Formed.{AreFormed}
+use Rattle.pf_faults.specs.declared.first.Found.{Found}
+use Rattle.pf_rules.specs.Static.{Fault, faults_of, IsFirst}
+use Rattle.pf_rules.specs.Checks.{IsModule}
+use Rattle.pf_rules.specs.Formed.{AreFormed}
 use Rattle.pf_check.proofs.Derived.{tree_formed}
-use Rattle.pf_check.specs.Earliest.{fault_of, number_of_fault}
+use Rattle.pf_faults.specs.Earliest.{fault_of, number_of_fault}
 use Rattle.pf_check.specs.Reads.{Reads, static, checked, accepted_as, number_of, IsFirstOf, IsRefusalOf}
 
 -- the fault that was found, with its number read off its code

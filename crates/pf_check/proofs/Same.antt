@@ -10,11 +10,12 @@ use Rattle.pf_syntax.specs.Module.{Checked}
 use Rattle.pf_syntax.specs.Source.{Export, Head}
 use Rattle.pf_syntax.specs.Naming.{HeadIs}
 use Rattle.pf_reader.specs.NumberedTokens.{atoms_of, numbered}
-use Rattle.pf_reader.specs.Grammar.{Tree, HasHead, DerivesTree}
+use Rattle.pf_reader.specs.Grammar.{HasHead, DerivesTree}
+use Rattle.pf_syntax.specs.WrittenModule.{Tree}
 use Rattle.pf_reader.proofs.Whole.{one_tree}
-use Rattle.pf_check.specs.Static as rules
-use Rattle.pf_check.specs.Static.{faults_of, names_of, NotAfter, IsFirst}
-use Rattle.pf_check.specs.Checks.{Pairwise, FunctionIs, IsModule}
+use Rattle.pf_rules.specs.Static as rules
+use Rattle.pf_rules.specs.Static.{faults_of, names_of, NotAfter, IsFirst}
+use Rattle.pf_rules.specs.Checks.{Pairwise, FunctionIs, IsModule}
 use Rattle.pf_check.specs.Reads.{Outcome, refused, Reads, token_fault, no_head, no_tree, static, checked, SameOutcome, accepted_as, token_number}
 use Rattle.pf_check.proofs.Unique.{one_head}
 

@@ -8,10 +8,11 @@ use Rattle.pf_tokens.specs.Rules.{HasTokens, HasFault}
 use Rattle.pf_syntax.specs.Tree.{Program}
 use Rattle.pf_syntax.specs.Module.{Checked}
 use Rattle.pf_reader.specs.NumberedTokens.{atoms_of, numbered}
-use Rattle.pf_reader.specs.Grammar.{Tree, HasHead, DerivesTree}
-use Rattle.pf_check.specs.Static.{faults_of, IsFirst}
-use Rattle.pf_check.specs.Static as rules
-use Rattle.pf_check.specs.Checks.{IsModule}
+use Rattle.pf_reader.specs.Grammar.{HasHead, DerivesTree}
+use Rattle.pf_syntax.specs.WrittenModule.{Tree}
+use Rattle.pf_rules.specs.Static.{faults_of, IsFirst}
+use Rattle.pf_rules.specs.Static as rules
+use Rattle.pf_rules.specs.Checks.{IsModule}
 use Rattle.pf_check.specs.declared.fault.Code.{Code}
 use Rattle.pf_check.specs.declared.fault.Code.TheVariants as codes_of
 use Rattle.pf_check.specs.declared.fault.ReadFault.{ReadFault}

@@ -141,40 +141,40 @@ module _ (level : ℕ) (operand : Parse WrittenExpression) (limit : ℕ) where
 
 module _ (n : Names) (prim : Parse WrittenExpression) (limit m : ℕ) (small : suc (suc m) < body_level) (below : CompleteFor (levels prim limit m) (Fits n (suc m) limit) (Stops (suc m))) where
   -- reading up to the tree, and going on from there
-  record Comes (e : WrittenExpression) (front r : List NumberedToken) : Type 0 where
+  record ReadsUpTo (e : WrittenExpression) (front r : List NumberedToken) : Type 0 where
     turns : ℕ
     enough : length r ≤ turns
-    comes : levels prim limit (suc m) (front ++ r) ≡ more (suc (suc m)) (levels prim limit m) limit turns e r
+    reads : levels prim limit (suc m) (front ++ r) ≡ more (suc (suc m)) (levels prim limit m) limit turns e r
 
-  comes_at_once : (e : WrittenExpression) (front r : List NumberedToken) → Derives n e (suc m) front → written_expression_depth e ≤ limit → Stops (suc m) r → Comes e front r
+  reads_at_once : (e : WrittenExpression) (front r : List NumberedToken) → Derives n e (suc m) front → written_expression_depth e ≤ limit → Stops (suc m) r → ReadsUpTo e front r
   unfolding levels
-  comes_at_once e front r h deep stops = let one = below e front r (h, deep) stops in record { turns = length r; enough = omega arith; comes = rw one refl }
+  reads_at_once e front r h deep stops = let one = below e front r (h, deep) stops in record { turns = length r; enough = omega arith; reads = rw one refl }
 
-  comes_to : (e : WrittenExpression) (front r : List NumberedToken) → Derives n e (suc (suc m)) front → written_expression_depth e ≤ limit → Stops (suc m) r → Comes e front r
-  comes_to (p.binary o a b) front r h deep stops =
+  reads_up_to : (e : WrittenExpression) (front r : List NumberedToken) → Derives n e (suc (suc m)) front → written_expression_depth e ≤ limit → Stops (suc m) r → ReadsUpTo e front r
+  reads_up_to (p.binary o a b) front r h deep stops =
       elim (cases_lt (level_of o) (suc (suc m))) [
-        | inl lt ↦ comes_at_once (p.binary o a b) front r (omega arith, h.1) deep stops
+        | inl lt ↦ reads_at_once (p.binary o a b) front r (omega arith, h.1) deep stops
         | inr ge ↦
             let q = h.1 in
             let level : level_of o ≡ suc (suc m) = omega (arith, h.0) in
             let r1 = q.1 ∷ (q.2 ++ r) in
-            let left = comes_to a q.0 r1 (subst (λ (k : ℕ). Derives n a k q.0) level q.5) (omega arith) (stops_op (suc m) o q.1 (q.2 ++ r) q.3 (omega (arith, level))) in
+            let left = reads_up_to a q.0 r1 (subst (λ (k : ℕ). Derives n a k q.0) level q.5) (omega arith) (stops_op (suc m) o q.1 (q.2 ++ r) q.3 (omega (arith, level))) in
             let k : left.turns ≡ suc (left.turns - 1) = omega (arith, left.enough) in
             let op = operator_here (suc (suc m)) o q.1 (q.2 ++ r) q.3 level in
             let tight : level_of o - 1 ≡ suc m = omega arith in
             let right = below b q.2 r (subst (λ (j : ℕ). Derives n b j q.2) tight q.6, omega arith) stops in
             let goes = more_goes (suc (suc m)) (levels prim limit m) limit left.turns (left.turns - 1) a r1 (o, q.2 ++ r) (b, r) k op right deep in
             let regroup : front ++ r ≡ q.0 ++ r1 = ap (λ (l : List NumberedToken). l ++ r) q.4 ∙ append_assoc q.0 (q.1 ∷ q.2) r in
-            record { turns = left.turns - 1; enough = omega (arith, left.enough, length-append q.2 r); comes = ap (levels prim limit (suc m)) regroup ∙ left.comes ∙ goes }
+            record { turns = left.turns - 1; enough = omega (arith, left.enough, length-append q.2 r); reads = ap (levels prim limit (suc m)) regroup ∙ left.reads ∙ goes }
       ]
-  comes_to (p.negate a) front r h deep stops = comes_at_once (p.negate a) front r (omega arith, h.1) deep stops
-  comes_to (p.match q a) front r h deep stops = absurd (omega (arith, h.0, small))
-  comes_to e front r h deep stops = comes_at_once e front r h deep stops
+  reads_up_to (p.negate a) front r h deep stops = reads_at_once (p.negate a) front r (omega arith, h.1) deep stops
+  reads_up_to (p.match q a) front r h deep stops = absurd (omega (arith, h.0, small))
+  reads_up_to e front r h deep stops = reads_at_once e front r h deep stops
 
   levels_next : CompleteFor (levels prim limit (suc m)) (Fits n (suc (suc m)) limit) (Stops (suc (suc m)))
   levels_next e front rest fits stops =
-      let c = comes_to e front rest fits.0 fits.1 (stops_below (suc m) (suc (suc m)) rest (omega arith) stops) in
-      c.comes ∙ more_stops (suc (suc m)) (levels prim limit m) limit c.turns e rest (stops.no_operator (suc (suc m)) (omega arith))
+      let c = reads_up_to e front rest fits.0 fits.1 (stops_below (suc m) (suc (suc m)) rest (omega arith) stops) in
+      c.reads ∙ more_stops (suc (suc m)) (levels prim limit m) limit c.turns e rest (stops.no_operator (suc (suc m)) (omega arith))
 
 pub levels_complete : (n : Names) (prim : Parse WrittenExpression) (limit : ℕ) → CompleteFor prim (Fits n 0 limit) (Stops 0) → (m : ℕ) → suc m < body_level → CompleteFor (levels prim limit m) (Fits n (suc m) limit) (Stops (suc m))
 unfolding levels

@@ -9,7 +9,8 @@ use Rattle.pf_syntax.specs.WrittenPattern as s
 use Rattle.pf_syntax.specs.WrittenPattern.{WrittenPattern, WrittenPatterns, no_written_patterns, written_pattern, written_patterns_depth}
 use Rattle.pf_syntax.specs.WrittenExpression as p
 use Rattle.pf_syntax.specs.WrittenExpression.{WrittenExpression, WrittenExpressions, Condition, Branches, no_written_expressions, written_expression, no_tests, tests, no_branches, branch, written_expressions_depth}
-use Rattle.pf_syntax.specs.Source.{Export, Head, Written}
+use Rattle.pf_syntax.specs.Source.{Export, Head}
+pub use Rattle.pf_syntax.specs.WrittenModule.{Tree, tree_of, unguarded}
 use Rattle.pf_reader.specs.NumberedTokens.{NumberedKind, integer, atom, variable, anonymous, own_module, dot, mark, reserved, NumberedToken}
 
 -- what numbers in tokens stand for: the names of atoms, and the number of the module's own name
@@ -99,10 +100,6 @@ DerivesWrittenPatterns n (written_pattern q no_written_patterns) ts = DerivesWri
 DerivesWrittenPatterns n (written_pattern q (written_pattern r qs)) ts = Apart (mark marks.Comma) (DerivesWrittenPattern n q) (DerivesWrittenPatterns n (written_pattern r qs)) ts
 
 -- ---- expressions
-
--- no `when`: one alternative with no test
-abbrev pub unguarded : Condition
-unguarded = tests no_written_expressions no_tests
 
 abbrev mutual
   -- an expression of at most this level
@@ -222,16 +219,6 @@ pub record Begins (atoms : List (List ℕ)) (name : ℕ) (rest ts : List Numbere
   pub name_is : atom_token.kind ≡ atom name
   pub closes_is : closes.kind ≡ mark marks.CloseParenthesis
   pub last_is : last.kind ≡ dot
-
--- a module as it is read: the number of its name, its exports in order, and its functions, each its clauses
-pub record Tree : Type 0 where
-  pub name : ℕ
-  pub exports : List Export
-  pub functions : List (List Head)
-
--- what is told of a source without its table of nodes
-abbrev pub tree_of : Written → Tree
-tree_of w = record { name = w.name; exports = w.exports; functions = w.functions }
 
 -- the tokens begin with a first form
 abbrev pub HasHead : List (List ℕ) → List NumberedToken → Type 0

@@ -1,7 +1,7 @@
 //! Numbers for the names in tokens.
 
 ghost use Rattle.std.specs.Prelude.{◌≡◌, ◌<◌, ◌^◌, ℕ, length, List, map, IfErr, IfOk, OnOk};
-ghost use Rattle.pf_terms.specs.Atoms.{with_name, with_names};
+ghost use Rattle.pf_terms.specs.Atoms.{fixed_names, with_name, with_names};
 ghost use Rattle.pf_tokens.specs.TokenKinds.{placed_of, kind_of};
 ghost use Rattle.pf_reader.specs.declared.fault.ReadFault.TheVariants.{Memory};
 ghost use Rattle.pf_reader.specs.NumberedTokens.{atom_name, atoms_of, number_in, numbered, variable_name};
@@ -77,6 +77,28 @@ fn offset_of(start: usize) -> Result<u32, ReadFault>
     }
 }
 
+/// The tokens with numbers for their names, which the tables, fresh ones, get.
+fn number_all(
+    alloc: Global,
+    atoms: &mut AtomTable,
+    variables: &mut AtomTable,
+    tokens: &[Token],
+) -> Result<Vec<NumberedToken>, ReadFault>
+    requires atoms { atoms.old ≡ fixed_names }
+    requires variables { variables.old ≡ fixed_names }
+    ensures atoms { OnOk result (atoms.new ≡ atoms_of (map placed_of tokens.now)) }
+    ensures token_list { IfOk result (λ found. token_list found.items ≡ numbered (map placed_of tokens.now)) }
+    ensures err { IfErr result (λ e. e ≡ Memory) }
+{
+    let mut found = Vec::new(alloc);
+    for token in tokens {
+        let kind = number_kind(alloc, atoms, variables, &token.kind)?;
+        let at = offset_of(token.start)?;
+        found.push(NumberedToken { kind, at })?;
+    }
+    Ok(found)
+}
+
 /// The atoms of the tokens, and the tokens with numbers for their names. It fails by want of memory alone.
 pub(crate) fn number_tokens(
     alloc: Global,
@@ -88,11 +110,6 @@ pub(crate) fn number_tokens(
 {
     let mut atoms = AtomTable::new(alloc)?;
     let mut variables = AtomTable::new(alloc)?;
-    let mut found = Vec::new(alloc);
-    for token in tokens {
-        let kind = number_kind(alloc, &mut atoms, &mut variables, &token.kind)?;
-        let at = offset_of(token.start)?;
-        found.push(NumberedToken { kind, at })?;
-    }
+    let found = number_all(alloc, &mut atoms, &mut variables, tokens)?;
     Ok((atoms, found))
 }

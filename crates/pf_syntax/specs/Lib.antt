@@ -15,6 +15,7 @@ pub mod SourceCode
 pub mod Measure
 pub mod SourceOver
 pub mod SourceView
+pub mod WrittenModule
 pub mod Scope
 pub mod Naming
 pub mod Worked
