@@ -18,6 +18,7 @@ pub mod Stepped
 pub mod Reports
 pub mod Turned
 pub mod Root
+pub mod Limits
 pub mod Desk
 pub mod History
 pub mod World

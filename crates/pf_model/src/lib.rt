@@ -6,6 +6,7 @@ mod contraction;
 mod fitting;
 pub mod functions;
 pub mod laws;
+pub mod limits;
 pub mod plain;
 pub mod reasons;
 pub mod report;
