@@ -7,6 +7,7 @@ pub mod Text
 pub mod Examples
 pub mod Scopes
 pub mod Reports
+pub mod Limits
 pub mod Desk
 pub mod History
 pub mod World

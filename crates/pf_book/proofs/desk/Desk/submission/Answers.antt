@@ -1,4 +1,4 @@
-use Rattle.std.proofs.Common.{rules, ◌≡◌, ℕ, ◌+◌, List, [], ◌∷◌, ◌++◌, length, refl, sym, ap, ◌∙◌, subst}
+use Rattle.std.proofs.Common.{rules, ◌≡◌, ℕ, ◌+◌, List, [], ◌∷◌, ◌++◌, length, refl, ap, ◌∙◌, subst}
 use Rattle.pf_model.specs.Desk as desk
 use Rattle.pf_check.specs.Reads.{number_of, IsRefusalOf}
 use Rattle.pf_check.specs.declared.fault.ReadFault.TheVariants.{Refused}
@@ -7,7 +7,7 @@ use Rattle.pf_book.specs.declared.reply.Reply.TheVariants as reply
 use Rattle.pf_book.specs.declared.entry.Entry.TheVariants.{SubmitRefused}
 use Rattle.pf_book.specs.declared.plan.Addition.TheVariants.{Nothing}
 use Rattle.pf_book.proofs.Profiles.{submitted_read, submitted_refused}
-use Rattle.pf_book.proofs.bench.Bench.submission.Goals as goal
+use Rattle.pf_book.proofs.desk.Desk.submission.Goals as goal
 
 pub returns-in_ok-share-in-Ok : goal.returns-in_ok-share-in-Ok
 returns-in_ok-share-in-Ok c =
@@ -16,7 +16,7 @@ returns-in_ok-share-in-Ok c =
     let read = c.in-Ok.ensures.read in
     let many : c.len.result ≡ length d.modules = search rules in
     let noted : c.in_ok-share-in-Ok.field-0 ≡ c.args.source = search rules in (
-      ap (λ n. (record d { modules = d.modules ++ s ∷ [] }, desk.number (n + 1))) many ∙ submitted_read d c.args.source s read.1.0 read.0 read.1.1,
+      (λ p right. ap (λ n. (record d { modules = d.modules ++ s ∷ [] }, desk.number (n + 1))) many ∙ submitted_read p right d c.args.source s read.1.0 read.0 read.1.1),
       ap (λ (text : List ℕ). desk.called (desk.submit text) (desk.number (c.len.result + 1))) noted,
     )
 
@@ -25,5 +25,5 @@ returns-in-Err-Refused c =
     let d = c.args.self.now in
     let r = c.in-Err-Refused.refused in
     let fault : IsRefusalOf c.args.source (Refused r) = subst (IsRefusalOf c.args.source) c.in-Err-Refused.field-0-is c.in-Err-Refused.ensures.fault in
-    let plan : c.told.result ≡ record { addition = Nothing; noted = SubmitRefused c.args.source (refusal.Source r.code); reply = reply.Refused (refusal.Source r.code) } = search rules in
-    rw plan (submitted_refused d c.args.source (number_of r.code) r.place fault, refl)
+    let plan : c.reply_alone.result ≡ record { addition = Nothing; noted = SubmitRefused c.args.source (refusal.Source r.code); reply = reply.Refused (refusal.Source r.code) } = search rules in
+    rw plan (λ p right. submitted_refused p right d c.args.source (number_of r.code) r.place fault, refl)

@@ -1,11 +1,13 @@
 //! The desk of one project.
 
-ghost use Rattle.std.specs.Prelude.{◌≡◌, true, IfOk, OnOk, OnErr, MatchResult, if◌then◌else◌};
+ghost use Rattle.std.specs.Prelude.{◌≡◌, IfOk, MatchResult, length};
 ghost use Rattle.std.specs.Option.{option_copied};
 ghost use Rattle.pf_model.specs.Desk as desk;
-ghost use Rattle.pf_model.specs.Desk.{no_desk, reply_to, after_call, after_once, is_queued, fetched};
-ghost use Rattle.pf_book.specs.Profile.{profile};
-ghost use Rattle.pf_book.specs.View.{call_seen, order_seen, refusal_seen, reply_seen};
+ghost use Rattle.pf_model.specs.Desk.{no_desk, fetched};
+ghost use Rattle.pf_model.specs.History.{IsLegalDesk};
+ghost use Rattle.pf_book.specs.Profile.{ForRight};
+ghost use Rattle.pf_book.specs.View.{call_seen, order_seen, refusal_seen};
+ghost use Rattle.pf_book.specs.Answers.{DeskAnswers, DeskWorks};
 ghost use Rattle.pf_book.specs.Plans.{IsPlan};
 ghost use Rattle.pf_book.specs.Queued.{job_at};
 ghost use Rattle.pf_book.specs.Trials.{AtomsAt};
@@ -17,7 +19,7 @@ use crate::job::Job;
 use crate::numbers::{make_room, numbered};
 use crate::plan::{Addition, Plan};
 use crate::refusal::Refusal;
-use crate::reply::{Reply, Told};
+use crate::reply::{FiledReport, Reply};
 use crate::trial::Trial;
 use pf_check::ReadFault;
 use pf_quota::Usage;
@@ -30,14 +32,14 @@ use std::sync::Arc;
 /// The desk of one project: its modules, its trials and what it noted, with the sums of what it uses. Contracts see a desk that is
 /// what its history makes of an empty one.
 #[derive(Drop)]
-pub(crate) struct Bench {
+pub(crate) struct Desk {
     modules: Vec<Stored>,
     trials: Vec<Trial>,
     history: Vec<Entry>,
     usage: Usage,
 }
 
-impl Model for Bench {
+impl Model for Desk {
     ghost use Rattle.pf_model.specs.Desk as desk;
     ghost use Rattle.pf_model.specs.DeskCode.{coded_desk};
 
@@ -52,11 +54,11 @@ impl Model for Bench {
     ghost invariant = { IsKept };
 }
 
-impl Bench {
-    pub fn new(alloc: Global) -> Bench
+impl Desk {
+    pub fn new(alloc: Global) -> Desk
         ensures { result ≡ no_desk }
     {
-        Bench {
+        Desk {
             modules: Vec::new(alloc),
             trials: Vec::new(alloc),
             history: Vec::new(alloc),
@@ -64,12 +66,18 @@ impl Bench {
         }
     }
 
+    /// How many things were noted. They are the whole history: replayed on an empty desk they give this desk, and their own replies.
+    pub fn note_count(&self) -> usize
+        ensures count { result ≡ length self.now.history }
+        ensures legal { ForRight (λ p. IsLegalDesk p self.now) }
+    {
+        self.history.len()
+    }
+
     /// Answers a call and notes it with its reply; a source that is in store isn't read again. After want of memory nothing has
     /// changed; a sum of what is used that doesn't fit is want of memory too.
     pub fn call(&mut self, alloc: Global, store: &mut Store, call: Call) -> Result<Reply, NoMemory>
-        ensures reply { IfOk result (λ r. reply_seen r ≡ reply_to profile self.old (call_seen call)) }
-        ensures desk { OnOk result (self.new ≡ after_call profile self.old (call_seen call)) }
-        ensures err { OnErr result (self.new ≡ self.old) }
+        ensures { DeskAnswers self.old (call_seen call) result self.new }
     {
         let Plan {
             addition,
@@ -94,11 +102,11 @@ impl Bench {
     {
         match call {
             Call::Submit(source) => self.submission(alloc, store, source),
-            Call::Order(order) => self.ordering(order),
+            Call::Order(order) => self.ordering(alloc, order),
             Call::Fetch(ticket) => self.fetching(ticket),
             Call::Usage => {
                 let noted = Entry::Used(Box::new(alloc, self.usage)?);
-                Ok(Plan::told(noted, Reply::Usage(self.usage)))
+                Ok(Plan::reply_alone(noted, Reply::Usage(self.usage)))
             }
         }
     }
@@ -119,14 +127,15 @@ impl Bench {
             Err(ReadFault::Refused(refused)) => {
                 let refusal = Refusal::Source(refused.code);
                 let noted = Entry::SubmitRefused(source, refusal);
-                Ok(Plan::told(noted, Reply::Refused(refusal)))
+                Ok(Plan::reply_alone(noted, Reply::Refused(refusal)))
             }
         }
     }
 
-    fn ordering(&self, order: Arc<Order>) -> Result<Plan, NoMemory>
-        ensures { IfOk result (λ p. IsPlan self.now (order_seen order.value) p) }
+    fn ordering(&self, alloc: Global, order: Order) -> Result<Plan, NoMemory>
+        ensures { IfOk result (λ p. IsPlan self.now (order_seen order) p) }
     {
+        let order = Arc::new(alloc, order)?;
         match Job::ordered(&self.modules, &order) {
             Ok(job) => {
                 let ticket = self.trials.len() as u64 + 1;
@@ -139,7 +148,7 @@ impl Bench {
             Err(Fault::Memory) => Err(NoMemory),
             Err(Fault::Refused(refusal)) => {
                 let noted = Entry::OrderRefused(order, refusal);
-                Ok(Plan::told(noted, Reply::Refused(refusal)))
+                Ok(Plan::reply_alone(noted, Reply::Refused(refusal)))
             }
         }
     }
@@ -147,14 +156,14 @@ impl Bench {
     fn fetching(&self, ticket: u64) -> Result<Plan, NoMemory>
         ensures { IfOk result (λ p. IsPlan self.now (desk.fetch ticket) p) }
     {
-        match told(&self.trials, ticket) {
-            Ok(told) => {
-                let noted = Entry::Fetched(ticket, told.share()?);
-                Ok(Plan::told(noted, Reply::Report(told.share()?)))
+        match filed_report(&self.trials, ticket) {
+            Ok(report) => {
+                let noted = Entry::Fetched(ticket, report.share()?);
+                Ok(Plan::reply_alone(noted, Reply::Report(report.share()?)))
             }
             Err(refusal) => {
                 let noted = Entry::FetchRefused(ticket, refusal);
-                Ok(Plan::told(noted, Reply::Refused(refusal)))
+                Ok(Plan::reply_alone(noted, Reply::Refused(refusal)))
             }
         }
     }
@@ -162,17 +171,14 @@ impl Bench {
     /// A worker claims a trial, runs it whole and files its report; says false where the trial isn't queued, which wants no memory.
     /// After want of memory nothing has changed.
     pub fn once(&mut self, alloc: Global, ticket: u64) -> Result<bool, NoMemory>
-        ensures queued { IfOk result (λ b. b ≡ is_queued (desk.numbered self.old.trials ticket)) }
-        ensures desk { IfOk result (λ b. self.new ≡ (if b then after_once profile self.old ticket else self.old)) }
-        ensures err { OnErr result (self.new ≡ self.old) }
-        ensures wanting { OnErr result (is_queued (desk.numbered self.old.trials ticket) ≡ true) }
+        ensures { DeskWorks self.old ticket result self.new }
     {
         let Some(job) = queued(&self.trials, ticket) else {
             return Ok(false);
         };
-        let told = Told::new(alloc, job.module(), job.run(alloc)?)?;
+        let report = FiledReport::new(alloc, job.module(), job.run(alloc)?)?;
         make_room(&mut self.history, 2)?;
-        file(&mut self.trials, ticket, told);
+        file(&mut self.trials, ticket, report);
         self.history.push_reserved(Entry::Claimed(ticket));
         self.history.push_reserved(Entry::Filed(ticket));
         Ok(true)
@@ -187,22 +193,22 @@ fn queued(trials: &[Trial], ticket: u64) -> Option<&Job>
 }
 
 /// The report of the trial of a ticket, where it is filed.
-fn told(trials: &[Trial], ticket: u64) -> Result<&Told, Refusal>
+fn filed_report(trials: &[Trial], ticket: u64) -> Result<&FiledReport, Refusal>
     ensures { MatchResult result
-        (λ t. fetched (desk.numbered trials.now ticket) ≡ desk.report t.now.0 t.now.1)
+        (λ r. fetched (desk.numbered trials.now ticket) ≡ desk.report r.now.0 r.now.1)
         (λ e. fetched (desk.numbered trials.now ticket) ≡ desk.refused (refusal_seen e)) }
 {
-    numbered(trials, ticket).ok_or(Refusal::NoTrial)?.told()
+    numbered(trials, ticket).ok_or(Refusal::NoTrial)?.report()
 }
 
 /// Files the report of the trial of a ticket, which speaks of the atoms of its module.
-fn file(trials: &mut Vec<Trial>, ticket: u64, told: Told)
-    requires { AtomsAt trials.old.items ticket told.0 }
-    ensures { trials.new.items ≡ desk.with_state trials.old.items ticket (λ j. desk.done told.1) }
+fn file(trials: &mut Vec<Trial>, ticket: u64, report: FiledReport)
+    requires { AtomsAt trials.old.items ticket report.0 }
+    ensures { trials.new.items ≡ desk.with_state trials.old.items ticket (λ j. desk.done report.1) }
 {
     if ticket == 0 || ticket > trials.len() as u64 {
         return;
     }
     let trial = &mut trials[ticket as usize - 1];
-    trial.file(told);
+    trial.file(report);
 }
