@@ -9,7 +9,6 @@ use crate::call::Order;
 use crate::fault::Fault;
 use crate::numbers::numbered;
 use crate::refusal::Refusal;
-use pf_model::find_root;
 use pf_model::limits::is_in_range;
 use pf_model::report::Report;
 use pf_stepper::run_one;
@@ -54,7 +53,10 @@ impl Job {
             (IsRefusedJob (job_asked modules.now order.now.value)) }
     {
         let stored = numbered(modules, order.module).ok_or(Refusal::NoModule)?;
-        let root = find_root(stored.module(), order.root.as_slice()).ok_or(Refusal::NoRoot)?;
+        let root = stored
+            .module()
+            .root(order.root.as_slice())
+            .ok_or(Refusal::NoRoot)?;
         if order.property.as_slice() != RETURNS {
             return Err(Fault::Refused(Refusal::NoProperty));
         }

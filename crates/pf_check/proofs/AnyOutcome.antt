@@ -1,19 +1,20 @@
 -- Every source is read in some way.
 use Rattle.std.proofs.Common.{◌≡◌, ◌⊎◌, inl, inr, ℕ, zero, suc, ◌<◌, List, [], ◌∷◌, ◌++◌, Option, Some, None, Ok, Err, Contains, flat_map, refl, sym, ap, ◌∙◌, subst, arith}
-use Rattle.pf_tokens.specs.Signs.{Placed}
+use Rattle.pf_tokens.specs.TokenKinds.{Placed}
 use Rattle.pf_tokens.specs.Rules.{HasTokens}
 use Rattle.pf_tokens.specs.Scan.{Read, tokens}
 use Rattle.pf_tokens.proofs.Texts.{Tells, tokens_tell}
 use Rattle.pf_syntax.specs.Module.{Checked, empty}
-use Rattle.pf_reader.specs.Sign.{Tok, atoms_of, numbered}
-use Rattle.pf_reader.specs.Grammar.{Tree, HasHead, DerivesTree}
+use Rattle.pf_reader.specs.NumberedTokens.{NumberedToken, atoms_of, numbered}
+use Rattle.pf_reader.specs.Grammar.{HasHead, DerivesTree}
+use Rattle.pf_syntax.specs.WrittenModule.{Tree}
 use Rattle.pf_reader.specs.Parse.{begins, tree}
 use Rattle.pf_reader.proofs.Whole.{begins_sound, begins_complete, tree_sound, tree_complete}
-use Rattle.pf_check.specs.Static.{Fault, faults_of, export_fault, defined_faults, head_faults, names_of, NotAfter, IsFirst}
-use Rattle.pf_check.specs.Checks.{IsModule}
+use Rattle.pf_rules.specs.Static.{Fault, faults_of, export_fault, defined_faults, head_faults, names_of, NotAfter, IsFirst}
+use Rattle.pf_rules.specs.Checks.{IsModule}
 use Rattle.pf_check.specs.Reads.{Outcome, refused, Reads, token_fault, no_head, no_tree, static, checked, accepted_as, token_number}
 use Rattle.pf_check.proofs.Derived.{tree_formed}
-use Rattle.pf_check.proofs.Exists.{right_empty, some_functions}
+use Rattle.pf_lower.proofs.Exists.{right_empty, some_functions}
 
 -- ---- the first fault
 
@@ -89,7 +90,7 @@ some_first f (g ∷ gs) = sooner_of f g gs (some_first g gs)
 
 -- ---- the module
 
-some_module : (atoms : List (List ℕ)) (m : Tree) (ts : List Tok) → DerivesTree atoms m ts → faults_of atoms m ≡ [] → (c : Checked) × IsModule atoms m c
+some_module : (atoms : List (List ℕ)) (m : Tree) (ts : List NumberedToken) → DerivesTree atoms m ts → faults_of atoms m ≡ [] → (c : Checked) × IsModule atoms m c
 some_module atoms m ts d none =
     let in_names = flat_map (export_fault m.functions) m.exports ++ defined_faults atoms [] m.functions in
     let in_heads = right_empty in_names (flat_map (flat_map (head_faults (names_of m.functions))) m.functions) none in
@@ -118,7 +119,7 @@ module _ (bytes : List ℕ) where
     no_first_form : begins (atoms_of ts) (numbered ts) ≡ None → HasHead (atoms_of ts) (numbered ts) → ⊥
     no_first_form e h = let k = begins_complete (atoms_of ts) (numbered ts) h.0 h.1 h.2 in cc
 
-    by_head : (o : Option (ℕ × List Tok)) → begins (atoms_of ts) (numbered ts) ≡ o → Outcomes
+    by_head : (o : Option (ℕ × List NumberedToken)) → begins (atoms_of ts) (numbered ts) ≡ o → Outcomes
     by_head None e = (refused 4 0, no_head ts has (no_first_form e))
     by_head (Some x) e = by_tree (x.0, x.1, begins_sound (atoms_of ts) (numbered ts) x e) (tree (atoms_of ts) (numbered ts)) refl
 

@@ -2,17 +2,17 @@
 use Rattle.std.proofs.Common.{◌≡◌, ◌⊎◌, inl, inr, ℕ, zero, suc, List, [], ◌∷◌, ◌++◌, length, Bool, true, false, Some, refl, sym, ap, ◌∙◌, arith, IsTrue}
 use Rattle.std.specs.Prelude.{slice_get, ◌==◌, ◌||◌, not, nat_eq, if◌then◌else◌}
 use Rattle.std.proofs.lemmas.Bool.Decides.{nat_tests}
-use Rattle.pf_syntax.specs.Shape as s
-use Rattle.pf_syntax.specs.Shape.{Shape, Shapes, no_shapes, shape}
-use Rattle.pf_syntax.specs.Phrase as p
-use Rattle.pf_syntax.specs.Phrase.{Phrase, Phrases, no_phrases, phrase}
-use Rattle.pf_syntax.specs.Sight.{Sight, no_sight, has, is_unsafe, is_new, binding, after_shape, after_shapes, after, after_all}
+use Rattle.pf_syntax.specs.WrittenPattern as s
+use Rattle.pf_syntax.specs.WrittenPattern.{WrittenPattern, WrittenPatterns, no_written_patterns, written_pattern}
+use Rattle.pf_syntax.specs.WrittenExpression as p
+use Rattle.pf_syntax.specs.WrittenExpression.{WrittenExpression, WrittenExpressions, no_written_expressions, written_expression}
+use Rattle.pf_syntax.specs.Scope.{Scope, no_scope, has, is_unsafe, is_new, binding, after_written_pattern, after_written_patterns, after, after_all}
 
 -- each name stands at one place
 pub Once : List ℕ → Type 0
 Once names = (x i j : ℕ) → slice_get names i ≡ Some x → slice_get names j ≡ Some x → i ≡ j
 
-abbrev pub SeenOnce : Sight → Type 0
+abbrev pub SeenOnce : Scope → Type 0
 SeenOnce g = Once g.bound
 
 or_true : (b c : Bool) → c ≡ true → b || c ≡ true
@@ -34,7 +34,7 @@ not_new : (b u : Bool) → b ≡ true → IsTrue (not (b || u)) → ⊥
 not_new true u e h = cc
 not_new false u e h = cc
 
-pub new_has_no_place : (g : Sight) (x k : ℕ) → IsTrue (is_new g x) → slice_get g.bound k ≡ Some x → ⊥
+pub new_has_no_place : (g : Scope) (x k : ℕ) → IsTrue (is_new g x) → slice_get g.bound k ≡ Some x → ⊥
 new_has_no_place g x k new e = not_new (has g.bound x) (is_unsafe g x) (there x g.bound k e) new
 
 -- a place among names and one more behind them is one of theirs, or the last
@@ -48,7 +48,7 @@ last_or_before (z ∷ names) x y (suc i) e = further (last_or_before names x y i
     further (inl h) = inl h
     further (inr h) = inr (ap suc h.0, h.1)
 
-with_new : (g : Sight) (x : ℕ) → SeenOnce g → IsTrue (is_new g x) → Once (g.bound ++ x ∷ [])
+with_new : (g : Scope) (x : ℕ) → SeenOnce g → IsTrue (is_new g x) → Once (g.bound ++ x ∷ [])
 unfolding Once
 with_new g x once new y i j e f = either_way (last_or_before g.bound x y i e) (last_or_before g.bound x y j f)
   where
@@ -58,63 +58,63 @@ with_new g x once new y i j e f = either_way (last_or_before g.bound x y i e) (l
     either_way (inr a) (inl b) = absurd (new_has_no_place g x j new (b ∙ ap Some a.1))
     either_way (inr a) (inr b) = a.0 ∙ sym b.0
 
-by_test : (g : Sight) (x : ℕ) (b : Bool) → SeenOnce g → (IsTrue b → Once (g.bound ++ x ∷ []))
+by_test : (g : Scope) (x : ℕ) (b : Bool) → SeenOnce g → (IsTrue b → Once (g.bound ++ x ∷ []))
     → SeenOnce (if b then record { bound = g.bound ++ x ∷ []; unsafe = g.unsafe } else g)
 by_test g x true once h = h refl
 by_test g x false once h = once
 
-once_binding : (g : Sight) (x : ℕ) → SeenOnce g → SeenOnce (binding g x)
+once_binding : (g : Scope) (x : ℕ) → SeenOnce g → SeenOnce (binding g x)
 once_binding g x once = by_test g x (is_new g x) once (with_new g x once)
 
 mutual
-  pub once_shape : (g : Sight) (q : Shape) → SeenOnce g → SeenOnce (after_shape g q)
-  once_shape g (s.variable x at) h = once_binding g x h
-  once_shape g (s.tuple qs) h = once_shapes g qs h
-  once_shape g (s.list qs) h = once_shapes g qs h
-  once_shape g (s.list_on qs q) h = once_shape (after_shapes g qs) q (once_shapes g qs h)
-  once_shape g (s.integer z) h = h
-  once_shape g (s.atom a) h = h
-  once_shape g (s.text cs) h = h
-  once_shape g s.anything h = h
+  pub once_written_pattern : (g : Scope) (q : WrittenPattern) → SeenOnce g → SeenOnce (after_written_pattern g q)
+  once_written_pattern g (s.variable x at) h = once_binding g x h
+  once_written_pattern g (s.tuple qs) h = once_written_patterns g qs h
+  once_written_pattern g (s.list qs) h = once_written_patterns g qs h
+  once_written_pattern g (s.list_on qs q) h = once_written_pattern (after_written_patterns g qs) q (once_written_patterns g qs h)
+  once_written_pattern g (s.integer z) h = h
+  once_written_pattern g (s.atom a) h = h
+  once_written_pattern g (s.text cs) h = h
+  once_written_pattern g s.anything h = h
 
-  pub once_shapes : (g : Sight) (qs : Shapes) → SeenOnce g → SeenOnce (after_shapes g qs)
-  once_shapes g no_shapes h = h
-  once_shapes g (shape q qs) h = once_shapes (after_shape g q) qs (once_shape g q h)
+  pub once_written_patterns : (g : Scope) (qs : WrittenPatterns) → SeenOnce g → SeenOnce (after_written_patterns g qs)
+  once_written_patterns g no_written_patterns h = h
+  once_written_patterns g (written_pattern q qs) h = once_written_patterns (after_written_pattern g q) qs (once_written_pattern g q h)
 
 mutual
-  pub once_phrase : (g : Sight) (e : Phrase) → SeenOnce g → SeenOnce (after g e)
-  once_phrase g (p.integer z) h = h
-  once_phrase g (p.atom a) h = h
-  once_phrase g (p.text cs) h = h
-  once_phrase g (p.variable x at) h = h
-  once_phrase g (p.anonymous at) h = h
-  once_phrase g (p.parentheses a) h = once_phrase g a h
-  once_phrase g (p.tuple es) h = once_phrases g es h
-  once_phrase g (p.list es) h = once_phrases g es h
-  once_phrase g (p.list_on es e) h = once_phrase (after_all g es) e (once_phrases g es h)
-  once_phrase g (p.call f at es) h = once_phrases g es h
-  once_phrase g (p.binary o a b) h = once_phrase (after g a) b (once_phrase g a h)
-  once_phrase g (p.negate a) h = once_phrase g a h
-  once_phrase g (p.both a b) h = once_phrase (after g a) b (once_phrase g a h)
-  once_phrase g (p.either a b) h = once_phrase (after g a) b (once_phrase g a h)
-  once_phrase g (p.send a b) h = once_phrase (after g a) b (once_phrase g a h)
-  once_phrase g (p.match q a) h = once_shape (after g a) q (once_phrase g a h)
-  once_phrase g (p.case a bs) h = once_phrase g a h
-  once_phrase g (p.decide bs) h = h
-  once_phrase g (p.receive bs) h = h
+  pub once_written_expression : (g : Scope) (e : WrittenExpression) → SeenOnce g → SeenOnce (after g e)
+  once_written_expression g (p.integer z) h = h
+  once_written_expression g (p.atom a) h = h
+  once_written_expression g (p.text cs) h = h
+  once_written_expression g (p.variable x at) h = h
+  once_written_expression g (p.anonymous at) h = h
+  once_written_expression g (p.parentheses a) h = once_written_expression g a h
+  once_written_expression g (p.tuple es) h = once_written_expressions g es h
+  once_written_expression g (p.list es) h = once_written_expressions g es h
+  once_written_expression g (p.list_on es e) h = once_written_expression (after_all g es) e (once_written_expressions g es h)
+  once_written_expression g (p.call f at es) h = once_written_expressions g es h
+  once_written_expression g (p.binary o a b) h = once_written_expression (after g a) b (once_written_expression g a h)
+  once_written_expression g (p.negate a) h = once_written_expression g a h
+  once_written_expression g (p.and_also a b) h = once_written_expression (after g a) b (once_written_expression g a h)
+  once_written_expression g (p.or_else a b) h = once_written_expression (after g a) b (once_written_expression g a h)
+  once_written_expression g (p.send a b) h = once_written_expression (after g a) b (once_written_expression g a h)
+  once_written_expression g (p.match q a) h = once_written_pattern (after g a) q (once_written_expression g a h)
+  once_written_expression g (p.case a bs) h = once_written_expression g a h
+  once_written_expression g (p.if_expression bs) h = h
+  once_written_expression g (p.receive bs) h = h
 
-  pub once_phrases : (g : Sight) (es : Phrases) → SeenOnce g → SeenOnce (after_all g es)
-  once_phrases g no_phrases h = h
-  once_phrases g (phrase e es) h = once_phrases (after g e) es (once_phrase g e h)
+  pub once_written_expressions : (g : Scope) (es : WrittenExpressions) → SeenOnce g → SeenOnce (after_all g es)
+  once_written_expressions g no_written_expressions h = h
+  once_written_expressions g (written_expression e es) h = once_written_expressions (after g e) es (once_written_expression g e h)
 
 nothing_there : (x i : ℕ) → slice_get {X = ℕ} [] i ≡ Some x → ⊥
 nothing_there x zero e = cc
 nothing_there x (suc i) e = cc
 
-pub none_seen : SeenOnce no_sight
+pub none_seen : SeenOnce no_scope
 unfolding Once
 none_seen x i j e f = absurd (nothing_there x i e)
 
-pub one_place : (g : Sight) → SeenOnce g → (x i j : ℕ) → slice_get g.bound i ≡ Some x → slice_get g.bound j ≡ Some x → i ≡ j
+pub one_place : (g : Scope) → SeenOnce g → (x i j : ℕ) → slice_get g.bound i ≡ Some x → slice_get g.bound j ≡ Some x → i ≡ j
 unfolding Once
 one_place g h x i j e f = h x i j e f

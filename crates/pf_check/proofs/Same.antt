@@ -1,7 +1,7 @@
 -- A source is read in one way.
 use Rattle.std.proofs.Common.{◌≡◌, inl, inr, ℕ, Bool, List, [], ◌∷◌, length, Ok, Err, Option, None, Some, refl, sym, ap, ap₂, ◌∙◌, subst, arith}
 use Rattle.pf_tokens.specs.declared.fault.Fault.{Fault}
-use Rattle.pf_tokens.specs.Signs.{Placed}
+use Rattle.pf_tokens.specs.TokenKinds.{Placed}
 use Rattle.pf_tokens.specs.Rules.{HasTokens, HasFault}
 use Rattle.pf_tokens.specs.Scan.{Read}
 use Rattle.pf_tokens.proofs.Texts.{tokens_again, tokens_fail}
@@ -9,12 +9,13 @@ use Rattle.pf_syntax.specs.Tree.{Builtin, Function, FunctionClause}
 use Rattle.pf_syntax.specs.Module.{Checked}
 use Rattle.pf_syntax.specs.Source.{Export, Head}
 use Rattle.pf_syntax.specs.Naming.{HeadIs}
-use Rattle.pf_reader.specs.Sign.{atoms_of, numbered}
-use Rattle.pf_reader.specs.Grammar.{Tree, HasHead, DerivesTree}
+use Rattle.pf_reader.specs.NumberedTokens.{atoms_of, numbered}
+use Rattle.pf_reader.specs.Grammar.{HasHead, DerivesTree}
+use Rattle.pf_syntax.specs.WrittenModule.{Tree}
 use Rattle.pf_reader.proofs.Whole.{one_tree}
-use Rattle.pf_check.specs.Static as rules
-use Rattle.pf_check.specs.Static.{faults_of, names_of, NotAfter, IsFirst}
-use Rattle.pf_check.specs.Checks.{Pairwise, FunctionIs, IsModule}
+use Rattle.pf_rules.specs.Static as rules
+use Rattle.pf_rules.specs.Static.{faults_of, names_of, NotAfter, IsFirst}
+use Rattle.pf_rules.specs.Checks.{Pairwise, FunctionIs, IsModule}
 use Rattle.pf_check.specs.Reads.{Outcome, refused, Reads, token_fault, no_head, no_tree, static, checked, SameOutcome, accepted_as, token_number}
 use Rattle.pf_check.proofs.Unique.{one_head}
 

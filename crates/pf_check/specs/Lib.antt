@@ -1,15 +1,1 @@
-pub mod Static
-pub mod Checks
 pub mod Reads
-pub mod Earliest
-pub mod Marks
-pub mod Listing
-pub mod Walking
-pub mod Kinds
-pub mod Formed
-pub mod Bound
-pub mod Grown
-pub mod Built
-pub mod Bodies
-pub mod Knows
-pub mod Heads

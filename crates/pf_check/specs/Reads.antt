@@ -3,15 +3,16 @@ use Rattle.std.specs.Prelude.{◌≡◌, ℕ, List, [], ◌++◌, codes}
 use Rattle.std.specs.Fmt.{decimal}
 use Rattle.pf_tokens.specs.declared.fault.Fault.{Fault}
 use Rattle.pf_tokens.specs.declared.fault.Fault.TheVariants as faults_of_tokens
-use Rattle.pf_tokens.specs.Signs.{Placed}
+use Rattle.pf_tokens.specs.TokenKinds.{Placed}
 use Rattle.pf_tokens.specs.Rules.{HasTokens, HasFault}
 use Rattle.pf_syntax.specs.Tree.{Program}
 use Rattle.pf_syntax.specs.Module.{Checked}
-use Rattle.pf_reader.specs.Sign.{atoms_of, numbered}
-use Rattle.pf_reader.specs.Grammar.{Tree, HasHead, DerivesTree}
-use Rattle.pf_check.specs.Static.{faults_of, IsFirst}
-use Rattle.pf_check.specs.Static as rules
-use Rattle.pf_check.specs.Checks.{IsModule}
+use Rattle.pf_reader.specs.NumberedTokens.{atoms_of, numbered}
+use Rattle.pf_reader.specs.Grammar.{HasHead, DerivesTree}
+use Rattle.pf_syntax.specs.WrittenModule.{Tree}
+use Rattle.pf_rules.specs.Static.{faults_of, IsFirst}
+use Rattle.pf_rules.specs.Static as rules
+use Rattle.pf_rules.specs.Checks.{IsModule}
 use Rattle.pf_check.specs.declared.fault.Code.{Code}
 use Rattle.pf_check.specs.declared.fault.Code.TheVariants as codes_of
 use Rattle.pf_check.specs.declared.fault.ReadFault.{ReadFault}

@@ -1,21 +1,21 @@
 //! A source, from its bytes to a checked module.
 
 ghost use Rattle.std.specs.Prelude.{◌≡◌, [], ℕ, List, IfErr, IfOk, OnOk};
-ghost use Rattle.pf_tokens.specs.Signs.{Placed};
+ghost use Rattle.pf_tokens.specs.TokenKinds.{Placed};
 ghost use Rattle.pf_tokens.specs.Rules.{HasTokens, IsFaultOf};
-ghost use Rattle.pf_reader.specs.Sign.{atoms_of, numbered};
+ghost use Rattle.pf_reader.specs.NumberedTokens.{atoms_of, numbered};
 ghost use Rattle.pf_reader.specs.Outcome.{IsTreeFault};
-ghost use Rattle.pf_reader.specs.Grammar.{tree_of};
-ghost use Rattle.pf_check.specs.Earliest.{number_of_fault};
-ghost use Rattle.pf_check.specs.Static.{faults_of};
-ghost use Rattle.pf_check.specs.Checks.{IsModule};
-ghost use Rattle.pf_check.specs.Formed.{AreFormed};
+ghost use Rattle.pf_syntax.specs.WrittenModule.{tree_of};
+ghost use Rattle.pf_faults.specs.Earliest.{number_of_fault};
+ghost use Rattle.pf_rules.specs.Static.{faults_of};
+ghost use Rattle.pf_rules.specs.Checks.{IsModule};
+ghost use Rattle.pf_rules.specs.Formed.{AreFormed};
 ghost use Rattle.pf_check.specs.Reads.{IsFirstOf, IsRefusalOf, Reads, accepted_as, number_of, token_number};
 
-use crate::build::module_of;
+use pf_lower::module_of;
 use crate::fault::{Code, ReadFault, Refusal};
-use crate::faults::first_fault;
-use crate::first::CheckFault;
+use pf_faults::first_fault;
+use pf_faults::CheckFault;
 use pf_reader::{Place, ReadModule, TreeFault, read_tree};
 use pf_syntax::{Module, Source};
 use pf_terms::AtomTable;

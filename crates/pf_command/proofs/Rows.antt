@@ -4,7 +4,7 @@ use Rattle.std.specs.Prelude.{None, Some, codes}
 use Rattle.pf_terms.specs.Atoms.{name_of}
 use Rattle.pf_syntax.specs.Module.{Checked}
 use Rattle.pf_model.specs.Meaning.{Means, Report}
-use Rattle.pf_model.specs.Root.{root_of}
+use Rattle.pf_syntax.specs.Root.{root_of}
 use Rattle.pf_model.specs.Text.{line, report_text, returns_holds}
 use Rattle.pf_check.specs.Reads.{Reads, refused, accepted_as, refusal_text}
 use Rattle.pf_command.specs.Words.{Request}

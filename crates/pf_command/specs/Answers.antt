@@ -5,7 +5,7 @@ use Rattle.pf_terms.specs.Atoms.{name_of}
 use Rattle.pf_terms.specs.Ends.{AppendsFront}
 use Rattle.pf_syntax.specs.Tree.{Program}
 use Rattle.pf_model.specs.Meaning.{Means, Report}
-use Rattle.pf_model.specs.Root.{root_of}
+use Rattle.pf_syntax.specs.Root.{root_of}
 use Rattle.pf_model.specs.Text.{line, report_text, returns_holds}
 use Rattle.pf_check.specs.Reads.{Reads, accepted, refused, refusal_text}
 use Rattle.pf_command.specs.Words.{Request}

@@ -1,7 +1,7 @@
 //! What a source is answered with: a text and a status.
 
 ghost use Rattle.std.specs.Prelude.{◌≡◌, ◌↔◌, ◌++◌, ◌∷◌, [], ℕ, List, IfOk, IsTrue, Some};
-ghost use Rattle.pf_model.specs.Root.{root_of};
+ghost use Rattle.pf_syntax.specs.Root.{root_of};
 ghost use Rattle.pf_model.specs.Text.{line, returns_holds};
 ghost use Rattle.pf_model.specs.Reports.{outcome_of};
 ghost use Rattle.pf_check.specs.Reads.{Reads, accepted_as, number_of, refusal_text};
@@ -10,7 +10,6 @@ ghost use Rattle.pf_command.specs.Answers.{Answers, IsWithinBounds, run_status};
 
 use crate::words::RunWords;
 use pf_check::{ReadFault, Refusal, read};
-use pf_model::find_root;
 use pf_model::report::Outcome;
 use pf_stepper::run_one;
 use pf_syntax::{FunctionId, Module};
@@ -85,7 +84,7 @@ fn report_run(
 fn answer_module(alloc: Global, words: &RunWords, shared: &Arc<Module>) -> Result<Answer, NoMemory>
     ensures { IfOk result (λ a. (bytes : List ℕ) → Reads bytes (accepted_as shared.now.value) → Answers (request words.now) bytes a.text.items a.status) }
 {
-    let Some(root) = find_root(shared, words.root.as_bytes()) else {
+    let Some(root) = shared.root(words.root.as_bytes()) else {
         let text = line_of(alloc, b"B2")?;
         return Ok(Answer { text, status: 2 });
     };

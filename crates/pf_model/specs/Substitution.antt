@@ -2,7 +2,7 @@
 use Rattle.std.specs.Prelude.{ℕ, ◌-◌, length, Option, Some, None, slice_get}
 use Rattle.pf_terms.specs.Value.{Value}
 use Rattle.pf_syntax.specs.Pattern.{Pattern, Patterns, any, new, slot, known, tuple_of, cons_of, never, no_patterns, pattern}
-use Rattle.pf_syntax.specs.Tree.{Tree, Trees, Clauses, Guard, lit, var, tuple, cons, op, neg, both, either, call, builtin, match, bind, case, decide, receive, send, no_trees, tree, no_clauses, clause, no_alternatives, alternative}
+use Rattle.pf_syntax.specs.Tree.{Tree, Trees, Clauses, Guard, lit, var, tuple, cons, op, neg, and_also, or_else, call, builtin, match, bind, case, if_expression, receive, send, no_trees, tree, no_clauses, clause, no_alternatives, alternative}
 use Rattle.pf_model.specs.Fit.{Scope}
 
 abbrev pub value_or_var : Option Value → ℕ → Tree
@@ -37,14 +37,14 @@ abbrev mutual
   sub e (cons a b) = cons (sub e a) (sub e b)
   sub e (op o a b) = op o (sub e a) (sub e b)
   sub e (neg a) = neg (sub e a)
-  sub e (both a b) = both (sub e a) (sub e b)
-  sub e (either a b) = either (sub e a) (sub e b)
+  sub e (and_also a b) = and_also (sub e a) (sub e b)
+  sub e (or_else a b) = or_else (sub e a) (sub e b)
   sub e (call f ts) = call f (sub_trees e ts)
   sub e (builtin f ts) = builtin f (sub_trees e ts)
   sub e (match ps a) = match (sub_patterns e ps) (sub e a)
   sub e (bind ps a r) = bind (sub_patterns e ps) (sub e a) (sub e r)
   sub e (case a cs) = case (sub e a) (sub_clauses e cs)
-  sub e (decide cs) = decide (sub_clauses e cs)
+  sub e (if_expression cs) = if_expression (sub_clauses e cs)
   sub e (receive cs) = receive (sub_clauses e cs)
   sub e (send a b) = send (sub e a) (sub e b)
 

@@ -4,7 +4,7 @@ use Rattle.std.specs.List.{list_all}
 use Rattle.std.specs.Fmt.{decimal, signed_decimal}
 use Rattle.pf_terms.specs.Value.{Value, Values, int, atom, ref, pid, tuple, list, none, more}
 use Rattle.pf_tokens.specs.Bytes.{is_lower, is_word, single_quote, backslash}
-use Rattle.pf_tokens.specs.Signs.{reserved_of}
+use Rattle.pf_tokens.specs.TokenKinds.{reserved_of}
 use Rattle.pf_model.specs.Meaning.{Label, ends, cut, Actor, process, Event, Outcome, finished, ended, limit, Report}
 
 -- ---- terms

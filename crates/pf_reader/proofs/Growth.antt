@@ -1,31 +1,31 @@
 -- Sources that grow.
 use Rattle.std.proofs.Common.{◌≡◌, refl, ◌∙◌}
-use Rattle.pf_syntax.specs.Source.{Book, Written}
-use Rattle.pf_syntax.specs.SourceOver.{shape_over, with_shape, with_phrase, with_book}
-use Rattle.pf_syntax.specs.declared.written.ShapeNode.{ShapeNode}
-use Rattle.pf_syntax.specs.declared.written.PhraseNode.{PhraseNode}
-use Rattle.pf_syntax.proofs.BookExtends.{GoesOn, on_by_shape, on_by_phrase, on_by_nothing, on_and_on}
+use Rattle.pf_syntax.specs.Source.{NodeTable, Written}
+use Rattle.pf_syntax.specs.SourceOver.{written_pattern_over, with_written_pattern, with_written_expression, with_node_table}
+use Rattle.pf_syntax.specs.declared.written.WrittenPatternNode.{WrittenPatternNode}
+use Rattle.pf_syntax.specs.declared.written.WrittenExpressionNode.{WrittenExpressionNode}
+use Rattle.pf_syntax.proofs.NodeTableExtends.{GoesOn, on_by_written_pattern, on_by_written_expression, on_by_nothing, on_and_on}
 use Rattle.pf_reader.specs.Given.{Grown}
 
 pub grown_not : (a : Written) → Grown a a
-grown_not a = record { name = refl; exports = refl; functions = refl; book = on_by_nothing a.book }
+grown_not a = record { name = refl; exports = refl; functions = refl; node_table = on_by_nothing a.node_table }
 
 pub same_grown : (a b : Written) → b ≡ a → Grown a b
 same_grown a b e = rw e (grown_not a)
 
-pub grown_by : (a b : Written) (c : Book) → b ≡ with_book a c → GoesOn a.book c → Grown a b
-grown_by a b c e on = rw e (record { name = refl; exports = refl; functions = refl; book = on })
+pub grown_by : (a b : Written) (c : NodeTable) → b ≡ with_node_table a c → GoesOn a.node_table c → Grown a b
+grown_by a b c e on = rw e (record { name = refl; exports = refl; functions = refl; node_table = on })
 
-pub grown_by_shape : (a b : Written) (n : ShapeNode) → b ≡ with_book a (with_shape a.book n) → Grown a b
-grown_by_shape a b n e = grown_by a b (with_shape a.book n) e (on_by_shape a.book (shape_over a.book n))
+pub grown_by_written_pattern : (a b : Written) (n : WrittenPatternNode) → b ≡ with_node_table a (with_written_pattern a.node_table n) → Grown a b
+grown_by_written_pattern a b n e = grown_by a b (with_written_pattern a.node_table n) e (on_by_written_pattern a.node_table (written_pattern_over a.node_table n))
 
-pub grown_by_phrase : (a b : Written) (n : PhraseNode) → b ≡ with_book a (with_phrase a.book n) → Grown a b
-grown_by_phrase a b n e = grown_by a b (with_phrase a.book n) e (on_by_phrase a.book n)
+pub grown_by_written_expression : (a b : Written) (n : WrittenExpressionNode) → b ≡ with_node_table a (with_written_expression a.node_table n) → Grown a b
+grown_by_written_expression a b n e = grown_by a b (with_written_expression a.node_table n) e (on_by_written_expression a.node_table n)
 
 pub again : (a b c : Written) → Grown a b → Grown b c → Grown a c
 again a b c g h = record {
   name = h.name ∙ g.name;
   exports = h.exports ∙ g.exports;
   functions = h.functions ∙ g.functions;
-  book = on_and_on a.book b.book c.book g.book h.book;
+  node_table = on_and_on a.node_table b.node_table c.node_table g.node_table h.node_table;
 }

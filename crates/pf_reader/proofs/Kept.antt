@@ -3,14 +3,14 @@ use Rattle.std.proofs.Common.{◌≡◌, List, [], ◌∷◌, ◌++◌, refl, sy
 use Rattle.std.specs.Prelude.{map}
 use Rattle.std.specs.List.{All}
 use Rattle.std.proofs.lemmas.List.Elements.{All-head, All-tail, All-push, All-weaker}
-use Rattle.pf_syntax.specs.Source.{Book}
-use Rattle.pf_syntax.specs.SourceOver.{shapes_at, phrases_at, branches_over, ShapeStands, PhraseStands, BranchStands}
+use Rattle.pf_syntax.specs.Source.{NodeTable}
+use Rattle.pf_syntax.specs.SourceOver.{written_patterns_at, written_expressions_at, branches_over, WrittenPatternStands, WrittenExpressionStands, BranchStands}
 use Rattle.pf_syntax.specs.declared.written.Branch.{Branch}
-use Rattle.pf_syntax.specs.declared.written.ShapeId.{ShapeId}
-use Rattle.pf_syntax.specs.declared.written.PhraseId.{PhraseId}
-use Rattle.pf_syntax.proofs.BookExtends.{GoesOn, branch_stands, condition_kept}
-use Rattle.pf_reader.specs.Parse.{shapes_of, phrases_of, branches_of}
-use Rattle.pf_reader.specs.Given.{shape_of, phrase_of, clause_of, ClauseStands}
+use Rattle.pf_syntax.specs.declared.written.WrittenPatternId.{WrittenPatternId}
+use Rattle.pf_syntax.specs.declared.written.WrittenExpressionId.{WrittenExpressionId}
+use Rattle.pf_syntax.proofs.NodeTableExtends.{GoesOn, branch_stands, condition_kept}
+use Rattle.pf_reader.specs.Parse.{written_patterns_of, written_expressions_of, branches_of}
+use Rattle.pf_reader.specs.Given.{written_pattern_of, written_expression_of, clause_of, ClauseStands}
 
 -- where each keeps its meaning, all do
 pub seen_alike : {X A : Type 0} (P : X → Type 0) (f g : X → A) → ((x : X) → P x → f x ≡ g x) → (xs : List X) → All P xs → map f xs ≡ map g xs
@@ -20,50 +20,50 @@ seen_alike P f g h (x ∷ xs) a =
     let ys = seen_alike P f g h xs (All-tail P x xs a) in
     cc
 
-module _ (b c : Book) (on : GoesOn b c) where
-  pub shapes_alike : (qs : List ShapeId) → All (ShapeStands b) qs → map (shape_of c) qs ≡ map (shape_of b) qs
-  shapes_alike qs h = seen_alike (ShapeStands b) (shape_of c) (shape_of b) (λ q s. on.shapes q.0 s) qs h
+module _ (b c : NodeTable) (on : GoesOn b c) where
+  pub written_patterns_alike : (qs : List WrittenPatternId) → All (WrittenPatternStands b) qs → map (written_pattern_of c) qs ≡ map (written_pattern_of b) qs
+  written_patterns_alike qs h = seen_alike (WrittenPatternStands b) (written_pattern_of c) (written_pattern_of b) (λ q s. on.written_patterns q.0 s) qs h
 
-  pub phrases_alike : (es : List PhraseId) → All (PhraseStands b) es → map (phrase_of c) es ≡ map (phrase_of b) es
-  phrases_alike es h = seen_alike (PhraseStands b) (phrase_of c) (phrase_of b) (λ e s. on.phrases e.0 s) es h
+  pub written_expressions_alike : (es : List WrittenExpressionId) → All (WrittenExpressionStands b) es → map (written_expression_of c) es ≡ map (written_expression_of b) es
+  written_expressions_alike es h = seen_alike (WrittenExpressionStands b) (written_expression_of c) (written_expression_of b) (λ e s. on.written_expressions e.0 s) es h
 
 -- one more that stands
 pub pushed_stands : {X : Type 0} (P : X → Type 0) (xs ys : List X) (x : X) → ys ≡ xs ++ x ∷ [] → All P xs → P x → All P ys
 pushed_stands P xs ys x e h p = subst (All P) (sym e) (All-push P xs x h p)
 
--- parts in a row, as they are read and as the book has them
-pub shapes_in_row : (b : Book) (qs : List ShapeId) → shapes_at b qs ≡ shapes_of (map (shape_of b) qs)
-shapes_in_row b [] = refl
-shapes_in_row b (q ∷ qs) = let e = shapes_in_row b qs in cc
+-- parts in a row, as they are read and as the table of nodes has them
+pub written_patterns_in_row : (b : NodeTable) (qs : List WrittenPatternId) → written_patterns_at b qs ≡ written_patterns_of (map (written_pattern_of b) qs)
+written_patterns_in_row b [] = refl
+written_patterns_in_row b (q ∷ qs) = let e = written_patterns_in_row b qs in cc
 
-pub phrases_in_row : (b : Book) (es : List PhraseId) → phrases_at b es ≡ phrases_of (map (phrase_of b) es)
-phrases_in_row b [] = refl
-phrases_in_row b (e ∷ es) = let r = phrases_in_row b es in cc
+pub written_expressions_in_row : (b : NodeTable) (es : List WrittenExpressionId) → written_expressions_at b es ≡ written_expressions_of (map (written_expression_of b) es)
+written_expressions_in_row b [] = refl
+written_expressions_in_row b (e ∷ es) = let r = written_expressions_in_row b es in cc
 
 -- ---- clauses
 
-pub clause_stands : (b c : Book) → GoesOn b c → (x : Branch) → ClauseStands b x → ClauseStands c x
+pub clause_stands : (b c : NodeTable) → GoesOn b c → (x : Branch) → ClauseStands b x → ClauseStands c x
 clause_stands b c on x h = (branch_stands b c on x h.0, condition_kept b c on x.condition h.0.1 ∙ h.1)
 
-pub all_clauses_stand : (b c : Book) → GoesOn b c → (xs : List Branch) → All (ClauseStands b) xs → All (ClauseStands c) xs
+pub all_clauses_stand : (b c : NodeTable) → GoesOn b c → (xs : List Branch) → All (ClauseStands b) xs → All (ClauseStands c) xs
 all_clauses_stand b c on xs h = All-weaker (ClauseStands b) (ClauseStands c) (clause_stands b c on) xs h
 
-clause_alike : (b c : Book) → GoesOn b c → (x : Branch) → ClauseStands b x → clause_of c x ≡ clause_of b x
+clause_alike : (b c : NodeTable) → GoesOn b c → (x : Branch) → ClauseStands b x → clause_of c x ≡ clause_of b x
 clause_alike b c on x h =
-    let q = on.shapes x.shape.0 h.0.0 in
-    let es = phrases_alike b c on x.body.items h.0.2 in
+    let q = on.written_patterns x.written_pattern.0 h.0.0 in
+    let es = written_expressions_alike b c on x.body.items h.0.2 in
     cc
 
-pub clauses_alike : (b c : Book) → GoesOn b c → (xs : List Branch) → All (ClauseStands b) xs → map (clause_of c) xs ≡ map (clause_of b) xs
+pub clauses_alike : (b c : NodeTable) → GoesOn b c → (xs : List Branch) → All (ClauseStands b) xs → map (clause_of c) xs ≡ map (clause_of b) xs
 clauses_alike b c on xs h = seen_alike (ClauseStands b) (clause_of c) (clause_of b) (clause_alike b c on) xs h
 
-pub clauses_in_row : (b : Book) (xs : List Branch) → All (ClauseStands b) xs → branches_over b xs ≡ branches_of (map (clause_of b) xs)
+pub clauses_in_row : (b : NodeTable) (xs : List Branch) → All (ClauseStands b) xs → branches_over b xs ≡ branches_of (map (clause_of b) xs)
 clauses_in_row b [] h = refl
 clauses_in_row b (x ∷ xs) h =
     let g = (All-head (ClauseStands b) x xs h).1 in
-    let es = phrases_in_row b x.body.items in
+    let es = written_expressions_in_row b x.body.items in
     let more = clauses_in_row b xs (All-tail (ClauseStands b) x xs h) in
     cc
 
-pub branches_of_clauses : (b : Book) (xs : List Branch) → All (ClauseStands b) xs → All (BranchStands b) xs
+pub branches_of_clauses : (b : NodeTable) (xs : List Branch) → All (ClauseStands b) xs → All (BranchStands b) xs
 branches_of_clauses b xs h = All-weaker (ClauseStands b) (BranchStands b) (λ x s. s.0) xs h

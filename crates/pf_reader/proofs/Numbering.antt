@@ -4,11 +4,11 @@ use Rattle.std.specs.Prelude.{map, flat_map}
 use Rattle.std.proofs.lemmas.List.{map-append}
 use Rattle.std.proofs.lemmas.List.Sums.{fold-append}
 use Rattle.pf_terms.specs.Atoms.{with_name, with_names}
-use Rattle.pf_tokens.specs.Signs.{Placed, placed_of}
+use Rattle.pf_tokens.specs.TokenKinds.{Placed, placed_of}
 use Rattle.pf_tokens.specs.declared.token.Token.{Token}
-use Rattle.pf_reader.specs.declared.sign.Tok.{Tok as CodeTok}
-use Rattle.pf_reader.specs.Sign.{Tok, tok_in}
-use Rattle.pf_reader.specs.View.{tok_of, toks}
+use Rattle.pf_reader.specs.declared.numbered_token.NumberedToken.{NumberedToken as CodeNumberedToken}
+use Rattle.pf_reader.specs.NumberedTokens.{NumberedToken, numbered_token_in}
+use Rattle.pf_reader.specs.View.{numbered_token_of, token_list}
 
 module _ (rest next : List Token) (x : Token) (e : rest ≡ x ∷ next) where
   -- the names of the first token are entered
@@ -21,12 +21,12 @@ module _ (rest next : List Token) (x : Token) (e : rest ≡ x ∷ next) where
       ∙ w
 
   -- the first token is numbered
-  pub toks_go : (atoms variables : List (List ℕ)) (found pushed : List CodeTok) (t : CodeTok) (whole : List Tok) → pushed ≡ found ++ t ∷ [] → tok_of t ≡ tok_in atoms variables (placed_of x)
-      → toks found ++ map (tok_in atoms variables) (map placed_of rest) ≡ whole → toks pushed ++ map (tok_in atoms variables) (map placed_of next) ≡ whole
-  toks_go atoms variables found pushed t whole p same w =
-      ap (λ ts. toks ts ++ map (tok_in atoms variables) (map placed_of next)) p
-      ∙ ap (λ us. us ++ map (tok_in atoms variables) (map placed_of next)) (map-append tok_of found (t ∷ []))
-      ∙ append_assoc (toks found) (tok_of t ∷ []) (map (tok_in atoms variables) (map placed_of next))
-      ∙ ap (λ u. toks found ++ u ∷ map (tok_in atoms variables) (map placed_of next)) same
-      ∙ ap (λ r. toks found ++ map (tok_in atoms variables) (map placed_of r)) (sym e)
+  pub token_list_go : (atoms variables : List (List ℕ)) (found pushed : List CodeNumberedToken) (t : CodeNumberedToken) (whole : List NumberedToken) → pushed ≡ found ++ t ∷ [] → numbered_token_of t ≡ numbered_token_in atoms variables (placed_of x)
+      → token_list found ++ map (numbered_token_in atoms variables) (map placed_of rest) ≡ whole → token_list pushed ++ map (numbered_token_in atoms variables) (map placed_of next) ≡ whole
+  token_list_go atoms variables found pushed t whole p same w =
+      ap (λ ts. token_list ts ++ map (numbered_token_in atoms variables) (map placed_of next)) p
+      ∙ ap (λ us. us ++ map (numbered_token_in atoms variables) (map placed_of next)) (map-append numbered_token_of found (t ∷ []))
+      ∙ append_assoc (token_list found) (numbered_token_of t ∷ []) (map (numbered_token_in atoms variables) (map placed_of next))
+      ∙ ap (λ u. token_list found ++ u ∷ map (numbered_token_in atoms variables) (map placed_of next)) same
+      ∙ ap (λ r. token_list found ++ map (numbered_token_in atoms variables) (map placed_of r)) (sym e)
       ∙ w

@@ -10,9 +10,9 @@ use Rattle.pf_tokens.specs.declared.marks.Mark.TheVariants as marks
 use Rattle.pf_tokens.specs.declared.words.Reserved.{Reserved}
 use Rattle.pf_tokens.specs.declared.words.Reserved.TheVariants as words
 use Rattle.pf_syntax.specs.Tree.{Operator, times}
-use Rattle.pf_reader.specs.Sign.{Sign, integer, atom, own_module, dot, mark, reserved, Tok}
+use Rattle.pf_reader.specs.NumberedTokens.{NumberedKind, integer, atom, own_module, dot, mark, reserved, NumberedToken}
 use Rattle.pf_reader.specs.Grammar.{Names, IsAtom, IsWord, op_of, level_of}
-use Rattle.pf_reader.specs.Parse.{◌>>=◌, mark_code, reserved_code, is, after, atom_in, named, number_sign, number, is_word, word, at_level, operator}
+use Rattle.pf_reader.specs.Parse.{◌>>=◌, mark_code, reserved_code, is, after, atom_in, named, number_kind, number, is_word, word, at_level, operator}
 
 -- ---- steps that did not fail
 
@@ -115,34 +115,34 @@ word_back_code words.Xor = refl
 pub same_word : (r q : Reserved) → nat_eq (reserved_code r) (reserved_code q) ≡ true → r ≡ q
 same_word r q e = sym (word_back_code r) ∙ ap word_back (eqb-true _ _ e) ∙ word_back_code q
 
-pub is_same : (s t : Sign) → is s t ≡ true → t ≡ s
+pub is_same : (s t : NumberedKind) → is s t ≡ true → t ≡ s
 is_same (mark m) (mark k) e = ap mark (sym (same_mark m k e))
 is_same (reserved r) (reserved q) e = ap reserved (sym (same_word r q e))
 is_same dot dot e = refl
 is_same _ _ e = absurd cc
 
--- ---- a sign that stands first
+-- ---- a kind of token that stands first
 
--- the sign separates or closes: a mark, a reserved word or the dot
-abbrev pub Plain : Sign → Type 0
+-- the kind of token separates or closes: a mark, a reserved word or the dot
+abbrev pub Plain : NumberedKind → Type 0
 Plain s = is s s ≡ true
 
-pub after_some : (s : Sign) (ts rest : List Tok) → after s ts ≡ Some rest → (t : Tok) × (t.sign ≡ s) × (ts ≡ t ∷ rest)
+pub after_some : (s : NumberedKind) (ts rest : List NumberedToken) → after s ts ≡ Some rest → (t : NumberedToken) × (t.kind ≡ s) × (ts ≡ t ∷ rest)
 after_some s [] rest e = absurd cc
 after_some s (t ∷ ts) rest e =
-    let c = cond_some (is s t.sign) (Some ts) rest e in
+    let c = cond_some (is s t.kind) (Some ts) rest e in
     let same : ts ≡ rest = some_is ts rest c.1 in
-    (t, is_same s t.sign c.0, ap (λ (l : List Tok). t ∷ l) same)
+    (t, is_same s t.kind c.0, ap (λ (l : List NumberedToken). t ∷ l) same)
 
-pub after_here : (s : Sign) (t : Tok) (ts : List Tok) → Plain s → t.sign ≡ s → after s (t ∷ ts) ≡ Some ts
+pub after_here : (s : NumberedKind) (t : NumberedToken) (ts : List NumberedToken) → Plain s → t.kind ≡ s → after s (t ∷ ts) ≡ Some ts
 after_here s t ts h e = rw (e, h) refl
 
-pub after_other : (s : Sign) (t : Tok) (ts : List Tok) → is s t.sign ≡ false → after s (t ∷ ts) ≡ None
+pub after_other : (s : NumberedKind) (t : NumberedToken) (ts : List NumberedToken) → is s t.kind ≡ false → after s (t ∷ ts) ≡ None
 after_other s t ts e = rw e refl
 
 -- ---- atoms
 
-pub atom_in_some : (n : Names) (s : Sign) (t : Tok) (a : ℕ) → t.sign ≡ s → atom_in n s ≡ Some a → IsAtom n a t
+pub atom_in_some : (n : Names) (s : NumberedKind) (t : NumberedToken) (a : ℕ) → t.kind ≡ s → atom_in n s ≡ Some a → IsAtom n a t
 atom_in_some n (atom b) t a e h =
     let c = cond_some (nat_le (length (name_of n.atoms b)) 255) (Some b) a h in
     let same : b ≡ a = some_is b a c.1 in
@@ -150,51 +150,51 @@ atom_in_some n (atom b) t a e h =
 atom_in_some n own_module t a e h = inr (e, sym (some_is n.own a h))
 atom_in_some n _ t a e h = absurd cc
 
-pub atom_in_is : (n : Names) (a : ℕ) (t : Tok) → IsAtom n a t → atom_in n t.sign ≡ Some a
+pub atom_in_is : (n : Names) (a : ℕ) (t : NumberedToken) → IsAtom n a t → atom_in n t.kind ≡ Some a
 atom_in_is n a t (inl h) = let e = h.0 in let short = le-leb _ _ h.1 in rw (e, short) refl
 atom_in_is n a t (inr h) = let e = h.0 in let own = h.1 in rw (e, own) refl
 
 -- an atom is no mark
-pub atom_no_mark : (n : Names) (a : ℕ) (t : Tok) (m : Mark) → IsAtom n a t → is (mark m) t.sign ≡ false
+pub atom_no_mark : (n : Names) (a : ℕ) (t : NumberedToken) (m : Mark) → IsAtom n a t → is (mark m) t.kind ≡ false
 atom_no_mark n a t m (inl h) = let e = h.0 in rw e refl
 atom_no_mark n a t m (inr h) = let e = h.0 in rw e refl
 
 -- a name and its place
-pub named_some : (n : Names) (ts : List Tok) (x : (ℕ × ℕ) × List Tok) → named n ts ≡ Some x → (t : Tok) × IsAtom n x.0.0 t × (t.at ≡ x.0.1) × (ts ≡ t ∷ x.1)
+pub named_some : (n : Names) (ts : List NumberedToken) (x : (ℕ × ℕ) × List NumberedToken) → named n ts ≡ Some x → (t : NumberedToken) × IsAtom n x.0.0 t × (t.at ≡ x.0.1) × (ts ≡ t ∷ x.1)
 named_some n [] x e = absurd cc
 named_some n (t ∷ ts) x e =
-    let b = bind_some (atom_in n t.sign) (λ a. Some ((a, t.at), ts)) x e in
+    let b = bind_some (atom_in n t.kind) (λ a. Some ((a, t.at), ts)) x e in
     let same = some_is ((b.0, t.at), ts) x b.2 in
-    (t, atom_in_some n t.sign t x.0.0 refl (b.1 ∙ ap (λ (y : (ℕ × ℕ) × List Tok). Some y.0.0) same), ap (λ (y : (ℕ × ℕ) × List Tok). y.0.1) same, ap (λ (y : (ℕ × ℕ) × List Tok). t ∷ y.1) same)
+    (t, atom_in_some n t.kind t x.0.0 refl (b.1 ∙ ap (λ (y : (ℕ × ℕ) × List NumberedToken). Some y.0.0) same), ap (λ (y : (ℕ × ℕ) × List NumberedToken). y.0.1) same, ap (λ (y : (ℕ × ℕ) × List NumberedToken). t ∷ y.1) same)
 
-pub named_is : (n : Names) (a at : ℕ) (t : Tok) (ts : List Tok) → IsAtom n a t → t.at ≡ at → named n (t ∷ ts) ≡ Some ((a, at), ts)
+pub named_is : (n : Names) (a at : ℕ) (t : NumberedToken) (ts : List NumberedToken) → IsAtom n a t → t.at ≡ at → named n (t ∷ ts) ≡ Some ((a, at), ts)
 named_is n a at t ts h place = let e = atom_in_is n a t h in rw (e, place) refl
 
 -- ---- integers and words
 
-pub number_some : (ts : List Tok) (x : ℕ × List Tok) → number ts ≡ Some x → (t : Tok) × (t.sign ≡ integer x.0) × (ts ≡ t ∷ x.1)
+pub number_some : (ts : List NumberedToken) (x : ℕ × List NumberedToken) → number ts ≡ Some x → (t : NumberedToken) × (t.kind ≡ integer x.0) × (ts ≡ t ∷ x.1)
 number_some [] x e = absurd cc
-number_some (t ∷ ts) x e = number_sign_some t.sign refl e
+number_some (t ∷ ts) x e = number_kind_some t.kind refl e
   where
-    number_sign_some : (s : Sign) → t.sign ≡ s → number_sign s ts ≡ Some x → (u : Tok) × (u.sign ≡ integer x.0) × (t ∷ ts ≡ u ∷ x.1)
-    number_sign_some (integer k) h f = let same = some_is (k, ts) x f in (t, h ∙ ap (λ (y : ℕ × List Tok). integer y.0) same, ap (λ (y : ℕ × List Tok). t ∷ y.1) same)
-    number_sign_some _ h f = absurd cc
+    number_kind_some : (s : NumberedKind) → t.kind ≡ s → number_kind s ts ≡ Some x → (u : NumberedToken) × (u.kind ≡ integer x.0) × (t ∷ ts ≡ u ∷ x.1)
+    number_kind_some (integer k) h f = let same = some_is (k, ts) x f in (t, h ∙ ap (λ (y : ℕ × List NumberedToken). integer y.0) same, ap (λ (y : ℕ × List NumberedToken). t ∷ y.1) same)
+    number_kind_some _ h f = absurd cc
 
-pub number_is : (k : ℕ) (t : Tok) (ts : List Tok) → t.sign ≡ integer k → number (t ∷ ts) ≡ Some (k, ts)
+pub number_is : (k : ℕ) (t : NumberedToken) (ts : List NumberedToken) → t.kind ≡ integer k → number (t ∷ ts) ≡ Some (k, ts)
 number_is k t ts e = rw e refl
 
-pub word_some : (n : Names) (bytes : List ℕ) (ts rest : List Tok) → word n.atoms bytes ts ≡ Some rest → (t : Tok) × IsWord n bytes t × (ts ≡ t ∷ rest)
+pub word_some : (n : Names) (bytes : List ℕ) (ts rest : List NumberedToken) → word n.atoms bytes ts ≡ Some rest → (t : NumberedToken) × IsWord n bytes t × (ts ≡ t ∷ rest)
 word_some n bytes [] rest e = absurd cc
 word_some n bytes (t ∷ ts) rest e =
-    let c = cond_some (is_word n.atoms bytes t.sign) (Some ts) rest e in
+    let c = cond_some (is_word n.atoms bytes t.kind) (Some ts) rest e in
     let same : ts ≡ rest = some_is ts rest c.1 in
-    (t, is_the_word t.sign refl c.0, ap (λ (l : List Tok). t ∷ l) same)
+    (t, is_the_word t.kind refl c.0, ap (λ (l : List NumberedToken). t ∷ l) same)
   where
-    is_the_word : (s : Sign) → t.sign ≡ s → is_word n.atoms bytes s ≡ true → IsWord n bytes t
+    is_the_word : (s : NumberedKind) → t.kind ≡ s → is_word n.atoms bytes s ≡ true → IsWord n bytes t
     is_the_word (atom a) h f = (a, h, (bytes_eq-Decides _ _).0 f)
     is_the_word _ h f = absurd cc
 
-pub word_is : (n : Names) (bytes : List ℕ) (t : Tok) (ts : List Tok) → IsWord n bytes t → word n.atoms bytes (t ∷ ts) ≡ Some ts
+pub word_is : (n : Names) (bytes : List ℕ) (t : NumberedToken) (ts : List NumberedToken) → IsWord n bytes t → word n.atoms bytes (t ∷ ts) ≡ Some ts
 word_is n bytes t ts h =
     let e = h.1 in
     let same : bytes_eq (name_of n.atoms h.0) bytes ≡ true = (bytes_eq-Decides _ _).1 h.2 in
@@ -211,22 +211,22 @@ level_high times = omega arith
 level_high _ = omega arith
 
 -- an operator is none of these marks
-pub op_no_mark : (s : Sign) (o : Operator) → op_of s ≡ Some o → (is (mark marks.OpenParenthesis) s ≡ false) × (is (mark marks.Match) s ≡ false)
+pub op_no_mark : (s : NumberedKind) (o : Operator) → op_of s ≡ Some o → (is (mark marks.OpenParenthesis) s ≡ false) × (is (mark marks.Match) s ≡ false)
 op_no_mark (mark marks.OpenParenthesis) o e = absurd cc
 op_no_mark (mark marks.Match) o e = absurd cc
 op_no_mark (mark _) o e = (refl, refl)
 op_no_mark _ o e = (refl, refl)
 
-pub operator_some : (level : ℕ) (ts : List Tok) (x : Operator × List Tok) → operator level ts ≡ Some x → (t : Tok) × (level_of x.0 ≡ level) × (op_of t.sign ≡ Some x.0) × (ts ≡ t ∷ x.1)
+pub operator_some : (level : ℕ) (ts : List NumberedToken) (x : Operator × List NumberedToken) → operator level ts ≡ Some x → (t : NumberedToken) × (level_of x.0 ≡ level) × (op_of t.kind ≡ Some x.0) × (ts ≡ t ∷ x.1)
 operator_some level [] x e = absurd cc
 operator_some level (t ∷ ts) x e =
-    let b = bind_some (op_of t.sign) (λ o. at_level level o >>= λ q. Some (q, ts)) x e in
+    let b = bind_some (op_of t.kind) (λ o. at_level level o >>= λ q. Some (q, ts)) x e in
     let c = bind_some (at_level level b.0) (λ q. Some (q, ts)) x b.2 in
     let d = cond_some (nat_eq (level_of b.0) level) (Some b.0) c.0 c.1 in
     let one : b.0 ≡ c.0 = some_is b.0 c.0 d.1 in
     let same = some_is (c.0, ts) x c.2 in
-    let found : b.0 ≡ x.0 = one ∙ ap (λ (y : Operator × List Tok). y.0) same in
-    (t, ap level_of (sym found) ∙ eqb-true _ _ d.0, b.1 ∙ ap (λ (o : Operator). Some o) found, ap (λ (y : Operator × List Tok). t ∷ y.1) same)
+    let found : b.0 ≡ x.0 = one ∙ ap (λ (y : Operator × List NumberedToken). y.0) same in
+    (t, ap level_of (sym found) ∙ eqb-true _ _ d.0, b.1 ∙ ap (λ (o : Operator). Some o) found, ap (λ (y : Operator × List NumberedToken). t ∷ y.1) same)
 
-pub operator_here : (level : ℕ) (o : Operator) (t : Tok) (ts : List Tok) → op_of t.sign ≡ Some o → level_of o ≡ level → operator level (t ∷ ts) ≡ Some (o, ts)
+pub operator_here : (level : ℕ) (o : Operator) (t : NumberedToken) (ts : List NumberedToken) → op_of t.kind ≡ Some o → level_of o ≡ level → operator level (t ∷ ts) ≡ Some (o, ts)
 operator_here level o t ts e h = let same = eq-eqb (level_of o) level h in rw (e, same) refl

@@ -1,15 +1,15 @@
 -- One turn of the loops over export forms and functions.
 use Rattle.std.proofs.Common.{◌≡◌, ℕ, zero, suc, ◌<◌, List, [], ◌∷◌, ◌++◌, Option, Some, None, refl, sym, ap, ◌∙◌, arith, length, append_assoc}
 use Rattle.pf_tokens.specs.declared.marks.Mark.TheVariants as marks
-use Rattle.pf_syntax.specs.Shape.{Shape, Shapes}
-use Rattle.pf_syntax.specs.Phrase.{Phrase, Phrases, Condition}
+use Rattle.pf_syntax.specs.WrittenPattern.{WrittenPattern, WrittenPatterns}
+use Rattle.pf_syntax.specs.WrittenExpression.{WrittenExpression, WrittenExpressions, Condition}
 use Rattle.pf_syntax.specs.Source.{Export, Head}
-use Rattle.pf_reader.specs.Sign.{Tok, mark}
+use Rattle.pf_reader.specs.NumberedTokens.{NumberedToken, mark}
 use Rattle.pf_reader.specs.Grammar.{Names, unguarded, max_depth}
-use Rattle.pf_reader.specs.Parse.{◌>>=◌, after, body, element, export, exports, function, functions, head, named, pattern, phrases_of, shapes_of, until}
+use Rattle.pf_reader.specs.Parse.{◌>>=◌, after, body, element, export, exports, function, functions, head, named, pattern, written_expressions_of, written_patterns_of, until}
 use Rattle.pf_reader.specs.Given.{with_front, with_first}
 
-front_joined : {A : Type 0} (front xs : List A) (o : Option (List A × List Tok)) → with_front front (o >>= λ more. Some (xs ++ more.0, more.1)) ≡ with_front (front ++ xs) o
+front_joined : {A : Type 0} (front xs : List A) (o : Option (List A × List NumberedToken)) → with_front front (o >>= λ more. Some (xs ++ more.0, more.1)) ≡ with_front (front ++ xs) o
 front_joined front xs None = refl
 front_joined front xs (Some y) = ap (λ zs. Some (zs, y.1)) (sym (append_assoc front xs y.0))
 
@@ -25,7 +25,7 @@ module _ (n : Names) where
   -- ---- export forms
 
   -- what was read so far stands first
-  module _ (front : List Export) (whole : Option (List Export × List Tok)) (k : ℕ) (ts : List Tok) (w : whole ≡ with_front front (exports n k ts)) where
+  module _ (front : List Export) (whole : Option (List Export × List NumberedToken)) (k : ℕ) (ts : List NumberedToken) (w : whole ≡ with_front front (exports n k ts)) where
     pub exports_stop : after (mark marks.Minus) ts ≡ None → whole ≡ Some (front, ts)
     unfolding exports
     exports_stop a = w ∙ stops k ∙ ap (λ xs. Some (xs, ts)) (right_nil front)
@@ -38,11 +38,11 @@ module _ (n : Names) where
     unfolding exports
     exports_out e = w ∙ rw e refl ∙ ap (λ xs. Some (xs, ts)) (right_nil front)
 
-    pub exports_fail : (m : ℕ) (form : List Tok) → k ≡ suc m → after (mark marks.Minus) ts ≡ Some form → export n form ≡ None → whole ≡ None
+    pub exports_fail : (m : ℕ) (form : List NumberedToken) → k ≡ suc m → after (mark marks.Minus) ts ≡ Some form → export n form ≡ None → whole ≡ None
     unfolding exports
     exports_fail m form e a f = w ∙ rw (e, a, f) refl
 
-    pub exports_go : (m : ℕ) (form next : List Tok) (es : List Export) → k ≡ suc m → after (mark marks.Minus) ts ≡ Some form → export n form ≡ Some (es, next) → whole ≡ with_front (front ++ es) (exports n m next)
+    pub exports_go : (m : ℕ) (form next : List NumberedToken) (es : List Export) → k ≡ suc m → after (mark marks.Minus) ts ≡ Some form → export n form ≡ Some (es, next) → whole ≡ with_front (front ++ es) (exports n m next)
     unfolding exports
     exports_go m form next es e a f = w ∙ ap (with_front front) turn ∙ front_joined front es (exports n m next)
       where
@@ -51,12 +51,12 @@ module _ (n : Names) where
 
   -- ---- functions
 
-  module _ (front : List (List Head)) (whole : Option (List (List Head))) (k : ℕ) (ts : List Tok) (w : whole ≡ with_first front (functions n k ts)) where
+  module _ (front : List (List Head)) (whole : Option (List (List Head))) (k : ℕ) (ts : List NumberedToken) (w : whole ≡ with_first front (functions n k ts)) where
     pub functions_stop : length ts ≡ 0 → whole ≡ Some front
     unfolding functions
     functions_stop e = w ∙ ap (with_first front) (stops ts e) ∙ ap (λ xs. Some xs) (right_nil front)
       where
-        stops : (ts : List Tok) → length ts ≡ 0 → functions n k ts ≡ Some []
+        stops : (ts : List NumberedToken) → length ts ≡ 0 → functions n k ts ≡ Some []
         stops [] e = refl
         stops (t ∷ ts) e = absurd (omega arith)
 
@@ -64,7 +64,7 @@ module _ (n : Names) where
     unfolding functions
     functions_out e lt = w ∙ ap (with_first front) (outs ts lt)
       where
-        outs : (ts : List Tok) → 0 < length ts → functions n k ts ≡ None
+        outs : (ts : List NumberedToken) → 0 < length ts → functions n k ts ≡ None
         outs [] lt = absurd (omega arith)
         outs (t ∷ ts) lt = rw e refl
 
@@ -72,21 +72,21 @@ module _ (n : Names) where
     unfolding functions
     functions_fail m e lt f = w ∙ ap (with_first front) (fails ts lt f)
       where
-        fails : (ts : List Tok) → 0 < length ts → function n ts ≡ None → functions n k ts ≡ None
+        fails : (ts : List NumberedToken) → 0 < length ts → function n ts ≡ None → functions n k ts ≡ None
         fails [] lt f = absurd (omega arith)
         fails (t ∷ ts) lt f = rw (e, f) refl
 
-    pub functions_go : (m : ℕ) (next : List Tok) (f : List Head) → k ≡ suc m → 0 < length ts → function n ts ≡ Some (f, next) → whole ≡ with_first (front ++ f ∷ []) (functions n m next)
+    pub functions_go : (m : ℕ) (next : List NumberedToken) (f : List Head) → k ≡ suc m → 0 < length ts → function n ts ≡ Some (f, next) → whole ≡ with_first (front ++ f ∷ []) (functions n m next)
     unfolding functions
     functions_go m next x e lt f = w ∙ ap (with_first front) (turn ts lt f) ∙ first_joined front x (functions n m next)
       where
-        turn : (ts : List Tok) → 0 < length ts → function n ts ≡ Some (x, next) → functions n k ts ≡ (functions n m next >>= λ fs. Some (x ∷ fs))
+        turn : (ts : List NumberedToken) → 0 < length ts → function n ts ≡ Some (x, next) → functions n k ts ≡ (functions n m next >>= λ fs. Some (x ∷ fs))
         turn [] lt f = absurd (omega arith)
         turn (t ∷ ts) lt f = rw (e, f) refl
 
   -- ---- a clause of a function
 
-  pub head_is : (ts r1 r2 r3 r4 r5 : List Tok) (a at : ℕ) (qs : List Shape) (es : List Phrase) (all_shapes : Shapes) (all_phrases : Phrases) (c : Condition) → all_shapes ≡ shapes_of qs → all_phrases ≡ phrases_of es → c ≡ unguarded
+  pub head_is : (ts r1 r2 r3 r4 r5 : List NumberedToken) (a at : ℕ) (qs : List WrittenPattern) (es : List WrittenExpression) (all_written_patterns : WrittenPatterns) (all_written_expressions : WrittenExpressions) (c : Condition) → all_written_patterns ≡ written_patterns_of qs → all_written_expressions ≡ written_expressions_of es → c ≡ unguarded
       → named n ts ≡ Some ((a, at), r1) → after (mark marks.OpenParenthesis) r1 ≡ Some r2 → until (mark marks.CloseParenthesis) (pattern n) r2 ≡ Some (qs, r3) → after (mark marks.Arrow) r3 ≡ Some r4
-      → body (element n max_depth) r4 ≡ Some (es, r5) → head n ts ≡ Some (record { name = a; offset = at; parameters = all_shapes; condition = c; body = all_phrases }, r5)
-  head_is ts r1 r2 r3 r4 r5 a at qs es all_shapes all_phrases c s e g h1 h2 h3 h4 h5 = rw (s, e, g, h1, h2, h3, h4, h5) refl
+      → body (element n max_depth) r4 ≡ Some (es, r5) → head n ts ≡ Some (record { name = a; offset = at; parameters = all_written_patterns; condition = c; body = all_written_expressions }, r5)
+  head_is ts r1 r2 r3 r4 r5 a at qs es all_written_patterns all_written_expressions c s e g h1 h2 h3 h4 h5 = rw (s, e, g, h1, h2, h3, h4, h5) refl

@@ -5,23 +5,23 @@ use Rattle.std.proofs.lemmas.Bool.{leb-true, le-leb}
 use Rattle.std.proofs.lemmas.List.{length-append}
 use Rattle.pf_terms.specs.Atoms.{name_of}
 use Rattle.pf_tokens.specs.declared.marks.Mark.TheVariants as marks
-use Rattle.pf_reader.specs.Sign.{Sign, atom, dot, mark, Tok}
+use Rattle.pf_reader.specs.NumberedTokens.{NumberedKind, atom, dot, mark, NumberedToken}
 use Rattle.pf_reader.specs.Grammar.{Names, Begins, Tree, DerivesTree}
-use Rattle.pf_reader.specs.Parse.{after, word, functions, exports, atom_sign, any_atom, begins, behind, tree}
+use Rattle.pf_reader.specs.Parse.{after, word, functions, exports, atom_kind, any_atom, begins, behind, tree}
 use Rattle.pf_reader.proofs.Single.{bind_some, cond_some, some_is, after_some, after_here, word_some, word_is}
 use Rattle.pf_reader.proofs.Forms.{functions_sound, functions_complete, functions_open, exports_sound, exports_complete}
 
 -- ---- the first form
 
-any_atom_some : (ts : List Tok) (x : ℕ × List Tok) → any_atom ts ≡ Some x → (t : Tok) × (t.sign ≡ atom x.0) × (ts ≡ t ∷ x.1)
+any_atom_some : (ts : List NumberedToken) (x : ℕ × List NumberedToken) → any_atom ts ≡ Some x → (t : NumberedToken) × (t.kind ≡ atom x.0) × (ts ≡ t ∷ x.1)
 any_atom_some [] x e = absurd cc
-any_atom_some (t ∷ ts) x e = of_sign t.sign refl e
+any_atom_some (t ∷ ts) x e = of_kind t.kind refl e
   where
-    of_sign : (s : Sign) → t.sign ≡ s → atom_sign s ts ≡ Some x → (u : Tok) × (u.sign ≡ atom x.0) × (t ∷ ts ≡ u ∷ x.1)
-    of_sign (atom a) h f = let same = some_is (a, ts) x f in (t, h ∙ ap (λ (y : ℕ × List Tok). atom y.0) same, ap (λ (y : ℕ × List Tok). t ∷ y.1) same)
-    of_sign _ h f = absurd cc
+    of_kind : (s : NumberedKind) → t.kind ≡ s → atom_kind s ts ≡ Some x → (u : NumberedToken) × (u.kind ≡ atom x.0) × (t ∷ ts ≡ u ∷ x.1)
+    of_kind (atom a) h f = let same = some_is (a, ts) x f in (t, h ∙ ap (λ (y : ℕ × List NumberedToken). atom y.0) same, ap (λ (y : ℕ × List NumberedToken). t ∷ y.1) same)
+    of_kind _ h f = absurd cc
 
-pub begins_sound : (atoms : List (List ℕ)) (ts : List Tok) (x : ℕ × List Tok) → begins atoms ts ≡ Some x → Begins atoms x.0 x.1 ts
+pub begins_sound : (atoms : List (List ℕ)) (ts : List NumberedToken) (x : ℕ × List NumberedToken) → begins atoms ts ≡ Some x → Begins atoms x.0 x.1 ts
 begins_sound atoms ts x e =
     let a = bind_some (after (mark marks.Minus) ts) _ x e in
     let b = bind_some (word atoms (codes "module") a.0) _ x a.2 in
@@ -36,9 +36,9 @@ begins_sound atoms ts x e =
     let closes = after_some (mark marks.CloseParenthesis) g.0.1 k.0 k.1 in
     let last = after_some dot k.0 j.0 j.1 in
     let whole : ts ≡ minus.0 ∷ t.0 ∷ opens.0 ∷ name.0 ∷ closes.0 ∷ last.0 ∷ j.0 =
-    minus.2 ∙ ap (λ (l : List Tok). minus.0 ∷ l) t.2 ∙ ap (λ (l : List Tok). minus.0 ∷ t.0 ∷ l) opens.2 ∙ ap (λ (l : List Tok). minus.0 ∷ t.0 ∷ opens.0 ∷ l) name.2
-    ∙ ap (λ (l : List Tok). minus.0 ∷ t.0 ∷ opens.0 ∷ name.0 ∷ l) closes.2 ∙ ap (λ (l : List Tok). minus.0 ∷ t.0 ∷ opens.0 ∷ name.0 ∷ closes.0 ∷ l) last.2 in
-    subst (λ (y : ℕ × List Tok). Begins atoms y.0 y.1 ts) (some_is (g.0.0, j.0) x j.2)
+    minus.2 ∙ ap (λ (l : List NumberedToken). minus.0 ∷ l) t.2 ∙ ap (λ (l : List NumberedToken). minus.0 ∷ t.0 ∷ l) opens.2 ∙ ap (λ (l : List NumberedToken). minus.0 ∷ t.0 ∷ opens.0 ∷ l) name.2
+    ∙ ap (λ (l : List NumberedToken). minus.0 ∷ t.0 ∷ opens.0 ∷ name.0 ∷ l) closes.2 ∙ ap (λ (l : List NumberedToken). minus.0 ∷ t.0 ∷ opens.0 ∷ name.0 ∷ closes.0 ∷ l) last.2 in
+    subst (λ (y : ℕ × List NumberedToken). Begins atoms y.0 y.1 ts) (some_is (g.0.0, j.0) x j.2)
     (record {
       minus = minus.0;
       word = t.0;
@@ -55,20 +55,20 @@ begins_sound atoms ts x e =
       last_is = last.1;
     })
 
-pub begins_complete : (atoms : List (List ℕ)) (ts : List Tok) (name : ℕ) (rest : List Tok) → Begins atoms name rest ts → begins atoms ts ≡ Some (name, rest)
+pub begins_complete : (atoms : List (List ℕ)) (ts : List NumberedToken) (name : ℕ) (rest : List NumberedToken) → Begins atoms name rest ts → begins atoms ts ≡ Some (name, rest)
 begins_complete atoms ts name rest d =
     let minus = after_here (mark marks.Minus) d.minus (d.word ∷ d.opens ∷ d.atom_token ∷ d.closes ∷ d.last ∷ rest) refl d.minus_is in
     let named = word_is (record { atoms = atoms; own = name }) (codes "module") d.word (d.opens ∷ d.atom_token ∷ d.closes ∷ d.last ∷ rest) d.word_is in
     let opens = after_here (mark marks.OpenParenthesis) d.opens (d.atom_token ∷ d.closes ∷ d.last ∷ rest) refl d.opens_is in
-    let sign = d.name_is in
-    let one : any_atom (d.atom_token ∷ d.closes ∷ d.last ∷ rest) ≡ Some (name, d.closes ∷ d.last ∷ rest) = rw sign refl in
+    let kind = d.name_is in
+    let one : any_atom (d.atom_token ∷ d.closes ∷ d.last ∷ rest) ≡ Some (name, d.closes ∷ d.last ∷ rest) = rw kind refl in
     let closes = after_here (mark marks.CloseParenthesis) d.closes (d.last ∷ rest) refl d.closes_is in
     let last = after_here dot d.last rest refl d.last_is in
     ap (begins atoms) d.whole ∙ rw (minus, named, opens, one, closes, last) refl
 
 -- ---- modules
 
-pub tree_sound : (atoms : List (List ℕ)) (ts : List Tok) (m : Tree) → tree atoms ts ≡ Some m → DerivesTree atoms m ts
+pub tree_sound : (atoms : List (List ℕ)) (ts : List NumberedToken) (m : Tree) → tree atoms ts ≡ Some m → DerivesTree atoms m ts
 tree_sound atoms ts m e =
     let a = bind_some (begins atoms ts) (λ x. behind atoms x.0 x.1) m e in
     let n : Names = record { atoms = atoms; own = a.0.0 } in
@@ -81,7 +81,7 @@ tree_sound atoms ts m e =
     subst (λ (t : Tree). DerivesTree atoms t ts) (some_is made m g.1)
     (record { rest = a.0.1; begins = begins_sound atoms ts a.0 a.1; short = leb-true _ _ g.0; forms = es.forms; all_exports = es.all_exports; parts = (es.took.front, b.0.1, es.took.parts, es.took.holds, fs) })
 
-pub tree_complete : (atoms : List (List ℕ)) (ts : List Tok) (m : Tree) → DerivesTree atoms m ts → tree atoms ts ≡ Some m
+pub tree_complete : (atoms : List (List ℕ)) (ts : List NumberedToken) (m : Tree) → DerivesTree atoms m ts → tree atoms ts ≡ Some m
 tree_complete atoms ts m d =
     let n : Names = record { atoms = atoms; own = m.name } in
     let q = d.parts in
@@ -93,5 +93,5 @@ tree_complete atoms ts m d =
     let all = d.all_exports in
     rw (first, es, fs, short, all) refl
 
-pub one_tree : (atoms : List (List ℕ)) (ts : List Tok) (a b : Tree) → DerivesTree atoms a ts → DerivesTree atoms b ts → a ≡ b
+pub one_tree : (atoms : List (List ℕ)) (ts : List NumberedToken) (a b : Tree) → DerivesTree atoms a ts → DerivesTree atoms b ts → a ≡ b
 one_tree atoms ts a b d e = some_is a b (sym (tree_complete atoms ts a d) ∙ tree_complete atoms ts b e)

@@ -5,16 +5,16 @@ use Rattle.pf_syntax.specs.SourceOver.{condition_over, BranchStands}
 use Rattle.pf_syntax.specs.declared.written.Branch.{Branch}
 use Rattle.pf_reader.specs.Grammar.{unguarded}
 use Rattle.pf_reader.specs.Parse.{◌>>=◌, Clause}
-use Rattle.pf_syntax.proofs.BookExtends.{GoesOn}
-use Rattle.pf_syntax.specs.Shape.{Shape}
-use Rattle.pf_syntax.specs.Phrase.{Phrase}
-use Rattle.pf_syntax.specs.Source.{Book, Written, shape_at, phrase_at}
-use Rattle.pf_syntax.specs.declared.written.ShapeId.{ShapeId}
-use Rattle.pf_syntax.specs.declared.written.PhraseId.{PhraseId}
-use Rattle.pf_reader.specs.Sign.{Tok}
-use Rattle.pf_reader.specs.View.{toks}
+use Rattle.pf_syntax.proofs.NodeTableExtends.{GoesOn}
+use Rattle.pf_syntax.specs.WrittenPattern.{WrittenPattern}
+use Rattle.pf_syntax.specs.WrittenExpression.{WrittenExpression}
+use Rattle.pf_syntax.specs.Source.{NodeTable, Written, written_pattern_at, written_expression_at}
+use Rattle.pf_syntax.specs.declared.written.WrittenPatternId.{WrittenPatternId}
+use Rattle.pf_syntax.specs.declared.written.WrittenExpressionId.{WrittenExpressionId}
+use Rattle.pf_reader.specs.NumberedTokens.{NumberedToken}
+use Rattle.pf_reader.specs.View.{token_list}
 use Rattle.pf_reader.specs.declared.part.Part.{Part}
-use Rattle.pf_reader.specs.declared.part.ShapePart.{ShapePart}
+use Rattle.pf_reader.specs.declared.part.WrittenPatternPart.{WrittenPatternPart}
 use Rattle.pf_reader.specs.declared.fault.ReadFault.{ReadFault}
 use Rattle.pf_reader.specs.declared.fault.ReadFault.TheVariants.{Memory, Syntax}
 
@@ -30,42 +30,42 @@ Gives view (Err e) read = Fails e read
 
 -- ---- sources that are read into
 
--- a source that grew: its book goes on where it ended, and the rest is as it was
+-- a source that grew: its table of nodes goes on where it ended, and the rest is as it was
 pub record Grown (old new : Written) : Type 0 where
   pub name : new.name ≡ old.name
   pub exports : new.exports ≡ old.exports
   pub functions : new.functions ≡ old.functions
-  pub book : GoesOn old.book new.book
+  pub node_table : GoesOn old.node_table new.node_table
 
 -- the expression of a number
-abbrev pub phrase_of : Book → PhraseId → Phrase
-phrase_of b e = phrase_at b e.0
+abbrev pub written_expression_of : NodeTable → WrittenExpressionId → WrittenExpression
+written_expression_of b e = written_expression_at b e.0
 
-abbrev pub shape_of : Book → ShapeId → Shape
-shape_of b q = shape_at b q.0
+abbrev pub written_pattern_of : NodeTable → WrittenPatternId → WrittenPattern
+written_pattern_of b q = written_pattern_at b q.0
 
 -- an expression that was read, and the tokens after it
-abbrev pub seen : Book → Part → Phrase × List Tok
-seen b p = (phrase_at b p.phrase.0, toks p.rest.now)
+abbrev pub seen : NodeTable → Part → WrittenExpression × List NumberedToken
+seen b p = (written_expression_at b p.written_expression.0, token_list p.rest.now)
 
 -- a pattern that was read, and the tokens after it
-abbrev pub seen_shape : Book → ShapePart → Shape × List Tok
-seen_shape b p = (shape_at b p.shape.0, toks p.rest.now)
+abbrev pub seen_written_pattern : NodeTable → WrittenPatternPart → WrittenPattern × List NumberedToken
+seen_written_pattern b p = (written_pattern_at b p.written_pattern.0, token_list p.rest.now)
 
 -- ---- clauses
 
 -- a clause of a `case`, over its parts; it has no guard
-abbrev pub clause_of : Book → Branch → Clause
-clause_of b c = (shape_at b c.shape.0, map (phrase_of b) c.body.items)
+abbrev pub clause_of : NodeTable → Branch → Clause
+clause_of b c = (written_pattern_at b c.written_pattern.0, map (written_expression_of b) c.body.items)
 
--- the parts of a clause are in the book, and it has no guard
-abbrev pub ClauseStands : Book → Branch → Type 0
+-- the parts of a clause are in the table of nodes, and it has no guard
+abbrev pub ClauseStands : NodeTable → Branch → Type 0
 ClauseStands b c = BranchStands b c × (condition_over b c.condition ≡ unguarded)
 
 -- ---- what stands before what is read
 
 -- the items before, and those read after them
-abbrev pub with_front : {A : Type 0} → List A → Option (List A × List Tok) → Option (List A × List Tok)
+abbrev pub with_front : {A : Type 0} → List A → Option (List A × List NumberedToken) → Option (List A × List NumberedToken)
 with_front front o = o >>= λ x. Some (front ++ x.0, x.1)
 
 -- the same, up to the end of the tokens

@@ -1,4 +1,4 @@
-pub mod Sign
+pub mod NumberedTokens
 pub mod Grammar
 pub mod Parse
 pub mod View

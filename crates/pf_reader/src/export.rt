@@ -3,13 +3,13 @@
 ghost use Rattle.std.specs.Prelude.{◌≡◌, ◌++◌, length, map, OnOk};
 ghost use Rattle.pf_syntax.specs.SourceOver.{export_of};
 ghost use Rattle.pf_tokens.specs.declared.marks.Mark.TheVariants.{CloseBracket, Comma};
-ghost use Rattle.pf_reader.specs.Sign.{mark};
+ghost use Rattle.pf_reader.specs.NumberedTokens.{mark};
 ghost use Rattle.pf_reader.specs.Parse.{entry, export, exports, items, until};
-ghost use Rattle.pf_reader.specs.View.{names_of, toks};
+ghost use Rattle.pf_reader.specs.View.{names_of, token_list};
 ghost use Rattle.pf_reader.specs.Given.{with_front, Gives};
 
 use crate::fault::ReadFault;
-use crate::sign::{Sign, Tok};
+use crate::numbered_token::{NumberedKind, NumberedToken};
 use crate::token::{Context, behind, read_name, read_number, skip, skip_word};
 use pf_syntax::{Export, Source};
 use pf_terms::NoMemory;
@@ -17,11 +17,14 @@ use pf_tokens::Mark;
 use std::alloc::Global;
 
 /// An entry: a name, a slash and a number of arguments.
-fn read_entry<'a>(context: Context, tokens: &'a [Tok]) -> Result<(Export, &'a [Tok]), ReadFault>
-    ensures { Gives (λ x. (export_of x.0, toks x.1.now)) result (entry (names_of context.entry) (toks tokens.now)) }
+fn read_entry<'a>(
+    context: Context,
+    tokens: &'a [NumberedToken],
+) -> Result<(Export, &'a [NumberedToken]), ReadFault>
+    ensures { Gives (λ x. (export_of x.0, token_list x.1.now)) result (entry (names_of context.entry) (token_list tokens.now)) }
 {
     let (word, rest) = read_name(context, tokens)?;
-    let rest = behind(rest, Sign::Mark(Mark::Slash))?;
+    let rest = behind(rest, NumberedKind::Mark(Mark::Slash))?;
     match read_number(rest) {
         Some((arity, rest)) => Ok((
             Export {
@@ -38,16 +41,16 @@ fn read_entry<'a>(context: Context, tokens: &'a [Tok]) -> Result<(Export, &'a [T
 fn read_entries<'a>(
     alloc: Global,
     context: Context,
-    tokens: &'a [Tok],
-) -> Result<(Vec<Export>, &'a [Tok]), ReadFault>
-    ensures { Gives (λ x. (map export_of x.0.items, toks x.1.now)) result (items (mark Comma) (entry (names_of context.entry)) (length (toks tokens.now)) (toks tokens.now)) }
+    tokens: &'a [NumberedToken],
+) -> Result<(Vec<Export>, &'a [NumberedToken]), ReadFault>
+    ensures { Gives (λ x. (map export_of x.0.items, token_list x.1.now)) result (items (mark Comma) (entry (names_of context.entry)) (length (token_list tokens.now)) (token_list tokens.now)) }
 {
     let mut found = Vec::new(alloc);
     let mut rest = tokens;
     for _ in 0..tokens.len() {
         let (entry, behind_it) = read_entry(context, rest)?;
         found.push(entry)?;
-        let Some(after) = skip(behind_it, Sign::Mark(Mark::Comma)) else {
+        let Some(after) = skip(behind_it, NumberedKind::Mark(Mark::Comma)) else {
             return Ok((found, behind_it));
         };
         rest = after;
@@ -59,15 +62,15 @@ fn read_entries<'a>(
 fn read_entry_list<'a>(
     alloc: Global,
     context: Context,
-    tokens: &'a [Tok],
-) -> Result<(Vec<Export>, &'a [Tok]), ReadFault>
-    ensures { Gives (λ x. (map export_of x.0.items, toks x.1.now)) result (until (mark CloseBracket) (entry (names_of context.entry)) (toks tokens.now)) }
+    tokens: &'a [NumberedToken],
+) -> Result<(Vec<Export>, &'a [NumberedToken]), ReadFault>
+    ensures { Gives (λ x. (map export_of x.0.items, token_list x.1.now)) result (until (mark CloseBracket) (entry (names_of context.entry)) (token_list tokens.now)) }
 {
-    if let Some(rest) = skip(tokens, Sign::Mark(Mark::CloseBracket)) {
+    if let Some(rest) = skip(tokens, NumberedKind::Mark(Mark::CloseBracket)) {
         return Ok((Vec::new(alloc), rest));
     }
     let (entries, rest) = read_entries(alloc, context, tokens)?;
-    let rest = behind(rest, Sign::Mark(Mark::CloseBracket))?;
+    let rest = behind(rest, NumberedKind::Mark(Mark::CloseBracket))?;
     Ok((entries, rest))
 }
 
@@ -75,18 +78,18 @@ fn read_entry_list<'a>(
 fn read_export<'a>(
     alloc: Global,
     context: Context,
-    tokens: &'a [Tok],
-) -> Result<(Vec<Export>, &'a [Tok]), ReadFault>
-    ensures { Gives (λ x. (map export_of x.0.items, toks x.1.now)) result (export (names_of context.entry) (toks tokens.now)) }
+    tokens: &'a [NumberedToken],
+) -> Result<(Vec<Export>, &'a [NumberedToken]), ReadFault>
+    ensures { Gives (λ x. (map export_of x.0.items, token_list x.1.now)) result (export (names_of context.entry) (token_list tokens.now)) }
 {
     let Some(rest) = skip_word(context.atoms, b"export", tokens) else {
         return Err(ReadFault::Syntax);
     };
-    let rest = behind(rest, Sign::Mark(Mark::OpenParenthesis))?;
-    let rest = behind(rest, Sign::Mark(Mark::OpenBracket))?;
+    let rest = behind(rest, NumberedKind::Mark(Mark::OpenParenthesis))?;
+    let rest = behind(rest, NumberedKind::Mark(Mark::OpenBracket))?;
     let (entries, rest) = read_entry_list(alloc, context, rest)?;
-    let rest = behind(rest, Sign::Mark(Mark::CloseParenthesis))?;
-    let rest = behind(rest, Sign::Dot)?;
+    let rest = behind(rest, NumberedKind::Mark(Mark::CloseParenthesis))?;
+    let rest = behind(rest, NumberedKind::Dot)?;
     Ok((entries, rest))
 }
 
@@ -107,15 +110,15 @@ pub(crate) fn read_exports<'a>(
     alloc: Global,
     context: Context,
     source: &mut Source,
-    tokens: &'a [Tok],
-) -> Result<&'a [Tok], ReadFault>
-    ensures given { Gives (λ rest. (source.new.exports, toks rest.now)) result (with_front source.old.exports (exports (names_of context.entry) (length (toks tokens.now)) (toks tokens.now))) }
+    tokens: &'a [NumberedToken],
+) -> Result<&'a [NumberedToken], ReadFault>
+    ensures given { Gives (λ rest. (source.new.exports, token_list rest.now)) result (with_front source.old.exports (exports (names_of context.entry) (length (token_list tokens.now)) (token_list tokens.now))) }
     ensures name { source.new.name ≡ source.old.name }
     ensures functions { source.new.functions ≡ source.old.functions }
 {
     let mut rest = tokens;
     for _ in 0..tokens.len() {
-        let Some(form) = skip(rest, Sign::Mark(Mark::Minus)) else {
+        let Some(form) = skip(rest, NumberedKind::Mark(Mark::Minus)) else {
             return Ok(rest);
         };
         let (entries, after) = read_export(alloc, context, form)?;

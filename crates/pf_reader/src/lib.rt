@@ -10,14 +10,14 @@ mod fault;
 mod function;
 mod laws;
 mod number;
+mod numbered_token;
 mod operator;
 mod part;
-mod phrase;
 mod place;
 mod read;
-mod shape;
-mod sign;
 mod token;
+mod written_expression;
+mod written_pattern;
 
 pub use fault::{Place, TreeFault};
 pub use laws::{one_tree, reading_is_complete, reading_is_sound};

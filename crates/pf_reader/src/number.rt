@@ -1,15 +1,15 @@
 //! Numbers for the names in tokens.
 
 ghost use Rattle.std.specs.Prelude.{◌≡◌, ◌<◌, ◌^◌, ℕ, length, List, map, IfErr, IfOk, OnOk};
-ghost use Rattle.pf_terms.specs.Atoms.{with_name, with_names};
-ghost use Rattle.pf_tokens.specs.Signs.{placed_of, sign_of};
+ghost use Rattle.pf_terms.specs.Atoms.{fixed_names, with_name, with_names};
+ghost use Rattle.pf_tokens.specs.TokenKinds.{placed_of, kind_of};
 ghost use Rattle.pf_reader.specs.declared.fault.ReadFault.TheVariants.{Memory};
-ghost use Rattle.pf_reader.specs.Sign.{atom_name, atoms_of, number_in, numbered, variable_name};
-ghost use Rattle.pf_reader.specs.View.{toks};
-ghost use Rattle.pf_reader.specs.Numbering.{StandsForSign};
+ghost use Rattle.pf_reader.specs.NumberedTokens.{atom_name, atoms_of, number_in, numbered, variable_name};
+ghost use Rattle.pf_reader.specs.View.{token_list};
+ghost use Rattle.pf_reader.specs.Numbering.{StandsForKind};
 
 use crate::fault::ReadFault;
-use crate::sign::{Sign, Tok};
+use crate::numbered_token::{NumberedKind, NumberedToken};
 use pf_terms::{AtomId, AtomTable};
 use pf_tokens::{Kind, Token};
 use std::alloc::Global;
@@ -32,37 +32,37 @@ fn number_of(alloc: Global, table: &mut AtomTable, name: &[u8]) -> Result<AtomId
     Ok(number)
 }
 
-/// A sign with a number for its name.
-fn number_sign(
+/// A kind of token with a number for its name.
+fn number_kind(
     alloc: Global,
     atoms: &mut AtomTable,
     variables: &mut AtomTable,
     kind: &Kind,
-) -> Result<Sign, ReadFault>
+) -> Result<NumberedKind, ReadFault>
     requires atoms { length atoms.old < 2 ^ 32 }
     requires variables { length variables.old < 2 ^ 32 }
-    ensures sign { IfOk result (λ s. StandsForSign atoms.new variables.new (sign_of kind.now) s) }
-    ensures atoms { OnOk result (atoms.new ≡ with_names atoms.old (atom_name (sign_of kind.now))) }
-    ensures variables { OnOk result (variables.new ≡ with_names variables.old (variable_name (sign_of kind.now))) }
+    ensures kind { IfOk result (λ s. StandsForKind atoms.new variables.new (kind_of kind.now) s) }
+    ensures atoms { OnOk result (atoms.new ≡ with_names atoms.old (atom_name (kind_of kind.now))) }
+    ensures variables { OnOk result (variables.new ≡ with_names variables.old (variable_name (kind_of kind.now))) }
     ensures room { OnOk result ((length atoms.new < 2 ^ 32) × (length variables.new < 2 ^ 32)) }
     ensures err { IfErr result (λ e. e ≡ Memory) }
 {
     match kind {
-        Kind::Integer(n) => Ok(Sign::Integer(*n)),
+        Kind::Integer(n) => Ok(NumberedKind::Integer(*n)),
         Kind::Atom(name) => {
             let number = number_of(alloc, atoms, name)?;
-            Ok(Sign::Atom(number))
+            Ok(NumberedKind::Atom(number))
         }
         Kind::Variable(name) => {
             let number = number_of(alloc, variables, name)?;
-            Ok(Sign::Variable(number))
+            Ok(NumberedKind::Variable(number))
         }
-        Kind::Anonymous => Ok(Sign::Anonymous),
-        Kind::Text(_) => Ok(Sign::Text),
-        Kind::Module => Ok(Sign::OwnModule),
-        Kind::Dot => Ok(Sign::Dot),
-        Kind::Mark(mark) => Ok(Sign::Mark(*mark)),
-        Kind::Reserved(word) => Ok(Sign::Reserved(*word)),
+        Kind::Anonymous => Ok(NumberedKind::Anonymous),
+        Kind::Text(_) => Ok(NumberedKind::Text),
+        Kind::Module => Ok(NumberedKind::OwnModule),
+        Kind::Dot => Ok(NumberedKind::Dot),
+        Kind::Mark(mark) => Ok(NumberedKind::Mark(*mark)),
+        Kind::Reserved(word) => Ok(NumberedKind::Reserved(*word)),
     }
 }
 
@@ -77,22 +77,39 @@ fn offset_of(start: usize) -> Result<u32, ReadFault>
     }
 }
 
+/// The tokens with numbers for their names, which the tables, fresh ones, get.
+fn number_all(
+    alloc: Global,
+    atoms: &mut AtomTable,
+    variables: &mut AtomTable,
+    tokens: &[Token],
+) -> Result<Vec<NumberedToken>, ReadFault>
+    requires atoms { atoms.old ≡ fixed_names }
+    requires variables { variables.old ≡ fixed_names }
+    ensures atoms { OnOk result (atoms.new ≡ atoms_of (map placed_of tokens.now)) }
+    ensures token_list { IfOk result (λ found. token_list found.items ≡ numbered (map placed_of tokens.now)) }
+    ensures err { IfErr result (λ e. e ≡ Memory) }
+{
+    let mut found = Vec::new(alloc);
+    for token in tokens {
+        let kind = number_kind(alloc, atoms, variables, &token.kind)?;
+        let at = offset_of(token.start)?;
+        found.push(NumberedToken { kind, at })?;
+    }
+    Ok(found)
+}
+
 /// The atoms of the tokens, and the tokens with numbers for their names. It fails by want of memory alone.
 pub(crate) fn number_tokens(
     alloc: Global,
     tokens: &[Token],
-) -> Result<(AtomTable, Vec<Tok>), ReadFault>
+) -> Result<(AtomTable, Vec<NumberedToken>), ReadFault>
     ensures atoms { IfOk result (λ x. x.0 ≡ atoms_of (map placed_of tokens.now)) }
-    ensures toks { IfOk result (λ x. toks x.1.items ≡ numbered (map placed_of tokens.now)) }
+    ensures token_list { IfOk result (λ x. token_list x.1.items ≡ numbered (map placed_of tokens.now)) }
     ensures err { IfErr result (λ e. e ≡ Memory) }
 {
     let mut atoms = AtomTable::new(alloc)?;
     let mut variables = AtomTable::new(alloc)?;
-    let mut found = Vec::new(alloc);
-    for token in tokens {
-        let sign = number_sign(alloc, &mut atoms, &mut variables, &token.kind)?;
-        let at = offset_of(token.start)?;
-        found.push(Tok { sign, at })?;
-    }
+    let found = number_all(alloc, &mut atoms, &mut variables, tokens)?;
     Ok((atoms, found))
 }

@@ -4,22 +4,22 @@ ghost use Rattle.std.specs.Prelude.{◌≡◌, option_map};
 ghost use Rattle.pf_syntax.specs.Operators.{operator_of};
 ghost use Rattle.pf_reader.specs.Grammar.{level_of, op_of};
 ghost use Rattle.pf_reader.specs.Parse.{operator};
-ghost use Rattle.pf_reader.specs.View.{sign_of, toks};
+ghost use Rattle.pf_reader.specs.View.{kind_of, token_list};
 
-use crate::sign::{Sign, Tok};
+use crate::numbered_token::{NumberedKind, NumberedToken};
 use pf_syntax::Operator;
 use pf_tokens::{Mark, Reserved};
 
-/// The operator that a sign is.
-fn operator_of(sign: Sign) -> Option<Operator>
-    ensures { option_map operator_of result ≡ op_of (sign_of sign) }
+/// The operator that a kind of token is.
+fn operator_of(kind: NumberedKind) -> Option<Operator>
+    ensures { option_map operator_of result ≡ op_of (kind_of kind) }
 {
-    match sign {
-        Sign::Mark(Mark::Plus) => Some(Operator::Plus),
-        Sign::Mark(Mark::Minus) => Some(Operator::Minus),
-        Sign::Mark(Mark::Times) => Some(Operator::Times),
-        Sign::Reserved(Reserved::Div) => Some(Operator::Quotient),
-        Sign::Reserved(Reserved::Rem) => Some(Operator::Remainder),
+    match kind {
+        NumberedKind::Mark(Mark::Plus) => Some(Operator::Plus),
+        NumberedKind::Mark(Mark::Minus) => Some(Operator::Minus),
+        NumberedKind::Mark(Mark::Times) => Some(Operator::Times),
+        NumberedKind::Reserved(Reserved::Div) => Some(Operator::Quotient),
+        NumberedKind::Reserved(Reserved::Rem) => Some(Operator::Remainder),
         _ => None,
     }
 }
@@ -35,11 +35,11 @@ fn level_of(operator: Operator) -> u32
 }
 
 /// The operator of the level, where one stands first, and what follows it.
-pub(crate) fn operator(level: u32, tokens: &[Tok]) -> Option<(Operator, &[Tok])>
-    ensures { option_map (λ o. (operator_of o.0, toks o.1.now)) result ≡ operator level (toks tokens.now) }
+pub(crate) fn operator(level: u32, tokens: &[NumberedToken]) -> Option<(Operator, &[NumberedToken])>
+    ensures { option_map (λ o. (operator_of o.0, token_list o.1.now)) result ≡ operator level (token_list tokens.now) }
 {
     let (first, rest) = tokens.split_first()?;
-    let operator = operator_of(first.sign)?;
+    let operator = operator_of(first.kind)?;
     if level_of(operator) == level {
         Some((operator, rest))
     } else {

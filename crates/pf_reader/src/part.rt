@@ -1,73 +1,81 @@
 //! Parts that were read into a source, and what follows each of them.
 
 ghost use Rattle.std.specs.Prelude.{◌≡◌, IfOk, Some};
-ghost use Rattle.pf_syntax.specs.SourceOver.{phrase_over, shape_over, PhrasePartsStand, PhraseStands, ShapePartsStand, ShapeStands};
+ghost use Rattle.pf_syntax.specs.SourceOver.{written_expression_over, written_pattern_over, WrittenExpressionPartsStand, WrittenExpressionStands, WrittenPatternPartsStand, WrittenPatternStands};
 ghost use Rattle.pf_reader.specs.Parse.{within};
-ghost use Rattle.pf_reader.specs.View.{toks};
-ghost use Rattle.pf_reader.specs.Given.{seen, seen_shape, Gives, Grown};
+ghost use Rattle.pf_reader.specs.View.{token_list};
+ghost use Rattle.pf_reader.specs.Given.{seen, seen_written_pattern, Gives, Grown};
 
 use crate::fault::ReadFault;
-use crate::sign::Tok;
-use pf_syntax::{PhraseId, PhraseNode, ShapeId, ShapeNode, Source};
+use crate::numbered_token::NumberedToken;
+use pf_syntax::{
+    Source, WrittenExpressionId, WrittenExpressionNode, WrittenPatternId, WrittenPatternNode,
+};
 
 /// An expression that was read, and what follows it.
 #[derive(Clone, Copy)]
 pub(crate) struct Part<'a> {
-    pub phrase: PhraseId,
-    pub rest: &'a [Tok],
+    pub written_expression: WrittenExpressionId,
+    pub rest: &'a [NumberedToken],
 }
 
 /// A pattern that was read, and what follows it.
 #[derive(Clone, Copy)]
-pub(crate) struct ShapePart<'a> {
-    pub shape: ShapeId,
-    pub rest: &'a [Tok],
+pub(crate) struct WrittenPatternPart<'a> {
+    pub written_pattern: WrittenPatternId,
+    pub rest: &'a [NumberedToken],
 }
 
 /// Adds a pattern.
-pub(crate) fn put_shape<'a>(
+pub(crate) fn put_written_pattern<'a>(
     source: &mut Source,
-    node: ShapeNode,
-    rest: &'a [Tok],
-) -> Result<ShapePart<'a>, ReadFault>
-    requires { ShapePartsStand source.old.book node }
+    node: WrittenPatternNode,
+    rest: &'a [NumberedToken],
+) -> Result<WrittenPatternPart<'a>, ReadFault>
+    requires { WrittenPatternPartsStand source.old.node_table node }
     ensures grown { Grown source.old source.new }
-    ensures stands { IfOk result (λ p. ShapeStands source.new.book p.shape) }
-    ensures given { Gives (seen_shape source.new.book) result (Some (shape_over source.old.book node, toks rest.now)) }
+    ensures stands { IfOk result (λ p. WrittenPatternStands source.new.node_table p.written_pattern) }
+    ensures given { Gives (seen_written_pattern source.new.node_table) result (Some (written_pattern_over source.old.node_table node, token_list rest.now)) }
 {
-    let shape = source.add_shape(node)?;
-    Ok(ShapePart { shape, rest })
+    let written_pattern = source.add_written_pattern(node)?;
+    Ok(WrittenPatternPart {
+        written_pattern,
+        rest,
+    })
 }
 
 /// Adds an expression.
 pub(crate) fn put<'a>(
     source: &mut Source,
-    node: PhraseNode,
-    rest: &'a [Tok],
+    node: WrittenExpressionNode,
+    rest: &'a [NumberedToken],
 ) -> Result<Part<'a>, ReadFault>
-    requires { PhrasePartsStand source.old.book node }
+    requires { WrittenExpressionPartsStand source.old.node_table node }
     ensures grown { Grown source.old source.new }
-    ensures stands { IfOk result (λ p. PhraseStands source.new.book p.phrase) }
-    ensures given { Gives (seen source.new.book) result (Some (phrase_over source.old.book node, toks rest.now)) }
+    ensures stands { IfOk result (λ p. WrittenExpressionStands source.new.node_table p.written_expression) }
+    ensures given { Gives (seen source.new.node_table) result (Some (written_expression_over source.old.node_table node, token_list rest.now)) }
 {
-    let phrase = source.add_phrase(node)?;
-    Ok(Part { phrase, rest })
+    let written_expression = source.add_written_expression(node)?;
+    Ok(Part {
+        written_expression,
+        rest,
+    })
 }
 
 /// Adds an expression, which may be no deeper than the limit.
 pub(crate) fn put_within<'a>(
     source: &mut Source,
     limit: u32,
-    node: PhraseNode,
-    rest: &'a [Tok],
+    node: WrittenExpressionNode,
+    rest: &'a [NumberedToken],
 ) -> Result<Part<'a>, ReadFault>
-    requires { PhrasePartsStand source.old.book node }
+    requires { WrittenExpressionPartsStand source.old.node_table node }
     ensures grown { Grown source.old source.new }
-    ensures stands { IfOk result (λ p. PhraseStands source.new.book p.phrase) }
-    ensures given { Gives (seen source.new.book) result (within limit (phrase_over source.old.book node) (toks rest.now)) }
+    ensures stands { IfOk result (λ p. WrittenExpressionStands source.new.node_table p.written_expression) }
+    ensures given { Gives (seen source.new.node_table) result (within limit (written_expression_over source.old.node_table node) (token_list rest.now)) }
 {
     let part = put(source, node, rest)?;
-    if source.depth(part.phrase) > limit {
+    if source.depth(part.written_expression) > limit {
         return Err(ReadFault::Syntax);
     }
     Ok(part)

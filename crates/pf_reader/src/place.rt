@@ -5,7 +5,7 @@
 
 use crate::expression::{Expression, Leaf};
 use crate::fault::{Place, ReadFault};
-use crate::sign::{Sign, Tok};
+use crate::numbered_token::{NumberedKind, NumberedToken};
 use pf_terms::{AtomId, AtomTable};
 use pf_tokens::{Mark, Reserved};
 use std::alloc::Global;
@@ -86,7 +86,7 @@ struct Walk<'a> {
 pub(crate) fn fault_place(
     alloc: Global,
     atoms: &AtomTable,
-    tokens: &[Tok],
+    tokens: &[NumberedToken],
 ) -> Result<Place, ReadFault> {
     let mut walk = Walk {
         alloc,
@@ -108,20 +108,23 @@ pub(crate) fn fault_place(
 }
 
 /// What may stand behind a token of a pattern, if it may stand there: `end` behind a whole pattern, `minus` behind a minus.
-fn pattern_next(sign: Sign, end: Next, minus: Next) -> Option<Next> {
-    match sign {
-        Sign::Integer(_) | Sign::Atom(_) | Sign::Variable(_) | Sign::Anonymous | Sign::OwnModule =>
-            Some(end),
-        Sign::Mark(Mark::Minus) => Some(minus),
+fn pattern_next(kind: NumberedKind, end: Next, minus: Next) -> Option<Next> {
+    match kind {
+        NumberedKind::Integer(_)
+        | NumberedKind::Atom(_)
+        | NumberedKind::Variable(_)
+        | NumberedKind::Anonymous
+        | NumberedKind::OwnModule => Some(end),
+        NumberedKind::Mark(Mark::Minus) => Some(minus),
         _ => None,
     }
 }
 
 impl<'a> Walk<'a> {
     /// Notes the first atom that is too long.
-    fn limit_atoms(&mut self, tokens: &[Tok]) {
+    fn limit_atoms(&mut self, tokens: &[NumberedToken]) {
         for token in tokens {
-            if let Sign::Atom(name) = token.sign {
+            if let NumberedKind::Atom(name) = token.kind {
                 if self.atoms.name(name).len() > LONGEST {
                     return self.limit(token.at as usize);
                 }
@@ -149,17 +152,17 @@ impl<'a> Walk<'a> {
     }
 
     /// What may stand behind the token; nothing where it may not stand there itself.
-    fn step(&mut self, token: &Tok) -> Result<Option<Next>, ReadFault> {
+    fn step(&mut self, token: &NumberedToken) -> Result<Option<Next>, ReadFault> {
         match self.next {
             Next::Operand | Next::Part | Next::OperandOrEnd => self.operand(token),
-            Next::BehindAtom if token.sign == Sign::Mark(Mark::OpenParenthesis) => {
+            Next::BehindAtom if token.kind == NumberedKind::Mark(Mark::OpenParenthesis) => {
                 self.open(Frame::Arguments(0), Next::OperandOrEnd)
             }
             Next::BehindAtom => {
                 self.current.leaf(Leaf::Other);
-                Ok(self.behind(token.sign))
+                Ok(self.behind(token.kind))
             }
-            Next::Behind => Ok(self.behind(token.sign)),
+            Next::Behind => Ok(self.behind(token.kind)),
             Next::ExportOrFunction
             | Next::FunctionOnly
             | Next::Parameters
@@ -167,29 +170,30 @@ impl<'a> Walk<'a> {
             | Next::Parameter
             | Next::NegativeParameter
             | Next::ParameterEnd
-            | Next::HeadArrow => Ok(self.head(token.sign)),
+            | Next::HeadArrow => Ok(self.head(token.kind)),
             Next::Pattern | Next::NegativePattern | Next::ClauseArrow => {
-                Ok(self.clause(token.sign))
+                Ok(self.clause(token.kind))
             }
-            _ => Ok(self.export(token.sign)),
+            _ => Ok(self.export(token.kind)),
         }
     }
 
     /// In an export form, behind its minus.
-    fn export(&self, sign: Sign) -> Option<Next> {
-        match (self.next, sign) {
-            (Next::Word, Sign::Atom(name)) if self.is_export(name) => Some(Next::List),
-            (Next::List, Sign::Mark(Mark::OpenParenthesis)) => Some(Next::Bracket),
-            (Next::Bracket, Sign::Mark(Mark::OpenBracket)) => Some(Next::EntryOrEnd),
-            (Next::EntryOrEnd | Next::EntryEnd, Sign::Mark(Mark::CloseBracket)) => {
+    fn export(&self, kind: NumberedKind) -> Option<Next> {
+        match (self.next, kind) {
+            (Next::Word, NumberedKind::Atom(name)) if self.is_export(name) => Some(Next::List),
+            (Next::List, NumberedKind::Mark(Mark::OpenParenthesis)) => Some(Next::Bracket),
+            (Next::Bracket, NumberedKind::Mark(Mark::OpenBracket)) => Some(Next::EntryOrEnd),
+            (Next::EntryOrEnd | Next::EntryEnd, NumberedKind::Mark(Mark::CloseBracket)) => {
                 Some(Next::ListEnd)
             }
-            (Next::EntryOrEnd | Next::Entry, Sign::Atom(_) | Sign::OwnModule) => Some(Next::Slash),
-            (Next::Slash, Sign::Mark(Mark::Slash)) => Some(Next::Arity),
-            (Next::Arity, Sign::Integer(_)) => Some(Next::EntryEnd),
-            (Next::EntryEnd, Sign::Mark(Mark::Comma)) => Some(Next::Entry),
-            (Next::ListEnd, Sign::Mark(Mark::CloseParenthesis)) => Some(Next::ExportDot),
-            (Next::ExportDot, Sign::Dot) => Some(Next::ExportOrFunction),
+            (Next::EntryOrEnd | Next::Entry, NumberedKind::Atom(_) | NumberedKind::OwnModule) =>
+                Some(Next::Slash),
+            (Next::Slash, NumberedKind::Mark(Mark::Slash)) => Some(Next::Arity),
+            (Next::Arity, NumberedKind::Integer(_)) => Some(Next::EntryEnd),
+            (Next::EntryEnd, NumberedKind::Mark(Mark::Comma)) => Some(Next::Entry),
+            (Next::ListEnd, NumberedKind::Mark(Mark::CloseParenthesis)) => Some(Next::ExportDot),
+            (Next::ExportDot, NumberedKind::Dot) => Some(Next::ExportOrFunction),
             _ => None,
         }
     }
@@ -199,32 +203,36 @@ impl<'a> Walk<'a> {
     }
 
     /// At the beginning of a form, or in the head of a function.
-    fn head(&mut self, sign: Sign) -> Option<Next> {
-        match (self.next, sign) {
-            (Next::ExportOrFunction, Sign::Mark(Mark::Minus)) => Some(Next::Word),
-            (Next::ExportOrFunction | Next::FunctionOnly, Sign::Atom(_) | Sign::OwnModule) => {
-                Some(Next::Parameters)
-            }
-            (Next::Parameters, Sign::Mark(Mark::OpenParenthesis)) => Some(Next::ParameterOrEnd),
-            (Next::ParameterOrEnd | Next::ParameterEnd, Sign::Mark(Mark::CloseParenthesis)) => {
-                Some(Next::HeadArrow)
-            }
+    fn head(&mut self, kind: NumberedKind) -> Option<Next> {
+        match (self.next, kind) {
+            (Next::ExportOrFunction, NumberedKind::Mark(Mark::Minus)) => Some(Next::Word),
+            (
+                Next::ExportOrFunction | Next::FunctionOnly,
+                NumberedKind::Atom(_) | NumberedKind::OwnModule,
+            ) => { Some(Next::Parameters) }
+            (Next::Parameters, NumberedKind::Mark(Mark::OpenParenthesis)) => Some(
+                Next::ParameterOrEnd,
+            ),
+            (
+                Next::ParameterOrEnd | Next::ParameterEnd,
+                NumberedKind::Mark(Mark::CloseParenthesis),
+            ) => { Some(Next::HeadArrow) }
             (Next::ParameterOrEnd | Next::Parameter, _) => {
-                pattern_next(sign, Next::ParameterEnd, Next::NegativeParameter)
+                pattern_next(kind, Next::ParameterEnd, Next::NegativeParameter)
             }
-            (Next::NegativeParameter, Sign::Integer(_)) => Some(Next::ParameterEnd),
-            (Next::ParameterEnd, Sign::Mark(Mark::Comma)) => Some(Next::Parameter),
-            (Next::HeadArrow, Sign::Mark(Mark::Arrow)) => Some(self.element()),
+            (Next::NegativeParameter, NumberedKind::Integer(_)) => Some(Next::ParameterEnd),
+            (Next::ParameterEnd, NumberedKind::Mark(Mark::Comma)) => Some(Next::Parameter),
+            (Next::HeadArrow, NumberedKind::Mark(Mark::Arrow)) => Some(self.element()),
             _ => None,
         }
     }
 
     /// In a clause of a `case`, before its body.
-    fn clause(&mut self, sign: Sign) -> Option<Next> {
-        match (self.next, sign) {
-            (Next::Pattern, _) => pattern_next(sign, Next::ClauseArrow, Next::NegativePattern),
-            (Next::NegativePattern, Sign::Integer(_)) => Some(Next::ClauseArrow),
-            (Next::ClauseArrow, Sign::Mark(Mark::Arrow)) => Some(self.element()),
+    fn clause(&mut self, kind: NumberedKind) -> Option<Next> {
+        match (self.next, kind) {
+            (Next::Pattern, _) => pattern_next(kind, Next::ClauseArrow, Next::NegativePattern),
+            (Next::NegativePattern, NumberedKind::Integer(_)) => Some(Next::ClauseArrow),
+            (Next::ClauseArrow, NumberedKind::Mark(Mark::Arrow)) => Some(self.element()),
             _ => None,
         }
     }
@@ -253,87 +261,91 @@ impl<'a> Walk<'a> {
     }
 
     /// Where an operand may stand.
-    fn operand(&mut self, token: &Tok) -> Result<Option<Next>, ReadFault> {
+    fn operand(&mut self, token: &NumberedToken) -> Result<Option<Next>, ReadFault> {
         self.current.begin(token.at as usize);
-        match token.sign {
-            Sign::Integer(_) => {
+        match token.kind {
+            NumberedKind::Integer(_) => {
                 self.current.leaf(Leaf::Integer);
                 Ok(Some(Next::Behind))
             }
-            Sign::Variable(_) | Sign::Anonymous => {
+            NumberedKind::Variable(_) | NumberedKind::Anonymous => {
                 self.current.leaf(Leaf::Other);
                 Ok(Some(Next::Behind))
             }
-            Sign::Atom(_) | Sign::OwnModule => Ok(Some(Next::BehindAtom)),
-            Sign::Mark(Mark::Minus) if self.next != Next::Part => {
+            NumberedKind::Atom(_) | NumberedKind::OwnModule => Ok(Some(Next::BehindAtom)),
+            NumberedKind::Mark(Mark::Minus) if self.next != Next::Part => {
                 self.current.minus();
                 Ok(Some(Next::Part))
             }
-            Sign::Mark(Mark::OpenParenthesis) => self.open(Frame::Parentheses, Next::Operand),
-            Sign::Mark(Mark::CloseParenthesis) if self.next == Next::OperandOrEnd => {
+            NumberedKind::Mark(Mark::OpenParenthesis) => self.open(
+                Frame::Parentheses,
+                Next::Operand,
+            ),
+            NumberedKind::Mark(Mark::CloseParenthesis) if self.next == Next::OperandOrEnd => {
                 Ok(self.close(0))
             }
-            Sign::Reserved(Reserved::Case) => self.open(Frame::Scrutinee, Next::Operand),
+            NumberedKind::Reserved(Reserved::Case) => self.open(Frame::Scrutinee, Next::Operand),
             _ => Ok(None),
         }
     }
 
     /// Behind an operand.
-    fn behind(&mut self, sign: Sign) -> Option<Next> {
-        match sign {
-            Sign::Mark(Mark::Plus | Mark::Minus) => {
+    fn behind(&mut self, kind: NumberedKind) -> Option<Next> {
+        match kind {
+            NumberedKind::Mark(Mark::Plus | Mark::Minus) => {
                 self.current.plus();
                 Some(Next::Operand)
             }
-            Sign::Mark(Mark::Times) | Sign::Reserved(Reserved::Div | Reserved::Rem) => {
+            NumberedKind::Mark(Mark::Times)
+            | NumberedKind::Reserved(Reserved::Div | Reserved::Rem) => {
                 self.current.times();
                 Some(Next::Operand)
             }
-            _ => self.behind_expression(sign),
+            _ => self.behind_expression(kind),
         }
     }
 
     /// Behind an operand, where no operator goes on.
-    fn behind_expression(&mut self, sign: Sign) -> Option<Next> {
+    fn behind_expression(&mut self, kind: NumberedKind) -> Option<Next> {
         let depth = self.current.depth();
-        match (self.frame, sign) {
-            (Frame::Function | Frame::Clauses(_), Sign::Mark(Mark::Match))
+        match (self.frame, kind) {
+            (Frame::Function | Frame::Clauses(_), NumberedKind::Mark(Mark::Match))
                 if self.current.is_pattern() => {
                 self.current.matched();
                 Some(Next::Operand)
             }
-            (Frame::Function, Sign::Mark(Mark::Comma)) => {
+            (Frame::Function, NumberedKind::Mark(Mark::Comma)) => {
                 self.limit_element(depth);
                 Some(self.element())
             }
-            (Frame::Function, Sign::Dot) => {
+            (Frame::Function, NumberedKind::Dot) => {
                 self.limit_element(depth);
                 Some(Next::FunctionOnly)
             }
-            (Frame::Parentheses, Sign::Mark(Mark::CloseParenthesis)) => self.close(depth),
-            (Frame::Arguments(deepest), Sign::Mark(Mark::CloseParenthesis)) => {
+            (Frame::Parentheses, NumberedKind::Mark(Mark::CloseParenthesis)) => self.close(depth),
+            (Frame::Arguments(deepest), NumberedKind::Mark(Mark::CloseParenthesis)) => {
                 self.close(deepest.max(depth))
             }
-            (Frame::Arguments(deepest), Sign::Mark(Mark::Comma)) => {
+            (Frame::Arguments(deepest), NumberedKind::Mark(Mark::Comma)) => {
                 self.frame = Frame::Arguments(deepest.max(depth));
                 Some(self.element())
             }
-            (Frame::Scrutinee, Sign::Reserved(Reserved::Of)) => {
+            (Frame::Scrutinee, NumberedKind::Reserved(Reserved::Of)) => {
                 self.frame = Frame::Clauses(depth);
                 Some(Next::Pattern)
             }
-            (Frame::Clauses(deepest), _) => self.behind_clause_element(deepest.max(depth), sign),
+            (Frame::Clauses(deepest), _) => self.behind_clause_element(deepest.max(depth), kind),
             _ => None,
         }
     }
 
     /// Behind an element of the body of a clause of a `case`, whose parts so far are so deep.
-    fn behind_clause_element(&mut self, deepest: u32, sign: Sign) -> Option<Next> {
+    fn behind_clause_element(&mut self, deepest: u32, kind: NumberedKind) -> Option<Next> {
         self.frame = Frame::Clauses(deepest);
-        match sign {
-            Sign::Mark(Mark::Comma) => Some(self.element()),
-            Sign::Mark(Mark::Semicolon) => Some(Next::Pattern),
-            Sign::Reserved(Reserved::End) => self.close(deepest),
+        match kind {
+            NumberedKind::Mark(Mark::Comma) => Some(self.element()),
+            NumberedKind::Mark(Mark::Semicolon) => Some(Next::Pattern),
+            NumberedKind::Reserved(Reserved::End) => self.close(deepest),
             _ => None,
         }
     }

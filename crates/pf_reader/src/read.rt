@@ -1,11 +1,11 @@
 //! Reads the tokens of a source.
 
 ghost use Rattle.std.specs.Prelude.{◌≡◌, map, option_map, IfErr, IfOk, None};
-ghost use Rattle.pf_tokens.specs.Signs.{placed_of};
-ghost use Rattle.pf_reader.specs.Sign.{atoms_of, numbered};
+ghost use Rattle.pf_tokens.specs.TokenKinds.{placed_of};
+ghost use Rattle.pf_reader.specs.NumberedTokens.{atoms_of, numbered};
 ghost use Rattle.pf_reader.specs.Grammar.{tree_of, DerivesTree, Tree};
 ghost use Rattle.pf_reader.specs.Parse.{any_atom, begins, tree};
-ghost use Rattle.pf_reader.specs.View.{toks};
+ghost use Rattle.pf_reader.specs.View.{token_list};
 ghost use Rattle.pf_reader.specs.Given.{Gives};
 ghost use Rattle.pf_reader.specs.Outcome.{IsReadAs, IsTreeFault};
 
@@ -13,8 +13,8 @@ use crate::export::read_exports;
 use crate::fault::{ReadFault, TreeFault};
 use crate::function::read_functions;
 use crate::number::number_tokens;
+use crate::numbered_token::{NumberedKind, NumberedToken};
 use crate::place::fault_place;
-use crate::sign::{Sign, Tok};
 use crate::token::{Context, skip, skip_word};
 use pf_syntax::Source;
 use pf_terms::{AtomId, AtomTable};
@@ -29,32 +29,39 @@ pub struct ReadModule {
 }
 
 /// The atom that stands first, whose name may have any length, and what follows it.
-fn any_atom(tokens: &[Tok]) -> Option<(AtomId, &[Tok])>
-    ensures { option_map (λ x. (x.0.0, toks x.1.now)) result ≡ any_atom (toks tokens.now) }
+fn any_atom(tokens: &[NumberedToken]) -> Option<(AtomId, &[NumberedToken])>
+    ensures { option_map (λ x. (x.0.0, token_list x.1.now)) result ≡ any_atom (token_list tokens.now) }
 {
     let (first, rest) = tokens.split_first()?;
-    match first.sign {
-        Sign::Atom(atom) => Some((atom, rest)),
+    match first.kind {
+        NumberedKind::Atom(atom) => Some((atom, rest)),
         _ => None,
     }
 }
 
 /// The module's name, where the first form stands first, and what follows that.
-fn first_form<'a>(atoms: &AtomTable, tokens: &'a [Tok]) -> Option<(AtomId, &'a [Tok])>
-    ensures { option_map (λ x. (x.0.0, toks x.1.now)) result ≡ begins atoms.now (toks tokens.now) }
+fn first_form<'a>(
+    atoms: &AtomTable,
+    tokens: &'a [NumberedToken],
+) -> Option<(AtomId, &'a [NumberedToken])>
+    ensures { option_map (λ x. (x.0.0, token_list x.1.now)) result ≡ begins atoms.now (token_list tokens.now) }
 {
-    let rest = skip(tokens, Sign::Mark(Mark::Minus))?;
+    let rest = skip(tokens, NumberedKind::Mark(Mark::Minus))?;
     let rest = skip_word(atoms, b"module", rest)?;
-    let rest = skip(rest, Sign::Mark(Mark::OpenParenthesis))?;
+    let rest = skip(rest, NumberedKind::Mark(Mark::OpenParenthesis))?;
     let (name, rest) = any_atom(rest)?;
-    let rest = skip(rest, Sign::Mark(Mark::CloseParenthesis))?;
-    let rest = skip(rest, Sign::Dot)?;
+    let rest = skip(rest, NumberedKind::Mark(Mark::CloseParenthesis))?;
+    let rest = skip(rest, NumberedKind::Dot)?;
     Some((name, rest))
 }
 
 /// The module of these tokens, whose atoms have these names.
-fn read_module(alloc: Global, atoms: &AtomTable, tokens: &[Tok]) -> Result<Source, ReadFault>
-    ensures { Gives tree_of result (tree atoms.now (toks tokens.now)) }
+fn read_module(
+    alloc: Global,
+    atoms: &AtomTable,
+    tokens: &[NumberedToken],
+) -> Result<Source, ReadFault>
+    ensures { Gives tree_of result (tree atoms.now (token_list tokens.now)) }
 {
     let Some((own, rest)) = first_form(atoms, tokens) else {
         return Err(ReadFault::Syntax);
@@ -70,9 +77,9 @@ fn read_module(alloc: Global, atoms: &AtomTable, tokens: &[Tok]) -> Result<Sourc
 }
 
 /// Why tokens that aren't a module have no tree.
-fn tree_fault(alloc: Global, atoms: &AtomTable, tokens: &[Tok]) -> TreeFault
-    requires { tree atoms.now (toks tokens.now) ≡ None }
-    ensures { IsTreeFault atoms.now (toks tokens.now) result }
+fn tree_fault(alloc: Global, atoms: &AtomTable, tokens: &[NumberedToken]) -> TreeFault
+    requires { tree atoms.now (token_list tokens.now) ≡ None }
+    ensures { IsTreeFault atoms.now (token_list tokens.now) result }
 {
     if first_form(atoms, tokens).is_none() {
         return TreeFault::NoHead;

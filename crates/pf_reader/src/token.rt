@@ -1,12 +1,12 @@
-//! Single tokens: what follows a sign, and the name, the number or the word that a token is.
+//! Single tokens: what follows a kind of token, and the name, the number or the word that a token is.
 
 ghost use Rattle.std.specs.Prelude.{◌≡◌, option_map};
 ghost use Rattle.pf_reader.specs.Parse.{after, atom_in, is, is_word, named, number, word};
-ghost use Rattle.pf_reader.specs.View.{names_of, sign_of, toks};
+ghost use Rattle.pf_reader.specs.View.{names_of, kind_of, token_list};
 ghost use Rattle.pf_reader.specs.Given.{Gives};
 
 use crate::fault::ReadFault;
-use crate::sign::{Sign, Tok};
+use crate::numbered_token::{NumberedKind, NumberedToken};
 use pf_syntax::Word;
 use pf_terms::{AtomId, AtomTable};
 use pf_tokens::Integer;
@@ -18,40 +18,43 @@ pub(crate) struct Context<'a> {
     pub own: AtomId,
 }
 
-/// The first sign, a mark, a reserved word or the dot, is the second.
-fn is_sign(wanted: Sign, sign: Sign) -> bool
-    ensures { result ≡ is (sign_of wanted) (sign_of sign) }
+/// The first kind of token, a mark, a reserved word or the dot, is the second.
+fn is_kind(wanted: NumberedKind, kind: NumberedKind) -> bool
+    ensures { result ≡ is (kind_of wanted) (kind_of kind) }
 {
     match wanted {
-        Sign::Mark(mark) => match sign {
-            Sign::Mark(other) => mark == other,
+        NumberedKind::Mark(mark) => match kind {
+            NumberedKind::Mark(other) => mark == other,
             _ => false,
         },
-        Sign::Reserved(word) => match sign {
-            Sign::Reserved(other) => word == other,
+        NumberedKind::Reserved(word) => match kind {
+            NumberedKind::Reserved(other) => word == other,
             _ => false,
         },
-        Sign::Dot => match sign {
-            Sign::Dot => true,
+        NumberedKind::Dot => match kind {
+            NumberedKind::Dot => true,
             _ => false,
         },
         _ => false,
     }
 }
 
-/// What follows the sign, where it stands first.
-pub(crate) fn skip(tokens: &[Tok], wanted: Sign) -> Option<&[Tok]>
-    ensures { option_map (λ rest. toks rest.now) result ≡ after (sign_of wanted) (toks tokens.now) }
+/// What follows the kind of token, where it stands first.
+pub(crate) fn skip(tokens: &[NumberedToken], wanted: NumberedKind) -> Option<&[NumberedToken]>
+    ensures { option_map (λ rest. token_list rest.now) result ≡ after (kind_of wanted) (token_list tokens.now) }
 {
     match tokens {
-        [first, rest @ ..] if is_sign(wanted, first.sign) => Some(rest),
+        [first, rest @ ..] if is_kind(wanted, first.kind) => Some(rest),
         _ => None,
     }
 }
 
-/// What follows the sign, which must stand first.
-pub(crate) fn behind(tokens: &[Tok], wanted: Sign) -> Result<&[Tok], ReadFault>
-    ensures { Gives (λ rest. toks rest.now) result (after (sign_of wanted) (toks tokens.now)) }
+/// What follows the kind of token, which must stand first.
+pub(crate) fn behind(
+    tokens: &[NumberedToken],
+    wanted: NumberedKind,
+) -> Result<&[NumberedToken], ReadFault>
+    ensures { Gives (λ rest. token_list rest.now) result (after (kind_of wanted) (token_list tokens.now)) }
 {
     match skip(tokens, wanted) {
         Some(rest) => Ok(rest),
@@ -60,19 +63,19 @@ pub(crate) fn behind(tokens: &[Tok], wanted: Sign) -> Result<&[Tok], ReadFault>
 }
 
 impl Context<'_> {
-    /// The atom that a sign is.
-    pub(crate) fn atom(self, sign: Sign) -> Option<AtomId>
-        ensures { option_map (λ a. a.0) result ≡ atom_in (names_of self.entry) (sign_of sign) }
+    /// The atom that a kind of token is.
+    pub(crate) fn atom(self, kind: NumberedKind) -> Option<AtomId>
+        ensures { option_map (λ a. a.0) result ≡ atom_in (names_of self.entry) (kind_of kind) }
     {
-        match sign {
-            Sign::Atom(atom) => {
+        match kind {
+            NumberedKind::Atom(atom) => {
                 if self.atoms.name(atom).len() <= 255 {
                     Some(atom)
                 } else {
                     None
                 }
             }
-            Sign::OwnModule => Some(self.own),
+            NumberedKind::OwnModule => Some(self.own),
             _ => None,
         }
     }
@@ -81,14 +84,14 @@ impl Context<'_> {
 /// A name with its place, which must stand first, and what follows it.
 pub(crate) fn read_name<'a>(
     context: Context,
-    tokens: &'a [Tok],
-) -> Result<(Word, &'a [Tok]), ReadFault>
-    ensures { Gives (λ x. ((x.0.name.0, x.0.offset), toks x.1.now)) result (named (names_of context.entry) (toks tokens.now)) }
+    tokens: &'a [NumberedToken],
+) -> Result<(Word, &'a [NumberedToken]), ReadFault>
+    ensures { Gives (λ x. ((x.0.name.0, x.0.offset), token_list x.1.now)) result (named (names_of context.entry) (token_list tokens.now)) }
 {
     let Some((first, rest)) = tokens.split_first() else {
         return Err(ReadFault::Syntax);
     };
-    match context.atom(first.sign) {
+    match context.atom(first.kind) {
         Some(name) => Ok((
             Word {
                 name,
@@ -101,32 +104,36 @@ pub(crate) fn read_name<'a>(
 }
 
 /// The integer that stands first, and what follows it.
-pub(crate) fn read_number(tokens: &[Tok]) -> Option<(Integer, &[Tok])>
-    ensures { option_map (λ x. (x.0.value, toks x.1.now)) result ≡ number (toks tokens.now) }
+pub(crate) fn read_number(tokens: &[NumberedToken]) -> Option<(Integer, &[NumberedToken])>
+    ensures { option_map (λ x. (x.0.value, token_list x.1.now)) result ≡ number (token_list tokens.now) }
 {
     let (first, rest) = tokens.split_first()?;
-    match first.sign {
-        Sign::Integer(n) => Some((n, rest)),
+    match first.kind {
+        NumberedKind::Integer(n) => Some((n, rest)),
         _ => None,
     }
 }
 
-/// Whether the sign is an atom of these bytes.
-fn is_word(atoms: &AtomTable, bytes: &[u8], sign: Sign) -> bool
-    ensures { result ≡ is_word atoms.now bytes.now (sign_of sign) }
+/// Whether the kind of token is an atom of these bytes.
+fn is_word(atoms: &AtomTable, bytes: &[u8], kind: NumberedKind) -> bool
+    ensures { result ≡ is_word atoms.now bytes.now (kind_of kind) }
 {
-    match sign {
-        Sign::Atom(atom) => atoms.name(atom) == bytes,
+    match kind {
+        NumberedKind::Atom(atom) => atoms.name(atom) == bytes,
         _ => false,
     }
 }
 
 /// What follows an atom of these bytes, where one stands first.
-pub(crate) fn skip_word<'a>(atoms: &AtomTable, bytes: &[u8], tokens: &'a [Tok]) -> Option<&'a [Tok]>
-    ensures { option_map (λ rest. toks rest.now) result ≡ word atoms.now bytes.now (toks tokens.now) }
+pub(crate) fn skip_word<'a>(
+    atoms: &AtomTable,
+    bytes: &[u8],
+    tokens: &'a [NumberedToken],
+) -> Option<&'a [NumberedToken]>
+    ensures { option_map (λ rest. token_list rest.now) result ≡ word atoms.now bytes.now (token_list tokens.now) }
 {
     match tokens {
-        [first, rest @ ..] if is_word(atoms, bytes, first.sign) => Some(rest),
+        [first, rest @ ..] if is_word(atoms, bytes, first.kind) => Some(rest),
         _ => None,
     }
 }

@@ -2,7 +2,7 @@
 use Rattle.std.proofs.Common.{◌≡◌, ℕ, zero, suc, ◌-◌, [], ◌∷◌, ◌++◌, length, refl, ap, ◌∙◌, arith}
 use Rattle.std.specs.Prelude.{slice_get}
 use Rattle.pf_syntax.specs.Pattern.{Pattern, Patterns, any, new, slot, known, tuple_of, cons_of, never, no_patterns, pattern}
-use Rattle.pf_syntax.specs.Tree.{Tree, Trees, Clauses, Guard, lit, var, tuple, cons, op, neg, both, either, call, builtin, match, bind, case, decide, receive, send, no_trees, tree, no_clauses, clause, no_alternatives, alternative}
+use Rattle.pf_syntax.specs.Tree.{Tree, Trees, Clauses, Guard, lit, var, tuple, cons, op, neg, and_also, or_else, call, builtin, match, bind, case, if_expression, receive, send, no_trees, tree, no_clauses, clause, no_alternatives, alternative}
 use Rattle.pf_model.specs.Fit.{Scope}
 use Rattle.pf_model.specs.Substitution.{value_or_var, known_or_slot, sub_pattern, sub_patterns, sub, sub_trees, sub_clauses, sub_guard}
 
@@ -44,14 +44,14 @@ mutual
   sub_twice e f (cons a b) = let p = sub_twice e f a in let q = sub_twice e f b in cc
   sub_twice e f (op o a b) = let p = sub_twice e f a in let q = sub_twice e f b in cc
   sub_twice e f (neg a) = ap neg (sub_twice e f a)
-  sub_twice e f (both a b) = let p = sub_twice e f a in let q = sub_twice e f b in cc
-  sub_twice e f (either a b) = let p = sub_twice e f a in let q = sub_twice e f b in cc
+  sub_twice e f (and_also a b) = let p = sub_twice e f a in let q = sub_twice e f b in cc
+  sub_twice e f (or_else a b) = let p = sub_twice e f a in let q = sub_twice e f b in cc
   sub_twice e f (call g ts) = ap (call g) (trees_twice e f ts)
   sub_twice e f (builtin g ts) = ap (builtin g) (trees_twice e f ts)
   sub_twice e f (match ps a) = let p = patterns_twice e f ps in let q = sub_twice e f a in cc
   sub_twice e f (bind ps a r) = let p = patterns_twice e f ps in let q = sub_twice e f a in let s = sub_twice e f r in cc
   sub_twice e f (case a cs) = let p = sub_twice e f a in let q = clauses_twice e f cs in cc
-  sub_twice e f (decide cs) = ap decide (clauses_twice e f cs)
+  sub_twice e f (if_expression cs) = ap if_expression (clauses_twice e f cs)
   sub_twice e f (receive cs) = ap receive (clauses_twice e f cs)
   sub_twice e f (send a b) = let p = sub_twice e f a in let q = sub_twice e f b in cc
 

@@ -2,13 +2,13 @@
 
 ghost use Rattle.std.specs.Prelude.{◌≡◌, IfOk, IsErr, None, OnErr};
 ghost use Rattle.pf_terms.specs.Term.{values_of};
-ghost use Rattle.pf_stepper.specs.Seen.{at_call};
+ghost use Rattle.pf_stepper.specs.MachineView.{at_call};
 ghost use Rattle.pf_stepper.specs.Moves.{Moved, with_process};
 
 use crate::advance::Advance;
 use crate::frame::Focus;
 use crate::stack::Stack;
-use pf_model::reasons::ending_reason;
+use pf_ops::ending_reason;
 use pf_syntax::{FunctionId, Module};
 use pf_terms::{NoMemory, Term, copy};
 use std::alloc::Global;
@@ -28,15 +28,15 @@ pub struct Machine {
 }
 
 impl Model for Machine {
-    ghost use Rattle.pf_stepper.specs.Seen.{Seen, coded_seen};
+    ghost use Rattle.pf_stepper.specs.MachineView.{MachineView, coded_machine_view};
 
-    ghost Value = { Seen };
+    ghost Value = { MachineView };
 
-    ghost coded = { coded_seen };
+    ghost coded = { coded_machine_view };
 
-    ghost use Rattle.pf_stepper.specs.Inner.{IsKept, seen_of};
+    ghost use Rattle.pf_stepper.specs.Inner.{IsKept, machine_view_of};
 
-    ghost view = { seen_of };
+    ghost view = { machine_view_of };
 
     ghost invariant = { IsKept };
 }

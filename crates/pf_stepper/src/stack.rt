@@ -1,6 +1,6 @@
 //! One stack of slots for all activations, one of finished operands, and the frames over them.
 
-ghost use Rattle.std.specs.Prelude.{◌≡◌, ◌∷◌, [], ◌++◌, drop, length, option_map, slice_get, IfOk, OnOk};
+ghost use Rattle.std.specs.Prelude.{◌≡◌, ◌∷◌, [], ◌++◌, drop, length, option_map, slice_get, take, IfOk, OnOk};
 ghost use Rattle.pf_terms.specs.Term.{value_of};
 ghost use Rattle.pf_model.specs.Fit as spec;
 ghost use Rattle.pf_model.specs.Scopes.{scope_of, scope_if};
@@ -50,7 +50,7 @@ pub(crate) fn fits_slot(env: &[Term], base: usize, place: u32, value: &Term) -> 
 }
 
 impl Stack {
-    /// The value of an operand that needs no turn of its own: of a literal, or of a variable in scope.
+    /// The value of an operand that needs no micro-step of its own: of a literal, or of a variable in scope.
     #[inline(always)]
     pub(crate) fn immediate(&self, code: &Module, part: Part) -> Result<Option<Term>, NoMemory>
         ensures { IfOk result (λ o. IsImmediate code.now.tables (scope_of (drop self.now.base self.now.env.items)) part o) }
@@ -102,6 +102,18 @@ impl Stack {
         let frame = self.frame(kind);
         self.frames.push(frame)?;
         Ok(())
+    }
+
+    /// Back in the activation of a frame: the slots that came after those that it needs go.
+    #[inline(always)]
+    pub(crate) fn resume(&mut self, frame: Frame)
+        ensures env { self.new.env.items ≡ take frame.end self.old.env.items }
+        ensures temps { self.new.temps ≡ self.old.temps }
+        ensures frames { self.new.frames ≡ self.old.frames }
+        ensures base { self.new.base ≡ frame.base }
+    {
+        self.env.truncate(frame.end);
+        self.base = frame.base;
     }
 
     /// How many slots the frames need.

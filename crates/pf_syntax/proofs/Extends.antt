@@ -155,14 +155,14 @@ module _ (t u : Tables) (e : Extends t u) where
   tree_kept (does.Cons a b) h = let x = part_kept a h.0 in let y = part_kept b h.1 in cc
   tree_kept (does.Binary o a b) h = let x = part_kept a h.0 in let y = part_kept b h.1 in cc
   tree_kept (does.Negate a) h = let x = part_kept a h in cc
-  tree_kept (does.Both a b) h = let x = part_kept a h.0 in let y = part_kept b h.1 in cc
-  tree_kept (does.Either a b) h = let x = part_kept a h.0 in let y = part_kept b h.1 in cc
+  tree_kept (does.AndAlso a b) h = let x = part_kept a h.0 in let y = part_kept b h.1 in cc
+  tree_kept (does.OrElse a b) h = let x = part_kept a h.0 in let y = part_kept b h.1 in cc
   tree_kept (does.Call f ps) h = ap (call f.0) (parts_kept ps.items h)
   tree_kept (does.Builtin f ps) h = ap (builtin (builtin_of f)) (parts_kept ps.items h)
   tree_kept (does.Match ps a) h = let x = patterns_kept ps.items h.0 in let y = part_kept a h.1 in cc
   tree_kept (does.Bind ps a r) h = let x = patterns_kept ps.items h.0 in let y = part_kept a h.1 in let z = part_kept r h.2 in cc
   tree_kept (does.Case a cs) h = let x = part_kept a h.0 in let y = clauses_kept cs.items h.1 in cc
-  tree_kept (does.Decide cs) h = let y = clauses_kept cs.items h in cc
+  tree_kept (does.If cs) h = let y = clauses_kept cs.items h in cc
   tree_kept (does.Receive cs) h = let y = clauses_kept cs.items h in cc
   tree_kept (does.Send a b) h = let x = part_kept a h.0 in let y = part_kept b h.1 in cc
 
@@ -227,14 +227,14 @@ module _ (t u : Tables) (e : Extends t u) where
   parts_stand (does.Cons a b) h = (part_stands a h.0, part_stands b h.1)
   parts_stand (does.Binary o a b) h = (part_stands a h.0, part_stands b h.1)
   parts_stand (does.Negate a) h = part_stands a h
-  parts_stand (does.Both a b) h = (part_stands a h.0, part_stands b h.1)
-  parts_stand (does.Either a b) h = (part_stands a h.0, part_stands b h.1)
+  parts_stand (does.AndAlso a b) h = (part_stands a h.0, part_stands b h.1)
+  parts_stand (does.OrElse a b) h = (part_stands a h.0, part_stands b h.1)
   parts_stand (does.Call f ps) h = all_parts_stand ps.items h
   parts_stand (does.Builtin f ps) h = all_parts_stand ps.items h
   parts_stand (does.Match ps a) h = (all_patterns_stand ps.items h.0, part_stands a h.1)
   parts_stand (does.Bind ps a r) h = (all_patterns_stand ps.items h.0, part_stands a h.1, part_stands r h.2)
   parts_stand (does.Case a cs) h = (part_stands a h.0, clauses_stand cs.items h.1)
-  parts_stand (does.Decide cs) h = clauses_stand cs.items h
+  parts_stand (does.If cs) h = clauses_stand cs.items h
   parts_stand (does.Receive cs) h = clauses_stand cs.items h
   parts_stand (does.Send a b) h = (part_stands a h.0, part_stands b h.1)
 

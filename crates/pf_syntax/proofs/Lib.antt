@@ -4,8 +4,9 @@ pub mod Folds
 pub mod Formed
 pub mod Grown
 pub mod Named
-pub mod BookExtends
-pub mod BookFolds
-pub mod BookGrown
+pub mod NodeTableExtends
+pub mod NodeTableFolds
+pub mod NodeTableGrown
 pub mod Measures
+pub mod Roots
 mod Worked

@@ -5,7 +5,7 @@ use base.Stored.{Gv, gnil, gnum, gcons, num, Coded}
 use Rattle.pf_terms.specs.Value.{Value}
 use Rattle.pf_terms.specs.Code.{code_value, decoded, decoded-code_value}
 use Rattle.pf_syntax.specs.Pattern.{Pattern, Patterns, any, new, slot, known, tuple_of, cons_of, never, no_patterns, pattern}
-use Rattle.pf_syntax.specs.Tree.{Tree, Trees, Clauses, Guard, lit, var, tuple, cons, op, neg, both, either, call, builtin, match, bind, case, decide, receive, send, no_trees, tree, no_clauses, clause, no_alternatives, alternative}
+use Rattle.pf_syntax.specs.Tree.{Tree, Trees, Clauses, Guard, lit, var, tuple, cons, op, neg, and_also, or_else, call, builtin, match, bind, case, if_expression, receive, send, no_trees, tree, no_clauses, clause, no_alternatives, alternative}
 use Rattle.pf_syntax.specs.Numbers.{number_of_operator, operator_of_number, operator_of_number-number_of_operator, number_of_builtin, builtin_of_number, builtin_of_number-number_of_builtin}
 
 abbrev mutual
@@ -74,14 +74,14 @@ abbrev mutual
   code_tree (cons a b) = gcons (gnum 3) (gcons gnil (gcons (code_tree a) (code_tree b)))
   code_tree (op o a b) = gcons (gnum 4) (gcons (gnum (number_of_operator o)) (gcons (code_tree a) (code_tree b)))
   code_tree (neg a) = gcons (gnum 5) (gcons gnil (gcons (code_tree a) gnil))
-  code_tree (both a b) = gcons (gnum 6) (gcons gnil (gcons (code_tree a) (code_tree b)))
-  code_tree (either a b) = gcons (gnum 7) (gcons gnil (gcons (code_tree a) (code_tree b)))
+  code_tree (and_also a b) = gcons (gnum 6) (gcons gnil (gcons (code_tree a) (code_tree b)))
+  code_tree (or_else a b) = gcons (gnum 7) (gcons gnil (gcons (code_tree a) (code_tree b)))
   code_tree (call f ts) = gcons (gnum 8) (gcons (gnum f) (gcons gnil (code_trees ts)))
   code_tree (builtin f ts) = gcons (gnum 9) (gcons (gnum (number_of_builtin f)) (gcons gnil (code_trees ts)))
   code_tree (match ps a) = gcons (gnum 10) (gcons (code_patterns ps) (gcons (code_tree a) gnil))
   code_tree (bind ps a r) = gcons (gnum 11) (gcons (code_patterns ps) (gcons (code_tree a) (code_tree r)))
   code_tree (case a cs) = gcons (gnum 12) (gcons gnil (gcons (code_tree a) (code_clauses cs)))
-  code_tree (decide cs) = gcons (gnum 13) (gcons gnil (gcons gnil (code_clauses cs)))
+  code_tree (if_expression cs) = gcons (gnum 13) (gcons gnil (gcons gnil (code_clauses cs)))
   code_tree (receive cs) = gcons (gnum 14) (gcons gnil (gcons gnil (code_clauses cs)))
   code_tree (send a b) = gcons (gnum 15) (gcons gnil (gcons (code_tree a) (code_tree b)))
 
@@ -105,14 +105,14 @@ tree_of_kind (suc (suc zero)) h l r ts cs = tuple ts
 tree_of_kind (suc (suc (suc zero))) h l r ts cs = cons l r
 tree_of_kind (suc (suc (suc (suc zero)))) h l r ts cs = op (operator_of_number (num h)) l r
 tree_of_kind (suc (suc (suc (suc (suc zero))))) h l r ts cs = neg l
-tree_of_kind (suc (suc (suc (suc (suc (suc zero)))))) h l r ts cs = both l r
-tree_of_kind (suc (suc (suc (suc (suc (suc (suc zero))))))) h l r ts cs = either l r
+tree_of_kind (suc (suc (suc (suc (suc (suc zero)))))) h l r ts cs = and_also l r
+tree_of_kind (suc (suc (suc (suc (suc (suc (suc zero))))))) h l r ts cs = or_else l r
 tree_of_kind (suc (suc (suc (suc (suc (suc (suc (suc zero)))))))) h l r ts cs = call (num h) ts
 tree_of_kind (suc (suc (suc (suc (suc (suc (suc (suc (suc zero))))))))) h l r ts cs = builtin (builtin_of_number (num h)) ts
 tree_of_kind (suc (suc (suc (suc (suc (suc (suc (suc (suc (suc zero)))))))))) h l r ts cs = match (patterns_decoded h) l
 tree_of_kind (suc (suc (suc (suc (suc (suc (suc (suc (suc (suc (suc zero))))))))))) h l r ts cs = bind (patterns_decoded h) l r
 tree_of_kind (suc (suc (suc (suc (suc (suc (suc (suc (suc (suc (suc (suc zero)))))))))))) h l r ts cs = case l cs
-tree_of_kind (suc (suc (suc (suc (suc (suc (suc (suc (suc (suc (suc (suc (suc zero))))))))))))) h l r ts cs = decide cs
+tree_of_kind (suc (suc (suc (suc (suc (suc (suc (suc (suc (suc (suc (suc (suc zero))))))))))))) h l r ts cs = if_expression cs
 tree_of_kind (suc (suc (suc (suc (suc (suc (suc (suc (suc (suc (suc (suc (suc (suc zero)))))))))))))) h l r ts cs = receive cs
 tree_of_kind (suc (suc (suc (suc (suc (suc (suc (suc (suc (suc (suc (suc (suc (suc (suc n))))))))))))))) h l r ts cs = send l r
 
@@ -139,8 +139,8 @@ mutual
   tree_decoded-code (var x) = refl
   tree_decoded-code (tuple ts) = ap tuple (trees_decoded-code ts)
   tree_decoded-code (cons a b) = let x = tree_decoded-code a in let y = tree_decoded-code b in cc
-  tree_decoded-code (both a b) = let x = tree_decoded-code a in let y = tree_decoded-code b in cc
-  tree_decoded-code (either a b) = let x = tree_decoded-code a in let y = tree_decoded-code b in cc
+  tree_decoded-code (and_also a b) = let x = tree_decoded-code a in let y = tree_decoded-code b in cc
+  tree_decoded-code (or_else a b) = let x = tree_decoded-code a in let y = tree_decoded-code b in cc
   tree_decoded-code (send a b) = let x = tree_decoded-code a in let y = tree_decoded-code b in cc
   tree_decoded-code (op o a b) = let n = operator_of_number-number_of_operator o in let x = tree_decoded-code a in let y = tree_decoded-code b in cc
   tree_decoded-code (neg a) = ap neg (tree_decoded-code a)
@@ -149,7 +149,7 @@ mutual
   tree_decoded-code (match ps a) = let n = patterns_decoded-code ps in let x = tree_decoded-code a in cc
   tree_decoded-code (bind ps a r) = let n = patterns_decoded-code ps in let x = tree_decoded-code a in let y = tree_decoded-code r in cc
   tree_decoded-code (case a cs) = let x = tree_decoded-code a in let y = clauses_decoded-code cs in cc
-  tree_decoded-code (decide cs) = ap decide (clauses_decoded-code cs)
+  tree_decoded-code (if_expression cs) = ap if_expression (clauses_decoded-code cs)
   tree_decoded-code (receive cs) = ap receive (clauses_decoded-code cs)
 
   pub trees_decoded-code : (ts : Trees) → trees_decoded (code_trees ts) ≡ ts

@@ -1,47 +1,47 @@
 -- What the fields of a source stand for, and what is true of them.
 use Rattle.std.specs.Prelude.{[], map, fold}
 use Rattle.std.specs.List.{All}
-use Rattle.pf_syntax.specs.Shape.{shape_size, shape_depth}
-use Rattle.pf_syntax.specs.Phrase.{phrase_size, phrase_depth}
+use Rattle.pf_syntax.specs.WrittenPattern.{written_pattern_size, written_pattern_depth}
+use Rattle.pf_syntax.specs.WrittenExpression.{written_expression_size, written_expression_depth}
 use Rattle.pf_syntax.specs.Measure.{IsMeasure}
-use Rattle.pf_syntax.specs.Source.{Book, Written}
-use Rattle.pf_syntax.specs.SourceOver.{shape_over, phrase_over, heads_over, export_of, with_shape, with_phrase, ShapePartsStand, PhrasePartsStand, HeadsStand}
+use Rattle.pf_syntax.specs.Source.{NodeTable, Written}
+use Rattle.pf_syntax.specs.SourceOver.{written_pattern_over, written_expression_over, heads_over, export_of, with_written_pattern, with_written_expression, WrittenPatternPartsStand, WrittenExpressionPartsStand, HeadsStand}
 use Rattle.pf_syntax.specs.Within.{InTurn}
-use Rattle.pf_syntax.specs.declared.source.ShapeEntry.{ShapeEntry}
-use Rattle.pf_syntax.specs.declared.source.PhraseEntry.{PhraseEntry}
+use Rattle.pf_syntax.specs.declared.source.WrittenPatternEntry.{WrittenPatternEntry}
+use Rattle.pf_syntax.specs.declared.source.WrittenExpressionEntry.{WrittenExpressionEntry}
 use Rattle.pf_syntax.specs.declared.source.Source.TheInside.{Inside}
 
--- the book with one more entry
-abbrev pub shape_entered : Book → ShapeEntry → Book
-shape_entered b e = with_shape b e.node
+-- the table of nodes with one more entry
+abbrev pub written_pattern_entered : NodeTable → WrittenPatternEntry → NodeTable
+written_pattern_entered b e = with_written_pattern b e.node
 
-abbrev pub phrase_entered : Book → PhraseEntry → Book
-phrase_entered b e = with_phrase b e.node
+abbrev pub written_expression_entered : NodeTable → WrittenExpressionEntry → NodeTable
+written_expression_entered b e = with_written_expression b e.node
 
 -- the parts of an entry stand before it, and its measure is that of its tree
-abbrev pub ShapeIsSound : Book → ShapeEntry → Type 0
-ShapeIsSound b e = ShapePartsStand b e.node × IsMeasure e.measure (shape_size (shape_over b e.node)) (shape_depth (shape_over b e.node))
+abbrev pub WrittenPatternIsSound : NodeTable → WrittenPatternEntry → Type 0
+WrittenPatternIsSound b e = WrittenPatternPartsStand b e.node × IsMeasure e.measure (written_pattern_size (written_pattern_over b e.node)) (written_pattern_depth (written_pattern_over b e.node))
 
-abbrev pub PhraseIsSound : Book → PhraseEntry → Type 0
-PhraseIsSound b e = PhrasePartsStand b e.node × IsMeasure e.measure (phrase_size (phrase_over b e.node)) (phrase_depth (phrase_over b e.node))
+abbrev pub WrittenExpressionIsSound : NodeTable → WrittenExpressionEntry → Type 0
+WrittenExpressionIsSound b e = WrittenExpressionPartsStand b e.node × IsMeasure e.measure (written_expression_size (written_expression_over b e.node)) (written_expression_depth (written_expression_over b e.node))
 
--- the book in which nothing stands
-abbrev pub no_book : Book
-no_book = record { shapes = []; phrases = [] }
+-- the table of nodes in which nothing stands
+abbrev pub no_node_table : NodeTable
+no_node_table = record { written_patterns = []; written_expressions = [] }
 
--- the book of the patterns alone, and then with the expressions, from left to right
-abbrev pub shapes_of : Inside → Book
-shapes_of a = fold shape_entered no_book a.shapes.items
+-- the table of nodes of the patterns alone, and then with the expressions, from left to right
+abbrev pub written_patterns_of : Inside → NodeTable
+written_patterns_of a = fold written_pattern_entered no_node_table a.written_patterns.items
 
-abbrev pub book_of : Inside → Book
-book_of a = fold phrase_entered (shapes_of a) a.phrases.items
+abbrev pub node_table_of : Inside → NodeTable
+node_table_of a = fold written_expression_entered (written_patterns_of a) a.written_expressions.items
 
 -- the module that the fields stand for
 abbrev pub written_of : Inside → Written
-written_of a = record { name = a.name.0; exports = map export_of a.exports.items; book = book_of a; functions = map (heads_over (book_of a)) a.functions.items }
+written_of a = record { name = a.name.0; exports = map export_of a.exports.items; node_table = node_table_of a; functions = map (heads_over (node_table_of a)) a.functions.items }
 
 -- parts stand before what they are part of, and each measure is right
 pub record Sound (a : Inside) : Type 0 where
-  pub shapes : InTurn ShapeIsSound shape_entered no_book a.shapes.items
-  pub phrases : InTurn PhraseIsSound phrase_entered (shapes_of a) a.phrases.items
-  pub functions : All (HeadsStand (book_of a)) a.functions.items
+  pub written_patterns : InTurn WrittenPatternIsSound written_pattern_entered no_node_table a.written_patterns.items
+  pub written_expressions : InTurn WrittenExpressionIsSound written_expression_entered (written_patterns_of a) a.written_expressions.items
+  pub functions : All (HeadsStand (node_table_of a)) a.functions.items

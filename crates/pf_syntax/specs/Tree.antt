@@ -56,8 +56,8 @@ mutual
     cons : Tree → Tree → Tree
     op : Operator → Tree → Tree → Tree
     neg : Tree → Tree
-    both : Tree → Tree → Tree
-    either : Tree → Tree → Tree
+    and_also : Tree → Tree → Tree
+    or_else : Tree → Tree → Tree
     -- a call of the own function of this number
     call : ℕ → Trees → Tree
     builtin : Builtin → Trees → Tree
@@ -67,7 +67,7 @@ mutual
     bind : Patterns → Tree → Tree → Tree
     case : Tree → Clauses → Tree
     -- `if`: its clauses have the pattern `_`, and no value is asked
-    decide : Clauses → Tree
+    if_expression : Clauses → Tree
     receive : Clauses → Tree
     send : Tree → Tree → Tree
 
@@ -114,14 +114,14 @@ abbrev mutual
   tree_size (cons a b) = 1 + tree_size a + tree_size b
   tree_size (op o a b) = 1 + tree_size a + tree_size b
   tree_size (neg a) = 1 + tree_size a
-  tree_size (both a b) = 1 + tree_size a + tree_size b
-  tree_size (either a b) = 1 + tree_size a + tree_size b
+  tree_size (and_also a b) = 1 + tree_size a + tree_size b
+  tree_size (or_else a b) = 1 + tree_size a + tree_size b
   tree_size (call f ts) = 1 + size_in ts
   tree_size (builtin f ts) = 1 + size_in ts
   tree_size (match ps a) = 1 + tree_size a
   tree_size (bind ps a r) = 1 + tree_size a + tree_size r
   tree_size (case a cs) = 1 + tree_size a + size_of_clauses cs
-  tree_size (decide cs) = 1 + size_of_clauses cs
+  tree_size (if_expression cs) = 1 + size_of_clauses cs
   tree_size (receive cs) = 1 + size_of_clauses cs
   tree_size (send a b) = 1 + tree_size a + tree_size b
 

@@ -45,14 +45,14 @@ PartsStand t (does.Tuple ps) = All (PartStands t) ps.items
 PartsStand t (does.Cons a b) = PartStands t a × PartStands t b
 PartsStand t (does.Binary o a b) = PartStands t a × PartStands t b
 PartsStand t (does.Negate a) = PartStands t a
-PartsStand t (does.Both a b) = PartStands t a × PartStands t b
-PartsStand t (does.Either a b) = PartStands t a × PartStands t b
+PartsStand t (does.AndAlso a b) = PartStands t a × PartStands t b
+PartsStand t (does.OrElse a b) = PartStands t a × PartStands t b
 PartsStand t (does.Call f ps) = All (PartStands t) ps.items
 PartsStand t (does.Builtin f ps) = All (PartStands t) ps.items
 PartsStand t (does.Match ps a) = All (PatternStands t) ps.items × PartStands t a
 PartsStand t (does.Bind ps a r) = All (PatternStands t) ps.items × PartStands t a × PartStands t r
 PartsStand t (does.Case a cs) = PartStands t a × All (ClauseStands t) cs.items
-PartsStand t (does.Decide cs) = All (ClauseStands t) cs.items
+PartsStand t (does.If cs) = All (ClauseStands t) cs.items
 PartsStand t (does.Receive cs) = All (ClauseStands t) cs.items
 PartsStand t (does.Send a b) = PartStands t a × PartStands t b
 

@@ -20,6 +20,6 @@ pub use node::{
 pub use operator::{Builtin, Operator};
 pub use source::Source;
 pub use written::{
-    Branch, Condition, Export, Head, PhraseId, PhraseNode, ShapeId, ShapeNode, Tests, Word,
-    WrittenFunction,
+    Branch, Condition, Export, Head, Tests, Word, WrittenExpressionId, WrittenExpressionNode,
+    WrittenFunction, WrittenPatternId, WrittenPatternNode,
 };

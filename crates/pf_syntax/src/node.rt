@@ -81,9 +81,9 @@ pub enum Node {
     Binary(Operator, Part, Part),
     Negate(Part),
     /// `andalso`.
-    Both(Part, Part),
+    AndAlso(Part, Part),
     /// `orelse`.
-    Either(Part, Part),
+    OrElse(Part, Part),
     /// A call of an own function.
     Call(FunctionId, Vec<Part>),
     Builtin(Builtin, Vec<Part>),
@@ -93,7 +93,7 @@ pub enum Node {
     Bind(Vec<PatternId>, Part, Part),
     Case(Part, Vec<Clause>),
     /// `if`.
-    Decide(Vec<Clause>),
+    If(Vec<Clause>),
     Receive(Vec<Clause>),
     /// `!`.
     Send(Part, Part),

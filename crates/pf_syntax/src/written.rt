@@ -6,11 +6,11 @@ use pf_terms::AtomId;
 
 /// A pattern as it is written, by its number in a source.
 #[derive(Clone, Copy, PartialEq, Eq, Debug)]
-pub struct ShapeId(pub u32);
+pub struct WrittenPatternId(pub u32);
 
 /// An expression as it is written, by its number in a source.
 #[derive(Clone, Copy, PartialEq, Eq, Debug)]
-pub struct PhraseId(pub u32);
+pub struct WrittenExpressionId(pub u32);
 
 /// A name, and the offset in bytes at which it stands.
 #[derive(Clone, Copy, PartialEq, Eq, Debug)]
@@ -21,7 +21,7 @@ pub struct Word {
 
 /// A pattern as it is written (Erlang Reference Manual, "Patterns").
 #[derive(Drop)]
-pub enum ShapeNode {
+pub enum WrittenPatternNode {
     /// An integer with its sign, which is no level of its own.
     Integer(i64),
     Atom(AtomId),
@@ -30,16 +30,16 @@ pub enum ShapeNode {
     Variable(Word),
     /// `_`.
     Anything,
-    Tuple(Vec<ShapeId>),
+    Tuple(Vec<WrittenPatternId>),
     /// A list of these elements.
-    List(Vec<ShapeId>),
+    List(Vec<WrittenPatternId>),
     /// A list of these elements and this tail.
-    ListOn(Vec<ShapeId>, ShapeId),
+    ListOn(Vec<WrittenPatternId>, WrittenPatternId),
 }
 
 /// An expression as it is written (Erlang Reference Manual, "Expressions").
 #[derive(Drop)]
-pub enum PhraseNode {
+pub enum WrittenExpressionNode {
     Integer(i64),
     Atom(AtomId),
     /// A string, by its character codes.
@@ -48,34 +48,34 @@ pub enum PhraseNode {
     /// `_`, at this offset.
     Anonymous(u32),
     /// Parentheses, which are a level of their own.
-    Parentheses(PhraseId),
-    Tuple(Vec<PhraseId>),
+    Parentheses(WrittenExpressionId),
+    Tuple(Vec<WrittenExpressionId>),
     /// A list of these elements.
-    List(Vec<PhraseId>),
+    List(Vec<WrittenExpressionId>),
     /// A list of these elements and this tail.
-    ListOn(Vec<PhraseId>, PhraseId),
+    ListOn(Vec<WrittenExpressionId>, WrittenExpressionId),
     /// A call by name, of an own function or of a built-in.
-    Call(Word, Vec<PhraseId>),
-    Binary(Operator, PhraseId, PhraseId),
-    Negate(PhraseId),
+    Call(Word, Vec<WrittenExpressionId>),
+    Binary(Operator, WrittenExpressionId, WrittenExpressionId),
+    Negate(WrittenExpressionId),
     /// `andalso`.
-    Both(PhraseId, PhraseId),
+    AndAlso(WrittenExpressionId, WrittenExpressionId),
     /// `orelse`.
-    Either(PhraseId, PhraseId),
+    OrElse(WrittenExpressionId, WrittenExpressionId),
     /// `!`.
-    Send(PhraseId, PhraseId),
+    Send(WrittenExpressionId, WrittenExpressionId),
     /// `P = E`, in a body.
-    Match(ShapeId, PhraseId),
-    Case(PhraseId, Vec<Branch>),
+    Match(WrittenPatternId, WrittenExpressionId),
+    Case(WrittenExpressionId, Vec<Branch>),
     /// `if`; its clauses have the pattern `_`.
-    Decide(Vec<Branch>),
+    If(Vec<Branch>),
     Receive(Vec<Branch>),
 }
 
 /// An alternative of a guard, as it is written.
 #[derive(Drop)]
 pub struct Tests {
-    pub tests: Vec<PhraseId>,
+    pub tests: Vec<WrittenExpressionId>,
 }
 
 /// A guard as it is written. With no `when` it is one alternative with no test.
@@ -87,18 +87,18 @@ pub struct Condition {
 /// A clause of a `case`, an `if` or a `receive`, as it is written.
 #[derive(Drop)]
 pub struct Branch {
-    pub shape: ShapeId,
+    pub written_pattern: WrittenPatternId,
     pub condition: Condition,
-    pub body: Vec<PhraseId>,
+    pub body: Vec<WrittenExpressionId>,
 }
 
 /// A clause of a function, as it is written.
 #[derive(Drop)]
 pub struct Head {
     pub word: Word,
-    pub parameters: Vec<ShapeId>,
+    pub parameters: Vec<WrittenPatternId>,
     pub condition: Condition,
-    pub body: Vec<PhraseId>,
+    pub body: Vec<WrittenExpressionId>,
 }
 
 /// A function as it is written: its clauses, each with a head of its own.

@@ -4,7 +4,7 @@ ghost use Rattle.std.specs.Prelude.{◌≡◌, ◌+◌, length, OnOk};
 
 use pf_syntax::{
     Export, Function, FunctionClause, FunctionId, Guard, Module, Node, Operator, Part, PatternId,
-    PatternNode, PhraseId, PhraseNode, ShapeNode, Source, Word,
+    PatternNode, WrittenExpressionId, WrittenExpressionNode, WrittenPatternNode, Source, Word,
 };
 use pf_terms::{AtomId, AtomTable, NoMemory, Term};
 use std::alloc::Global;
@@ -43,17 +43,17 @@ fn a_module_is_read_back(rt: HostRuntime) -> Result<(), Fail> {
 fn depths_go_by_the_rules(rt: HostRuntime) -> Result<(), Fail> {
     let alloc = rt.alloc();
     let mut source = Source::new(alloc, AtomId::EXIT);
-    let one = source.add_phrase(PhraseNode::Integer(1))?;
-    let minus = source.add_phrase(PhraseNode::Negate(one))?;
-    let round = source.add_phrase(PhraseNode::Parentheses(minus))?;
-    let sum = source.add_phrase(PhraseNode::Binary(Operator::Plus, one, round))?;
+    let one = source.add_written_expression(WrittenExpressionNode::Integer(1))?;
+    let minus = source.add_written_expression(WrittenExpressionNode::Negate(one))?;
+    let round = source.add_written_expression(WrittenExpressionNode::Parentheses(minus))?;
+    let sum = source.add_written_expression(WrittenExpressionNode::Binary(Operator::Plus, one, round))?;
     assert_eq!(rt; (source.size(one), source.depth(one)), (1, 1));
     assert_eq!(rt; (source.size(minus), source.depth(minus)), (2, 2));
     assert_eq!(rt; (source.size(round), source.depth(round)), (3, 3));
     assert_eq!(rt; (source.size(sum), source.depth(sum)), (5, 4));
-    let five = source.add_shape(ShapeNode::Integer(-5))?;
-    assert_eq!(rt; source.shape_depth(five), 1);
-    let bound = source.add_phrase(PhraseNode::Match(five, sum))?;
+    let five = source.add_written_pattern(WrittenPatternNode::Integer(-5))?;
+    assert_eq!(rt; source.written_pattern_depth(five), 1);
+    let bound = source.add_written_expression(WrittenExpressionNode::Match(five, sum))?;
     assert_eq!(rt; (source.size(bound), source.depth(bound)), (7, 5));
     Ok(())
 }
@@ -62,13 +62,13 @@ fn depths_go_by_the_rules(rt: HostRuntime) -> Result<(), Fail> {
 fn parts_may_be_several(rt: HostRuntime) -> Result<(), Fail> {
     let alloc = rt.alloc();
     let mut source = Source::new(alloc, AtomId::EXIT);
-    let one = source.add_phrase(PhraseNode::Integer(1))?;
+    let one = source.add_written_expression(WrittenExpressionNode::Integer(1))?;
     let word = Word {
         name: AtomId::DOWN,
         offset: 8,
     };
-    let two = source.add_phrase(PhraseNode::Call(word, vec![in alloc; one, one]?))?;
-    let list = source.add_phrase(PhraseNode::List(vec![in alloc; one, two, one]?))?;
+    let two = source.add_written_expression(WrittenExpressionNode::Call(word, vec![in alloc; one, one]?))?;
+    let list = source.add_written_expression(WrittenExpressionNode::List(vec![in alloc; one, two, one]?))?;
     assert_eq!(rt; (source.size(list), source.depth(list)), (6, 3));
     source.add_export(Export { word, arity: 2 })?;
     assert_eq!(rt; source.exports().len(), 1);
@@ -115,10 +115,10 @@ fn a_function_is_found_by_name_and_arity(rt: HostRuntime) -> Result<(), Fail> {
 }
 
 /// An expression of `len` unary minus over 1.
-fn chain(source: &mut Source, len: usize) -> Result<PhraseId, NoMemory> {
-    let mut top = source.add_phrase(PhraseNode::Integer(1))?;
+fn chain(source: &mut Source, len: usize) -> Result<WrittenExpressionId, NoMemory> {
+    let mut top = source.add_written_expression(WrittenExpressionNode::Integer(1))?;
     for _ in 0..len {
-        top = source.add_phrase(PhraseNode::Negate(top))?;
+        top = source.add_written_expression(WrittenExpressionNode::Negate(top))?;
     }
     Ok(top)
 }

@@ -3,7 +3,7 @@ use Rattle.std.specs.Prelude.{ℕ, ◌^◌, List, [], ◌∷◌, Option, Some, N
 use Rattle.std.specs.List.{list_all, slice_split}
 use Rattle.std.specs.Str.{bytes_eq}
 use Rattle.pf_tokens.specs.Bytes.{is_digit}
-use Rattle.pf_tokens.specs.Signs.{decimal}
+use Rattle.pf_tokens.specs.TokenKinds.{decimal}
 
 -- a number is in digits, without a zero before others
 abbrev pub is_numeral : List ℕ → Bool

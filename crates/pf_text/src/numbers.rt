@@ -3,7 +3,7 @@
 ghost use Rattle.std.specs.Prelude.{◌≡◌, ◌==◌, IfOk, option_map, true};
 ghost use Rattle.std.specs.List.{list_all, slice_split};
 ghost use Rattle.pf_tokens.specs.Bytes.{is_digit};
-ghost use Rattle.pf_tokens.specs.Signs.{decimal};
+ghost use Rattle.pf_tokens.specs.TokenKinds.{decimal};
 ghost use Rattle.pf_text.specs.Numbers.{is_numeral, number_of, numbers_of, schedule_of, small};
 
 use pf_tokens::is_digit;

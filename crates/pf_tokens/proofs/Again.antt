@@ -8,12 +8,12 @@ use Rattle.std.proofs.lemmas.List.{take_at, append-nil}
 use Rattle.std.proofs.lemmas.Slice.Eq.{bytes_eq-Decides}
 use Rattle.pf_tokens.specs.declared.bytes.Class.{Class}
 use Rattle.pf_tokens.specs.declared.bytes.Class.TheVariants as classes
-use Rattle.pf_tokens.specs.declared.fault.Fault.TheVariants.{UnexpectedByte, IntegerTooLarge}
+use Rattle.pf_fault.specs.declared.code.Code.TheVariants.{UnexpectedByte, IntegerTooLarge}
 use Rattle.pf_tokens.specs.declared.marks.Mark.{Mark}
 use Rattle.pf_tokens.specs.declared.words.Reserved.{Reserved}
 use Rattle.pf_tokens.specs.Bytes.{is_digit, is_lower, is_upper, is_word, is_comment, class_of}
-use Rattle.pf_tokens.specs.Signs.{Sign, decimal, mark_text, marks, longest_mark, reserved_text, reserved_of, reserved_words}
-use Rattle.pf_tokens.specs.Signs as signs
+use Rattle.pf_tokens.specs.TokenKinds.{TokenKind, decimal, mark_text, marks, longest_mark, reserved_text, reserved_of, reserved_words}
+use Rattle.pf_tokens.specs.TokenKinds as kinds
 use Rattle.pf_tokens.specs.Scan.{closing, atom_unless, number_at, word_at, variable_at, mark_at, piece_of, piece_at, or_fault, token}
 use Rattle.pf_tokens.specs.Rules.{IsRun, IsNumeral, IsName, IsPiece, IsLongestMark, WritesAll}
 use Rattle.pf_tokens.proofs.Runs.{both, prefix_len-run}
@@ -41,7 +41,7 @@ numeral_class : (value : ℕ) (bytes rest : List ℕ) → IsNumeral value bytes 
 numeral_class value [] rest h = let some = h.some in absurd (omega arith)
 numeral_class value (b ∷ bs) rest h = digit_class b (both _ _ h.digits.each).0
 
-number_again : (place value : ℕ) (text bytes rest : List ℕ) → text ≡ bytes ++ rest → IsNumeral value bytes rest → value < 2 ^ 63 → number_at place text ≡ Ok (Some (signs.integer value), length bytes)
+number_again : (place value : ℕ) (text bytes rest : List ℕ) → text ≡ bytes ++ rest → IsNumeral value bytes rest → value < 2 ^ 63 → number_at place text ≡ Ok (Some (kinds.integer value), length bytes)
 number_again place value text bytes rest whole h lt =
     rw (run_length is_digit text bytes rest whole h.digits, front text bytes rest whole, ← h.value_is, lt-ltb value (2 ^ 63) lt) refl
 
@@ -49,7 +49,7 @@ number_large : (place value : ℕ) (text bytes rest : List ℕ) → text ≡ byt
 number_large place value text bytes rest whole h le =
     rw (run_length is_digit text bytes rest whole h.digits, front text bytes rest whole, ← h.value_is, le-ltb value (2 ^ 63) le) refl
 
-pub numeral_again : (place value : ℕ) (bytes rest : List ℕ) → IsNumeral value bytes rest → value < 2 ^ 63 → piece_at place (bytes ++ rest) ≡ Ok (Some (signs.integer value), length bytes)
+pub numeral_again : (place value : ℕ) (bytes rest : List ℕ) → IsNumeral value bytes rest → value < 2 ^ 63 → piece_at place (bytes ++ rest) ≡ Ok (Some (kinds.integer value), length bytes)
 numeral_again place value bytes rest h lt = piece_is place (bytes ++ rest) classes.Digit (numeral_class value bytes rest h) ∙ number_again place value (bytes ++ rest) bytes rest refl h lt
 
 pub numeral_fails : (place value : ℕ) (bytes rest : List ℕ) → IsNumeral value bytes rest → 2 ^ 63 ≤ value → piece_at place (bytes ++ rest) ≡ Err (IntegerTooLarge, place)
@@ -85,10 +85,10 @@ underscore bytes h = by (bytes_eq bytes (codes "_")) refl
     by true e = absurd (h ((bytes_eq-Decides bytes (codes "_")).0 e))
     by false e = e
 
-variable_at_again : (text bytes rest : List ℕ) (t : Bool) → text ≡ bytes ++ rest → IsName is_upper bytes rest → bytes_eq bytes (codes "_") ≡ t → variable_at text ≡ Ok (Some (cond t signs.anonymous (signs.variable bytes)), length bytes)
+variable_at_again : (text bytes rest : List ℕ) (t : Bool) → text ≡ bytes ++ rest → IsName is_upper bytes rest → bytes_eq bytes (codes "_") ≡ t → variable_at text ≡ Ok (Some (cond t kinds.anonymous (kinds.variable bytes)), length bytes)
 variable_at_again text bytes rest t whole h e = rw (run_length is_word text bytes rest whole (name_run is_upper bytes rest h), front text bytes rest whole, e) refl
 
-pub upper_again : (place : ℕ) (bytes rest : List ℕ) (t : Bool) → IsName is_upper bytes rest → bytes_eq bytes (codes "_") ≡ t → piece_at place (bytes ++ rest) ≡ Ok (Some (cond t signs.anonymous (signs.variable bytes)), length bytes)
+pub upper_again : (place : ℕ) (bytes rest : List ℕ) (t : Bool) → IsName is_upper bytes rest → bytes_eq bytes (codes "_") ≡ t → piece_at place (bytes ++ rest) ≡ Ok (Some (cond t kinds.anonymous (kinds.variable bytes)), length bytes)
 upper_again place bytes rest t h e = piece_is place (bytes ++ rest) classes.Upper (upper_class (slice_index (bytes ++ rest) 0) (name_begins is_upper bytes rest h)) ∙ variable_at_again (bytes ++ rest) bytes rest t refl h e
 
 -- ---- quoted texts and characters
@@ -118,36 +118,36 @@ mark_again m bytes rest h =
     let same : mark_text found.0 ≡ mark_text m = sym (front text (mark_text found.0) (drop (length (mark_text found.0)) text) whole) ∙ ap (λ k. take k text) long ∙ front text bytes rest refl ∙ h.written in
     found.1 ∙ ap Some (one_mark found.0 m same)
 
-longest_again : (place : ℕ) (m : Mark) (bytes rest : List ℕ) → IsLongestMark m bytes rest → mark_at place (bytes ++ rest) ≡ Ok (Some (signs.mark m), length bytes)
+longest_again : (place : ℕ) (m : Mark) (bytes rest : List ℕ) → IsLongestMark m bytes rest → mark_at place (bytes ++ rest) ≡ Ok (Some (kinds.mark m), length bytes)
 longest_again place m bytes rest h =
-    ap (or_fault UnexpectedByte place (λ x. token (signs.mark x) (length (mark_text x)))) (mark_again m bytes rest h) ∙ ap (λ n. Ok (Some (signs.mark m), n)) (ap length (sym h.written))
+    ap (or_fault UnexpectedByte place (λ x. token (kinds.mark x) (length (mark_text x)))) (mark_again m bytes rest h) ∙ ap (λ n. Ok (Some (kinds.mark m), n)) (ap length (sym h.written))
 
 -- ---- pieces
 
 -- a piece that is written is read
-pub piece_again : (place : ℕ) (sign : Option Sign) (bytes rest : List ℕ) → IsPiece sign bytes rest → piece_at place (bytes ++ rest) ≡ Ok (sign, length bytes)
+pub piece_again : (place : ℕ) (kind : Option TokenKind) (bytes rest : List ℕ) → IsPiece kind bytes rest → piece_at place (bytes ++ rest) ≡ Ok (kind, length bytes)
 piece_again place None bytes rest (inl (b, e, is)) =
     piece_is place (bytes ++ rest) classes.Blank (rw is (blank_class b e)) ∙ rw is refl
 piece_again place None bytes rest (inr (words, is, run)) =
     piece_is place (bytes ++ rest) classes.Percent (rw is refl) ∙ rw (is, prefix_len-run is_comment words rest run) (ap (λ n. Ok (None, n)) (omega arith))
-piece_again place (Some (signs.integer value)) bytes rest (inl (h, lt)) = numeral_again place value bytes rest h lt
-piece_again place (Some (signs.integer value)) bytes rest (inr (one, writes, is)) =
+piece_again place (Some (kinds.integer value)) bytes rest (inl (h, lt)) = numeral_again place value bytes rest h lt
+piece_again place (Some (kinds.integer value)) bytes rest (inr (one, writes, is)) =
     piece_is place (bytes ++ rest) classes.Dollar (rw is refl) ∙ rw (is, character_again place value one rest writes) refl
-piece_again place (Some (signs.atom name)) bytes rest (inl (h, is, free)) =
+piece_again place (Some (kinds.atom name)) bytes rest (inl (h, is, free)) =
     lower_again place bytes rest None h (unreserved bytes free) ∙ rw is refl
-piece_again place (Some (signs.atom name)) bytes rest (inr (body, writes, is)) =
+piece_again place (Some (kinds.atom name)) bytes rest (inr (body, writes, is)) =
     piece_is place (bytes ++ rest) classes.Quote (rw is refl) ∙ rw (is, quoted_again 39 place name body rest (refl, refl) writes) refl
-piece_again place (Some (signs.variable name)) bytes rest (h, is, free) =
+piece_again place (Some (kinds.variable name)) bytes rest (h, is, free) =
     upper_again place bytes rest false h (underscore bytes free) ∙ rw is refl
-piece_again place (Some signs.anonymous) bytes rest (h, is) =
+piece_again place (Some kinds.anonymous) bytes rest (h, is) =
     upper_again place bytes rest true h (rw is refl)
-piece_again place (Some (signs.text meant)) bytes rest (body, writes, is) =
+piece_again place (Some (kinds.text meant)) bytes rest (body, writes, is) =
     piece_is place (bytes ++ rest) classes.DoubleQuote (rw is refl) ∙ rw (is, quoted_again 34 place meant body rest (refl, refl) writes) refl
-piece_again place (Some signs.own_module) bytes rest (is, e) =
+piece_again place (Some kinds.own_module) bytes rest (is, e) =
     piece_is place (bytes ++ rest) classes.Question (rw is refl) ∙ rw (is, e) refl
-piece_again place (Some signs.dot) bytes rest (is, e) =
+piece_again place (Some kinds.dot) bytes rest (is, e) =
     piece_is place (bytes ++ rest) classes.Dot (rw is refl) ∙ rw (is, e) refl
-piece_again place (Some (signs.mark m)) bytes rest h =
+piece_again place (Some (kinds.mark m)) bytes rest h =
     piece_is place (bytes ++ rest) classes.Other (rw h.written (mark_class m rest)) ∙ longest_again place m bytes rest h
-piece_again place (Some (signs.reserved r)) bytes rest (h, is) =
+piece_again place (Some (kinds.reserved r)) bytes rest (h, is) =
     lower_again place bytes rest (Some r) h (rw is (reserved_found r))

@@ -4,7 +4,7 @@ use Rattle.std.specs.List.{fold}
 use Rattle.std.proofs.lemmas.Bool.{le-ltb, lt-ltb}
 use Rattle.std.proofs.lemmas.List.{take-append-drop}
 use Rattle.std.proofs.lemmas.List.Sums.{fold_more, fold-append}
-use Rattle.pf_tokens.specs.Signs.{decimal, checked}
+use Rattle.pf_tokens.specs.TokenKinds.{decimal, checked}
 
 abbrev more : ℕ → ℕ → ℕ
 more value digit = 10 * value + (digit - 48)

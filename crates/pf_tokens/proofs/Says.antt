@@ -9,12 +9,12 @@ use Rattle.std.proofs.lemmas.List.Sums.{prefix_len-le-length}
 use Rattle.std.proofs.lemmas.Slice.Eq.{bytes_eq-Decides}
 use Rattle.pf_tokens.specs.declared.bytes.Class.{Class}
 use Rattle.pf_tokens.specs.declared.bytes.Class.TheVariants as classes
-use Rattle.pf_tokens.specs.declared.fault.Fault.TheVariants.{UnexpectedByte, Unfinished, IntegerTooLarge, SourceTooLong}
+use Rattle.pf_fault.specs.declared.code.Code.TheVariants.{UnexpectedByte, Unfinished, IntegerTooLarge}
 use Rattle.pf_tokens.specs.declared.marks.Mark.{Mark}
 use Rattle.pf_tokens.specs.declared.words.Reserved.{Reserved}
 use Rattle.pf_tokens.specs.Bytes.{is_digit, is_lower, is_upper, is_word, is_comment, is_joined, ends, class_of}
-use Rattle.pf_tokens.specs.Signs.{Sign, decimal, checked, mark_text, marks, longest_mark, reserved_text, reserved_of, reserved_words}
-use Rattle.pf_tokens.specs.Signs as signs
+use Rattle.pf_tokens.specs.TokenKinds.{TokenKind, decimal, checked, mark_text, marks, longest_mark, reserved_text, reserved_of, reserved_words}
+use Rattle.pf_tokens.specs.TokenKinds as kinds
 use Rattle.pf_tokens.specs.Scan.{Read, Cut, ◌>>=◌, atom_unless, or_fault, token, number_at, word_at, variable_at, code_at, atom_at, text_at, module_at, dot_at, mark_at, piece_of, piece_at, closing, behind_dollar}
 use Rattle.pf_tokens.specs.Rules.{IsRun, IsNumeral, IsName, IsToken, IsPiece, IsQuoted, IsLongestMark, IsFault, is_opening, OpensQuoted}
 use Rattle.pf_tokens.proofs.Runs.{run_front}
@@ -25,12 +25,12 @@ use Rattle.pf_tokens.proofs.Closes.{Reads, ReadsOne, closing_reads, character_re
 use Rattle.pf_tokens.proofs.Again.{piece_is, piece_again}
 
 -- the text begins with a piece of that length
-pub record Cuts (text : List ℕ) (sign : Option Sign) (n : ℕ) : Type 0 where
+pub record Cuts (text : List ℕ) (kind : Option TokenKind) (n : ℕ) : Type 0 where
   pub bytes : List ℕ
   pub rest : List ℕ
   pub whole : text ≡ bytes ++ rest
   pub length_is : n ≡ length bytes
-  pub piece : IsPiece sign bytes rest
+  pub piece : IsPiece kind bytes rest
 
 -- a piece that is read stands there, and so does a fault
 abbrev pub Says : ℕ → List ℕ → Read Cut → Type 0
@@ -38,8 +38,8 @@ Says place text (Ok p) = Cuts text p.0 p.1
 Says place text (Err e) = (n : ℕ) × (e.1 ≡ place + n) × IsFault e.0 n text
 
 -- the front of a text, cut behind n bytes
-cut : (text : List ℕ) (sign : Option Sign) (n : ℕ) → n ≤ length text → IsPiece sign (take n text) (drop n text) → Cuts text sign n
-cut text sign n within piece = record {
+cut : (text : List ℕ) (kind : Option TokenKind) (n : ℕ) → n ≤ length text → IsPiece kind (take n text) (drop n text) → Cuts text kind n
+cut text kind n within piece = record {
   bytes = take n text;
   rest = drop n text;
   whole = sym (take-append-drop n text);
@@ -51,9 +51,9 @@ cut text sign n within piece = record {
 stray : (place : ℕ) (b : ℕ) (bs : List ℕ) → is_opening b ≡ false → piece_at place (b ∷ bs) ≡ Err (UnexpectedByte, place) → Says place (b ∷ bs) (Err (UnexpectedByte, place))
 stray place b bs opens fails = (0, omega arith, inl ((opens, none), refl))
   where
-    none : (sign : Option Sign) (bytes rest : List ℕ) → b ∷ bs ≡ bytes ++ rest → IsPiece sign bytes rest → ⊥
-    none sign bytes rest is piece =
-        let reads : piece_at place (b ∷ bs) ≡ Ok (sign, length bytes) = ap (piece_at place) is ∙ piece_again place sign bytes rest piece in
+    none : (kind : Option TokenKind) (bytes rest : List ℕ) → b ∷ bs ≡ bytes ++ rest → IsPiece kind bytes rest → ⊥
+    none kind bytes rest is piece =
+        let reads : piece_at place (b ∷ bs) ≡ Ok (kind, length bytes) = ap (piece_at place) is ∙ piece_again place kind bytes rest piece in
         cc
 
 -- ---- numerals
@@ -62,8 +62,8 @@ digit_run : (b : ℕ) (bs : List ℕ) → is_digit b ≡ true → 0 < length (ta
 digit_run b bs e = rw e (let one : 1 + prefix_len is_digit bs ≡ suc (prefix_len is_digit bs) = omega arith in rw one (omega arith))
 
 number_outcome : (place : ℕ) (text : List ℕ) (value n : ℕ) (t : Bool) → ltb value (2 ^ 63) ≡ t → n ≤ length text → IsNumeral value (take n text) (drop n text)
-    → Says place text (or_fault IntegerTooLarge place (λ v. token (signs.integer v) n) (cond t (Some value) None))
-number_outcome place text value n true e within numeral = cut text (Some (signs.integer value)) n within (inl (numeral, ltb-true value (2 ^ 63) e))
+    → Says place text (or_fault IntegerTooLarge place (λ v. token (kinds.integer v) n) (cond t (Some value) None))
+number_outcome place text value n true e within numeral = cut text (Some (kinds.integer value)) n within (inl (numeral, ltb-true value (2 ^ 63) e))
 number_outcome place text value n false e within numeral = (0, omega arith, ((value, take n text, drop n text, sym (take-append-drop n text), numeral, ltb-false value (2 ^ 63) e), refl))
 
 number_says : (place b : ℕ) (bs : List ℕ) → is_digit b ≡ true → Says place (b ∷ bs) (number_at place (b ∷ bs))
@@ -92,7 +92,7 @@ word_says place b bs e =
     let n = prefix_len is_word (b ∷ bs) in
     cut (b ∷ bs) _ n (prefix_len-le-length is_word (b ∷ bs)) (word_token (take n (b ∷ bs)) (drop n (b ∷ bs)) (reserved_of (take n (b ∷ bs))) refl (name_front is_lower b bs e (lower_word b e)))
 
-variable_token : (name rest : List ℕ) (t : Bool) → bytes_eq name (codes "_") ≡ t → IsName is_upper name rest → IsToken (cond t signs.anonymous (signs.variable name)) name rest
+variable_token : (name rest : List ℕ) (t : Bool) → bytes_eq name (codes "_") ≡ t → IsName is_upper name rest → IsToken (cond t kinds.anonymous (kinds.variable name)) name rest
 variable_token name rest true e h = (h, (bytes_eq-Decides name (codes "_")).0 e)
 variable_token name rest false e h = (h, refl, λ is. let passes = (bytes_eq-Decides name (codes "_")).1 is in cc)
 
@@ -103,7 +103,7 @@ variable_says place b bs e =
 
 -- ---- quoted texts and characters
 
-quoted_outcome : (quote place : ℕ) (bs : List ℕ) (make : List ℕ → Sign) (read : Read (List ℕ × ℕ)) → (quote ≡ 39) ⊎ (quote ≡ 34) → ((meant bytes rest : List ℕ) → IsQuoted quote meant bytes → IsToken (make meant) bytes rest)
+quoted_outcome : (quote place : ℕ) (bs : List ℕ) (make : List ℕ → TokenKind) (read : Read (List ℕ × ℕ)) → (quote ≡ 39) ⊎ (quote ≡ 34) → ((meant bytes rest : List ℕ) → IsQuoted quote meant bytes → IsToken (make meant) bytes rest)
     → Reads quote place bs 1 read → Says place (quote ∷ bs) (read >>= λ p. Ok (token (make p.0) p.1))
 quoted_outcome quote place bs make (Ok p) is token_of (body, rest, whole, all, at) = record {
   bytes = quote ∷ (body ++ quote ∷ []);
@@ -119,9 +119,9 @@ quoted_outcome quote place bs make (Err (Unfinished, at)) is token_of (meant, bo
     let opens : OpensQuoted (quote ∷ bs) (length body + 1) rest = record { quote = quote; is_quote = is; meant = meant; body = body; writes = all; whole = ap (λ t. quote ∷ t) whole; written_is = refl } in
     (0, omega (arith, at_is), ((rest, short, inl (length body + 1, opens)), refl))
 quoted_outcome quote place bs make (Err (IntegerTooLarge, at)) is token_of (meant, body, rest, whole, all, breaks) = absurd breaks
-quoted_outcome quote place bs make (Err (SourceTooLong, at)) is token_of (meant, body, rest, whole, all, breaks) = absurd breaks
+quoted_outcome quote place bs make (Err (_, at)) is token_of (meant, body, rest, whole, all, breaks) = absurd breaks
 
-code_outcome : (place : ℕ) (bs : List ℕ) (read : Read (ℕ × ℕ)) → ReadsOne place bs read → Says place (36 ∷ bs) (read >>= λ p. Ok (token (signs.integer p.0) p.1))
+code_outcome : (place : ℕ) (bs : List ℕ) (read : Read (ℕ × ℕ)) → ReadsOne place bs read → Says place (36 ∷ bs) (read >>= λ p. Ok (token (kinds.integer p.0) p.1))
 code_outcome place bs (Ok p) (one, rest, whole, writes, at) = record {
   bytes = 36 ∷ one;
   rest = rest;
@@ -132,14 +132,14 @@ code_outcome place bs (Ok p) (one, rest, whole, writes, at) = record {
 code_outcome place bs (Err (UnexpectedByte, at)) (wrong, at_is) = (1, at_is, inr (bs, inr (refl, refl, wrong)))
 code_outcome place bs (Err (Unfinished, at)) (short, at_is) = (0, omega (arith, at_is), ((bs, short, inr refl), refl))
 code_outcome place bs (Err (IntegerTooLarge, at)) breaks = absurd breaks
-code_outcome place bs (Err (SourceTooLong, at)) breaks = absurd breaks
+code_outcome place bs (Err (_, at)) breaks = absurd breaks
 
 -- ---- marks and others
 
 module_says : (place b : ℕ) (bs : List ℕ) → is_opening b ≡ false → class_of b ≡ classes.Question → Says place (b ∷ bs) (module_at place (b ∷ bs))
 module_says place b bs opens class = by (starts_with nat_eq (b ∷ bs) (codes "?MODULE")) (ends is_word (drop 7 (b ∷ bs))) refl refl
   where
-    by : (p q : Bool) → starts_with nat_eq (b ∷ bs) (codes "?MODULE") ≡ p → ends is_word (drop 7 (b ∷ bs)) ≡ q → Says place (b ∷ bs) (cond (p && q) (Ok (token signs.own_module 7)) (Err (UnexpectedByte, place)))
+    by : (p q : Bool) → starts_with nat_eq (b ∷ bs) (codes "?MODULE") ≡ p → ends is_word (drop 7 (b ∷ bs)) ≡ q → Says place (b ∷ bs) (cond (p && q) (Ok (token kinds.own_module 7)) (Err (UnexpectedByte, place)))
     by true true pe qe = record { bytes = codes "?MODULE"; rest = drop 7 (b ∷ bs); whole = begins (b ∷ bs) (codes "?MODULE") pe; length_is = refl; piece = (refl, qe) }
     by true false pe qe = stray place b bs opens (piece_is place (b ∷ bs) classes.Question class ∙ rw (pe, qe) refl)
     by false q pe qe = stray place b bs opens (piece_is place (b ∷ bs) classes.Question class ∙ rw pe refl)
@@ -147,7 +147,7 @@ module_says place b bs opens class = by (starts_with nat_eq (b ∷ bs) (codes "?
 dot_says : (place b : ℕ) (bs : List ℕ) → is_opening b ≡ false → b ≡ 46 → class_of b ≡ classes.Dot → Says place (b ∷ bs) (dot_at place (b ∷ bs))
 dot_says place b bs opens is class = by (ends is_joined bs) refl
   where
-    by : (q : Bool) → ends is_joined bs ≡ q → Says place (b ∷ bs) (cond q (Ok (token signs.dot 1)) (Err (UnexpectedByte, place)))
+    by : (q : Bool) → ends is_joined bs ≡ q → Says place (b ∷ bs) (cond q (Ok (token kinds.dot 1)) (Err (UnexpectedByte, place)))
     by true qe = record { bytes = codes "."; rest = bs; whole = ap (λ x. x ∷ bs) is; length_is = refl; piece = (refl, qe) }
     by false qe = stray place b bs opens (piece_is place (b ∷ bs) classes.Dot class ∙ rw qe refl)
 
@@ -163,11 +163,11 @@ longest_is text m e =
 mark_says : (place b : ℕ) (bs : List ℕ) → is_opening b ≡ false → class_of b ≡ classes.Other → Says place (b ∷ bs) (mark_at place (b ∷ bs))
 mark_says place b bs opens class = by (longest_mark (b ∷ bs)) refl
   where
-    by : (o : Option Mark) → longest_mark (b ∷ bs) ≡ o → Says place (b ∷ bs) (or_fault UnexpectedByte place (λ m. token (signs.mark m) (length (mark_text m))) o)
+    by : (o : Option Mark) → longest_mark (b ∷ bs) ≡ o → Says place (b ∷ bs) (or_fault UnexpectedByte place (λ m. token (kinds.mark m) (length (mark_text m))) o)
     by (Some m) e =
         let is = longest_is (b ∷ bs) m e in
         record { bytes = mark_text m; rest = drop (length (mark_text m)) (b ∷ bs); whole = is.1; length_is = refl; piece = is.0 }
-    by None e = stray place b bs opens (piece_is place (b ∷ bs) classes.Other class ∙ ap (or_fault UnexpectedByte place (λ m. token (signs.mark m) (length (mark_text m)))) e)
+    by None e = stray place b bs opens (piece_is place (b ∷ bs) classes.Other class ∙ ap (or_fault UnexpectedByte place (λ m. token (kinds.mark m) (length (mark_text m)))) e)
 
 comment_says : (place b : ℕ) (bs : List ℕ) → b ≡ 37 → Says place (b ∷ bs) (Ok (None, prefix_len is_comment (b ∷ bs)))
 comment_says place b bs is = record {
@@ -187,8 +187,8 @@ piece_of_says place b bs classes.Digit e shows = number_says place b bs shows
 piece_of_says place b bs classes.Lower e shows = word_says place b bs shows
 piece_of_says place b bs classes.Upper e shows = variable_says place b bs shows
 piece_of_says place b bs classes.Dollar e shows = subst (λ x. Says place (x ∷ bs) (code_at place (x ∷ bs))) (sym shows) (code_outcome place bs (behind_dollar place bs) (character_reads place bs))
-piece_of_says place b bs classes.Quote e shows = subst (λ x. Says place (x ∷ bs) (atom_at place (x ∷ bs))) (sym shows) (quoted_outcome 39 place bs (λ t. signs.atom t) (closing 39 place bs false 1) (inl refl) (λ meant bytes rest is. inr is) (closing_reads 39 place bs false 1))
-piece_of_says place b bs classes.DoubleQuote e shows = subst (λ x. Says place (x ∷ bs) (text_at place (x ∷ bs))) (sym shows) (quoted_outcome 34 place bs (λ t. signs.text t) (closing 34 place bs false 1) (inr refl) (λ meant bytes rest is. is) (closing_reads 34 place bs false 1))
+piece_of_says place b bs classes.Quote e shows = subst (λ x. Says place (x ∷ bs) (atom_at place (x ∷ bs))) (sym shows) (quoted_outcome 39 place bs (λ t. kinds.atom t) (closing 39 place bs false 1) (inl refl) (λ meant bytes rest is. inr is) (closing_reads 39 place bs false 1))
+piece_of_says place b bs classes.DoubleQuote e shows = subst (λ x. Says place (x ∷ bs) (text_at place (x ∷ bs))) (sym shows) (quoted_outcome 34 place bs (λ t. kinds.text t) (closing 34 place bs false 1) (inr refl) (λ meant bytes rest is. is) (closing_reads 34 place bs false 1))
 piece_of_says place b bs classes.Question e shows = module_says place b bs shows.0 e
 piece_of_says place b bs classes.Dot e shows = dot_says place b bs shows.0 shows.1 e
 piece_of_says place b bs classes.Other e shows = mark_says place b bs shows e

@@ -10,7 +10,7 @@ use Rattle.pf_tokens.specs.declared.marks.Mark.TheVariants as symbols
 use Rattle.pf_tokens.specs.declared.words.Reserved.{Reserved}
 use Rattle.pf_tokens.specs.declared.words.Reserved.TheVariants as words
 use Rattle.pf_tokens.specs.Bytes.{class_of}
-use Rattle.pf_tokens.specs.Signs.{mark_text, marks, reserved_text, reserved_of}
+use Rattle.pf_tokens.specs.TokenKinds.{mark_text, marks, reserved_text, reserved_of}
 use Rattle.pf_tokens.proofs.Tables.{find_all}
 
 -- a mark is found by its text

@@ -74,8 +74,8 @@ escape_of b =
     else None)))
 
 -- what begins with a byte that is no blank, `%`, letter, digit or `_`
-abbrev pub sign_class_of : ℕ → Class
-sign_class_of b =
+abbrev pub kind_class_of : ℕ → Class
+kind_class_of b =
     if b == dollar then classes.Dollar
     else (if b == single_quote then classes.Quote
     else (if b == double_quote then classes.DoubleQuote
@@ -91,4 +91,4 @@ class_of b =
     else (if is_digit b then classes.Digit
     else (if is_lower b then classes.Lower
     else (if is_upper b then classes.Upper
-    else sign_class_of b))))
+    else kind_class_of b))))

@@ -1,15 +1,17 @@
 -- The rules of tokens: how the pieces of a text are written, and where a text is at fault.
 use Rattle.std.specs.Prelude.{◌≡◌, ◌≢◌, ◌⊎◌, ℕ, ◌+◌, ◌^◌, ◌<◌, ◌≤◌, Bool, ◌==◌, ◌&&◌, ◌||◌, not, IsTrue, IsFalse, List, [], ◌∷◌, ◌++◌, length, Option, Some, None, codes}
 use Rattle.std.specs.List.{list_all}
-use Rattle.pf_tokens.specs.declared.fault.Fault.{Fault}
-use Rattle.pf_tokens.specs.declared.fault.Fault.TheVariants.{UnexpectedByte, Unfinished, IntegerTooLarge, SourceTooLong}
-use Rattle.pf_tokens.specs.declared.fault.TokensFault.{TokensFault}
-use Rattle.pf_tokens.specs.declared.fault.TokensFault.TheVariants as outcomes
+use Rattle.pf_fault.specs.declared.code.Code.{Code}
+use Rattle.pf_fault.specs.declared.code.Code.TheVariants.{UnexpectedByte, Unfinished, IntegerTooLarge, SourceTooLong}
+use Rattle.pf_fault.specs.declared.fault.OrNoMemory.{OrNoMemory}
+use Rattle.pf_fault.specs.declared.refusal.Refusal.{Refusal}
+use Rattle.pf_fault.specs.declared.fault.OrNoMemory.TheVariants.{NoMemory, Fault}
 use Rattle.pf_tokens.specs.declared.marks.Mark.{Mark}
 use Rattle.pf_tokens.specs.declared.words.Reserved.{Reserved}
+use Rattle.pf_tokens.specs.declared.scan.TheConstants.{MOST_SOURCE_BYTES}
 use Rattle.pf_tokens.specs.Bytes.{percent, dollar, single_quote, double_quote, backslash, is_blank, is_digit, is_lower, is_upper, is_word, is_visible, is_quotable, is_comment, is_joined, ends, escape_of}
-use Rattle.pf_tokens.specs.Signs.{Sign, Placed, decimal, mark_text, reserved_text, put_first}
-use Rattle.pf_tokens.specs.Signs as signs
+use Rattle.pf_tokens.specs.TokenKinds.{TokenKind, Placed, decimal, mark_text, reserved_text, put_first}
+use Rattle.pf_tokens.specs.TokenKinds as kinds
 
 -- all the bytes pass, and the text behind them goes on with none that does
 pub record IsRun (test : ℕ → Bool) (bytes rest : List ℕ) : Type 0 where
@@ -67,23 +69,23 @@ pub record IsLongestMark (m : Mark) (bytes rest : List ℕ) : Type 0 where
   pub written : bytes ≡ mark_text m
   pub longest : (other : Mark) (tail : List ℕ) → bytes ++ rest ≡ mark_text other ++ tail → length (mark_text other) ≤ length bytes
 
--- the bytes are a token of this sign, before this rest
-abbrev pub IsToken : Sign → List ℕ → List ℕ → Type 0
-IsToken (signs.integer value) bytes rest = (IsNumeral value bytes rest × (value < 2 ^ 63)) ⊎ IsCharacter value bytes
-IsToken (signs.atom name) bytes rest =
+-- the bytes are a token of this kind of token, before this rest
+abbrev pub IsToken : TokenKind → List ℕ → List ℕ → Type 0
+IsToken (kinds.integer value) bytes rest = (IsNumeral value bytes rest × (value < 2 ^ 63)) ⊎ IsCharacter value bytes
+IsToken (kinds.atom name) bytes rest =
     (IsName is_lower bytes rest × (name ≡ bytes) × ((r : Reserved) → bytes ≢ reserved_text r)) ⊎ IsQuoted single_quote name bytes
-IsToken (signs.variable name) bytes rest = IsName is_upper bytes rest × (name ≡ bytes) × (bytes ≢ codes "_")
-IsToken signs.anonymous bytes rest = IsName is_upper bytes rest × (bytes ≡ codes "_")
-IsToken (signs.text meant) bytes rest = IsQuoted double_quote meant bytes
-IsToken signs.own_module bytes rest = (bytes ≡ codes "?MODULE") × IsTrue (ends is_word rest)
-IsToken signs.dot bytes rest = (bytes ≡ codes ".") × IsTrue (ends is_joined rest)
-IsToken (signs.mark m) bytes rest = IsLongestMark m bytes rest
-IsToken (signs.reserved r) bytes rest = IsName is_lower bytes rest × (bytes ≡ reserved_text r)
+IsToken (kinds.variable name) bytes rest = IsName is_upper bytes rest × (name ≡ bytes) × (bytes ≢ codes "_")
+IsToken kinds.anonymous bytes rest = IsName is_upper bytes rest × (bytes ≡ codes "_")
+IsToken (kinds.text meant) bytes rest = IsQuoted double_quote meant bytes
+IsToken kinds.own_module bytes rest = (bytes ≡ codes "?MODULE") × IsTrue (ends is_word rest)
+IsToken kinds.dot bytes rest = (bytes ≡ codes ".") × IsTrue (ends is_joined rest)
+IsToken (kinds.mark m) bytes rest = IsLongestMark m bytes rest
+IsToken (kinds.reserved r) bytes rest = IsName is_lower bytes rest × (bytes ≡ reserved_text r)
 
 -- a piece is a blank, a comment or a token
-abbrev pub IsPiece : Option Sign → List ℕ → List ℕ → Type 0
+abbrev pub IsPiece : Option TokenKind → List ℕ → List ℕ → Type 0
 IsPiece None bytes rest = IsBlank bytes ⊎ IsComment bytes rest
-IsPiece (Some sign) bytes rest = IsToken sign bytes rest
+IsPiece (Some kind) bytes rest = IsToken kind bytes rest
 
 -- a numeral, a quoted text or a character begins with such a byte
 abbrev pub is_opening : ℕ → Bool
@@ -93,7 +95,7 @@ is_opening b = is_digit b || b == double_quote || b == dollar || b == single_quo
 abbrev pub IsStray : List ℕ → Type 0
 IsStray [] = ⊥
 IsStray (b ∷ bs) = IsFalse (is_opening b)
-    × ((sign : Option Sign) (bytes rest : List ℕ) → b ∷ bs ≡ bytes ++ rest → IsPiece sign bytes rest → ⊥)
+    × ((kind : Option TokenKind) (bytes rest : List ℕ) → b ∷ bs ≡ bytes ++ rest → IsPiece kind bytes rest → ⊥)
 
 -- a `\` and this make no escape
 abbrev pub IsNoEscape : List ℕ → Type 0
@@ -133,27 +135,27 @@ abbrev pub IsTooLarge : List ℕ → Type 0
 IsTooLarge text = (value : ℕ) × (bytes rest : List ℕ) × (text ≡ bytes ++ rest) × IsNumeral value bytes rest × (2 ^ 63 ≤ value)
 
 -- a text that begins with no piece has this fault, so many bytes on
-abbrev pub IsFault : Fault → ℕ → List ℕ → Type 0
+abbrev pub IsFault : Code → ℕ → List ℕ → Type 0
 IsFault UnexpectedByte n text = (IsStray text × (n ≡ 0)) ⊎ HasWrongByte text n
 IsFault Unfinished n text = IsUnfinished text × (n ≡ 0)
 IsFault IntegerTooLarge n text = IsTooLarge text × (n ≡ 0)
-IsFault SourceTooLong n text = ⊥
+IsFault _ n text = ⊥
 
 -- the bytes of a piece, and what it stands for, unless it is a blank or a comment
 pub record Part : Type 0 where
-  pub sign : Option Sign
+  pub kind : Option TokenKind
   pub bytes : List ℕ
 
 -- the text is the parts, one behind the other and each a piece, and then the rest
 abbrev pub Begins : List Part → List ℕ → List ℕ → Type 0
 Begins [] text rest = text ≡ rest
-Begins (p ∷ ps) text rest = (tail : List ℕ) × (text ≡ p.bytes ++ tail) × IsPiece p.sign p.bytes tail × Begins ps tail rest
+Begins (p ∷ ps) text rest = (tail : List ℕ) × (text ≡ p.bytes ++ tail) × IsPiece p.kind p.bytes tail × Begins ps tail rest
 
 -- the tokens of parts, the first of which stands at the place
 abbrev pub tokens_from : ℕ → List Part → List Placed
 tokens_from place [] = []
 tokens_from place (p ∷ ps) =
-    put_first p.sign place (place + length p.bytes) (tokens_from (place + length p.bytes) ps)
+    put_first p.kind place (place + length p.bytes) (tokens_from (place + length p.bytes) ps)
 
 -- how many bytes parts take
 abbrev pub total_length : List Part → ℕ
@@ -162,13 +164,13 @@ total_length (p ∷ ps) = length p.bytes + total_length ps
 
 -- the text is cut into pieces, and these are its tokens
 pub record HasTokens (text : List ℕ) (tokens : List Placed) : Type 0 where
-  pub short : length text ≤ 65536
+  pub short : length text ≤ MOST_SOURCE_BYTES
   pub parts : List Part
   pub whole : Begins parts text []
   pub tokens_are : tokens ≡ tokens_from 0 parts
 
 -- behind pieces the text has this fault at the place
-pub record HasFaultAt (text : List ℕ) (fault : Fault) (place : ℕ) : Type 0 where
+pub record HasFaultAt (text : List ℕ) (fault : Code) (place : ℕ) : Type 0 where
   pub parts : List Part
   pub rest : List ℕ
   pub begins : Begins parts text rest
@@ -177,9 +179,9 @@ pub record HasFaultAt (text : List ℕ) (fault : Fault) (place : ℕ) : Type 0 w
   pub place_is : place ≡ total_length parts + further
 
 -- the first fault of the text is this, at the place
-abbrev pub HasFault : List ℕ → Fault → ℕ → Type 0
+abbrev pub HasFault : List ℕ → Code → ℕ → Type 0
 HasFault text fault place =
-    ((65536 < length text) × (fault ≡ SourceTooLong) × (place ≡ 0)) ⊎ ((length text ≤ 65536) × HasFaultAt text fault place)
+    ((MOST_SOURCE_BYTES < length text) × (fault ≡ SourceTooLong) × (place ≡ 0)) ⊎ ((length text ≤ MOST_SOURCE_BYTES) × HasFaultAt text fault place)
 
 -- the text has tokens
 abbrev pub HasSomeTokens : List ℕ → Type 0
@@ -187,14 +189,14 @@ HasSomeTokens text = (tokens : List Placed) × HasTokens text tokens
 
 -- the text has a first fault
 abbrev pub HasSomeFault : List ℕ → Type 0
-HasSomeFault text = (fault : Fault) × (place : ℕ) × HasFault text fault place
+HasSomeFault text = (fault : Code) × (place : ℕ) × HasFault text fault place
 
 -- tokens stand in order, none of them empty, from the one place to the other
 abbrev pub IsOrdered : ℕ → List Placed → ℕ → Type 0
 IsOrdered start [] end = start ≤ end
 IsOrdered start (t ∷ ts) end = (start ≤ t.start) × (t.start < t.end) × IsOrdered t.end ts end
 
--- want of memory says nothing of a text, and a fault is its first
-abbrev pub IsFaultOf : List ℕ → TokensFault → Type 0
-IsFaultOf text outcomes.Memory = Unit {0}
-IsFaultOf text (outcomes.At fault place) = HasFault text fault place
+-- out of memory says nothing of a text, and a fault is its first
+abbrev pub IsFaultOf : List ℕ → OrNoMemory Refusal → Type 0
+IsFaultOf text NoMemory = Unit {0}
+IsFaultOf text (Fault r) = HasFault text r.code r.place

@@ -4,42 +4,44 @@ use Rattle.std.specs.List.{prefix_len, starts_with}
 use Rattle.std.specs.Str.{bytes_eq}
 use Rattle.pf_tokens.specs.declared.bytes.Class.{Class}
 use Rattle.pf_tokens.specs.declared.bytes.Class.TheVariants as classes
-use Rattle.pf_tokens.specs.declared.fault.Fault.{Fault}
-use Rattle.pf_tokens.specs.declared.fault.Fault.TheVariants.{UnexpectedByte, Unfinished, IntegerTooLarge, SourceTooLong}
-use Rattle.pf_tokens.specs.declared.fault.TokensFault.{TokensFault}
-use Rattle.pf_tokens.specs.declared.fault.TokensFault.TheVariants as outcomes
+use Rattle.pf_fault.specs.declared.code.Code.{Code}
+use Rattle.pf_fault.specs.declared.code.Code.TheVariants.{UnexpectedByte, Unfinished, IntegerTooLarge, SourceTooLong}
+use Rattle.pf_fault.specs.declared.fault.OrNoMemory.{OrNoMemory}
+use Rattle.pf_fault.specs.declared.refusal.Refusal.{Refusal}
+use Rattle.pf_fault.specs.declared.fault.OrNoMemory.TheVariants.{NoMemory, Fault}
 use Rattle.pf_tokens.specs.declared.quoted.Step.{Step}
 use Rattle.pf_tokens.specs.declared.quoted.Step.TheVariants as steps
 use Rattle.pf_tokens.specs.declared.piece.Piece.{Piece}
 use Rattle.pf_tokens.specs.declared.words.Reserved.{Reserved}
+use Rattle.pf_tokens.specs.declared.scan.TheConstants.{MOST_SOURCE_BYTES}
 use Rattle.pf_tokens.specs.Bytes.{backslash, is_digit, is_word, is_comment, is_joined, is_visible, is_quotable, ends, class_of, escape_of}
-use Rattle.pf_tokens.specs.Signs.{Sign, Placed, sign_of, decimal, checked, longest_mark, mark_text, reserved_of, put_first}
-use Rattle.pf_tokens.specs.Signs as signs
+use Rattle.pf_tokens.specs.TokenKinds.{TokenKind, Placed, kind_of, decimal, checked, longest_mark, mark_text, reserved_of, put_first}
+use Rattle.pf_tokens.specs.TokenKinds as kinds
 
 -- a value, or a fault and its place
 abbrev pub Read : Type 0 → Type 0
-Read X = Result X (Fault × ℕ)
+Read X = Result X (Code × ℕ)
 
 -- a piece is the token, unless it is a blank or a comment, and its length
 abbrev pub Cut : Type 0
-Cut = Option Sign × ℕ
+Cut = Option TokenKind × ℕ
 
 -- what a piece of the program shows
 abbrev pub shown : Piece → Cut
-shown p = (option_map sign_of p.kind, p.length)
+shown p = (option_map kind_of p.kind, p.length)
 
 infixl 10 ◌>>=◌
 abbrev pub ◌>>=◌ : {A B : Type 0} → Read A → (A → Read B) → Read B
 (Ok x) >>= f = f x
 (Err e) >>= f = Err e
 
--- want of memory says nothing of the text, and a fault is the one that was read
-abbrev pub Fails : {Y : Type 0} → TokensFault → Read Y → Type 0
-Fails outcomes.Memory read = Unit {0}
-Fails (outcomes.At f place) read = read ≡ Err (f, place)
+-- out of memory says nothing of the text, and a fault is the one that was read
+abbrev pub Fails : {Y : Type 0} → OrNoMemory Refusal → Read Y → Type 0
+Fails NoMemory read = Unit {0}
+Fails (Fault r) read = read ≡ Err (r.code, r.place)
 
 -- a result, seen by a view, is what was read, unless memory ran out
-abbrev pub Gives : {X Y : Type 0} → (X → Y) → Result X TokensFault → Read Y → Type 0
+abbrev pub Gives : {X Y : Type 0} → (X → Y) → Result X (OrNoMemory Refusal) → Read Y → Type 0
 Gives view (Ok x) read = read ≡ Ok (view x)
 Gives view (Err e) read = Fails e read
 
@@ -105,11 +107,11 @@ abbrev pub character : ℕ → List ℕ → Read (ℕ × ℕ)
 character place bytes = behind_dollar place (drop 1 bytes)
 
 -- a token of that length
-abbrev pub token : Sign → ℕ → Cut
-token sign n = (Some sign, n)
+abbrev pub token : TokenKind → ℕ → Cut
+token kind n = (Some kind, n)
 
 -- a value, or a fault here
-abbrev pub or_fault : {A : Type 0} → Fault → ℕ → (A → Cut) → Option A → Read Cut
+abbrev pub or_fault : {A : Type 0} → Code → ℕ → (A → Cut) → Option A → Read Cut
 or_fault fault place make (Some x) = Ok (make x)
 or_fault fault place make None = Err (fault, place)
 
@@ -117,54 +119,54 @@ or_fault fault place make None = Err (fault, place)
 abbrev pub number_at : ℕ → List ℕ → Read Cut
 number_at place bytes =
     let n = prefix_len is_digit bytes in
-    or_fault IntegerTooLarge place (λ value. token (signs.integer value) n) (checked (decimal (take n bytes)))
+    or_fault IntegerTooLarge place (λ value. token (kinds.integer value) n) (checked (decimal (take n bytes)))
 
 -- a word is an atom unless it is reserved
-abbrev pub atom_unless : List ℕ → Option Reserved → Sign
-atom_unless word (Some r) = signs.reserved r
-atom_unless word None = signs.atom word
+abbrev pub atom_unless : List ℕ → Option Reserved → TokenKind
+atom_unless word (Some r) = kinds.reserved r
+atom_unless word None = kinds.atom word
 
 -- a word stands for a reserved word or an atom
-abbrev pub word_sign : List ℕ → Sign
-word_sign word = atom_unless word (reserved_of word)
+abbrev pub word_kind : List ℕ → TokenKind
+word_kind word = atom_unless word (reserved_of word)
 
 -- the word at the front
 abbrev pub word_at : List ℕ → Read Cut
-word_at bytes = Ok (token (word_sign (take (prefix_len is_word bytes) bytes)) (prefix_len is_word bytes))
+word_at bytes = Ok (token (word_kind (take (prefix_len is_word bytes) bytes)) (prefix_len is_word bytes))
 
 -- `_` alone is the anonymous variable
-abbrev pub variable_sign : List ℕ → Sign
-variable_sign name = if bytes_eq name (codes "_") then signs.anonymous else signs.variable name
+abbrev pub variable_kind : List ℕ → TokenKind
+variable_kind name = if bytes_eq name (codes "_") then kinds.anonymous else kinds.variable name
 
 -- the variable at the front
 abbrev pub variable_at : List ℕ → Read Cut
-variable_at bytes = Ok (token (variable_sign (take (prefix_len is_word bytes) bytes)) (prefix_len is_word bytes))
+variable_at bytes = Ok (token (variable_kind (take (prefix_len is_word bytes) bytes)) (prefix_len is_word bytes))
 
 -- the character at the front, as an integer
 abbrev pub code_at : ℕ → List ℕ → Read Cut
-code_at place bytes = character place bytes >>= λ p. Ok (token (signs.integer p.0) p.1)
+code_at place bytes = character place bytes >>= λ p. Ok (token (kinds.integer p.0) p.1)
 
 -- the quoted atom at the front
 abbrev pub atom_at : ℕ → List ℕ → Read Cut
-atom_at place bytes = quoted place bytes >>= λ p. Ok (token (signs.atom p.0) p.1)
+atom_at place bytes = quoted place bytes >>= λ p. Ok (token (kinds.atom p.0) p.1)
 
 -- the string at the front
 abbrev pub text_at : ℕ → List ℕ → Read Cut
-text_at place bytes = quoted place bytes >>= λ p. Ok (token (signs.text p.0) p.1)
+text_at place bytes = quoted place bytes >>= λ p. Ok (token (kinds.text p.0) p.1)
 
 -- `?MODULE` at the front, with no byte of a word after it
 abbrev pub module_at : ℕ → List ℕ → Read Cut
 module_at place bytes =
     if starts_with nat_eq bytes (codes "?MODULE") && ends is_word (drop 7 bytes)
-    then Ok (token signs.own_module 7) else Err (UnexpectedByte, place)
+    then Ok (token kinds.own_module 7) else Err (UnexpectedByte, place)
 
 -- the dot at the front, with a blank, a comment or nothing after it
 abbrev pub dot_at : ℕ → List ℕ → Read Cut
-dot_at place bytes = if ends is_joined (drop 1 bytes) then Ok (token signs.dot 1) else Err (UnexpectedByte, place)
+dot_at place bytes = if ends is_joined (drop 1 bytes) then Ok (token kinds.dot 1) else Err (UnexpectedByte, place)
 
 -- the longest mark at the front
 abbrev pub mark_at : ℕ → List ℕ → Read Cut
-mark_at place bytes = or_fault UnexpectedByte place (λ m. token (signs.mark m) (length (mark_text m))) (longest_mark bytes)
+mark_at place bytes = or_fault UnexpectedByte place (λ m. token (kinds.mark m) (length (mark_text m))) (longest_mark bytes)
 
 -- the piece at the front, whose first byte has this class
 abbrev pub piece_of : Class → ℕ → List ℕ → Read Cut
@@ -195,6 +197,6 @@ unfoldable pub scan : ℕ → ℕ → List ℕ → Read (List Placed)
 scan zero place bytes = Ok []
 scan (suc n) place bytes = scan_step (scan n) place bytes
 
--- the tokens of a text, unless it is longer than 65,536 bytes
+-- the tokens of a text, unless it is too long
 abbrev pub tokens : List ℕ → Read (List Placed)
-tokens bytes = if nat_le (length bytes) 65536 then scan (length bytes) 0 bytes else Err (SourceTooLong, 0)
+tokens bytes = if nat_le (length bytes) MOST_SOURCE_BYTES then scan (length bytes) 0 bytes else Err (SourceTooLong, 0)

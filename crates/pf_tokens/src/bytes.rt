@@ -12,7 +12,7 @@ ghost use Rattle.pf_tokens.specs.Bytes.{
   is_comment,
   is_joined,
   ends,
-  sign_class_of,
+  kind_class_of,
   class_of,
 };
 
@@ -96,13 +96,13 @@ pub fn class_of(byte: u8) -> Class
     } else if is_upper(byte) {
         Class::Upper
     } else {
-        sign_class_of(byte)
+        kind_class_of(byte)
     }
 }
 
 /// What begins with a byte that is no blank, `%`, letter, digit or `_`.
-fn sign_class_of(byte: u8) -> Class
-    ensures { result ≡ sign_class_of byte }
+fn kind_class_of(byte: u8) -> Class
+    ensures { result ≡ kind_class_of byte }
 {
     if byte == b'$' {
         Class::Dollar

@@ -1,6 +1,6 @@
 //! The marks: punctuation and operators. The longest that stands at a place is taken.
 ghost use Rattle.std.specs.Prelude.{◌≡◌};
-ghost use Rattle.pf_tokens.specs.Signs.{mark_text, longest_mark};
+ghost use Rattle.pf_tokens.specs.TokenKinds.{mark_text, longest_mark};
 
 /// A mark.
 #[derive(Clone, Copy, Debug, PartialEq, Eq)]

@@ -2,7 +2,7 @@
 ghost use Rattle.std.specs.Prelude.{◌≡◌, option_map};
 ghost use Rattle.std.specs.List.{AllPass};
 ghost use Rattle.pf_tokens.specs.Bytes.{is_digit};
-ghost use Rattle.pf_tokens.specs.Signs.{reserved_text, reserved_of, decimal, checked};
+ghost use Rattle.pf_tokens.specs.TokenKinds.{reserved_text, reserved_of, decimal, checked};
 
 use crate::token::Integer;
 

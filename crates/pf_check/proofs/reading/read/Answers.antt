@@ -1,8 +1,8 @@
 use Rattle.std.proofs.Common.{sym, subst}
 use Rattle.std.specs.Prelude.{map}
-use Rattle.pf_tokens.specs.Signs.{placed_of}
+use Rattle.pf_tokens.specs.TokenKinds.{placed_of}
 use Rattle.pf_tokens.specs.Rules.{HasTokens}
-use Rattle.pf_reader.specs.Grammar.{tree_of}
+use Rattle.pf_syntax.specs.WrittenModule.{tree_of}
 use Rattle.pf_check.proofs.Outcomes.{reads_module, reads_fault}
 use Rattle.pf_check.proofs.reading.read.Goals as goal
 

@@ -1,6 +1,6 @@
 use Rattle.std.proofs.Common.{◌≡◌, Bool, None, Some, true, false, rules, sym}
 use Rattle.std.specs.Prelude.{IsTrue, ◌↔◌}
-use Rattle.pf_model.specs.Root.{root_of}
+use Rattle.pf_syntax.specs.Root.{root_of}
 use Rattle.pf_command.specs.Words.{request}
 use Rattle.pf_command.specs.Answers.{IsWithinBounds}
 use Rattle.pf_command.proofs.Rows.{row_no_root, row_out_of_bounds}

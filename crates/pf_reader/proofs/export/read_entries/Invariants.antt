@@ -2,14 +2,14 @@ use Rattle.std.proofs.Common.{◌≡◌, ◌-◌, length}
 use Rattle.std.specs.Prelude.{map}
 use Rattle.pf_syntax.specs.SourceOver.{export_of}
 use Rattle.pf_tokens.specs.declared.marks.Mark.TheVariants.{Comma}
-use Rattle.pf_reader.specs.Sign.{mark}
+use Rattle.pf_reader.specs.NumberedTokens.{mark}
 use Rattle.pf_reader.specs.Parse.{entry, items}
-use Rattle.pf_reader.specs.View.{names_of, toks}
+use Rattle.pf_reader.specs.View.{names_of, token_list}
 use Rattle.pf_reader.specs.Given.{with_front}
 use Rattle.pf_reader.proofs.export.read_entries.Given as goal
 
 -- the entries so far, and what is left, give what the whole gives
 abbrev pub invariant-loop : goal.invariant-loop
 invariant-loop l =
-    items (mark Comma) (entry (names_of l.fn.context)) (length (toks l.tokens)) (toks l.tokens)
-    ≡ with_front (map export_of l.found.items) (items (mark Comma) (entry (names_of l.fn.context)) (length (toks l.tokens) - l.counter) (toks l.rest))
+    items (mark Comma) (entry (names_of l.fn.context)) (length (token_list l.tokens)) (token_list l.tokens)
+    ≡ with_front (map export_of l.found.items) (items (mark Comma) (entry (names_of l.fn.context)) (length (token_list l.tokens) - l.counter) (token_list l.rest))

@@ -1,10 +1,10 @@
 use Rattle.std.proofs.Common.{◌≡◌, Some, None, subst, rules}
 use Rattle.std.specs.Prelude.{map}
-use Rattle.pf_tokens.specs.Signs.{placed_of}
-use Rattle.pf_reader.specs.Sign.{atoms_of, numbered}
+use Rattle.pf_tokens.specs.TokenKinds.{placed_of}
+use Rattle.pf_reader.specs.NumberedTokens.{atoms_of, numbered}
 use Rattle.pf_reader.specs.Grammar.{tree_of}
 use Rattle.pf_reader.specs.Parse.{tree}
-use Rattle.pf_reader.specs.View.{toks}
+use Rattle.pf_reader.specs.View.{token_list}
 use Rattle.pf_reader.specs.Outcome.{IsTreeFault}
 use Rattle.pf_reader.proofs.Whole.{tree_sound, tree_complete}
 use Rattle.pf_reader.proofs.read.read_tree.Goals as goal
@@ -33,6 +33,6 @@ pub returns-clause-fault : goal.returns-clause-fault
 returns-clause-fault c =
     let ts = map placed_of c.args.tokens.now in
     let atoms : c.in-Ok.numbered.0 ≡ atoms_of ts = search rules in
-    let tokens : toks c.deref-in-Err-Syntax.result.now ≡ numbered ts = search rules in
+    let tokens : token_list c.deref-in-Err-Syntax.result.now ≡ numbered ts = search rules in
     let told = subst (λ us. IsTreeFault c.in-Ok.numbered.0 us c.tree_fault.result) tokens c.tree_fault.ensures in
     subst (λ names. IsTreeFault names (numbered ts) c.tree_fault.result) atoms told

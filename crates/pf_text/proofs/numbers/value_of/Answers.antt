@@ -1,5 +1,5 @@
 use Rattle.std.proofs.Common.{◌+◌, ◌^◌, ◌≤◌, sym, arith}
-use Rattle.pf_tokens.specs.Signs.{decimal}
+use Rattle.pf_tokens.specs.TokenKinds.{decimal}
 use Rattle.pf_tokens.proofs.Numerals.{decimal_more, decimal_front}
 use Rattle.pf_text.proofs.Numerals.{small_none}
 use Rattle.pf_text.proofs.numbers.value_of.Goals as goal

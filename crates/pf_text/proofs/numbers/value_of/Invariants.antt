@@ -1,5 +1,5 @@
 use Rattle.std.proofs.Common.{◌≡◌, ◌<◌, ◌^◌, take}
-use Rattle.pf_tokens.specs.Signs.{decimal}
+use Rattle.pf_tokens.specs.TokenKinds.{decimal}
 use Rattle.pf_text.proofs.numbers.value_of.Given as goal
 
 -- the value of the digits so far

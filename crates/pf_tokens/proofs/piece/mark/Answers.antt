@@ -1,7 +1,7 @@
 use Rattle.std.proofs.Common.{length, arith, sym, ap}
 use Rattle.std.specs.Prelude.{nat_eq}
 use Rattle.std.specs.List.{starts_with}
-use Rattle.pf_tokens.specs.Signs.{mark_text, marks}
+use Rattle.pf_tokens.specs.TokenKinds.{mark_text, marks}
 use Rattle.pf_tokens.proofs.Tables.{find_passes, begins_within}
 use Rattle.pf_tokens.proofs.piece.mark.Goals as goal
 

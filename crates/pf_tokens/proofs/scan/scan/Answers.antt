@@ -2,7 +2,7 @@ use Rattle.std.proofs.Common.{◌≡◌, suc, ◌+◌, ◌-◌, ◌<◌, length,
 use Rattle.std.specs.Prelude.{map}
 use Rattle.std.proofs.lemmas.Result.{err_from_is_err_and}
 use Rattle.std.proofs.lemmas.List.{length-drop}
-use Rattle.pf_tokens.specs.Signs.{placed_of}
+use Rattle.pf_tokens.specs.TokenKinds.{placed_of}
 use Rattle.pf_tokens.specs.Scan.{shown}
 use Rattle.pf_tokens.proofs.Turns.{scan_goes, scan_fails, scan_ends, scan_out}
 use Rattle.pf_tokens.proofs.scan.scan.Goals as goal

@@ -1,6 +1,6 @@
 use Rattle.std.proofs.Common.{◌≡◌, ◌-◌, ◌+◌, length}
 use Rattle.std.specs.Prelude.{map}
-use Rattle.pf_tokens.specs.Signs.{placed_of}
+use Rattle.pf_tokens.specs.TokenKinds.{placed_of}
 use Rattle.pf_tokens.specs.Scan.{scan}
 use Rattle.pf_tokens.proofs.Turns.{with_front}
 use Rattle.pf_tokens.proofs.scan.scan.Given as goal

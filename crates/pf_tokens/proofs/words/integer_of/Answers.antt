@@ -1,5 +1,5 @@
 use Rattle.std.proofs.Common.{◌+◌, ◌^◌, ◌≤◌, sym, arith}
-use Rattle.pf_tokens.specs.Signs.{decimal}
+use Rattle.pf_tokens.specs.TokenKinds.{decimal}
 use Rattle.pf_tokens.proofs.Numerals.{decimal_more, decimal_front, checked_none}
 use Rattle.pf_tokens.proofs.words.integer_of.Goals as goal
 

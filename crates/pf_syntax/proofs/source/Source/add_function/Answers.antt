@@ -1,7 +1,7 @@
 use Rattle.std.proofs.Common.{sym, subst}
 use Rattle.pf_syntax.specs.Source.{Written}
 use Rattle.pf_syntax.specs.SourceOver.{HeadsStand}
-use Rattle.pf_syntax.proofs.BookGrown.{with_function_sound, same_functions_sound}
+use Rattle.pf_syntax.proofs.NodeTableGrown.{with_function_sound, same_functions_sound}
 use Rattle.pf_syntax.proofs.source.Source.add_function.Goals as goal
 
 pub invariant_of-self : goal.invariant_of-self
@@ -9,5 +9,5 @@ invariant_of-self c = same_functions_sound c.self.inside c.push.new.self c.in_er
 
 pub invariant_of-self-2 : goal.invariant_of-self-2
 invariant_of-self-2 c =
-    let stands = subst (λ (m : Written). HeadsStand m.book c.args.function) (sym c.self.view_is) c.requires in
+    let stands = subst (λ (m : Written). HeadsStand m.node_table c.args.function) (sym c.self.view_is) c.requires in
     with_function_sound c.self.inside c.args.function c.push.new.self c.in_ok-push.ensures.items c.self.invariant stands

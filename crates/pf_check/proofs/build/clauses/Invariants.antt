@@ -1,9 +1,0 @@
-use Rattle.std.proofs.Common.{◌≡◌, take, []}
-use Rattle.pf_check.proofs.Threads.{SoFar}
-use Rattle.pf_check.proofs.Heads_mean.{next_head, EachHead}
-use Rattle.pf_check.proofs.build.clauses.Given as goal
-
-abbrev pub invariant-loop-head : goal.invariant-loop-head
-invariant-loop-head l =
-    SoFar (next_head l.source.functions l.source.book) (EachHead l.source.functions l.source.book) l.initial.module l.module l.initial.places l.places
-    (take l.head-index l.heads) l.found.items × (l.places ≡ [])

@@ -1,0 +1,4 @@
+pub mod Earliest
+pub mod Marks
+pub mod Defines
+pub mod Walking

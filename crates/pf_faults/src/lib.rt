@@ -1,0 +1,10 @@
+//! The first static fault of a module as it is written.
+#![tactic(auto)]
+
+mod faults;
+mod first;
+mod variable_states;
+mod walk;
+
+pub use faults::first_fault;
+pub use first::{CheckFault, Found};

@@ -1,0 +1,164 @@
+-- Clauses of functions, functions and modules: what their parts mean is what they mean.
+use Rattle.std.proofs.Common.{◌≡◌, ℕ, ◌<◌, ◌≤◌, List, [], ◌∷◌, ◌++◌, length, take, refl, sym, ap, ◌∙◌, subst}
+use Rattle.std.specs.Prelude.{fold, map, flat_map}
+use Rattle.std.specs.List.{All}
+use Rattle.std.proofs.lemmas.List.{take_all}
+use Rattle.std.proofs.lemmas.List.Elements.{All-nil, All-cons, All-head, All-tail}
+use Rattle.pf_syntax.specs.Source.{NodeTable, Head, Export}
+use Rattle.pf_syntax.specs.SourceOver.{written_patterns_at, written_expressions_at, condition_over, head_over}
+use Rattle.pf_syntax.specs.Scope.{no_scope, after_written_patterns}
+use Rattle.pf_syntax.specs.Naming.{WrittenPatternsAre, GuardIs, BodyIs, HeadIs}
+use Rattle.pf_syntax.specs.Tree.{Function as Made}
+use Rattle.pf_syntax.specs.Module.{Checked, Tables}
+use Rattle.pf_syntax.specs.Over.{patterns_at, guard_over, part_over, function_clause_over}
+use Rattle.pf_syntax.specs.Within.{FunctionClauseStands, GuardStands, PartStands}
+use Rattle.pf_syntax.proofs.Extends.{Extends, patterns_kept, all_patterns_stand, guard_kept, guard_stands, part_kept, part_stands}
+use Rattle.pf_syntax.specs.declared.node.PatternId.{PatternId}
+use Rattle.pf_syntax.specs.declared.node.Part.{Part}
+use Rattle.pf_syntax.specs.declared.node.Guard.{Guard}
+use Rattle.pf_syntax.specs.declared.node.FunctionClause.{FunctionClause}
+use Rattle.pf_syntax.specs.declared.node.Function.{Function}
+use Rattle.pf_syntax.specs.declared.written.Head.{Head as HeadNode}
+use Rattle.pf_rules.specs.Static.{names_of, written_patterns_faults, condition_faults, written_expressions_faults, head_faults, parameters_of}
+use Rattle.pf_rules.specs.Formed.{HeadFormed, FunctionFormed, AreFormed}
+use Rattle.pf_lower.specs.Bound.{all_bound_by, all_bound_after}
+use Rattle.pf_rules.specs.Checks.{Pairwise, FunctionIs, is_exported}
+use Rattle.pf_lower.specs.Built.{Lowers, WrittenPatternsMean, GuardMeans, BodyMeans}
+use Rattle.pf_lower.specs.Heads.{HeadMeans, HeadsMean, FunctionMeans}
+use Rattle.pf_lower.proofs.Growing.{grown_on}
+use Rattle.pf_lower.proofs.Threads.{Threaded, SoFar}
+use Rattle.pf_lower.proofs.WrittenPatterns_mean.{left_empty, right_empty, written_patterns_bound}
+
+module _ (fs : List (List Head)) (b : NodeTable) where
+  pub clause_done : (m0 m1 m2 m3 : Checked) (b1 b2 b3 b4 names : List ℕ) (h : HeadNode) (ys : List PatternId) (d : Guard) (x : Part) (c : FunctionClause)
+      → names ≡ [] → c.parameters.items ≡ ys → c.guard ≡ d → c.body ≡ x
+      → Lowers m0 m1 b1 (all_bound_by names (written_patterns_at b h.parameters.items)) (λ t. WrittenPatternsMean fs t names (written_patterns_at b h.parameters.items) ys)
+      → Lowers m1 m2 b2 b1 (λ t. GuardMeans fs t b1 (condition_over b h.condition) d)
+      → Lowers m2 m3 b3 (all_bound_after b2 (written_expressions_at b h.body.items)) (λ t. BodyMeans fs t b2 (written_expressions_at b h.body.items) x)
+      → b4 ≡ [] → Lowers m0 m3 b4 [] (λ t. HeadMeans fs t (head_over b h) c)
+  clause_done m0 m1 m2 m3 b1 b2 b3 b4 names h ys d x c none cys cd cx p1 p2 p3 cut =
+      let n = names_of fs in
+      let qs = written_patterns_at b h.parameters.items in
+      let c1 = condition_over b h.condition in
+      let es = written_expressions_at b h.body.items in
+      let s = after_written_patterns no_scope qs in
+      let on23 = p3.grown.tables in
+      let on13 = (grown_on m1 m2 m3 p2.grown p3.grown).tables in
+      let at2 : b2 ≡ all_bound_by names qs = p2.bound_is ∙ p1.bound_is in
+      let front : patterns_at m3.tables c.parameters.items ≡ patterns_at m1.tables ys = ap (patterns_at m3.tables) cys ∙ patterns_kept m1.tables m3.tables on13 ys p1.answer.stands in
+      let middle : guard_over m3.tables c.guard ≡ guard_over m2.tables d = ap (guard_over m3.tables) cd ∙ guard_kept m2.tables m3.tables on23 d p2.answer.stands in
+      let end : part_over m3.tables c.body ≡ part_over m3.tables x = ap (part_over m3.tables) cx in
+      record {
+        grown = grown_on m0 m1 m3 p1.grown (grown_on m1 m2 m3 p2.grown p3.grown);
+        bound_is = cut;
+        answer = record {
+          stands = (
+            subst (λ l. All (λ q. q.0 < length m3.tables.patterns) l) (sym cys) (all_patterns_stand m1.tables m3.tables on13 ys p1.answer.stands),
+            subst (λ g. GuardStands m3.tables g) (sym cd) (guard_stands m2.tables m3.tables on23 d p2.answer.stands),
+            subst (λ y. PartStands m3.tables y) (sym cx) p3.answer.stands,
+          );
+          means = λ f k.
+              let two : written_patterns_faults no_scope qs ++ condition_faults n s c1 ≡ [] = left_empty _ (written_expressions_faults n s es) k in
+              let in_body : written_expressions_faults n s es ≡ [] = right_empty (written_patterns_faults no_scope qs ++ condition_faults n s c1) _ k in
+              let here : written_patterns_faults no_scope qs ≡ [] = left_empty (written_patterns_faults no_scope qs) _ two in
+              let in_guard : condition_faults n s c1 ≡ [] = right_empty (written_patterns_faults no_scope qs) _ two in
+              let seen : s.bound ≡ all_bound_by names qs = written_patterns_bound no_scope qs here ∙ ap (λ l. all_bound_by l qs) (sym none) in
+              record {
+                parameters = subst (λ y. WrittenPatternsAre n no_scope qs y) (sym front) (p1.answer.means no_scope (sym none) f.0 here);
+                guard = subst (λ y. GuardIs n s c1 y) (sym middle) (p2.answer.means s (seen ∙ sym p1.bound_is) f.1 f.2 in_guard);
+                body = subst (λ y. BodyIs n s es y) (sym end) (p3.answer.means s (seen ∙ sym at2) f.3 f.4 in_body);
+              };
+        };
+      }
+
+  abbrev pub next_head : List ℕ → HeadNode → List ℕ
+  next_head names h = []
+
+  abbrev pub EachHead : Tables → List ℕ → HeadNode → FunctionClause → Type 0
+  EachHead t names h c = HeadMeans fs t (head_over b h) c
+
+  pub each_head_on : (t u : Tables) → Extends t u → (names : List ℕ) (h : HeadNode) (c : FunctionClause) → EachHead t names h c → EachHead u names h c
+  each_head_on t u on names h c m =
+      let n = names_of fs in
+      let front : patterns_at u c.parameters.items ≡ patterns_at t c.parameters.items = patterns_kept t u on c.parameters.items m.stands.0 in
+      let middle : guard_over u c.guard ≡ guard_over t c.guard = guard_kept t u on c.guard m.stands.1 in
+      let end : part_over u c.body ≡ part_over t c.body = part_kept t u on c.body m.stands.2 in
+      let whole : function_clause_over u c ≡ function_clause_over t c = cc in
+      record {
+        stands = (all_patterns_stand t u on c.parameters.items m.stands.0, guard_stands t u on c.guard m.stands.1, part_stands t u on c.body m.stands.2);
+        means = λ f k. subst (HeadIs n (head_over b h)) (sym whole) (m.means f k);
+      }
+
+  heads_mean : (t : Tables) (names : List ℕ) (hs : List HeadNode) (cs : List FunctionClause) → Threaded next_head (EachHead t) names hs cs → HeadsMean fs t (map (head_over b) hs) cs
+  heads_mean t names [] [] h = record { stands = All-nil (FunctionClauseStands t); means = λ f k. tt }
+  heads_mean t names (x ∷ hs) (c ∷ cs) h =
+      let n = names_of fs in
+      let rest = heads_mean t [] hs cs h.1 in
+      record {
+        stands = All-cons (FunctionClauseStands t) c cs h.0.stands rest.stands;
+        means = λ f k. (
+          h.0.means (All-head HeadFormed (head_over b x) (map (head_over b) hs) f) (left_empty (head_faults n (head_over b x)) _ k),
+          rest.means (All-tail HeadFormed (head_over b x) (map (head_over b) hs) f) (right_empty (head_faults n (head_over b x)) _ k),
+        );
+      }
+  heads_mean t names [] (c ∷ cs) h = absurd h
+  heads_mean t names (x ∷ hs) [] h = absurd h
+
+  all_next_head : (hs : List HeadNode) → fold next_head [] hs ≡ []
+  all_next_head [] = refl
+  all_next_head (h ∷ hs) = all_next_head hs
+
+  pub heads_done : (m0 m1 : Checked) (names now : List ℕ) (hs : List HeadNode) (k : ℕ) (cs : List FunctionClause) → names ≡ [] → length hs ≤ k
+      → SoFar next_head EachHead m0 m1 names now (take k hs) cs → Lowers m0 m1 now [] (λ t. HeadsMean fs t (map (head_over b) hs) cs)
+  heads_done m0 m1 names now hs k cs none le h =
+      let whole : SoFar next_head EachHead m0 m1 names now hs cs = subst (λ l. SoFar next_head EachHead m0 m1 names now l cs) (take_all k hs le) h in
+      record {
+        grown = whole.grown;
+        bound_is = whole.bound_is ∙ ap (λ s. fold next_head s hs) none ∙ all_next_head hs;
+        answer = heads_mean m1.tables names hs cs whole.answer;
+      }
+
+  -- a function whose first clause is known
+  pub function_done : (exports : List Export) (m0 m1 : Checked) (now : List ℕ) (hs : List Head) (h : Head) (rest : List Head) (f : Function) → hs ≡ h ∷ rest
+      → f.name.0 ≡ h.name → f.arity ≡ parameters_of h.parameters → f.exported ≡ is_exported exports h.name (parameters_of h.parameters)
+      → Lowers m0 m1 now [] (λ t. HeadsMean fs t hs f.clauses.items) → Lowers m0 m1 now [] (λ t. FunctionMeans fs exports t hs f)
+  function_done exports m0 m1 now hs h rest f is name arity exported d =
+      subst (λ l. Lowers m0 m1 now [] (λ t. FunctionMeans fs exports t l f)) (sym is)
+      (record {
+        grown = d.grown;
+        bound_is = d.bound_is;
+        answer =
+            let inner : HeadsMean fs m1.tables (h ∷ rest) f.clauses.items = subst (λ l. HeadsMean fs m1.tables l f.clauses.items) is d.answer in
+            record { stands = inner.stands; means = λ g k. (name, arity, exported, inner.means g k) };
+      })
+
+  pub no_function : (exports : List Export) (m0 m1 : Checked) (now : List ℕ) (hs : List Head) (f : Function) → hs ≡ []
+      → Lowers m0 m1 now [] (λ t. HeadsMean fs t hs f.clauses.items) → Lowers m0 m1 now [] (λ t. FunctionMeans fs exports t hs f)
+  no_function exports m0 m1 now hs f is d = subst (λ l. Lowers m0 m1 now [] (λ t. FunctionMeans fs exports t l f)) (sym is)
+      (record { grown = d.grown; bound_is = d.bound_is; answer = record { stands = d.answer.stands; means = λ g k. absurd g } })
+
+-- ---- modules
+
+-- each function so far, where no function breaks a rule
+module _ (fs : List (List Head)) (exports : List Export) where
+  abbrev pub EachFunction : List (List Head) → List Made → Type 0
+  EachFunction [] [] = Unit {0}
+  EachFunction (hs ∷ more) (f ∷ made) = (FunctionFormed hs → flat_map (head_faults (names_of fs)) hs ≡ [] → FunctionIs (names_of fs) exports hs f) × EachFunction more made
+  EachFunction _ _ = ⊥
+
+  pub one_function_more : (xs : List (List Head)) (made : List Made) (hs : List Head) (f : Made) → EachFunction xs made
+      → (FunctionFormed hs → flat_map (head_faults (names_of fs)) hs ≡ [] → FunctionIs (names_of fs) exports hs f) → EachFunction (xs ++ hs ∷ []) (made ++ f ∷ [])
+  one_function_more [] [] hs f h r = (r, tt)
+  one_function_more (x ∷ xs) (m ∷ made) hs f h r = (h.0, one_function_more xs made hs f h.1 r)
+  one_function_more [] (m ∷ made) hs f h r = absurd h
+  one_function_more (x ∷ xs) [] hs f h r = absurd h
+
+  pub functions_are : (xs : List (List Head)) (made : List Made) → EachFunction xs made → AreFormed xs → flat_map (flat_map (head_faults (names_of fs))) xs ≡ []
+      → Pairwise (FunctionIs (names_of fs) exports) xs made
+  functions_are [] [] h f k = tt
+  functions_are (x ∷ xs) (m ∷ made) h f k = (
+    h.0 (All-head FunctionFormed x xs f) (left_empty (flat_map (head_faults (names_of fs)) x) _ k),
+    functions_are xs made h.1 (All-tail FunctionFormed x xs f) (right_empty (flat_map (head_faults (names_of fs)) x) _ k),
+  )
+  functions_are [] (m ∷ made) h f k = absurd h
+  functions_are (x ∷ xs) [] h f k = absurd h

@@ -1,0 +1,253 @@
+-- Expressions: an expression of the grammar binds nothing outside bodies, and what its parts mean is what it means.
+use Rattle.std.proofs.Common.{◌≡◌, ℕ, zero, suc, ◌<◌, ◌≤◌, Bool, true, false, List, [], ◌∷◌, ◌++◌, length, take, get_or, refl, sym, ap, ◌∙◌, subst, arith}
+use Rattle.std.specs.Prelude.{fold, slice_get, Some, None, ◌||◌, not, if◌then◌else◌, is_some, Option}
+use Rattle.std.proofs.lemmas.List.{take_all}
+use Rattle.std.proofs.lemmas.List.Elements.{All-nil, All-cons}
+use Rattle.pf_syntax.specs.WrittenExpression as p
+use Rattle.pf_syntax.specs.WrittenExpression.{WrittenExpression, WrittenExpressions, Branches, no_written_expressions, written_expression, written_expression_depth, written_expressions_depth}
+use Rattle.pf_syntax.specs.Tree as tr
+use Rattle.pf_syntax.specs.Tree.{Tree, lit, var}
+use Rattle.pf_syntax.specs.Source.{NodeTable, Head, written_expression_at}
+use Rattle.pf_syntax.specs.SourceOver.{written_expressions_at}
+use Rattle.pf_syntax.specs.Scope.{Scope, has, is_unsafe, after, after_all}
+use Rattle.pf_syntax.specs.Naming as w
+use Rattle.pf_syntax.specs.Naming.{WrittenExpressionIs, WrittenExpressionsAre, conses, arity_of}
+use Rattle.pf_syntax.specs.Module.{Checked, Tables}
+use Rattle.pf_syntax.specs.Over.{part_over, parts_over, clauses_over}
+use Rattle.pf_syntax.specs.Within.{PartStands}
+use Rattle.pf_syntax.proofs.Extends.{Extends, parts_kept}
+use Rattle.pf_syntax.specs.declared.node.Part.{Part}
+use Rattle.pf_syntax.specs.declared.node.Clause.{Clause}
+use Rattle.pf_syntax.specs.declared.written.WrittenExpressionId.{WrittenExpressionId}
+use Rattle.pf_rules.specs.Static.{names_of, own_in, fault_if, is_defined, written_expression_faults, written_expressions_faults, branches_faults}
+use Rattle.pf_rules.specs.Formed.{WrittenExpressionFormed, WrittenExpressionsFormed}
+use Rattle.pf_lower.specs.Bound.{bound_by, bound_after, IsPlain}
+use Rattle.pf_lower.specs.Grown.{Grown, PartPut}
+use Rattle.pf_lower.specs.Built.{Lowers, WrittenExpressionMeans, WrittenExpressionsMean, BranchesMean}
+use Rattle.pf_lower.proofs.Exists.{bound_by_tests}
+use Rattle.pf_lower.proofs.Growing.{grown_itself, grown_on, written_expression_put, written_expression_means_on}
+use Rattle.pf_lower.proofs.Threads.{Threaded, SoFar}
+use Rattle.pf_lower.proofs.WrittenPatterns_mean.{left_empty, right_empty, written_pattern_bound}
+
+-- ---- what is bound
+
+mutual
+  pub kept : (g : Scope) (e : WrittenExpression) → WrittenExpressionFormed false e → (after g e).bound ≡ g.bound
+  kept g (p.integer z) f = refl
+  kept g (p.atom a) f = refl
+  kept g (p.text cs) f = refl
+  kept g (p.variable x at) f = refl
+  kept g (p.anonymous at) f = refl
+  kept g (p.parentheses a) f = kept g a f
+  kept g (p.tuple es) f = all_kept g es f
+  kept g (p.list es) f = all_kept g es f
+  kept g (p.list_on es e) f = kept (after_all g es) e f.1 ∙ all_kept g es f.0
+  kept g (p.call x at es) f = all_kept g es f
+  kept g (p.binary o a b) f = kept (after g a) b f.1 ∙ kept g a f.0
+  kept g (p.negate a) f = kept g a f
+  kept g (p.and_also a b) f = kept (after g a) b f.1 ∙ kept g a f.0
+  kept g (p.or_else a b) f = kept (after g a) b f.1 ∙ kept g a f.0
+  kept g (p.send a b) f = kept (after g a) b f.1 ∙ kept g a f.0
+  kept g (p.match q a) f = let no = f.0 in cc
+  kept g (p.case a bs) f = kept g a f.0
+  kept g (p.if_expression bs) f = refl
+  kept g (p.receive bs) f = refl
+
+  pub all_kept : (g : Scope) (es : WrittenExpressions) → WrittenExpressionsFormed false es → (after_all g es).bound ≡ g.bound
+  all_kept g no_written_expressions f = refl
+  all_kept g (written_expression e es) f = all_kept (after g e) es f.1 ∙ kept g e f.0
+
+pub plain_formed : (e : WrittenExpression) → IsPlain e → WrittenExpressionFormed true e → WrittenExpressionFormed false e
+plain_formed (p.integer z) i f = f
+plain_formed (p.atom a) i f = f
+plain_formed (p.text cs) i f = f
+plain_formed (p.variable x at) i f = f
+plain_formed (p.anonymous at) i f = f
+plain_formed (p.parentheses a) i f = f
+plain_formed (p.tuple es) i f = f
+plain_formed (p.list es) i f = f
+plain_formed (p.list_on es e) i f = f
+plain_formed (p.call x at es) i f = f
+plain_formed (p.binary o a b) i f = f
+plain_formed (p.negate a) i f = f
+plain_formed (p.and_also a b) i f = f
+plain_formed (p.or_else a b) i f = f
+plain_formed (p.send a b) i f = f
+plain_formed (p.match q a) i f = absurd i
+plain_formed (p.case a bs) i f = f
+plain_formed (p.if_expression bs) i f = f
+plain_formed (p.receive bs) i f = f
+
+pub plain_bound : (e : WrittenExpression) (names : List ℕ) → IsPlain e → bound_after names e ≡ names
+plain_bound (p.integer z) names i = refl
+plain_bound (p.atom a) names i = refl
+plain_bound (p.text cs) names i = refl
+plain_bound (p.variable x at) names i = refl
+plain_bound (p.anonymous at) names i = refl
+plain_bound (p.parentheses a) names i = refl
+plain_bound (p.tuple es) names i = refl
+plain_bound (p.list es) names i = refl
+plain_bound (p.list_on es e) names i = refl
+plain_bound (p.call x at es) names i = refl
+plain_bound (p.binary o a b) names i = refl
+plain_bound (p.negate a) names i = refl
+plain_bound (p.and_also a b) names i = refl
+plain_bound (p.or_else a b) names i = refl
+plain_bound (p.send a b) names i = refl
+plain_bound (p.match q a) names i = absurd i
+plain_bound (p.case a bs) names i = refl
+plain_bound (p.if_expression bs) names i = refl
+plain_bound (p.receive bs) names i = refl
+
+pub element_bound : (fs : List (List Head)) (g : Scope) (e : WrittenExpression) → WrittenExpressionFormed true e → written_expression_faults (names_of fs) g e ≡ [] → (after g e).bound ≡ bound_after g.bound e
+element_bound fs g (p.match q a) f k =
+    written_pattern_bound (after g a) q (right_empty (written_expression_faults (names_of fs) g a) _ k)
+    ∙ ap (λ n. bound_by n q) (element_bound fs g a f.2 (left_empty (written_expression_faults (names_of fs) g a) _ k))
+element_bound fs g (p.integer z) f k = refl
+element_bound fs g (p.atom a) f k = refl
+element_bound fs g (p.text cs) f k = refl
+element_bound fs g (p.variable x at) f k = refl
+element_bound fs g (p.anonymous at) f k = refl
+element_bound fs g (p.parentheses a) f k = kept g (p.parentheses a) f
+element_bound fs g (p.tuple es) f k = kept g (p.tuple es) f
+element_bound fs g (p.list es) f k = kept g (p.list es) f
+element_bound fs g (p.list_on es e) f k = kept g (p.list_on es e) f
+element_bound fs g (p.call x at es) f k = kept g (p.call x at es) f
+element_bound fs g (p.binary o a b) f k = kept g (p.binary o a b) f
+element_bound fs g (p.negate a) f k = kept g (p.negate a) f
+element_bound fs g (p.and_also a b) f k = kept g (p.and_also a b) f
+element_bound fs g (p.or_else a b) f k = kept g (p.or_else a b) f
+element_bound fs g (p.send a b) f k = kept g (p.send a b) f
+element_bound fs g (p.case a bs) f k = kept g (p.case a bs) f
+element_bound fs g (p.if_expression bs) f k = kept g (p.if_expression bs) f
+element_bound fs g (p.receive bs) f k = kept g (p.receive bs) f
+
+-- ---- answers
+
+module _ (fs : List (List Head)) where
+  -- a part that needs nothing put
+  pub written_expression_here : (m : Checked) (names : List ℕ) (e e' : WrittenExpression) (x : Part) → e' ≡ e → PartStands m.tables x
+      → ((g : Scope) → g.bound ≡ names → WrittenExpressionFormed false e' → written_expression_faults (names_of fs) g e' ≡ [] → WrittenExpressionIs (names_of fs) g e' (part_over m.tables x))
+      → Lowers m m names names (λ t. WrittenExpressionMeans fs t names e x)
+  written_expression_here m names e e' x same stands means = subst (λ s. Lowers m m names names (λ t. WrittenExpressionMeans fs t names s x)) same
+      (record { grown = grown_itself m; bound_is = refl; answer = record { stands = stands; means = means } })
+
+  -- what was done after something else that bound nothing
+  pub after_lowers : (m0 m1 m2 : Checked) (b1 b2 names : List ℕ) (e e' : WrittenExpression) (x : Part) → Grown m0 m1 → b1 ≡ names → e' ≡ e
+      → Lowers m1 m2 b2 b1 (λ t. WrittenExpressionMeans fs t b1 e' x) → Lowers m0 m2 b2 names (λ t. WrittenExpressionMeans fs t names e x)
+  after_lowers m0 m1 m2 b1 b2 names e e' x grown same is d = subst (λ s. Lowers m0 m2 b2 names (λ t. WrittenExpressionMeans fs t names s x)) is
+      (record { grown = grown_on m0 m1 m2 grown d.grown; bound_is = d.bound_is ∙ same; answer = subst (λ n. WrittenExpressionMeans fs m2.tables n e' x) same d.answer })
+
+  pub parentheses_lowers : (m0 m1 : Checked) (b names : List ℕ) (a e : WrittenExpression) (x : Part) → p.parentheses a ≡ e → Lowers m0 m1 b names (λ t. WrittenExpressionMeans fs t names a x)
+      → Lowers m0 m1 b names (λ t. WrittenExpressionMeans fs t names e x)
+  parentheses_lowers m0 m1 b names a e x is d = subst (λ s. Lowers m0 m1 b names (λ t. WrittenExpressionMeans fs t names s x)) is
+      (record { grown = d.grown; bound_is = d.bound_is; answer = record { stands = d.answer.stands; means = λ g h f k. w.parentheses g a _ (d.answer.means g h f k) } })
+
+  -- two operands
+  pub pair_lowers : (m0 m1 m2 : Checked) (b1 b2 names : List ℕ) (a b : WrittenExpression) (x y : Part) → Lowers m0 m1 b1 names (λ t. WrittenExpressionMeans fs t names a x)
+      → Lowers m1 m2 b2 b1 (λ t. WrittenExpressionMeans fs t b1 b y) → Lowers m0 m2 b2 names (λ t. WrittenExpressionMeans fs t names a x × WrittenExpressionMeans fs t names b y)
+  pair_lowers m0 m1 m2 b1 b2 names a b x y d e = record {
+    grown = grown_on m0 m1 m2 d.grown e.grown;
+    bound_is = e.bound_is ∙ d.bound_is;
+    answer = (written_expression_means_on fs m1.tables m2.tables e.grown.tables names a x d.answer, subst (λ n. WrittenExpressionMeans fs m2.tables n b y) d.bound_is e.answer);
+  }
+
+  pub two_mean : (t : Tables) (names : List ℕ) (a b : WrittenExpression) (x y : Part) → WrittenExpressionMeans fs t names a x × WrittenExpressionMeans fs t names b y
+      → (g : Scope) → g.bound ≡ names → WrittenExpressionFormed false a × WrittenExpressionFormed false b → written_expression_faults (names_of fs) g a ++ written_expression_faults (names_of fs) (after g a) b ≡ []
+      → WrittenExpressionIs (names_of fs) g a (part_over t x) × WrittenExpressionIs (names_of fs) (after g a) b (part_over t y)
+  two_mean t names a b x y h g e f k = (
+    h.0.means g e f.0 (left_empty (written_expression_faults (names_of fs) g a) _ k),
+    h.1.means (after g a) (kept g a f.0 ∙ e) f.1 (right_empty (written_expression_faults (names_of fs) g a) _ k),
+  )
+
+  pub list_on_put : (m0 m1 m2 m3 : Checked) (b1 b2 names : List ℕ) (es : WrittenExpressions) (e e' : WrittenExpression) (xs : List Part) (x y : Part) → p.list_on es e' ≡ e
+      → Lowers m0 m1 b1 names (λ t. WrittenExpressionsMean fs t names es xs) → Lowers m1 m2 b2 b1 (λ t. WrittenExpressionMeans fs t b1 e' x)
+      → PartPut m2 m3 (conses (parts_over m2.tables xs) (part_over m2.tables x)) y → Lowers m0 m3 b2 names (λ t. WrittenExpressionMeans fs t names e y)
+  list_on_put m0 m1 m2 m3 b1 b2 names es e e' xs x y is d r put =
+      let front : parts_over m2.tables xs ≡ parts_over m1.tables xs = parts_kept m1.tables m2.tables r.grown.tables xs d.answer.stands in
+      let whole : conses (parts_over m2.tables xs) (part_over m2.tables x) ≡ conses (parts_over m1.tables xs) (part_over m2.tables x) =
+      ap (λ ys. conses ys (part_over m2.tables x)) front in
+      written_expression_put fs m0 m2 m3 b2 names e (p.list_on es e') _ y is (r.bound_is ∙ d.bound_is) (grown_on m0 m1 m2 d.grown r.grown)
+      (λ g h f k.
+      let here : written_expressions_faults (names_of fs) g es ≡ [] = left_empty (written_expressions_faults (names_of fs) g es) _ k in
+      let later : written_expression_faults (names_of fs) (after_all g es) e' ≡ [] = right_empty (written_expressions_faults (names_of fs) g es) _ k in
+      subst (WrittenExpressionIs (names_of fs) g (p.list_on es e')) (sym whole)
+      (w.list_on g es e' _ _ (d.answer.means g h f.0 here) (r.answer.means (after_all g es) (all_kept g es f.0 ∙ h ∙ sym d.bound_is) f.1 later)))
+      put
+
+  pub case_put : (m0 m1 m2 m3 : Checked) (b1 b2 names : List ℕ) (a e : WrittenExpression) (bs : Branches) (x y : Part) (cs : List Clause) → p.case a bs ≡ e
+      → Lowers m0 m1 b1 names (λ t. WrittenExpressionMeans fs t names a x) → Lowers m1 m2 b2 b1 (λ t. BranchesMean fs t b1 bs cs)
+      → PartPut m2 m3 (tr.case (part_over m2.tables x) (clauses_over m2.tables cs)) y → Lowers m0 m3 b2 names (λ t. WrittenExpressionMeans fs t names e y)
+  case_put m0 m1 m2 m3 b1 b2 names a e bs x y cs is d r put =
+      let value = written_expression_means_on fs m1.tables m2.tables r.grown.tables names a x d.answer in
+      written_expression_put fs m0 m2 m3 b2 names e (p.case a bs) _ y is (r.bound_is ∙ d.bound_is) (grown_on m0 m1 m2 d.grown r.grown)
+      (λ g h f k.
+      let here : written_expression_faults (names_of fs) g a ≡ [] = left_empty (written_expression_faults (names_of fs) g a) _ k in
+      let later : branches_faults (names_of fs) (after g a) bs ≡ [] = right_empty (written_expression_faults (names_of fs) g a) _ k in
+      w.case g a bs _ _ (value.means g h f.0 here) (r.answer.means (after g a) (kept g a f.0 ∙ h ∙ sym d.bound_is) f.1 later))
+      put
+
+-- ---- variables and calls
+
+pub variable_bound : (fs : List (List Head)) (g : Scope) (names : List ℕ) (x at : ℕ) → g.bound ≡ names → written_expression_faults (names_of fs) g (p.variable x at) ≡ [] → has names x ≡ true
+variable_bound fs g names x at e h = sym (ap (λ n. has n x) e) ∙ bound_by_tests at (is_unsafe g x) (has g.bound x) h
+
+pub variable_means : (fs : List (List Head)) (g : Scope) (names : List ℕ) (x at k : ℕ) → g.bound ≡ names → slice_get names k ≡ Some x → WrittenExpressionIs (names_of fs) g (p.variable x at) (var k)
+variable_means fs g names x at k e there = w.variable g x at k (ap (λ n. slice_get n k) e ∙ there)
+
+undefined : (fs : List (List Head)) (f at : ℕ) (n : ℕ) (o : Option ℕ) → o ≡ None → (if is_some o || false then [] else fault_if true 8 at) ≡ [] → ⊥
+undefined fs f at n None e h = cc
+undefined fs f at n (Some x) e h = cc
+
+pub call_defined : (fs : List (List Head)) (g : Scope) (f at : ℕ) (es : WrittenExpressions) → own_in fs f (arity_of es) ≡ None → written_expression_faults (names_of fs) g (p.call f at es) ≡ [] → ⊥
+call_defined fs g f at es e h = undefined fs f at (arity_of es) (own_in fs f (arity_of es)) e (left_empty _ (written_expressions_faults (names_of fs) g es) h)
+
+pub call_clean : (fs : List (List Head)) (g : Scope) (f at : ℕ) (es : WrittenExpressions) → written_expression_faults (names_of fs) g (p.call f at es) ≡ [] → written_expressions_faults (names_of fs) g es ≡ []
+call_clean fs g f at es h = right_empty (if is_defined (names_of fs) f (arity_of es) then [] else fault_if true 8 at) _ h
+
+-- ---- several
+
+module _ (fs : List (List Head)) (b : NodeTable) where
+  abbrev pub next_written_expression : List ℕ → WrittenExpressionId → List ℕ
+  next_written_expression names id = names
+
+  abbrev pub EachWrittenExpression : Tables → List ℕ → WrittenExpressionId → Part → Type 0
+  EachWrittenExpression t names id x = WrittenExpressionMeans fs t names (written_expression_at b id.0) x
+
+  pub each_written_expression_on : (t u : Tables) → Extends t u → (names : List ℕ) (id : WrittenExpressionId) (x : Part) → EachWrittenExpression t names id x → EachWrittenExpression u names id x
+  each_written_expression_on t u e names id x h = written_expression_means_on fs t u e names (written_expression_at b id.0) x h
+
+  written_expressions_mean : (t : Tables) (names : List ℕ) (ids : List WrittenExpressionId) (xs : List Part) → Threaded next_written_expression (EachWrittenExpression t) names ids xs
+      → WrittenExpressionsMean fs t names (written_expressions_at b ids) xs
+  written_expressions_mean t names [] [] h = record { stands = All-nil (PartStands t); means = λ g e f k. w.no_more g }
+  written_expressions_mean t names (id ∷ ids) (x ∷ xs) h =
+      let e0 = written_expression_at b id.0 in
+      let rest = written_expressions_mean t names ids xs h.1 in
+      record {
+        stands = All-cons (PartStands t) x xs h.0.stands rest.stands;
+        means = λ g e f k.
+            let here : written_expression_faults (names_of fs) g e0 ≡ [] = left_empty (written_expression_faults (names_of fs) g e0) _ k in
+            let later : written_expressions_faults (names_of fs) (after g e0) (written_expressions_at b ids) ≡ [] = right_empty (written_expression_faults (names_of fs) g e0) _ k in
+            w.and_more g e0 (written_expressions_at b ids) (part_over t x) _ (h.0.means g e f.0 here) (rest.means (after g e0) (kept g e0 f.0 ∙ e) f.1 later);
+      }
+  written_expressions_mean t names [] (x ∷ xs) h = absurd h
+  written_expressions_mean t names (id ∷ ids) [] h = absurd h
+
+  all_next_written_expression : (names : List ℕ) (ids : List WrittenExpressionId) → fold next_written_expression names ids ≡ names
+  all_next_written_expression names [] = refl
+  all_next_written_expression names (id ∷ ids) = all_next_written_expression names ids
+
+  pub written_expressions_done : (m0 m1 : Checked) (names now : List ℕ) (ids : List WrittenExpressionId) (k : ℕ) (xs : List Part) → length ids ≤ k
+      → SoFar next_written_expression EachWrittenExpression m0 m1 names now (take k ids) xs → Lowers m0 m1 now names (λ t. WrittenExpressionsMean fs t names (written_expressions_at b ids) xs)
+  written_expressions_done m0 m1 names now ids k xs le h =
+      let whole : SoFar next_written_expression EachWrittenExpression m0 m1 names now ids xs = subst (λ l. SoFar next_written_expression EachWrittenExpression m0 m1 names now l xs) (take_all k ids le) h in
+      record {
+        grown = whole.grown;
+        bound_is = whole.bound_is ∙ all_next_written_expression names ids;
+        answer = written_expressions_mean m1.tables names ids xs whole.answer;
+      }
+
+pub written_expression_shallow : (b : NodeTable) (ids : List WrittenExpressionId) (k : ℕ) (d : WrittenExpressionId) → k < length ids → written_expression_depth (written_expression_at b (get_or ids k d).0) ≤ written_expressions_depth (written_expressions_at b ids)
+written_expression_shallow b [] k d lt = absurd (omega arith)
+written_expression_shallow b (id ∷ ids) zero d lt = omega arith
+written_expression_shallow b (id ∷ ids) (suc k) d lt = let h = written_expression_shallow b ids k d (omega arith) in omega arith

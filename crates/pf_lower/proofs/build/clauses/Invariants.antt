@@ -1,0 +1,9 @@
+use Rattle.std.proofs.Common.{◌≡◌, take, []}
+use Rattle.pf_lower.proofs.Threads.{SoFar}
+use Rattle.pf_lower.proofs.Heads_mean.{next_head, EachHead}
+use Rattle.pf_lower.proofs.build.clauses.Given as goal
+
+abbrev pub invariant-loop-head : goal.invariant-loop-head
+invariant-loop-head l =
+    SoFar (next_head l.source.functions l.source.node_table) (EachHead l.source.functions l.source.node_table) l.initial.module l.module l.initial.places l.places
+    (take l.head-index l.heads) l.found.items × (l.places ≡ [])

@@ -1,0 +1,39 @@
+-- Clauses of functions, and functions, as they were built.
+use Rattle.std.specs.Prelude.{◌≡◌, ℕ, List, [], flat_map, map, Option, Some, None}
+use Rattle.std.specs.List.{All}
+use Rattle.pf_syntax.specs.Source.{Head, Export}
+use Rattle.pf_syntax.specs.Naming.{HeadIs}
+use Rattle.pf_syntax.specs.Module.{Checked, Tables}
+use Rattle.pf_syntax.specs.Over.{function_clause_over, function_over}
+use Rattle.pf_syntax.specs.Within.{FunctionClauseStands, FunctionStands}
+use Rattle.pf_syntax.specs.declared.node.FunctionClause.{FunctionClause}
+use Rattle.pf_syntax.specs.declared.node.Function.{Function}
+use Rattle.pf_rules.specs.Static.{names_of, head_faults}
+use Rattle.pf_rules.specs.Formed.{AreFormed, HeadFormed, FunctionFormed}
+use Rattle.pf_rules.specs.Checks.{FunctionIs, Pairwise}
+
+-- the first of two that there is
+abbrev pub first_of : Option ℕ → Option ℕ → Option ℕ
+first_of (Some x) other = Some x
+first_of None other = other
+
+-- a clause of a function
+pub record HeadMeans (fs : List (List Head)) (t : Tables) (h : Head) (c : FunctionClause) : Type 0 where
+  pub stands : FunctionClauseStands t c
+  pub means : HeadFormed h → head_faults (names_of fs) h ≡ [] → HeadIs (names_of fs) h (function_clause_over t c)
+
+-- all clauses of a function
+pub record HeadsMean (fs : List (List Head)) (t : Tables) (hs : List Head) (cs : List FunctionClause) : Type 0 where
+  pub stands : All (FunctionClauseStands t) cs
+  pub means : All HeadFormed hs → flat_map (head_faults (names_of fs)) hs ≡ [] → Pairwise (HeadIs (names_of fs)) hs (map (function_clause_over t) cs)
+
+-- a function
+pub record FunctionMeans (fs : List (List Head)) (exports : List Export) (t : Tables) (hs : List Head) (f : Function) : Type 0 where
+  pub stands : FunctionStands t f
+  pub means : FunctionFormed hs → flat_map (head_faults (names_of fs)) hs ≡ [] → FunctionIs (names_of fs) exports hs (function_over t f)
+
+-- the functions of a source were added to a module that had none
+pub record FunctionsAdded (fs : List (List Head)) (exports : List Export) (old new : Checked) : Type 0 where
+  pub name : new.name ≡ old.name
+  pub atoms : new.atoms ≡ old.atoms
+  pub means : AreFormed fs → flat_map (flat_map (head_faults (names_of fs))) fs ≡ [] → Pairwise (FunctionIs (names_of fs) exports) fs new.functions

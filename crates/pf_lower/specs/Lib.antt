@@ -1,0 +1,7 @@
+pub mod Kinds
+pub mod Bound
+pub mod Grown
+pub mod Built
+pub mod Bodies
+pub mod Knows
+pub mod Heads

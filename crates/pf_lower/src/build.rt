@@ -1,0 +1,147 @@
+//! The checked module of a module as it is written.
+
+ghost use Rattle.std.specs.Prelude.{◌≡◌, [], map, IfOk, List, OnOk};
+ghost use Rattle.pf_syntax.specs.SourceOver.{head_over, heads_over};
+ghost use Rattle.pf_syntax.specs.WrittenModule.{tree_of};
+ghost use Rattle.pf_lower.specs.Built.{Lowers};
+ghost use Rattle.pf_rules.specs.Checks.{IsModule};
+ghost use Rattle.pf_rules.specs.Formed.{AreFormed};
+ghost use Rattle.pf_lower.specs.Heads.{FunctionMeans, FunctionsAdded, HeadMeans, HeadsMean};
+ghost use Rattle.pf_lower.specs.Knows.{Knows};
+ghost use Rattle.pf_rules.specs.Listing.{Exports};
+ghost use Rattle.pf_rules.specs.Static.{faults_of};
+
+use crate::expressions::{body, guard};
+use crate::function_table::{FunctionTable, exports_of};
+use crate::patterns::patterns;
+use crate::places::Places;
+use pf_rules::Signatures;
+use pf_syntax::{Function, FunctionClause, Head, Module, Source, WrittenFunction};
+use pf_terms::{AtomId, AtomTable, NoMemory};
+use std::alloc::Global;
+
+/// A clause of a function, which begins with no variable.
+fn clause(
+    alloc: Global,
+    source: &Source,
+    functions: &FunctionTable,
+    places: &mut Places,
+    module: &mut Module,
+    head: &Head,
+) -> Result<FunctionClause, NoMemory>
+    requires knows { Knows functions.now source.now.functions }
+    requires none_bound { places.old ≡ [] }
+    ensures { IfOk result (λ c. Lowers module.old module.new places.new [] (λ t. HeadMeans source.now.functions t (head_over source.now.node_table head.now) c)) }
+{
+    let parameters = patterns(alloc, source, places, module, head.parameters.as_slice())?;
+    let guard = guard(alloc, source, functions, places, module, &head.condition)?;
+    let body = body(alloc, source, functions, places, module, head.body.as_slice())?;
+    places.truncate(0);
+    Ok(FunctionClause {
+        parameters,
+        guard,
+        body,
+    })
+}
+
+/// The clauses of a function.
+fn clauses(
+    alloc: Global,
+    source: &Source,
+    functions: &FunctionTable,
+    places: &mut Places,
+    module: &mut Module,
+    heads: &[Head],
+) -> Result<Vec<FunctionClause>, NoMemory>
+    requires knows { Knows functions.now source.now.functions }
+    requires none_bound { places.old ≡ [] }
+    ensures { IfOk result (λ cs. Lowers module.old module.new places.new []
+        (λ t. HeadsMean source.now.functions t (map (head_over source.now.node_table) heads.now) cs.items)) }
+{
+    let mut found = Vec::with_capacity(alloc, heads.len())?;
+    for head in heads {
+        let one = clause(alloc, source, functions, places, module, head)?;
+        found.push(one)?;
+    }
+    Ok(found)
+}
+
+/// A function, named by its first clause. One with no clause, which the grammar has not, has no arguments.
+fn function(
+    alloc: Global,
+    source: &Source,
+    functions: &FunctionTable,
+    exported: &Signatures,
+    places: &mut Places,
+    module: &mut Module,
+    written: &WrittenFunction,
+) -> Result<Function, NoMemory>
+    requires knows { Knows functions.now source.now.functions }
+    requires exports { Exports exported.now source.now.exports }
+    requires none_bound { places.old ≡ [] }
+    ensures { IfOk result (λ f. Lowers module.old module.new places.new []
+        (λ t. FunctionMeans source.now.functions source.now.exports t (heads_over source.now.node_table written.now) f)) }
+{
+    let clauses = clauses(alloc, source, functions, places, module, written.heads.as_slice())?;
+    match written.heads.first() {
+        None => Ok(Function {
+            name: AtomId::UNDEFINED,
+            arity: 0,
+            exported: false,
+            clauses,
+        }),
+        Some(head) => {
+            let count = head.parameters.len();
+            let Ok(arity) = u32::try_from(count) else {
+                return Err(NoMemory);
+            };
+            Ok(Function {
+                name: head.word.name,
+                arity,
+                exported: exported.has(head.word.name, count as u64),
+                clauses,
+            })
+        }
+    }
+}
+
+/// Adds the functions of a source to its module, which has none yet.
+fn add_functions(
+    alloc: Global,
+    source: &Source,
+    functions: &FunctionTable,
+    exported: &Signatures,
+    module: &mut Module,
+) -> Result<(), NoMemory>
+    requires knows { Knows functions.now source.now.functions }
+    requires exports { Exports exported.now source.now.exports }
+    requires empty { module.old.functions ≡ [] }
+    ensures { OnOk result (FunctionsAdded source.now.functions source.now.exports module.old module.new) }
+{
+    let mut places = Places::new(alloc);
+    for written in source.functions() {
+        let one = function(
+            alloc,
+            source,
+            functions,
+            exported,
+            &mut places,
+            module,
+            written,
+        )?;
+        module.add_function(one)?;
+    }
+    Ok(())
+}
+
+/// The checked module of a source that has no static fault and is formed as the grammar says; of another it is some module.
+pub fn module_of(alloc: Global, source: &Source, atoms: AtomTable) -> Result<Module, NoMemory>
+    ensures { IfOk result (λ m. faults_of atoms (tree_of source.now) ≡ [] → AreFormed source.now.functions → IsModule atoms (tree_of source.now) m) }
+{
+    let mut module = Module::new(alloc, source.name(), atoms);
+    let functions = FunctionTable::new(alloc, source)?;
+    let exported = exports_of(alloc, source)?;
+    add_functions(alloc, source, &functions, &exported, &mut module)?;
+    module.shrink_to_fit();
+    Ok(module)
+}

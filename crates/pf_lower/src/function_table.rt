@@ -1,0 +1,84 @@
+//! The functions of a module by name and number of arguments, and those that it exports.
+
+ghost use Rattle.std.specs.Prelude.{◌≡◌, ℕ, if◌then◌else◌, IfOk, MatchOption, None, OnOk, Some};
+ghost use Rattle.indexmap.specs.IndexMap.{get};
+ghost use Rattle.pf_rules.specs.Static.{is_named, own_in};
+ghost use Rattle.pf_syntax.specs.Source.{NodeTable};
+ghost use Rattle.pf_syntax.specs.SourceOver.{heads_over};
+ghost use Rattle.pf_lower.specs.Knows.{same_key, Knows};
+ghost use Rattle.pf_lower.specs.Heads.{first_of};
+ghost use Rattle.pf_rules.specs.Listing.{Exports};
+
+use pf_rules::Signatures;
+use indexmap::IndexMap;
+use pf_syntax::{FunctionId, Source, WrittenFunction};
+use pf_terms::{AtomId, NoMemory};
+use std::alloc::Global;
+
+/// The number of the first function of each name and number of arguments.
+#[derive(Drop)]
+pub(crate) struct FunctionTable {
+    numbers: IndexMap<(u32, usize), u32>,
+}
+
+impl FunctionTable {
+    /// The functions of a source.
+    pub(crate) fn new(alloc: Global, source: &Source) -> Result<FunctionTable, NoMemory>
+        ensures { IfOk result (λ table. Knows table source.now.functions) }
+    {
+        let mut table = FunctionTable {
+            numbers: IndexMap::new(alloc),
+        };
+        for (number, function) in source.functions().iter().enumerate() {
+            table.enter_function(function, number)?;
+        }
+        Ok(table)
+    }
+
+    /// Notes the number of a function under the name of its first clause.
+    fn enter_function(&mut self, function: &WrittenFunction, number: usize) -> Result<(), NoMemory>
+        ensures { OnOk result ((b : NodeTable) (f a : ℕ) → get same_key self.new.numbers (f, a)
+            ≡ first_of (get same_key self.old.numbers (f, a)) (if is_named f a (heads_over b function.now) then Some number else None)) }
+    {
+        match function.heads.first() {
+            None => Ok(()),
+            Some(head) => self.enter(head.word.name, head.parameters.len(), number),
+        }
+    }
+
+    /// Notes the number of a function, where there is none of this name and number of arguments yet.
+    fn enter(&mut self, name: AtomId, arity: usize, number: usize) -> Result<(), NoMemory>
+        ensures { OnOk result ((f a : ℕ) → get same_key self.new.numbers (f, a)
+            ≡ first_of (get same_key self.old.numbers (f, a)) (if same_key (name.0, arity) (f, a) then Some number else None)) }
+    {
+        let key = (name.0, arity);
+        if self.numbers.contains_key(&key) {
+            return Ok(());
+        }
+        let Ok(short) = u32::try_from(number) else {
+            return Err(NoMemory);
+        };
+        self.numbers.insert(key, short)?;
+        Ok(())
+    }
+
+    /// The first function of this name that takes so many arguments.
+    pub(crate) fn find(&self, source: &Source, name: AtomId, arity: usize) -> Option<FunctionId>
+        requires { Knows self.now source.now.functions }
+        ensures { MatchOption result (own_in source.now.functions name.0 arity ≡ None) (λ f. own_in source.now.functions name.0 arity ≡ Some f.0) }
+    {
+        let number = self.numbers.get(&(name.0, arity))?;
+        Some(FunctionId(*number))
+    }
+}
+
+/// The functions that a source exports.
+pub(crate) fn exports_of(alloc: Global, source: &Source) -> Result<Signatures, NoMemory>
+    ensures { IfOk result (λ exported. Exports exported source.now.exports) }
+{
+    let mut exported = Signatures::new(alloc);
+    for export in source.exports() {
+        exported.add(export.word.name, export.arity)?;
+    }
+    Ok(exported)
+}

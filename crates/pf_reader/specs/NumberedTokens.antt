@@ -1,0 +1,69 @@
+-- Tokens whose names are numbers: those of atoms in one table, those of variables in another.
+use Rattle.std.specs.Prelude.{ℕ, List, [], ◌∷◌, map, not, flat_map}
+use Rattle.std.specs.List.{prefix_len}
+use Rattle.std.specs.Str.{bytes_eq}
+use Rattle.pf_terms.specs.Atoms.{fixed_names, with_names}
+use Rattle.pf_tokens.specs.declared.marks.Mark.{Mark}
+use Rattle.pf_tokens.specs.declared.words.Reserved.{Reserved}
+use Rattle.pf_tokens.specs.TokenKinds.{Placed}
+use Rattle.pf_tokens.specs.TokenKinds as written
+
+-- what a token is; a string has no rule yet, so its characters aren't told
+pub data NumberedKind : Type 0 where
+  integer : ℕ → NumberedKind
+  atom : ℕ → NumberedKind
+  variable : ℕ → NumberedKind
+  anonymous : NumberedKind
+  text : NumberedKind
+  own_module : NumberedKind
+  dot : NumberedKind
+  mark : Mark → NumberedKind
+  reserved : Reserved → NumberedKind
+
+-- a token, and the offset of its first byte
+pub record NumberedToken : Type 0 where
+  pub kind : NumberedKind
+  pub at : ℕ
+
+-- ---- names
+
+-- the name of an atom or of a variable, where the token is one
+abbrev pub atom_name : written.TokenKind → List (List ℕ)
+atom_name (written.atom name) = name ∷ []
+atom_name _ = []
+
+abbrev pub variable_name : written.TokenKind → List (List ℕ)
+variable_name (written.variable name) = name ∷ []
+variable_name _ = []
+
+-- the atoms of a source: the fixed ones, and then its own in order of appearance
+abbrev pub atoms_of : List Placed → List (List ℕ)
+atoms_of ts = with_names fixed_names (flat_map (λ t. atom_name t.kind) ts)
+
+-- the names of its variables, which are numbered in the same way in a table of their own
+abbrev pub variables_of : List Placed → List (List ℕ)
+variables_of ts = with_names fixed_names (flat_map (λ t. variable_name t.kind) ts)
+
+-- the number of a name
+abbrev pub number_in : List (List ℕ) → List ℕ → ℕ
+number_in names name = prefix_len (λ other. not (bytes_eq name other)) names
+
+-- ---- tokens by number
+
+abbrev pub kind_in : List (List ℕ) → List (List ℕ) → written.TokenKind → NumberedKind
+kind_in atoms variables (written.integer n) = integer n
+kind_in atoms variables (written.atom name) = atom (number_in atoms name)
+kind_in atoms variables (written.variable name) = variable (number_in variables name)
+kind_in atoms variables written.anonymous = anonymous
+kind_in atoms variables (written.text cs) = text
+kind_in atoms variables written.own_module = own_module
+kind_in atoms variables written.dot = dot
+kind_in atoms variables (written.mark m) = mark m
+kind_in atoms variables (written.reserved r) = reserved r
+
+abbrev pub numbered_token_in : List (List ℕ) → List (List ℕ) → Placed → NumberedToken
+numbered_token_in atoms variables t = record { kind = kind_in atoms variables t.kind; at = t.start }
+
+-- the tokens of a source, with numbers for names
+abbrev pub numbered : List Placed → List NumberedToken
+numbered ts = map (numbered_token_in (atoms_of ts) (variables_of ts)) ts

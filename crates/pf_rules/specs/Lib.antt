@@ -1,0 +1,4 @@
+pub mod Static
+pub mod Checks
+pub mod Listing
+pub mod Formed

@@ -1,0 +1,151 @@
+-- The static rules: all faults of a module, each a number and an offset. E6 is an unbound variable, E7 an unsafe one, E8 a call of
+-- an undefined function, E9 a function defined twice or named as a built-in one with its number of arguments, E10 an export of nothing.
+use Rattle.std.specs.Prelude.{◌≡◌, ◌⊎◌, ℕ, suc, ◌<◌, ◌≤◌, Bool, true, false, ◌==◌, ◌&&◌, ◌||◌, is_some, if◌then◌else◌, List, [], ◌∷◌, ◌++◌, flat_map, position, Contains, Option, None, codes}
+use Rattle.std.specs.List.{list_any}
+use Rattle.std.specs.Str.{bytes_eq}
+use Rattle.pf_terms.specs.Atoms.{name_of}
+use Rattle.pf_syntax.specs.WrittenPattern as s
+use Rattle.pf_syntax.specs.WrittenPattern.{WrittenPattern, WrittenPatterns, no_written_patterns, written_pattern}
+use Rattle.pf_syntax.specs.WrittenExpression as p
+use Rattle.pf_syntax.specs.WrittenExpression.{WrittenExpression, WrittenExpressions, Condition, Branches, no_written_expressions, written_expression, no_tests, tests, no_branches, branch}
+use Rattle.pf_syntax.specs.Source.{Export, Head}
+use Rattle.pf_syntax.specs.Scope.{Scope, no_scope, is_unsafe, is_new, after_written_pattern, after_written_patterns, after, after_all}
+use Rattle.pf_syntax.specs.Naming.{Names, arity_of}
+use Rattle.pf_syntax.specs.WrittenModule.{Tree}
+
+pub record Fault : Type 0 where
+  pub number : ℕ
+  pub offset : ℕ
+
+-- the fault, where the test says so
+abbrev pub fault_if : Bool → ℕ → ℕ → List Fault
+fault_if b number offset = if b then record { number = number; offset = offset } ∷ [] else []
+
+-- ---- names of functions
+
+-- how many arguments a head takes
+abbrev pub parameters_of : WrittenPatterns → ℕ
+parameters_of no_written_patterns = 0
+parameters_of (written_pattern q qs) = suc (parameters_of qs)
+
+-- a function is named by its first head, with the number of its arguments
+abbrev pub is_named : ℕ → ℕ → List Head → Bool
+is_named f arity [] = false
+is_named f arity (h ∷ hs) = (h.name == f) && (parameters_of h.parameters == arity)
+
+-- the first function of this name with so many arguments
+abbrev pub own_in : List (List Head) → ℕ → ℕ → Option ℕ
+own_in fs f arity = position (is_named f arity) fs
+
+-- the names of a module: atoms keep their numbers, and no built-in function can be called yet
+abbrev pub names_of : List (List Head) → Names
+names_of fs = record { atom_of = λ a. a; own_of = own_in fs; builtin_of = λ f arity. None }
+
+-- the built-in functions of the language, each with its number of arguments
+abbrev pub builtins : List (List ℕ × ℕ)
+builtins =
+    (codes "self", 0) ∷ (codes "hd", 1) ∷ (codes "tl", 1) ∷ (codes "length", 1) ∷ (codes "element", 2) ∷ (codes "tuple_size", 1)
+    ∷ (codes "is_integer", 1) ∷ (codes "is_atom", 1) ∷ (codes "is_tuple", 1) ∷ (codes "is_list", 1) ∷ (codes "is_pid", 1) ∷ (codes "is_reference", 1)
+    ∷ (codes "exit", 1) ∷ (codes "spawn", 3) ∷ (codes "spawn_link", 3) ∷ (codes "link", 1) ∷ (codes "unlink", 1) ∷ (codes "monitor", 2)
+    ∷ (codes "demonitor", 1) ∷ (codes "exit", 2) ∷ (codes "process_flag", 2) ∷ (codes "register", 2) ∷ (codes "unregister", 1)
+    ∷ (codes "whereis", 1) ∷ (codes "make_ref", 0) ∷ []
+
+abbrev pub is_builtin : List (List ℕ) → ℕ → ℕ → Bool
+is_builtin atoms f arity = list_any (λ b. bytes_eq b.0 (name_of atoms f) && (b.1 == arity)) builtins
+
+-- ---- patterns: an unsafe variable
+
+abbrev mutual
+  pub written_pattern_faults : Scope → WrittenPattern → List Fault
+  written_pattern_faults g (s.variable x at) = fault_if (is_unsafe g x) 7 at
+  written_pattern_faults g (s.tuple qs) = written_patterns_faults g qs
+  written_pattern_faults g (s.list qs) = written_patterns_faults g qs
+  written_pattern_faults g (s.list_on qs q) = written_patterns_faults g qs ++ written_pattern_faults (after_written_patterns g qs) q
+  written_pattern_faults g (s.integer z) = []
+  written_pattern_faults g (s.atom a) = []
+  written_pattern_faults g (s.text cs) = []
+  written_pattern_faults g s.anything = []
+
+  pub written_patterns_faults : Scope → WrittenPatterns → List Fault
+  written_patterns_faults g no_written_patterns = []
+  written_patterns_faults g (written_pattern q qs) = written_pattern_faults g q ++ written_patterns_faults (after_written_pattern g q) qs
+
+-- ---- expressions
+
+-- whether a name with so many arguments can be called
+abbrev pub is_defined : Names → ℕ → ℕ → Bool
+is_defined n f arity = is_some (n.own_of f arity) || is_some (n.builtin_of f arity)
+
+abbrev mutual
+  pub written_expression_faults : Names → Scope → WrittenExpression → List Fault
+  written_expression_faults n g (p.integer z) = []
+  written_expression_faults n g (p.atom a) = []
+  written_expression_faults n g (p.text cs) = []
+  written_expression_faults n g (p.variable x at) = fault_if (is_unsafe g x) 7 at ++ fault_if (is_new g x) 6 at
+  written_expression_faults n g (p.anonymous at) = fault_if true 6 at
+  written_expression_faults n g (p.parentheses a) = written_expression_faults n g a
+  written_expression_faults n g (p.tuple es) = written_expressions_faults n g es
+  written_expression_faults n g (p.list es) = written_expressions_faults n g es
+  written_expression_faults n g (p.list_on es e) = written_expressions_faults n g es ++ written_expression_faults n (after_all g es) e
+  written_expression_faults n g (p.call f at es) = (if is_defined n f (arity_of es) then [] else fault_if true 8 at) ++ written_expressions_faults n g es
+  written_expression_faults n g (p.binary o a b) = written_expression_faults n g a ++ written_expression_faults n (after g a) b
+  written_expression_faults n g (p.negate a) = written_expression_faults n g a
+  written_expression_faults n g (p.and_also a b) = written_expression_faults n g a ++ written_expression_faults n (after g a) b
+  written_expression_faults n g (p.or_else a b) = written_expression_faults n g a ++ written_expression_faults n (after g a) b
+  written_expression_faults n g (p.send a b) = written_expression_faults n g a ++ written_expression_faults n (after g a) b
+  written_expression_faults n g (p.match q a) = written_expression_faults n g a ++ written_pattern_faults (after g a) q
+  written_expression_faults n g (p.case a bs) = written_expression_faults n g a ++ branches_faults n (after g a) bs
+  written_expression_faults n g (p.if_expression bs) = branches_faults n g bs
+  written_expression_faults n g (p.receive bs) = branches_faults n g bs
+
+  pub written_expressions_faults : Names → Scope → WrittenExpressions → List Fault
+  written_expressions_faults n g no_written_expressions = []
+  written_expressions_faults n g (written_expression e es) = written_expression_faults n g e ++ written_expressions_faults n (after g e) es
+
+  pub condition_faults : Names → Scope → Condition → List Fault
+  condition_faults n g no_tests = []
+  condition_faults n g (tests es c) = written_expressions_faults n g es ++ condition_faults n g c
+
+  -- each clause begins with what is seen at its construct
+  pub branches_faults : Names → Scope → Branches → List Fault
+  branches_faults n g no_branches = []
+  branches_faults n g (branch q c es bs) =
+      written_pattern_faults g q ++ condition_faults n (after_written_pattern g q) c ++ written_expressions_faults n (after_written_pattern g q) es ++ branches_faults n g bs
+
+-- ---- modules
+
+-- a clause of a function begins with no variable
+abbrev pub head_faults : Names → Head → List Fault
+head_faults n h =
+    written_patterns_faults no_scope h.parameters
+    ++ condition_faults n (after_written_patterns no_scope h.parameters) h.condition
+    ++ written_expressions_faults n (after_written_patterns no_scope h.parameters) h.body
+
+-- a function whose name and number of arguments an earlier one or a built-in has
+abbrev pub defined_faults : List (List ℕ) → List (List Head) → List (List Head) → List Fault
+defined_faults atoms earlier [] = []
+defined_faults atoms earlier ([] ∷ fs) = defined_faults atoms (earlier ++ [] ∷ []) fs
+defined_faults atoms earlier ((h ∷ hs) ∷ fs) =
+    fault_if (is_some (own_in earlier h.name (parameters_of h.parameters)) || is_builtin atoms h.name (parameters_of h.parameters)) 9 h.offset
+    ++ defined_faults atoms (earlier ++ (h ∷ hs) ∷ []) fs
+
+-- an export of no function
+abbrev pub export_fault : List (List Head) → Export → List Fault
+export_fault fs e = if is_some (own_in fs e.name e.arity) then [] else fault_if true 10 e.offset
+
+-- all faults of a module with these atoms
+abbrev pub faults_of : List (List ℕ) → Tree → List Fault
+faults_of atoms m =
+    flat_map (export_fault m.functions) m.exports
+    ++ defined_faults atoms [] m.functions
+    ++ flat_map (flat_map (head_faults (names_of m.functions))) m.functions
+
+-- ---- the first fault
+
+-- at a lower offset, or at the same with no higher number
+abbrev pub NotAfter : Fault → Fault → Type 0
+NotAfter a b = (a.offset < b.offset) ⊎ ((a.offset ≡ b.offset) × (a.number ≤ b.number))
+
+-- the fault of the least offset, and of several there that of the least number
+abbrev pub IsFirst : List Fault → Fault → Type 0
+IsFirst faults f = Contains faults f × ((other : Fault) → Contains faults other → NotAfter f other)
