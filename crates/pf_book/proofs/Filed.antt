@@ -70,7 +70,7 @@ waiting_trial (Some x) j h = ap Some (waiting_state x x.state j refl h)
 
 -- ---- claim and file
 
-abbrev after_once : Profile → Desk → ℕ → Desk
+abbrev pub after_once : Profile → Desk → ℕ → Desk
 after_once p d t = after_file p (after_claim d t) t
 
 -- a trial that is queued is claimed, and one that was claimed is filed
@@ -115,6 +115,15 @@ no_job (Some x) h = by x.state h
 -- a trial that has none isn't
 pub none_waiting : (ts : List Trial) (t : ℕ) → job_at ts t ≡ None → is_queued (numbered ts t) ≡ false
 none_waiting ts t h = no_job (numbered ts t) h
+
+queued_at : (d : Desk) (i : ℕ) (o : Option Trial) → slice_get d.trials i ≡ o → is_queued o ≡ true → is_running (slice_get (after_claim d (suc i)).trials i) ≡ true
+queued_at d i None e h = absurd (cc)
+queued_at d i (Some x) e h = ap is_running (found_set d.trials i x (λ _. running) e)
+
+-- a trial that is queued can be run whole
+pub queued_can : (p : Profile) (d : Desk) (t : ℕ) → is_queued (numbered d.trials t) ≡ true → worker_step p d (once t) ≡ Some (after_once p d t)
+queued_can p d zero h = absurd (cc)
+queued_can p d (suc i) h = once_can p d (suc i) h (queued_at d i (slice_get d.trials i) refl h)
 
 -- a queued trial of a ticket was run, and its report filed: the desk is this one
 module _ (d : Desk) (j : Job) (r : Report) (d' : Desk) (modules : d'.modules ≡ d.modules) where
