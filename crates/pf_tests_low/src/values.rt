@@ -1,10 +1,10 @@
 //! Values: each public call once, the limits at their numbers, and drops on small stacks.
 
+use pf_fault::OrNoMemory;
 use pf_terms::{
-    AtomId, AtomTable, List, NoMemory, Term, TermFault, copy, depth, equal, list_of, nodes, order,
-    tuple_of,
+    AtomId, AtomTable, List, Term, TooLarge, copy, depth, equal, list_of, nodes, order, tuple_of,
 };
-use std::alloc::{AllocError, Global};
+use std::alloc::Global;
 use std::cmp::Ordering;
 use std::test::Fail;
 use std::thread::Builder;
@@ -12,8 +12,8 @@ use std::thread::Builder;
 fn needs_send<T: Send>(_: &T) {}
 
 /// Whether a value was refused as too large, and for nothing else.
-fn is_too_large<T: Drop>(made: Result<T, TermFault>) -> bool {
-    matches!(made, Err(TermFault::TooLarge))
+fn is_too_large<T: Drop>(made: Result<T, OrNoMemory<TooLarge>>) -> bool {
+    matches!(made, Err(OrNoMemory::Fault(TooLarge)))
 }
 
 /// So many zeros.
@@ -180,13 +180,10 @@ fn long_and_deep_values_drop_on_a_small_stack(rt: HostRuntime) -> Result<(), Fai
 }
 
 #[test]
-fn faults_print_their_codes(rt: HostRuntime) -> Result<(), AllocError> {
-    let text = format!(in rt.alloc();
-        "{} {} {}",
-        TermFault::TooLarge,
-        TermFault::NoMemory,
-        NoMemory
-    )?;
-    assert_eq!(rt; text.as_str(), "T1 NoMemory NoMemory");
+fn faults_print_their_codes(rt: HostRuntime) -> Result<(), Fail> {
+    let large: OrNoMemory<TooLarge> = OrNoMemory::Fault(TooLarge);
+    let memory: OrNoMemory<TooLarge> = OrNoMemory::NoMemory;
+    let text = format!(in rt.alloc(); "{large} {memory}")?;
+    assert_eq!(rt; text.as_str(), "T1 NoMemory");
     Ok(())
 }
