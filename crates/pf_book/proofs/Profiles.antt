@@ -1,7 +1,7 @@
 -- What right profiles say of a source that was read, and what the run of a job means.
 use Rattle.std.proofs.Common.{◌≡◌, ℕ, ◌+◌, List, [], ◌∷◌, ◌++◌, length, Result, Ok, Err, sym, ap, ◌∙◌, subst}
 use Rattle.std.specs.Prelude.{IfOk}
-use Rattle.pf_terms.specs.declared.memory.NoMemory.{NoMemory}
+use Rattle.pf_fault.specs.declared.memory.NoMemory.{NoMemory}
 use Rattle.pf_syntax.specs.Tree.{Program}
 use Rattle.pf_check.specs.Reads.{accepted, refused, Reads}
 use Rattle.pf_model.specs.Meaning.{Means}

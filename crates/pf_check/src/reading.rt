@@ -12,10 +12,9 @@ ghost use Rattle.pf_rules.specs.Checks.{IsModule};
 ghost use Rattle.pf_rules.specs.Formed.{AreFormed};
 ghost use Rattle.pf_check.specs.Reads.{IsFirstOf, IsRefusalOf, Reads, accepted_as, number_of, token_number};
 
-use pf_lower::module_of;
 use crate::fault::{Code, ReadFault, Refusal};
-use pf_faults::first_fault;
-use pf_faults::CheckFault;
+use pf_faults::{CheckFault, first_fault};
+use pf_lower::module_of;
 use pf_reader::{Place, ReadModule, TreeFault, read_tree};
 use pf_syntax::{Module, Source};
 use pf_terms::AtomTable;

@@ -6,16 +6,16 @@ use Rattle.std.proofs.lemmas.List.{append-nil, at_drop_more}
 use Rattle.std.proofs.Math.Seq.{drop-append_seam}
 use Rattle.pf_syntax.specs.WrittenPattern.{WrittenPattern, WrittenPatterns, no_written_patterns, written_pattern, variable}
 use Rattle.pf_syntax.specs.WrittenExpression.{WrittenExpression, WrittenExpressions, Condition, Branches, no_written_expressions, written_expression, no_tests, tests, no_branches, branch, call}
-use Rattle.pf_syntax.specs.Scope.{Scope, has, is_new, after_written_pattern, after_written_patterns, after, after_all, ends_of}
+use Rattle.pf_syntax.specs.Scope.{Scope, no_scope, has, is_new, after_written_pattern, after_written_patterns, after, after_all, ends_of}
 use Rattle.pf_syntax.specs.Scope.{names_of as seen_names}
 use Rattle.pf_syntax.specs.Naming.{Names, arity_of}
 use Rattle.pf_syntax.specs.Source.{NodeTable, Head}
 use Rattle.pf_syntax.specs.SourceOver.{written_expressions_at}
 use Rattle.pf_syntax.specs.declared.written.WrittenExpressionId.{WrittenExpressionId}
-use Rattle.pf_rules.specs.Static.{Fault, fault_if, names_of, own_in, is_defined, written_pattern_faults, written_patterns_faults, written_expression_faults, written_expressions_faults, condition_faults, branches_faults}
+use Rattle.pf_rules.specs.Static.{Fault, fault_if, head_faults, names_of, own_in, is_defined, written_pattern_faults, written_patterns_faults, written_expression_faults, written_expressions_faults, condition_faults, branches_faults}
 use Rattle.pf_faults.specs.Earliest.{earlier, earliest, kept}
 use Rattle.pf_faults.specs.Marks.{Stands, Trails, Binds, status_of, trail_of, is_marked}
-use Rattle.pf_faults.specs.Walking.{Walks, Clauses, SafeWalked, CallWalked, WrittenPatternWalked, WrittenPatternsWalked, WrittenExpressionWalked, WrittenExpressionsWalked, TestsWalked, ConditionWalked, BranchesWalked, BranchWalked}
+use Rattle.pf_faults.specs.Walking.{Walks, BeginsAnew, Clauses, SafeWalked, CallWalked, WrittenPatternWalked, WrittenPatternsWalked, WrittenExpressionWalked, WrittenExpressionsWalked, TestsWalked, ConditionWalked, BranchesWalked, BranchWalked}
 use Rattle.pf_faults.specs.declared.variable_states.Status.{Status}
 use Rattle.pf_faults.specs.declared.variable_states.Status.TheVariants.{New, Unsafe}
 use Rattle.pf_faults.specs.declared.walk.Walk.{Walk}
@@ -147,6 +147,18 @@ walks_back a b c f s w k set trail =
       stands = λ g st. same_stands a.variables c.variables g same st;
       found = λ g st. k ∙ w.found g st;
     }
+
+-- a clause of a function is walked, and behind it no variable is known again
+pub begins_anew : (n : Names) (a b d e c : Walk) (h : Head) → WrittenPatternsWalked a b h.parameters → ConditionWalked n b d h.condition → WrittenExpressionsWalked n d e h.body → kept c.first ≡ kept e.first
+    → ((x : ℕ) → status_of c.variables x ≡ (if has (drop (length (trail_of a.variables)) (trail_of e.variables)) x then New else status_of e.variables x))
+    → trail_of c.variables ≡ take (length (trail_of a.variables)) (trail_of e.variables) → BeginsAnew a c (head_faults n h)
+begins_anew n a b d e c h p g w k set trail =
+    let f : Scope → Scope = λ s. after_written_patterns s h.parameters in
+    let all : Scope → List Fault = λ s. written_patterns_faults s h.parameters ++ condition_faults n (f s) h.condition in
+    let front : Walks a d f all = walks_then a b d f (λ s. s) (λ s. written_patterns_faults s h.parameters) (λ s. condition_faults n s h.condition) p g in
+    let whole = walks_then a d e f (λ s. after_all s h.body) all (λ s. written_expressions_faults n s h.body) front w in
+    let closed = walks_back a e c (λ s. after_all (f s) h.body) (λ s. all s ++ written_expressions_faults n (f s) h.body) whole k set trail in
+    record { stands = closed.stands no_scope; found = closed.found no_scope }
 
 -- ---- clauses
 

@@ -35,7 +35,14 @@ fn clause(
 {
     let parameters = patterns(alloc, source, places, module, head.parameters.as_slice())?;
     let guard = guard(alloc, source, functions, places, module, &head.condition)?;
-    let body = body(alloc, source, functions, places, module, head.body.as_slice())?;
+    let body = body(
+        alloc,
+        source,
+        functions,
+        places,
+        module,
+        head.body.as_slice(),
+    )?;
     places.truncate(0);
     Ok(FunctionClause {
         parameters,
@@ -82,7 +89,14 @@ fn function(
     ensures { IfOk result (λ f. Lowers module.old module.new places.new []
         (λ t. FunctionMeans source.now.functions source.now.exports t (heads_over source.now.node_table written.now) f)) }
 {
-    let clauses = clauses(alloc, source, functions, places, module, written.heads.as_slice())?;
+    let clauses = clauses(
+        alloc,
+        source,
+        functions,
+        places,
+        module,
+        written.heads.as_slice(),
+    )?;
     match written.heads.first() {
         None => Ok(Function {
             name: AtomId::UNDEFINED,

@@ -177,7 +177,15 @@ fn sequence(
         }
         WrittenExpressionNode::Call(word, ids) => {
             let parts = expressions(alloc, source, functions, places, module, ids.as_slice())?;
-            call(source, functions, places, module, *word, ids.as_slice(), parts)
+            call(
+                source,
+                functions,
+                places,
+                module,
+                *word,
+                ids.as_slice(),
+                parts,
+            )
         }
         _ => Ok(Part::Nil),
     }
@@ -410,7 +418,14 @@ pub(crate) fn guard(
     }
     let mut alternatives = Vec::with_capacity(alloc, condition.alternatives.len())?;
     for one in &condition.alternatives {
-        let tests = expressions(alloc, source, functions, places, module, one.tests.as_slice())?;
+        let tests = expressions(
+            alloc,
+            source,
+            functions,
+            places,
+            module,
+            one.tests.as_slice(),
+        )?;
         alternatives.push(Alternative { tests })?;
     }
     Ok(Guard { alternatives })
@@ -433,7 +448,14 @@ fn branch(
     let bound = places.len();
     let asked = pattern(alloc, source, places, module, arm.written_pattern)?;
     let guard = guard(alloc, source, functions, places, module, &arm.condition)?;
-    let body = body(alloc, source, functions, places, module, arm.body.as_slice())?;
+    let body = body(
+        alloc,
+        source,
+        functions,
+        places,
+        module,
+        arm.body.as_slice(),
+    )?;
     places.truncate(bound);
     Ok(Clause {
         pattern: asked,

@@ -9,8 +9,8 @@ ghost use Rattle.pf_lower.specs.Knows.{same_key, Knows};
 ghost use Rattle.pf_lower.specs.Heads.{first_of};
 ghost use Rattle.pf_rules.specs.Listing.{Exports};
 
-use pf_rules::Signatures;
 use indexmap::IndexMap;
+use pf_rules::Signatures;
 use pf_syntax::{FunctionId, Source, WrittenFunction};
 use pf_terms::{AtomId, NoMemory};
 use std::alloc::Global;

@@ -7,8 +7,8 @@ use Rattle.pf_quota.specs.declared.usage.Usage.{Usage}
 use Rattle.pf_quota.specs.declared.charges.Held.{Held}
 use Rattle.pf_quota.specs.declared.charges.Held.TheVariants as held
 use Rattle.pf_model.specs.Meaning.{Report}
-use Rattle.pf_model.specs.Limits.{is_in_range}
 use Rattle.pf_syntax.specs.Root.{root_of}
+use Rattle.pf_model.specs.Limits.{is_in_range}
 
 -- ---- what a desk holds
 

@@ -1,4 +1,5 @@
-//! Terms that the system itself builds around a value. Where one would be too large, `system_limit` stands for the value.
+//! Terms that the system itself builds around a value. Where one would be too large, `system_limit` stands for
+//! the value.
 
 ghost use Rattle.std.specs.Prelude.{◌≡◌, if◌then◌else◌, Err, IfOk, OnOk};
 ghost use Rattle.pf_terms.specs.Value.{atom, IsWithinLimits};
@@ -13,7 +14,8 @@ use std::alloc::Global;
 fn pair(alloc: Global, first: Term, second: Term) -> Result<Term, OrNoMemory<TooLarge>>
     ensures made { IfOk result (λ t. value_of t ≡ spec.pair (value_of first) (value_of second)) }
     ensures within { OnOk result (IsWithinLimits (spec.pair (value_of first) (value_of second))) }
-    ensures too_large { result ≡ Err past_limits → ¬ IsWithinLimits (spec.pair (value_of first) (value_of second)) }
+    ensures too_large { result ≡ Err past_limits
+        → ¬ IsWithinLimits (spec.pair (value_of first) (value_of second)) }
 {
     let items = vec![in alloc; first, second]?;
     tuple_of(alloc, items)

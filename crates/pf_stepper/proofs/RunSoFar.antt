@@ -5,7 +5,7 @@ use Rattle.std.proofs.lemmas.Result.{IfOk-weaker}
 use Rattle.pf_terms.specs.Value.{Value, none}
 use Rattle.pf_terms.specs.Fixed.{normal}
 use Rattle.pf_terms.specs.Term.{value_of}
-use Rattle.pf_terms.specs.declared.memory.NoMemory.{NoMemory}
+use Rattle.pf_fault.specs.declared.memory.NoMemory.{NoMemory}
 use Rattle.pf_terms.specs.declared.term.Term.{Term}
 use Rattle.pf_syntax.specs.Tree.{Tree, lit, call, no_trees, Program}
 use Rattle.pf_model.specs.Contraction.{Change, Becomes, Raises}

@@ -1,9 +1,8 @@
 //! Micro-steps until the process made a step or is at its end.
 
 ghost use Rattle.std.specs.Prelude.{IfOk};
-ghost use Rattle.pf_stepper.specs.Sound.{SoundFor};
 ghost use Rattle.pf_stepper.specs.MicroSteps.{IsMicroStep};
-ghost use Rattle.pf_stepper.specs.Advanced.{Advanced};
+ghost use Rattle.pf_stepper.specs.Advanced.{Advanced, IsSound};
 
 use crate::frame::{Focus, MicroStep};
 use crate::stack::Stack;
@@ -27,7 +26,7 @@ impl Stack {
         code: &Module,
         focus: Focus,
     ) -> Result<MicroStep, NoMemory>
-        requires { SoundFor self.old.env.items self.old.temps.items self.old.base self.old.frames.items focus }
+        requires { IsSound self.old focus }
         ensures { IfOk result (λ t. IsMicroStep code.now self.old focus self.new t) }
     {
         match focus {
@@ -45,7 +44,7 @@ impl Stack {
         code: &Module,
         first: Focus,
     ) -> Result<Advance, NoMemory>
-        requires { SoundFor self.old.env.items self.old.temps.items self.old.base self.old.frames.items first }
+        requires { IsSound self.old first }
         ensures { IfOk result (λ r. Advanced code.now self.old first self.new r) }
     {
         let mut focus = first;

@@ -27,7 +27,7 @@ fn outcome(answer: Result<i64, AtomId>) -> Focus
 }
 
 impl Stack {
-    /// A left operand: the operator, where the right one needs no micro-step of its own, or the right one is next.
+    /// A left operand. The right one is next, or the operator where that one needs no micro-step.
     #[inline(always)]
     pub(crate) fn left_done(
         &mut self,

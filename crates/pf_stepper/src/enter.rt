@@ -11,7 +11,7 @@ use pf_syntax::{FunctionId, Module};
 use pf_terms::{AtomId, NoMemory, Term};
 
 impl Stack {
-    /// A call of the last operands: the slots that no frame needs go, so a call at the end of a body keeps none.
+    /// A call of the last operands. The slots that no frame needs go: a call at the end of a body keeps none.
     pub(crate) fn enter(
         &mut self,
         code: &Module,

@@ -1,14 +1,13 @@
 //! The micro-step of an expression: its value, or its first part in a frame.
 
-ghost use Rattle.std.specs.Prelude.{◌≡◌, drop, IfOk, IfSome};
+ghost use Rattle.std.specs.Prelude.{◌≡◌, IfOk, IfSome};
 ghost use Rattle.pf_syntax.specs.declared.node.Node.TheVariants as does;
 ghost use Rattle.pf_syntax.specs.declared.node.Part.TheVariants.{Node as names};
-ghost use Rattle.pf_model.specs.Scopes.{scope_of};
 ghost use Rattle.pf_syntax.specs.Module.{tree_at};
 ghost use Rattle.pf_syntax.specs.Over.{clauses_over, tree_over};
 ghost use Rattle.pf_stepper.specs.Lookups.{clauses_in, left_place, IsLeftInScope};
 ghost use Rattle.pf_stepper.specs.declared.frame.Kind.TheVariants as kind;
-ghost use Rattle.pf_stepper.specs.View.{keeps};
+ghost use Rattle.pf_stepper.specs.View.{activation, keeps};
 ghost use Rattle.pf_stepper.specs.MicroSteps.{CanEvaluate, Descended, IsMicroStep};
 
 use crate::clauses::choose;
@@ -84,12 +83,13 @@ impl Stack {
         }
     }
 
-    /// The place of a left operand that is a variable in scope, where the right one is a node, so that the left one can be
-    /// read after it.
+    /// The place of a left operand that can be read after the right one: the left one is a variable in scope,
+    /// and the right one a node.
     #[inline(always)]
     fn left_in_scope(&self, left: Part, right: Part) -> Option<u32>
-        ensures in_scope { IfSome result (λ x. IsLeftInScope (scope_of (drop self.now.base self.now.env.items)) left x) }
-        ensures place { result ≡ left_place (scope_of (drop self.now.base self.now.env.items)) left right }
+        ensures in_scope { IfSome result (λ x.
+            IsLeftInScope (activation self.now.env.items self.now.base) left x) }
+        ensures place { result ≡ left_place (activation self.now.env.items self.now.base) left right }
     {
         match left {
             Part::Slot(place) => match right {
@@ -103,7 +103,7 @@ impl Stack {
         }
     }
 
-    /// The operands of the operator at a node: the right one at once where the left one stays in its slot, or the left one.
+    /// The operands of the operator at a node. Where the left one stays in its slot, the right one goes first.
     #[inline(always)]
     fn operation(
         &mut self,
@@ -115,7 +115,8 @@ impl Stack {
         right: Part,
     ) -> Result<MicroStep, NoMemory>
         requires sound { CanEvaluate self.old }
-        requires found { tree_over code.now.tables (does.Binary operator left right) ≡ tree_at code.now.tables id.0 }
+        requires found { tree_over code.now.tables (does.Binary operator left right)
+            ≡ tree_at code.now.tables id.0 }
         ensures { IfOk result (λ t. IsMicroStep code.now self.old (Focus.Eval (names id)) self.new t) }
     {
         match self.left_in_scope(left, right) {
@@ -127,7 +128,8 @@ impl Stack {
         }
     }
 
-    /// The value of the `case` at a node: at once the body of the first clause that it fits, or a micro-step of its own.
+    /// The value of the `case` at a node: where it needs no micro-step, the body of the first clause that it
+    /// fits.
     #[inline(always)]
     fn case(
         &mut self,
@@ -138,7 +140,8 @@ impl Stack {
         clauses: &[Clause],
     ) -> Result<MicroStep, NoMemory>
         requires sound { CanEvaluate self.old }
-        requires clauses { clauses_over code.now.tables clauses.now ≡ clauses_in (tree_at code.now.tables id.0) }
+        requires clauses { clauses_over code.now.tables clauses.now
+            ≡ clauses_in (tree_at code.now.tables id.0) }
         ensures { IfOk result (λ t. Descended code.now self.old (kind.Case id) part self.new t) }
     {
         match self.immediate(code, part)? {
@@ -153,7 +156,7 @@ impl Stack {
         }
     }
 
-    /// The first part of a node: its value at once to the frame that would wait for it, or a micro-step of its own in that frame.
+    /// The first part of a node, in the frame that waits for it: its value at once, or a micro-step of its own.
     #[inline(always)]
     fn descend(
         &mut self,

@@ -41,8 +41,8 @@ impl Model for Machine {
     ghost invariant = { IsKept };
 }
 
-/// What a call of a machine did: one step, or the process is at its end, with the value that it returned or with the
-/// reason that it ends with.
+/// What a call of a machine did: one step, or nothing, as the process is at its end. It returned a value, or it
+/// ends with a reason.
 #[derive(Drop)]
 pub enum Move {
     Pure,
@@ -58,7 +58,8 @@ impl Machine {
         function: FunctionId,
         args: Vec<Term>,
     ) -> Result<Machine, NoMemory>
-        ensures { IfOk result (λ m. m ≡ at_call own module.value.functions function.0 (values_of args.items)) }
+        ensures { IfOk result (λ m.
+            m ≡ at_call own module.value.functions function.0 (values_of args.items)) }
     {
         let count = args.len();
         let stack = Stack {

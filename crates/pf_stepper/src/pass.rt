@@ -20,8 +20,8 @@ fn noted(count: usize) -> Result<u32, NoMemory>
 }
 
 impl Stack {
-    /// The arguments of a call after the first `from`: those that need no micro-step of their own, up to the first that does,
-    /// or the call.
+    /// The arguments of a call after the first `from`: those that need no micro-step of their own, and then the
+    /// first that does, or the call.
     #[inline(always)]
     pub(crate) fn pass(
         &mut self,
@@ -31,7 +31,8 @@ impl Stack {
         arguments: &[Part],
         from: usize,
     ) -> Result<MicroStep, NoMemory>
-        requires node { parts_over code.now.tables arguments.now ≡ arguments_in (tree_at code.now.tables id.0) }
+        requires node { parts_over code.now.tables arguments.now
+            ≡ arguments_in (tree_at code.now.tables id.0) }
         requires stacked { Stacked self.old.env.items self.old.temps.items self.old.frames.items from }
         requires inside { self.old.base ≤ length self.old.env.items }
         ensures { IfOk result (λ t. Passed code.now self.old function id from self.new t) }

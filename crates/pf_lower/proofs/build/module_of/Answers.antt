@@ -11,7 +11,7 @@ returns c = λ clean formed.
     let fs = c.args.source.now.functions in
     let m = c.add_functions.new.module in
     let built : IsModule c.args.atoms (tree_of c.args.source.now) m = record {
-      name = c.in_ok-add_functions.ensures.name ∙ ap (λ n. n.name) c.new-module.ensures;
+      name = c.in_ok-add_functions.ensures.name ∙ ap (λ n. n.name) c.new-module.ensures ∙ c.name.ensures;
       atoms_are = c.in_ok-add_functions.ensures.atoms ∙ ap (λ n. n.atoms) c.new-module.ensures;
       functions = c.in_ok-add_functions.ensures.means formed (right_empty (flat_map (export_fault fs) c.args.source.now.exports ++ defined_faults c.args.atoms [] fs) _ clean);
     } in
