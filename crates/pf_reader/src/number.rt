@@ -77,7 +77,7 @@ fn offset_of(start: usize) -> Result<u32, ReadFault>
     }
 }
 
-/// The tokens with numbers for their names, which the tables, fresh ones, get.
+/// The tokens with numbers for their names, which enter two fresh tables.
 fn number_all(
     alloc: Global,
     atoms: &mut AtomTable,
@@ -99,6 +99,21 @@ fn number_all(
     Ok(found)
 }
 
+/// The tokens with numbers for their names. Those of atoms enter a fresh table, and those of variables one that is dropped here.
+fn number_names(
+    alloc: Global,
+    atoms: &mut AtomTable,
+    tokens: &[Token],
+) -> Result<Vec<NumberedToken>, ReadFault>
+    requires { atoms.old ≡ fixed_names }
+    ensures atoms { OnOk result (atoms.new ≡ atoms_of (map placed_of tokens.now)) }
+    ensures token_list { IfOk result (λ found. token_list found.items ≡ numbered (map placed_of tokens.now)) }
+    ensures err { IfErr result (λ e. e ≡ Memory) }
+{
+    let mut variables = AtomTable::new(alloc)?;
+    number_all(alloc, atoms, &mut variables, tokens)
+}
+
 /// The atoms of the tokens, and the tokens with numbers for their names. It fails by want of memory alone.
 pub(crate) fn number_tokens(
     alloc: Global,
@@ -109,7 +124,6 @@ pub(crate) fn number_tokens(
     ensures err { IfErr result (λ e. e ≡ Memory) }
 {
     let mut atoms = AtomTable::new(alloc)?;
-    let mut variables = AtomTable::new(alloc)?;
-    let found = number_all(alloc, &mut atoms, &mut variables, tokens)?;
+    let found = number_names(alloc, &mut atoms, tokens)?;
     Ok((atoms, found))
 }
