@@ -73,7 +73,7 @@ fn offset_of(start: usize) -> Result<u32, NoMemory>
     }
 }
 
-/// The tokens with numbers for their names, which the tables, fresh ones, get.
+/// The tokens with numbers for their names, which enter two fresh tables.
 fn number_all(
     alloc: Global,
     atoms: &mut AtomTable,
@@ -94,6 +94,20 @@ fn number_all(
     Ok(found)
 }
 
+/// The tokens with numbers for their names. Those of atoms enter a fresh table, and those of variables one that is dropped here.
+fn number_names(
+    alloc: Global,
+    atoms: &mut AtomTable,
+    tokens: &[Token],
+) -> Result<Vec<NumberedToken>, NoMemory>
+    requires { atoms.old ≡ fixed_names }
+    ensures atoms { OnOk result (atoms.new ≡ atoms_of (map placed_of tokens.now)) }
+    ensures token_list { IfOk result (λ found. token_list found.items ≡ numbered (map placed_of tokens.now)) }
+{
+    let mut variables = AtomTable::new(alloc)?;
+    number_all(alloc, atoms, &mut variables, tokens)
+}
+
 /// The atoms of the tokens, and the tokens with numbers for their names.
 pub(crate) fn number_tokens(
     alloc: Global,
@@ -103,7 +117,6 @@ pub(crate) fn number_tokens(
     ensures token_list { IfOk result (λ x. token_list x.1.items ≡ numbered (map placed_of tokens.now)) }
 {
     let mut atoms = AtomTable::new(alloc)?;
-    let mut variables = AtomTable::new(alloc)?;
-    let found = number_all(alloc, &mut atoms, &mut variables, tokens)?;
+    let found = number_names(alloc, &mut atoms, tokens)?;
     Ok((atoms, found))
 }

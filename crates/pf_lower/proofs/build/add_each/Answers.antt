@@ -4,7 +4,7 @@ use Rattle.pf_syntax.specs.SourceOver.{heads_over}
 use Rattle.pf_syntax.specs.Over.{function_over}
 use Rattle.pf_lower.proofs.Knows_more.{next_function, length_mapped}
 use Rattle.pf_lower.proofs.Heads_mean.{EachFunction, one_function_more, functions_are}
-use Rattle.pf_lower.proofs.build.add_functions.Goals as goal
+use Rattle.pf_lower.proofs.build.add_each.Goals as goal
 
 pub loop-written-preserved : goal.loop-written-preserved
 loop-written-preserved c =

@@ -1,6 +1,6 @@
 use Rattle.std.proofs.Common.{◌≡◌, take, []}
 use Rattle.pf_lower.proofs.Heads_mean.{EachFunction}
-use Rattle.pf_lower.proofs.build.add_functions.Given as goal
+use Rattle.pf_lower.proofs.build.add_each.Given as goal
 
 abbrev pub invariant-loop-written : goal.invariant-loop-written
 invariant-loop-written l = record {
