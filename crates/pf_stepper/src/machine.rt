@@ -83,7 +83,7 @@ impl Machine {
         self.own
     }
 
-    /// One step, or the end of the process, at which it stays. Once memory was wanting, each call answers so.
+    /// One step, or the end of the process, at which it stays. Once memory ran out, each call answers so.
     pub fn advance(&mut self, alloc: Global) -> Result<Move, NoMemory>
         ensures moved { IfOk result (λ m. Moved self.old m self.new) }
         ensures spent { OnErr result (self.new ≡ with_process self.old None) }
