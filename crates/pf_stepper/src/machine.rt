@@ -64,7 +64,7 @@ impl Machine {
         let count = args.len();
         let stack = Stack {
             env: Vec::with_capacity(alloc, ROOM)?,
-            temps: args,
+            operands: args,
             frames: Vec::with_capacity(alloc, ROOM)?,
             base: 0,
         };
