@@ -130,32 +130,55 @@ fn heads_and_tails_are_shared(rt: HostRuntime) -> Result<(), Fail> {
     Ok(())
 }
 
+/// Values without parts, rising in order, where the name of `low` is less than that of `high`.
+fn rising_leaves(alloc: Global, low: AtomId, high: AtomId) -> Result<Vec<Term>, Fail> {
+    let mut rising = Vec::new(alloc);
+    rising.push(Term::Int(-2))?;
+    rising.push(Term::Int(5))?;
+    rising.push(Term::Atom(low))?;
+    rising.push(Term::Atom(high))?;
+    rising.push(Term::Ref(0))?;
+    rising.push(Term::Ref(9))?;
+    rising.push(Term::Pid(0))?;
+    rising.push(Term::Pid(2))?;
+    Ok(rising)
+}
+
+/// Adds tuples, rising in order: the shorter first, and then element by element.
+fn add_tuples(
+    alloc: Global,
+    rising: &mut Vec<Term>,
+    low: AtomId,
+    high: AtomId,
+) -> Result<(), Fail> {
+    rising.push(tuple_of(alloc, integers(alloc, 1)?)?)?;
+    for (tag, n) in [(low, 1), (low, 2), (high, 0)] {
+        rising.push(pair(alloc, tag, n)?)?;
+    }
+    Ok(())
+}
+
+/// Adds lists, rising in order: element by element, with the end first.
+fn add_lists(alloc: Global, rising: &mut Vec<Term>) -> Result<(), Fail> {
+    for len in [0, 2, 3] {
+        rising.push(Term::List(zeros(alloc, len)?))?;
+    }
+    let one = List::cons(alloc, Term::Int(1), List::Nil)?;
+    rising.push(Term::List(one))?;
+    Ok(())
+}
+
 #[test]
 fn order_goes_by_kind_and_content(rt: HostRuntime) -> Result<(), Fail> {
     let alloc = rt.alloc();
     let mut atoms = AtomTable::new(alloc)?;
     let (b, a) = (atoms.enter(alloc, b"b")?, atoms.enter(alloc, b"a")?);
-    let rising = vec![in alloc;
-        Term::Int(-2),
-        Term::Int(5),
-        Term::Atom(a),
-        Term::Atom(b),
-        Term::Ref(0),
-        Term::Ref(9),
-        Term::Pid(0),
-        Term::Pid(2),
-        tuple_of(alloc, vec![in alloc; Term::Int(7)]?)?,
-        pair(alloc, a, 1)?,
-        pair(alloc, a, 2)?,
-        pair(alloc, b, 0)?,
-        Term::List(List::Nil),
-        Term::List(zeros(alloc, 2)?),
-        Term::List(zeros(alloc, 3)?),
-        Term::List(list_of(alloc, vec![in alloc; Term::Int(1)]?)?),
-    ]?;
+    let mut rising = rising_leaves(alloc, a, b)?;
+    add_tuples(alloc, &mut rising, a, b)?;
+    add_lists(alloc, &mut rising)?;
     for (i, x) in rising.iter().enumerate() {
         for (j, y) in rising.iter().enumerate() {
-            assert!(rt; order(x, y, &atoms) == i.cmp(&j));
+            assert!(rt; order(x, y, &atoms) == i.cmp(&j), "{i} {j}");
         }
     }
     assert!(rt; order(&Term::Atom(AtomId(99)), &Term::Atom(a), &atoms) == Ordering::Less);

@@ -1,4 +1,4 @@
-//! Tests of the crates of the program: texts, the store, the book, and the work of commands between ends that fail.
+//! Tests of the crates of the program: texts, the store, the book, and the work of commands between readers and writers that fail.
 #![tactic(auto)]
 
 #[cfg(test)]

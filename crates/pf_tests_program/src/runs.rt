@@ -1,7 +1,6 @@
-//! Whole runs: what is left where a call of an end fails.
+//! Whole runs: what is left where a call of a reader or a writer fails.
 
-use crate::pipes::{Failing, run};
-use pf_command::RunFault;
+use crate::pipes::{Ended, Failing, run};
 
 const WORDS: [&str; 8] = [
     "pulsefarm",
@@ -19,7 +18,7 @@ const SUM: &str = "-module(m).\n-export([main/0]).\nmain() -> 1 + 2 * 3.\n";
 const SUM_REPORT: &str = "0/1 <0> end normal\nfinished 7\nsteps 4\nproperty holds\n";
 
 #[test]
-fn words_without_a_run_touch_no_end(rt: HostRuntime) {
+fn words_without_a_run_read_and_write_nothing(rt: HostRuntime) {
     for (last, status) in [
         ("--help", 0),
         ("--version", 0),
@@ -29,10 +28,7 @@ fn words_without_a_run_touch_no_end(rt: HostRuntime) {
         let words = ["pulsefarm", last];
         let failing = Failing { read: 1, write: 1 };
         let ran = run(rt.alloc(), &words, SUM.as_bytes(), failing);
-        assert!(rt;
-            matches!(ran.answer, Ok(given) if given == status),
-            "{last}"
-        );
+        assert_eq!(rt; ran.ended, Ended::Status(status), "{last}");
         assert!(rt; ran.out.is_empty(), "{last}");
     }
 }
@@ -47,13 +43,13 @@ fn a_reader_that_fails_leaves_nothing(rt: HostRuntime) {
             SUM.as_bytes(),
             Failing { read: k, write: 0 },
         );
-        match ran.answer {
-            Err(RunFault::Read(_)) => {
+        match ran.ended {
+            Ended::NotRead => {
                 assert!(rt; ran.out.is_empty(), "call {k}");
                 failed = k;
             }
-            answer => {
-                assert!(rt; matches!(answer, Ok(0)), "call {k}");
+            ended => {
+                assert_eq!(rt; ended, Ended::Status(0), "call {k}");
                 assert_eq!(rt; ran.out.as_slice(), SUM_REPORT.as_bytes(), "call {k}");
                 break;
             }
@@ -73,14 +69,14 @@ fn a_writer_that_fails_leaves_a_beginning(rt: HostRuntime) {
             SUM.as_bytes(),
             Failing { read: 0, write: k },
         );
-        match ran.answer {
-            Err(RunFault::Write(_)) => {
+        match ran.ended {
+            Ended::NotWritten => {
                 assert!(rt; SUM_REPORT.as_bytes().starts_with(&ran.out), "call {k}");
                 assert_eq!(rt; ran.out.len() as u64, 7 * (k - 1), "call {k}");
                 failed = k;
             }
-            answer => {
-                assert!(rt; matches!(answer, Ok(0)), "call {k}");
+            ended => {
+                assert_eq!(rt; ended, Ended::Status(0), "call {k}");
                 assert_eq!(rt; ran.out.as_slice(), SUM_REPORT.as_bytes(), "call {k}");
                 break;
             }
