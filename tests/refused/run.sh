@@ -57,12 +57,12 @@ ended_well() {
     || { { [ "$status" = 1 ] || [ "$status" = 2 ]; } && [ ! -s "$room/out" ] && [ -s "$room/err" ]; }
 }
 
-# Whether a run of commands ended as it may: so too with a line that says where memory was wanting; or with the word `NoMemory` alone on
-# its last line, and status 2.
+# Whether a run of commands ended as it may: so too with a line that says where memory ran out; or with status 2 and a message on
+# standard error, behind which nothing more went out.
 commands_ended_well() {
   ended_well \
     || { [ "$status" = 0 ] && grep -q -x -e 'p[12] refused NoMemory' -e 'w0 no memory' "$room/out"; } \
-    || { [ "$status" = 2 ] && [ "$(tail -n 1 "$room/out")" = NoMemory ]; }
+    || { [ "$status" = 2 ] && ! grep -q -x NoMemory "$room/out" && grep -q 'NoMemory$' "$room/err"; }
 }
 
 # Refuses each growth of the program in turn: $1 names the run, and $2 tells whether it ended as it may.

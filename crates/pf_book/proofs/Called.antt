@@ -3,9 +3,9 @@ use Rattle.std.proofs.Common.{◌≡◌, [], ◌∷◌, ◌++◌, refl, sym, ap,
 use Rattle.pf_quota.specs.declared.usage.Usage.{Usage}
 use Rattle.pf_quota.specs.declared.charges.Charge.TheVariants as charge
 use Rattle.pf_quota.specs.Usage.{usage_of, charged}
-use Rattle.pf_model.specs.Desk.{Desk, Call, Reply, called, answered, after_call, with_entry, held_by, calls_in}
+use Rattle.pf_model.specs.Desk.{Profile, Desk, Call, Reply, called, answered, after_call, with_entry, held_by, calls_in}
 use Rattle.pf_model.specs.History.{IsLegalDesk}
-use Rattle.pf_book.specs.Profile.{profile}
+use Rattle.pf_book.specs.Profile.{ForRight}
 use Rattle.pf_book.specs.declared.plan.Addition.{Addition}
 use Rattle.pf_book.specs.declared.plan.Addition.TheVariants as addition
 use Rattle.pf_book.specs.Plans.{with_addition, used_by}
@@ -22,11 +22,12 @@ module _ (d d' : Desk) (c : Call) (a : Addition) (r : Reply) (is : d' ≡ with_e
   longer = ap (λ (k : Desk). k.history) is ∙ ap (λ es. es ++ called c r ∷ []) (same_history d a)
 
   -- the desk after a call, where this is what the call comes to
-  pub called_is : ◌≡◌ {A = Desk × Reply} (with_addition d a, r) (answered profile d c) → d' ≡ after_call profile d c
-  called_is plan = is ∙ ap (λ (x : Desk × Reply). with_entry x.0 (called c x.1)) plan
+  pub called_is : (p : Profile) → ◌≡◌ {A = Desk × Reply} (with_addition d a, r) (answered p d c) → d' ≡ after_call p d c
+  called_is p plan = is ∙ ap (λ (x : Desk × Reply). with_entry x.0 (called c x.1)) plan
 
-  pub called_legal : IsLegalDesk profile d → ◌≡◌ {A = Desk × Reply} (with_addition d a, r) (answered profile d c) → IsLegalDesk profile d'
-  called_legal h plan = desk_more profile d d' (called c r) h (ap (λ (x : Desk × Reply). x.1) plan) (called_is plan) longer
+  pub called_legal : ForRight (λ p. IsLegalDesk p d) → ForRight (λ p. ◌≡◌ {A = Desk × Reply} (with_addition d a, r) (answered p d c)) → ForRight (λ p. IsLegalDesk p d')
+  called_legal h plan p right =
+      desk_more p d d' (called c r) (h p right) (ap (λ (x : Desk × Reply). x.1) (plan p right), called_is p (plan p right)) longer
 
   pub called_sums : (u : Usage) → u ≡ usage_of (held_by d) (calls_in d.history) → charged (used_by u a) charge.Call ≡ usage_of (held_by d') (calls_in d'.history)
   called_sums u h =

@@ -1,16 +1,20 @@
 -- What a desk keeps is kept where a worker files a report.
-use Rattle.std.proofs.Common.{◌≡◌, ℕ, zero, suc, true, List, [], ◌∷◌, ◌++◌, length, map, Option, Some, None, refl, sym, ap, ◌∙◌}
-use Rattle.std.specs.Prelude.{slice_get, slice_set}
+use Rattle.std.proofs.Common.{◌≡◌, ℕ, zero, suc, Bool, true, false, List, [], ◌∷◌, ◌++◌, length, map, Option, Some, None, refl, sym, ap, ◌∙◌}
+use Rattle.std.specs.Prelude.{if◌then◌else◌, option_and_then, slice_get, slice_set}
 use Rattle.pf_quota.specs.declared.charges.Held.{Held}
 use Rattle.pf_quota.specs.declared.charges.Held.TheVariants as held
 use Rattle.pf_quota.specs.Usage.{usage_of}
 use Rattle.pf_model.specs.Meaning.{Report}
-use Rattle.pf_model.specs.Desk.{Stored, Job, State, queued, running, done, Trial, Desk, claimed, filed, is_queued, is_running, set_trial, with_state, after_claim, after_once, held_by, calls_in}
-use Rattle.pf_model.specs.History.{IsLegalDesk}
-use Rattle.pf_book.specs.Profile.{profile}
+use Rattle.pf_model.specs.Desk.{Profile, Stored, Job, State, queued, running, done, Trial, Desk, claimed, filed, numbered, is_queued_state, is_queued, is_running}
+use Rattle.pf_model.specs.Desk.{set_trial, with_state, after_claim, after_file, file_step, once, worker_step, held_by, calls_in}
 use Rattle.pf_book.specs.Queued.{job_in_state, job_of_trial, job_at}
-use Rattle.pf_model.proofs.Histories.{desk_more, set_found}
 use Rattle.pf_book.proofs.Sums.{calls_claimed, calls_filed}
+
+-- what is set where an item is found, is found there
+set_found : {X : Type 0} (xs : List X) (i : ℕ) (x y : X) → slice_get xs i ≡ Some x → slice_get (slice_set xs i y) i ≡ Some y
+set_found [] i x y h = absurd (cc)
+set_found (z ∷ xs) zero x y h = refl
+set_found (z ∷ xs) (suc i) x y h = set_found xs i x y h
 
 -- ---- trials whose state is set
 
@@ -38,6 +42,9 @@ state_again ts i x f g h =
     ∙ set_again ts i (in_state x f) (in_state x g)
 
 -- no job changes
+abbrev held_module : Stored → Held
+held_module m = held.Module (length m.source)
+
 abbrev held_trial : Trial → Held
 held_trial t = held.Trial t.job.limit
 
@@ -63,50 +70,80 @@ waiting_trial (Some x) j h = ap Some (waiting_state x x.state j refl h)
 
 -- ---- claim and file
 
-module _ (d : Desk) (i : ℕ) (j : Job) (r : Report) (waits : slice_get d.trials i ≡ Some (waiting j)) (means : profile.meaning j ≡ r) where
+abbrev pub after_once : Profile → Desk → ℕ → Desk
+after_once p d t = after_file p (after_claim d t) t
+
+-- a trial that is queued is claimed, and one that was claimed is filed
+once_can : (p : Profile) (d : Desk) (t : ℕ) → is_queued (numbered d.trials t) ≡ true → is_running (numbered (after_claim d t).trials t) ≡ true
+    → worker_step p d (once t) ≡ Some (after_once p d t)
+once_can p d t waits runs =
+    ap (λ (b : Bool). option_and_then (λ k. file_step p k t) (if b then Some (after_claim d t) else None)) waits
+    ∙ ap (λ (b : Bool). if b then Some (after_once p d t) else None) runs
+
+module _ (d : Desk) (i : ℕ) (j : Job) (r : Report) (waits : slice_get d.trials i ≡ Some (waiting j)) where
   runs : is_running (slice_get (after_claim d (suc i)).trials i) ≡ true
   runs = ap is_running (found_set d.trials i (waiting j) (λ _. running) waits)
 
-  filed_legal : IsLegalDesk profile d → IsLegalDesk profile (after_once profile d (suc i))
-  filed_legal h =
-      desk_more profile (after_claim d (suc i)) (after_once profile d (suc i)) (filed (suc i))
-      (desk_more profile d (after_claim d (suc i)) (claimed (suc i)) h (ap is_queued waits) refl refl) runs refl refl
-
-  filed_trials : (after_once profile d (suc i)).trials ≡ slice_set d.trials i (in_state (waiting j) (λ _. done r))
-  filed_trials =
-      state_again d.trials i (waiting j) (λ _. running) (λ k. done (profile.meaning k)) waits
+  filed_trials : (p : Profile) → p.meaning j ≡ r → (after_once p d (suc i)).trials ≡ with_state d.trials (suc i) (λ _. done r)
+  filed_trials p means =
+      state_again d.trials i (waiting j) (λ _. running) (λ k. done (p.meaning k)) waits
       ∙ ap (λ (s : Report). slice_set d.trials i (record { job = j; state = done s })) means
+      ∙ sym (state_set d.trials i (waiting j) (λ _. done r) waits)
 
-  filed_is : (d' : Desk) → d'.modules ≡ d.modules → d'.trials ≡ with_state d.trials (suc i) (λ _. done r)
-      → d'.history ≡ (d.history ++ claimed (suc i) ∷ []) ++ filed (suc i) ∷ [] → d' ≡ after_once profile d (suc i)
-  filed_is d' modules trials history =
-      let set = trials ∙ state_set d.trials i (waiting j) (λ _. done r) waits ∙ sym filed_trials in
-      λ k. record { modules = modules k; trials = set k; history = history k }
-
-  filed_held : held_by (after_once profile d (suc i)) ≡ held_by d
+  filed_held : map held_trial (with_state d.trials (suc i) (λ _. done r)) ≡ map held_trial d.trials
   filed_held =
-      ap (λ (l : List Held). map (λ (m : Stored). held.Module (length m.source)) d.modules ++ l)
-      (ap (λ (l : List Trial). map held_trial l) filed_trials ∙ held_set d.trials i (waiting j) (λ _. done r) waits)
+      ap (λ (l : List Trial). map held_trial l) (state_set d.trials i (waiting j) (λ _. done r) waits)
+      ∙ held_set d.trials i (waiting j) (λ _. done r) waits
 
-  filed_calls : calls_in (after_once profile d (suc i)).history ≡ calls_in d.history
-  filed_calls = calls_filed (d.history ++ claimed (suc i) ∷ []) (suc i) ∙ calls_claimed d.history (suc i)
+waits_so : (ts : List Trial) (i : ℕ) (j : Job) → job_at ts (suc i) ≡ Some j → is_queued (numbered ts (suc i)) ≡ true
+waits_so ts i j h = ap is_queued (waiting_trial (slice_get ts i) j h)
 
--- a queued trial of a ticket was run, and its report filed
-module _ (d : Desk) (j : Job) (r : Report) (means : profile.meaning j ≡ r) where
-  -- the desk after it
-  pub once_is : (d' : Desk) (t : ℕ) → job_at d.trials t ≡ Some j → d'.modules ≡ d.modules → d'.trials ≡ with_state d.trials t (λ _. done r)
-      → d'.history ≡ (d.history ++ claimed t ∷ []) ++ filed t ∷ [] → d' ≡ after_once profile d t
-  once_is d' zero h modules trials history = absurd (cc)
-  once_is d' (suc i) h modules trials history =
-      filed_is d i j r (waiting_trial (slice_get d.trials i) j h) means d' modules trials history
+-- a trial that has a job that waits is queued
+pub is_waiting : (ts : List Trial) (t : ℕ) (j : Job) → job_at ts t ≡ Some j → is_queued (numbered ts t) ≡ true
+is_waiting ts zero j h = absurd (cc)
+is_waiting ts (suc i) j h = waits_so ts i j h
 
-  pub once_legal : (t : ℕ) → job_at d.trials t ≡ Some j → IsLegalDesk profile d → IsLegalDesk profile (after_once profile d t)
-  once_legal zero h legal = absurd (cc)
-  once_legal (suc i) h legal = filed_legal d i j r (waiting_trial (slice_get d.trials i) j h) means legal
+no_job : (o : Option Trial) → job_of_trial o ≡ None → is_queued o ≡ false
+no_job None h = refl
+no_job (Some x) h = by x.state h
+  where
+    by : (s : State) → job_in_state x.job s ≡ None → is_queued_state s ≡ false
+    by queued h = absurd (cc)
+    by running h = refl
+    by (done r) h = refl
 
-  pub once_sums : (t : ℕ) → job_at d.trials t ≡ Some j
-      → usage_of (held_by (after_once profile d t)) (calls_in (after_once profile d t).history) ≡ usage_of (held_by d) (calls_in d.history)
-  once_sums zero h = absurd (cc)
-  once_sums (suc i) h =
+-- a trial that has none isn't
+pub none_waiting : (ts : List Trial) (t : ℕ) → job_at ts t ≡ None → is_queued (numbered ts t) ≡ false
+none_waiting ts t h = no_job (numbered ts t) h
+
+queued_at : (d : Desk) (i : ℕ) (o : Option Trial) → slice_get d.trials i ≡ o → is_queued o ≡ true → is_running (slice_get (after_claim d (suc i)).trials i) ≡ true
+queued_at d i None e h = absurd (cc)
+queued_at d i (Some x) e h = ap is_running (found_set d.trials i x (λ _. running) e)
+
+-- a trial that is queued can be run whole
+pub queued_can : (p : Profile) (d : Desk) (t : ℕ) → is_queued (numbered d.trials t) ≡ true → worker_step p d (once t) ≡ Some (after_once p d t)
+queued_can p d zero h = absurd (cc)
+queued_can p d (suc i) h = once_can p d (suc i) h (queued_at d i (slice_get d.trials i) refl h)
+
+-- a queued trial of a ticket was run, and its report filed: the desk is this one
+module _ (d : Desk) (j : Job) (r : Report) (d' : Desk) (modules : d'.modules ≡ d.modules) where
+  -- it is the one that the worker's step leads to
+  pub once_is : (p : Profile) → p.meaning j ≡ r → (t : ℕ) → job_at d.trials t ≡ Some j → d'.trials ≡ with_state d.trials t (λ _. done r)
+      → d'.history ≡ (d.history ++ claimed t ∷ []) ++ filed t ∷ [] → worker_step p d (once t) ≡ Some d'
+  once_is p means zero h trials history = absurd (cc)
+  once_is p means (suc i) h trials history =
       let waits = waiting_trial (slice_get d.trials i) j h in
-      λ k. usage_of (filed_held d i j r waits means k) (filed_calls d i j r waits means k)
+      let set = trials ∙ sym (filed_trials d i j r waits p means) in
+      let same : d' ≡ after_once p d (suc i) = λ k. record { modules = modules k; trials = set k; history = history k } in
+      once_can p d (suc i) (ap is_queued waits) (runs d i j r waits) ∙ ap Some (sym same)
+
+  -- it uses what was used
+  pub once_sums : (t : ℕ) → job_at d.trials t ≡ Some j → d'.trials ≡ with_state d.trials t (λ _. done r)
+      → d'.history ≡ (d.history ++ claimed t ∷ []) ++ filed t ∷ []
+      → usage_of (held_by d') (calls_in d'.history) ≡ usage_of (held_by d) (calls_in d.history)
+  once_sums zero h trials history = absurd (cc)
+  once_sums (suc i) h trials history =
+      let waits = waiting_trial (slice_get d.trials i) j h in
+      let held = ap (map held_trial) trials ∙ filed_held d i j r waits in
+      let calls = ap calls_in history ∙ calls_filed (d.history ++ claimed (suc i) ∷ []) (suc i) ∙ calls_claimed d.history (suc i) in
+      λ k. usage_of (map held_module (modules k) ++ held k) (calls k)

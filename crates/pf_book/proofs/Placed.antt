@@ -1,14 +1,15 @@
 -- A desk put back into the map is the desk put into the world.
 use Rattle.std.proofs.Common.{◌≡◌, ℕ, zero, suc, nat_eq, Bool, true, false, cond, [], ◌∷◌, Some, None, refl, sym, ap, ◌∙◌, subst}
-use Rattle.std.specs.Prelude.{if◌then◌else◌, Result, Ok, Err, OnOk, IfOk}
+use Rattle.std.specs.Prelude.{if◌then◌else◌, option_and_then, Result, Ok, Err}
 use Rattle.std.specs.Map.{lookup, set_value}
 use Rattle.std.proofs.lemmas.Map.Steps.{set_value_same}
 use Rattle.indexmap.specs.IndexMap.{insert_entry}
-use Rattle.pf_model.specs.Desk.{Profile, Desk, no_desk, Call, numbered, is_queued, reply_to, after_call, after_once}
-use Rattle.pf_terms.specs.declared.memory.NoMemory.{NoMemory}
-use Rattle.pf_model.specs.World.{World, Answer, did, not_now, desk_at, put_desk, step, once}
-use Rattle.pf_book.specs.Profile.{profile}
-use Rattle.pf_book.specs.View.{reply_seen}
+use Rattle.pf_fault.specs.declared.memory.NoMemory.{NoMemory}
+use Rattle.pf_model.specs.Desk.{Profile, Desk, no_desk, Call, numbered, is_queued, reply_to, after_call, after_claim, file_step, once, worker_step}
+use Rattle.pf_model.specs.History.{IsLegalDesk}
+use Rattle.pf_model.specs.World.{World, replied, work_done, not_now, desk_at, put_desk, worked}
+use Rattle.pf_book.specs.Profile.{ForRight}
+use Rattle.pf_book.specs.Answers.{DeskAnswers, DeskWorks, Answers, Works}
 use Rattle.pf_book.specs.declared.reply.Reply.{Reply}
 
 pub at_some : (p : ℕ) (es : World) (d : Desk) → lookup (nat_eq p) es ≡ Some d → desk_at p es ≡ d
@@ -43,52 +44,43 @@ put_insert p (e ∷ es) w = ap (λ (l : World). if nat_eq p e.0 then (e.0, w) �
 pub put_same : (p : ℕ) (es : World) (d : Desk) → lookup (nat_eq p) es ≡ Some d → put_desk p d es ≡ es
 put_same p es d h = sym (put_set p es d d h) ∙ set_value_same (nat_eq p) es d h
 
--- ---- a client's step, where the map's entries are the world
+-- ---- the steps of a world, where a project's desk is this one
 
-module _ (q : ℕ) (es w : World) (seen : es ≡ w) (c : Call) (d : Desk) (here : desk_at q es ≡ d) where
-  pub call_reply : (r : Result Reply NoMemory) → IfOk r (λ x. reply_seen x ≡ reply_to profile d c) → IfOk r (λ x. reply_seen x ≡ reply_to profile (desk_at q w) c)
-  call_reply r h =
-      let P : Desk → Type 0 = λ k. IfOk r (λ x. reply_seen x ≡ reply_to profile k c) in subst P (sym here ∙ ap (desk_at q) seen) h
+-- a desk's answer to a call is the world's
+module _ (q : ℕ) (w : World) (c : Call) (d d' : Desk) (here : desk_at q w ≡ d) (w' : World) (put : w' ≡ put_desk q d' w) where
+  pub answers : (r : Reply) → DeskAnswers d c (Ok r) d' → Answers w q c (Ok r) w'
+  answers r h p right =
+      let h' = h p right in
+      let placed = ap (λ (k : Desk). put_desk q (after_call p k c) w) here ∙ ap (λ (k : Desk). put_desk q k w) (sym h'.1) ∙ sym put in
+      let reply = ap (λ (k : Desk). reply_to p k c) here ∙ sym h'.0 in
+      λ i. (placed i, replied (reply i))
 
-  pub call_world : (d' : Desk) (es' : World) → es' ≡ put_desk q d' es → d' ≡ after_call profile d c → es' ≡ put_desk q (after_call profile (desk_at q w) c) w
-  call_world d' es' put is =
-      put
-      ∙ ap (λ (k : Desk). put_desk q k es) (is ∙ ap (λ (k : Desk). after_call profile k c) (sym here))
-      ∙ ap (λ (v : World). put_desk q (after_call profile (desk_at q v) c) v) seen
+  pub answers_all : put_desk q d w ≡ w → (r : Result Reply NoMemory) → DeskAnswers d c r d' → Answers w q c r w'
+  answers_all same (Ok r) h = answers r h
+  answers_all same (Err e) h = put ∙ ap (λ (k : Desk). put_desk q k w) h ∙ same
 
--- ---- a worker's step
+not_queued : (p : Profile) (d : Desk) (t : ℕ) → is_queued (numbered d.trials t) ≡ false → worker_step p d (once t) ≡ None
+not_queued p d t h = ap (λ (b : Bool). option_and_then (λ k. file_step p k t) (if b then Some (after_claim d t) else None)) h
 
-abbrev Stepped : Profile → World → ℕ → ℕ → Desk → Bool → World × Answer → Type 0
-Stepped p w q t d b x = (b ≡ true → x ≡ (put_desk q (after_once p d t) w, did)) × (b ≡ false → x ≡ (w, not_now))
+-- a worker who finds a desk where nothing is queued has no work
+pub no_work : (q : ℕ) (w : World) (d : Desk) (t : ℕ) → desk_at q w ≡ d → is_queued (numbered d.trials t) ≡ false → (w' : World) → w' ≡ w → Works w q t (Ok false) w'
+no_work q w d t here h w' same p right =
+    ap (worked q w) (ap (λ (k : Desk). worker_step p k (once t)) here ∙ not_queued p d t h) ∙ ap (λ (v : World). (v, not_now)) (sym same)
 
-of_test : (p : Profile) (w : World) (q t : ℕ) (d : Desk) (b : Bool) → Stepped p w q t d b (if b then (put_desk q (after_once p d t) w, did) else (w, not_now))
-of_test p w q t d true = (λ _. refl, λ h. absurd (cc))
-of_test p w q t d false = (λ h. absurd (cc), λ _. refl)
+-- a worker's work at a desk is the world's
+pub works : (q : ℕ) (w : World) (t : ℕ) (d d' : Desk) → desk_at q w ≡ d → (w' : World) → w' ≡ put_desk q d' w → put_desk q d w ≡ w
+    → (r : Result Bool NoMemory) → DeskWorks d t r d' → Works w q t r w'
+works q w t d d' here w' put same (Ok true) h =
+    λ p right. ap (worked q w) (ap (λ (k : Desk). worker_step p k (once t)) here ∙ h p right) ∙ ap (λ (v : World). (v, work_done)) (sym put)
+works q w t d d' here w' put same (Ok false) h = no_work q w d t here h.0 w' (put ∙ ap (λ (k : Desk). put_desk q k w) h.1 ∙ same)
+works q w t d d' here w' put same (Err e) h =
+    (ap (λ (k : Desk). is_queued (numbered k.trials t)) here ∙ h.0, put ∙ ap (λ (k : Desk). put_desk q k w) h.1 ∙ same)
 
-module _ (p : Profile) (w : World) (q t : ℕ) (d : Desk) (here : desk_at q w ≡ d) where
-  stepped : Stepped p w q t d (is_queued (numbered d.trials t)) (step p w (once q t))
-  stepped =
-      let P : Desk → Type 0 = λ k. Stepped p w q t d (is_queued (numbered d.trials t)) (if is_queued (numbered k.trials t) then (put_desk q (after_once p k t) w, did) else (w, not_now)) in
-      subst P (sym here) (of_test p w q t d (is_queued (numbered d.trials t)))
-
-  pub step_answer : (r : Result Bool NoMemory) → IfOk r (λ b. b ≡ is_queued (numbered d.trials t)) → IfOk r (λ b. (step p w (once q t)).1 ≡ (if b then did else not_now))
-  step_answer (Ok true) h = ap (λ (x : World × Answer). x.1) (stepped.0 (sym h))
-  step_answer (Ok false) h = ap (λ (x : World × Answer). x.1) (stepped.1 (sym h))
-  step_answer (Err e) h = tt
-
-  -- the world with the desk that came of it
-  pub step_world : (r : Result Bool NoMemory) (w' : World) (d' : Desk) → w' ≡ put_desk q d' w → put_desk q d w ≡ w
-      → IfOk r (λ b. b ≡ is_queued (numbered d.trials t)) → IfOk r (λ b. d' ≡ (if b then after_once p d t else d)) → OnOk r (w' ≡ (step p w (once q t)).0)
-  step_world (Ok true) w' d' put same h is =
-      put ∙ ap (λ (k : Desk). put_desk q k w) is ∙ sym (ap (λ (x : World × Answer). x.0) (stepped.0 (sym h)))
-  step_world (Ok false) w' d' put same h is =
-      put ∙ ap (λ (k : Desk). put_desk q k w) is ∙ same ∙ sym (ap (λ (x : World × Answer). x.0) (stepped.1 (sym h)))
-  step_world (Err e) w' d' put same h is = tt
-
-none_queued : (t : ℕ) → is_queued (numbered no_desk.trials t) ≡ false
+-- a project without a desk has no trial
+pub none_queued : (t : ℕ) → is_queued (numbered no_desk.trials t) ≡ false
 none_queued zero = refl
 none_queued (suc t) = refl
 
--- a project without a desk has no trial
-pub step_none : (p : Profile) (w : World) (q t : ℕ) → desk_at q w ≡ no_desk → ◌≡◌ {A = World × Answer} (step p w (once q t)) (w, not_now)
-step_none p w q t here = (stepped p w q t no_desk here).1 (none_queued t)
+-- an empty desk is legal
+pub empty_legal : (q : ℕ) (w : World) → desk_at q w ≡ no_desk → ForRight (λ p. IsLegalDesk p (desk_at q w))
+empty_legal q w here p right = subst (IsLegalDesk p) (sym here) refl

@@ -6,3 +6,4 @@ pub mod Orders
 pub mod Jobs
 pub mod Plans
 pub mod Kept
+pub mod Answers

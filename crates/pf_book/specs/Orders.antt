@@ -1,14 +1,11 @@
 -- What orders ask for.
-use Rattle.std.specs.Prelude.{◌≡◌, Bool, List, Result, Err}
+use Rattle.std.specs.Prelude.{◌≡◌, List, Result, Err}
 use Rattle.pf_model.specs.Desk as desk
-use Rattle.pf_model.specs.Desk.{Stored, Job, job_of, numbered, is_in_range}
+use Rattle.pf_model.specs.Desk.{Stored, Job, job_of, numbered}
 use Rattle.pf_book.specs.declared.call.Order.{Order}
 use Rattle.pf_book.specs.declared.fault.Fault.{Fault}
 use Rattle.pf_book.specs.declared.fault.Fault.TheVariants as fault
 use Rattle.pf_book.specs.View.{refusal_seen}
-
-abbrev pub is_in_range_order : Order → Bool
-is_in_range_order o = is_in_range o.schedule.items o.limit
 
 -- the job of an order to a project with these modules
 abbrev pub job_asked : List Stored → Order → Result Job desk.Refusal

@@ -7,7 +7,7 @@ use Rattle.pf_model.specs.Desk as desk
 use Rattle.pf_book.specs.declared.plan.Addition.{Addition}
 use Rattle.pf_book.specs.declared.plan.Addition.TheVariants as addition
 use Rattle.pf_book.specs.declared.plan.Plan.{Plan}
-use Rattle.pf_book.specs.Profile.{profile}
+use Rattle.pf_book.specs.Profile.{ForRight}
 use Rattle.pf_book.specs.View.{entry_seen, reply_seen}
 
 -- the desk with what a call adds
@@ -18,8 +18,9 @@ with_addition d (addition.Trial j) = record d { trials = d.trials ++ record { jo
 
 -- what a call to a desk comes to is what it is answered with, and it is noted so
 abbrev pub IsPlan : desk.Desk → desk.Call → Plan → Type 0
-IsPlan d c p = (◌≡◌ {A = desk.Desk × desk.Reply} (with_addition d p.addition, reply_seen p.reply) (desk.answered profile d c))
-    × (entry_seen p.noted ≡ desk.called c (reply_seen p.reply))
+IsPlan d c plan =
+    ForRight (λ p. ◌≡◌ {A = desk.Desk × desk.Reply} (with_addition d plan.addition, reply_seen plan.reply) (desk.answered p d c))
+    × (entry_seen plan.noted ≡ desk.called c (reply_seen plan.reply))
 
 -- what is used with what a call adds
 abbrev pub used_by : Usage → Addition → Usage

@@ -7,7 +7,7 @@ use Rattle.pf_book.specs.declared.trial.State.TheVariants.{Queued, Done}
 -- a report that is filed speaks of these atoms
 abbrev pub SpeaksOf : List (List ℕ) → State → Type 0
 SpeaksOf atoms Queued = Unit {0}
-SpeaksOf atoms (Done told) = told.0 ≡ atoms
+SpeaksOf atoms (Done filed) = filed.0 ≡ atoms
 
 -- the trial of a ticket, where there is one, is of a module with these atoms
 abbrev pub AtomsAt : List Trial → ℕ → List (List ℕ) → Type 0

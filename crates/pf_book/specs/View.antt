@@ -18,7 +18,7 @@ order_seen o = desk.order o.module o.root.items o.property.items o.schedule.item
 
 abbrev pub call_seen : Call → desk.Call
 call_seen (call.Submit s) = desk.submit s
-call_seen (call.Order o) = order_seen o.value
+call_seen (call.Order o) = order_seen o
 call_seen (call.Fetch t) = desk.fetch t
 call_seen call.Usage = desk.usage
 
@@ -43,7 +43,7 @@ entry_seen (entry.Submitted s n) = desk.called (desk.submit s) (desk.number n)
 entry_seen (entry.SubmitRefused s e) = desk.called (desk.submit s) (desk.refused (refusal_seen e))
 entry_seen (entry.Ordered o t) = desk.called (order_seen o.value) (desk.ticket t)
 entry_seen (entry.OrderRefused o e) = desk.called (order_seen o.value) (desk.refused (refusal_seen e))
-entry_seen (entry.Fetched t told) = desk.called (desk.fetch t) (desk.report told.0 told.1)
+entry_seen (entry.Fetched t filed) = desk.called (desk.fetch t) (desk.report filed.0 filed.1)
 entry_seen (entry.FetchRefused t e) = desk.called (desk.fetch t) (desk.refused (refusal_seen e))
 entry_seen (entry.Used u) = desk.called desk.usage (desk.uses u.value)
 entry_seen (entry.Claimed t) = desk.claimed t
@@ -51,4 +51,4 @@ entry_seen (entry.Filed t) = desk.filed t
 
 abbrev pub state_seen : State → desk.State
 state_seen state.Queued = desk.queued
-state_seen (state.Done told) = desk.done told.1
+state_seen (state.Done filed) = desk.done filed.1

@@ -2,7 +2,6 @@
 
 use pf_store::Source;
 use smallvec::SmallVec;
-use std::sync::Arc;
 
 /// A word of a call. One of at most 16 bytes takes no block of memory.
 pub type Word = SmallVec<u8, 16>;
@@ -24,7 +23,7 @@ pub enum Call {
     /// A number for the module that this source is.
     Submit(Source),
     /// A ticket for a trial.
-    Order(Arc<Order>),
+    Order(Order),
     /// The report of the trial of a ticket.
     Fetch(u64),
     /// What the project uses.

@@ -2,7 +2,7 @@
 
 use crate::call::Order;
 use crate::refusal::Refusal;
-use crate::reply::Told;
+use crate::reply::FiledReport;
 use pf_quota::Usage;
 use pf_store::Source;
 use std::sync::Arc;
@@ -18,11 +18,11 @@ pub(crate) enum Entry {
     Ordered(Arc<Order>, u64),
     /// A trial was ordered, and refused.
     OrderRefused(Arc<Order>, Refusal),
-    /// The report of the trial of a ticket was told.
-    Fetched(u64, Told),
+    /// The report of the trial of a ticket was handed out.
+    Fetched(u64, FiledReport),
     /// The report of the trial of a ticket was refused.
     FetchRefused(u64, Refusal),
-    /// What the project uses was told.
+    /// What the project uses was handed out.
     Used(Box<Usage>),
     Claimed(u64),
     Filed(u64),

@@ -1,15 +1,15 @@
 //! A run that was ordered.
 
 ghost use Rattle.std.specs.Prelude.{◌≡◌, Ok, IfOk, MatchResult};
+ghost use Rattle.pf_model.specs.Meaning.{Means};
 ghost use Rattle.pf_model.specs.Reports.{report_of};
-ghost use Rattle.pf_book.specs.Profile.{profile};
-ghost use Rattle.pf_book.specs.Orders.{job_asked, IsRefusedJob, is_in_range_order};
+ghost use Rattle.pf_book.specs.Orders.{job_asked, IsRefusedJob};
 
 use crate::call::Order;
 use crate::fault::Fault;
 use crate::numbers::numbered;
 use crate::refusal::Refusal;
-use pf_model::find_root;
+use pf_model::limits::is_in_range;
 use pf_model::report::Report;
 use pf_stepper::run_one;
 use pf_store::Stored;
@@ -21,12 +21,6 @@ use std::sync::Arc;
 
 /// The one property that there is.
 const RETURNS: &[u8] = b"returns";
-
-/// The most steps of a run.
-const MOST_STEPS: u32 = 100_000;
-
-/// The most words of a schedule.
-const MOST_WORDS: usize = 100_000;
 
 /// A run that was ordered: its module, its root and its order, which asks for it.
 #[derive(Drop)]
@@ -51,13 +45,6 @@ impl Model for Job {
     ghost invariant = { IsAsked };
 }
 
-/// Whether an order asks for 1 to 100,000 steps, and for at most 100,000 words.
-fn is_in_range(order: &Order) -> bool
-    ensures { result ≡ is_in_range_order order.now }
-{
-    1 <= order.limit && order.limit <= MOST_STEPS && order.schedule.len() <= MOST_WORDS
-}
-
 impl Job {
     /// The job of an order to a project with these modules.
     pub fn ordered(modules: &[Stored], order: &Arc<Order>) -> Result<Job, Fault>
@@ -66,11 +53,14 @@ impl Job {
             (IsRefusedJob (job_asked modules.now order.now.value)) }
     {
         let stored = numbered(modules, order.module).ok_or(Refusal::NoModule)?;
-        let root = find_root(stored.module(), order.root.as_slice()).ok_or(Refusal::NoRoot)?;
+        let root = stored
+            .module()
+            .root(order.root.as_slice())
+            .ok_or(Refusal::NoRoot)?;
         if order.property.as_slice() != RETURNS {
             return Err(Fault::Refused(Refusal::NoProperty));
         }
-        if !is_in_range(order) {
+        if !is_in_range(order.limit, order.schedule.len()) {
             return Err(Fault::Refused(Refusal::OutOfRange));
         }
         Ok(Job {
@@ -94,7 +84,7 @@ impl Job {
 
     /// The report of the run.
     pub fn run(&self, alloc: Global) -> Result<Report, NoMemory>
-        ensures { IfOk result (λ r. profile.meaning self.now ≡ report_of r) }
+        ensures { IfOk result (λ r. Means self.now.stored.functions self.now.root self.now.limit (report_of r)) }
     {
         run_one(alloc, self.stored.module(), self.root, self.order.limit)
     }

@@ -1,13 +1,12 @@
 //! The desks of all projects: modules that were submitted, trials that were ordered, and what was asked and answered.
 #![tactic(auto)]
 
-mod bench;
 mod book;
 mod call;
+mod desk;
 mod entry;
 mod fault;
 mod job;
-mod laws;
 mod numbers;
 mod plan;
 mod refusal;
@@ -16,6 +15,5 @@ mod trial;
 
 pub use book::Book;
 pub use call::{Call, Order, Word};
-pub use laws::profile_is_right;
 pub use refusal::Refusal;
-pub use reply::{Reply, Told};
+pub use reply::{FiledReport, Reply};

@@ -31,7 +31,7 @@ pub(crate) struct Plan {
 
 impl Plan {
     /// A note and a reply alone.
-    pub fn told(noted: Entry, reply: Reply) -> Plan
+    pub fn reply_alone(noted: Entry, reply: Reply) -> Plan
         ensures { result ≡ record { addition = Addition.Nothing; noted = noted; reply = reply } }
     {
         Plan {

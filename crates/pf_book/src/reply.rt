@@ -21,11 +21,11 @@ struct Filed {
 
 /// The report of a trial, which many may hold. Contracts see the names of its atoms and the report.
 #[derive(Drop)]
-pub struct Told {
+pub struct FiledReport {
     filed: Arc<Filed>,
 }
 
-impl Model for Told {
+impl Model for FiledReport {
     ghost use Rattle.std.specs.Prelude.{List, ℕ};
     ghost use Rattle.std.specs.Arc.{arc_value};
     ghost use Rattle.std.specs.Coded.{coded×};
@@ -40,16 +40,20 @@ impl Model for Told {
     ghost view = { λ t. ((arc_value t.filed).module.value.atoms, report_of (arc_value t.filed).report) };
 }
 
-impl Told {
+impl FiledReport {
     /// This report, which speaks of the atoms of this module.
-    pub(crate) fn new(alloc: Global, code: &Arc<Module>, report: Report) -> Result<Told, NoMemory>
+    pub(crate) fn new(
+        alloc: Global,
+        code: &Arc<Module>,
+        report: Report,
+    ) -> Result<FiledReport, NoMemory>
         ensures { IfOk result (λ t. t ≡ (code.now.value.atoms, report_of report)) }
     {
         let filed = Filed {
             module: Arc::try_clone(code)?,
             report,
         };
-        Ok(Told {
+        Ok(FiledReport {
             filed: Arc::new(alloc, filed)?,
         })
     }
@@ -68,10 +72,10 @@ impl Told {
     }
 
     /// The same once more.
-    pub(crate) fn share(&self) -> Result<Told, NoMemory>
+    pub(crate) fn share(&self) -> Result<FiledReport, NoMemory>
         ensures { IfOk result (λ t. t ≡ self.now) }
     {
-        Ok(Told {
+        Ok(FiledReport {
             filed: Arc::try_clone(&self.filed)?,
         })
     }
@@ -84,7 +88,7 @@ pub enum Reply {
     Module(u64),
     /// The ticket of a trial, counted from 1 in each project.
     Ticket(u64),
-    Report(Told),
+    Report(FiledReport),
     Usage(Usage),
     Refused(Refusal),
 }

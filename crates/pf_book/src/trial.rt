@@ -8,7 +8,7 @@ ghost use Rattle.pf_book.specs.Queued.{queued_job};
 
 use crate::job::Job;
 use crate::refusal::Refusal;
-use crate::reply::Told;
+use crate::reply::FiledReport;
 use std::marker::Model;
 
 /// How far a trial is.
@@ -16,7 +16,7 @@ use std::marker::Model;
 pub(crate) enum State {
     Queued,
     /// Its report is filed.
-    Done(Told),
+    Done(FiledReport),
 }
 
 /// A job, and how far it is.
@@ -64,22 +64,22 @@ impl Trial {
     }
 
     /// Files its report, which speaks of the atoms of its module.
-    pub fn file(&mut self, told: Told)
-        requires { told.0 ≡ self.old.job.stored.atoms }
-        ensures { self.new ≡ record { job = self.old.job; state = desk.done told.1 } }
+    pub fn file(&mut self, report: FiledReport)
+        requires { report.0 ≡ self.old.job.stored.atoms }
+        ensures { self.new ≡ record { job = self.old.job; state = desk.done report.1 } }
     {
-        self.state = State::Done(told);
+        self.state = State::Done(report);
     }
 
     /// Its report, where it is filed.
-    pub fn told(&self) -> Result<&Told, Refusal>
+    pub fn report(&self) -> Result<&FiledReport, Refusal>
         ensures { MatchResult result
-            (λ t. desk.report_in self.now.job.stored.atoms self.now.state ≡ desk.report t.now.0 t.now.1)
+            (λ r. desk.report_in self.now.job.stored.atoms self.now.state ≡ desk.report r.now.0 r.now.1)
             (λ e. desk.report_in self.now.job.stored.atoms self.now.state ≡ desk.refused (refusal_seen e)) }
     {
         match &self.state {
             State::Queued => Err(Refusal::NotDone),
-            State::Done(told) => Ok(told),
+            State::Done(report) => Ok(report),
         }
     }
 }

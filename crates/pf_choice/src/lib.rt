@@ -5,6 +5,3 @@
 mod choices;
 
 pub use choices::{Choices, calls_follow_words};
-
-#[cfg(test)]
-mod tests;

@@ -5,7 +5,7 @@ use Rattle.clap.specs.Words.{Text, Row, Kinds, HasKind, IsAmong, fault_of, first
 use Rattle.clap.specs.declared.error.Error.{Error}
 use Rattle.clap.specs.declared.error.kind.ErrorKind.{ErrorKind}
 use Rattle.clap.specs.declared.error.kind.ErrorKind.TheVariants as kind
-use Rattle.pf_command.specs.Words.{IsFaultOf, pulsefarm, steps, of_command, asked, unless_refused, wanted_of, file_of, words_status}
+use Rattle.pf_command.specs.Words.{IsFaultOf, pulsefarm, of_command, asked, unless_refused, wanted_of, file_of}
 
 refused : {T : Type 0} (kinds : Kinds) (k : ErrorKind) (r : Option T) → IsAmong k kinds → unless_refused kinds r ≡ None
 refused [] k r h = absurd h
@@ -38,12 +38,3 @@ words_file words name rows e = ap (asked (λ (n : Text). first_of (codes "file")
 -- a value that is no number or no schedule, or no command
 pub values_refused : (words : List Text) (k : ErrorKind) → wanted_of words ≡ None → fault_of pulsefarm words ≡ [] → k ≡ kind.InvalidValue → IsFaultOf k words
 values_refused words k e f h = (e, inr (f, h))
-
-some_unrefused : {T : Type 0} (kinds : Kinds) (r : Option T) (t : T) → unless_refused kinds r ≡ Some t → kinds ≡ []
-some_unrefused [] r t e = refl
-some_unrefused (x ∷ xs) r t e = absurd cc
-
--- words that ask for steps are no fault, and have the status of words that ask for no run
-pub steps_status : (words : List Text) → wanted_of words ≡ Some steps → words_status words ≡ 2
-unfolding wanted_of words_status
-steps_status words e = rw (some_unrefused (fault_of pulsefarm words) (asked of_command (subcommand_of pulsefarm words)) steps e) refl

@@ -1,27 +1,31 @@
 -- The rows of answers, for texts and statuses that are equal to theirs.
 use Rattle.std.proofs.Common.{◌≡◌, ℕ, List}
-use Rattle.std.specs.Prelude.{None, Some, codes}
+use Rattle.std.specs.Prelude.{None, Some, true, false}
+use Rattle.pf_fault.specs.Codes.{code_text, refusal_text}
+use Rattle.pf_fault.specs.declared.code.Code.{Code}
+use Rattle.pf_fault.specs.declared.code.Code.TheVariants as table
 use Rattle.pf_terms.specs.Atoms.{name_of}
 use Rattle.pf_syntax.specs.Module.{Checked}
 use Rattle.pf_model.specs.Meaning.{Means, Report}
-use Rattle.pf_model.specs.Root.{root_of}
+use Rattle.pf_syntax.specs.Root.{root_of}
 use Rattle.pf_model.specs.Text.{line, report_text, returns_holds}
-use Rattle.pf_check.specs.Reads.{Reads, refused, accepted_as, refusal_text}
+use Rattle.pf_check.specs.Reads.{Reads, refused, accepted_as}
 use Rattle.pf_command.specs.Words.{Request}
-use Rattle.pf_command.specs.Answers.{Answers, IsWithinBounds, run_status, source_refused, no_root, out_of_bounds, reported}
+use Rattle.pf_command.specs.Answers.{Answers, may_be_asked, run_status, source_refused, no_root, out_of_bounds, reported}
 
-pub row_refused : (r : Request) (bytes text : List ℕ) (number place : ℕ) → Reads bytes (refused number place) → text ≡ line (refusal_text number place) → Answers r bytes text 2
-row_refused r bytes text number place reads e = rw e (source_refused number place reads)
+pub row_refused : (r : Request) (bytes text : List ℕ) (status : ℕ) (code : Code) (place : ℕ) → Reads bytes (refused code place)
+    → text ≡ line (refusal_text code place) → status ≡ 2 → Answers r bytes text status
+row_refused r bytes text status code place reads e s = rw (e, s) (source_refused code place reads)
 
-pub row_no_root : (r : Request) (m : Checked) (bytes text : List ℕ) → Reads bytes (accepted_as m) → root_of r.root m.atoms m.functions ≡ None
-    → text ≡ line (codes "B2") → Answers r bytes text 2
-row_no_root r m bytes text reads none e = rw e (no_root m.name m.atoms m.functions reads none)
+pub row_no_root : (r : Request) (m : Checked) (bytes text : List ℕ) (status : ℕ) → Reads bytes (accepted_as m) → root_of r.root m.atoms m.functions ≡ None
+    → text ≡ line (code_text table.NoRoot) → status ≡ 2 → Answers r bytes text status
+row_no_root r m bytes text status reads none e s = rw (e, s) (no_root m.name m.atoms m.functions reads none)
 
-pub row_out_of_bounds : (r : Request) (m : Checked) (bytes text : List ℕ) (i : ℕ) → Reads bytes (accepted_as m) → root_of r.root m.atoms m.functions ≡ Some i
-    → ¬ IsWithinBounds r → text ≡ line (codes "B6") → Answers r bytes text 2
-row_out_of_bounds r m bytes text i reads root out e = rw e (out_of_bounds m.name m.atoms m.functions i reads root out)
+pub row_out_of_bounds : (r : Request) (m : Checked) (bytes text : List ℕ) (status i : ℕ) → Reads bytes (accepted_as m) → root_of r.root m.atoms m.functions ≡ Some i
+    → may_be_asked r ≡ false → text ≡ line (code_text table.OutOfRange) → status ≡ 2 → Answers r bytes text status
+row_out_of_bounds r m bytes text status i reads root out e s = rw (e, s) (out_of_bounds m.name m.atoms m.functions i reads root out)
 
 pub row_reported : (r : Request) (m : Checked) (bytes text : List ℕ) (i : ℕ) (report : Report) (status : ℕ) → Reads bytes (accepted_as m)
-    → root_of r.root m.atoms m.functions ≡ Some i → IsWithinBounds r → Means m.functions i r.limit report
+    → root_of r.root m.atoms m.functions ≡ Some i → may_be_asked r ≡ true → Means m.functions i r.limit report
     → text ≡ report_text (name_of m.atoms) report → status ≡ run_status (returns_holds report.outcome) → Answers r bytes text status
 row_reported r m bytes text i report status reads root within means e s = rw (e, s) (reported m.name m.atoms m.functions i report reads root within means)

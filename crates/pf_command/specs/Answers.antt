@@ -1,20 +1,26 @@
 -- What a source is answered with under a request: the text that goes out and the status.
-use Rattle.std.specs.Prelude.{◌≡◌, ◌≤◌, ◌+◌, ℕ, Bool, if◌then◌else◌, List, length, take, Option, None, Some, IfSome, codes}
-use Rattle.std.specs.Io.KnownBytes.{Appends, Consumes}
+use Rattle.std.specs.Prelude.{◌≡◌, ◌+◌, ℕ, Bool, true, false, if◌then◌else◌, List, length, take, Option, None, Some, IfSome}
+use Rattle.std.specs.Io.KnownBytes.{Appends}
+use Rattle.pf_fault.specs.Codes.{code_text, refusal_text}
+use Rattle.pf_fault.specs.declared.code.Code.{Code}
+use Rattle.pf_fault.specs.declared.code.Code.TheVariants as table
+use Rattle.pf_fault.specs.declared.fault.OrNoMemory.{OrNoMemory}
+use Rattle.pf_fault.specs.declared.fault.OrNoMemory.TheVariants.{NoMemory, Fault}
 use Rattle.pf_terms.specs.Atoms.{name_of}
-use Rattle.pf_terms.specs.Ends.{AppendsFront}
+use Rattle.pf_terms.specs.Streams.{AppendsFront}
+use Rattle.pf_terms.specs.declared.stream.StreamFault.{StreamFault}
+use Rattle.pf_terms.specs.declared.stream.StreamFault.TheVariants.{Read, Write}
 use Rattle.pf_syntax.specs.Tree.{Program}
+use Rattle.pf_syntax.specs.Root.{root_of}
+use Rattle.pf_model.specs.Limits.{is_in_range}
 use Rattle.pf_model.specs.Meaning.{Means, Report}
-use Rattle.pf_model.specs.Root.{root_of}
 use Rattle.pf_model.specs.Text.{line, report_text, returns_holds}
-use Rattle.pf_check.specs.Reads.{Reads, accepted, refused, refusal_text}
+use Rattle.pf_check.specs.Reads.{Reads, accepted, refused}
 use Rattle.pf_command.specs.Words.{Request}
-use Rattle.pf_command.specs.declared.source.RunFault.{RunFault}
-use Rattle.pf_command.specs.declared.source.RunFault.TheVariants.{Memory, Read, Write}
 
--- a run has from 1 to 100,000 steps, and a schedule at most 100,000 numbers
-abbrev pub IsWithinBounds : Request → Type 0
-IsWithinBounds r = (1 ≤ r.limit) × (r.limit ≤ 100000) × (length r.schedule ≤ 100000)
+-- the run that is asked for is one that may be
+abbrev pub may_be_asked : Request → Bool
+may_be_asked r = is_in_range r.limit (length r.schedule)
 
 -- the status of a run: 0 where its property holds, else 1
 abbrev pub run_status : Bool → ℕ
@@ -23,35 +29,37 @@ run_status holds = if holds then 0 else 1
 -- Answers request bytes text status: a source of these bytes is answered with this text and this status
 pub data Answers (r : Request) (bytes : List ℕ) : List ℕ → ℕ → Type 0 where
   -- the source is refused
-  source_refused : (number place : ℕ) → Reads bytes (refused number place) → Answers r bytes (line (refusal_text number place)) 2
+  source_refused : (code : Code) (place : ℕ) → Reads bytes (refused code place) → Answers r bytes (line (refusal_text code place)) 2
   -- no exported function without arguments has the root's name
   no_root : (name : ℕ) (atoms : List (List ℕ)) (functions : Program) → Reads bytes (accepted name atoms functions)
-      → root_of r.root atoms functions ≡ None → Answers r bytes (line (codes "B2")) 2
+      → root_of r.root atoms functions ≡ None → Answers r bytes (line (code_text table.NoRoot)) 2
   -- the limit or the schedule is out of bounds
   out_of_bounds : (name : ℕ) (atoms : List (List ℕ)) (functions : Program) (i : ℕ) → Reads bytes (accepted name atoms functions)
-      → root_of r.root atoms functions ≡ Some i → ¬ IsWithinBounds r → Answers r bytes (line (codes "B6")) 2
+      → root_of r.root atoms functions ≡ Some i → may_be_asked r ≡ false → Answers r bytes (line (code_text table.OutOfRange)) 2
   -- the report of the module's meaning from the call of the root
   reported : (name : ℕ) (atoms : List (List ℕ)) (functions : Program) (i : ℕ) (report : Report) → Reads bytes (accepted name atoms functions)
-      → root_of r.root atoms functions ≡ Some i → IsWithinBounds r → Means functions i r.limit report
+      → root_of r.root atoms functions ≡ Some i → may_be_asked r ≡ true → Means functions i r.limit report
       → Answers r bytes (report_text (name_of atoms) report) (run_status (returns_holds report.outcome))
 
 -- one more byte than a source may have: so many are read at most
 abbrev pub most_bytes : ℕ
 most_bytes = 65537
 
--- the first 65,537 bytes of what was to be read, where it is known, are answered with the text that went out and the status
+-- these are the first 65,537 bytes of what was to be read, where it is known
+abbrev pub AreRead : Option (List ℕ) → List ℕ → Type 0
+AreRead r0 bytes = IfSome r0 (λ input. bytes ≡ take most_bytes input)
+
+-- what was read is answered with the text that went out and the status
 abbrev pub Answered : Request → (read_old written_old written_new : Option (List ℕ)) → ℕ → Type 0
-Answered r r0 w0 w1 status =
-    (bytes : List ℕ) × (text : List ℕ) × IfSome r0 (λ input. bytes ≡ take most_bytes input) × Answers r bytes text status × Appends w0 w1 text
+Answered r r0 w0 w1 status = (bytes : List ℕ) × (text : List ℕ) × AreRead r0 bytes × Answers r bytes text status × Appends w0 w1 text
 
 -- a beginning of the text of an answer went out
 abbrev pub AnsweredInPart : Request → (read_old written_old written_new : Option (List ℕ)) → Type 0
 AnsweredInPart r r0 w0 w1 =
-    (bytes : List ℕ) × (text : List ℕ) × (status : ℕ) × IfSome r0 (λ input. bytes ≡ take most_bytes input) × Answers r bytes text status × AppendsFront w0 w1 text
+    (bytes : List ℕ) × (text : List ℕ) × (status : ℕ) × AreRead r0 bytes × Answers r bytes text status × AppendsFront w0 w1 text
 
--- what a fault leaves: which end failed once more, and what was read and went out
-abbrev pub Leaves : RunFault → Option Request → (read_old read_new written_old written_new : Option (List ℕ)) → (reads_old reads_new writes_old writes_new : ℕ) → Type 0
-Leaves Memory asked r0 r1 w0 w1 m0 m1 n0 n1 = (m1 ≡ m0) × (n1 ≡ n0) × (w1 ≡ w0)
-Leaves (Read e) asked r0 r1 w0 w1 m0 m1 n0 n1 =
-    (m1 ≡ m0 + 1) × (n1 ≡ n0) × (w1 ≡ w0) × (r : Request) × (asked ≡ Some r) × (read : List ℕ) × Consumes r0 r1 read
-Leaves (Write e) asked r0 r1 w0 w1 m0 m1 n0 n1 = (m1 ≡ m0) × (n1 ≡ n0 + 1) × (r : Request) × (asked ≡ Some r) × AnsweredInPart r r0 w0 w1
+-- what a fault leaves: which stream failed once more, and what went out
+abbrev pub Leaves : OrNoMemory StreamFault → Request → (read_old written_old written_new : Option (List ℕ)) → (reads_old reads_new writes_old writes_new : ℕ) → Type 0
+Leaves NoMemory r r0 w0 w1 m0 m1 n0 n1 = (m1 ≡ m0) × (n1 ≡ n0) × (w1 ≡ w0)
+Leaves (Fault (Read e)) r r0 w0 w1 m0 m1 n0 n1 = (m1 ≡ m0 + 1) × (n1 ≡ n0) × (w1 ≡ w0)
+Leaves (Fault (Write e)) r r0 w0 w1 m0 m1 n0 n1 = (m1 ≡ m0) × (n1 ≡ n0 + 1) × AnsweredInPart r r0 w0 w1

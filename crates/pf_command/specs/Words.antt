@@ -80,14 +80,6 @@ unless_refused (k ∷ ks) r = None
 unfoldable pub wanted_of : List Text → Option Wanted
 wanted_of words = unless_refused (fault_of pulsefarm words) (asked of_command (subcommand_of pulsefarm words))
 
-abbrev pub run_in : Option Wanted → Option Request
-run_in (Some (run r)) = Some r
-run_in _ = None
-
--- the run that the words ask for, where they ask for one
-abbrev pub request_of : List Text → Option Request
-request_of words = run_in (wanted_of words)
-
 -- the file of the source or of the steps; none where it is the standard input
 unfoldable pub file_of : List Text → Option Text
 file_of words = asked (λ name. first_of (codes "file")) (subcommand_of pulsefarm words)

@@ -1,29 +1,28 @@
 //! What a source is answered with: a text and a status.
 
-ghost use Rattle.std.specs.Prelude.{◌≡◌, ◌↔◌, ◌++◌, ◌∷◌, [], ℕ, List, IfOk, IsTrue, Some};
-ghost use Rattle.pf_model.specs.Root.{root_of};
+ghost use Rattle.std.specs.Prelude.{◌≡◌, length, ℕ, List, IfOk, Some, true};
+ghost use Rattle.pf_fault.specs.Codes.{code_text, refusal_text};
+ghost use Rattle.pf_syntax.specs.Root.{root_of};
+ghost use Rattle.pf_model.specs.Limits.{is_in_range};
 ghost use Rattle.pf_model.specs.Text.{line, returns_holds};
 ghost use Rattle.pf_model.specs.Reports.{outcome_of};
-ghost use Rattle.pf_check.specs.Reads.{Reads, accepted_as, number_of, refusal_text};
+ghost use Rattle.pf_check.specs.Reads.{Reads, accepted_as};
 ghost use Rattle.pf_command.specs.Words.{request};
-ghost use Rattle.pf_command.specs.Answers.{Answers, IsWithinBounds, run_status};
+ghost use Rattle.pf_command.specs.Answers.{Answers, run_status};
 
 use crate::words::RunWords;
-use pf_check::{ReadFault, Refusal, read};
-use pf_model::find_root;
+use pf_check::read;
+use pf_fault::{Code, NoMemory, OrNoMemory, Refusal};
+use pf_model::limits::is_in_range;
 use pf_model::report::Outcome;
 use pf_stepper::run_one;
 use pf_syntax::{FunctionId, Module};
-use pf_terms::NoMemory;
 use pf_text::{put, put_byte, put_report, returns_holds};
 use std::alloc::Global;
 use std::sync::Arc;
 
-/// The most steps of a run.
-const MOST_STEPS: u32 = 100_000;
-
-/// The most numbers of a schedule.
-const MOST_NUMBERS: usize = 100_000;
+/// The status where something is refused.
+const REFUSED: u8 = 2;
 
 /// A text that goes out, and the status that the program ends with.
 #[derive(Drop)]
@@ -32,28 +31,36 @@ pub struct Answer {
     pub status: u8,
 }
 
-fn is_within_bounds(words: &RunWords) -> bool
-    ensures { IsTrue result ↔ IsWithinBounds (request words.now) }
-{
-    1 <= words.limit && words.limit <= MOST_STEPS && words.schedule.len() <= MOST_NUMBERS
-}
-
-/// A line of its own.
-fn line_of(alloc: Global, words: &[u8]) -> Result<Vec<u8>, NoMemory>
-    ensures { IfOk result (λ text. text.items ≡ line words.now) }
+/// These words on a line of their own, with the status of what is refused.
+fn refused(alloc: Global, words: &str) -> Result<Answer, NoMemory>
+    ensures text { IfOk result (λ a. a.text.items ≡ line words.entry.now) }
+    ensures status { IfOk result (λ a. a.status ≡ 2) }
 {
     let mut text = Vec::new(alloc);
-    put(&mut text, words)?;
+    put(&mut text, words.as_bytes())?;
     put_byte(&mut text, b'\n')?;
-    Ok(text)
+    Ok(Answer {
+        text,
+        status: REFUSED,
+    })
 }
 
-/// The line of a refusal, as `E6 at 41`.
-fn refusal_line(alloc: Global, refusal: Refusal) -> Result<Vec<u8>, NoMemory>
-    ensures { IfOk result (λ text. text.items ≡ line (refusal_text (number_of refusal.code) refusal.place)) }
+/// A code, as `B2`.
+fn refused_by_code(alloc: Global, code: Code) -> Result<Answer, NoMemory>
+    ensures text { IfOk result (λ a. a.text.items ≡ line (code_text code)) }
+    ensures status { IfOk result (λ a. a.status ≡ 2) }
+{
+    let words = format!(in alloc; "{code}")?;
+    refused(alloc, &words)
+}
+
+/// A code with its place, as `E6 at 41`.
+fn refused_at(alloc: Global, refusal: Refusal) -> Result<Answer, NoMemory>
+    ensures text { IfOk result (λ a. a.text.items ≡ line (refusal_text refusal.code refusal.place)) }
+    ensures status { IfOk result (λ a. a.status ≡ 2) }
 {
     let words = format!(in alloc; "{refusal}")?;
-    line_of(alloc, words.as_bytes())
+    refused(alloc, &words)
 }
 
 /// The status of a run: 0 where the root returned, else 1.
@@ -71,8 +78,9 @@ fn report_run(
     root: FunctionId,
 ) -> Result<Answer, NoMemory>
     requires root { root_of words.now.root.now shared.now.value.atoms shared.now.value.functions ≡ Some root.0 }
-    requires within { IsWithinBounds (request words.now) }
-    ensures { IfOk result (λ a. (bytes : List ℕ) → Reads bytes (accepted_as shared.now.value) → Answers (request words.now) bytes a.text.items a.status) }
+    requires within { is_in_range words.now.limit (length words.now.schedule.items) ≡ true }
+    ensures { IfOk result (λ a. (bytes : List ℕ)
+        → Reads bytes (accepted_as shared.now.value) → Answers (request words.now) bytes a.text.items a.status) }
 {
     let report = run_one(alloc, shared, root, words.limit)?;
     let mut text = Vec::new(alloc);
@@ -83,15 +91,14 @@ fn report_run(
 
 /// The answer to a source that was read.
 fn answer_module(alloc: Global, words: &RunWords, shared: &Arc<Module>) -> Result<Answer, NoMemory>
-    ensures { IfOk result (λ a. (bytes : List ℕ) → Reads bytes (accepted_as shared.now.value) → Answers (request words.now) bytes a.text.items a.status) }
+    ensures { IfOk result (λ a. (bytes : List ℕ)
+        → Reads bytes (accepted_as shared.now.value) → Answers (request words.now) bytes a.text.items a.status) }
 {
-    let Some(root) = find_root(shared, words.root.as_bytes()) else {
-        let text = line_of(alloc, b"B2")?;
-        return Ok(Answer { text, status: 2 });
+    let Some(root) = shared.root(words.root.as_bytes()) else {
+        return refused_by_code(alloc, Code::NoRoot);
     };
-    if !is_within_bounds(words) {
-        let text = line_of(alloc, b"B6")?;
-        return Ok(Answer { text, status: 2 });
+    if !is_in_range(words.limit, words.schedule.len()) {
+        return refused_by_code(alloc, Code::OutOfRange);
     }
     report_run(alloc, words, shared, root)
 }
@@ -105,10 +112,7 @@ pub fn answer_source(alloc: Global, words: &RunWords, source: &[u8]) -> Result<A
             let shared = Arc::new(alloc, checked)?;
             answer_module(alloc, words, &shared)
         }
-        Err(ReadFault::Refused(refusal)) => {
-            let text = refusal_line(alloc, refusal)?;
-            Ok(Answer { text, status: 2 })
-        }
-        Err(ReadFault::Memory) => Err(NoMemory),
+        Err(OrNoMemory::Fault(refusal)) => refused_at(alloc, refusal),
+        Err(OrNoMemory::NoMemory) => Err(NoMemory),
     }
 }

@@ -5,5 +5,5 @@ mod answer;
 mod source;
 mod words;
 
-pub use source::{RunFault, run_source};
+pub use source::run_source;
 pub use words::{RunWords, StepsWords, Words, read_words, status_of_kind};

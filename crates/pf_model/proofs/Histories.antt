@@ -1,31 +1,23 @@
 -- Histories that stay legal.
-use Rattle.std.proofs.Common.{◌≡◌, ℕ, zero, suc, ◌==◌, Bool, true, false, List, [], ◌∷◌, ◌++◌, Option, Some, None, refl, sym, ap, ◌∙◌, subst}
-use Rattle.std.specs.Prelude.{slice_get, slice_set, Result, Ok, Err, if◌then◌else◌}
-use Rattle.pf_model.specs.Desk.{Profile, Desk, no_desk, Entry, called, claimed, filed, Call, submit, order, fetch, usage, Reading, readable, faulty, submitted, Refusal, ordered, answered, job_of}
-use Rattle.pf_model.specs.Desk.{Job, Trial, numbered, running, is_queued, is_running, set_trial, with_state, reply_to, after_call, after_claim, after_once}
-use Rattle.pf_model.specs.History.{after_entry, Follows, IsLegal, replayed, IsLegalDesk}
-use Rattle.pf_model.specs.World.{World, Step, client, once, Answer, did, not_now, desk_at, put_desk, step}
+use Rattle.std.proofs.Common.{◌≡◌, ℕ, ◌==◌, Bool, true, false, List, [], ◌∷◌, ◌++◌, Option, Some, None, refl, sym, ap, subst}
+use Rattle.std.specs.Prelude.{Result, Ok, Err, if◌then◌else◌, option_and_then}
+use Rattle.pf_model.specs.Desk.{Profile, Desk, no_desk, Entry, called, claimed, filed, Call, submit, order, fetch, usage, Reading, readable, faulty, submitted, Refusal, ordered, answered, job_of, Job}
+use Rattle.pf_model.specs.Desk.{numbered, is_queued, is_running, reply_to, after_call, after_claim, after_file, Work, claim, file, once, claim_step, file_step, worker_step}
+use Rattle.pf_model.specs.History.{Follows, IsLegal, IsLegalDesk}
+use Rattle.pf_model.specs.World.{World, Step, client, worker, desk_at, put_desk, worked, step}
 use Rattle.pf_model.specs.Legality.{after_steps}
 use Rattle.pf_model.proofs.Isolated.{desk_placed}
 
 -- ---- a history that is one note longer
 
 module _ (p : Profile) where
-  legal_more : (d : Desk) (es : List Entry) (e : Entry) → IsLegal p d es → Follows p (replayed p d es) e → IsLegal p d (es ++ e ∷ [])
-  legal_more d [] e h next = (next, tt)
-  legal_more d (x ∷ es) e h next = (h.0, legal_more (after_entry p d x) es e h.1 next)
-
-  replayed_more : (d : Desk) (es : List Entry) (e : Entry) → replayed p d (es ++ e ∷ []) ≡ after_entry p (replayed p d es) e
-  replayed_more d [] e = refl
-  replayed_more d (x ∷ es) e = replayed_more (after_entry p d x) es e
+  legal_more : (d k d' : Desk) (es : List Entry) (e : Entry) → IsLegal p d es k → Follows p k e d' → IsLegal p d (es ++ e ∷ []) d'
+  legal_more d k d' [] e h next = (d', subst (λ (x : Desk). Follows p x e d') (sym h) next, refl)
+  legal_more d k d' (x ∷ es) e h next = (h.0, h.1, legal_more h.0 k d' es e h.2 next)
 
   -- the desk after one thing more was noted
-  pub desk_more : (d d' : Desk) (e : Entry) → IsLegalDesk p d → Follows p d e → d' ≡ after_entry p d e → d'.history ≡ d.history ++ e ∷ []
-      → IsLegalDesk p d'
-  desk_more d d' e h next is longer = (
-    subst (IsLegal p no_desk) (sym longer) (legal_more no_desk d.history e h.0 (subst (λ (k : Desk). Follows p k e) (sym h.1) next)),
-    ap (replayed p no_desk) longer ∙ replayed_more no_desk d.history e ∙ ap (λ (k : Desk). after_entry p k e) h.1 ∙ sym is,
-  )
+  pub desk_more : (d d' : Desk) (e : Entry) → IsLegalDesk p d → Follows p d e d' → d'.history ≡ d.history ++ e ∷ [] → IsLegalDesk p d'
+  desk_more d d' e h next longer = subst (λ (es : List Entry). IsLegal p no_desk es d') (sym longer) (legal_more no_desk d d' d.history e h next)
 
 -- ---- calls
 
@@ -48,30 +40,38 @@ module _ (p : Profile) (d : Desk) where
   legal_call : (c : Call) → IsLegalDesk p d → IsLegalDesk p (after_call p d c)
   legal_call c h =
       let e = called c (reply_to p d c) in
-      desk_more p d (after_call p d c) e h refl refl (ap (λ (es : List Entry). es ++ e ∷ []) (call_notes c))
+      desk_more p d (after_call p d c) e h (refl, refl) (ap (λ (es : List Entry). es ++ e ∷ []) (call_notes c))
 
 -- ---- the work of a worker
 
--- what is set where an item is found, is found there
-pub set_found : {X : Type 0} (xs : List X) (i : ℕ) (x y : X) → slice_get xs i ≡ Some x → slice_get (slice_set xs i y) i ≡ Some y
-set_found [] i x y h = absurd (cc)
-set_found (z ∷ xs) zero x y h = refl
-set_found (z ∷ xs) (suc i) x y h = set_found xs i x y h
+-- a step that can be done where this holds is this desk
+where_so : (b : Bool) (d d' : Desk) → (if b then Some d else None) ≡ Some d' → d' ≡ d
+where_so true d d' h = cc
+where_so false d d' h = absurd (cc)
 
--- a trial that was claimed is running
-runs_at : (ts : List Trial) (i : ℕ) (o : Option Trial) → slice_get ts i ≡ o → is_queued o ≡ true
-    → is_running (slice_get (set_trial ts i o (λ (j : Job). running)) i) ≡ true
-runs_at ts i None e h = absurd (cc)
-runs_at ts i (Some t) e h = ap is_running (set_found ts i t (record { job = t.job; state = running }) e)
+module _ (p : Profile) where
+  legal_claim : (d d' : Desk) (t : ℕ) → worker_step p d (claim t) ≡ Some d' → IsLegalDesk p d → IsLegalDesk p d'
+  legal_claim d d' t h legal =
+      let is = where_so (is_queued (numbered d.trials t)) (after_claim d t) d' h in
+      desk_more p d d' (claimed t) legal h (ap (λ (k : Desk). k.history) is)
 
-runs : (ts : List Trial) (t : ℕ) → is_queued (numbered ts t) ≡ true → is_running (numbered (with_state ts t (λ j. running)) t) ≡ true
-runs ts zero h = absurd (cc)
-runs ts (suc i) h = runs_at ts i (slice_get ts i) refl h
+  legal_file : (d d' : Desk) (t : ℕ) → worker_step p d (file t) ≡ Some d' → IsLegalDesk p d → IsLegalDesk p d'
+  legal_file d d' t h legal =
+      let is = where_so (is_running (numbered d.trials t)) (after_file p d t) d' h in
+      desk_more p d d' (filed t) legal h (ap (λ (k : Desk). k.history) is)
 
-legal_once : (p : Profile) (d : Desk) (t : ℕ) → is_queued (numbered d.trials t) ≡ true → IsLegalDesk p d → IsLegalDesk p (after_once p d t)
-legal_once p d t waits h =
-    desk_more p (after_claim d t) (after_once p d t) (filed t)
-    (desk_more p d (after_claim d t) (claimed t) h waits refl refl) (runs d.trials t waits) refl refl
+  legal_once : (d d' : Desk) (t : ℕ) → worker_step p d (once t) ≡ Some d' → IsLegalDesk p d → IsLegalDesk p d'
+  legal_once d d' t h legal = by (claim_step d t) refl h
+    where
+      by : (o : Option Desk) → claim_step d t ≡ o → option_and_then (λ k. file_step p k t) o ≡ Some d' → IsLegalDesk p d'
+      by (Some k) e h = legal_file k d' t h (legal_claim d k t e legal)
+      by None e h = absurd (cc)
+
+  -- a worker's step leads from a legal desk to one
+  pub legal_work : (d d' : Desk) (k : Work) → worker_step p d k ≡ Some d' → IsLegalDesk p d → IsLegalDesk p d'
+  legal_work d d' (claim t) h legal = legal_claim d d' t h legal
+  legal_work d d' (file t) h legal = legal_file d d' t h legal
+  legal_work d d' (once t) h legal = legal_once d d' t h legal
 
 -- ---- worlds
 
@@ -85,20 +85,17 @@ legal_placed p q r d w new old = subst (IsLegalDesk p) (sym (desk_placed q r d w
 abbrev IsLegalWorld : Profile → World → Type 0
 IsLegalWorld p w = (q : ℕ) → IsLegalDesk p (desk_at q w)
 
-abbrev IsLegalAfter : Profile → ℕ → World × Answer → Type 0
-IsLegalAfter p q r = IsLegalDesk p (desk_at q r.0)
-
 legal_step : (p : Profile) (w : World) (s : Step) → IsLegalWorld p w → IsLegalWorld p (step p w s).0
 legal_step p w (client r c) h q = legal_placed p q r (after_call p (desk_at r w) c) w (legal_call p (desk_at r w) c (h r)) (h q)
-legal_step p w (once r t) h q = by (is_queued (numbered (desk_at r w).trials t)) refl
+legal_step p w (worker r k) h q = by (worker_step p (desk_at r w) k) refl
   where
-    by : (b : Bool) → is_queued (numbered (desk_at r w).trials t) ≡ b → IsLegalAfter p q (if b then (put_desk r (after_once p (desk_at r w) t) w, did) else (w, not_now))
-    by true waits = legal_placed p q r (after_once p (desk_at r w) t) w (legal_once p (desk_at r w) t waits (h r)) (h q)
-    by false waits = h q
+    by : (o : Option Desk) → worker_step p (desk_at r w) k ≡ o → IsLegalDesk p (desk_at q (worked r w o).0)
+    by (Some d) e = legal_placed p q r d w (legal_work p (desk_at r w) d k e (h r)) (h q)
+    by None e = h q
 
 legal_from : (p : Profile) (w : World) (ss : List Step) → IsLegalWorld p w → IsLegalWorld p (after_steps p w ss)
 legal_from p w [] h = h
 legal_from p w (s ∷ ss) h = legal_from p (step p w s).0 ss (legal_step p w s h)
 
 pub legal : (p : Profile) (q : ℕ) (ss : List Step) → IsLegalDesk p (desk_at q (after_steps p [] ss))
-legal p q ss = legal_from p [] ss (λ r. (tt, refl)) q
+legal p q ss = legal_from p [] ss (λ r. refl) q

@@ -1,9 +1,9 @@
 -- A step does to a project's desk what it does to one desk, and nothing where it doesn't belong to the project.
-use Rattle.std.proofs.Common.{◌≡◌, ℕ, ◌==◌, Bool, true, false, List, [], ◌∷◌, ◌++◌, refl, ap, ◌∙◌, arith}
-use Rattle.std.specs.Prelude.{if◌then◌else◌}
+use Rattle.std.proofs.Common.{◌≡◌, ℕ, ◌==◌, Bool, true, false, List, [], ◌∷◌, ◌++◌, Option, Some, None, refl, sym, ap, ◌∙◌, arith}
+use Rattle.std.specs.Prelude.{if◌then◌else◌, unwrap_or}
 use Rattle.std.proofs.lemmas.Bool.Decides.{nat_tests}
-use Rattle.pf_model.specs.Desk.{Profile, Desk, Reply, numbered, after_call, after_once, is_queued}
-use Rattle.pf_model.specs.World.{Step, client, once, Answer, World, desk_at, put_desk, step, answers, whole, named, belongs, replies_in, told, own_steps, desk_after, desk_replies, replies_along, alone}
+use Rattle.pf_model.specs.Desk.{Profile, Desk, Call, Reply, after_call, Work, worker_step}
+use Rattle.pf_model.specs.World.{Step, client, worker, Answer, World, desk_at, put_desk, worked, step, answers, whole, named, belongs, replies_in, told, own_steps, desk_after, desk_replies, replies_along, alone}
 
 pub pick : {A : Type 0} (P : A → Type 0) (b : Bool) (x y : A) → P x → P y → P (if b then x else y)
 pick P true x y f g = f
@@ -44,11 +44,26 @@ IsLocal p q w s r =
     ((if named s == q then replies_in r.1 else []) ≡ (if belongs q s r.1 then desk_replies p (desk_at q w) s else []))
     × (desk_at q r.0 ≡ (if belongs q s r.1 then desk_after p (desk_at q w) s else desk_at q w))
 
+local_call : (p : Profile) (q : ℕ) (w : World) (r : ℕ) (c : Call) → IsLocal p q w (client r c) (step p w (client r c))
+local_call p q w r c = (replies_made q r (λ d. desk_replies p d (client r c)) w, desk_made q r (λ d. after_call p d c) w)
+
+-- a worker's step that can be done at the named project's desk is done at this project's, where they are one
+work_made : (p : Profile) (q r : ℕ) (k : Work) (d : Desk) (w : World) → worker_step p (desk_at r w) k ≡ Some d
+    → desk_at q (put_desk r d w) ≡ (if r == q then unwrap_or (worker_step p (desk_at q w) k) (desk_at q w) else desk_at q w)
+work_made p q r k d w h = desk_placed q r d w ∙ by (r == q) refl
+  where
+    by : (b : Bool) → (r == q) ≡ b → (if b then d else desk_at q w) ≡ (if b then unwrap_or (worker_step p (desk_at q w) k) (desk_at q w) else desk_at q w)
+    by true e =
+        sym (ap (λ (n : ℕ). unwrap_or (worker_step p (desk_at n w) k) (desk_at n w)) (sym (same_project q r e)) ∙ ap (λ (o : Option Desk). unwrap_or o (desk_at r w)) h)
+    by false e = refl
+
+local_work : (p : Profile) (q : ℕ) (w : World) (r : ℕ) (k : Work) (o : Option Desk) → worker_step p (desk_at r w) k ≡ o → IsLocal p q w (worker r k) (worked r w o)
+local_work p q w r k (Some d) h = (refl, work_made p q r k d w h)
+local_work p q w r k None h = (no_replies (r == q), refl)
+
 local : (p : Profile) (q : ℕ) (w : World) (s : Step) → IsLocal p q w s (step p w s)
-local p q w (client r c) = (replies_made q r (λ d. desk_replies p d (client r c)) w, desk_made q r (λ d. after_call p d c) w)
-local p q w (once r t) =
-    pick (IsLocal p q w (once r t)) (is_queued (numbered (desk_at r w).trials t)) _ _
-    (refl, desk_made q r (λ d. after_once p d t) w) (no_replies (r == q), refl)
+local p q w (client r c) = local_call p q w r c
+local p q w (worker r k) = local_work p q w r k (worker_step p (desk_at r w) k) refl
 
 joined : (p : Profile) (q : ℕ) (s : Step) (a : Answer) (ss : List Step) (xs : List Answer) (d d' : Desk)
     → (if named s == q then replies_in a else []) ≡ (if belongs q s a then desk_replies p d s else [])

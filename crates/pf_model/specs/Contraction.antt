@@ -1,10 +1,11 @@
 -- Contraction: what one redex becomes, or the reason that it raises.
-use Rattle.std.specs.Prelude.{◌^◌, Bool, true, false, ◌&&◌, nat_le, nat_lt, if◌then◌else◌, ℤ, pos, negsuc, ◌+ℤ◌, ◌-ℤ◌, ◌*ℤ◌, neg_ℤ, int_div, int_rem, List, [], ◌∷◌, Option, Some, None, option_map, slice_get}
-use lib.Signed.{mag}
-use Rattle.pf_terms.specs.Value.{Value, Values, int, tuple as tuple_value, list, none, more, nodes, depth}
-use Rattle.pf_terms.specs.Fixed.{badarith, badmatch, case_clause, function_clause, system_limit, undef}
+use Rattle.std.specs.Prelude.{Bool, true, false, if◌then◌else◌, List, [], ◌∷◌, Option, Some, None, option_map, Result, Ok, Err, slice_get}
+use Rattle.pf_terms.specs.Value.{Value, Values, none, more}
+use Rattle.pf_terms.specs.Fixed.{function_clause, undef}
 use Rattle.pf_syntax.specs.Pattern.{Patterns, no_patterns, pattern}
-use Rattle.pf_syntax.specs.Tree.{Operator, plus, minus, times, quotient, remainder, Tree, Trees, Clauses, Guard, lit, op, neg, call, match, bind, case, no_trees, tree, no_clauses, clause, no_alternatives, alternative, Function, FunctionClause, Program}
+use Rattle.pf_syntax.specs.Tree.{Operator, Tree, Trees, Clauses, Guard, lit, op, neg, call, match, bind, case, no_trees, tree, no_clauses, clause, no_alternatives, alternative, Function, FunctionClause, Program}
+use Rattle.pf_ops.specs.Arithmetic as operators
+use Rattle.pf_ops.specs.Reasons.{no_match, no_case}
 use Rattle.pf_model.specs.Fit.{Scope, fit, fit_all}
 use Rattle.pf_model.specs.Substitution.{sub, sub_patterns}
 
@@ -13,74 +14,18 @@ pub data Change : Type 0 where
   Becomes : Tree → Change
   Raises : Value → Change
 
--- ---- reasons
+-- ---- operators
 
--- whether a value is within the limits
-abbrev pub fits_limits : Value → Bool
-fits_limits v = nat_le (nodes v) 4096 && nat_le (depth v) 64
-
--- a term that the system builds around an inner value; where it would be too large, `system_limit` stands for that value
-abbrev pub built : (Value → Value) → Value → Value
-built around v = if fits_limits (around v) then around v else around system_limit
-
--- {badmatch, V} and {case_clause, V}
-abbrev pub no_match : Value → Value
-no_match = built (λ v. tuple_value (more badmatch (more v none)))
-
-abbrev pub no_case : Value → Value
-no_case = built (λ v. tuple_value (more case_clause (more v none)))
-
--- {E, []}: the reason with which a process ends that raised E
-abbrev pub ending_reason : Value → Value
-ending_reason = built (λ e. tuple_value (more e (more (list none) none)))
-
--- ---- operators on integers
-
--- an integer of 64 bits: `mag z` is z, and -z - 1 where z is below 0. Past them the operation raises
-abbrev pub in_range : ℤ → Bool
-in_range z = nat_lt (mag z) (2 ^ 63)
-
-abbrev pub ranged : ℤ → Change
-ranged z = if in_range z then Becomes (lit (int z)) else Raises system_limit
-
-abbrev pub is_zero : ℤ → Bool
-is_zero (pos n) = nat_lt n 1
-is_zero (negsuc n) = false
-
--- `div` truncates towards zero, and `rem` has the sign of its first operand
-abbrev pub on_integers : Operator → ℤ → ℤ → Change
-on_integers plus x y = ranged (x +ℤ y)
-on_integers minus x y = ranged (x -ℤ y)
-on_integers times x y = ranged (x *ℤ y)
-on_integers quotient x y = if is_zero y then Raises badarith else ranged (int_div x y)
-on_integers remainder x y = if is_zero y then Raises badarith else ranged (int_rem x y)
-on_integers o x y = Raises undef
-
-abbrev pub is_arithmetic : Operator → Bool
-is_arithmetic plus = true
-is_arithmetic minus = true
-is_arithmetic times = true
-is_arithmetic quotient = true
-is_arithmetic remainder = true
-is_arithmetic o = false
-
-abbrev pub integer_of : Value → Option ℤ
-integer_of (int z) = Some z
-integer_of v = None
-
-abbrev pub on_operands : Operator → Option ℤ → Option ℤ → Change
-on_operands o (Some x) (Some y) = on_integers o x y
-on_operands o x y = Raises badarith
+-- what an operator came to: its value, or its raise
+abbrev pub change_of_result : Result Value Value → Change
+change_of_result (Ok v) = Becomes (lit v)
+change_of_result (Err e) = Raises e
 
 abbrev pub applied : Operator → Value → Value → Change
-applied o v w = if is_arithmetic o then on_operands o (integer_of v) (integer_of w) else Raises undef
-
-abbrev pub on_operand : Option ℤ → Change
-on_operand None = Raises badarith
-on_operand (Some z) = ranged (neg_ℤ z)
+applied o v w = change_of_result (operators.applied o v w)
 
 abbrev pub negated : Value → Change
-negated v = on_operand (integer_of v)
+negated v = change_of_result (operators.negated v)
 
 -- ---- matches, clauses and calls
 

@@ -1,5 +1,5 @@
 -- Desks: what the farm holds for one project, and what a call of its clients or the work of a worker makes of it.
-use Rattle.std.specs.Prelude.{ℕ, zero, suc, ◌+◌, Bool, true, false, ◌&&◌, nat_le, if◌then◌else◌, List, [], ◌∷◌, ◌++◌, length, map, Option, Some, None, Result, Ok, Err, slice_get, slice_set, codes}
+use Rattle.std.specs.Prelude.{ℕ, zero, suc, ◌+◌, Bool, true, false, if◌then◌else◌, List, [], ◌∷◌, ◌++◌, length, map, Option, Some, None, option_and_then, Result, Ok, Err, slice_get, slice_set, codes}
 use Rattle.std.specs.Str.{bytes_eq}
 use Rattle.pf_syntax.specs.Tree.{Program}
 use Rattle.pf_quota.specs.Usage.{usage_of}
@@ -7,7 +7,8 @@ use Rattle.pf_quota.specs.declared.usage.Usage.{Usage}
 use Rattle.pf_quota.specs.declared.charges.Held.{Held}
 use Rattle.pf_quota.specs.declared.charges.Held.TheVariants as held
 use Rattle.pf_model.specs.Meaning.{Report}
-use Rattle.pf_model.specs.Root.{root_of}
+use Rattle.pf_syntax.specs.Root.{root_of}
+use Rattle.pf_model.specs.Limits.{is_in_range}
 
 -- ---- what a desk holds
 
@@ -97,16 +98,12 @@ submitted d text (readable atoms functions) =
     (record d { modules = d.modules ++ record { source = text; atoms = atoms; functions = functions } ∷ [] }, number (length d.modules + 1))
 submitted d text (faulty n) = (d, refused (source n))
 
--- a limit is from 1 to 100,000, and a schedule has at most 100,000 numbers
-abbrev pub is_in_range : List ℕ → ℕ → Bool
-is_in_range schedule limit = nat_le 1 limit && (nat_le limit 100000 && nat_le (length schedule) 100000)
-
 -- the job of an order, or what it is refused for: first the root, then the property, then the range
 abbrev pub job_from : Stored → Option ℕ → (property schedule : List ℕ) → ℕ → Result Job Refusal
 job_from m None property schedule limit = Err no_root
 job_from m (Some root) property schedule limit =
     if bytes_eq property (codes "returns")
-    then (if is_in_range schedule limit
+    then (if is_in_range limit (length schedule)
     then Ok (record { stored = m; root = root; schedule = schedule; limit = limit })
     else Err out_of_range)
     else Err no_property
@@ -194,6 +191,22 @@ after_claim d t = with_entry (record d { trials = with_state d.trials t (λ j. r
 abbrev pub after_file : Profile → Desk → ℕ → Desk
 after_file p d t = with_entry (record d { trials = with_state d.trials t (λ j. done (p.meaning j)) }) (filed t)
 
--- a worker claims a queued trial, runs it whole and files its report
-abbrev pub after_once : Profile → Desk → ℕ → Desk
-after_once p d t = after_file p (after_claim d t) t
+-- what a worker does at the trial of a ticket: it claims it, it files its report, or it runs it whole, from claim to file
+pub data Work : Type 0 where
+  claim : ℕ → Work
+  file : ℕ → Work
+  once : ℕ → Work
+
+-- only what is queued is claimed
+abbrev pub claim_step : Desk → ℕ → Option Desk
+claim_step d t = if is_queued (numbered d.trials t) then Some (after_claim d t) else None
+
+-- only what is running is filed
+abbrev pub file_step : Profile → Desk → ℕ → Option Desk
+file_step p d t = if is_running (numbered d.trials t) then Some (after_file p d t) else None
+
+-- the desk after a worker's step, where the step can be done
+abbrev pub worker_step : Profile → Desk → Work → Option Desk
+worker_step p d (claim t) = claim_step d t
+worker_step p d (file t) = file_step p d t
+worker_step p d (once t) = option_and_then (λ k. file_step p k t) (claim_step d t)

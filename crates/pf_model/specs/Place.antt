@@ -3,7 +3,8 @@ use Rattle.std.specs.Prelude.{◌≡◌, ℕ, List, [], ◌∷◌, Some}
 use Rattle.pf_terms.specs.Value.{Value, Values, none, more}
 use Rattle.pf_syntax.specs.Pattern.{Patterns}
 use Rattle.pf_syntax.specs.Tree.{Operator, Tree, Trees, Clauses, lit, op, neg, call, match, bind, case, tree, Program}
-use Rattle.pf_model.specs.Contraction.{Change, Becomes, Raises, contract, ending_reason}
+use Rattle.pf_ops.specs.Reasons.{ending_reason}
+use Rattle.pf_model.specs.Contraction.{Change, Becomes, Raises, contract}
 
 pub data Frame : Type 0 where
   left_of : Operator → Tree → Frame

@@ -6,7 +6,7 @@ use Rattle.pf_quota.specs.declared.usage.Usage.{Usage}
 use Rattle.pf_model.specs.Meaning.{Report}
 use Rattle.pf_model.specs.Text.{line, report_text}
 use Rattle.pf_model.specs.Desk.{Refusal, source, no_module, no_root, no_property, no_trial, not_done, out_of_range, Reply, number, ticket, report, uses, refused}
-use Rattle.pf_model.specs.World.{Step, client, once, Answer, replied, did, not_now, named}
+use Rattle.pf_model.specs.World.{Step, client, worker, Answer, replied, work_done, not_now, named}
 
 abbrev pub refusal_code : Refusal → List ℕ
 refusal_code (source n) = codes "E" ++ decimal n
@@ -48,13 +48,13 @@ reply_text q r = to_project q (reply_head r) ++ reply_rest r
 
 abbrev pub answer_text : ℕ → Answer → List ℕ
 answer_text q (replied r) = reply_text q r
-answer_text q did = line (codes "w0 done")
+answer_text q work_done = line (codes "w0 done")
 answer_text q not_now = line (codes "w0 not now N2")
 
 -- a growth was refused in a step, which left all as it was
 abbrev pub memory_text : Step → List ℕ
 memory_text (client q c) = to_project q (codes "refused NoMemory")
-memory_text (once q t) = line (codes "w0 no memory")
+memory_text (worker q k) = line (codes "w0 no memory")
 
 -- what came of a step
 abbrev pub outcome_text : Step → Option Answer → List ℕ

@@ -1,15 +1,15 @@
 -- Worlds: many projects and their workers, and what one project would be told if it were alone.
-use Rattle.std.specs.Prelude.{◌≡◌, ℕ, Bool, true, false, ◌==◌, if◌then◌else◌, List, [], ◌∷◌, ◌++◌, Option, Some, None}
-use Rattle.pf_model.specs.Desk.{Profile, Desk, no_desk, Call, Reply, numbered, reply_to, after_call, is_queued, after_once}
+use Rattle.std.specs.Prelude.{◌≡◌, ℕ, Bool, true, false, ◌==◌, if◌then◌else◌, List, [], ◌∷◌, ◌++◌, Option, Some, None, unwrap_or}
+use Rattle.pf_model.specs.Desk.{Profile, Desk, no_desk, Call, Reply, reply_to, after_call, Work, worker_step}
 
--- a client of a project makes a call, or a worker runs a trial of it from claim to file
+-- a client of a project makes a call, or a worker does something for it
 pub data Step : Type 0 where
   client : ℕ → Call → Step
-  once : ℕ → ℕ → Step
+  worker : ℕ → Work → Step
 
 pub data Answer : Type 0 where
   replied : Reply → Answer
-  did : Answer
+  work_done : Answer
   not_now : Answer
 
 -- the desks by project, in the order in which they were opened
@@ -26,13 +26,15 @@ abbrev pub put_desk : ℕ → Desk → World → World
 put_desk q d [] = (q, d) ∷ []
 put_desk q d (e ∷ es) = if q == e.0 then (e.0, d) ∷ es else e ∷ put_desk q d es
 
--- a call is answered by its project's desk; a worker has work only where the trial is queued
+-- the world with the desk that a worker's step leads to, where the step can be done
+abbrev pub worked : ℕ → World → Option Desk → World × Answer
+worked q w (Some d) = (put_desk q d w, work_done)
+worked q w None = (w, not_now)
+
+-- a call is answered by its project's desk, and a worker's step is done there
 abbrev pub step : Profile → World → Step → World × Answer
 step p w (client q c) = (put_desk q (after_call p (desk_at q w) c) w, replied (reply_to p (desk_at q w) c))
-step p w (once q t) =
-    if is_queued (numbered (desk_at q w).trials t)
-    then (put_desk q (after_once p (desk_at q w) t) w, did)
-    else (w, not_now)
+step p w (worker q k) = worked q w (worker_step p (desk_at q w) k)
 
 abbrev pub answers : Profile → World → List Step → List Answer
 answers p w [] = []
@@ -47,11 +49,11 @@ whole p ss = answers p [] ss
 -- the project that a step names
 abbrev pub named : Step → ℕ
 named (client q c) = q
-named (once q t) = q
+named (worker q k) = q
 
 abbrev pub happened : Answer → Bool
 happened (replied r) = true
-happened did = true
+happened work_done = true
 happened not_now = false
 
 -- a step belongs to the project that it names, but one that was answered `not now` to none
@@ -60,7 +62,7 @@ belongs q s a = if happened a then named s == q else false
 
 abbrev pub replies_in : Answer → List Reply
 replies_in (replied r) = r ∷ []
-replies_in did = []
+replies_in work_done = []
 replies_in not_now = []
 
 -- what a project is told by the answers to some steps
@@ -78,11 +80,11 @@ own_steps q (s ∷ ss) (a ∷ xs) = if belongs q s a then s ∷ own_steps q ss x
 -- one desk after a step, and the replies that it gives
 abbrev pub desk_after : Profile → Desk → Step → Desk
 desk_after p d (client q c) = after_call p d c
-desk_after p d (once q t) = after_once p d t
+desk_after p d (worker q k) = unwrap_or (worker_step p d k) d
 
 abbrev pub desk_replies : Profile → Desk → Step → List Reply
 desk_replies p d (client q c) = reply_to p d c ∷ []
-desk_replies p d (once q t) = []
+desk_replies p d (worker q k) = []
 
 -- the replies of one desk along some steps, where there is no other desk
 abbrev pub replies_along : Profile → Desk → List Step → List Reply
@@ -99,9 +101,15 @@ Isolation = (p : Profile) (q : ℕ) (ss : List Step) → told q ss (whole p ss) 
 
 -- ---- where growths are refused
 
--- Came p w steps xs: from a world, some steps are answered in turn; a step in which a growth was refused is answered by none, and
--- changes nothing
-pub data Came (p : Profile) : World → List Step → List (Option Answer) → Type 0 where
-  over : (w : World) → Came p w [] []
-  answered : (w : World) (s : Step) (ss : List Step) (xs : List (Option Answer)) → Came p (step p w s).0 ss xs → Came p w (s ∷ ss) (Some (step p w s).1 ∷ xs)
-  refused : (w : World) (s : Step) (ss : List Step) (xs : List (Option Answer)) → Came p w ss xs → Came p w (s ∷ ss) (None ∷ xs)
+-- AnswersStep p w s x w': in a world a step is answered so, and leads to a world. Where a growth was refused it is answered by none, and
+-- changes nothing; it is then one that would have happened
+abbrev pub AnswersStep : Profile → World → Step → Option Answer → World → Type 0
+AnswersStep p w s (Some a) w' = ◌≡◌ {A = World × Answer} (step p w s) (w', a)
+AnswersStep p w s None w' = (happened (step p w s).1 ≡ true) × (w' ≡ w)
+
+-- from a world, some steps are answered in turn
+abbrev pub AnswersInTurn : Profile → World → List Step → List (Option Answer) → Type 0
+AnswersInTurn p w [] [] = Unit {0}
+AnswersInTurn p w [] (x ∷ xs) = ⊥
+AnswersInTurn p w (s ∷ ss) [] = ⊥
+AnswersInTurn p w (s ∷ ss) (x ∷ xs) = (w' : World) × AnswersStep p w s x w' × AnswersInTurn p w' ss xs

@@ -7,7 +7,7 @@ ghost use Rattle.pf_model.specs.Examples.{TextsOfExamples};
 ghost use Rattle.pf_model.specs.World.{Isolation};
 ghost use Rattle.pf_model.specs.Legality.{Legality};
 
-/// The function of fit answers as the relation between a pattern, a value and the variables before and after holds.
+/// The function of fit answers as the relation holds between a pattern, a value and the variables around it.
 pub fn fit_is_a_relation()
     ensures { FitIsRelation }
 {}
@@ -27,14 +27,14 @@ pub fn texts_of_examples()
     ensures { TextsOfExamples }
 {}
 
-/// Isolation: for every list of steps, of any length, in any order and of any number of projects, a project is told what it is
-/// told alone, along its own steps.
+/// Isolation: for every list of steps, of any length, in any order and of any number of projects, a project is
+/// told what it is told alone, along its own steps.
 pub fn isolation()
     ensures { Isolation }
 {}
 
-/// Legality: for every list of steps, each project's desk is what its own history makes of an empty one, and the history is
-/// legal.
+/// Legality: for every list of steps, each project's desk is what its own history makes of an empty one, and the
+/// history is legal.
 pub fn legality()
     ensures { Legality }
 {}

@@ -1,17 +1,6 @@
-//! What a module of the language means: the definitions, their laws, and a plain program that follows them.
+//! What a module of the language means, and what desks and worlds are: the definitions and their laws.
 #![tactic(auto)]
 
-pub mod arithmetic;
-mod contraction;
-mod fitting;
-pub mod functions;
 pub mod laws;
-pub mod plain;
-pub mod reasons;
+pub mod limits;
 pub mod report;
-mod root;
-pub mod run;
-mod steps;
-mod substitution;
-
-pub use root::find_root;

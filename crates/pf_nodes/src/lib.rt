@@ -11,6 +11,3 @@ mod spare;
 
 pub use mail::{MailList, Spot};
 pub use spare::Pool;
-
-#[cfg(test)]
-mod tests;

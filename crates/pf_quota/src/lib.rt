@@ -9,6 +9,3 @@ mod usage;
 pub use charges::{Charge, Held, trial_steps};
 pub use refusals::{MAX_BYTES, MAX_CALLS, MAX_MODULES, MAX_STEPS, MAX_TRIALS, Refusal};
 pub use usage::{Usage, limits_hold, usage_follows_held};
-
-#[cfg(test)]
-mod tests;

@@ -1,22 +1,23 @@
 -- A turn so far, and the rest of it, over the process itself.
-use Rattle.std.proofs.Common.{◌≡◌, ℕ, zero, suc, ◌+◌, ◌-◌, ◌<◌, ◌≤◌, List, Some, refl, sym, ap, ◌∙◌, subst, arith}
+use Rattle.std.proofs.Common.{◌≡◌, ℕ, zero, suc, ◌+◌, ◌-◌, ◌<◌, ◌≤◌, List, [], ◌∷◌, Some, refl, sym, ap, ◌∙◌, subst, arith}
 use Rattle.std.specs.Prelude.{IfOk, Result}
+use Rattle.std.proofs.lemmas.Result.{IfOk-weaker}
 use Rattle.pf_terms.specs.Value.{Value, none}
 use Rattle.pf_terms.specs.Fixed.{normal}
 use Rattle.pf_terms.specs.Term.{value_of}
-use Rattle.pf_terms.specs.declared.memory.NoMemory.{NoMemory}
+use Rattle.pf_fault.specs.declared.memory.NoMemory.{NoMemory}
 use Rattle.pf_terms.specs.declared.term.Term.{Term}
 use Rattle.pf_syntax.specs.Tree.{Tree, lit, call, no_trees, Program}
 use Rattle.pf_model.specs.Contraction.{Change, Becomes, Raises}
 use Rattle.pf_model.specs.Place.{Frame, after, Process, Running, Ending, Ended, returned, failed, Steps}
-use Rattle.pf_model.specs.Meaning.{IsEnabled, Label, ends, cut, Turn, stop_running, stop_ending, finish, give_up, go, Means, outcome_of, limit, finished, ended}
+use Rattle.pf_model.specs.Meaning.{IsEnabled, Label, ends, cut, Turn, stop_running, stop_ending, finish, give_up, go, only_turn, Run, Means, Report as Meant, outcome_of, limit, finished, ended}
+use Rattle.pf_model.proofs.Meanings.{run_of_turn}
 use Rattle.pf_model.specs.Reports.{of_one_turn, report_of}
 use Rattle.pf_model.specs.declared.report.Report.{Report}
-use Rattle.pf_model.proofs.Rest.{Rest, cut_is_limit, means_ok}
-use Rattle.pf_stepper.specs.Seen.{Seen, at_call}
+use Rattle.pf_stepper.specs.MachineView.{MachineView, at_call}
 use Rattle.pf_stepper.specs.Moves.{Stepped, with_process}
-use Rattle.pf_stepper.specs.Turns.{Contracts}
-use Rattle.pf_stepper.specs.Runs.{IsRun, SoFar}
+use Rattle.pf_stepper.specs.MicroSteps.{Contracts}
+use Rattle.pf_stepper.specs.Runs.{IsRun, Rest, SoFar}
 use Rattle.pf_stepper.specs.declared.run.Ran.{Ran}
 use Rattle.pf_stepper.specs.declared.run.Ran.TheVariants as r
 
@@ -42,8 +43,8 @@ module _ (m : Program) (left used : ℕ) (start : Process) where
       let one : used + suc k ≡ used + 1 + k = omega arith in
       subst (λ z. Turn m left start l q z) one (rest l q (suc k) (subst (λ z. Turn m z (Running t) l q (suc k)) n (go (left - (used + 1)) k t p q l s h)))
 
-  module _ (s : Seen) (far : SoFar m left used start s) where
-    pub after_step : (s' : Seen) → Stepped s s' → used < left → SoFar m left (used + 1) start s'
+  module _ (s : MachineView) (far : SoFar m left used start s) where
+    pub after_step : (s' : MachineView) → Stepped s s' → used < left → SoFar m left (used + 1) start s'
     after_step s' h below =
         let e : far.now ≡ Running h.tree = some_same far.now (Running h.tree) (sym far.is ∙ h.was) in
         record {
@@ -76,7 +77,27 @@ module _ (m : Program) (left used : ℕ) (start : Process) where
 
 -- ---- the report of the one turn is the meaning
 
+means : (m : Program) (root most : ℕ) (l : Label) (q : Process) (k : ℕ) (x : Meant) → 0 < most → Turn m most (Running (call root no_trees)) l q k → x ≡ of_one_turn l (outcome_of q) k → Means m root most x
+means m root most l q k x some t e =
+    let n : suc (most - 1) ≡ most = omega arith in
+    let z : k + zero ≡ k = omega arith in
+    let start = Running (call root no_trees) in
+    let turn = subst (λ i. Turn m i start l q k) (sym n) t in
+    let run = run_of_turn m (most - 1) k start q l tt turn in
+    subst (Means m root most) (sym e) (record { last = q; run = subst (λ i. Run m most start (only_turn l ∷ []) q i) z (subst (λ i. Run m i start (only_turn l ∷ []) q (k + zero)) n run); outcome = refl })
+
+means_ok : (m : Program) (root most : ℕ) (l : Label) (q : Process) (k : ℕ) (y : Result Report NoMemory) → 0 < most → Turn m most (Running (call root no_trees)) l q k
+    → IfOk y (λ x. report_of x ≡ of_one_turn l (outcome_of q) k) → IfOk y (λ x. Means m root most (report_of x))
+means_ok m root most l q k y some t = IfOk-weaker y (λ x. report_of x ≡ of_one_turn l (outcome_of q) k) (λ x. Means m root most (report_of x)) (λ x e. means m root most l q k (report_of x) some t e)
+
 -- a turn that the limit stopped leaves a process that has not ended
+cut_is_limit : (m : Program) (n : ℕ) (p q : Process) (l : Label) (k : ℕ) → l ≡ cut → Turn m n p l q k → outcome_of q ≡ limit
+cut_is_limit m _ _ _ _ _ e (stop_running t) = refl
+cut_is_limit m _ _ _ _ _ e (stop_ending r) = refl
+cut_is_limit m _ _ _ _ _ e (finish n v) = absurd (cc)
+cut_is_limit m _ _ _ _ _ e (give_up n r) = absurd (cc)
+cut_is_limit m _ _ _ _ _ e (go n k t p q l s r) = cut_is_limit m n p q l k e r
+
 module _ (m : Program) (root most : ℕ) (some : 0 < most) (x : Ran) (h : IsRun m most (Running (call root no_trees)) x) (y : Result Report NoMemory) where
   pub returned_ok : (v : Term) (k : ℕ) → x ≡ r.Returned v k → IfOk y (λ z. report_of z ≡ of_one_turn (ends normal) (finished (value_of v)) k) → IfOk y (λ z. Means m root most (report_of z))
   returned_ok v k is told = means_ok m root most (ends normal) (Ended (returned (value_of v))) k y some (subst (IsRun m most (Running (call root no_trees))) is h) told
@@ -95,7 +116,7 @@ module _ (m : Program) (root most : ℕ) (some : 0 < most) (x : Ran) (h : IsRun 
 -- ---- the machine
 
 -- at the call of the root nothing is done
-pub begins : (m : Program) (left root : ℕ) (s : Seen) → s ≡ at_call 0 m root none → SoFar m left 0 (Running (call root no_trees)) s
+pub begins : (m : Program) (left root : ℕ) (s : MachineView) → s ≡ at_call 0 m root none → SoFar m left 0 (Running (call root no_trees)) s
 begins m left root s e = record {
   now = Running (call root no_trees);
   is = ap (λ x. x.process) e;
@@ -106,7 +127,7 @@ begins m left root s e = record {
 }
 
 -- a step of what a machine stands for
-pub steps_as : (own : ℕ) (m : Program) (p q : Process) (s : Seen) → record { own = own; program = m; process = Some p } ≡ s → Contracts m p q → Stepped s (record { own = own; program = m; process = Some q })
+pub steps_as : (own : ℕ) (m : Program) (p q : Process) (s : MachineView) → record { own = own; program = m; process = Some p } ≡ s → Contracts m p q → Stepped s (record { own = own; program = m; process = Some q })
 steps_as own m (Running t) q s e h = record {
   tree = t;
   process = q;

@@ -2,10 +2,11 @@
 use Rattle.std.specs.Prelude.{◌≡◌, ℕ, Bool, List, ◌++◌, drop, Option}
 use Rattle.pf_terms.specs.declared.term.Term.{Term}
 use Rattle.pf_model.specs.Fit.{Scope}
-use Rattle.pf_model.specs.Scopes.{scope_of, scope_if}
+use Rattle.pf_model.specs.Scopes.{scope_if}
+use Rattle.pf_stepper.specs.View.{activation}
 
 -- slots came onto the stack; where the value fits, the activation above `base` then is what the fit means
 pub record Fitted (base : ℕ) (before after : List Term) (fits : Bool) (meant : Scope → Option Scope) : Type 0 where
   pub added : List Term
   pub grown : after ≡ before ++ added
-  pub fit : meant (scope_of (drop base before)) ≡ scope_if fits (drop base after)
+  pub fit : meant (activation before base) ≡ scope_if fits (drop base after)

@@ -2,8 +2,8 @@
 use Rattle.std.specs.Prelude.{Option, Some, None}
 use Rattle.pf_syntax.specs.Module.{Checked}
 use Rattle.pf_model.specs.Place.{Process}
-use Rattle.pf_stepper.specs.Seen.{Seen}
-use Rattle.pf_stepper.specs.Advanced.{seen, IsSound}
+use Rattle.pf_stepper.specs.MachineView.{MachineView}
+use Rattle.pf_stepper.specs.Advanced.{stack_process, IsSound}
 use Rattle.pf_stepper.specs.declared.frame.Focus.{Focus}
 use Rattle.pf_stepper.specs.declared.stack.Stack.{Stack}
 use Rattle.pf_stepper.specs.declared.machine.Machine.TheInside.{Inside}
@@ -11,10 +11,10 @@ use Rattle.pf_stepper.specs.declared.machine.Machine.TheInside.{Inside}
 -- the process, unless memory was wanting
 abbrev pub process_in : Checked → Stack → Option Focus → Option Process
 process_in m s None = None
-process_in m s (Some x) = Some (seen m s x)
+process_in m s (Some x) = Some (stack_process m s x)
 
-abbrev pub seen_of : Inside → Seen
-seen_of a = record { own = a.own; program = a.module.value.functions; process = process_in a.module.value a.stack a.focus }
+abbrev pub machine_view_of : Inside → MachineView
+machine_view_of a = record { own = a.own; program = a.module.value.functions; process = process_in a.module.value a.stack a.focus }
 
 abbrev pub SoundIn : Stack → Option Focus → Type 0
 SoundIn s None = Unit {0}

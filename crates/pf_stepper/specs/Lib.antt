@@ -2,9 +2,9 @@ pub mod Lookups
 pub mod Fitted
 pub mod View
 pub mod Sound
-pub mod Turns
+pub mod MicroSteps
 pub mod Advanced
-pub mod Seen
+pub mod MachineView
 pub mod Inner
 pub mod Moves
 pub mod Runs

@@ -1,11 +1,10 @@
-//! Turns until the process made a step or is at its end.
+//! Micro-steps until the process made a step or is at its end.
 
 ghost use Rattle.std.specs.Prelude.{IfOk};
-ghost use Rattle.pf_stepper.specs.Sound.{SoundFor};
-ghost use Rattle.pf_stepper.specs.Turns.{Turned};
-ghost use Rattle.pf_stepper.specs.Advanced.{Advanced};
+ghost use Rattle.pf_stepper.specs.MicroSteps.{IsMicroStep};
+ghost use Rattle.pf_stepper.specs.Advanced.{Advanced, IsSound};
 
-use crate::frame::{Focus, Turn};
+use crate::frame::{Focus, MicroStep};
 use crate::stack::Stack;
 use pf_syntax::Module;
 use pf_terms::{NoMemory, Term};
@@ -20,16 +19,21 @@ pub(crate) enum Advance {
 }
 
 impl Stack {
-    /// One turn.
-    fn turn(&mut self, alloc: Global, code: &Module, focus: Focus) -> Result<Turn, NoMemory>
-        requires { SoundFor self.old.env.items self.old.temps.items self.old.base self.old.frames.items focus }
-        ensures { IfOk result (λ t. Turned code.now self.old focus self.new t) }
+    /// One micro-step.
+    fn micro_step(
+        &mut self,
+        alloc: Global,
+        code: &Module,
+        focus: Focus,
+    ) -> Result<MicroStep, NoMemory>
+        requires { IsSound self.old focus }
+        ensures { IfOk result (λ t. IsMicroStep code.now self.old focus self.new t) }
     {
         match focus {
             Focus::Eval(part) => self.evaluate(alloc, code, part),
             Focus::Value(value) => self.give(alloc, code, value),
             Focus::Enter(function, count) => self.enter(code, function, count),
-            Focus::Raised(reason) => Ok(Turn::Failed(reason)),
+            Focus::Raised(reason) => Ok(MicroStep::Failed(reason)),
         }
     }
 
@@ -40,16 +44,16 @@ impl Stack {
         code: &Module,
         first: Focus,
     ) -> Result<Advance, NoMemory>
-        requires { SoundFor self.old.env.items self.old.temps.items self.old.base self.old.frames.items first }
+        requires { IsSound self.old first }
         ensures { IfOk result (λ r. Advanced code.now self.old first self.new r) }
     {
         let mut focus = first;
         loop {
-            match self.turn(alloc, code, focus)? {
-                Turn::Same(next) => focus = next,
-                Turn::Changed(next) => return Ok(Advance::Changed(next)),
-                Turn::Returned(value) => return Ok(Advance::Returned(value)),
-                Turn::Failed(reason) => return Ok(Advance::Failed(reason)),
+            match self.micro_step(alloc, code, focus)? {
+                MicroStep::Same(next) => focus = next,
+                MicroStep::Changed(next) => return Ok(Advance::Changed(next)),
+                MicroStep::Returned(value) => return Ok(Advance::Returned(value)),
+                MicroStep::Failed(reason) => return Ok(Advance::Failed(reason)),
             }
         }
     }

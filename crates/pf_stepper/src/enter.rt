@@ -1,28 +1,28 @@
-//! The turn of a call whose arguments are done.
+//! The micro-step of a call whose arguments are done.
 
 ghost use Rattle.std.specs.Prelude.{IfOk};
 ghost use Rattle.pf_stepper.specs.Sound.{Stacked};
-ghost use Rattle.pf_stepper.specs.Turns.{Turned};
+ghost use Rattle.pf_stepper.specs.MicroSteps.{IsMicroStep};
 
 use crate::clauses::first_clause;
-use crate::frame::{Focus, Turn};
+use crate::frame::{Focus, MicroStep};
 use crate::stack::Stack;
 use pf_syntax::{FunctionId, Module};
 use pf_terms::{AtomId, NoMemory, Term};
 
 impl Stack {
-    /// A call of the last operands: the slots that no frame needs go, so a call at the end of a body keeps none.
+    /// A call of the last operands. The slots that no frame needs go: a call at the end of a body keeps none.
     pub(crate) fn enter(
         &mut self,
         code: &Module,
         function: FunctionId,
         count: usize,
-    ) -> Result<Turn, NoMemory>
+    ) -> Result<MicroStep, NoMemory>
         requires { Stacked self.old.env.items self.old.temps.items self.old.frames.items count }
-        ensures { IfOk result (λ t. Turned code.now self.old (Focus.Enter function count) self.new t) }
+        ensures { IfOk result (λ t. IsMicroStep code.now self.old (Focus.Enter function count) self.new t) }
     {
         match code.function(function) {
-            None => Ok(Turn::Changed(Focus::Raised(Term::Atom(AtomId::UNDEF)))),
+            None => Ok(MicroStep::Changed(Focus::Raised(Term::Atom(AtomId::UNDEF)))),
             Some(found) => {
                 let end = self.top();
                 self.env.truncate(end);
@@ -31,7 +31,7 @@ impl Stack {
                 let clauses = found.clauses.as_slice();
                 let focus = first_clause(code, clauses, &self.temps[from..], &mut self.env)?;
                 self.temps.truncate(from);
-                Ok(Turn::Changed(focus))
+                Ok(MicroStep::Changed(focus))
             }
         }
     }

@@ -1,18 +1,17 @@
-//! The turn of an expression: its value, or its first part in a frame.
+//! The micro-step of an expression: its value, or its first part in a frame.
 
-ghost use Rattle.std.specs.Prelude.{◌≡◌, drop, IfOk, IfSome};
+ghost use Rattle.std.specs.Prelude.{◌≡◌, IfOk, IfSome};
 ghost use Rattle.pf_syntax.specs.declared.node.Node.TheVariants as does;
 ghost use Rattle.pf_syntax.specs.declared.node.Part.TheVariants.{Node as names};
-ghost use Rattle.pf_model.specs.Scopes.{scope_of};
 ghost use Rattle.pf_syntax.specs.Module.{tree_at};
 ghost use Rattle.pf_syntax.specs.Over.{clauses_over, tree_over};
 ghost use Rattle.pf_stepper.specs.Lookups.{clauses_in, left_place, IsLeftInScope};
 ghost use Rattle.pf_stepper.specs.declared.frame.Kind.TheVariants as kind;
-ghost use Rattle.pf_stepper.specs.View.{keeps};
-ghost use Rattle.pf_stepper.specs.Turns.{CanEvaluate, Descended, Turned};
+ghost use Rattle.pf_stepper.specs.View.{activation, keeps};
+ghost use Rattle.pf_stepper.specs.MicroSteps.{CanEvaluate, Descended, IsMicroStep};
 
 use crate::clauses::choose;
-use crate::frame::{Focus, Kind, Turn};
+use crate::frame::{Focus, Kind, MicroStep};
 use crate::stack::{Stack, slot};
 use pf_syntax::{Clause, Module, Node, NodeId, Operator, Part};
 use pf_terms::{AtomId, List, NoMemory, Term};
@@ -25,57 +24,72 @@ impl Stack {
         alloc: Global,
         code: &Module,
         part: Part,
-    ) -> Result<Turn, NoMemory>
+    ) -> Result<MicroStep, NoMemory>
         requires { CanEvaluate self.old }
-        ensures { IfOk result (λ t. Turned code.now self.old (Focus.Eval part) self.new t) }
+        ensures { IfOk result (λ t. IsMicroStep code.now self.old (Focus.Eval part) self.new t) }
     {
         match self.immediate(code, part)? {
-            Some(value) => Ok(Turn::Same(Focus::Value(value))),
+            Some(value) => Ok(MicroStep::Same(Focus::Value(value))),
             None => match part {
                 Part::Node(id) => self.visit(alloc, code, id),
-                _ => Ok(Turn::Changed(Focus::Raised(Term::Atom(AtomId::UNDEF)))),
+                _ => Ok(MicroStep::Changed(Focus::Raised(Term::Atom(AtomId::UNDEF)))),
             },
         }
     }
 
-    /// A node.
-    fn visit(&mut self, alloc: Global, code: &Module, id: NodeId) -> Result<Turn, NoMemory>
+    /// The node of a number; `[]` where there is none.
+    fn visit(&mut self, alloc: Global, code: &Module, id: NodeId) -> Result<MicroStep, NoMemory>
         requires { CanEvaluate self.old }
-        ensures { IfOk result (λ t. Turned code.now self.old (Focus.Eval (names id)) self.new t) }
+        ensures { IfOk result (λ t. IsMicroStep code.now self.old (Focus.Eval (names id)) self.new t) }
     {
         match code.node(id) {
-            None => Ok(Turn::Same(Focus::Value(Term::List(List::Nil)))),
-            Some(node) => match node {
-                Node::Binary(operator, left, right) => {
-                    self.operation(alloc, code, id, *operator, *left, *right)
-                }
-                Node::Negate(part) => self.descend(alloc, code, Kind::Negation, *part),
-                Node::Call(function, arguments) => {
-                    self.pass(code, *function, id, arguments.as_slice(), 0)
-                }
-                Node::Match(_, part) => self.descend(alloc, code, Kind::Match(id, 0), *part),
-                Node::Bind(_, part, _) => self.descend(alloc, code, Kind::Bind(id, 0), *part),
-                Node::Case(part, clauses) => {
-                    self.case(alloc, code, id, *part, clauses.as_slice())
-                }
-                Node::Tuple(_)
-                | Node::Cons(_, _)
-                | Node::AndAlso(_, _)
-                | Node::OrElse(_, _)
-                | Node::Builtin(_, _)
-                | Node::If(_)
-                | Node::Receive(_)
-                | Node::Send(_, _) => Ok(Turn::Changed(Focus::Raised(Term::Atom(AtomId::UNDEF)))),
-            },
+            None => Ok(MicroStep::Same(Focus::Value(Term::List(List::Nil)))),
+            Some(node) => self.visit_node(alloc, code, id, node),
         }
     }
 
-    /// The place of a left operand that is a variable in scope, where the right one is a node, so that the left one can be
-    /// read after it.
+    /// A node: its first part in a frame. A form that has no meaning yet raises.
+    #[inline(always)]
+    fn visit_node(
+        &mut self,
+        alloc: Global,
+        code: &Module,
+        id: NodeId,
+        node: &Node,
+    ) -> Result<MicroStep, NoMemory>
+        requires sound { CanEvaluate self.old }
+        requires found { tree_over code.now.tables node.now ≡ tree_at code.now.tables id.0 }
+        ensures { IfOk result (λ t. IsMicroStep code.now self.old (Focus.Eval (names id)) self.new t) }
+    {
+        match node {
+            Node::Binary(operator, left, right) => {
+                self.operation(alloc, code, id, *operator, *left, *right)
+            }
+            Node::Negate(part) => self.descend(alloc, code, Kind::Negation, *part),
+            Node::Call(function, arguments) => {
+                self.pass(code, *function, id, arguments.as_slice(), 0)
+            }
+            Node::Match(_, part) => self.descend(alloc, code, Kind::Match(id, 0), *part),
+            Node::Bind(_, part, _) => self.descend(alloc, code, Kind::Bind(id, 0), *part),
+            Node::Case(part, clauses) => self.case(alloc, code, id, *part, clauses.as_slice()),
+            Node::Tuple(_)
+            | Node::Cons(_, _)
+            | Node::AndAlso(_, _)
+            | Node::OrElse(_, _)
+            | Node::Builtin(_, _)
+            | Node::If(_)
+            | Node::Receive(_)
+            | Node::Send(_, _) => Ok(MicroStep::Changed(Focus::Raised(Term::Atom(AtomId::UNDEF)))),
+        }
+    }
+
+    /// The place of a left operand that can be read after the right one: the left one is a variable in scope,
+    /// and the right one a node.
     #[inline(always)]
     fn left_in_scope(&self, left: Part, right: Part) -> Option<u32>
-        ensures in_scope { IfSome result (λ x. IsLeftInScope (scope_of (drop self.now.base self.now.env.items)) left x) }
-        ensures place { result ≡ left_place (scope_of (drop self.now.base self.now.env.items)) left right }
+        ensures in_scope { IfSome result (λ x.
+            IsLeftInScope (activation self.now.env.items self.now.base) left x) }
+        ensures place { result ≡ left_place (activation self.now.env.items self.now.base) left right }
     {
         match left {
             Part::Slot(place) => match right {
@@ -89,7 +103,7 @@ impl Stack {
         }
     }
 
-    /// The operands of the operator at a node: the right one at once where the left one stays in its slot, or the left one.
+    /// The operands of the operator at a node. Where the left one stays in its slot, the right one goes first.
     #[inline(always)]
     fn operation(
         &mut self,
@@ -99,21 +113,23 @@ impl Stack {
         operator: Operator,
         left: Part,
         right: Part,
-    ) -> Result<Turn, NoMemory>
+    ) -> Result<MicroStep, NoMemory>
         requires sound { CanEvaluate self.old }
-        requires found { tree_over code.now.tables (does.Binary operator left right) ≡ tree_at code.now.tables id.0 }
-        ensures { IfOk result (λ t. Turned code.now self.old (Focus.Eval (names id)) self.new t) }
+        requires found { tree_over code.now.tables (does.Binary operator left right)
+            ≡ tree_at code.now.tables id.0 }
+        ensures { IfOk result (λ t. IsMicroStep code.now self.old (Focus.Eval (names id)) self.new t) }
     {
         match self.left_in_scope(left, right) {
             Some(place) => {
                 self.wait(Kind::BinaryAfterSlot(operator, place))?;
-                Ok(Turn::Same(Focus::Eval(right)))
+                Ok(MicroStep::Same(Focus::Eval(right)))
             }
             None => self.descend(alloc, code, Kind::BinaryLeft(id), left),
         }
     }
 
-    /// The value of the `case` at a node: at once the body of the first clause that it fits, or a turn of its own.
+    /// The value of the `case` at a node: where it needs no micro-step, the body of the first clause that it
+    /// fits.
     #[inline(always)]
     fn case(
         &mut self,
@@ -122,24 +138,25 @@ impl Stack {
         id: NodeId,
         part: Part,
         clauses: &[Clause],
-    ) -> Result<Turn, NoMemory>
+    ) -> Result<MicroStep, NoMemory>
         requires sound { CanEvaluate self.old }
-        requires clauses { clauses_over code.now.tables clauses.now ≡ clauses_in (tree_at code.now.tables id.0) }
+        requires clauses { clauses_over code.now.tables clauses.now
+            ≡ clauses_in (tree_at code.now.tables id.0) }
         ensures { IfOk result (λ t. Descended code.now self.old (kind.Case id) part self.new t) }
     {
         match self.immediate(code, part)? {
             Some(value) => {
                 let focus = choose(alloc, code, clauses, &value, &mut self.env, self.base)?;
-                Ok(Turn::Changed(focus))
+                Ok(MicroStep::Changed(focus))
             }
             None => {
                 self.wait(Kind::Case(id))?;
-                Ok(Turn::Same(Focus::Eval(part)))
+                Ok(MicroStep::Same(Focus::Eval(part)))
             }
         }
     }
 
-    /// The first part of a node: its value at once to the frame that would wait for it, or a turn of its own in that frame.
+    /// The first part of a node, in the frame that waits for it: its value at once, or a micro-step of its own.
     #[inline(always)]
     fn descend(
         &mut self,
@@ -147,7 +164,7 @@ impl Stack {
         code: &Module,
         kind: Kind,
         part: Part,
-    ) -> Result<Turn, NoMemory>
+    ) -> Result<MicroStep, NoMemory>
         requires sound { CanEvaluate self.old }
         requires keeps { keeps kind ≡ 0 }
         ensures { IfOk result (λ t. Descended code.now self.old kind part self.new t) }
@@ -159,7 +176,7 @@ impl Stack {
             }
             None => {
                 self.wait(kind)?;
-                Ok(Turn::Same(Focus::Eval(part)))
+                Ok(MicroStep::Same(Focus::Eval(part)))
             }
         }
     }

@@ -14,7 +14,7 @@ use crate::stack::{copied, fits_slot};
 use pf_syntax::{Module, PatternId, PatternNode};
 use pf_terms::{List, NoMemory, Term};
 
-/// Whether a value fits, in the activation that begins at `base`. Where it does not, what was bound so far stays.
+/// Whether a value fits, in the activation that begins at `base`. What was bound stays where it does not.
 #[cycle(fit)]
 #[inline(always)]
 pub(crate) fn fit(
@@ -25,7 +25,8 @@ pub(crate) fn fit(
     base: usize,
 ) -> Result<bool, NoMemory>
     requires { base ≤ length env.old.items }
-    ensures { IfOk result (λ b. Fitted base env.old.items env.new.items b (spec.fit (pattern_at code.now.tables pattern.0) (value_of value.now))) }
+    ensures { IfOk result (λ b. Fitted base env.old.items env.new.items b
+        (spec.fit (pattern_at code.now.tables pattern.0) (value_of value.now))) }
 {
     match code.pattern(pattern) {
         None => Ok(true),
@@ -61,7 +62,8 @@ fn fit_tuple(
     base: usize,
 ) -> Result<bool, NoMemory>
     requires { base ≤ length env.old.items }
-    ensures { IfOk result (λ b. Fitted base env.old.items env.new.items b (spec.fit (tuple_of (patterns_at code.now.tables patterns.now)) (value_of value.now))) }
+    ensures { IfOk result (λ b. Fitted base env.old.items env.new.items b
+        (spec.fit (tuple_of (patterns_at code.now.tables patterns.now)) (value_of value.now))) }
 {
     match value {
         Term::Tuple(elements) => fit_all(code, patterns, elements.as_slice(), env, base),
@@ -80,7 +82,9 @@ fn fit_cons(
     base: usize,
 ) -> Result<bool, NoMemory>
     requires { base ≤ length env.old.items }
-    ensures { IfOk result (λ b. Fitted base env.old.items env.new.items b (spec.fit (cons_of (pattern_at code.now.tables head.0) (pattern_at code.now.tables tail.0)) (values (elements_of list.now)))) }
+    ensures { IfOk result (λ b. Fitted base env.old.items env.new.items b
+        (let pattern = cons_of (pattern_at code.now.tables head.0) (pattern_at code.now.tables tail.0) in
+        spec.fit pattern (values (elements_of list.now)))) }
 {
     match list.split() {
         None => Ok(false),
@@ -105,7 +109,8 @@ pub(crate) fn fit_all(
     base: usize,
 ) -> Result<bool, NoMemory>
     requires { base ≤ length env.old.items }
-    ensures { IfOk result (λ b. Fitted base env.old.items env.new.items b (spec.fit_all (patterns_at code.now.tables patterns.now) (values_of values.now))) }
+    ensures { IfOk result (λ b. Fitted base env.old.items env.new.items b
+        (spec.fit_all (patterns_at code.now.tables patterns.now) (values_of values.now))) }
 {
     match patterns {
         [] => match values {

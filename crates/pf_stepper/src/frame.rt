@@ -43,9 +43,9 @@ pub(crate) enum Focus {
     Raised(Term),
 }
 
-/// What a turn does: nothing that the process shows, a contraction, or the end.
+/// What a micro-step does: nothing that the process shows, a contraction, or the end.
 #[derive(Drop)]
-pub(crate) enum Turn {
+pub(crate) enum MicroStep {
     Same(Focus),
     Changed(Focus),
     /// The process returned this value.

@@ -1,11 +1,11 @@
-//! The turn of a value: it goes to the innermost frame.
+//! The micro-step of a value: it goes to the innermost frame.
 
 ghost use Rattle.std.specs.Prelude.{IfOk};
 ghost use Rattle.pf_stepper.specs.Sound.{Stacked};
-ghost use Rattle.pf_stepper.specs.Turns.{Gave, Holds, Turned};
+ghost use Rattle.pf_stepper.specs.MicroSteps.{Gave, Holds, IsMicroStep};
 ghost use Rattle.pf_stepper.specs.declared.frame.Focus.TheVariants.{Value as finished};
 
-use crate::frame::{Frame, Kind, Turn};
+use crate::frame::{Frame, Kind, MicroStep};
 use crate::stack::Stack;
 use pf_syntax::Module;
 use pf_terms::{NoMemory, Term};
@@ -18,12 +18,12 @@ impl Stack {
         alloc: Global,
         code: &Module,
         value: Term,
-    ) -> Result<Turn, NoMemory>
+    ) -> Result<MicroStep, NoMemory>
         requires { Stacked self.old.env.items self.old.temps.items self.old.frames.items 0 }
-        ensures { IfOk result (λ t. Turned code.now self.old (finished value) self.new t) }
+        ensures { IfOk result (λ t. IsMicroStep code.now self.old (finished value) self.new t) }
     {
         match self.frames.pop() {
-            None => Ok(Turn::Returned(value)),
+            None => Ok(MicroStep::Returned(value)),
             Some(frame) => self.fill(alloc, code, frame, value),
         }
     }
@@ -36,7 +36,7 @@ impl Stack {
         code: &Module,
         frame: Frame,
         value: Term,
-    ) -> Result<Turn, NoMemory>
+    ) -> Result<MicroStep, NoMemory>
         requires { Holds self.old frame }
         ensures { IfOk result (λ t. Gave code.now self.old frame value self.new t) }
     {

@@ -2,8 +2,8 @@
 #![tactic(auto)]
 
 mod advance;
-mod arms;
 mod clauses;
+mod continuations;
 mod enter;
 mod evaluate;
 mod fitting;

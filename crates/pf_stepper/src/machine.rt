@@ -2,13 +2,13 @@
 
 ghost use Rattle.std.specs.Prelude.{◌≡◌, IfOk, IsErr, None, OnErr};
 ghost use Rattle.pf_terms.specs.Term.{values_of};
-ghost use Rattle.pf_stepper.specs.Seen.{at_call};
+ghost use Rattle.pf_stepper.specs.MachineView.{at_call};
 ghost use Rattle.pf_stepper.specs.Moves.{Moved, with_process};
 
 use crate::advance::Advance;
 use crate::frame::Focus;
 use crate::stack::Stack;
-use pf_model::reasons::ending_reason;
+use pf_ops::ending_reason;
 use pf_syntax::{FunctionId, Module};
 use pf_terms::{NoMemory, Term, copy};
 use std::alloc::Global;
@@ -28,21 +28,21 @@ pub struct Machine {
 }
 
 impl Model for Machine {
-    ghost use Rattle.pf_stepper.specs.Seen.{Seen, coded_seen};
+    ghost use Rattle.pf_stepper.specs.MachineView.{MachineView, coded_machine_view};
 
-    ghost Value = { Seen };
+    ghost Value = { MachineView };
 
-    ghost coded = { coded_seen };
+    ghost coded = { coded_machine_view };
 
-    ghost use Rattle.pf_stepper.specs.Inner.{IsKept, seen_of};
+    ghost use Rattle.pf_stepper.specs.Inner.{IsKept, machine_view_of};
 
-    ghost view = { seen_of };
+    ghost view = { machine_view_of };
 
     ghost invariant = { IsKept };
 }
 
-/// What a call of a machine did: one step, or the process is at its end, with the value that it returned or with the
-/// reason that it ends with.
+/// What a call of a machine did: one step, or nothing, as the process is at its end. It returned a value, or it
+/// ends with a reason.
 #[derive(Drop)]
 pub enum Move {
     Pure,
@@ -58,7 +58,8 @@ impl Machine {
         function: FunctionId,
         args: Vec<Term>,
     ) -> Result<Machine, NoMemory>
-        ensures { IfOk result (λ m. m ≡ at_call own module.value.functions function.0 (values_of args.items)) }
+        ensures { IfOk result (λ m.
+            m ≡ at_call own module.value.functions function.0 (values_of args.items)) }
     {
         let count = args.len();
         let stack = Stack {

@@ -5,9 +5,9 @@ ghost use Rattle.pf_syntax.specs.Module.{tree_at};
 ghost use Rattle.pf_syntax.specs.Over.{parts_over};
 ghost use Rattle.pf_stepper.specs.Lookups.{arguments_in};
 ghost use Rattle.pf_stepper.specs.Sound.{Stacked};
-ghost use Rattle.pf_stepper.specs.Turns.{Passed};
+ghost use Rattle.pf_stepper.specs.MicroSteps.{Passed};
 
-use crate::frame::{Focus, Kind, Turn};
+use crate::frame::{Focus, Kind, MicroStep};
 use crate::stack::Stack;
 use pf_syntax::{FunctionId, Module, NodeId, Part};
 use pf_terms::NoMemory;
@@ -20,8 +20,8 @@ fn noted(count: usize) -> Result<u32, NoMemory>
 }
 
 impl Stack {
-    /// The arguments of a call after the first `from`: those that need no turn of their own, up to the first that does,
-    /// or the call.
+    /// The arguments of a call after the first `from`: those that need no micro-step of their own, and then the
+    /// first that does, or the call.
     #[inline(always)]
     pub(crate) fn pass(
         &mut self,
@@ -30,8 +30,9 @@ impl Stack {
         id: NodeId,
         arguments: &[Part],
         from: usize,
-    ) -> Result<Turn, NoMemory>
-        requires node { parts_over code.now.tables arguments.now ≡ arguments_in (tree_at code.now.tables id.0) }
+    ) -> Result<MicroStep, NoMemory>
+        requires node { parts_over code.now.tables arguments.now
+            ≡ arguments_in (tree_at code.now.tables id.0) }
         requires stacked { Stacked self.old.env.items self.old.temps.items self.old.frames.items from }
         requires inside { self.old.base ≤ length self.old.env.items }
         ensures { IfOk result (λ t. Passed code.now self.old function id from self.new t) }
@@ -44,11 +45,11 @@ impl Stack {
                 None => {
                     let done = noted(count)?;
                     self.wait(Kind::Argument(function, id, done))?;
-                    return Ok(Turn::Same(Focus::Eval(argument)));
+                    return Ok(MicroStep::Same(Focus::Eval(argument)));
                 }
             }
             count += 1;
         }
-        Ok(Turn::Same(Focus::Enter(function, count)))
+        Ok(MicroStep::Same(Focus::Enter(function, count)))
     }
 }

@@ -1,10 +1,12 @@
 //! One stack of slots for all activations, one of finished operands, and the frames over them.
 
-ghost use Rattle.std.specs.Prelude.{◌≡◌, ◌∷◌, [], ◌++◌, drop, length, option_map, slice_get, IfOk, OnOk};
+ghost use Rattle.std.specs.Prelude.{◌≡◌, ◌∷◌, [], ◌++◌, drop, length, option_map, slice_get, take, IfOk, OnOk};
 ghost use Rattle.pf_terms.specs.Term.{value_of};
-ghost use Rattle.pf_model.specs.Fit as spec;
-ghost use Rattle.pf_model.specs.Scopes.{scope_of, scope_if};
+ghost use Rattle.pf_syntax.specs.Pattern.{slot as variable};
+ghost use Rattle.pf_model.specs.Fit.{fit};
+ghost use Rattle.pf_model.specs.Scopes.{scope_if};
 ghost use Rattle.pf_stepper.specs.Lookups.{IsImmediate, value_at};
+ghost use Rattle.pf_stepper.specs.View.{activation};
 ghost use Rattle.pf_stepper.specs.Sound.{frame_for, top_end};
 
 use crate::frame::{Frame, Kind};
@@ -34,14 +36,15 @@ pub(crate) fn copied(value: &Term) -> Result<Term, NoMemory>
 
 /// The value of a place in the activation that begins at `base`.
 pub(crate) fn slot(env: &[Term], base: usize, place: u32) -> Option<&Term>
-    ensures { option_map (λ v. value_of v.now) result ≡ slice_get (scope_of (drop base env.now)) place }
+    ensures { option_map (λ v. value_of v.now) result ≡ slice_get (activation env.now base) place }
 {
     env.get(base..)?.get(place as usize)
 }
 
 /// Whether a value is that of a place in the activation.
 pub(crate) fn fits_slot(env: &[Term], base: usize, place: u32, value: &Term) -> bool
-    ensures { spec.fit_bound (slice_get (scope_of (drop base env.now)) place) (value_of value.now) (scope_of (drop base env.now)) ≡ scope_if result (drop base env.now) }
+    ensures { fit (variable place) (value_of value.now) (activation env.now base)
+        ≡ scope_if result (drop base env.now) }
 {
     match slot(env, base, place) {
         Some(known) => equal(known, value),
@@ -50,10 +53,11 @@ pub(crate) fn fits_slot(env: &[Term], base: usize, place: u32, value: &Term) -> 
 }
 
 impl Stack {
-    /// The value of an operand that needs no turn of its own: of a literal, or of a variable in scope.
+    /// The value of an operand that needs no micro-step of its own: of a literal, or of a variable in scope.
     #[inline(always)]
     pub(crate) fn immediate(&self, code: &Module, part: Part) -> Result<Option<Term>, NoMemory>
-        ensures { IfOk result (λ o. IsImmediate code.now.tables (scope_of (drop self.now.base self.now.env.items)) part o) }
+        ensures { IfOk result (λ o.
+            IsImmediate code.now.tables (activation self.now.env.items self.now.base) part o) }
     {
         match part {
             Part::Slot(place) => match slot(self.env.as_slice(), self.base, place) {
@@ -71,7 +75,8 @@ impl Stack {
     /// The value of a place in the activation, `[]` where there is none.
     #[inline(always)]
     pub(crate) fn slot_or_nil(&self, place: u32) -> Result<Term, NoMemory>
-        ensures { IfOk result (λ t. value_of t ≡ value_at (scope_of (drop self.now.base self.now.env.items)) place) }
+        ensures { IfOk result (λ t.
+            value_of t ≡ value_at (activation self.now.env.items self.now.base) place) }
     {
         match slot(self.env.as_slice(), self.base, place) {
             Some(value) => copied(value),
@@ -94,7 +99,8 @@ impl Stack {
     /// Such a frame on the stack.
     #[inline(never)]
     pub(crate) fn wait(&mut self, kind: Kind) -> Result<(), NoMemory>
-        ensures ok { OnOk result (self.new.frames.items ≡ self.old.frames.items ++ frame_for kind self.old.base (length self.old.env.items) ∷ []) }
+        ensures ok { OnOk result (self.new.frames.items
+            ≡ self.old.frames.items ++ frame_for kind self.old.base (length self.old.env.items) ∷ []) }
         ensures env { self.new.env ≡ self.old.env }
         ensures temps { self.new.temps ≡ self.old.temps }
         ensures base { self.new.base ≡ self.old.base }
@@ -102,6 +108,18 @@ impl Stack {
         let frame = self.frame(kind);
         self.frames.push(frame)?;
         Ok(())
+    }
+
+    /// Back in the activation of a frame: the slots that came after those that it needs go.
+    #[inline(always)]
+    pub(crate) fn resume(&mut self, frame: Frame)
+        ensures env { self.new.env.items ≡ take frame.end self.old.env.items }
+        ensures temps { self.new.temps ≡ self.old.temps }
+        ensures frames { self.new.frames ≡ self.old.frames }
+        ensures base { self.new.base ≡ frame.base }
+    {
+        self.env.truncate(frame.end);
+        self.base = frame.base;
     }
 
     /// How many slots the frames need.

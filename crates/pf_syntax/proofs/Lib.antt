@@ -8,4 +8,5 @@ pub mod NodeTableExtends
 pub mod NodeTableFolds
 pub mod NodeTableGrown
 pub mod Measures
+pub mod Roots
 mod Worked

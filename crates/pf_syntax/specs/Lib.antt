@@ -4,6 +4,7 @@ pub mod Numbers
 pub mod Code
 pub mod Operators
 pub mod Module
+pub mod Root
 pub mod Over
 pub mod Within
 pub mod View

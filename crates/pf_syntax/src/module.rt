@@ -1,11 +1,12 @@
 //! Checked modules: arenas in which each node stands after its parts, so that code is named by numbers.
 
-ghost use Rattle.std.specs.Prelude.{◌≡◌, ◌≤◌, length, IfNone, IfOk, MatchOption, None, OnErr, OnOk, position, slice_get, Some, ◌&&◌, ◌==◌};
+ghost use Rattle.std.specs.Prelude.{◌≡◌, ◌≤◌, length, IfNone, IfOk, MatchOption, None, OnErr, OnOk, option_map, position, slice_get, Some, ◌&&◌, ◌==◌};
 ghost use Rattle.pf_terms.specs.Value.{list, none};
 ghost use Rattle.pf_terms.specs.Term.{value_of};
 ghost use Rattle.pf_syntax.specs.Pattern.{any};
 ghost use Rattle.pf_syntax.specs.Tree.{lit};
 ghost use Rattle.pf_syntax.specs.Module.{empty, first_named, literal_at, pattern_at, tree_at};
+ghost use Rattle.pf_syntax.specs.Root.{root_of};
 ghost use Rattle.pf_syntax.specs.Over.{function_over, pattern_over, tree_over, with_function, with_literal, with_pattern, with_tables, with_tree};
 ghost use Rattle.pf_syntax.specs.Within.{FunctionStands, PartsStand, PatternPartsStand};
 
@@ -175,6 +176,18 @@ impl Module {
     {
         let index = place(&self.functions, name, arity)?;
         Some(FunctionId(index as u32))
+    }
+
+    /// The function that a run begins in: the exported one of this name without arguments.
+    pub fn root(&self, name: &[u8]) -> Option<FunctionId>
+        ensures { option_map (λ f. f.0) result ≡ root_of name.now self.now.atoms self.now.functions }
+    {
+        // Its contract says that no two names are the same.
+        let _names = self.atoms().len();
+        let atom = self.atoms().find(name)?;
+        let id = self.find(atom, 0)?;
+        let function = self.function(id)?;
+        if function.exported { Some(id) } else { None }
     }
 }
 

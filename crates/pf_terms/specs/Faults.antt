@@ -1,9 +1,8 @@
--- The codes of the faults of building.
-use Rattle.std.specs.Prelude.{ℕ, List, codes}
-use Rattle.pf_terms.specs.declared.build.TermFault.{TermFault}
-use Rattle.pf_terms.specs.declared.build.TermFault.TheVariants.{NoMemory, TooLarge}
+-- The fault of building.
+use Rattle.pf_fault.specs.declared.fault.OrNoMemory.{OrNoMemory}
+use Rattle.pf_fault.specs.declared.fault.OrNoMemory.TheVariants.{Fault}
+use Rattle.pf_terms.specs.declared.build.TooLarge.{TooLarge}
 
--- the code of a fault, as bytes
-abbrev pub code_of : TermFault → List ℕ
-code_of TooLarge = codes "T1"
-code_of NoMemory = codes "NoMemory"
+-- the value would be past its limits
+abbrev pub past_limits : OrNoMemory TooLarge
+past_limits = Fault (record {})

@@ -5,5 +5,5 @@ pub mod Term
 pub mod Falls
 pub mod Atoms
 pub mod Fixed
-pub mod Ends
+pub mod Streams
 pub mod Faults

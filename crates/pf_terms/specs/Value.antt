@@ -1,6 +1,7 @@
 -- Values: what a term is, whatever memory holds it.
 use Rattle.std.specs.Prelude.{Bool, true, false, ◌&&◌, ◌==◌, ◌≤◌, ℕ, ◌+◌, max, ℤ}
 use Rattle.std.specs.Ordering.{int_eq}
+use Rattle.pf_terms.specs.declared.limits.TheConstants.{MOST_DEPTH, MOST_NODES}
 
 mutual
   -- an integer, an atom by its number in a table, a reference, a pid, a tuple or a list
@@ -50,9 +51,9 @@ abbrev mutual
   depth_in none = 0
   depth_in (more v vs) = max (depth v) (depth_in vs)
 
--- a value has at most 4,096 nodes and depth 64
+-- a value is within the limits of nodes and depth
 abbrev pub IsWithinLimits : Value → Type 0
-IsWithinLimits v = (nodes v ≤ 4096) × (depth v ≤ 64)
+IsWithinLimits v = (nodes v ≤ MOST_NODES) × (depth v ≤ MOST_DEPTH)
 
 -- whether two values are the same
 abbrev mutual

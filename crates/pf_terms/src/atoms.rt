@@ -6,8 +6,8 @@ ghost use Rattle.std.specs.Str.{bytes_eq};
 ghost use Rattle.pf_terms.specs.Atoms.{fixed_names, name_of, with_name};
 ghost use Rattle.pf_terms.specs.Order.{TellsApart};
 
-use crate::memory::NoMemory;
 use indexmap::IndexSet;
+use pf_fault::NoMemory;
 use std::alloc::Global;
 use std::marker::Model;
 

@@ -1,49 +1,56 @@
-//! An end of a pipe that fails in one call, for tests.
+//! A reader or a writer that fails in one call, for tests.
 
-ghost use Rattle.std.specs.Prelude.{◌≡◌};
+ghost use Rattle.std.specs.Prelude.{◌≡◌, ◌-◌, ◌↔◌, IsErr, IsTrue};
+ghost use Rattle.std.specs.Io.{ReadsAtMost, WritesAtMost};
+ghost use Rattle.std.specs.Io.KnownBytes.{ReadConsumes, WriteAppends};
 
 use std::io;
 use std::io::{Read, Write};
 
-/// A reader or a writer whose call number `at`, counted from 1, fails and does nothing else; no call fails where `at` is 0.
+/// A reader or a writer of which one call fails and does nothing else. The calls before it and behind it are handed on.
 #[derive(Drop)]
 pub struct FailAt<T> {
     pub inner: T,
-    at: u64,
-    calls: u64,
+    /// The calls up to the one that fails, that one included; 0 where none fails any more.
+    left: u64,
 }
 
 impl<T> FailAt<T> {
+    /// Call number `at` fails, counted from 1; none does where `at` is 0.
     pub fn new(inner: T, at: u64) -> FailAt<T>
         ensures inner { result.inner ≡ inner }
-        ensures at { result.at ≡ at }
-        ensures calls { result.calls ≡ 0 }
+        ensures left { result.left ≡ at }
     {
-        FailAt {
-            inner,
-            at,
-            calls: 0,
-        }
+        FailAt { inner, left: at }
     }
 
-    fn is_refused(&mut self) -> bool
-        ensures { self.new.inner ≡ self.old.inner }
+    /// Counts a call, and tells whether it is the one that fails.
+    fn fails(&mut self) -> bool
+        ensures inner { self.new.inner ≡ self.old.inner }
+        ensures left { self.new.left ≡ self.old.left - 1 }
+        ensures there { IsTrue result ↔ (self.old.left ≡ 1) }
     {
-        self.calls = self.calls.saturating_add(1);
-        self.calls == self.at
+        let is_last = self.left == 1;
+        self.left = self.left.saturating_sub(1);
+        is_last
     }
 }
 
-fn refusal() -> io::Error {
+fn failure() -> io::Error {
     io::Error::from(io::ErrorKind::Other)
 }
 
 impl<R: Read> Read for FailAt<R> {
     ghost remaining = { λ f. R.remaining f.inner };
 
-    fn read(&mut self, buf: &mut [u8]) -> io::Result<usize> {
-        if self.is_refused() {
-            return Err(refusal());
+    fn read(&mut self, buf: &mut [u8]) -> io::Result<usize>
+        ensures bound { ReadsAtMost result buf.new }
+        ensures bytes { ReadConsumes (R.remaining self.old.inner) (R.remaining self.new.inner) result buf.new }
+        ensures left { self.new.left ≡ self.old.left - 1 }
+        ensures there { self.old.left ≡ 1 → IsErr result × (self.new.inner ≡ self.old.inner) }
+    {
+        if self.fails() {
+            return Err(failure());
         }
         self.inner.read(buf)
     }
@@ -52,9 +59,14 @@ impl<R: Read> Read for FailAt<R> {
 impl<W: Write> Write for FailAt<W> {
     ghost contents = { λ f. W.contents f.inner };
 
-    fn write(&mut self, buf: &[u8]) -> io::Result<usize> {
-        if self.is_refused() {
-            return Err(refusal());
+    fn write(&mut self, buf: &[u8]) -> io::Result<usize>
+        ensures bound { WritesAtMost result buf.now }
+        ensures bytes { WriteAppends (W.contents self.old.inner) (W.contents self.new.inner) result buf.now }
+        ensures left { self.new.left ≡ self.old.left - 1 }
+        ensures there { self.old.left ≡ 1 → IsErr result × (self.new.inner ≡ self.old.inner) }
+    {
+        if self.fails() {
+            return Err(failure());
         }
         self.inner.write(buf)
     }

@@ -1,4 +1,4 @@
-//! Values of a run, their order, the names of atoms, and the ends of a pipe that count their failed calls.
+//! Values of a run, their order, the names of atoms, and readers and writers that count their failed calls.
 #![tactic(auto)]
 
 mod atoms;
@@ -6,19 +6,22 @@ mod build;
 mod counted;
 mod fail_at;
 mod laws;
-mod memory;
+mod limits;
 mod ordering;
 mod sameness;
+mod stream;
 mod term;
 #[cfg(test)]
 mod tests;
 
 pub use atoms::{AtomId, AtomTable};
-pub use build::{TermFault, list_of, tuple_of};
-pub use counted::{Counted, EndFault, TakeFault};
+pub use build::{TooLarge, list_of, tuple_of};
+pub use counted::Counted;
 pub use fail_at::FailAt;
 pub use laws::{order_is_exact, order_is_total, same_is_equality};
-pub use memory::NoMemory;
+pub use limits::{MOST_DEPTH, MOST_NODES};
 pub use ordering::order;
+pub use pf_fault::NoMemory;
 pub use sameness::equal;
+pub use stream::StreamFault;
 pub use term::{Cell, Elements, List, Term, copy, depth, nodes};

@@ -6,12 +6,13 @@ ghost use Rattle.pf_terms.specs.Term.{elements_of, value_of, values_of};
 ghost use Rattle.pf_terms.specs.Order.{rank};
 
 use crate::atoms::AtomId;
-use crate::memory::NoMemory;
+use crate::limits::{MOST_DEPTH, MOST_NODES};
+use pf_fault::NoMemory;
 use std::alloc::Global;
 use std::marker::Model;
 use std::sync::Arc;
 
-/// A value of at most 4,096 nodes and depth 64 (Erlang Reference Manual, "Data Types").
+/// A value within the limits of nodes and depth (Erlang Reference Manual, "Data Types").
 #[cycle(term)]
 #[derive(Drop)]
 pub enum Term {
@@ -78,6 +79,7 @@ impl Model for Cell {
     ghost use Rattle.std.specs.Prelude.{◌≡◌, ◌<◌};
     ghost use Rattle.pf_terms.specs.Value.{Values, depth_in, more, nodes_in};
     ghost use Rattle.pf_terms.specs.Code.{coded_values};
+    ghost use Rattle.pf_terms.specs.declared.limits.TheConstants.{MOST_DEPTH, MOST_NODES};
 
     ghost Value = { Values };
 
@@ -88,7 +90,7 @@ impl Model for Cell {
     ghost view = { λ a. more (value_of a.head) (elements_of a.tail) };
 
     ghost invariant = { λ a. (a.nodes ≡ nodes_in (more (value_of a.head) (elements_of a.tail)))
-        × (a.depth ≡ depth_in (more (value_of a.head) (elements_of a.tail))) × (a.nodes < 4096) × (a.depth < 64) };
+        × (a.depth ≡ depth_in (more (value_of a.head) (elements_of a.tail))) × (a.nodes < MOST_NODES) × (a.depth < MOST_DEPTH) };
 
     ghost size = { nodes_in };
 
@@ -102,6 +104,7 @@ impl Model for Elements {
     ghost use Rattle.std.specs.Prelude.{◌≡◌, ◌<◌};
     ghost use Rattle.pf_terms.specs.Value.{Values, depth_in, nodes_in};
     ghost use Rattle.pf_terms.specs.Code.{coded_values};
+    ghost use Rattle.pf_terms.specs.declared.limits.TheConstants.{MOST_DEPTH, MOST_NODES};
 
     ghost Value = { Values };
 
@@ -112,7 +115,7 @@ impl Model for Elements {
     ghost view = { λ a. values_of a.items.items };
 
     ghost invariant = { λ a. (a.nodes ≡ nodes_in (values_of a.items.items))
-        × (a.depth ≡ depth_in (values_of a.items.items)) × (a.nodes < 4096) × (a.depth < 64) };
+        × (a.depth ≡ depth_in (values_of a.items.items)) × (a.nodes < MOST_NODES) × (a.depth < MOST_DEPTH) };
 
     ghost size = { nodes_in };
 
@@ -124,15 +127,39 @@ impl Model for Elements {
 
 /// Whether a tuple or a list may have elements of so many nodes and such a depth.
 fn fit(nodes: u32, depth: u32) -> bool
-    ensures { IsTrue result ↔ ((nodes < 4096) × (depth < 64)) }
+    ensures { IsTrue result ↔ ((nodes < MOST_NODES) × (depth < MOST_DEPTH)) }
 {
-    nodes < 4096 && depth < 64
+    nodes < MOST_NODES && depth < MOST_DEPTH
+}
+
+/// How many nodes elements have together, and how deep the deepest is.
+#[derive(Clone, Copy)]
+pub(crate) struct Size {
+    nodes: u32,
+    depth: u32,
+}
+
+/// The size of these elements, where a tuple or a list of them is within the limits.
+pub(crate) fn size_of(items: &[Term]) -> Option<Size>
+    ensures is { IfSome result (λ s. (s.nodes ≡ nodes_in (values_of items.now)) × (s.depth ≡ depth_in (values_of items.now))) }
+    ensures within { MatchOption result (¬ IsWithinLimits (list (values_of items.now))) (λ _. IsWithinLimits (list (values_of items.now))) }
+{
+    let mut nodes = 0;
+    let mut depth = 0;
+    for item in items {
+        nodes += crate::term::nodes(item);
+        depth = depth.max(crate::term::depth(item));
+        if !fit(nodes, depth) {
+            return None;
+        }
+    }
+    Some(Size { nodes, depth })
 }
 
 /// How many nodes a value has: 1, and for a tuple or a list also those of its elements.
 pub fn nodes(term: &Term) -> u32
     ensures value { result ≡ nodes (value_of term.now) }
-    ensures bound { result ≤ 4096 }
+    ensures bound { result ≤ MOST_NODES }
 {
     match term {
         Term::Tuple(elements) => 1 + elements.nodes(),
@@ -144,7 +171,7 @@ pub fn nodes(term: &Term) -> u32
 /// How deep a value is: 1, and for a tuple or a list 1 more than its deepest element.
 pub fn depth(term: &Term) -> u32
     ensures value { result ≡ depth (value_of term.now) }
-    ensures bound { result ≤ 64 }
+    ensures bound { result ≤ MOST_DEPTH }
 {
     match term {
         Term::Tuple(elements) => 1 + elements.depth(),
@@ -187,7 +214,7 @@ impl List {
     /// How many nodes its elements have together.
     pub fn nodes(&self) -> u32
         ensures value { result ≡ nodes_in (elements_of self.now) }
-        ensures bound { result < 4096 }
+        ensures bound { result < MOST_NODES }
     {
         match self {
             List::Nil => 0,
@@ -198,7 +225,7 @@ impl List {
     /// How deep its deepest element is, 0 where there is none.
     pub fn depth(&self) -> u32
         ensures value { result ≡ depth_in (elements_of self.now) }
-        ensures bound { result < 64 }
+        ensures bound { result < MOST_DEPTH }
     {
         match self {
             List::Nil => 0,
@@ -248,14 +275,14 @@ impl Cell {
 
     fn nodes(&self) -> u32
         ensures value { result ≡ nodes_in self.now }
-        ensures bound { result < 4096 }
+        ensures bound { result < MOST_NODES }
     {
         self.nodes
     }
 
     fn depth(&self) -> u32
         ensures value { result ≡ depth_in self.now }
-        ensures bound { result < 64 }
+        ensures bound { result < MOST_DEPTH }
     {
         self.depth
     }
@@ -274,15 +301,7 @@ impl Elements {
         ensures made { MatchOption result (¬ IsWithinLimits (tuple (values_of items.items))) (λ vs. vs ≡ values_of items.items) }
         ensures within { IfSome result (λ _. IsWithinLimits (tuple (values_of items.items))) }
     {
-        let mut nodes = 0;
-        let mut depth = 0;
-        for item in &items {
-            nodes += crate::term::nodes(item);
-            depth = depth.max(crate::term::depth(item));
-            if !fit(nodes, depth) {
-                return None;
-            }
-        }
+        let Size { nodes, depth } = size_of(&items)?;
         Some(Elements {
             items,
             nodes,
@@ -292,14 +311,14 @@ impl Elements {
 
     fn nodes(&self) -> u32
         ensures value { result ≡ nodes_in self.now }
-        ensures bound { result < 4096 }
+        ensures bound { result < MOST_NODES }
     {
         self.nodes
     }
 
     fn depth(&self) -> u32
         ensures value { result ≡ depth_in self.now }
-        ensures bound { result < 64 }
+        ensures bound { result < MOST_DEPTH }
     {
         self.depth
     }

@@ -8,7 +8,7 @@ use Rattle.std.proofs.lemmas.List.{take_at, append-nil}
 use Rattle.std.proofs.lemmas.Slice.Eq.{bytes_eq-Decides}
 use Rattle.pf_tokens.specs.declared.bytes.Class.{Class}
 use Rattle.pf_tokens.specs.declared.bytes.Class.TheVariants as classes
-use Rattle.pf_tokens.specs.declared.fault.Fault.TheVariants.{UnexpectedByte, IntegerTooLarge}
+use Rattle.pf_fault.specs.declared.code.Code.TheVariants.{UnexpectedByte, IntegerTooLarge}
 use Rattle.pf_tokens.specs.declared.marks.Mark.{Mark}
 use Rattle.pf_tokens.specs.declared.words.Reserved.{Reserved}
 use Rattle.pf_tokens.specs.Bytes.{is_digit, is_lower, is_upper, is_word, is_comment, class_of}

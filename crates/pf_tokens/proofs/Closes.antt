@@ -1,19 +1,18 @@
 -- What is read of a quoted text or a character stands there.
 use Rattle.std.proofs.Common.{◌≡◌, inl, inr, ℕ, suc, ◌+◌, Bool, true, false, cond, eqb, List, [], ◌∷◌, ◌++◌, length, Option, Some, None, Ok, Err, refl, sym, ap, subst, ◌∙◌, append_assoc, length-append, arith}
 use Rattle.std.proofs.lemmas.Bool.{eqb-true}
-use Rattle.pf_tokens.specs.declared.fault.Fault.{Fault}
-use Rattle.pf_tokens.specs.declared.fault.Fault.TheVariants.{UnexpectedByte, Unfinished, IntegerTooLarge, SourceTooLong}
+use Rattle.pf_fault.specs.declared.code.Code.{Code}
+use Rattle.pf_fault.specs.declared.code.Code.TheVariants.{UnexpectedByte, Unfinished}
 use Rattle.pf_tokens.specs.declared.quoted.Step.TheVariants as steps
 use Rattle.pf_tokens.specs.Bytes.{is_quotable, is_visible, escape_of}
 use Rattle.pf_tokens.specs.Scan.{Read, put_byte, escape_step, go_on, closing, behind_dollar, behind_backslash, escaped_character}
 use Rattle.pf_tokens.specs.Rules.{Writes, WritesAll, is_plain_in, is_plain_character, IsWrong, IsCutOff}
 
 -- how quoted text goes wrong behind bytes that are written
-abbrev pub Breaks : Fault → List ℕ → ℕ → ℕ → ℕ → Type 0
+abbrev pub Breaks : Code → List ℕ → ℕ → ℕ → ℕ → Type 0
 Breaks UnexpectedByte rest place at n = IsWrong is_quotable rest × (at ≡ place + n)
 Breaks Unfinished rest place at n = IsCutOff rest × (at ≡ place)
-Breaks IntegerTooLarge rest place at n = ⊥
-Breaks SourceTooLong rest place at n = ⊥
+Breaks _ rest place at n = ⊥
 
 -- the bytes are written up to the quote, or up to where the text breaks off
 abbrev pub Reads : ℕ → ℕ → List ℕ → ℕ → Read (List ℕ × ℕ) → Type 0
@@ -55,11 +54,10 @@ closing_reads quote place (b ∷ bs) false n = by (eqb b quote) (eqb b 92) (is_q
     by false false false pe qe re escaped later = ([], [], b ∷ bs, refl, refl, (inl re, omega arith))
 
 -- how a character goes wrong
-abbrev pub BreaksHere : Fault → List ℕ → ℕ → ℕ → Type 0
+abbrev pub BreaksHere : Code → List ℕ → ℕ → ℕ → Type 0
 BreaksHere UnexpectedByte rest place at = IsWrong is_visible rest × (at ≡ place + 1)
 BreaksHere Unfinished rest place at = IsCutOff rest × (at ≡ place)
-BreaksHere IntegerTooLarge rest place at = ⊥
-BreaksHere SourceTooLong rest place at = ⊥
+BreaksHere _ rest place at = ⊥
 
 -- a character is written, or breaks off
 abbrev pub ReadsOne : ℕ → List ℕ → Read (ℕ × ℕ) → Type 0

@@ -1,7 +1,7 @@
 -- One turn of the loop over a quoted text.
 use Rattle.std.proofs.Common.{◌≡◌, ℕ, ◌+◌, ◌<◌, Bool, true, false, List, [], ◌∷◌, ◌++◌, length, get_or, drop, Option, Some, None, Ok, Err, refl, sym, ap, ◌∙◌, append_assoc, add-one, drop-cons, arith}
 use Rattle.std.proofs.lemmas.List.{drop_all}
-use Rattle.pf_tokens.specs.declared.fault.Fault.TheVariants.{Unfinished}
+use Rattle.pf_fault.specs.declared.code.Code.TheVariants.{Unfinished}
 use Rattle.pf_tokens.specs.declared.quoted.Step.{Step}
 use Rattle.pf_tokens.specs.declared.quoted.Step.TheVariants.{Escapes}
 use Rattle.pf_tokens.specs.Bytes.{escape_of}

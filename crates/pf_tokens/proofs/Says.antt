@@ -9,7 +9,7 @@ use Rattle.std.proofs.lemmas.List.Sums.{prefix_len-le-length}
 use Rattle.std.proofs.lemmas.Slice.Eq.{bytes_eq-Decides}
 use Rattle.pf_tokens.specs.declared.bytes.Class.{Class}
 use Rattle.pf_tokens.specs.declared.bytes.Class.TheVariants as classes
-use Rattle.pf_tokens.specs.declared.fault.Fault.TheVariants.{UnexpectedByte, Unfinished, IntegerTooLarge, SourceTooLong}
+use Rattle.pf_fault.specs.declared.code.Code.TheVariants.{UnexpectedByte, Unfinished, IntegerTooLarge}
 use Rattle.pf_tokens.specs.declared.marks.Mark.{Mark}
 use Rattle.pf_tokens.specs.declared.words.Reserved.{Reserved}
 use Rattle.pf_tokens.specs.Bytes.{is_digit, is_lower, is_upper, is_word, is_comment, is_joined, ends, class_of}
@@ -119,7 +119,7 @@ quoted_outcome quote place bs make (Err (Unfinished, at)) is token_of (meant, bo
     let opens : OpensQuoted (quote ∷ bs) (length body + 1) rest = record { quote = quote; is_quote = is; meant = meant; body = body; writes = all; whole = ap (λ t. quote ∷ t) whole; written_is = refl } in
     (0, omega (arith, at_is), ((rest, short, inl (length body + 1, opens)), refl))
 quoted_outcome quote place bs make (Err (IntegerTooLarge, at)) is token_of (meant, body, rest, whole, all, breaks) = absurd breaks
-quoted_outcome quote place bs make (Err (SourceTooLong, at)) is token_of (meant, body, rest, whole, all, breaks) = absurd breaks
+quoted_outcome quote place bs make (Err (_, at)) is token_of (meant, body, rest, whole, all, breaks) = absurd breaks
 
 code_outcome : (place : ℕ) (bs : List ℕ) (read : Read (ℕ × ℕ)) → ReadsOne place bs read → Says place (36 ∷ bs) (read >>= λ p. Ok (token (kinds.integer p.0) p.1))
 code_outcome place bs (Ok p) (one, rest, whole, writes, at) = record {
@@ -132,7 +132,7 @@ code_outcome place bs (Ok p) (one, rest, whole, writes, at) = record {
 code_outcome place bs (Err (UnexpectedByte, at)) (wrong, at_is) = (1, at_is, inr (bs, inr (refl, refl, wrong)))
 code_outcome place bs (Err (Unfinished, at)) (short, at_is) = (0, omega (arith, at_is), ((bs, short, inr refl), refl))
 code_outcome place bs (Err (IntegerTooLarge, at)) breaks = absurd breaks
-code_outcome place bs (Err (SourceTooLong, at)) breaks = absurd breaks
+code_outcome place bs (Err (_, at)) breaks = absurd breaks
 
 -- ---- marks and others
 

@@ -1,7 +1,7 @@
 -- A quoted text that is written is read again.
 use Rattle.std.proofs.Common.{◌≡◌, inl, inr, ℕ, suc, ◌+◌, Bool, true, false, eqb, not, ◌||◌, List, [], ◌∷◌, ◌++◌, length, Ok, Err, refl, ap, add-zero, ◌∙◌, append_assoc, length-append, arith}
 use Rattle.std.proofs.lemmas.Bool.{eqb-true, eq-eqb}
-use Rattle.pf_tokens.specs.declared.fault.Fault.TheVariants.{UnexpectedByte, Unfinished}
+use Rattle.pf_fault.specs.declared.code.Code.TheVariants.{UnexpectedByte, Unfinished}
 use Rattle.pf_tokens.specs.declared.quoted.Step.TheVariants.{Means}
 use Rattle.pf_tokens.specs.Bytes.{is_quotable, is_visible}
 use Rattle.pf_tokens.specs.Scan.{Read, put_byte, step_of, closing, behind_dollar}

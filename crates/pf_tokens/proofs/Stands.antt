@@ -1,8 +1,8 @@
 -- A fault that stands at the front of a text is read, and no piece or fault is empty.
 use Rattle.std.proofs.Common.{◌≡◌, ◌⊎◌, inl, inr, ℕ, ◌+◌, ◌<◌, Bool, true, false, List, [], ◌∷◌, ◌++◌, length, Option, Some, None, Ok, Err, refl, ap, subst, ◌∙◌, add-zero, arith}
 use Rattle.pf_tokens.specs.declared.bytes.Class.TheVariants as classes
-use Rattle.pf_tokens.specs.declared.fault.Fault.{Fault}
-use Rattle.pf_tokens.specs.declared.fault.Fault.TheVariants.{UnexpectedByte, Unfinished, IntegerTooLarge, SourceTooLong}
+use Rattle.pf_fault.specs.declared.code.Code.{Code}
+use Rattle.pf_fault.specs.declared.code.Code.TheVariants.{UnexpectedByte, Unfinished, IntegerTooLarge}
 use Rattle.pf_tokens.specs.Bytes.{is_digit, is_lower, is_upper}
 use Rattle.pf_tokens.specs.TokenKinds.{TokenKind}
 use Rattle.pf_tokens.specs.TokenKinds as kinds
@@ -35,7 +35,7 @@ piece_some (Some (kinds.mark m)) bytes rest h = rw h.written (mark_some m)
 piece_some (Some (kinds.reserved r)) bytes rest (h, is) = name_some is_lower bytes rest h
 
 -- no fault stands in an empty text
-pub fault_some : (fault : Fault) (n : ℕ) → IsFault fault n [] → ⊥
+pub fault_some : (fault : Code) (n : ℕ) → IsFault fault n [] → ⊥
 fault_some UnexpectedByte n (inl (stray, e)) = stray
 fault_some UnexpectedByte n (inr (rest, inl (opens, wrong))) = let is = opens.whole in cc
 fault_some UnexpectedByte n (inr (rest, inr (is, at, wrong))) = cc
@@ -43,7 +43,7 @@ fault_some Unfinished n ((rest, short, inl (k, opens)), e) = let is = opens.whol
 fault_some Unfinished n ((rest, short, inr is), e) = cc
 fault_some IntegerTooLarge n ((value, [], rest, whole, h, le), e) = let some = h.some in omega arith
 fault_some IntegerTooLarge n ((value, b ∷ bs, rest, whole, h, le), e) = cc
-fault_some SourceTooLong n h = h
+fault_some _ n h = h
 
 -- ---- a byte that opens nothing
 
@@ -76,16 +76,16 @@ stray_again place b bs (shut, none) = by (piece_at place (b ∷ bs)) (piece_says
     by (Err (Unfinished, at)) (n, at_is, ((rest, short, inl (k, opens)), e)) = absurd (no_quote b bs k rest shut opens)
     by (Err (Unfinished, at)) (n, at_is, ((rest, short, inr is), e)) = absurd (no_character b bs rest shut is)
     by (Err (IntegerTooLarge, at)) (n, at_is, ((value, bytes, rest, whole, h, le), e)) = absurd (no_numeral b bs value bytes rest shut whole h)
-    by (Err (SourceTooLong, at)) (n, at_is, never) = absurd never
+    by (Err (_, at)) (n, at_is, never) = absurd never
 
 -- ---- quoted texts
 
-breaks : (quote place : ℕ) (meant body rest : List ℕ) (make : List ℕ × ℕ → Read Cut) (e : Fault × ℕ) → IsQuoteMark quote → WritesAll quote meant body → closing quote place rest false (1 + length body) ≡ Err e
+breaks : (quote place : ℕ) (meant body rest : List ℕ) (make : List ℕ × ℕ → Read Cut) (e : Code × ℕ) → IsQuoteMark quote → WritesAll quote meant body → closing quote place rest false (1 + length body) ≡ Err e
     → (closing quote place (body ++ rest) false 1 >>= make) ≡ Err e
 breaks quote place meant body rest make e mark writes is = rw (closing_skips quote place meant body rest 1 mark writes, is) refl
 
 -- a quoted text breaks off as its bytes do
-quoted_breaks : (place : ℕ) (text : List ℕ) (n : ℕ) (rest : List ℕ) (opens : OpensQuoted text n rest) (e : Fault × ℕ)
+quoted_breaks : (place : ℕ) (text : List ℕ) (n : ℕ) (rest : List ℕ) (opens : OpensQuoted text n rest) (e : Code × ℕ)
     → ((quote : ℕ) → IsQuoteMark quote → closing quote place rest false (1 + length opens.body) ≡ Err e) → piece_at place text ≡ Err e
 quoted_breaks place text n rest opens e is = by opens.quote opens.is_quote opens.whole opens.writes
   where
@@ -100,7 +100,7 @@ quoted_breaks place text n rest opens e is = by opens.quote opens.is_quote opens
         ∙ breaks 34 place opens.meant opens.body rest (λ p. Ok (token (kinds.text p.0) p.1)) e (refl, refl) (subst (λ q. WritesAll q opens.meant opens.body) same writes) (is 34 (refl, refl))
 
 -- a fault that stands there is read
-pub fault_again : (place : ℕ) (fault : Fault) (n : ℕ) (text : List ℕ) → IsFault fault n text → piece_at place text ≡ Err (fault, place + n)
+pub fault_again : (place : ℕ) (fault : Code) (n : ℕ) (text : List ℕ) → IsFault fault n text → piece_at place text ≡ Err (fault, place + n)
 fault_again place UnexpectedByte n [] (inl (stray, e)) = absurd stray
 fault_again place UnexpectedByte n (b ∷ bs) (inl (stray, e)) = stray_again place b bs stray ∙ ap (λ k. Err (UnexpectedByte, k)) (omega arith)
 fault_again place UnexpectedByte n text (inr (rest, inl (opens, wrong))) =
@@ -115,4 +115,4 @@ fault_again place Unfinished n text ((rest, short, inr is), e) =
     ap (piece_at place) is ∙ piece_is place (36 ∷ rest) classes.Dollar refl ∙ rw (character_cut place rest short, e, add-zero) refl
 fault_again place IntegerTooLarge n text ((value, bytes, rest, whole, h, le), e) =
     ap (piece_at place) whole ∙ numeral_fails place value bytes rest h le ∙ ap (λ k. Err (IntegerTooLarge, k)) (omega arith)
-fault_again place SourceTooLong n text never = absurd never
+fault_again place _ n text never = absurd never

@@ -2,8 +2,9 @@
 use Rattle.std.proofs.Common.{◌≡◌, inl, inr, ℕ, zero, suc, ◌+◌, ◌<◌, ◌≤◌, Bool, true, false, cond, leb, List, [], ◌∷◌, ◌++◌, length, drop, Option, Some, None, Ok, Err, refl, sym, ap, subst, ◌∙◌, zero-add, length-append, arith}
 use Rattle.std.proofs.lemmas.Bool.{leb-true, leb-false, le-leb, lt-leb}
 use Rattle.std.proofs.lemmas.List.{drop_at}
-use Rattle.pf_tokens.specs.declared.fault.Fault.{Fault}
-use Rattle.pf_tokens.specs.declared.fault.Fault.TheVariants.{SourceTooLong}
+use Rattle.pf_fault.specs.declared.code.Code.{Code}
+use Rattle.pf_fault.specs.declared.code.Code.TheVariants.{SourceTooLong}
+use Rattle.pf_tokens.specs.declared.scan.TheConstants.{MOST_SOURCE_BYTES}
 use Rattle.pf_tokens.specs.TokenKinds.{TokenKind, Placed, put_first}
 use Rattle.pf_tokens.specs.Scan.{Read, Cut, ◌>>=◌, piece_at, scan, tokens}
 use Rattle.pf_tokens.specs.Rules.{IsPiece, IsFault, Part, Begins, tokens_from, total_length, HasTokens, HasFault, IsOrdered}
@@ -70,14 +71,14 @@ scan_again (suc n) place text (p ∷ ps) le (tail, whole, piece, later) =
     let others = scan_again n (place + length p.bytes) tail ps (part_within n text p tail whole piece le) later in
     scan_piece n place text p tail whole piece ∙ rw others refl
 
-scan_fault : (n place : ℕ) (text : List ℕ) (fault : Fault) (further : ℕ) → IsFault fault further text → length text ≤ n → scan n place text ≡ Err (fault, place + further)
+scan_fault : (n place : ℕ) (text : List ℕ) (fault : Code) (further : ℕ) → IsFault fault further text → length text ≤ n → scan n place text ≡ Err (fault, place + further)
 unfolding scan
 scan_fault n place [] fault further h le = absurd (fault_some fault further h)
 scan_fault zero place (b ∷ bs) fault further h le = absurd (omega arith)
 scan_fault (suc n) place (b ∷ bs) fault further h le = rw (fault_again place fault further (b ∷ bs) h) refl
 
 -- the first fault that stands in a text is read
-pub scan_fails_again : (n place : ℕ) (text : List ℕ) (parts : List Part) (rest : List ℕ) (fault : Fault) (further : ℕ) → length text ≤ n → Begins parts text rest → IsFault fault further rest
+pub scan_fails_again : (n place : ℕ) (text : List ℕ) (parts : List Part) (rest : List ℕ) (fault : Code) (further : ℕ) → length text ≤ n → Begins parts text rest → IsFault fault further rest
     → scan n place text ≡ Err (fault, place + (total_length parts + further))
 scan_fails_again n place text [] rest fault further le is h =
     ap (scan n place) is ∙ scan_fault n place rest fault further h (omega (arith, ap length is)) ∙ ap (λ k. Err (fault, k)) (omega arith)
@@ -94,25 +95,25 @@ Tells text (Ok ts) = HasTokens text ts
 Tells text (Err e) = HasFault text e.0 e.1
 
 pub tokens_tell : (text : List ℕ) → Tells text (tokens text)
-tokens_tell text = by (leb (length text) 65536) refl (scan_says (length text) 0 text (omega arith))
+tokens_tell text = by (leb (length text) MOST_SOURCE_BYTES) refl (scan_says (length text) 0 text (omega arith))
   where
-    scanned : (read : Read (List Placed)) → length text ≤ 65536 → SaysAll 0 text read → Tells text read
+    scanned : (read : Read (List Placed)) → length text ≤ MOST_SOURCE_BYTES → SaysAll 0 text read → Tells text read
     scanned (Ok ts) short (parts, begins, is) = record { short = short; parts = parts; whole = begins; tokens_are = is }
     scanned (Err e) short (parts, rest, further, begins, fault, at) =
         inr (short, record { parts = parts; rest = rest; begins = begins; further = further; fault_is = fault; place_is = omega (arith, at) })
 
-    by : (t : Bool) → leb (length text) 65536 ≡ t → SaysAll 0 text (scan (length text) 0 text) → Tells text (cond t (scan (length text) 0 text) (Err (SourceTooLong, 0)))
-    by true e says = scanned (scan (length text) 0 text) (leb-true (length text) 65536 e) says
-    by false e says = inl (leb-false (length text) 65536 e, refl, refl)
+    by : (t : Bool) → leb (length text) MOST_SOURCE_BYTES ≡ t → SaysAll 0 text (scan (length text) 0 text) → Tells text (cond t (scan (length text) 0 text) (Err (SourceTooLong, 0)))
+    by true e says = scanned (scan (length text) 0 text) (leb-true (length text) MOST_SOURCE_BYTES e) says
+    by false e says = inl (leb-false (length text) MOST_SOURCE_BYTES e, refl, refl)
 
 pub tokens_again : (text : List ℕ) (ts : List Placed) → HasTokens text ts → tokens text ≡ Ok ts
 tokens_again text ts h =
-    rw (le-leb (length text) 65536 h.short) (scan_again (length text) 0 text h.parts (omega arith) h.whole ∙ ap (λ (l : List Placed). Ok l) (sym h.tokens_are))
+    rw (le-leb (length text) MOST_SOURCE_BYTES h.short) (scan_again (length text) 0 text h.parts (omega arith) h.whole ∙ ap (λ (l : List Placed). Ok l) (sym h.tokens_are))
 
-pub tokens_fail : (text : List ℕ) (fault : Fault) (place : ℕ) → HasFault text fault place → tokens text ≡ Err (fault, place)
-tokens_fail text fault place (inl (long, fault_is, place_is)) = rw (lt-leb (length text) 65536 long, fault_is, place_is) refl
+pub tokens_fail : (text : List ℕ) (fault : Code) (place : ℕ) → HasFault text fault place → tokens text ≡ Err (fault, place)
+tokens_fail text fault place (inl (long, fault_is, place_is)) = rw (lt-leb (length text) MOST_SOURCE_BYTES long, fault_is, place_is) refl
 tokens_fail text fault place (inr (short, h)) =
-    rw (le-leb (length text) 65536 short) (scan_fails_again (length text) 0 text h.parts h.rest fault h.further (omega arith) h.begins h.fault_is ∙ ap (λ k. Err (fault, k)) (omega (arith, h.place_is)))
+    rw (le-leb (length text) MOST_SOURCE_BYTES short) (scan_fails_again (length text) 0 text h.parts h.rest fault h.further (omega arith) h.begins h.fault_is ∙ ap (λ k. Err (fault, k)) (omega (arith, h.place_is)))
 
 -- ---- places
 

@@ -1,8 +1,9 @@
 -- One turn of the loop over a text.
 use Rattle.std.proofs.Common.{◌≡◌, ℕ, zero, suc, ◌+◌, ◌<◌, List, [], ◌∷◌, ◌++◌, length, drop, Option, Some, None, Ok, Err, refl, sym, ap, ◌∙◌, append_assoc, arith}
 use Rattle.std.proofs.lemmas.List.{append-nil}
-use Rattle.pf_tokens.specs.declared.fault.TokensFault.{TokensFault}
-use Rattle.pf_tokens.specs.declared.fault.TokensFault.TheVariants as outcomes
+use Rattle.pf_fault.specs.declared.fault.OrNoMemory.{OrNoMemory}
+use Rattle.pf_fault.specs.declared.refusal.Refusal.{Refusal}
+use Rattle.pf_fault.specs.declared.fault.OrNoMemory.TheVariants.{NoMemory, Fault}
 use Rattle.pf_tokens.specs.TokenKinds.{TokenKind, Placed, one, put_first}
 use Rattle.pf_tokens.specs.Scan.{Read, Cut, ◌>>=◌, piece_at, scan, Fails}
 
@@ -24,11 +25,11 @@ scan_goes front n m place [] p all k some is so_far = absurd (omega arith)
 scan_goes front n m place (b ∷ bs) p all k some is so_far = so_far ∙ rw (k, is) (with_front-put_first front p.0 place (place + p.1) (scan m (place + p.1) (drop p.1 (b ∷ bs))))
 
 -- no next piece, but a fault
-pub scan_fails : (front : List Placed) (n m place : ℕ) (bytes : List ℕ) (e : TokensFault) (all : Read (List Placed)) → n ≡ suc m → 0 < length bytes → Fails e (piece_at place bytes) → all ≡ with_front front (scan n place bytes) → Fails e all
+pub scan_fails : (front : List Placed) (n m place : ℕ) (bytes : List ℕ) (e : OrNoMemory Refusal) (all : Read (List Placed)) → n ≡ suc m → 0 < length bytes → Fails e (piece_at place bytes) → all ≡ with_front front (scan n place bytes) → Fails e all
 unfolding scan
-scan_fails front n m place bytes outcomes.Memory all k some is so_far = tt
-scan_fails front n m place [] (outcomes.At f at) all k some is so_far = absurd (omega arith)
-scan_fails front n m place (b ∷ bs) (outcomes.At f at) all k some is so_far = so_far ∙ rw (k, is) refl
+scan_fails front n m place bytes NoMemory all k some is so_far = tt
+scan_fails front n m place [] (Fault r) all k some is so_far = absurd (omega arith)
+scan_fails front n m place (b ∷ bs) (Fault r) all k some is so_far = so_far ∙ rw (k, is) refl
 
 -- nothing is left of the text
 pub scan_ends : (front : List Placed) (n place : ℕ) (bytes : List ℕ) (all : Read (List Placed)) → length bytes ≡ 0 → all ≡ with_front front (scan n place bytes) → all ≡ Ok front

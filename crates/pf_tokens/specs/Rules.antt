@@ -1,12 +1,14 @@
 -- The rules of tokens: how the pieces of a text are written, and where a text is at fault.
 use Rattle.std.specs.Prelude.{◌≡◌, ◌≢◌, ◌⊎◌, ℕ, ◌+◌, ◌^◌, ◌<◌, ◌≤◌, Bool, ◌==◌, ◌&&◌, ◌||◌, not, IsTrue, IsFalse, List, [], ◌∷◌, ◌++◌, length, Option, Some, None, codes}
 use Rattle.std.specs.List.{list_all}
-use Rattle.pf_tokens.specs.declared.fault.Fault.{Fault}
-use Rattle.pf_tokens.specs.declared.fault.Fault.TheVariants.{UnexpectedByte, Unfinished, IntegerTooLarge, SourceTooLong}
-use Rattle.pf_tokens.specs.declared.fault.TokensFault.{TokensFault}
-use Rattle.pf_tokens.specs.declared.fault.TokensFault.TheVariants as outcomes
+use Rattle.pf_fault.specs.declared.code.Code.{Code}
+use Rattle.pf_fault.specs.declared.code.Code.TheVariants.{UnexpectedByte, Unfinished, IntegerTooLarge, SourceTooLong}
+use Rattle.pf_fault.specs.declared.fault.OrNoMemory.{OrNoMemory}
+use Rattle.pf_fault.specs.declared.refusal.Refusal.{Refusal}
+use Rattle.pf_fault.specs.declared.fault.OrNoMemory.TheVariants.{NoMemory, Fault}
 use Rattle.pf_tokens.specs.declared.marks.Mark.{Mark}
 use Rattle.pf_tokens.specs.declared.words.Reserved.{Reserved}
+use Rattle.pf_tokens.specs.declared.scan.TheConstants.{MOST_SOURCE_BYTES}
 use Rattle.pf_tokens.specs.Bytes.{percent, dollar, single_quote, double_quote, backslash, is_blank, is_digit, is_lower, is_upper, is_word, is_visible, is_quotable, is_comment, is_joined, ends, escape_of}
 use Rattle.pf_tokens.specs.TokenKinds.{TokenKind, Placed, decimal, mark_text, reserved_text, put_first}
 use Rattle.pf_tokens.specs.TokenKinds as kinds
@@ -133,11 +135,11 @@ abbrev pub IsTooLarge : List ℕ → Type 0
 IsTooLarge text = (value : ℕ) × (bytes rest : List ℕ) × (text ≡ bytes ++ rest) × IsNumeral value bytes rest × (2 ^ 63 ≤ value)
 
 -- a text that begins with no piece has this fault, so many bytes on
-abbrev pub IsFault : Fault → ℕ → List ℕ → Type 0
+abbrev pub IsFault : Code → ℕ → List ℕ → Type 0
 IsFault UnexpectedByte n text = (IsStray text × (n ≡ 0)) ⊎ HasWrongByte text n
 IsFault Unfinished n text = IsUnfinished text × (n ≡ 0)
 IsFault IntegerTooLarge n text = IsTooLarge text × (n ≡ 0)
-IsFault SourceTooLong n text = ⊥
+IsFault _ n text = ⊥
 
 -- the bytes of a piece, and what it stands for, unless it is a blank or a comment
 pub record Part : Type 0 where
@@ -162,13 +164,13 @@ total_length (p ∷ ps) = length p.bytes + total_length ps
 
 -- the text is cut into pieces, and these are its tokens
 pub record HasTokens (text : List ℕ) (tokens : List Placed) : Type 0 where
-  pub short : length text ≤ 65536
+  pub short : length text ≤ MOST_SOURCE_BYTES
   pub parts : List Part
   pub whole : Begins parts text []
   pub tokens_are : tokens ≡ tokens_from 0 parts
 
 -- behind pieces the text has this fault at the place
-pub record HasFaultAt (text : List ℕ) (fault : Fault) (place : ℕ) : Type 0 where
+pub record HasFaultAt (text : List ℕ) (fault : Code) (place : ℕ) : Type 0 where
   pub parts : List Part
   pub rest : List ℕ
   pub begins : Begins parts text rest
@@ -177,9 +179,9 @@ pub record HasFaultAt (text : List ℕ) (fault : Fault) (place : ℕ) : Type 0 w
   pub place_is : place ≡ total_length parts + further
 
 -- the first fault of the text is this, at the place
-abbrev pub HasFault : List ℕ → Fault → ℕ → Type 0
+abbrev pub HasFault : List ℕ → Code → ℕ → Type 0
 HasFault text fault place =
-    ((65536 < length text) × (fault ≡ SourceTooLong) × (place ≡ 0)) ⊎ ((length text ≤ 65536) × HasFaultAt text fault place)
+    ((MOST_SOURCE_BYTES < length text) × (fault ≡ SourceTooLong) × (place ≡ 0)) ⊎ ((length text ≤ MOST_SOURCE_BYTES) × HasFaultAt text fault place)
 
 -- the text has tokens
 abbrev pub HasSomeTokens : List ℕ → Type 0
@@ -187,14 +189,14 @@ HasSomeTokens text = (tokens : List Placed) × HasTokens text tokens
 
 -- the text has a first fault
 abbrev pub HasSomeFault : List ℕ → Type 0
-HasSomeFault text = (fault : Fault) × (place : ℕ) × HasFault text fault place
+HasSomeFault text = (fault : Code) × (place : ℕ) × HasFault text fault place
 
 -- tokens stand in order, none of them empty, from the one place to the other
 abbrev pub IsOrdered : ℕ → List Placed → ℕ → Type 0
 IsOrdered start [] end = start ≤ end
 IsOrdered start (t ∷ ts) end = (start ≤ t.start) × (t.start < t.end) × IsOrdered t.end ts end
 
--- want of memory says nothing of a text, and a fault is its first
-abbrev pub IsFaultOf : List ℕ → TokensFault → Type 0
-IsFaultOf text outcomes.Memory = Unit {0}
-IsFaultOf text (outcomes.At fault place) = HasFault text fault place
+-- out of memory says nothing of a text, and a fault is its first
+abbrev pub IsFaultOf : List ℕ → OrNoMemory Refusal → Type 0
+IsFaultOf text NoMemory = Unit {0}
+IsFaultOf text (Fault r) = HasFault text r.code r.place

@@ -4,21 +4,23 @@ use Rattle.std.specs.List.{prefix_len, starts_with}
 use Rattle.std.specs.Str.{bytes_eq}
 use Rattle.pf_tokens.specs.declared.bytes.Class.{Class}
 use Rattle.pf_tokens.specs.declared.bytes.Class.TheVariants as classes
-use Rattle.pf_tokens.specs.declared.fault.Fault.{Fault}
-use Rattle.pf_tokens.specs.declared.fault.Fault.TheVariants.{UnexpectedByte, Unfinished, IntegerTooLarge, SourceTooLong}
-use Rattle.pf_tokens.specs.declared.fault.TokensFault.{TokensFault}
-use Rattle.pf_tokens.specs.declared.fault.TokensFault.TheVariants as outcomes
+use Rattle.pf_fault.specs.declared.code.Code.{Code}
+use Rattle.pf_fault.specs.declared.code.Code.TheVariants.{UnexpectedByte, Unfinished, IntegerTooLarge, SourceTooLong}
+use Rattle.pf_fault.specs.declared.fault.OrNoMemory.{OrNoMemory}
+use Rattle.pf_fault.specs.declared.refusal.Refusal.{Refusal}
+use Rattle.pf_fault.specs.declared.fault.OrNoMemory.TheVariants.{NoMemory, Fault}
 use Rattle.pf_tokens.specs.declared.quoted.Step.{Step}
 use Rattle.pf_tokens.specs.declared.quoted.Step.TheVariants as steps
 use Rattle.pf_tokens.specs.declared.piece.Piece.{Piece}
 use Rattle.pf_tokens.specs.declared.words.Reserved.{Reserved}
+use Rattle.pf_tokens.specs.declared.scan.TheConstants.{MOST_SOURCE_BYTES}
 use Rattle.pf_tokens.specs.Bytes.{backslash, is_digit, is_word, is_comment, is_joined, is_visible, is_quotable, ends, class_of, escape_of}
 use Rattle.pf_tokens.specs.TokenKinds.{TokenKind, Placed, kind_of, decimal, checked, longest_mark, mark_text, reserved_of, put_first}
 use Rattle.pf_tokens.specs.TokenKinds as kinds
 
 -- a value, or a fault and its place
 abbrev pub Read : Type 0 → Type 0
-Read X = Result X (Fault × ℕ)
+Read X = Result X (Code × ℕ)
 
 -- a piece is the token, unless it is a blank or a comment, and its length
 abbrev pub Cut : Type 0
@@ -33,13 +35,13 @@ abbrev pub ◌>>=◌ : {A B : Type 0} → Read A → (A → Read B) → Read B
 (Ok x) >>= f = f x
 (Err e) >>= f = Err e
 
--- want of memory says nothing of the text, and a fault is the one that was read
-abbrev pub Fails : {Y : Type 0} → TokensFault → Read Y → Type 0
-Fails outcomes.Memory read = Unit {0}
-Fails (outcomes.At f place) read = read ≡ Err (f, place)
+-- out of memory says nothing of the text, and a fault is the one that was read
+abbrev pub Fails : {Y : Type 0} → OrNoMemory Refusal → Read Y → Type 0
+Fails NoMemory read = Unit {0}
+Fails (Fault r) read = read ≡ Err (r.code, r.place)
 
 -- a result, seen by a view, is what was read, unless memory ran out
-abbrev pub Gives : {X Y : Type 0} → (X → Y) → Result X TokensFault → Read Y → Type 0
+abbrev pub Gives : {X Y : Type 0} → (X → Y) → Result X (OrNoMemory Refusal) → Read Y → Type 0
 Gives view (Ok x) read = read ≡ Ok (view x)
 Gives view (Err e) read = Fails e read
 
@@ -109,7 +111,7 @@ abbrev pub token : TokenKind → ℕ → Cut
 token kind n = (Some kind, n)
 
 -- a value, or a fault here
-abbrev pub or_fault : {A : Type 0} → Fault → ℕ → (A → Cut) → Option A → Read Cut
+abbrev pub or_fault : {A : Type 0} → Code → ℕ → (A → Cut) → Option A → Read Cut
 or_fault fault place make (Some x) = Ok (make x)
 or_fault fault place make None = Err (fault, place)
 
@@ -195,6 +197,6 @@ unfoldable pub scan : ℕ → ℕ → List ℕ → Read (List Placed)
 scan zero place bytes = Ok []
 scan (suc n) place bytes = scan_step (scan n) place bytes
 
--- the tokens of a text, unless it is longer than 65,536 bytes
+-- the tokens of a text, unless it is too long
 abbrev pub tokens : List ℕ → Read (List Placed)
-tokens bytes = if nat_le (length bytes) 65536 then scan (length bytes) 0 bytes else Err (SourceTooLong, 0)
+tokens bytes = if nat_le (length bytes) MOST_SOURCE_BYTES then scan (length bytes) 0 bytes else Err (SourceTooLong, 0)

@@ -6,19 +6,15 @@
 #![tactic(auto)]
 
 mod bytes;
-mod fault;
 mod marks;
 mod piece;
 mod quoted;
 mod scan;
-#[cfg(test)]
-mod tests;
 mod token;
 mod words;
 
 pub use bytes::{is_digit, is_lower, is_word};
-pub use fault::{Fault, TokensFault};
 pub use marks::Mark;
-pub use scan::{one_reading, tokens};
+pub use scan::{MOST_SOURCE_BYTES, one_reading, tokens};
 pub use token::{Integer, Kind, Token};
 pub use words::{Reserved, reserved_of};

@@ -23,11 +23,11 @@ ghost use Rattle.pf_tokens.specs.Scan.{
 use crate::bytes::{
     Class, class_of, digits_length, ends_form, ends_word, line_length, word_length,
 };
-use crate::fault::{Fault, TokensFault};
 use crate::marks::longest_mark;
 use crate::quoted::{character, quoted};
 use crate::token::{Integer, Kind};
 use crate::words::{integer_of, reserved_of};
+use pf_fault::{Code, OrNoMemory, Refusal};
 use std::alloc::{AllocError, Global};
 
 /// What stands at the front of a text: the token, unless it is a blank or a comment, and how many bytes it takes.
@@ -48,14 +48,14 @@ fn token(kind: Kind, length: usize) -> Piece
 }
 
 /// The digits at the front.
-fn number(bytes: &[u8], place: usize) -> Result<Piece, TokensFault>
+fn number(bytes: &[u8], place: usize) -> Result<Piece, OrNoMemory<Refusal>>
     ensures given { Gives shown result (number_at place bytes.now) }
     ensures within { IfOk result (λ p. p.length ≤ length bytes.now) }
 {
     let length = digits_length(bytes);
     match integer_of(bytes.split_at(length).0) {
         Some(value) => Ok(token(Kind::Integer(value), length)),
-        None => Err(TokensFault::At(Fault::IntegerTooLarge, place)),
+        None => Err(OrNoMemory::refusal(Code::IntegerTooLarge, place)),
     }
 }
 
@@ -70,7 +70,7 @@ fn word_kind(alloc: Global, text: &[u8]) -> Result<Kind, AllocError>
 }
 
 /// The word at the front.
-fn word(alloc: Global, bytes: &[u8]) -> Result<Piece, TokensFault>
+fn word(alloc: Global, bytes: &[u8]) -> Result<Piece, OrNoMemory<Refusal>>
     ensures given { Gives shown result (word_at bytes.now) }
     ensures within { IfOk result (λ p. p.length ≤ length bytes.now) }
 {
@@ -89,7 +89,7 @@ fn variable_kind(alloc: Global, text: &[u8]) -> Result<Kind, AllocError>
 }
 
 /// The variable at the front.
-fn variable(alloc: Global, bytes: &[u8]) -> Result<Piece, TokensFault>
+fn variable(alloc: Global, bytes: &[u8]) -> Result<Piece, OrNoMemory<Refusal>>
     ensures given { Gives shown result (variable_at bytes.now) }
     ensures within { IfOk result (λ p. p.length ≤ length bytes.now) }
 {
@@ -98,7 +98,7 @@ fn variable(alloc: Global, bytes: &[u8]) -> Result<Piece, TokensFault>
 }
 
 /// The `$` and the character at the front, as an integer.
-fn code(bytes: &[u8], place: usize) -> Result<Piece, TokensFault>
+fn code(bytes: &[u8], place: usize) -> Result<Piece, OrNoMemory<Refusal>>
     requires some { 0 < length bytes.now }
     requires short { place + length bytes.now < 2 ^ 32 }
     ensures given { Gives shown result (code_at place bytes.now) }
@@ -114,7 +114,7 @@ fn code(bytes: &[u8], place: usize) -> Result<Piece, TokensFault>
 }
 
 /// The quoted atom at the front.
-fn atom(alloc: Global, bytes: &[u8], place: usize) -> Result<Piece, TokensFault>
+fn atom(alloc: Global, bytes: &[u8], place: usize) -> Result<Piece, OrNoMemory<Refusal>>
     requires some { 0 < length bytes.now }
     requires short { place + length bytes.now < 2 ^ 32 }
     ensures given { Gives shown result (atom_at place bytes.now) }
@@ -125,7 +125,7 @@ fn atom(alloc: Global, bytes: &[u8], place: usize) -> Result<Piece, TokensFault>
 }
 
 /// The string at the front.
-fn text(alloc: Global, bytes: &[u8], place: usize) -> Result<Piece, TokensFault>
+fn text(alloc: Global, bytes: &[u8], place: usize) -> Result<Piece, OrNoMemory<Refusal>>
     requires some { 0 < length bytes.now }
     requires short { place + length bytes.now < 2 ^ 32 }
     ensures given { Gives shown result (text_at place bytes.now) }
@@ -136,7 +136,7 @@ fn text(alloc: Global, bytes: &[u8], place: usize) -> Result<Piece, TokensFault>
 }
 
 /// `?MODULE` at the front, where no byte of a word follows it.
-fn own_module(bytes: &[u8], place: usize) -> Result<Piece, TokensFault>
+fn own_module(bytes: &[u8], place: usize) -> Result<Piece, OrNoMemory<Refusal>>
     ensures given { Gives shown result (module_at place bytes.now) }
     ensures within { IfOk result (λ p. p.length ≤ length bytes.now) }
 {
@@ -144,11 +144,11 @@ fn own_module(bytes: &[u8], place: usize) -> Result<Piece, TokensFault>
     if bytes.starts_with(macro_name) && ends_word(bytes.split_at(macro_name.len()).1) {
         return Ok(token(Kind::Module, macro_name.len()));
     }
-    Err(TokensFault::At(Fault::UnexpectedByte, place))
+    Err(OrNoMemory::refusal(Code::UnexpectedByte, place))
 }
 
 /// The dot at the front, where a blank, a comment or nothing follows it.
-fn full_stop(bytes: &[u8], place: usize) -> Result<Piece, TokensFault>
+fn full_stop(bytes: &[u8], place: usize) -> Result<Piece, OrNoMemory<Refusal>>
     requires { 0 < length bytes.now }
     ensures given { Gives shown result (dot_at place bytes.now) }
     ensures within { IfOk result (λ p. p.length ≤ length bytes.now) }
@@ -156,23 +156,23 @@ fn full_stop(bytes: &[u8], place: usize) -> Result<Piece, TokensFault>
     if ends_form(bytes.split_at(1).1) {
         return Ok(token(Kind::Dot, 1));
     }
-    Err(TokensFault::At(Fault::UnexpectedByte, place))
+    Err(OrNoMemory::refusal(Code::UnexpectedByte, place))
 }
 
 /// The longest mark at the front.
-fn mark(bytes: &[u8], place: usize) -> Result<Piece, TokensFault>
+fn mark(bytes: &[u8], place: usize) -> Result<Piece, OrNoMemory<Refusal>>
     ensures given { Gives shown result (mark_at place bytes.now) }
     ensures within { IfOk result (λ p. p.length ≤ length bytes.now) }
 {
     match longest_mark(bytes) {
         Some(mark) => Ok(token(Kind::Mark(mark), mark.text().len())),
-        None => Err(TokensFault::At(Fault::UnexpectedByte, place)),
+        None => Err(OrNoMemory::refusal(Code::UnexpectedByte, place)),
     }
 }
 
 /// The piece at the front of what is left of a text, from this place on.
 #[tactic(auto, unfolding(crate::specs::Scan::piece_at))]
-pub fn next_piece(alloc: Global, bytes: &[u8], place: usize) -> Result<Piece, TokensFault>
+pub fn next_piece(alloc: Global, bytes: &[u8], place: usize) -> Result<Piece, OrNoMemory<Refusal>>
     requires some { 0 < length bytes.now }
     requires short { place + length bytes.now < 2 ^ 32 }
     ensures given { Gives shown result (piece_at place bytes.now) }

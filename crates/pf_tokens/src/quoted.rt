@@ -4,7 +4,7 @@ ghost use Rattle.pf_tokens.specs.Bytes.{is_visible, escape_of};
 ghost use Rattle.pf_tokens.specs.Scan.{Gives, step_of, width, closing, quoted, character};
 
 use crate::bytes::{is_quotable, is_visible};
-use crate::fault::{Fault, TokensFault};
+use pf_fault::{Code, OrNoMemory, Refusal};
 use std::alloc::Global;
 
 /// What a byte within quotes does.
@@ -67,7 +67,7 @@ fn closing(
     rest: &[u8],
     place: usize,
     quote: u8,
-) -> Result<(Vec<u8>, usize), TokensFault>
+) -> Result<(Vec<u8>, usize), OrNoMemory<Refusal>>
     requires { place + length rest.now < 2 ^ 32 }
     ensures given { Gives (λ found. (found.0.items, found.1)) result (closing quote place rest.now false 1) }
     ensures within { IfOk result (λ found. found.1 ≤ length rest.now + 1) }
@@ -84,15 +84,19 @@ fn closing(
                 length += width(is_escaped);
                 is_escaped = false;
             }
-            Step::Fails => return Err(TokensFault::At(Fault::UnexpectedByte, place + length)),
+            Step::Fails => return Err(OrNoMemory::refusal(Code::UnexpectedByte, place + length)),
         }
     }
-    Err(TokensFault::At(Fault::Unfinished, place))
+    Err(OrNoMemory::refusal(Code::Unfinished, place))
 }
 
 /// The bytes that stand in quotes at the place, and the length of the text with both quotes. The first byte is
 /// the quote that opens it.
-pub fn quoted(alloc: Global, bytes: &[u8], place: usize) -> Result<(Vec<u8>, usize), TokensFault>
+pub fn quoted(
+    alloc: Global,
+    bytes: &[u8],
+    place: usize,
+) -> Result<(Vec<u8>, usize), OrNoMemory<Refusal>>
     requires some { 0 < length bytes.now }
     requires short { place + length bytes.now < 2 ^ 32 }
     ensures given { Gives (λ found. (found.0.items, found.1)) result (quoted place bytes.now) }
@@ -102,24 +106,24 @@ pub fn quoted(alloc: Global, bytes: &[u8], place: usize) -> Result<(Vec<u8>, usi
 }
 
 /// The code of the character at the place, and its length. The first byte is the `$`.
-pub fn character(bytes: &[u8], place: usize) -> Result<(u8, usize), TokensFault>
+pub fn character(bytes: &[u8], place: usize) -> Result<(u8, usize), OrNoMemory<Refusal>>
     requires some { 0 < length bytes.now }
     requires short { place + length bytes.now < 2 ^ 32 }
     ensures given { Gives (λ found. found) result (character place bytes.now) }
     ensures within { IfOk result (λ found. found.1 ≤ length bytes.now) }
 {
     let Some((byte, rest)) = bytes.split_at(1).1.split_first() else {
-        return Err(TokensFault::At(Fault::Unfinished, place));
+        return Err(OrNoMemory::refusal(Code::Unfinished, place));
     };
     if *byte == b'\\' {
         let Some((letter, _)) = rest.split_first() else {
-            return Err(TokensFault::At(Fault::Unfinished, place));
+            return Err(OrNoMemory::refusal(Code::Unfinished, place));
         };
-        let code = escape_of(*letter).ok_or(TokensFault::At(Fault::UnexpectedByte, place + 1))?;
+        let code = escape_of(*letter).ok_or(OrNoMemory::refusal(Code::UnexpectedByte, place + 1))?;
         return Ok((code, 3));
     }
     if is_visible(*byte) {
         return Ok((*byte, 2));
     }
-    Err(TokensFault::At(Fault::UnexpectedByte, place + 1))
+    Err(OrNoMemory::refusal(Code::UnexpectedByte, place + 1))
 }

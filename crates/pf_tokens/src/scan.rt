@@ -3,14 +3,15 @@ ghost use Rattle.std.specs.Prelude.{◌≡◌, ◌<◌, ◌+◌, ◌++◌, ◌^�
 ghost use Rattle.pf_tokens.specs.TokenKinds.{Placed, kind_of, placed_of, one};
 ghost use Rattle.pf_tokens.specs.Rules.{HasTokens, HasFault, HasSomeTokens, HasSomeFault, IsOrdered, IsFaultOf};
 ghost use Rattle.pf_tokens.specs.Scan.{Gives, scan, tokens};
+ghost use Rattle.pf_fault.specs.declared.code.Code.{Code};
 
-use crate::fault::{Fault, TokensFault};
 use crate::piece::next_piece;
 use crate::token::{Kind, Token};
+use pf_fault::{Code, OrNoMemory, Refusal};
 use std::alloc::{AllocError, Global};
 
-/// The most bytes that a text may have.
-const LIMIT: usize = 65_536;
+/// The most bytes that a source may have.
+pub const MOST_SOURCE_BYTES: usize = 65_536;
 
 /// Puts the token of a piece at the end, where it has one.
 fn put(
@@ -29,7 +30,7 @@ fn put(
 }
 
 /// The tokens of a text that is not too long.
-fn scan(alloc: Global, source: &[u8]) -> Result<Vec<Token>, TokensFault>
+fn scan(alloc: Global, source: &[u8]) -> Result<Vec<Token>, OrNoMemory<Refusal>>
     requires { length source.now < 2 ^ 32 }
     ensures { Gives (λ found. map placed_of found.items) result (scan (length source.now) 0 source.now) }
 {
@@ -50,18 +51,18 @@ fn scan(alloc: Global, source: &[u8]) -> Result<Vec<Token>, TokensFault>
 }
 
 /// Reads a source text from left to right.
-fn read(alloc: Global, source: &[u8]) -> Result<Vec<Token>, TokensFault>
+fn read(alloc: Global, source: &[u8]) -> Result<Vec<Token>, OrNoMemory<Refusal>>
     ensures { Gives (λ found. map placed_of found.items) result (tokens source.now) }
 {
-    if source.len() > LIMIT {
-        return Err(TokensFault::At(Fault::SourceTooLong, 0));
+    if source.len() > MOST_SOURCE_BYTES {
+        return Err(OrNoMemory::refusal(Code::SourceTooLong, 0));
     }
     scan(alloc, source)
 }
 
 /// The tokens of a source text, in order, or its first fault with the place of it, in bytes from 0. Each text has
-/// its tokens or a first fault, as `one_reading` says; want of memory comes in place of either.
-pub fn tokens(alloc: Global, source: &[u8]) -> Result<Vec<Token>, TokensFault>
+/// its tokens or a first fault, as `one_reading` says; out of memory comes in place of either.
+pub fn tokens(alloc: Global, source: &[u8]) -> Result<Vec<Token>, OrNoMemory<Refusal>>
     ensures found { IfOk result (λ found. HasTokens source.now (map placed_of found.items)) }
     ensures ordered { IfOk result (λ found. IsOrdered 0 (map placed_of found.items) (length source.now)) }
     ensures fault { IfErr result (IsFaultOf source.now) }
@@ -69,7 +70,7 @@ pub fn tokens(alloc: Global, source: &[u8]) -> Result<Vec<Token>, TokensFault>
     // What the text has is what is answered, unless memory runs out.
     ensures only { (ts : List Placed) → HasTokens source.now ts →
         Gives (λ found. map placed_of found.items) result (Ok ts) }
-    ensures only_fault { (fault : Fault) (place : ℕ) → HasFault source.now fault place →
+    ensures only_fault { (fault : Code) (place : ℕ) → HasFault source.now fault place →
         Gives (λ found. map placed_of found.items) result (Err (fault, place)) }
 {
     read(alloc, source)
@@ -80,6 +81,6 @@ pub fn one_reading()
     ensures either { (text : List ℕ) → HasSomeTokens text ⊎ HasSomeFault text }
     ensures apart { (text : List ℕ) → HasSomeTokens text → HasSomeFault text → ⊥ }
     ensures tokens { (text : List ℕ) (ts us : List Placed) → HasTokens text ts → HasTokens text us → ts ≡ us }
-    ensures fault { (text : List ℕ) (f g : Fault) (m n : ℕ) →
+    ensures fault { (text : List ℕ) (f g : Code) (m n : ℕ) →
         HasFault text f m → HasFault text g n → (f ≡ g) × (m ≡ n) }
 {}

@@ -4,8 +4,10 @@ use Rattle.std.specs.Io.KnownBytes.{Appends}
 use Rattle.std.proofs.lemmas.List.{append-nil}
 use Rattle.pf_terms.specs.Ends.{AppendsFront}
 use Rattle.pf_terms.proofs.Writes.{appends_both}
+use Rattle.pf_model.specs.Desk.{Profile}
 use Rattle.pf_model.specs.World.{World}
 use Rattle.pf_model.specs.Told.{outcome_text}
+use Rattle.pf_book.specs.Profile.{IsRight}
 use Rattle.pf_wire.specs.Steps.{most_bytes, AnswersOne, AnswersInPart, AreRead, StepsAnsweredInPart, StepsText, Stops, StepsLeaves, last_text}
 use Rattle.pf_wire.specs.declared.steps.StepsFault.{StepsFault}
 use Rattle.pf_wire.specs.declared.steps.StepsFault.TheVariants.{Memory, Read, Write}
@@ -29,77 +31,86 @@ front_both w0 w1 w2 a b more h k = (
   appends_both w0 w1 w2 a k.0 h k.3,
 )
 
--- how far it came, with what went out
-abbrev pub WentOut : (bytes rest : List ℕ) → World → ℕ → (written_old written_new : Option (List ℕ)) → Type 0
-WentOut bytes rest w k w0 w1 = (text : List ℕ) × SoFar bytes rest w text k × Appends w0 w1 text
-
-begins : (bytes : List ℕ) (w : Option (List ℕ)) → WentOut bytes bytes [] 1 w w
-begins bytes w = ([], begun bytes, appends_none w)
-
-pub begins_empty : (bytes : List ℕ) (v : World) (w : Option (List ℕ)) → v ≡ [] → WentOut bytes bytes v 1 w w
-begins_empty bytes v w e = subst (λ (u : World). WentOut bytes bytes u 1 w w) (sym e) (begins bytes w)
-
--- nothing more went out
-pub stops_here : (bytes rest : List ℕ) (w : World) (k : ℕ) (w0 w1 : Option (List ℕ)) → WentOut bytes rest w k w0 w1 → AnswersInPart bytes w0 w1
-stops_here bytes rest w k w0 w1 p =
-    let m = goes_on bytes rest w p.0 k p.1 in
-    (p.0 ++ m.0, m.1, m.2, (p.0, m.0, refl, p.2))
-
--- a beginning of one answer more went out
-pub stops_within : (bytes rest : List ℕ) (w w' : World) (k : ℕ) (w0 w1 w2 : Option (List ℕ)) (text : List ℕ) (next : Option (List ℕ)) → (length rest == 0) ≡ false
-    → WentOut bytes rest w k w0 w1 → AnswersOne rest k w text next w' → AppendsFront w1 w2 text → AnswersInPart bytes w0 w2
-stops_within bytes [] w w' k w0 w1 w2 text next some p a f = absurd cc
-stops_within bytes (b ∷ bs) w w' k w0 w1 w2 text (Some rest) some p a f =
-    let s = a.0 in
-    let x = a.1 in
-    let m = goes_on bytes rest w' (p.0 ++ outcome_text s x) (k + 1) (answered_one bytes b bs rest w w' p.0 k s x p.1 a.2 a.3) in
-    ((p.0 ++ outcome_text s x) ++ m.0, m.1, m.2, front_both w0 w1 w2 p.0 (outcome_text s x) m.0 p.2 (subst (AppendsFront w1 w2) a.4 f))
-stops_within bytes (b ∷ bs) w w' k w0 w1 w2 text None some p a f =
-    let last = last_text false k in (
-      p.0 ++ last,
-      2,
-      finished_ill bytes b bs w p.0 k p.1 a.0,
-      subst (AppendsFront w0 w2) (append-nil (p.0 ++ last)) (front_both w0 w1 w2 p.0 last [] p.2 (subst (AppendsFront w1 w2) a.1 f)),
-    )
-
--- one answer more went out
-pub goes_out : (bytes rest behind : List ℕ) (w w' : World) (k : ℕ) (w0 w1 w2 : Option (List ℕ)) (text : List ℕ) → (length rest == 0) ≡ false
-    → WentOut bytes rest w k w0 w1 → AnswersOne rest k w text (Some behind) w' → Appends w1 w2 text → WentOut bytes behind w' (k + 1) w0 w2 × (length behind < length rest)
-goes_out bytes [] behind w w' k w0 w1 w2 text some p a f = absurd cc
-goes_out bytes (b ∷ bs) behind w w' k w0 w1 w2 text some p a f =
-    let s = a.0 in
-    let x = a.1 in (
-      (p.0 ++ outcome_text s x, answered_one bytes b bs behind w w' p.0 k s x p.1 a.2 a.3, appends_both w0 w1 w2 p.0 (outcome_text s x) p.2 (subst (Appends w1 w2) a.4 f)),
-      omega (arith, command_shorter b bs s behind a.2),
-    )
-
--- the line that is no command is answered
-pub ends_ill : (bytes rest : List ℕ) (w w' : World) (k : ℕ) (w0 w1 w2 : Option (List ℕ)) (text : List ℕ) → (length rest == 0) ≡ false
-    → WentOut bytes rest w k w0 w1 → AnswersOne rest k w text None w' → Appends w1 w2 text → (all : List ℕ) × StepsText bytes all 2 × Appends w0 w2 all
-ends_ill bytes [] w w' k w0 w1 w2 text some p a f = absurd cc
-ends_ill bytes (b ∷ bs) w w' k w0 w1 w2 text some p a f =
-    let last = last_text false k in
-    (p.0 ++ last, finished_ill bytes b bs w p.0 k p.1 a.0, appends_both w0 w1 w2 p.0 last p.2 (subst (Appends w1 w2) a.1 f))
-
--- all is answered
-pub ends_well : (bytes rest : List ℕ) (w : World) (k : ℕ) (w0 w1 : Option (List ℕ)) → (length rest == 0) ≡ true → WentOut bytes rest w k w0 w1
-    → (all : List ℕ) × StepsText bytes all 0 × Appends w0 w1 all
-ends_well bytes [] w k w0 w1 none p = (p.0, finished_well bytes w p.0 k p.1, p.2)
-ends_well bytes (b ∷ bs) w k w0 w1 none p = absurd (not_empty b bs none)
-
 first_bytes : (r : Option (List ℕ)) → (bytes : List ℕ) × AreRead r bytes
 first_bytes None = ([], tt)
 first_bytes (Some input) = (take most_bytes input, refl)
 
--- nothing was answered
-pub stops_before : (r w : Option (List ℕ)) → StepsAnsweredInPart r w w
-stops_before r w =
-    let f = first_bytes r in
-    (f.0, f.1, stops_here f.0 f.0 [] 1 w w (begins f.0 w))
+-- how far it came, with what went out
+abbrev pub WentOut : Profile → (bytes rest : List ℕ) → World → ℕ → (written_old written_new : Option (List ℕ)) → Type 0
+WentOut p bytes rest w k w0 w1 = (text : List ℕ) × SoFar p bytes rest w text k × Appends w0 w1 text
 
--- what answers some bytes answers those that were read
-pub answers_read : (r w0 w1 : Option (List ℕ)) (bytes : List ℕ) (e : StepsFault) (m0 m1 n0 n1 : ℕ) → m1 ≡ m0 → AreRead r bytes → Stops e bytes w0 w1 n0 n1
-    → StepsLeaves e r w0 w1 m0 m1 n0 n1
-answers_read r w0 w1 bytes Memory m0 m1 n0 n1 k h s = (k, s.0, (bytes, h, s.1))
-answers_read r w0 w1 bytes (Read f) m0 m1 n0 n1 k h s = absurd s
-answers_read r w0 w1 bytes (Write f) m0 m1 n0 n1 k h s = (k, s.0, (bytes, h, s.1))
+-- what follows a command is shorter
+pub shorter_behind : (rest behind : List ℕ) (k : ℕ) (w w' : World) (text : List ℕ) → (length rest == 0) ≡ false → AnswersOne rest k w text (Some behind) w'
+    → length behind < length rest
+shorter_behind [] behind k w w' text some a = absurd cc
+shorter_behind (b ∷ bs) behind k w w' text some a = omega (arith, command_shorter b bs a.0 behind a.2)
+
+module _ (p : Profile) where
+  begins : (bytes : List ℕ) (w : Option (List ℕ)) → WentOut p bytes bytes [] 1 w w
+  begins bytes w = ([], begun p bytes, appends_none w)
+
+  pub begins_empty : (bytes : List ℕ) (v : World) (w : Option (List ℕ)) → v ≡ [] → WentOut p bytes bytes v 1 w w
+  begins_empty bytes v w e = subst (λ (u : World). WentOut p bytes bytes u 1 w w) (sym e) (begins bytes w)
+
+  -- nothing more went out
+  pub stops_here : (bytes rest : List ℕ) (w : World) (k : ℕ) (w0 w1 : Option (List ℕ)) → WentOut p bytes rest w k w0 w1 → AnswersInPart p bytes w0 w1
+  stops_here bytes rest w k w0 w1 out =
+      let m = goes_on p bytes rest w out.0 k out.1 in
+      (out.0 ++ m.0, m.1, m.2, (out.0, m.0, refl, out.2))
+
+  -- all is answered
+  pub ends_well : (bytes rest : List ℕ) (w : World) (k : ℕ) (w0 w1 : Option (List ℕ)) → (length rest == 0) ≡ true → WentOut p bytes rest w k w0 w1
+      → (all : List ℕ) × StepsText p bytes all 0 × Appends w0 w1 all
+  ends_well bytes [] w k w0 w1 none out = (out.0, finished_well p bytes w out.0 k out.1, out.2)
+  ends_well bytes (b ∷ bs) w k w0 w1 none out = absurd (not_empty b bs none)
+
+  -- nothing was answered
+  pub stops_before : (r w : Option (List ℕ)) → StepsAnsweredInPart p r w w
+  stops_before r w =
+      let f = first_bytes r in
+      (f.0, f.1, stops_here f.0 f.0 [] 1 w w (begins f.0 w))
+
+  -- what answers some bytes answers those that were read
+  pub answers_read : (r w0 w1 : Option (List ℕ)) (bytes : List ℕ) (e : StepsFault) (m0 m1 n0 n1 : ℕ) → m1 ≡ m0 → AreRead r bytes → Stops p e bytes w0 w1 n0 n1
+      → StepsLeaves p e r w0 w1 m0 m1 n0 n1
+  answers_read r w0 w1 bytes Memory m0 m1 n0 n1 k h s = (k, s.0, (bytes, h, s.1))
+  answers_read r w0 w1 bytes (Read f) m0 m1 n0 n1 k h s = absurd s
+  answers_read r w0 w1 bytes (Write f) m0 m1 n0 n1 k h s = (k, s.0, (bytes, h, s.1))
+
+module _ (p : Profile) (right : IsRight p) where
+  -- a beginning of one answer more went out
+  pub stops_within : (bytes rest : List ℕ) (w w' : World) (k : ℕ) (w0 w1 w2 : Option (List ℕ)) (text : List ℕ) (next : Option (List ℕ)) → (length rest == 0) ≡ false
+      → WentOut p bytes rest w k w0 w1 → AnswersOne rest k w text next w' → AppendsFront w1 w2 text → AnswersInPart p bytes w0 w2
+  stops_within bytes [] w w' k w0 w1 w2 text next some out a f = absurd cc
+  stops_within bytes (b ∷ bs) w w' k w0 w1 w2 text (Some rest) some out a f =
+      let s = a.0 in
+      let x = a.1 in
+      let m = goes_on p bytes rest w' (out.0 ++ outcome_text s x) (k + 1) (answered_one p bytes b bs rest w w' out.0 k s x out.1 a.2 (a.4 p right)) in
+      ((out.0 ++ outcome_text s x) ++ m.0, m.1, m.2, front_both w0 w1 w2 out.0 (outcome_text s x) m.0 out.2 (subst (AppendsFront w1 w2) a.3 f))
+  stops_within bytes (b ∷ bs) w w' k w0 w1 w2 text None some out a f =
+      let last = last_text false k in (
+        out.0 ++ last,
+        2,
+        finished_ill p bytes b bs w out.0 k out.1 a.0,
+        subst (AppendsFront w0 w2) (append-nil (out.0 ++ last)) (front_both w0 w1 w2 out.0 last [] out.2 (subst (AppendsFront w1 w2) a.1 f)),
+      )
+
+  -- one answer more went out
+  pub goes_out : (bytes rest behind : List ℕ) (w w' : World) (k : ℕ) (w0 w1 w2 : Option (List ℕ)) (text : List ℕ) → (length rest == 0) ≡ false
+      → WentOut p bytes rest w k w0 w1 → AnswersOne rest k w text (Some behind) w' → Appends w1 w2 text → WentOut p bytes behind w' (k + 1) w0 w2
+  goes_out bytes [] behind w w' k w0 w1 w2 text some out a f = absurd cc
+  goes_out bytes (b ∷ bs) behind w w' k w0 w1 w2 text some out a f =
+      let s = a.0 in
+      let x = a.1 in (
+        out.0 ++ outcome_text s x,
+        answered_one p bytes b bs behind w w' out.0 k s x out.1 a.2 (a.4 p right),
+        appends_both w0 w1 w2 out.0 (outcome_text s x) out.2 (subst (Appends w1 w2) a.3 f),
+      )
+
+  -- the line that is no command is answered
+  pub ends_ill : (bytes rest : List ℕ) (w w' : World) (k : ℕ) (w0 w1 w2 : Option (List ℕ)) (text : List ℕ) → (length rest == 0) ≡ false
+      → WentOut p bytes rest w k w0 w1 → AnswersOne rest k w text None w' → Appends w1 w2 text → (all : List ℕ) × StepsText p bytes all 2 × Appends w0 w2 all
+  ends_ill bytes [] w w' k w0 w1 w2 text some out a f = absurd cc
+  ends_ill bytes (b ∷ bs) w w' k w0 w1 w2 text some out a f =
+      let last = last_text false k in
+      (out.0 ++ last, finished_ill p bytes b bs w out.0 k out.1 a.0, appends_both w0 w1 w2 out.0 last out.2 (subst (Appends w1 w2) a.1 f))

@@ -3,8 +3,8 @@ use Rattle.std.specs.Prelude.{◌≡◌, ℕ, ◌==◌, Bool, true, false, ◌&&
 use Rattle.std.specs.List.{list_any, slice_split}
 use Rattle.std.specs.Str.{bytes_eq}
 use Rattle.pf_text.specs.Numbers.{number_of, schedule_of}
-use Rattle.pf_model.specs.Desk.{submit, order, fetch, usage}
-use Rattle.pf_model.specs.World.{Step, client, once}
+use Rattle.pf_model.specs.Desk.{submit, order, fetch, usage, once}
+use Rattle.pf_model.specs.World.{Step, client, worker}
 
 -- ---- lines and words
 
@@ -73,7 +73,7 @@ asked_by (w ∷ ws) =
     else (if bytes_eq w (codes "order") then of_order ws
     else (if bytes_eq w (codes "fetch") then of_two (λ p t. made (client p (fetch t))) ws
     else (if bytes_eq w (codes "usage") then of_one (λ p. made (client p usage)) ws
-    else (if bytes_eq w (codes "once") then of_two (λ p t. made (once p t)) ws
+    else (if bytes_eq w (codes "once") then of_two (λ p t. made (worker p (once t))) ws
     else None))))
 
 -- ---- what some bytes begin with

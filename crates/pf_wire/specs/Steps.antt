@@ -4,11 +4,11 @@ use Rattle.std.specs.Fmt.{decimal}
 use Rattle.std.specs.Io.KnownBytes.{Appends}
 use Rattle.pf_terms.specs.Ends.{AppendsFront}
 use Rattle.pf_model.specs.Text.{line}
-use Rattle.pf_model.specs.World.{World, Step, Answer, told, alone, Came}
+use Rattle.pf_model.specs.World.{World, Step, Answer, told, alone, AnswersStep, AnswersInTurn}
 use Rattle.pf_model.specs.Told.{outcome_text, outcomes_text}
-use Rattle.pf_book.specs.Profile.{profile}
+use Rattle.pf_model.specs.Desk.{Profile}
+use Rattle.pf_book.specs.Profile.{ForRight}
 use Rattle.pf_wire.specs.Commands.{Commands, command_at}
-use Rattle.pf_wire.specs.Outcomes.{Comes}
 use Rattle.pf_wire.specs.declared.steps.StepsFault.{StepsFault}
 use Rattle.pf_wire.specs.declared.steps.StepsFault.TheVariants.{Memory, Read, Write}
 
@@ -26,47 +26,49 @@ steps_status good = if good then 0 else 2
 -- the text that the command in front, number k, is answered with in a world, where these bytes follow it and that world; nothing
 -- follows where it is no command
 abbrev pub AnswersOne : List ℕ → ℕ → World → List ℕ → Option (List ℕ) → World → Type 0
-AnswersOne bytes k w text (Some rest) w' = (s : Step) × (x : Option Answer) × (command_at bytes ≡ Some (s, rest)) × Comes w s x w' × (text ≡ outcome_text s x)
+AnswersOne bytes k w text (Some rest) w' =
+    (s : Step) × (x : Option Answer) × (command_at bytes ≡ Some (s, rest)) × (text ≡ outcome_text s x) × ForRight (λ p. AnswersStep p w s x w')
 AnswersOne bytes k w text None w' = (command_at bytes ≡ None) × (text ≡ last_text false k)
 
 -- the text and the status that some bytes are answered with: what came of the steps of their commands, and where a line is no command
--- that it is none. Where no growth was refused, each project is told what it is told alone
-pub record StepsText (bytes text : List ℕ) (status : ℕ) : Type 0 where
+-- that it is none. Up to the first step in which a growth was refused, each project is told what it is told alone
+pub record StepsText (p : Profile) (bytes text : List ℕ) (status : ℕ) : Type 0 where
   pub steps : List Step
   pub good : Bool
   pub commands : Commands bytes steps good
   pub outcomes : List (Option Answer)
-  pub came : Came profile [] steps outcomes
+  pub in_turn : AnswersInTurn p [] steps outcomes
   pub writes : text ≡ outcomes_text steps outcomes ++ last_text good (length steps + 1)
   pub ends : status ≡ steps_status good
-  pub isolated : (answers : List Answer) → outcomes ≡ map Some answers → (q : ℕ) → told q steps answers ≡ alone profile q steps
+  pub isolated : (answers : List Answer) (others : List (Option Answer)) → outcomes ≡ map Some answers ++ others
+      → (q : ℕ) → told q (take (length answers) steps) answers ≡ alone p q (take (length answers) steps)
 
 -- ---- what `steps` leaves
 
 -- a beginning of the text of the answer to some bytes went out
-abbrev pub AnswersInPart : List ℕ → (written_old written_new : Option (List ℕ)) → Type 0
-AnswersInPart bytes w0 w1 = (text : List ℕ) × (status : ℕ) × StepsText bytes text status × AppendsFront w0 w1 text
+abbrev pub AnswersInPart : Profile → List ℕ → (written_old written_new : Option (List ℕ)) → Type 0
+AnswersInPart p bytes w0 w1 = (text : List ℕ) × (status : ℕ) × StepsText p bytes text status × AppendsFront w0 w1 text
 
 -- the bytes that are read are the first 67,108,864, where it is known what there is
 abbrev pub AreRead : Option (List ℕ) → List ℕ → Type 0
 AreRead r0 bytes = IfSome r0 (λ input. bytes ≡ take most_bytes input)
 
 -- what was read is answered with the text that went out and the status
-abbrev pub StepsAnswered : (read_old written_old written_new : Option (List ℕ)) → ℕ → Type 0
-StepsAnswered r0 w0 w1 status = (bytes : List ℕ) × (text : List ℕ) × AreRead r0 bytes × StepsText bytes text status × Appends w0 w1 text
+abbrev pub StepsAnswered : Profile → (read_old written_old written_new : Option (List ℕ)) → ℕ → Type 0
+StepsAnswered p r0 w0 w1 status = (bytes : List ℕ) × (text : List ℕ) × AreRead r0 bytes × StepsText p bytes text status × Appends w0 w1 text
 
 -- a beginning of the answer to what was to be read went out
-abbrev pub StepsAnsweredInPart : (read_old written_old written_new : Option (List ℕ)) → Type 0
-StepsAnsweredInPart r0 w0 w1 = (bytes : List ℕ) × AreRead r0 bytes × AnswersInPart bytes w0 w1
+abbrev pub StepsAnsweredInPart : Profile → (read_old written_old written_new : Option (List ℕ)) → Type 0
+StepsAnsweredInPart p r0 w0 w1 = (bytes : List ℕ) × AreRead r0 bytes × AnswersInPart p bytes w0 w1
 
 -- what a fault leaves of the bytes that were read: which end failed once more, and what went out
-abbrev pub Stops : StepsFault → List ℕ → (written_old written_new : Option (List ℕ)) → (writes_old writes_new : ℕ) → Type 0
-Stops Memory bytes w0 w1 n0 n1 = (n1 ≡ n0) × AnswersInPart bytes w0 w1
-Stops (Read e) bytes w0 w1 n0 n1 = ⊥
-Stops (Write e) bytes w0 w1 n0 n1 = (n1 ≡ n0 + 1) × AnswersInPart bytes w0 w1
+abbrev pub Stops : Profile → StepsFault → List ℕ → (written_old written_new : Option (List ℕ)) → (writes_old writes_new : ℕ) → Type 0
+Stops p Memory bytes w0 w1 n0 n1 = (n1 ≡ n0) × AnswersInPart p bytes w0 w1
+Stops p (Read e) bytes w0 w1 n0 n1 = ⊥
+Stops p (Write e) bytes w0 w1 n0 n1 = (n1 ≡ n0 + 1) × AnswersInPart p bytes w0 w1
 
 -- what a fault leaves: which end failed once more, and what went out
-abbrev pub StepsLeaves : StepsFault → (read_old written_old written_new : Option (List ℕ)) → (reads_old reads_new writes_old writes_new : ℕ) → Type 0
-StepsLeaves Memory r0 w0 w1 m0 m1 n0 n1 = (m1 ≡ m0) × (n1 ≡ n0) × StepsAnsweredInPart r0 w0 w1
-StepsLeaves (Read e) r0 w0 w1 m0 m1 n0 n1 = (m1 ≡ m0 + 1) × (n1 ≡ n0) × (w1 ≡ w0)
-StepsLeaves (Write e) r0 w0 w1 m0 m1 n0 n1 = (m1 ≡ m0) × (n1 ≡ n0 + 1) × StepsAnsweredInPart r0 w0 w1
+abbrev pub StepsLeaves : Profile → StepsFault → (read_old written_old written_new : Option (List ℕ)) → (reads_old reads_new writes_old writes_new : ℕ) → Type 0
+StepsLeaves p Memory r0 w0 w1 m0 m1 n0 n1 = (m1 ≡ m0) × (n1 ≡ n0) × StepsAnsweredInPart p r0 w0 w1
+StepsLeaves p (Read e) r0 w0 w1 m0 m1 n0 n1 = (m1 ≡ m0 + 1) × (n1 ≡ n0) × (w1 ≡ w0)
+StepsLeaves p (Write e) r0 w0 w1 m0 m1 n0 n1 = (m1 ≡ m0) × (n1 ≡ n0 + 1) × StepsAnsweredInPart p r0 w0 w1

@@ -1,5 +1,6 @@
 -- What the code's own lines and commands stand for.
-use Rattle.pf_model.specs.World.{Step, client, once}
+use Rattle.pf_model.specs.Desk.{once}
+use Rattle.pf_model.specs.World.{Step, client, worker}
 use Rattle.pf_book.specs.View.{call_seen}
 use Rattle.pf_wire.specs.Commands as commands
 use Rattle.pf_wire.specs.declared.command.Command.{Command}
@@ -13,7 +14,7 @@ line_seen l = record { text = l.text.now; is_ended = l.is_ended; rest = l.rest.n
 
 abbrev pub command_seen : Command → Step
 command_seen (Client project c) = client project (call_seen c)
-command_seen (Once project ticket) = once project ticket
+command_seen (Once project ticket) = worker project (once ticket)
 
 abbrev pub request_seen : Request → commands.Asked
 request_seen (Made c) = commands.made (command_seen c)

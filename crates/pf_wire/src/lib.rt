@@ -9,5 +9,5 @@ mod reply;
 mod steps;
 
 pub use command::{Command, LineFault, read_command};
-pub use outcome::{Asker, Outcome, perform, put_outcome};
+pub use outcome::{Outcome, Requester, perform, put_outcome};
 pub use steps::{StepsFault, run_steps};

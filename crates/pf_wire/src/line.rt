@@ -3,8 +3,8 @@
 ghost use Rattle.std.specs.Prelude.{◌≡◌, ◌==◌, ◌||◌, ◌∷◌, [], ℕ, None, MatchOption, IfOk};
 ghost use Rattle.std.specs.List.{list_any};
 ghost use Rattle.std.specs.Option.{option_map};
-ghost use Rattle.pf_model.specs.Desk.{fetch, usage};
-ghost use Rattle.pf_model.specs.World.{client, once};
+ghost use Rattle.pf_model.specs.Desk.{fetch, usage, once};
+ghost use Rattle.pf_model.specs.World.{client, worker};
 ghost use Rattle.pf_wire.specs.Commands.{Asked, made, submission, is_word, of_one, of_two, of_order, asked_by, words_of};
 ghost use Rattle.pf_wire.specs.View.{request_seen};
 
@@ -14,7 +14,6 @@ use pf_book::{Call, Order, Word};
 use pf_terms::NoMemory;
 use pf_text::{number_of, schedule_of};
 use std::alloc::Global;
-use std::sync::Arc;
 
 /// What a line asks for.
 #[derive(Drop)]
@@ -73,7 +72,7 @@ fn read_usage(words: &[u8]) -> Option<Request>
 }
 
 fn read_once(words: &[u8]) -> Option<Request>
-    ensures { option_map request_seen result ≡ of_two (λ p t. made (once p t)) (words_of words.now) }
+    ensures { option_map request_seen result ≡ of_two (λ p t. made (worker p (once t))) (words_of words.now) }
 {
     let (project, ticket) = two_numbers(words)?;
     Some(Request::Made(Command::Once(project, u64::from(ticket))))
@@ -142,8 +141,7 @@ fn read_order(alloc: Global, words: &[u8]) -> Result<Option<Request>, NoMemory>
         schedule,
         limit,
     };
-    let call = Call::Order(Arc::new(alloc, order)?);
-    Ok(Some(Request::Made(Command::Client(project, call))))
+    Ok(Some(Request::Made(Command::Client(project, Call::Order(order)))))
 }
 
 /// What the words of a line ask for, the first of which names the command.

@@ -1,21 +1,24 @@
 //! What comes of a command, and its text.
 
 ghost use Rattle.std.specs.Prelude.{◌≡◌, ◌++◌, OnOk};
-ghost use Rattle.pf_model.specs.World.{Step};
+ghost use Rattle.pf_model.specs.World.{Step, AnswersStep};
 ghost use Rattle.pf_model.specs.Told.{memory_text, outcome_text};
 ghost use Rattle.pf_wire.specs.View.{command_seen};
-ghost use Rattle.pf_wire.specs.Outcomes.{asker_of, outcome_seen, Comes};
+ghost use Rattle.pf_book.specs.Answers.{Answers};
+ghost use Rattle.pf_book.specs.Profile.{ForRight};
+ghost use Rattle.pf_book.specs.View.{call_seen};
+ghost use Rattle.pf_wire.specs.Outcomes.{requester_of, outcome_seen};
 
 use crate::command::Command;
 use crate::reply::{put_project, put_reply};
-use pf_book::{Book, Reply};
+use pf_book::{Book, Call, Reply};
 use pf_terms::NoMemory;
 use pf_text::put;
 use std::alloc::Global;
 
 /// Who made a command: a client of a project, or a worker for it.
 #[derive(Clone, Copy, Debug, PartialEq, Eq)]
-pub enum Asker {
+pub enum Requester {
     Client(u32),
     Worker(u32),
 }
@@ -26,36 +29,48 @@ pub enum Outcome {
     /// A client is told this.
     Replied(Reply),
     /// A worker filed the report of a trial.
-    Did,
+    Done,
     /// The trial wasn't queued.
     NotNow,
     /// A growth was refused, which left all as it was.
     Memory,
 }
 
-impl Asker {
+impl Requester {
     /// Who made a command.
-    pub fn of(command: &Command) -> Asker
-        ensures { result ≡ asker_of (command_seen command.now) }
+    pub fn of(command: &Command) -> Requester
+        ensures { result ≡ requester_of (command_seen command.now) }
     {
         match command {
-            Command::Client(project, _) => Asker::Client(*project),
-            Command::Once(project, _) => Asker::Worker(*project),
+            Command::Client(project, _) => Requester::Client(*project),
+            Command::Once(project, _) => Requester::Worker(*project),
         }
+    }
+}
+
+/// Makes a call of a client.
+fn make_call(alloc: Global, book: &mut Book, project: u32, call: Call) -> Result<Reply, NoMemory>
+    ensures { Answers book.old project (call_seen call) result book.new }
+{
+    match call {
+        Call::Submit(source) => book.submit(alloc, project, source),
+        Call::Order(order) => book.order(alloc, project, order),
+        Call::Fetch(ticket) => book.fetch(alloc, project, ticket),
+        Call::Usage => book.usage(alloc, project),
     }
 }
 
 /// Does what a command asks for.
 pub fn perform(alloc: Global, book: &mut Book, command: Command) -> Outcome
-    ensures { Comes book.old (command_seen command) (outcome_seen result) book.new }
+    ensures { ForRight (λ p. AnswersStep p book.old (command_seen command) (outcome_seen result) book.new) }
 {
     match command {
-        Command::Client(project, call) => match book.call(alloc, project, call) {
+        Command::Client(project, call) => match make_call(alloc, book, project, call) {
             Ok(reply) => Outcome::Replied(reply),
             Err(NoMemory) => Outcome::Memory,
         },
         Command::Once(project, ticket) => match book.once(alloc, project, ticket) {
-            Ok(true) => Outcome::Did,
+            Ok(true) => Outcome::Done,
             Ok(false) => Outcome::NotNow,
             Err(NoMemory) => Outcome::Memory,
         },
@@ -63,15 +78,15 @@ pub fn perform(alloc: Global, book: &mut Book, command: Command) -> Outcome
 }
 
 /// Puts that a growth was refused.
-fn put_memory(alloc: Global, out: &mut Vec<u8>, asker: Asker) -> Result<(), NoMemory>
-    ensures { (s : Step) → asker ≡ asker_of s → OnOk result (out.new.items ≡ out.old.items ++ memory_text s) }
+fn put_memory(alloc: Global, out: &mut Vec<u8>, requester: Requester) -> Result<(), NoMemory>
+    ensures { (s : Step) → requester ≡ requester_of s → OnOk result (out.new.items ≡ out.old.items ++ memory_text s) }
 {
-    match asker {
-        Asker::Client(project) => {
+    match requester {
+        Requester::Client(project) => {
             put_project(alloc, out, project)?;
             put(out, b"refused NoMemory\n")
         }
-        Asker::Worker(_) => put(out, b"w0 no memory\n"),
+        Requester::Worker(_) => put(out, b"w0 no memory\n"),
     }
 }
 
@@ -79,19 +94,19 @@ fn put_memory(alloc: Global, out: &mut Vec<u8>, asker: Asker) -> Result<(), NoMe
 pub fn put_outcome(
     alloc: Global,
     out: &mut Vec<u8>,
-    asker: Asker,
+    requester: Requester,
     outcome: &Outcome,
 ) -> Result<(), NoMemory>
-    ensures { (s : Step) → asker ≡ asker_of s → OnOk result (out.new.items ≡ out.old.items ++ outcome_text s (outcome_seen outcome.now)) }
+    ensures { (s : Step) → requester ≡ requester_of s → OnOk result (out.new.items ≡ out.old.items ++ outcome_text s (outcome_seen outcome.now)) }
 {
     match outcome {
-        Outcome::Replied(reply) => match asker {
-            Asker::Client(project) | Asker::Worker(project) => {
+        Outcome::Replied(reply) => match requester {
+            Requester::Client(project) | Requester::Worker(project) => {
                 put_reply(alloc, out, project, reply)
             }
         },
-        Outcome::Did => put(out, b"w0 done\n"),
+        Outcome::Done => put(out, b"w0 done\n"),
         Outcome::NotNow => put(out, b"w0 not now N2\n"),
-        Outcome::Memory => put_memory(alloc, out, asker),
+        Outcome::Memory => put_memory(alloc, out, requester),
     }
 }

@@ -3,14 +3,14 @@
 ghost use Rattle.std.specs.Prelude.{◌≡◌, ◌≤◌, ℕ, List, Option, false, length, IfOk, IfErr, OnOk};
 ghost use Rattle.std.specs.Option.{option_copied};
 ghost use Rattle.std.specs.Io.KnownBytes.{Appends, Consumes};
-ghost use Rattle.pf_model.specs.World.{Answer};
+ghost use Rattle.pf_model.specs.World.{Answer, AnswersStep};
 ghost use Rattle.pf_model.specs.Told.{outcome_text};
+ghost use Rattle.pf_book.specs.Profile.{ForRight};
 ghost use Rattle.pf_wire.specs.View.{command_seen};
-ghost use Rattle.pf_wire.specs.Outcomes.{Comes};
 ghost use Rattle.pf_wire.specs.Steps.{last_text, most_bytes, AnswersOne, StepsText, Stops, StepsAnswered, StepsLeaves};
 
 use crate::command::{Command, LineFault, read_command};
-use crate::outcome::{Asker, perform, put_outcome};
+use crate::outcome::{Requester, perform, put_outcome};
 use pf_book::Book;
 use pf_terms::{Counted, EndFault, NoMemory, TakeFault};
 use pf_text::{put, put_number};
@@ -53,12 +53,13 @@ const MOST_BYTES: usize = 67_108_864;
 
 /// Does what a command asks for, and gives the text of what came of it.
 fn answer(alloc: Global, book: &mut Book, command: Command) -> Result<Vec<u8>, NoMemory>
-    ensures { IfOk result (λ text. (x : Option Answer) × Comes book.old (command_seen command) x book.new × (text.items ≡ outcome_text (command_seen command) x)) }
+    ensures { IfOk result (λ text. (x : Option Answer) × (text.items ≡ outcome_text (command_seen command) x)
+        × ForRight (λ p. AnswersStep p book.old (command_seen command) x book.new)) }
 {
-    let asker = Asker::of(&command);
+    let requester = Requester::of(&command);
     let outcome = perform(alloc, book, command);
     let mut text = Vec::new(alloc);
-    put_outcome(alloc, &mut text, asker, &outcome)?;
+    put_outcome(alloc, &mut text, requester, &outcome)?;
     Ok(text)
 }
 
@@ -108,9 +109,11 @@ fn answer_all<W: Write, M: Ledger>(
     input: &[u8],
     writer: &mut Counted<W, M>,
 ) -> Result<u8, StepsFault>
-    ensures answered { IfOk result (λ status. (text : List ℕ) × StepsText input.now text status × Appends (W.contents writer.old.inner) (W.contents writer.new.inner) text) }
+    ensures answered { IfOk result (λ status. ForRight (λ p. (text : List ℕ) × StepsText p input.now text status
+        × Appends (W.contents writer.old.inner) (W.contents writer.new.inner) text)) }
     ensures kept { OnOk result (writer.new.failures.total ≡ writer.old.failures.total) }
-    ensures fault { IfErr result (λ e. Stops e input.now (W.contents writer.old.inner) (W.contents writer.new.inner) writer.old.failures.total writer.new.failures.total) }
+    ensures fault { IfErr result (λ e. ForRight (λ p. Stops p e input.now (W.contents writer.old.inner) (W.contents writer.new.inner)
+        writer.old.failures.total writer.new.failures.total)) }
 {
     let mut book = Book::new(alloc);
     let mut rest = input;
@@ -139,11 +142,13 @@ pub fn run_steps<R: Read, W: Write, L: Ledger, M: Ledger>(
     reader: &mut Counted<R, L>,
     writer: &mut Counted<W, M>,
 ) -> Result<u8, StepsFault>
-    ensures answered { IfOk result (λ status. StepsAnswered (R.remaining reader.old.inner) (W.contents writer.old.inner) (W.contents writer.new.inner) status) }
+    ensures answered { IfOk result (λ status. ForRight (λ p. StepsAnswered p (R.remaining reader.old.inner)
+        (W.contents writer.old.inner) (W.contents writer.new.inner) status)) }
     ensures taken { (bytes : List ℕ) × (length bytes ≤ most_bytes) × Consumes (R.remaining reader.old.inner) (R.remaining reader.new.inner) bytes }
     ensures counts { OnOk result ((reader.new.failures.total ≡ reader.old.failures.total) × (writer.new.failures.total ≡ writer.old.failures.total)) }
-    ensures fault { IfErr result (λ e. StepsLeaves e (R.remaining reader.old.inner) (W.contents writer.old.inner) (W.contents writer.new.inner)
-        reader.old.failures.total reader.new.failures.total writer.old.failures.total writer.new.failures.total) }
+    ensures fault { IfErr result (λ e. ForRight (λ p. StepsLeaves p e (R.remaining reader.old.inner)
+        (W.contents writer.old.inner) (W.contents writer.new.inner)
+        reader.old.failures.total reader.new.failures.total writer.old.failures.total writer.new.failures.total)) }
 {
     let mut input = match reader.take_front(alloc, MOST_BYTES) {
         Ok(input) => input,

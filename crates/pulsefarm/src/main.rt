@@ -4,59 +4,30 @@
 ghost use Rattle.std.specs.Prelude.{◌≡◌, ◌<◌};
 
 use clap::error::ErrorKind;
-use pf_command::{RunFault, Words, read_words, run_source};
-use pf_terms::{Counted, EndFault};
-use pf_wire::{StepsFault, run_steps};
+use pf_command::{Words, read_words, run_source, status_of_kind};
+use pf_fault::{NoMemory, OrNoMemory};
+use pf_profile::run_steps;
+use pf_terms::{Counted, StreamFault};
 use std::env::Env;
+use std::fmt::Display;
 use std::io::{Read, Write};
 use std::marker::Brand;
 use std::process::ExitCode;
 use std::sync::ledger::{Blank, Ledger};
 use std::{env, fs, io};
 
-/// Why the work of a command stopped: memory ran out, or what is said of an end.
-#[derive(Drop)]
-enum Stop {
-    Memory,
-    End(&'static str, EndFault),
-}
+/// What the work of a command ends with: a status, or what stopped it.
+type Answered = Result<u8, OrNoMemory<StreamFault>>;
 
-impl From<RunFault> for Stop {
-    fn from(fault: RunFault) -> Stop {
-        match fault {
-            RunFault::Memory => Stop::Memory,
-            RunFault::Read(end) => Stop::End("the source can't be read", end),
-            RunFault::Write(end) => Stop::End("the text can't be written", end),
-        }
-    }
-}
-
-impl From<StepsFault> for Stop {
-    fn from(fault: StepsFault) -> Stop {
-        match fault {
-            StepsFault::Memory => Stop::Memory,
-            StepsFault::Read(end) => Stop::End("the commands can't be read", end),
-            StepsFault::Write(end) => Stop::End("the replies can't be written", end),
-        }
-    }
-}
-
-/// The words of the command line, and what they ask for.
-#[derive(Drop)]
-struct Given<'a> {
-    words: &'a [&'a str],
-    asked: &'a Words<'a>,
-}
-
-/// Does what is asked for between two ends.
+/// Does what is asked for between a reader and a writer.
 fn answer_by<R: Read + Drop, W: Write + Drop, L: Ledger, M: Ledger>(
     rt: &impl AllocGlobal,
-    given: &Given,
+    asked: &Words,
     reader: R,
     writer: W,
     reads: Blank,
     writes: Blank,
-) -> Result<u8, Stop>
+) -> Answered
     requires reads { reads.name ≡ L.name }
     requires read_parts { reads.parts ≡ L.parts }
     requires some_reads { 0 < reads.parts }
@@ -67,20 +38,19 @@ fn answer_by<R: Read + Drop, W: Write + Drop, L: Ledger, M: Ledger>(
     let alloc = rt.alloc();
     let mut reader = Counted::<R, L>::new(reader, reads);
     let mut writer = Counted::<W, M>::new(writer, writes);
-    let status = match given.asked {
-        Words::Run(_) => run_source(alloc, &mut reader, given.words, &mut writer)?,
-        Words::Steps(_) => run_steps(alloc, &mut reader, &mut writer)?,
-    };
-    Ok(status)
+    match asked {
+        Words::Run(words) => run_source(alloc, &mut reader, words, &mut writer),
+        Words::Steps(_) => run_steps(alloc, &mut reader, &mut writer),
+    }
 }
 
 fn answer<R: Read + Drop, W: Write + Drop>(
     rt: &impl AllocGlobal,
-    given: &Given,
+    asked: &Words,
     reader: R,
     writer: W,
-) -> Result<u8, Stop> {
-    answer_by::<R, W, Brand, Brand>(rt, given, reader, writer, Blank::new(1), Blank::new(1))
+) -> Answered {
+    answer_by::<R, W, Brand, Brand>(rt, asked, reader, writer, Blank::new(1), Blank::new(1))
 }
 
 fn given_words(rt: &(impl Env + AllocGlobal)) -> io::Result<Vec<String>> {
@@ -90,12 +60,24 @@ fn given_words(rt: &(impl Env + AllocGlobal)) -> io::Result<Vec<String>> {
 
 /// Says that memory ran out.
 fn no_memory(rt: &impl Print) -> ExitCode {
-    let _printed = println!(rt; "NoMemory");
+    let _printed = println!(rt; "{NoMemory}");
     ExitCode::from(2)
 }
 
-/// Says which end failed, and why.
-fn failed(rt: &(impl Print + Eprint), what: &str, error: &io::Error) -> ExitCode {
+/// The same on standard error, for a command whose replies went out before.
+fn no_more_memory(rt: &impl Eprint) -> ExitCode {
+    let _printed = eprintln!(rt; "pulsefarm: {NoMemory}");
+    ExitCode::from(2)
+}
+
+/// Says what failed.
+fn failed(rt: &impl Eprint, fault: &impl Display) -> ExitCode {
+    let _printed = eprintln!(rt; "pulsefarm: {fault}");
+    ExitCode::from(2)
+}
+
+/// Says what could not be read or opened, and why.
+fn not_read(rt: &(impl Print + Eprint), what: &str, error: &io::Error) -> ExitCode {
     if error.kind() == io::ErrorKind::OutOfMemory {
         return no_memory(rt);
     }
@@ -109,16 +91,29 @@ fn no_command(rt: &(impl Print + Eprint), error: &clap::Error) -> ExitCode {
         return no_memory(rt);
     }
     match error.print(rt) {
-        Ok(()) => ExitCode::from(pf_command::status_of_kind(error.kind())),
+        Ok(()) => ExitCode::from(status_of_kind(error.kind())),
         Err(_) => ExitCode::from(2),
     }
 }
 
-fn end(rt: &(impl Print + Eprint), answered: Result<u8, Stop>) -> ExitCode {
+/// Whether memory ran out, in the work itself or in a stream.
+fn is_no_memory(fault: &OrNoMemory<StreamFault>) -> bool {
+    match fault {
+        OrNoMemory::NoMemory => true,
+        OrNoMemory::Fault(StreamFault::Read(error)) | OrNoMemory::Fault(StreamFault::Write(error)) => {
+            error.kind() == io::ErrorKind::OutOfMemory
+        }
+    }
+}
+
+fn end(rt: &(impl Print + Eprint), asked: &Words, answered: Answered) -> ExitCode {
     match answered {
         Ok(status) => ExitCode::from(status),
-        Err(Stop::Memory) => no_memory(rt),
-        Err(Stop::End(what, fault)) => failed(rt, what, &fault.0),
+        Err(fault) if !is_no_memory(&fault) => failed(rt, &fault),
+        Err(_) => match asked {
+            Words::Run(_) => no_memory(rt),
+            Words::Steps(_) => no_more_memory(rt),
+        },
     }
 }
 
@@ -126,7 +121,7 @@ fn main(rt: HostRuntime) -> ExitCode {
     let alloc = rt.alloc();
     let given = match given_words(&rt) {
         Ok(given) => given,
-        Err(error) => return failed(&rt, "the words can't be read", &error),
+        Err(error) => return not_read(&rt, "the words can't be read", &error),
     };
     let mut words = Vec::new(alloc);
     for word in &given {
@@ -138,16 +133,12 @@ fn main(rt: HostRuntime) -> ExitCode {
         Ok(asked) => asked,
         Err(error) => return no_command(&rt, &error),
     };
-    let given = Given {
-        words: &words,
-        asked: &asked,
-    };
     let answered = match asked.file() {
-        None => answer(&rt, &given, rt.stdin(), io::writer(&rt)),
+        None => answer(&rt, &asked, rt.stdin(), io::writer(&rt)),
         Some(path) => match fs::open(&rt, path) {
-            Ok(opened) => answer(&rt, &given, opened, io::writer(&rt)),
-            Err(error) => return failed(&rt, path, &error),
+            Ok(opened) => answer(&rt, &asked, opened, io::writer(&rt)),
+            Err(error) => return not_read(&rt, path, &error),
         },
     };
-    end(&rt, answered)
+    end(&rt, &asked, answered)
 }

@@ -1,7 +1,7 @@
 use Rattle.std.proofs.Common.{◌≡◌, refl, sym, ap, ◌∙◌, subst, length, take, drop, arith}
 use Rattle.std.specs.Prelude.{IfOk}
 use Rattle.pf_terms.specs.Term.{value_of}
-use Rattle.pf_stepper.specs.Turns.{Chosen}
+use Rattle.pf_stepper.specs.MicroSteps.{Chosen}
 use Rattle.pf_stepper.proofs.Selected.{chosen_of, choose_here, choose_past, choose_none, cut_again}
 use Rattle.pf_stepper.proofs.clauses.choose.Goals as goal
 

@@ -1,6 +1,6 @@
 use Rattle.std.proofs.Common.{◌≡◌, refl, sym, ap, ◌∙◌, subst, length, take, drop, arith}
 use Rattle.pf_terms.specs.Term.{values_of}
-use Rattle.pf_stepper.specs.Turns.{Chosen}
+use Rattle.pf_stepper.specs.MicroSteps.{Chosen}
 use Rattle.pf_stepper.proofs.Selected.{entered_of, enter_here, enter_past, enter_none, cut_again}
 use Rattle.pf_stepper.proofs.clauses.first_clause.Goals as goal
 

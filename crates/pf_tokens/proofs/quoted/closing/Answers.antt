@@ -14,7 +14,8 @@ returns-in-Closes-clause-given c =
 pub returns-in-Fails-clause-given : goal.returns-in-Fails-clause-given
 returns-in-Fails-clause-given c =
     let l = c.loop-byte in
-    closing_goes l.text.items c.args.quote c.args.place l.byte-index c.args.rest.now l.is_escaped l.length _ _ c.loop-byte-test.true c.in-Fails.ensures l.invariant.given
+    rw c.refusal.ensures
+    (closing_goes l.text.items c.args.quote c.args.place l.byte-index c.args.rest.now l.is_escaped l.length _ _ c.loop-byte-test.true c.in-Fails.ensures l.invariant.given)
 
 pub loop-byte-preserved : goal.loop-byte-preserved
 loop-byte-preserved c =
@@ -36,4 +37,4 @@ loop-byte-preserved c =
     ]
 
 pub returns-clause-given : goal.returns-clause-given
-returns-clause-given c = closing_ends c.loop-byte.text.items c.args.quote c.args.place c.loop-byte.byte-index c.args.rest.now c.loop-byte.is_escaped c.loop-byte.length _ (omega arith) c.loop-byte.invariant.given
+returns-clause-given c = rw c.refusal-2.ensures (closing_ends c.loop-byte.text.items c.args.quote c.args.place c.loop-byte.byte-index c.args.rest.now c.loop-byte.is_escaped c.loop-byte.length _ (omega arith) c.loop-byte.invariant.given)

@@ -1,5 +1,5 @@
 use Rattle.std.proofs.Common.{◌≡◌, ◌⊎◌, inl, inr, ℕ, List, Ok, Err, sym, ap, ◌∙◌}
-use Rattle.pf_tokens.specs.declared.fault.Fault.{Fault}
+use Rattle.pf_fault.specs.declared.code.Code.{Code}
 use Rattle.pf_tokens.specs.TokenKinds.{Placed}
 use Rattle.pf_tokens.specs.Rules.{HasSomeTokens, HasSomeFault}
 use Rattle.pf_tokens.specs.Scan.{Read, tokens}
@@ -17,13 +17,13 @@ found ts = Ok ts
 one_list : (ts us : List Placed) → found ts ≡ found us → ts ≡ us
 one_list ts us e = cc
 
-abbrev failed : Fault → ℕ → Read (List Placed)
+abbrev failed : Code → ℕ → Read (List Placed)
 failed fault place = Err (fault, place)
 
-one_fault : (f g : Fault) (m n : ℕ) → failed f m ≡ failed g n → (f ≡ g) × (m ≡ n)
+one_fault : (f g : Code) (m n : ℕ) → failed f m ≡ failed g n → (f ≡ g) × (m ≡ n)
 one_fault f g m n e =
-    let same : ◌≡◌ {A = Fault × ℕ} (f, m) (g, n) = cc in
-    (ap (λ (p : Fault × ℕ). p.0) same, ap (λ (p : Fault × ℕ). p.1) same)
+    let same : ◌≡◌ {A = Code × ℕ} (f, m) (g, n) = cc in
+    (ap (λ (p : Code × ℕ). p.0) same, ap (λ (p : Code × ℕ). p.1) same)
 
 pub returns-clause-either : goal.returns-clause-either
 returns-clause-either c text = some text (tokens text) (tokens_tell text)

@@ -1,8 +1,9 @@
 use Rattle.std.proofs.Common.{◌≡◌, ℕ, List, Result, Ok, Err, Vec, Global, length, IfOk, IfErr, subst}
 use Rattle.std.specs.Prelude.{map}
 use Rattle.pf_tokens.specs.declared.token.Token.{Token}
-use Rattle.pf_tokens.specs.declared.fault.TokensFault.{TokensFault}
-use Rattle.pf_tokens.specs.declared.fault.TokensFault.TheVariants as outcomes
+use Rattle.pf_fault.specs.declared.fault.OrNoMemory.{OrNoMemory}
+use Rattle.pf_fault.specs.declared.refusal.Refusal.{Refusal}
+use Rattle.pf_fault.specs.declared.fault.OrNoMemory.TheVariants.{NoMemory, Fault}
 use Rattle.pf_tokens.specs.TokenKinds.{Placed, placed_of}
 use Rattle.pf_tokens.specs.Rules.{HasTokens, IsOrdered, IsFaultOf}
 use Rattle.pf_tokens.specs.Scan.{Read, Gives, tokens}
@@ -10,7 +11,7 @@ use Rattle.pf_tokens.proofs.Texts.{Tells, tokens_tell, tokens_again, tokens_fail
 use Rattle.pf_tokens.proofs.scan.tokens.Goals as goal
 
 abbrev Outcome : Type 0
-Outcome = Result (Vec Token Global) TokensFault
+Outcome = Result (Vec Token Global) (OrNoMemory Refusal)
 
 abbrev IsRead : List ℕ → Outcome → Type 0
 IsRead text r = Gives (λ found. map placed_of found.items) r (tokens text)
@@ -25,8 +26,8 @@ in_order text (Err e) is = tt
 
 has_fault : (text : List ℕ) (r : Outcome) → IsRead text r → IfErr r (IsFaultOf text)
 has_fault text (Ok v) is = tt
-has_fault text (Err outcomes.Memory) is = tt
-has_fault text (Err (outcomes.At fault place)) is = subst (Tells text) is (tokens_tell text)
+has_fault text (Err NoMemory) is = tt
+has_fault text (Err (Fault r)) is = subst (Tells text) is (tokens_tell text)
 
 gives : (text : List ℕ) (r : Outcome) (read : Read (List Placed)) → tokens text ≡ read → IsRead text r → Gives (λ found. map placed_of found.items) r read
 gives text r read same is = subst (Gives (λ found. map placed_of found.items) r) same is

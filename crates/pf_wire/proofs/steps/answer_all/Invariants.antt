@@ -1,4 +1,5 @@
 use Rattle.std.proofs.Common.{◌≡◌, ◌≤◌, ◌+◌, length}
+use Rattle.pf_book.specs.Profile.{ForRight}
 use Rattle.pf_wire.proofs.Leaving.{WentOut}
 use Rattle.pf_wire.proofs.steps.answer_all.Given as goal
 
@@ -7,7 +8,7 @@ abbrev pub invariant-loop-rest : goal.invariant-loop-rest
 invariant-loop-rest g l =
     let contents = g.W.Write.contents in
     record {
-      so_far : WentOut l.input l.rest l.book l.number (contents l.fn.writer.inner) (contents l.writer.inner);
+      so_far : ForRight (λ p. WentOut p l.input l.rest l.book l.number (contents l.fn.writer.inner) (contents l.writer.inner));
       same : l.writer.failures.total ≡ l.fn.writer.failures.total;
       within : l.number + length l.rest ≤ length l.input + 1;
     }

@@ -4,12 +4,20 @@ use Rattle.pf_wire.proofs.Leaving.{stops_before, answers_read}
 use Rattle.pf_wire.proofs.steps.run_steps.Goals as goal
 
 pub returns-in-Err-Memory-clause-fault : goal.returns-in-Err-Memory-clause-fault
-returns-in-Err-Memory-clause-fault g c = (rw c.in-Err-Memory.field-0-is at c.in-Err-Memory.ensures.counted, refl, stops_before _ _)
+returns-in-Err-Memory-clause-fault g c = λ p right. (rw c.in-Err-Memory.field-0-is at c.in-Err-Memory.ensures.counted, refl, stops_before p _ _)
 
 pub returns-clause-answered : goal.returns-clause-answered
 returns-clause-answered g c =
-    IfOk-weaker c.answer_all.result _ _ (λ status a. (c.in-Ok.input.items, a.0, c.in-Ok.ensures.front, rw (c.deref.ensures.value, c.shrink_to_fit.ensures.items) at a.1, a.2)) c.answer_all.ensures.answered
+    IfOk-weaker c.answer_all.result _ _
+    (λ status h p right.
+    let a = h p right in
+    (c.in-Ok.input.items, a.0, c.in-Ok.ensures.front, rw (c.deref.ensures.value, c.shrink_to_fit.ensures.items) at a.1, a.2))
+    c.answer_all.ensures.answered
 
 pub returns-clause-fault : goal.returns-clause-fault
 returns-clause-fault g c =
-    IfErr-weaker c.answer_all.result _ _ (λ e s. answers_read _ _ _ c.in-Ok.input.items e _ _ _ _ c.in-Ok.ensures.kept c.in-Ok.ensures.front (rw (c.deref.ensures.value, c.shrink_to_fit.ensures.items) at s)) c.answer_all.ensures.fault
+    IfErr-weaker c.answer_all.result _ _
+    (λ e h p right.
+    answers_read p _ _ _ c.in-Ok.input.items e _ _ _ _ c.in-Ok.ensures.kept c.in-Ok.ensures.front
+    (rw (c.deref.ensures.value, c.shrink_to_fit.ensures.items) at h p right))
+    c.answer_all.ensures.fault

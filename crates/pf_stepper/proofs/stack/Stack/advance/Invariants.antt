@@ -1,11 +1,11 @@
 use Rattle.std.proofs.Common.{◌≡◌, ◌+◌}
-use Rattle.pf_stepper.specs.Turns.{weight_of, focus_weight}
-use Rattle.pf_stepper.specs.Advanced.{seen, IsSound}
+use Rattle.pf_stepper.specs.MicroSteps.{weight_of, focus_weight}
+use Rattle.pf_stepper.specs.Advanced.{stack_process, IsSound}
 use Rattle.pf_stepper.proofs.stack.Stack.advance.Given as goal
 
 abbrev pub invariant-loop-next : goal.invariant-loop-next
 invariant-loop-next l = record {
-  process : seen l.code l.self l.focus ≡ seen l.code l.fn.self l.fn.first;
+  process : stack_process l.code l.self l.focus ≡ stack_process l.code l.fn.self l.fn.first;
   sound : IsSound l.self l.focus;
 }
 

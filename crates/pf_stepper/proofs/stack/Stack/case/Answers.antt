@@ -1,7 +1,7 @@
 use Rattle.std.proofs.Common.{refl}
 use Rattle.std.specs.Prelude.{Ok}
 use Rattle.pf_stepper.specs.declared.frame.Kind.TheVariants as k
-use Rattle.pf_stepper.specs.declared.frame.Turn.TheVariants as t
+use Rattle.pf_stepper.specs.declared.frame.MicroStep.TheVariants as t
 use Rattle.pf_stepper.proofs.Focused.{can_wait}
 use Rattle.pf_stepper.proofs.Follows.{descends_at_once}
 use Rattle.pf_stepper.proofs.Matched.{selects_at_once}

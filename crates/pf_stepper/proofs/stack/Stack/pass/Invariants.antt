@@ -1,7 +1,7 @@
 use Rattle.std.proofs.Common.{ℕ, ◌-◌, ◌≤◌, length, List}
 use Rattle.pf_terms.specs.declared.term.Term.{Term}
 use Rattle.pf_stepper.specs.Sound.{Stacked}
-use Rattle.pf_stepper.specs.Turns.{Passes}
+use Rattle.pf_stepper.specs.MicroSteps.{Passes}
 use Rattle.pf_stepper.specs.declared.frame.Frame.{Frame}
 use Rattle.pf_stepper.specs.declared.frame.Focus.{Focus}
 use Rattle.pf_stepper.proofs.stack.Stack.pass.Given as goal

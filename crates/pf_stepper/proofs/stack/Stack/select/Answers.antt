@@ -3,9 +3,11 @@ use Rattle.pf_stepper.proofs.Matched.{selects}
 use Rattle.pf_stepper.proofs.stack.Stack.select.Goals as goal
 
 pub choose-requires : goal.choose-requires
-choose-requires c = rw c.truncate.ensures.items (inside_cut c.args.code.now _ _ 0 _ c.args.frame c.args.value c.requires.sound)
+choose-requires c = rw c.resume.ensures.env (inside_cut c.args.code.now _ _ 0 _ c.args.frame c.args.value c.requires.sound)
 
 pub returns : goal.returns
 returns c =
-    selects _ _ _ _ _ c.args.frame c.args.value c.requires.sound c.args.id _ _ c.requires.kind
-    (rw (← c.truncate.ensures.items, ← c.clauses-clauses.ensures) c.in_ok-focus.ensures)
+    let r = c.resume.ensures in
+    rw (r.temps, r.frames, r.base)
+    (selects _ _ _ _ _ c.args.frame c.args.value c.requires.sound c.args.id _ _ c.requires.kind
+    (rw (← r.env, ← c.clauses-clauses.ensures) c.in_ok-focus.ensures))

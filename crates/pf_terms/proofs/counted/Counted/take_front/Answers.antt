@@ -8,6 +8,6 @@ still_within : (bytes piece : List ℕ) (n limit : ℕ) → length bytes ≤ lim
 still_within bytes piece n limit within fits = omega (arith, within, fits, length-append bytes (take n piece), length-take n piece)
 
 -- what was taken before, and the piece that found no room
-pub returns-then-is_err-clause-taken : goal.returns-then-is_err-clause-taken
-returns-then-is_err-clause-taken g c =
-    (_, still_within c.loop-buf.bytes.items _ c.in-Ok.n c.args.limit c.loop-buf.invariant.within (omega (arith, c.in-Ok.ensures.bound, c.take_some.auto.buf, length-take c.min-want.result c.loop-buf.buf)), consumes_both _ _ _ _ _ c.loop-buf.invariant.taken c.in-Ok.ensures.bytes.0)
+pub returns-in_err-extend_from_slice-clause-taken : goal.returns-in_err-extend_from_slice-clause-taken
+returns-in_err-extend_from_slice-clause-taken g c =
+    (_, still_within c.loop-buf.bytes.items _ c.in_ok-n.n c.args.limit c.loop-buf.invariant.within (omega (arith, c.in_ok-n.ensures.bound, c.take_some.auto.buf, length-take c.min-want.result c.loop-buf.buf)), consumes_both _ _ _ _ _ c.loop-buf.invariant.taken c.in_ok-n.ensures.bytes.0)

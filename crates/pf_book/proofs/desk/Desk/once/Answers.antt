@@ -1,0 +1,53 @@
+use Rattle.std.proofs.Common.{◌≡◌, ℕ, List, [], ◌∷◌, ◌++◌, map, Some, refl, sym, ap, ◌∙◌}
+use Rattle.std.proofs.lemmas.List.{map_push}
+use Rattle.pf_model.specs.Desk.{Desk, Job, Trial, claimed, filed, once, worker_step}
+use Rattle.pf_model.specs.Meaning.{Report, Means}
+use Rattle.pf_book.specs.Profile.{ForRight}
+use Rattle.pf_book.specs.View.{entry_seen}
+use Rattle.pf_book.specs.Queued.{job_at}
+use Rattle.pf_book.specs.Kept.{desk_in}
+use Rattle.pf_book.specs.declared.entry.Entry.{Entry}
+use Rattle.pf_book.specs.declared.entry.Entry.TheVariants.{Claimed, Filed}
+use Rattle.pf_model.proofs.Histories.{legal_work}
+use Rattle.pf_book.proofs.Filed.{once_is, once_sums}
+use Rattle.pf_book.proofs.desk.Desk.once.Goals as goal
+
+-- a claim and a file are noted
+noted : (t : ℕ) (es es1 es2 es3 : List Entry) → es1 ≡ es → es2 ≡ es1 ++ Claimed t ∷ [] → es3 ≡ es2 ++ Filed t ∷ []
+    → map entry_seen es3 ≡ (map entry_seen es ++ claimed t ∷ []) ++ filed t ∷ []
+noted t es es1 es2 es3 reserved claims files =
+    ap (map entry_seen) (files ∙ ap (λ (l : List Entry). l ++ Filed t ∷ []) (claims ∙ ap (λ (l : List Entry). l ++ Claimed t ∷ []) reserved))
+    ∙ map_push entry_seen (es ++ Claimed t ∷ []) (Filed t)
+    ∙ ap (λ l. l ++ filed t ∷ []) (map_push entry_seen es (Claimed t))
+
+-- what a job is right for, is what the report says
+meant : (j : Job) (r s : Report) → Means j.stored.functions j.root j.limit s → r ≡ s → ForRight (λ p. p.meaning j ≡ r)
+meant j r s means same p right = right.means j s means ∙ sym same
+
+pub invariant_of-self-2 : goal.invariant_of-self-2
+invariant_of-self-2 c =
+    let d = desk_in c.self.inside in
+    let t = c.args.ticket in
+    let j = c.in-Some.job.now in
+    let r = c.in_ok-report.report.1 in
+    let waits : job_at d.trials t ≡ Some j = ap (λ (l : List Trial). job_at l t) (sym c.deref.ensures.value) ∙ sym c.in-Some.ensures in
+    let means = meant j r _ c.in_ok-run.ensures (ap (λ (x : List (List ℕ) × Report). x.1) c.in_ok-report.ensures) in
+    let history = noted t c.self.inside.history.items _ _ _ c.make_room.ensures.items c.push_reserved.ensures.items c.push_reserved-2.ensures.items in
+    let d' = desk_in (record { modules = c.self.inside.modules; trials = c.file.new.trials; history = c.push_reserved-2.new.self; usage = c.self.inside.usage }) in
+    record {
+      legal = λ p right.
+          legal_work p d d' (once t) (once_is d j r d' refl p (means p right) t waits c.file.ensures history) (c.self.invariant.legal p right);
+      sums = c.self.invariant.sums ∙ sym (once_sums d j r d' refl t waits c.file.ensures history);
+    }
+
+pub returns : goal.returns
+returns c =
+    let d = desk_in c.self.inside in
+    let t = c.args.ticket in
+    let j = c.in-Some.job.now in
+    let r = c.in_ok-report.report.1 in
+    let waits : job_at d.trials t ≡ Some j = ap (λ (l : List Trial). job_at l t) (sym c.deref.ensures.value) ∙ sym c.in-Some.ensures in
+    let means = meant j r _ c.in_ok-run.ensures (ap (λ (x : List (List ℕ) × Report). x.1) c.in_ok-report.ensures) in
+    let history = noted t c.self.inside.history.items _ _ _ c.make_room.ensures.items c.push_reserved.ensures.items c.push_reserved-2.ensures.items in
+    λ p right.
+    ap (λ (k : Desk). worker_step p k (once t)) (sym c.self.view_is) ∙ once_is d j r _ refl p (means p right) t waits c.file.ensures history

@@ -1,0 +1,9 @@
+-- What the results of operators stand for.
+use Rattle.std.specs.Prelude.{ℤ, Result, Ok, Err}
+use Rattle.pf_terms.specs.Value.{Value, int, atom}
+use Rattle.pf_terms.specs.declared.atoms.AtomId.{AtomId}
+
+-- an integer, or the reason that an operation raises
+abbrev pub result_of : Result ℤ AtomId → Result Value Value
+result_of (Ok z) = Ok (int z)
+result_of (Err e) = Err (atom e.0)

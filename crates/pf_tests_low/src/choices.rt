@@ -1,0 +1,49 @@
+//! The generator's published words, and each call once.
+
+use pf_choice::Choices;
+use rand_core::utils::NextWord;
+use rand_pcg::Lcg64Xsh32;
+use std::test::Fail;
+
+// Among as many things as a word has values, the choice is the word.
+const WORDS: usize = 4294967296;
+
+#[test]
+fn words_of_the_reference_generator(rt: HostRuntime) {
+    let mut choices = Choices::generator(Lcg64Xsh32::new(42, 54));
+    for word in [
+        0xa15c02b7usize,
+        0x7b47f409,
+        0xba1d3330,
+        0x83d2f293,
+        0xbfa4784b,
+        0xcbed606e,
+    ] {
+        assert_eq!(rt; choices.next(WORDS), word);
+    }
+}
+
+// From the generator's public definition, worked out apart from this crate.
+#[test]
+fn words_of_seeds(rt: HostRuntime) {
+    for (seed, words) in [
+        (0, [0x11cdd903usize, 0xfc843fd7, 0x140833d3, 0x3efaaf3e]),
+        (1, [0x33a70be6, 0x7dbcf3ee, 0xcadf4751, 0x11ac71c0]),
+        (7, [0x91915ee9, 0x18ae1cbe, 0xa388049d, 0xd2193ac4]),
+        (u64::MAX, [0x982f997e, 0x513da686, 0xe017d20c, 0xc8ade03d]),
+    ] {
+        let mut choices = Choices::seed(seed);
+        for word in words {
+            assert_eq!(rt; choices.next(WORDS), word, "of seed {seed}");
+        }
+    }
+}
+
+#[test]
+fn a_schedule_and_then_zeros(rt: HostRuntime) -> Result<(), Fail> {
+    let mut choices: Choices = Choices::schedule(vec![in rt.alloc(); 7, 4294967295, 2]?);
+    for (n, choice) in [(3, 1), (WORDS, 4294967295), (2, 0), (5, 0), (1, 0)] {
+        assert_eq!(rt; choices.next(n), choice, "among {n}");
+    }
+    Ok(())
+}
