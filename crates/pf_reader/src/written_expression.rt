@@ -5,7 +5,6 @@ ghost use Rattle.std.specs.List.{All};
 ghost use Rattle.pf_syntax.specs.Source.{NodeTable};
 ghost use Rattle.pf_syntax.specs.SourceOver.{condition_over, ConditionStands, WrittenExpressionStands};
 ghost use Rattle.pf_tokens.specs.declared.marks.Mark.TheVariants.{Comma, CloseParenthesis, Semicolon};
-ghost use Rattle.pf_reader.specs.declared.fault.ReadFault.TheVariants.{Memory};
 ghost use Rattle.pf_reader.specs.NumberedTokens.{mark};
 ghost use Rattle.pf_reader.specs.Grammar.{unguarded};
 ghost use Rattle.pf_reader.specs.ListItems.{item_at};
@@ -13,12 +12,13 @@ ghost use Rattle.pf_reader.specs.Parse.{body, case_of, clause, element, expr, it
 ghost use Rattle.pf_reader.specs.View.{names_of, token_list};
 ghost use Rattle.pf_reader.specs.Given.{clause_of, written_expression_of, seen, ClauseStands, Gives, Grown};
 
-use crate::fault::ReadFault;
+use crate::fault::{ReadFault, Syntax};
 use crate::numbered_token::{NumberedKind, NumberedToken};
 use crate::operator::operator;
 use crate::part::{Part, put, put_within};
 use crate::token::{Context, behind, skip};
 use crate::written_pattern::{read_match_ahead, read_written_pattern};
+use pf_fault::{NoMemory, OrNoMemory};
 use pf_syntax::{
     Branch, Condition, Source, Tests, Word, WrittenExpressionId, WrittenExpressionNode,
 };
@@ -26,10 +26,9 @@ use pf_tokens::{Mark, Reserved};
 use std::alloc::Global;
 
 /// No guard: one alternative with no test.
-pub(crate) fn unguarded(alloc: Global) -> Result<Condition, ReadFault>
+pub(crate) fn unguarded(alloc: Global) -> Result<Condition, NoMemory>
     ensures meaning { IfOk result (λ g. (b : NodeTable) → condition_over b g ≡ unguarded) }
     ensures stands { IfOk result (λ g. (b : NodeTable) → ConditionStands b g) }
-    ensures err { IfErr result (λ e. e ≡ Memory) }
 {
     let mut alternatives = Vec::new(alloc);
     alternatives.push(Tests {
@@ -53,7 +52,7 @@ fn read_prim<'a>(
     ensures given { Gives (seen source.new.node_table) result (prim (names_of context.entry) limit (token_list tokens.now)) }
 {
     let Some((first, rest)) = tokens.split_first() else {
-        return Err(ReadFault::Syntax);
+        return Err(OrNoMemory::Fault(Syntax));
     };
     let offset = first.at;
     let inner = limit - 1;
@@ -80,7 +79,7 @@ fn read_prim<'a>(
         }
         NumberedKind::Reserved(Reserved::Case) => read_case(alloc, context, source, inner, rest),
         kind => match context.atom(kind) {
-            None => Err(ReadFault::Syntax),
+            None => Err(OrNoMemory::Fault(Syntax)),
             Some(name) => match skip(rest, NumberedKind::Mark(Mark::OpenParenthesis)) {
                 None => put(source, WrittenExpressionNode::Atom(name), rest),
                 Some(rest) => {
@@ -150,7 +149,7 @@ fn read_expr<'a>(
     ensures given { Gives (seen source.new.node_table) result (expr (names_of context.entry) limit (token_list tokens.now)) }
 {
     if limit == 0 {
-        return Err(ReadFault::Syntax);
+        return Err(OrNoMemory::Fault(Syntax));
     }
     read_level(alloc, context, source, 2, limit, tokens)
 }
@@ -169,7 +168,7 @@ fn read_element<'a>(
     ensures given { Gives (seen source.new.node_table) result (element (names_of context.entry) limit (token_list tokens.now)) }
 {
     if limit == 0 {
-        return Err(ReadFault::Syntax);
+        return Err(OrNoMemory::Fault(Syntax));
     }
     match read_match_ahead(context, source, tokens)? {
         None => read_expr(alloc, context, source, limit, tokens),
@@ -234,7 +233,7 @@ fn read_items<'a>(
         };
         rest = after;
     }
-    Err(ReadFault::Syntax)
+    Err(OrNoMemory::Fault(Syntax))
 }
 
 /// Expressions with commas between them, or none, before a closing parenthesis.
@@ -325,7 +324,7 @@ fn read_clauses<'a>(
         };
         rest = after;
     }
-    Err(ReadFault::Syntax)
+    Err(OrNoMemory::Fault(Syntax))
 }
 
 /// What stands behind `case`.
