@@ -10,9 +10,9 @@ ghost use Rattle.pf_reader.specs.View.{names_of};
 ghost use Rattle.pf_reader.specs.Given.{with_front, Gives};
 
 use crate::fault::{ReadFault, Syntax};
-use pf_numbered::{NumberedKind, NumberedToken};
 use crate::token::{Context, behind, read_name, read_number, skip, skip_word};
 use pf_fault::OrNoMemory;
+use pf_numbered::{NumberedKind, NumberedToken};
 use pf_syntax::{Export, Source};
 use pf_terms::NoMemory;
 use pf_tokens::Mark;

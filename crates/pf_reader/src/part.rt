@@ -7,8 +7,8 @@ ghost use Rattle.pf_numbered.specs.View.{token_list};
 ghost use Rattle.pf_reader.specs.Given.{seen, seen_written_pattern, Gives, Grown};
 
 use crate::fault::{ReadFault, Syntax};
-use pf_numbered::NumberedToken;
 use pf_fault::OrNoMemory;
+use pf_numbered::NumberedToken;
 use pf_syntax::{
     Source, WrittenExpressionId, WrittenExpressionNode, WrittenPatternId, WrittenPatternNode,
 };

@@ -7,8 +7,8 @@ ghost use Rattle.pf_reader.specs.View.{names_of};
 ghost use Rattle.pf_reader.specs.Given.{Gives};
 
 use crate::fault::{ReadFault, Syntax};
-use pf_numbered::{NumberedKind, NumberedToken};
 use pf_fault::OrNoMemory;
+use pf_numbered::{NumberedKind, NumberedToken};
 use pf_syntax::Word;
 use pf_terms::{AtomId, AtomTable};
 use pf_tokens::Integer;

@@ -14,12 +14,12 @@ ghost use Rattle.pf_reader.specs.View.{names_of};
 ghost use Rattle.pf_reader.specs.Given.{clause_of, written_expression_of, seen, ClauseStands, Gives, Grown};
 
 use crate::fault::{ReadFault, Syntax};
-use pf_numbered::{NumberedKind, NumberedToken};
 use crate::operator::operator;
 use crate::part::{Part, put, put_within};
 use crate::token::{Context, behind, skip};
 use crate::written_pattern::{read_match_ahead, read_written_pattern};
 use pf_fault::{NoMemory, OrNoMemory};
+use pf_numbered::{NumberedKind, NumberedToken};
 use pf_syntax::{
     Branch, Condition, Source, Tests, Word, WrittenExpressionId, WrittenExpressionNode,
 };

@@ -11,10 +11,10 @@ ghost use Rattle.pf_reader.specs.View.{names_of};
 ghost use Rattle.pf_reader.specs.Given.{seen_written_pattern, written_pattern_of, Gives, Grown};
 
 use crate::fault::{ReadFault, Syntax};
-use pf_numbered::{NumberedKind, NumberedToken};
 use crate::part::{WrittenPatternPart, put_written_pattern};
 use crate::token::{Context, behind, read_number, skip};
 use pf_fault::{NoMemory, OrNoMemory};
+use pf_numbered::{NumberedKind, NumberedToken};
 use pf_syntax::{Source, Word, WrittenPatternId, WrittenPatternNode};
 use pf_tokens::Mark;
 use std::alloc::Global;
