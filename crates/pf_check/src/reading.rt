@@ -3,7 +3,7 @@
 ghost use Rattle.std.specs.Prelude.{◌≡◌, [], ℕ, List, IfErr, IfOk, OnOk};
 ghost use Rattle.pf_tokens.specs.TokenKinds.{Placed};
 ghost use Rattle.pf_tokens.specs.Rules.{HasTokens, IsFaultOf};
-ghost use Rattle.pf_reader.specs.NumberedTokens.{atoms_of, numbered};
+ghost use Rattle.pf_numbered.specs.NumberedTokens.{atoms_of, numbered};
 ghost use Rattle.pf_reader.specs.Outcome.{IsTreeFault};
 ghost use Rattle.pf_syntax.specs.WrittenModule.{tree_of};
 ghost use Rattle.pf_faults.specs.Earliest.{number_of_fault};

@@ -1,5 +1,5 @@
 use Rattle.std.proofs.Common.{subst}
-use Rattle.pf_reader.specs.NumberedTokens.{atoms_of, numbered}
+use Rattle.pf_numbered.specs.NumberedTokens.{atoms_of, numbered}
 use Rattle.pf_reader.specs.Outcome.{IsTreeFault}
 use Rattle.pf_check.specs.Reads.{no_head, no_tree}
 use Rattle.pf_check.proofs.reading.of_tree.Goals as goal

@@ -1,8 +1,8 @@
 use Rattle.std.proofs.Common.{length, inr, refl, sym}
 use Rattle.std.proofs.lemmas.Bool.{ltb-true}
 use Rattle.std.proofs.lemmas.Option.{slice_get_read}
-use Rattle.pf_reader.proofs.Places.{stands_there}
-use Rattle.pf_reader.proofs.place.fault_place.Goals as goal
+use Rattle.pf_numbered.proofs.Places.{stands_there}
+use Rattle.pf_numbered.proofs.place.fault_place.Goals as goal
 
 pub returns-in-Some-get : goal.returns-in-Some-get
 returns-in-Some-get c =

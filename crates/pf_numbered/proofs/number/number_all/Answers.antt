@@ -1,11 +1,11 @@
 use Rattle.std.proofs.Common.{◌≡◌, ◌+◌, suc, [], ◌∷◌, ◌++◌, drop, arith, rules, drop-cons}
 use Rattle.std.specs.Prelude.{map, flat_map}
 use Rattle.pf_tokens.specs.TokenKinds.{placed_of}
-use Rattle.pf_reader.specs.NumberedTokens.{atom_name, atoms_of, numbered_token_in, variable_name, variables_of}
-use Rattle.pf_reader.specs.declared.numbered_token.NumberedToken.{NumberedToken as CodeNumberedToken}
-use Rattle.pf_reader.specs.View.{numbered_token_of}
-use Rattle.pf_reader.proofs.Numbering.{names_go, token_list_go}
-use Rattle.pf_reader.proofs.number.number_all.Goals as goal
+use Rattle.pf_numbered.specs.NumberedTokens.{atom_name, atoms_of, numbered_token_in, variable_name, variables_of}
+use Rattle.pf_numbered.specs.declared.numbered_token.NumberedToken.{NumberedToken as CodeNumberedToken}
+use Rattle.pf_numbered.specs.View.{numbered_token_of}
+use Rattle.pf_numbered.proofs.Numbering.{names_go, token_list_go}
+use Rattle.pf_numbered.proofs.number.number_all.Goals as goal
 
 pub loop-token-preserved : goal.loop-token-preserved
 loop-token-preserved c =

@@ -2,9 +2,9 @@ use Rattle.std.proofs.Common.{◌≡◌, ◌<◌, ◌^◌, ◌++◌, drop, lengt
 use Rattle.std.specs.Prelude.{map, flat_map}
 use Rattle.pf_terms.specs.Atoms.{with_names}
 use Rattle.pf_tokens.specs.TokenKinds.{placed_of}
-use Rattle.pf_reader.specs.NumberedTokens.{atom_name, atoms_of, numbered, numbered_token_in, variable_name, variables_of}
-use Rattle.pf_reader.specs.View.{token_list}
-use Rattle.pf_reader.proofs.number.number_all.Given as goal
+use Rattle.pf_numbered.specs.NumberedTokens.{atom_name, atoms_of, numbered, numbered_token_in, variable_name, variables_of}
+use Rattle.pf_numbered.specs.View.{token_list}
+use Rattle.pf_numbered.proofs.number.number_all.Given as goal
 
 -- the names and the tokens so far, and those of what is left, are those of all
 abbrev pub invariant-loop-token : goal.invariant-loop-token

@@ -3,9 +3,9 @@
 ghost use Rattle.std.specs.Prelude.{◌≡◌, ◌<◌, ◌^◌, ℕ, length, List, map, IfOk, OnOk};
 ghost use Rattle.pf_terms.specs.Atoms.{fixed_names, with_name, with_names};
 ghost use Rattle.pf_tokens.specs.TokenKinds.{placed_of, kind_of};
-ghost use Rattle.pf_reader.specs.NumberedTokens.{atom_name, atoms_of, number_in, numbered, variable_name};
-ghost use Rattle.pf_reader.specs.View.{token_list};
-ghost use Rattle.pf_reader.specs.Numbering.{StandsForKind};
+ghost use Rattle.pf_numbered.specs.NumberedTokens.{atom_name, atoms_of, number_in, numbered, variable_name};
+ghost use Rattle.pf_numbered.specs.View.{token_list};
+ghost use Rattle.pf_numbered.specs.Numbering.{StandsForKind};
 
 use crate::numbered_token::{NumberedKind, NumberedToken};
 use pf_fault::NoMemory;
@@ -109,7 +109,7 @@ fn number_names(
 }
 
 /// The atoms of the tokens, and the tokens with numbers for their names.
-pub(crate) fn number_tokens(
+pub fn number_tokens(
     alloc: Global,
     tokens: &[Token],
 ) -> Result<(AtomTable, Vec<NumberedToken>), NoMemory>

@@ -5,7 +5,7 @@ use pf_tokens::{Integer, Mark, Reserved};
 
 /// What a token is; a string has no rule yet, so its characters aren't kept.
 #[derive(Clone, Copy, Debug, PartialEq, Eq)]
-pub(crate) enum NumberedKind {
+pub enum NumberedKind {
     Integer(Integer),
     Atom(AtomId),
     Variable(AtomId),
@@ -19,7 +19,7 @@ pub(crate) enum NumberedKind {
 
 /// A token, and the offset of its first byte.
 #[derive(Clone, Copy, Debug)]
-pub(crate) struct NumberedToken {
+pub struct NumberedToken {
     pub kind: NumberedKind,
     pub at: u32,
 }

@@ -6,7 +6,7 @@ use Rattle.std.specs.Str.{bytes_eq}
 use Rattle.std.proofs.lemmas.Slice.Eq.{bytes_eq-Decides}
 use Rattle.pf_terms.specs.Atoms.{with_name, with_names, name_of}
 use Rattle.pf_terms.specs.Order.{TellsApart}
-use Rattle.pf_reader.specs.NumberedTokens.{number_in}
+use Rattle.pf_numbered.specs.NumberedTokens.{number_in}
 
 -- the name stands in the names, first at this place
 abbrev pub FirstAt : List (List ℕ) → List ℕ → ℕ → Type 0

@@ -6,9 +6,9 @@ use Rattle.std.proofs.lemmas.List.Sums.{fold-append}
 use Rattle.pf_terms.specs.Atoms.{with_name, with_names}
 use Rattle.pf_tokens.specs.TokenKinds.{Placed, placed_of}
 use Rattle.pf_tokens.specs.declared.token.Token.{Token}
-use Rattle.pf_reader.specs.declared.numbered_token.NumberedToken.{NumberedToken as CodeNumberedToken}
-use Rattle.pf_reader.specs.NumberedTokens.{NumberedToken, numbered_token_in}
-use Rattle.pf_reader.specs.View.{numbered_token_of, token_list}
+use Rattle.pf_numbered.specs.declared.numbered_token.NumberedToken.{NumberedToken as CodeNumberedToken}
+use Rattle.pf_numbered.specs.NumberedTokens.{NumberedToken, numbered_token_in}
+use Rattle.pf_numbered.specs.View.{numbered_token_of, token_list}
 
 module _ (rest next : List Token) (x : Token) (e : rest ≡ x ∷ next) where
   -- the names of the first token are entered

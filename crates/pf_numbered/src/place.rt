@@ -4,8 +4,8 @@
 //! The tokens are gone through once, with what is open around each on a stack of its own, so that no source is too deep for it.
 
 ghost use Rattle.std.specs.Prelude.{IfOk};
-ghost use Rattle.pf_reader.specs.Outcome.{IsPlaceOf};
-ghost use Rattle.pf_reader.specs.View.{token_list};
+ghost use Rattle.pf_numbered.specs.Places.{IsPlaceOf};
+ghost use Rattle.pf_numbered.specs.View.{token_list};
 
 use crate::expression::{Expression, Leaf};
 use crate::numbered_token::{NumberedKind, NumberedToken};
@@ -87,7 +87,7 @@ struct Walk<'a> {
 }
 
 /// Where the tokens behind the first form of a source go wrong: the place of one of them, or the end of the source.
-pub(crate) fn fault_place(
+pub fn fault_place(
     alloc: Global,
     atoms: &AtomTable,
     tokens: &[NumberedToken],
