@@ -5,7 +5,7 @@ use Rattle.pf_tokens.specs.Rules.{HasTokens}
 use Rattle.pf_tokens.specs.Scan.{Read, tokens}
 use Rattle.pf_tokens.proofs.Texts.{Tells, tokens_tell}
 use Rattle.pf_syntax.specs.Module.{Checked, empty}
-use Rattle.pf_reader.specs.NumberedTokens.{NumberedToken, atoms_of, numbered}
+use Rattle.pf_numbered.specs.NumberedTokens.{NumberedToken, atoms_of, numbered}
 use Rattle.pf_reader.specs.Grammar.{HasHead, DerivesTree}
 use Rattle.pf_syntax.specs.WrittenModule.{Tree}
 use Rattle.pf_reader.specs.Parse.{begins, tree}

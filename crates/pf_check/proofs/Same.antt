@@ -13,7 +13,7 @@ use Rattle.pf_syntax.specs.Tree.{Builtin, Function, FunctionClause}
 use Rattle.pf_syntax.specs.Module.{Checked}
 use Rattle.pf_syntax.specs.Source.{Export, Head}
 use Rattle.pf_syntax.specs.Naming.{HeadIs}
-use Rattle.pf_reader.specs.NumberedTokens.{atoms_of, numbered}
+use Rattle.pf_numbered.specs.NumberedTokens.{atoms_of, numbered}
 use Rattle.pf_reader.specs.Grammar.{HasHead, DerivesTree}
 use Rattle.pf_syntax.specs.WrittenModule.{Tree}
 use Rattle.pf_reader.proofs.Whole.{one_tree}

@@ -3,8 +3,8 @@ use Rattle.std.proofs.Common.{◌≤◌, inl, inr, ℕ, List, [], ◌∷◌, len
 use Rattle.pf_tokens.specs.TokenKinds.{Placed}
 use Rattle.pf_tokens.specs.Rules.{HasTokens, IsOrdered}
 use Rattle.pf_tokens.proofs.Texts.{ordered}
-use Rattle.pf_reader.specs.NumberedTokens.{numbered, numbered_token_in, atoms_of, variables_of}
-use Rattle.pf_reader.specs.Outcome.{Stands, IsPlaceOf}
+use Rattle.pf_numbered.specs.NumberedTokens.{numbered, numbered_token_in, atoms_of, variables_of}
+use Rattle.pf_numbered.specs.Places.{Stands, IsPlaceOf}
 
 goes_on : (ts : List Placed) (start end : ℕ) → IsOrdered start ts end → start ≤ end
 goes_on [] start end h = h

@@ -9,10 +9,10 @@ use Rattle.pf_tokens.specs.TokenKinds.{Placed}
 use Rattle.pf_tokens.specs.Rules.{HasTokens, HasFault}
 use Rattle.pf_syntax.specs.Tree.{Program}
 use Rattle.pf_syntax.specs.Module.{Checked}
-use Rattle.pf_reader.specs.NumberedTokens.{atoms_of, numbered}
+use Rattle.pf_numbered.specs.NumberedTokens.{atoms_of, numbered}
 use Rattle.pf_reader.specs.Grammar.{HasHead, DerivesTree}
 use Rattle.pf_syntax.specs.WrittenModule.{Tree}
-use Rattle.pf_reader.specs.Outcome.{IsPlaceOf}
+use Rattle.pf_numbered.specs.Places.{IsPlaceOf}
 use Rattle.pf_rules.specs.Static.{faults_of, IsFirst}
 use Rattle.pf_rules.specs.Checks.{IsModule}
 

@@ -3,8 +3,8 @@
 ghost use Rattle.std.specs.Prelude.{◌≤◌, List, ℕ, length};
 ghost use Rattle.pf_tokens.specs.TokenKinds.{Placed};
 ghost use Rattle.pf_tokens.specs.Rules.{HasTokens};
-ghost use Rattle.pf_reader.specs.NumberedTokens.{numbered};
-ghost use Rattle.pf_reader.specs.Outcome.{IsPlaceOf};
+ghost use Rattle.pf_numbered.specs.NumberedTokens.{numbered};
+ghost use Rattle.pf_numbered.specs.Places.{IsPlaceOf};
 ghost use Rattle.pf_check.specs.Reads.{Outcome, Reads, SameOutcome};
 
 /// A source is read in one way: as one module, or with one refusal at one place, but for the place of E5, which isn't told.
