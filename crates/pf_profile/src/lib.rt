@@ -1,0 +1,8 @@
+//! The profile of the language: what a source is read as and what a job means, and the work of `steps` by it.
+#![tactic(auto)]
+
+mod laws;
+mod steps;
+
+pub use laws::profile_is_right;
+pub use steps::run_steps;
