@@ -8,7 +8,7 @@ ghost use Rattle.pf_rules.specs.Formed.{AreFormed};
 ghost use Rattle.pf_check.specs.Reads.{IsFirstOf, IsRefusalOf, Reads, accepted_as};
 
 use pf_fault::{OrNoMemory, Refusal};
-use pf_faults::first_fault;
+use pf_first_fault::first_fault;
 use pf_lower::module_of;
 use pf_reader::{ReadModule, read_tree};
 use pf_syntax::{Module, Source};

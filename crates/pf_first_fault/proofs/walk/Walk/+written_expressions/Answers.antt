@@ -1,0 +1,124 @@
+use Rattle.std.proofs.Common.{◌≡◌, ℕ, ◌+◌, List, drop, take, get_or, refl, sym, ap, ◌∙◌, subst, arith}
+use Rattle.std.specs.Prelude.{if◌then◌else◌}
+use Rattle.std.proofs.lemmas.List.{at_drop_more, at_drop_all}
+use Rattle.pf_syntax.specs.WrittenExpression.{written_expressions_depth, condition_depth, branches_depth, written_expression, tests, branch}
+use Rattle.pf_syntax.specs.Scope.{has, after_all}
+use Rattle.pf_syntax.specs.Source.{written_expression_at, written_pattern_at}
+use Rattle.pf_syntax.specs.SourceOver.{written_expressions_at, alternatives_at, branches_over, condition_over, written_expression_over}
+use Rattle.pf_syntax.specs.declared.written.WrittenExpressionId.{WrittenExpressionId}
+use Rattle.pf_syntax.specs.declared.written.Tests.{Tests}
+use Rattle.pf_syntax.specs.declared.written.WrittenExpressionNode.{WrittenExpressionNode}
+use Rattle.pf_rules.specs.Static.{names_of, written_expressions_faults}
+use Rattle.pf_first_fault.specs.Marks.{status_of, trail_of}
+use Rattle.pf_first_fault.specs.Walking.{WrittenExpressionWalked, WrittenExpressionsWalked, ConditionWalked}
+use Rattle.pf_first_fault.specs.declared.variable_states.Status.TheVariants.{New, Unsafe}
+use Rattle.pf_first_fault.proofs.Passing.{next_item, written_expressions_more, written_expressions_all, condition_more, condition_all, branches_more, branches_all, branch_closed, walks_back, called, underway_first}
+use Rattle.pf_first_fault.proofs.walk.Walk.+written_expressions.Goals as goal
+
+pub written_expressions-loop-part-init : goal.written_expressions-loop-part-init
+written_expressions-loop-part-init t c = record { underway = underway_first c.args.self.now _ _; shallow = omega arith }
+
+pub condition-loop-alternative-init : goal.condition-loop-alternative-init
+condition-loop-alternative-init t c = record { underway = underway_first c.args.self.now _ _; shallow = omega arith }
+
+pub written_expressions-loop-part-preserved : goal.written_expressions-loop-part-preserved
+written_expressions-loop-part-preserved t c =
+    let n = names_of c.args.source.now.functions in
+    let node_table = c.args.source.now.node_table in
+    let parts = c.args.parts.now in
+    let i = c.loop-part.part-index in
+    let d : WrittenExpressionId = record { 0 = 0 } in
+    let split : written_expressions_at node_table (drop i parts) ≡ written_expression (written_expression_at node_table (get_or parts i d).0) (written_expressions_at node_table (drop (i + 1) parts)) = at_drop_more (λ qs. written_expressions_at node_table qs) parts i d c.loop-part-test.true in
+    record {
+      underway = written_expressions_more n c.args.self.now c.loop-part.self c.written_expression.new.self (written_expressions_at node_table parts) (written_expressions_at node_table (drop i parts)) (written_expressions_at node_table (drop (i + 1) parts)) _ split c.loop-part.invariant.underway c.in_ok-written_expression.ensures;
+      shallow = omega (arith, c.loop-part.invariant.shallow, ap written_expressions_depth split);
+    }
+
+pub written_expressions-returns : goal.written_expressions-returns
+written_expressions-returns t c =
+    let node_table = c.args.source.now.node_table in
+    let parts = c.args.parts.now in
+    written_expressions_all (names_of c.args.source.now.functions) c.args.self.now c.loop-part.self (written_expressions_at node_table parts) (written_expressions_at node_table (drop c.loop-part.part-index parts))
+    (at_drop_all (λ qs. written_expressions_at node_table qs) parts c.loop-part.part-index c.loop-part-test.false) c.loop-part.invariant.underway
+
+pub condition-returns : goal.condition-returns
+condition-returns t c =
+    let n = names_of c.args.source.now.functions in
+    let node_table = c.args.source.now.node_table in
+    let parts = c.deref-alternative-items.result.now in
+    let i = c.loop-alternative.alternative-index in
+    subst (λ (ts : List Tests). ConditionWalked n c.args.self.now c.loop-alternative.self (alternatives_at node_table ts)) c.deref-alternative-items.ensures.value
+    (condition_all n c.args.self.now c.loop-alternative.self (alternatives_at node_table parts) (alternatives_at node_table (drop i parts))
+    (at_drop_all (λ ts. alternatives_at node_table ts) parts i c.loop-alternative-test.false) c.loop-alternative.invariant.underway)
+
+pub condition-loop-alternative-preserved : goal.condition-loop-alternative-preserved
+condition-loop-alternative-preserved t c =
+    let n = names_of c.args.source.now.functions in
+    let node_table = c.args.source.now.node_table in
+    let parts = c.deref-alternative-items.result.now in
+    let i = c.loop-alternative.alternative-index in
+    let x = c.alternative-item.result in
+    let rest = alternatives_at node_table (drop (i + 1) parts) in
+    let split : alternatives_at node_table (drop i parts) ≡ tests (written_expressions_at node_table x.tests.items) rest = next_item (λ ts. alternatives_at node_table ts) parts i x c.loop-alternative-test.true c.alternative-item.is in
+    let here : alternatives_at node_table (drop i parts) ≡ tests (written_expressions_at node_table c.deref.result.now) rest = split ∙ ap (λ (ids : List WrittenExpressionId). tests (written_expressions_at node_table ids) rest) (sym c.deref.ensures.value) in
+    record {
+      underway = condition_more n c.args.self.now c.loop-alternative.self c.tests.new.self (alternatives_at node_table parts) (alternatives_at node_table (drop i parts)) rest _ here c.loop-alternative.invariant.underway c.in_ok-tests.ensures;
+      shallow = omega (arith, c.loop-alternative.invariant.shallow, ap condition_depth split);
+    }
+
+pub branches-loop-branch-preserved : goal.branches-loop-branch-preserved
+branches-loop-branch-preserved t c =
+    let n = names_of c.args.source.now.functions in
+    let node_table = c.args.source.now.node_table in
+    let parts = c.args.branches.now in
+    let i = c.loop-branch.branch-index in
+    let x = c.branch-item.result in
+    let rest = branches_over node_table (drop (i + 1) parts) in
+    let split : branches_over node_table (drop i parts) ≡ branch (written_pattern_at node_table x.written_pattern.0) (condition_over node_table x.condition) (written_expressions_at node_table x.body.items) rest = next_item (λ bs. branches_over node_table bs) parts i x c.loop-branch-test.true c.branch-item.is in
+    record {
+      underway = branches_more n c.args.self.now c.loop-branch.self c.branch-self.new.self (branches_over node_table parts) (branches_over node_table (drop i parts)) rest _ _ _ split c.loop-branch.invariant.underway c.in_ok-branch.ensures;
+      shallow = omega (arith, c.loop-branch.invariant.shallow, ap branches_depth split);
+    }
+
+pub branches-returns : goal.branches-returns
+branches-returns t c =
+    let node_table = c.args.source.now.node_table in
+    let parts = c.args.branches.now in
+    let i = c.loop-branch.branch-index in
+    let now = c.loop-branch.self in
+    branches_all (names_of c.args.source.now.functions) c.args.self.now now _ (branches_over node_table parts) (branches_over node_table (drop i parts))
+    (at_drop_all (λ qs. branches_over node_table qs) parts i c.loop-branch-test.false) c.loop-branch.invariant.underway refl
+    (λ x. c.in_ok-set_since.ensures.set x ∙ ap (λ (k : ℕ). if has (drop k (trail_of now.variables)) x then Unsafe else status_of now.variables x) c.trail_len-start.ensures)
+    c.in_ok-set_since.ensures.trail
+
+pub branch-returns : goal.branch-returns
+branch-returns t c =
+    let n = names_of c.args.source.now.functions in
+    let node_table = c.args.source.now.node_table in
+    let now = c.written_expressions.new.self in
+    let body = subst (λ (ids : List WrittenExpressionId). WrittenExpressionsWalked n c.condition.new.self now (written_expressions_at node_table ids)) c.deref.ensures.value c.in_ok-written_expressions.ensures in
+    let b = c.args.branch.now in
+    branch_closed n c.args.self.now c.written_pattern.new.self c.condition.new.self now _ (written_pattern_at node_table b.written_pattern.0) (condition_over node_table b.condition) (written_expressions_at node_table b.body.items) c.in_ok-written_pattern.ensures c.in_ok-condition.ensures body refl
+    (λ x. c.in_ok-set_since.ensures.set x ∙ ap (λ (k : ℕ). if has (drop k (trail_of now.variables)) x then New else status_of now.variables x) c.trail_len-start.ensures)
+    c.in_ok-set_since.ensures.trail
+
+pub tests-returns : goal.tests-returns
+tests-returns t c =
+    let n = names_of c.args.source.now.functions in
+    let es = written_expressions_at c.args.source.now.node_table c.args.tests.now in
+    let now = c.written_expressions.new.self in
+    walks_back c.args.self.now now _ (λ g. after_all g es) (λ g. written_expressions_faults n g es) c.in_ok-written_expressions.ensures refl
+    (λ x. c.in_ok-forget.ensures.set x ∙ ap (λ (k : ℕ). if has (drop k (trail_of now.variables)) x then New else status_of now.variables x) c.trail_len-start.ensures)
+    (c.in_ok-forget.ensures.trail ∙ ap (λ (k : ℕ). take k (trail_of now.variables)) c.trail_len-start.ensures)
+
+pub written_expression_node-returns-in_ok-written_expressions-in-Call : goal.written_expression_node-returns-in_ok-written_expressions-in-Call
+written_expression_node-returns-in_ok-written_expressions-in-Call t c =
+    let fs = c.args.source.now.functions in
+    let node_table = c.args.source.now.node_table in
+    let old = c.args.self.now in
+    let new = c.written_expressions-in-Call.new.self in
+    let w = c.in-Call.word in
+    let ids = c.in-Call.arguments in
+    subst (λ (m : WrittenExpressionNode). WrittenExpressionWalked (names_of fs) old new (written_expression_over node_table m)) (sym c.in-Call.is)
+    (called fs c.args.own.now node_table old c.call.new.self new w.name.0 w.offset c.len.result ids.items c.deref-in-Call.result.now c.requires (omega (arith, ids.ok.0)) c.deref-in-Call.ensures.value c.call.ensures
+    c.in_ok-written_expressions-in-Call.ensures)

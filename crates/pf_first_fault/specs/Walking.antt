@@ -1,0 +1,87 @@
+-- What a walk through a part of a clause does: to what is seen, to the trail, and to the first fault.
+use Rattle.std.specs.Prelude.{◌≡◌, ℕ, true, false, ◌&&◌, if◌then◌else◌, List, [], ◌∷◌, ◌++◌}
+use Rattle.pf_fault.specs.declared.refusal.Refusal.{Refusal}
+use Rattle.pf_fault.specs.declared.code.Code.TheVariants.{Unbound, Undefined, Unsafe}
+use Rattle.pf_syntax.specs.WrittenPattern.{WrittenPattern, WrittenPatterns}
+use Rattle.pf_syntax.specs.WrittenExpression.{WrittenExpression, WrittenExpressions, Condition, Branches}
+use Rattle.pf_syntax.specs.Scope.{Scope, no_scope, has, is_new, is_unsafe, after_written_pattern, after_written_patterns, after, after_all, leaving, ends_of}
+use Rattle.pf_syntax.specs.Naming.{Names}
+use Rattle.pf_syntax.specs.Source.{NodeTable}
+use Rattle.pf_syntax.specs.SourceOver.{branches_over}
+use Rattle.pf_syntax.specs.declared.written.Branch.{Branch}
+use Rattle.pf_rules.specs.Static.{fault_if, written_pattern_faults, written_patterns_faults, written_expression_faults, written_expressions_faults, condition_faults, branches_faults}
+use Rattle.pf_first_fault.specs.Earliest.{earliest, kept}
+use Rattle.pf_first_fault.specs.Marks.{Stands, Trails, trail_of, status_of, is_marked}
+use Rattle.pf_rules.specs.Listing.{lists}
+use Rattle.pf_rules.specs.declared.signatures.Signatures.{Signatures}
+use Rattle.pf_first_fault.specs.declared.walk.Walk.{Walk}
+
+-- a walk whose part changes what is seen so and has these faults
+pub record Walks (old new : Walk) (step : Scope → Scope) (faults : Scope → List Refusal) : Type 0 where
+  pub trails : Trails old.variables new.variables
+  pub stands : (g : Scope) → Stands old.variables g → Stands new.variables (step g)
+  pub found : (g : Scope) → Stands old.variables g → kept new.first ≡ earliest (kept old.first) (faults g)
+
+-- through a pattern, and through patterns
+abbrev pub WrittenPatternWalked : Walk → Walk → WrittenPattern → Type 0
+WrittenPatternWalked old new q = Walks old new (λ g. after_written_pattern g q) (λ g. written_pattern_faults g q)
+
+abbrev pub WrittenPatternsWalked : Walk → Walk → WrittenPatterns → Type 0
+WrittenPatternsWalked old new qs = Walks old new (λ g. after_written_patterns g qs) (λ g. written_patterns_faults g qs)
+
+-- through an expression, and through expressions
+abbrev pub WrittenExpressionWalked : Names → Walk → Walk → WrittenExpression → Type 0
+WrittenExpressionWalked n old new e = Walks old new (λ g. after g e) (λ g. written_expression_faults n g e)
+
+abbrev pub WrittenExpressionsWalked : Names → Walk → Walk → WrittenExpressions → Type 0
+WrittenExpressionsWalked n old new es = Walks old new (λ g. after_all g es) (λ g. written_expressions_faults n g es)
+
+-- through two expressions
+abbrev pub PairWalked : Names → Walk → Walk → WrittenExpression → WrittenExpression → Type 0
+PairWalked n old new a b = Walks old new (λ g. after (after g a) b) (λ g. written_expression_faults n g a ++ written_expression_faults n (after g a) b)
+
+-- through an alternative of a guard, and through a guard
+abbrev pub TestsWalked : Names → Walk → Walk → WrittenExpressions → Type 0
+TestsWalked n old new es = Walks old new (λ g. g) (λ g. written_expressions_faults n g es)
+
+abbrev pub ConditionWalked : Names → Walk → Walk → Condition → Type 0
+ConditionWalked n old new c = Walks old new (λ g. g) (λ g. condition_faults n g c)
+
+-- through the clauses of a construct, and out of it
+abbrev pub BranchesWalked : Names → Walk → Walk → Branches → Type 0
+BranchesWalked n old new bs = Walks old new (λ g. leaving g (ends_of g bs)) (λ g. branches_faults n g bs)
+
+-- through clauses that end with these names: the trail has those that were new, and what is seen is as before
+pub record Clauses (old new : Walk) (ends : Scope → List ℕ) (faults : Scope → List Refusal) : Type 0 where
+  pub names : List ℕ
+  pub longer : trail_of new.variables ≡ trail_of old.variables ++ names
+  pub same : (x : ℕ) → status_of new.variables x ≡ status_of old.variables x
+  pub fresh : (x : ℕ) → has names x ≡ true → is_marked (status_of old.variables x) ≡ false
+  pub named : (g : Scope) → Stands old.variables g → (x : ℕ) → has names x ≡ (is_new g x && has (ends g) x)
+  pub found : (g : Scope) → Stands old.variables g → kept new.first ≡ earliest (kept old.first) (faults g)
+
+-- a clause alone
+abbrev pub branch_of : NodeTable → Branch → Branches
+branch_of b c = branches_over b (c ∷ [])
+
+abbrev pub BranchWalked : Names → Walk → Walk → Branches → Type 0
+BranchWalked n old new bs = Clauses old new (λ g. ends_of g bs) (λ g. branches_faults n g bs)
+
+-- a variable of a pattern, before it is bound
+abbrev pub SafeWalked : Walk → Walk → ℕ → ℕ → Type 0
+SafeWalked old new x at = Walks old new (λ g. g) (λ g. fault_if (is_unsafe g x) Unsafe at)
+
+-- a variable in an expression, `_` there, and the name of a call
+abbrev pub VariableWalked : Walk → Walk → ℕ → ℕ → Type 0
+VariableWalked old new x at = Walks old new (λ g. g) (λ g. fault_if (is_unsafe g x) Unsafe at ++ fault_if (is_new g x) Unbound at)
+
+abbrev pub AnonymousWalked : Walk → Walk → ℕ → Type 0
+AnonymousWalked old new at = Walks old new (λ g. g) (λ g. fault_if true Unbound at)
+
+abbrev pub CallWalked : Signatures → Walk → Walk → ℕ → ℕ → ℕ → Type 0
+CallWalked o old new f at arity = Walks old new (λ g. g) (λ g. if lists o f arity then [] else fault_if true Undefined at)
+
+-- through a part that begins with no variable, behind which there is none again
+pub record BeginsAnew (old new : Walk) (faults : List Refusal) : Type 0 where
+  pub stands : Stands old.variables no_scope → Stands new.variables no_scope
+  pub found : Stands old.variables no_scope → kept new.first ≡ earliest (kept old.first) faults
