@@ -4,19 +4,34 @@ use pf_fault::OrNoMemory;
 use std::error::Error;
 use std::{fmt, io};
 
-/// A call of a reader or of a writer failed. It prints which of the two, and why.
+/// A call of a reader or of a writer failed. It prints which of the two.
 #[derive(Debug, Drop)]
 pub enum StreamFault {
     Read(io::Error),
     Write(io::Error),
 }
 
-impl fmt::Display for StreamFault {
-    fn fmt<W: fmt::Write>(&self, f: &mut fmt::Formatter<W>) -> fmt::Result {
+impl StreamFault {
+    /// Why the call failed.
+    pub fn error(&self) -> &io::Error {
         match self {
-            StreamFault::Read(error) => write!(f, "the input can't be read: {error}"),
-            StreamFault::Write(error) => write!(f, "the output can't be written: {error}"),
+            StreamFault::Read(error) => error,
+            StreamFault::Write(error) => error,
         }
+    }
+}
+
+impl fmt::Display for StreamFault {
+    ghost use Rattle.std.specs.Prelude.{Some};
+    ghost use Rattle.pf_terms.specs.Faults.{stream_text};
+
+    ghost output = { λ fault. Some (stream_text fault) };
+
+    fn fmt<W: fmt::Write>(&self, f: &mut fmt::Formatter<W>) -> fmt::Result {
+        f.write_str(match self {
+            StreamFault::Read(_) => "the input can't be read",
+            StreamFault::Write(_) => "the output can't be written",
+        })
     }
 }
 

@@ -9,7 +9,6 @@ use pf_fault::{NoMemory, OrNoMemory};
 use pf_profile::run_steps;
 use pf_terms::{Counted, StreamFault};
 use std::env::Env;
-use std::fmt::Display;
 use std::io::{Read, Write};
 use std::marker::Brand;
 use std::process::ExitCode;
@@ -70,9 +69,9 @@ fn no_more_memory(rt: &impl Eprint) -> ExitCode {
     ExitCode::from(2)
 }
 
-/// Says what failed.
-fn failed(rt: &impl Eprint, fault: &impl Display) -> ExitCode {
-    let _printed = eprintln!(rt; "pulsefarm: {fault}");
+/// Says which stream failed, and why.
+fn failed(rt: &impl Eprint, fault: &StreamFault) -> ExitCode {
+    let _printed = eprintln!(rt; "pulsefarm: {fault}: {}", fault.error());
     ExitCode::from(2)
 }
 
@@ -96,24 +95,28 @@ fn no_command(rt: &(impl Print + Eprint), error: &clap::Error) -> ExitCode {
     }
 }
 
-/// Whether memory ran out, in the work itself or in a stream.
-fn is_no_memory(fault: &OrNoMemory<StreamFault>) -> bool {
+/// What stopped the work, but for memory that ran out: in the work itself or in a stream.
+fn stream_fault(fault: OrNoMemory<StreamFault>) -> Option<StreamFault> {
     match fault {
-        OrNoMemory::NoMemory => true,
-        OrNoMemory::Fault(StreamFault::Read(error)) | OrNoMemory::Fault(StreamFault::Write(error)) => {
-            error.kind() == io::ErrorKind::OutOfMemory
+        OrNoMemory::NoMemory => None,
+        OrNoMemory::Fault(fault) => {
+            if fault.error().kind() == io::ErrorKind::OutOfMemory {
+                return None;
+            }
+            Some(fault)
         }
     }
 }
 
 fn end(rt: &(impl Print + Eprint), asked: &Words, answered: Answered) -> ExitCode {
-    match answered {
-        Ok(status) => ExitCode::from(status),
-        Err(fault) if !is_no_memory(&fault) => failed(rt, &fault),
-        Err(_) => match asked {
-            Words::Run(_) => no_memory(rt),
-            Words::Steps(_) => no_more_memory(rt),
-        },
+    let fault = match answered {
+        Ok(status) => return ExitCode::from(status),
+        Err(fault) => fault,
+    };
+    match (stream_fault(fault), asked) {
+        (Some(fault), _) => failed(rt, &fault),
+        (None, Words::Run(_)) => no_memory(rt),
+        (None, Words::Steps(_)) => no_more_memory(rt),
     }
 }
 
