@@ -8,7 +8,7 @@ use Rattle.pf_book.specs.declared.reply.Reply.{Reply}
 use Rattle.pf_book.specs.Profile.{ForRight}
 use Rattle.pf_book.specs.View.{reply_seen}
 
--- DeskAnswers d c r d': a desk answers a call so and goes on to the next desk; want of memory leaves it as it was
+-- DeskAnswers d c r d': a desk answers a call so and goes on to the next desk; running out of memory leaves it as it was
 abbrev pub DeskAnswers : desk.Desk → desk.Call → Result Reply NoMemory → desk.Desk → Type 0
 DeskAnswers d c (Ok r) d' = ForRight (λ p. (reply_seen r ≡ reply_to p d c) × (d' ≡ after_call p d c))
 DeskAnswers d c (Err e) d' = d' ≡ d
@@ -20,7 +20,7 @@ DeskWorks d t (Ok true) d' = ForRight (λ p. worker_step p d (once t) ≡ Some d
 DeskWorks d t (Ok false) d' = (is_queued (numbered d.trials t) ≡ false) × (d' ≡ d)
 DeskWorks d t (Err e) d' = (is_queued (numbered d.trials t) ≡ true) × (d' ≡ d)
 
--- Answers w q c r w': a project's call is answered so, as the world's step says, and leads to the next world; want of memory leaves the
+-- Answers w q c r w': a project's call is answered so, as the world's step says, and leads to the next world; running out of memory leaves the
 -- world as it was
 abbrev pub Answers : World → ℕ → desk.Call → Result Reply NoMemory → World → Type 0
 Answers w q c (Ok r) w' = ForRight (λ p. ◌≡◌ {A = World × Answer} (step p w (client q c)) (w', replied (reply_seen r)))

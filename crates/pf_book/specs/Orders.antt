@@ -11,7 +11,7 @@ use Rattle.pf_book.specs.View.{refusal_seen}
 abbrev pub job_asked : List Stored → Order → Result Job desk.Refusal
 job_asked modules o = job_of (numbered modules o.module) o.root.items o.property.items o.schedule.items o.limit
 
--- want of memory says nothing of the order
+-- out of memory says nothing of the order
 abbrev pub IsRefusedJob : Result Job desk.Refusal → Fault → Type 0
 IsRefusedJob r fault.Memory = Unit {0}
 IsRefusedJob r (fault.Refused e) = r ≡ Err (refusal_seen e)

@@ -87,8 +87,8 @@ impl Book {
         self.call(alloc, project, Call::Usage)
     }
 
-    /// Answers a client's call on the desk of its project, and notes it there with its reply. After want of memory nothing has
-    /// changed and nothing is noted; a sum of what is used that doesn't fit 64 bits is want of memory too.
+    /// Answers a client's call on the desk of its project, and notes it there with its reply. After running out of memory nothing has
+    /// changed and nothing is noted; a sum of what is used that doesn't fit 64 bits is out of memory too.
     fn call(&mut self, alloc: Global, project: u32, call: Call) -> Result<Reply, NoMemory>
         ensures { Answers self.old project (call_seen call) result self.new }
     {
@@ -102,7 +102,7 @@ impl Book {
     }
 
     /// A worker claims a queued trial, runs it whole and files its report; says false where the trial isn't queued, which wants no
-    /// memory. After want of memory nothing has changed and nothing is noted.
+    /// memory. After running out of memory nothing has changed and nothing is noted.
     pub fn once(&mut self, alloc: Global, project: u32, ticket: u64) -> Result<bool, NoMemory>
         ensures { Works self.old project ticket result self.new }
     {

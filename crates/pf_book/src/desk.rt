@@ -74,8 +74,8 @@ impl Desk {
         self.history.len()
     }
 
-    /// Answers a call and notes it with its reply; a source that is in store isn't read again. After want of memory nothing has
-    /// changed; a sum of what is used that doesn't fit is want of memory too.
+    /// Answers a call and notes it with its reply; a source that is in store isn't read again. After running out of memory nothing has
+    /// changed; a sum of what is used that doesn't fit is out of memory too.
     pub fn call(&mut self, alloc: Global, store: &mut Store, call: Call) -> Result<Reply, NoMemory>
         ensures { DeskAnswers self.old (call_seen call) result self.new }
     {
@@ -168,8 +168,8 @@ impl Desk {
         }
     }
 
-    /// A worker claims a trial, runs it whole and files its report; says false where the trial isn't queued, which wants no memory.
-    /// After want of memory nothing has changed.
+    /// A worker claims a trial, runs it whole and files its report; says false where the trial isn't queued, which takes no memory.
+    /// After running out of memory nothing has changed.
     pub fn once(&mut self, alloc: Global, ticket: u64) -> Result<bool, NoMemory>
         ensures { DeskWorks self.old ticket result self.new }
     {

@@ -17,14 +17,14 @@ pub(crate) fn numbered<T>(things: &[T], number: u64) -> Option<&T>
     things.get(number as usize - 1)
 }
 
-/// The sum, or want of memory where it doesn't fit, which no machine has the room for.
+/// The sum, or out of memory where it doesn't fit, which no machine has the room for.
 pub(crate) fn sum(left: u64, right: u64) -> Result<u64, NoMemory>
     ensures { MatchResult result (λ n. n ≡ left + right) (λ _. 2 ^ 64 ≤ left + right) }
 {
     left.checked_add(right).ok_or(NoMemory)
 }
 
-/// Makes room for so many more in a list, and tells want of memory only where there was none. Where there is none it grows by a
+/// Makes room for so many more in a list, and is out of memory only where there was none. Where there is none it grows by a
 /// quarter at least: what is unused stays small, and a push costs a fixed number of moves on the average.
 pub(crate) fn make_room<T>(list: &mut Vec<T>, more: usize) -> Result<(), NoMemory>
     ensures items { list.new.items ≡ list.old.items }

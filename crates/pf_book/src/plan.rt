@@ -43,7 +43,7 @@ impl Plan {
 }
 
 impl Addition {
-    /// What is used once a call is noted that adds this, or want of memory where a sum doesn't fit.
+    /// What is used once a call is noted that adds this, or out of memory where a sum doesn't fit.
     pub fn usage(&self, before: &Usage) -> Result<Usage, NoMemory>
         ensures { MatchResult result
             (λ u. u ≡ charged (used_by before.now self.now) charge.Call)
