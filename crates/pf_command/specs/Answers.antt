@@ -17,6 +17,7 @@ use Rattle.pf_model.specs.Meaning.{Means, Report}
 use Rattle.pf_model.specs.Text.{line, report_text, returns_holds}
 use Rattle.pf_check.specs.Reads.{Reads, accepted, refused}
 use Rattle.pf_command.specs.Words.{Request}
+use Rattle.pf_command.specs.declared.source.TheConstants.{MOST_BYTES}
 
 -- the run that is asked for is one that may be
 abbrev pub may_be_asked : Request → Bool
@@ -41,13 +42,9 @@ pub data Answers (r : Request) (bytes : List ℕ) : List ℕ → ℕ → Type 0 
       → root_of r.root atoms functions ≡ Some i → may_be_asked r ≡ true → Means functions i r.limit report
       → Answers r bytes (report_text (name_of atoms) report) (run_status (returns_holds report.outcome))
 
--- one more byte than a source may have: so many are read at most
-abbrev pub most_bytes : ℕ
-most_bytes = 65537
-
 -- these are the first 65,537 bytes of what was to be read, where it is known
 abbrev pub AreRead : Option (List ℕ) → List ℕ → Type 0
-AreRead r0 bytes = IfSome r0 (λ input. bytes ≡ take most_bytes input)
+AreRead r0 bytes = IfSome r0 (λ input. bytes ≡ take MOST_BYTES input)
 
 -- what was read is answered with the text that went out and the status
 abbrev pub Answered : Request → (read_old written_old written_new : Option (List ℕ)) → ℕ → Type 0

@@ -3,20 +3,21 @@
 ghost use Rattle.std.specs.Prelude.{◌≡◌, ◌≤◌, ℕ, List, length, IfOk, IfErr, OnOk};
 ghost use Rattle.std.specs.Io.KnownBytes.{Consumes};
 ghost use Rattle.pf_command.specs.Words.{request};
-ghost use Rattle.pf_command.specs.Answers.{most_bytes, Answered, Leaves};
+ghost use Rattle.pf_command.specs.Answers.{Answered, Leaves};
 
 use crate::answer::answer_source;
 use crate::words::RunWords;
 use pf_fault::OrNoMemory;
 use pf_terms::{Counted, StreamFault};
+use pf_tokens::MOST_SOURCE_BYTES;
 use std::alloc::Global;
 use std::io::{Read, Write};
 use std::sync::ledger::Ledger;
 
 /// The most bytes that are read: one more than a source may have.
-const MOST_BYTES: usize = 65_537;
+pub const MOST_BYTES: usize = MOST_SOURCE_BYTES + 1;
 
-/// Answers a source under the words: reads at most 65,537 bytes, writes a text and gives the status.
+/// Answers a source under the words: reads at most one byte more than a source may have, writes a text and gives the status.
 pub fn run_source<R: Read, W: Write, L: Ledger, M: Ledger>(
     alloc: Global,
     reader: &mut Counted<R, L>,
@@ -27,7 +28,7 @@ pub fn run_source<R: Read, W: Write, L: Ledger, M: Ledger>(
         (R.remaining reader.old.inner) (W.contents writer.old.inner) (W.contents writer.new.inner) status) }
     ensures counts { OnOk result ((reader.new.failures.total ≡ reader.old.failures.total)
         × (writer.new.failures.total ≡ writer.old.failures.total)) }
-    ensures taken { (bytes : List ℕ) × (length bytes ≤ most_bytes)
+    ensures taken { (bytes : List ℕ) × (length bytes ≤ MOST_BYTES)
         × Consumes (R.remaining reader.old.inner) (R.remaining reader.new.inner) bytes }
     ensures fault { IfErr result (λ e. Leaves e (request words.now)
         (R.remaining reader.old.inner) (W.contents writer.old.inner) (W.contents writer.new.inner)

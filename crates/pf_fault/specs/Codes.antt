@@ -35,6 +35,29 @@ family_of code = (parts_of code).0
 abbrev pub number_of : Code → ℕ
 number_of code = (parts_of code).1
 
+-- the order of the table: how many codes stand before this one
+abbrev pub rank_of : Code → ℕ
+rank_of table.UnexpectedByte = 0
+rank_of table.Unfinished = 1
+rank_of table.IntegerTooLarge = 2
+rank_of table.NoHead = 3
+rank_of table.NotGrammar = 4
+rank_of table.Unbound = 5
+rank_of table.Unsafe = 6
+rank_of table.Undefined = 7
+rank_of table.DefinedTwice = 8
+rank_of table.ExportOfNothing = 9
+rank_of table.SourceTooLong = 10
+rank_of table.NoModule = 11
+rank_of table.NoRoot = 12
+rank_of table.NoTrial = 13
+rank_of table.NotDone = 14
+rank_of table.OutOfRange = 15
+rank_of table.NoProperty = 16
+rank_of table.NoCommand = 17
+rank_of table.NotNow = 18
+rank_of table.TooLarge = 19
+
 -- a code as it is printed, like E6
 abbrev pub code_text : Code → List ℕ
 code_text code = family_of code ++ decimal (number_of code)

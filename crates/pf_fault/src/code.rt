@@ -49,7 +49,7 @@ pub enum Code {
 
 impl Code {
     ghost use Rattle.std.specs.Prelude.{◌≡◌};
-    ghost use Rattle.pf_fault.specs.Codes.{family_of, number_of};
+    ghost use Rattle.pf_fault.specs.Codes.{family_of, number_of, rank_of};
 
     /// The letter that it begins with, and the number behind that.
     fn parts(self) -> (&'static str, u8)
@@ -78,6 +78,13 @@ impl Code {
             Code::NotNow => ("N", 2),
             Code::TooLarge => ("T", 1),
         }
+    }
+
+    /// How many codes stand before it in the table.
+    pub fn rank(self) -> u8
+        ensures { result ≡ rank_of self }
+    {
+        self as u8
     }
 
     /// The number that stands behind the letter.

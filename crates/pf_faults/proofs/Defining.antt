@@ -6,11 +6,11 @@ use Rattle.std.proofs.lemmas.Bool.Decides.{nat_tests}
 use Rattle.std.proofs.lemmas.List.{append-nil, take-append-drop, at_drop_all}
 use Rattle.std.proofs.lemmas.List.Folds.{list_any-append}
 use Rattle.std.proofs.lemmas.List.Sums.{fold-append}
-use Rattle.pf_syntax.specs.Source.{NodeTable, Head}
-use Rattle.pf_syntax.specs.SourceOver.{written_patterns_at}
-use Rattle.pf_syntax.specs.declared.written.WrittenPatternId.{WrittenPatternId}
+use Rattle.pf_fault.specs.declared.refusal.Refusal.{Refusal}
+use Rattle.pf_fault.specs.declared.code.Code.TheVariants.{DefinedTwice}
+use Rattle.pf_syntax.specs.Source.{Head}
 use Rattle.pf_syntax.specs.Scope.{no_scope}
-use Rattle.pf_rules.specs.Static.{Fault, fault_if, own_in, is_named, is_builtin, parameters_of, defined_faults}
+use Rattle.pf_rules.specs.Static.{fault_if, own_in, is_named, is_builtin, parameters_of, defined_faults}
 use Rattle.pf_faults.specs.Earliest.{earlier, earliest, kept}
 use Rattle.pf_rules.specs.Listing.{Lists, lists}
 use Rattle.pf_faults.specs.Defines.{Defines, defined_fault}
@@ -55,7 +55,7 @@ lists_nothing o h = record { same = h }
 
 pub defines : (atoms : List (List ℕ)) (h : Head) (hs : List Head) (k : ℕ) (old new : Signatures) (before after : First)
     → ((f a : ℕ) → lists new f a ≡ (lists old f a || ((h.name == f) && (k == a)))) → k ≡ parameters_of h.parameters
-    → kept after ≡ earliest (kept before) (fault_if (lists old h.name k || is_builtin atoms h.name k) 9 h.offset) → Defines atoms (h ∷ hs) old new before after
+    → kept after ≡ earliest (kept before) (fault_if (lists old h.name k || is_builtin atoms h.name k) DefinedTwice h.offset) → Defines atoms (h ∷ hs) old new before after
 defines atoms h hs k old new before after added e found =
     record {
       lists = λ fs l. record {
@@ -65,15 +65,15 @@ defines atoms h hs k old new before after added e found =
       };
       found = λ fs l.
           found
-          ∙ ap (λ (v : Bool). earliest (kept before) (fault_if (v || is_builtin atoms h.name k) 9 h.offset)) (l.same h.name k)
-          ∙ ap (λ (n : ℕ). earliest (kept before) (fault_if (is_some (own_in fs h.name n) || is_builtin atoms h.name n) 9 h.offset)) e;
+          ∙ ap (λ (v : Bool). earliest (kept before) (fault_if (v || is_builtin atoms h.name k) DefinedTwice h.offset)) (l.same h.name k)
+          ∙ ap (λ (n : ℕ). earliest (kept before) (fault_if (is_some (own_in fs h.name n) || is_builtin atoms h.name n) DefinedTwice h.offset)) e;
     }
 
-pub noted_fault : (b : Bool) (before after : First) (offset : ℕ) → b ≡ true → kept after ≡ earlier (kept before) (record { number = 9; offset = offset }) → kept after ≡ earliest (kept before) (fault_if b 9 offset)
+pub noted_fault : (b : Bool) (before after : First) (offset : ℕ) → b ≡ true → kept after ≡ earlier (kept before) (record { code = DefinedTwice; place = offset }) → kept after ≡ earliest (kept before) (fault_if b DefinedTwice offset)
 noted_fault true before after offset e k = k
 noted_fault false before after offset e k = absurd (cc)
 
-pub noted_nothing : (b : Bool) (before : First) (offset : ℕ) → b ≡ false → kept before ≡ earliest (kept before) (fault_if b 9 offset)
+pub noted_nothing : (b : Bool) (before : First) (offset : ℕ) → b ≡ false → kept before ≡ earliest (kept before) (fault_if b DefinedTwice offset)
 noted_nothing true before offset e = absurd (cc)
 noted_nothing false before offset e = refl
 
@@ -130,14 +130,14 @@ whole_front xs i h = sym (append-nil (take i xs)) ∙ ap (λ r. take i xs ++ r) 
 -- ---- parts that begin with no variable
 
 -- the faults of the parts that are left
-pub record Onward (old now : Walk) (left all : List Fault) : Type 0 where
+pub record Onward (old now : Walk) (left all : List Refusal) : Type 0 where
   pub stands : Stands old.variables no_scope → Stands now.variables no_scope
   pub found : Stands old.variables no_scope → earliest (kept now.first) left ≡ earliest (kept old.first) all
 
-pub onward_first : (w : Walk) (all : List Fault) → Onward w w all all
+pub onward_first : (w : Walk) (all : List Refusal) → Onward w w all all
 onward_first w all = record { stands = λ st. st; found = λ st. refl }
 
-pub onward_more : {X : Type 0} (F : X → List Fault) (old now next : Walk) (left rest : List X) (x : X) (all : List Fault) → left ≡ x ∷ rest → Onward old now (flat_map F left) all → BeginsAnew now next (F x) → Onward old next (flat_map F rest) all
+pub onward_more : {X : Type 0} (F : X → List Refusal) (old now next : Walk) (left rest : List X) (x : X) (all : List Refusal) → left ≡ x ∷ rest → Onward old now (flat_map F left) all → BeginsAnew now next (F x) → Onward old next (flat_map F rest) all
 onward_more F old now next left rest x all e u b = record {
   stands = λ st. b.stands (u.stands st);
   found = λ st.
@@ -147,7 +147,7 @@ onward_more F old now next left rest x all e u b = record {
       ∙ u.found st;
 }
 
-pub onward_all : {X : Type 0} (F : X → List Fault) (old now : Walk) (left : List X) (all : List Fault) → left ≡ [] → Onward old now (flat_map F left) all → BeginsAnew old now all
+pub onward_all : {X : Type 0} (F : X → List Refusal) (old now : Walk) (left : List X) (all : List Refusal) → left ≡ [] → Onward old now (flat_map F left) all → BeginsAnew old now all
 onward_all F old now left all e u = record {
   stands = u.stands;
   found = λ st. ap (λ xs. earliest (kept now.first) (flat_map F xs)) (sym e) ∙ u.found st;

@@ -1,75 +1,75 @@
 -- The first of several faults, whatever their order.
 use Rattle.std.proofs.Common.{◌≡◌, List, [], ◌∷◌, ◌++◌, Bool, true, false, refl, sym, ap, ◌∙◌, subst, arith, inl, inr, append_assoc}
-use Rattle.std.specs.Prelude.{if◌then◌else◌, Option, Some, None, option_map, IfNone, IfSome, Contains}
+use Rattle.std.specs.Prelude.{if◌then◌else◌, Option, Some, None, IfNone, IfSome, Contains}
 use Rattle.std.proofs.lemmas.Bool.Decides.{nat_tests}
 use Rattle.std.proofs.lemmas.List.{append-nil}
 use Rattle.std.proofs.lemmas.List.Sums.{fold-append}
 use Rattle.std.proofs.lemmas.List.Elements.{Contains-append_left, Contains-append_right, Contains-push, Contains-push_cases, Contains-append_cases}
-use Rattle.pf_rules.specs.Static.{Fault, NotAfter, IsFirst}
-use Rattle.pf_faults.specs.Earliest.{before, earlier, earliest, fault_of, IsLeast}
-use Rattle.pf_faults.specs.declared.first.Found.{Found}
+use Rattle.pf_fault.specs.declared.refusal.Refusal.{Refusal}
+use Rattle.pf_rules.specs.Static.{NotAfter, IsFirst}
+use Rattle.pf_faults.specs.Earliest.{before, earlier, earliest, IsLeast}
 
 -- ---- the order of faults
 
-not_after_itself : (f : Fault) → NotAfter f f
+not_after_itself : (f : Refusal) → NotAfter f f
 not_after_itself f = inr (refl, omega arith)
 
-not_after_on : (a b c : Fault) → NotAfter a b → NotAfter b c → NotAfter a c
+not_after_on : (a b c : Refusal) → NotAfter a b → NotAfter b c → NotAfter a c
 not_after_on a b c (inl p) (inl q) = inl (omega arith)
 not_after_on a b c (inl p) (inr q) = inl (omega (arith, q.0))
 not_after_on a b c (inr p) (inl q) = inl (omega (arith, p.0))
 not_after_on a b c (inr p) (inr q) = inr (p.0 ∙ q.0, omega (arith, p.1, q.1))
 
-comes_before : (f k : Fault) → before f k ≡ true → NotAfter f k
+comes_before : (f k : Refusal) → before f k ≡ true → NotAfter f k
 comes_before f k e = grind (arith, nat_tests)
 
-stays_first : (f k : Fault) → before f k ≡ false → NotAfter k f
+stays_first : (f k : Refusal) → before f k ≡ false → NotAfter k f
 stays_first f k e = grind (arith, nat_tests)
 
 -- ---- one more
 
-first_alone : (pre : List Fault) (f : Fault) → pre ≡ [] → IsFirst (pre ++ f ∷ []) f
+first_alone : (pre : List Refusal) (f : Refusal) → pre ≡ [] → IsFirst (pre ++ f ∷ []) f
 first_alone pre f e =
-    (Contains-push pre f, λ other h. elim (Contains-push_cases pre f other h) [ inl c ↦ absurd (nothing_in other (subst (λ (fs : List Fault). Contains fs other) e c)) | inr s ↦ subst (NotAfter f) s (not_after_itself f) ])
+    (Contains-push pre f, λ other h. elim (Contains-push_cases pre f other h) [ inl c ↦ absurd (nothing_in other (subst (λ (fs : List Refusal). Contains fs other) e c)) | inr s ↦ subst (NotAfter f) s (not_after_itself f) ])
   where
-    nothing_in : (x : Fault) → Contains [] x → ⊥
+    nothing_in : (x : Refusal) → Contains [] x → ⊥
     nothing_in x c = omega (arith, c.1)
 
-first_more : (pre : List Fault) (k f : Fault) (b : Bool) → before f k ≡ b → IsFirst pre k → IsFirst (pre ++ f ∷ []) (if b then f else k)
+first_more : (pre : List Refusal) (k f : Refusal) (b : Bool) → before f k ≡ b → IsFirst pre k → IsFirst (pre ++ f ∷ []) (if b then f else k)
 first_more pre k f true e h =
     (Contains-push pre f, λ other c. elim (Contains-push_cases pre f other c) [ inl d ↦ not_after_on f k other (comes_before f k e) (h.1 other d) | inr s ↦ subst (NotAfter f) s (not_after_itself f) ])
 first_more pre k f false e h =
     (Contains-append_left pre (f ∷ []) k h.0, λ other c. elim (Contains-push_cases pre f other c) [ inl d ↦ h.1 other d | inr s ↦ subst (NotAfter k) s (stays_first f k e) ])
 
-least_one : (pre : List Fault) (k : Option Fault) (f : Fault) → IsLeast pre k → IsLeast (pre ++ f ∷ []) (earlier k f)
+least_one : (pre : List Refusal) (k : Option Refusal) (f : Refusal) → IsLeast pre k → IsLeast (pre ++ f ∷ []) (earlier k f)
 least_one pre None f h = first_alone pre f h
 least_one pre (Some k) f h = first_more pre k f (before f k) refl h
 
-least_all : (pre fs : List Fault) (k : Option Fault) → IsLeast pre k → IsLeast (pre ++ fs) (earliest k fs)
-least_all pre [] k h = subst (λ (gs : List Fault). IsLeast gs k) (sym (append-nil pre)) h
+least_all : (pre fs : List Refusal) (k : Option Refusal) → IsLeast pre k → IsLeast (pre ++ fs) (earliest k fs)
+least_all pre [] k h = subst (λ (gs : List Refusal). IsLeast gs k) (sym (append-nil pre)) h
 least_all pre (f ∷ fs) k h =
-    subst (λ (gs : List Fault). IsLeast gs (earliest (earlier k f) fs)) (append_assoc pre (f ∷ []) fs) (least_all (pre ++ f ∷ []) fs (earlier k f) (least_one pre k f h))
+    subst (λ (gs : List Refusal). IsLeast gs (earliest (earlier k f) fs)) (append_assoc pre (f ∷ []) fs) (least_all (pre ++ f ∷ []) fs (earlier k f) (least_one pre k f h))
 
 -- what is kept of these faults, in the order in which they are found
-pub least : (fs : List Fault) → IsLeast fs (earliest None fs)
+pub least : (fs : List Refusal) → IsLeast fs (earliest None fs)
 least fs = least_all [] fs None refl
 
 -- ---- in another order
 
-empty_of : (fs : List Fault) → ((f : Fault) → Contains fs f → ⊥) → fs ≡ []
+empty_of : (fs : List Refusal) → ((f : Refusal) → Contains fs f → ⊥) → fs ≡ []
 empty_of [] h = refl
 empty_of (f ∷ fs) h = absurd (h f (Contains-append_left (f ∷ []) fs f (Contains-push [] f)))
 
 -- the same faults in another order have the same first one
-pub same_least : (fs gs : List Fault) (k : Option Fault) → ((f : Fault) → Contains fs f → Contains gs f) → ((f : Fault) → Contains gs f → Contains fs f) → IsLeast fs k → IsLeast gs k
-same_least fs gs None to from h = empty_of gs (λ f c. nothing_in f (subst (λ (hs : List Fault). Contains hs f) h (from f c)))
+pub same_least : (fs gs : List Refusal) (k : Option Refusal) → ((f : Refusal) → Contains fs f → Contains gs f) → ((f : Refusal) → Contains gs f → Contains fs f) → IsLeast fs k → IsLeast gs k
+same_least fs gs None to from h = empty_of gs (λ f c. nothing_in f (subst (λ (hs : List Refusal). Contains hs f) h (from f c)))
   where
-    nothing_in : (x : Fault) → Contains [] x → ⊥
+    nothing_in : (x : Refusal) → Contains [] x → ⊥
     nothing_in x c = omega (arith, c.1)
 same_least fs gs (Some k) to from h = (to k h.0, λ other c. h.1 other (from other c))
 
 -- two parts in the other order, before a third
-pub swapped : (a b c : List Fault) (f : Fault) → Contains (a ++ b ++ c) f → Contains (b ++ a ++ c) f
+pub swapped : (a b c : List Refusal) (f : Refusal) → Contains (a ++ b ++ c) f → Contains (b ++ a ++ c) f
 swapped a b c f h =
     elim (Contains-append_cases (a ++ b) c f h) [
       | inl d ↦ Contains-append_left (b ++ a) c f (elim (Contains-append_cases a b f d) [ inl x ↦ Contains-append_right b a f x | inr y ↦ Contains-append_left b a f y ])
@@ -79,16 +79,16 @@ swapped a b c f h =
 -- ---- the faults of a module
 
 -- three parts that are found in turn, of which the first two stand the other way round
-pub first_of_all : (d e h : List Fault) (k l m n : Option Fault) → k ≡ None → l ≡ earliest k d → m ≡ earliest l e → n ≡ earliest m h → IsLeast (e ++ d ++ h) n
+pub first_of_all : (d e h : List Refusal) (k l m n : Option Refusal) → k ≡ None → l ≡ earliest k d → m ≡ earliest l e → n ≡ earliest m h → IsLeast (e ++ d ++ h) n
 first_of_all d e h k l m n a b c f =
     let all : n ≡ earliest None (d ++ e ++ h) =
     f ∙ ap (λ o. earliest o h) (c ∙ ap (λ o. earliest o e) (b ∙ ap (λ o. earliest o d) a) ∙ sym (fold-append earlier None d e)) ∙ sym (fold-append earlier None (d ++ e) h) in
     same_least (d ++ e ++ h) (e ++ d ++ h) n (swapped d e h) (swapped e d h) (subst (IsLeast (d ++ e ++ h)) (sym all) (least (d ++ e ++ h)))
 
-pub told_none : (r : Option Found) (fs : List Fault) → IsLeast fs (option_map fault_of r) → IfNone r (fs ≡ [])
+pub told_none : (r : Option Refusal) (fs : List Refusal) → IsLeast fs r → IfNone r (fs ≡ [])
 told_none None fs h = h
 told_none (Some f) fs h = tt
 
-pub told_some : (r : Option Found) (fs : List Fault) → IsLeast fs (option_map fault_of r) → IfSome r (λ f. IsFirst fs (fault_of f))
+pub told_some : (r : Option Refusal) (fs : List Refusal) → IsLeast fs r → IfSome r (λ f. IsFirst fs f)
 told_some None fs h = tt
 told_some (Some f) fs h = h

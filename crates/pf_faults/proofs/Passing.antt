@@ -1,9 +1,11 @@
 -- Walks one after another.
-use Rattle.std.proofs.Common.{◌≡◌, ℕ, ◌+◌, ◌<◌, List, get_or, [], ◌∷◌, ◌++◌, length, drop, take, Bool, true, false, refl, sym, ap, ◌∙◌, subst, arith, append_assoc}
+use Rattle.std.proofs.Common.{◌≡◌, ℕ, ◌+◌, ◌<◌, List, get_or, [], ◌∷◌, ◌++◌, length, drop, take, Bool, true, false, refl, sym, ap, ◌∙◌, subst, append_assoc}
 use Rattle.std.specs.Prelude.{if◌then◌else◌, ◌&&◌, ◌||◌, is_some}
 use Rattle.std.proofs.lemmas.List.Sums.{fold-append}
 use Rattle.std.proofs.lemmas.List.{append-nil, at_drop_more}
 use Rattle.std.proofs.Math.Seq.{drop-append_seam}
+use Rattle.pf_fault.specs.declared.refusal.Refusal.{Refusal}
+use Rattle.pf_fault.specs.declared.code.Code.TheVariants.{Undefined}
 use Rattle.pf_syntax.specs.WrittenPattern.{WrittenPattern, WrittenPatterns, no_written_patterns, written_pattern, variable}
 use Rattle.pf_syntax.specs.WrittenExpression.{WrittenExpression, WrittenExpressions, Condition, Branches, no_written_expressions, written_expression, no_tests, tests, no_branches, branch, call}
 use Rattle.pf_syntax.specs.Scope.{Scope, no_scope, has, is_new, after_written_pattern, after_written_patterns, after, after_all, ends_of}
@@ -12,7 +14,7 @@ use Rattle.pf_syntax.specs.Naming.{Names, arity_of}
 use Rattle.pf_syntax.specs.Source.{NodeTable, Head}
 use Rattle.pf_syntax.specs.SourceOver.{written_expressions_at}
 use Rattle.pf_syntax.specs.declared.written.WrittenExpressionId.{WrittenExpressionId}
-use Rattle.pf_rules.specs.Static.{Fault, fault_if, head_faults, names_of, own_in, is_defined, written_pattern_faults, written_patterns_faults, written_expression_faults, written_expressions_faults, condition_faults, branches_faults}
+use Rattle.pf_rules.specs.Static.{fault_if, head_faults, names_of, own_in, is_defined, written_pattern_faults, written_patterns_faults, written_expression_faults, written_expressions_faults, condition_faults, branches_faults}
 use Rattle.pf_faults.specs.Earliest.{earlier, earliest, kept}
 use Rattle.pf_faults.specs.Marks.{Stands, Trails, Binds, status_of, trail_of, is_marked}
 use Rattle.pf_faults.specs.Walking.{Walks, BeginsAnew, Clauses, SafeWalked, CallWalked, WrittenPatternWalked, WrittenPatternsWalked, WrittenExpressionWalked, WrittenExpressionsWalked, TestsWalked, ConditionWalked, BranchesWalked, BranchWalked}
@@ -35,7 +37,7 @@ next_item F xs i x h e = at_drop_more F xs i x h ∙ ap (λ y. F (y ∷ drop (i 
 pub walks_nothing : (w : Walk) → Walks w w (λ g. g) (λ g. [])
 walks_nothing w = record { trails = trails_nothing w.variables; stands = λ g st. st; found = λ g st. refl }
 
-pub walks_then : (a b c : Walk) (f h : Scope → Scope) (s t : Scope → List Fault) → Walks a b f s → Walks b c h t → Walks a c (λ g. h (f g)) (λ g. s g ++ t (f g))
+pub walks_then : (a b c : Walk) (f h : Scope → Scope) (s t : Scope → List Refusal) → Walks a b f s → Walks b c h t → Walks a c (λ g. h (f g)) (λ g. s g ++ t (f g))
 walks_then a b c f h s t x y = record {
   trails = trails_then a.variables b.variables c.variables x.trails y.trails;
   stands = λ g st. y.stands (f g) (x.stands g st);
@@ -48,17 +50,17 @@ walks_then a b c f h s t x y = record {
 -- ---- a walk that is underway
 
 -- what was walked and what is left are the whole
-pub record Underway (old now : Walk) (whole rest : Scope → Scope) (all left : Scope → List Fault) : Type 0 where
+pub record Underway (old now : Walk) (whole rest : Scope → Scope) (all left : Scope → List Refusal) : Type 0 where
   pub trails : Trails old.variables now.variables
   pub here : (g : Scope) → Stands old.variables g → Scope
   pub stands : (g : Scope) (st : Stands old.variables g) → Stands now.variables (here g st)
   pub onward : (g : Scope) (st : Stands old.variables g) → rest (here g st) ≡ whole g
   pub found : (g : Scope) (st : Stands old.variables g) → earliest (kept now.first) (left (here g st)) ≡ earliest (kept old.first) (all g)
 
-pub underway_first : (w : Walk) (whole : Scope → Scope) (all : Scope → List Fault) → Underway w w whole whole all all
+pub underway_first : (w : Walk) (whole : Scope → Scope) (all : Scope → List Refusal) → Underway w w whole whole all all
 underway_first w whole all = record { trails = trails_nothing w.variables; here = λ g st. g; stands = λ g st. st; onward = λ g st. refl; found = λ g st. refl }
 
-pub underway_more : (old now next : Walk) (whole rest f : Scope → Scope) (all left s : Scope → List Fault) → Underway old now whole (λ g. rest (f g)) all (λ g. s g ++ left (f g)) → Walks now next f s → Underway old next whole rest all left
+pub underway_more : (old now next : Walk) (whole rest f : Scope → Scope) (all left s : Scope → List Refusal) → Underway old now whole (λ g. rest (f g)) all (λ g. s g ++ left (f g)) → Walks now next f s → Underway old next whole rest all left
 underway_more old now next whole rest f all left s u w = record {
   trails = trails_then old.variables now.variables next.variables u.trails w.trails;
   here = λ g st. f (u.here g st);
@@ -71,7 +73,7 @@ underway_more old now next whole rest f all left s u w = record {
       ∙ u.found g st;
 }
 
-pub underway_all : (old now : Walk) (whole : Scope → Scope) (all : Scope → List Fault) → Underway old now whole (λ g. g) all (λ g. []) → Walks old now whole all
+pub underway_all : (old now : Walk) (whole : Scope → Scope) (all : Scope → List Refusal) → Underway old now whole (λ g. g) all (λ g. []) → Walks old now whole all
 underway_all old now whole all u = record {
   trails = u.trails;
   stands = λ g st. subst (Stands now.variables) (u.onward g st) (u.stands g st);
@@ -120,9 +122,9 @@ called fs o node_table a b c f at k ids args l e d x y =
     let es = written_expressions_at node_table ids in
     let z : WrittenExpressionsWalked n b c es = subst (λ (is : List WrittenExpressionId). WrittenExpressionsWalked n b c (written_expressions_at node_table is)) d y in
     let same : lists o f k ≡ is_defined n f (arity_of es) = defined_is fs o f k l ∙ ap (is_defined n f) (e ∙ sym (arity_length node_table ids)) in
-    let w : Walks a b (λ g. g) (λ g. if is_defined n f (arity_of es) then [] else fault_if true 8 at) =
-    subst (λ (v : Bool). Walks a b (λ g. g) (λ g. if v then [] else fault_if true 8 at)) same x in
-    walks_then a b c (λ g. g) (λ g. after_all g es) (λ g. if is_defined n f (arity_of es) then [] else fault_if true 8 at) (λ g. written_expressions_faults n g es) w z
+    let w : Walks a b (λ g. g) (λ g. if is_defined n f (arity_of es) then [] else fault_if true Undefined at) =
+    subst (λ (v : Bool). Walks a b (λ g. g) (λ g. if v then [] else fault_if true Undefined at)) same x in
+    walks_then a b c (λ g. g) (λ g. after_all g es) (λ g. if is_defined n f (arity_of es) then [] else fault_if true Undefined at) (λ g. written_expressions_faults n g es) w z
 
 -- ---- guards
 
@@ -137,7 +139,7 @@ pub condition_all : (n : Names) (old now : Walk) (c left : Condition) → left �
 condition_all n old now c left e u = underway_all old now (λ g. g) (λ g. condition_faults n g c) (subst (ConditionUnderway n old now c) e u)
 
 -- the tests of an alternative are walked, and what they left is forgotten
-pub walks_back : (a b c : Walk) (f : Scope → Scope) (s : Scope → List Fault) → Walks a b f s → kept c.first ≡ kept b.first
+pub walks_back : (a b c : Walk) (f : Scope → Scope) (s : Scope → List Refusal) → Walks a b f s → kept c.first ≡ kept b.first
     → ((x : ℕ) → status_of c.variables x ≡ (if has (drop (length (trail_of a.variables)) (trail_of b.variables)) x then New else status_of b.variables x))
     → trail_of c.variables ≡ take (length (trail_of a.variables)) (trail_of b.variables) → Walks a c (λ g. g) s
 walks_back a b c f s w k set trail =
@@ -154,7 +156,7 @@ pub begins_anew : (n : Names) (a b d e c : Walk) (h : Head) → WrittenPatternsW
     → trail_of c.variables ≡ take (length (trail_of a.variables)) (trail_of e.variables) → BeginsAnew a c (head_faults n h)
 begins_anew n a b d e c h p g w k set trail =
     let f : Scope → Scope = λ s. after_written_patterns s h.parameters in
-    let all : Scope → List Fault = λ s. written_patterns_faults s h.parameters ++ condition_faults n (f s) h.condition in
+    let all : Scope → List Refusal = λ s. written_patterns_faults s h.parameters ++ condition_faults n (f s) h.condition in
     let front : Walks a d f all = walks_then a b d f (λ s. s) (λ s. written_patterns_faults s h.parameters) (λ s. condition_faults n s h.condition) p g in
     let whole = walks_then a d e f (λ s. after_all s h.body) all (λ s. written_expressions_faults n s h.body) front w in
     let closed = walks_back a e c (λ s. after_all (f s) h.body) (λ s. all s ++ written_expressions_faults n (f s) h.body) whole k set trail in
@@ -163,7 +165,7 @@ begins_anew n a b d e c h p g w k set trail =
 -- ---- clauses
 
 -- a clause is walked, and what it left is new again
-pub clause_closed : (a b c : Walk) (f : Scope → Scope) (s : Scope → List Fault) → Walks a b f s → kept c.first ≡ kept b.first
+pub clause_closed : (a b c : Walk) (f : Scope → Scope) (s : Scope → List Refusal) → Walks a b f s → kept c.first ≡ kept b.first
     → ((x : ℕ) → status_of c.variables x ≡ (if has (drop (length (trail_of a.variables)) (trail_of b.variables)) x then New else status_of b.variables x))
     → trail_of c.variables ≡ trail_of b.variables → Clauses a c (λ g. seen_names (f g)) s
 clause_closed a b c f s w k set trail =
@@ -195,7 +197,7 @@ binds a b c y at w d e = record {
 -- ---- clauses that are underway
 
 -- what was walked and what is left are the whole
-pub record ClausesUnderway (old now : Walk) (ends rest : Scope → List ℕ) (all left : Scope → List Fault) : Type 0 where
+pub record ClausesUnderway (old now : Walk) (ends rest : Scope → List ℕ) (all left : Scope → List Refusal) : Type 0 where
   pub names : List ℕ
   pub longer : trail_of now.variables ≡ trail_of old.variables ++ names
   pub same : Same old.variables now.variables
@@ -203,7 +205,7 @@ pub record ClausesUnderway (old now : Walk) (ends rest : Scope → List ℕ) (al
   pub named : (g : Scope) → Stands old.variables g → (x : ℕ) → (has names x || (is_new g x && has (rest g) x)) ≡ (is_new g x && has (ends g) x)
   pub found : (g : Scope) → Stands old.variables g → earliest (kept now.first) (left g) ≡ earliest (kept old.first) (all g)
 
-pub clauses_first : (w : Walk) (ends : Scope → List ℕ) (all : Scope → List Fault) → ClausesUnderway w w ends ends all all
+pub clauses_first : (w : Walk) (ends : Scope → List ℕ) (all : Scope → List Refusal) → ClausesUnderway w w ends ends all all
 clauses_first w ends all = record {
   names = [];
   longer = sym (append-nil (trail_of w.variables));
@@ -222,7 +224,7 @@ one_more true k n s r e = refl
 one_more false k true s r e = ap (λ (v : Bool). v || r) e
 one_more false k false s r e = ap (λ (v : Bool). v || false) e
 
-pub clauses_more : (old now next : Walk) (ends rest some : Scope → List ℕ) (all left s : Scope → List Fault) → ClausesUnderway old now ends (λ g. some g ++ rest g) all (λ g. s g ++ left g) → Clauses now next some s → ClausesUnderway old next ends rest all left
+pub clauses_more : (old now next : Walk) (ends rest some : Scope → List ℕ) (all left s : Scope → List Refusal) → ClausesUnderway old now ends (λ g. some g ++ rest g) all (λ g. s g ++ left g) → Clauses now next some s → ClausesUnderway old next ends rest all left
 clauses_more old now next ends rest some all left s u c = record {
   names = u.names ++ c.names;
   longer = c.longer ∙ ap (λ (l : List ℕ). l ++ c.names) u.longer ∙ append_assoc (trail_of old.variables) u.names c.names;
@@ -281,7 +283,7 @@ pub branch_closed : (n : Names) (a b d e new : Walk) (q : WrittenPattern) (c : C
     → trail_of new.variables ≡ trail_of e.variables → BranchWalked n a new (branch q c es no_branches)
 branch_closed n a b d e new q c es x y z k set trail =
     let f : Scope → Scope = λ g. after_all (after_written_pattern g q) es in
-    let s : Scope → List Fault = λ g. written_pattern_faults g q ++ condition_faults n (after_written_pattern g q) c ++ written_expressions_faults n (after_written_pattern g q) es in
+    let s : Scope → List Refusal = λ g. written_pattern_faults g q ++ condition_faults n (after_written_pattern g q) c ++ written_expressions_faults n (after_written_pattern g q) es in
     let w = clause_closed a e new f s (inside n a b d e q c es x y z) (ap kept k) set trail in
     record {
       names = w.names;
@@ -295,7 +297,7 @@ branch_closed n a b d e new q c es x y z k set trail =
 pub branches_more : (n : Names) (old now next : Walk) (bs left rest : Branches) (q : WrittenPattern) (c : Condition) (es : WrittenExpressions) → left ≡ branch q c es rest → BranchesUnderway n old now bs left → BranchWalked n now next (branch q c es no_branches) → BranchesUnderway n old next bs rest
 branches_more n old now next bs left rest q c es e v b =
     let f : Scope → List ℕ = λ g. seen_names (after_all (after_written_pattern g q) es) in
-    let s : Scope → List Fault = λ g. written_pattern_faults g q ++ condition_faults n (after_written_pattern g q) c ++ written_expressions_faults n (after_written_pattern g q) es in
+    let s : Scope → List Refusal = λ g. written_pattern_faults g q ++ condition_faults n (after_written_pattern g q) c ++ written_expressions_faults n (after_written_pattern g q) es in
     let w : Clauses now next f s = record {
       names = b.names;
       longer = b.longer;

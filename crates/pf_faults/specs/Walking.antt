@@ -1,5 +1,7 @@
 -- What a walk through a part of a clause does: to what is seen, to the trail, and to the first fault.
 use Rattle.std.specs.Prelude.{◌≡◌, ℕ, true, false, ◌&&◌, if◌then◌else◌, List, [], ◌∷◌, ◌++◌}
+use Rattle.pf_fault.specs.declared.refusal.Refusal.{Refusal}
+use Rattle.pf_fault.specs.declared.code.Code.TheVariants.{Unbound, Undefined, Unsafe}
 use Rattle.pf_syntax.specs.WrittenPattern.{WrittenPattern, WrittenPatterns}
 use Rattle.pf_syntax.specs.WrittenExpression.{WrittenExpression, WrittenExpressions, Condition, Branches}
 use Rattle.pf_syntax.specs.Scope.{Scope, no_scope, has, is_new, is_unsafe, after_written_pattern, after_written_patterns, after, after_all, leaving, ends_of}
@@ -7,7 +9,7 @@ use Rattle.pf_syntax.specs.Naming.{Names}
 use Rattle.pf_syntax.specs.Source.{NodeTable}
 use Rattle.pf_syntax.specs.SourceOver.{branches_over}
 use Rattle.pf_syntax.specs.declared.written.Branch.{Branch}
-use Rattle.pf_rules.specs.Static.{Fault, fault_if, written_pattern_faults, written_patterns_faults, written_expression_faults, written_expressions_faults, condition_faults, branches_faults}
+use Rattle.pf_rules.specs.Static.{fault_if, written_pattern_faults, written_patterns_faults, written_expression_faults, written_expressions_faults, condition_faults, branches_faults}
 use Rattle.pf_faults.specs.Earliest.{earliest, kept}
 use Rattle.pf_faults.specs.Marks.{Stands, Trails, trail_of, status_of, is_marked}
 use Rattle.pf_rules.specs.Listing.{lists}
@@ -15,7 +17,7 @@ use Rattle.pf_rules.specs.declared.signatures.Signatures.{Signatures}
 use Rattle.pf_faults.specs.declared.walk.Walk.{Walk}
 
 -- a walk whose part changes what is seen so and has these faults
-pub record Walks (old new : Walk) (step : Scope → Scope) (faults : Scope → List Fault) : Type 0 where
+pub record Walks (old new : Walk) (step : Scope → Scope) (faults : Scope → List Refusal) : Type 0 where
   pub trails : Trails old.variables new.variables
   pub stands : (g : Scope) → Stands old.variables g → Stands new.variables (step g)
   pub found : (g : Scope) → Stands old.variables g → kept new.first ≡ earliest (kept old.first) (faults g)
@@ -50,7 +52,7 @@ abbrev pub BranchesWalked : Names → Walk → Walk → Branches → Type 0
 BranchesWalked n old new bs = Walks old new (λ g. leaving g (ends_of g bs)) (λ g. branches_faults n g bs)
 
 -- through clauses that end with these names: the trail has those that were new, and what is seen is as before
-pub record Clauses (old new : Walk) (ends : Scope → List ℕ) (faults : Scope → List Fault) : Type 0 where
+pub record Clauses (old new : Walk) (ends : Scope → List ℕ) (faults : Scope → List Refusal) : Type 0 where
   pub names : List ℕ
   pub longer : trail_of new.variables ≡ trail_of old.variables ++ names
   pub same : (x : ℕ) → status_of new.variables x ≡ status_of old.variables x
@@ -67,19 +69,19 @@ BranchWalked n old new bs = Clauses old new (λ g. ends_of g bs) (λ g. branches
 
 -- a variable of a pattern, before it is bound
 abbrev pub SafeWalked : Walk → Walk → ℕ → ℕ → Type 0
-SafeWalked old new x at = Walks old new (λ g. g) (λ g. fault_if (is_unsafe g x) 7 at)
+SafeWalked old new x at = Walks old new (λ g. g) (λ g. fault_if (is_unsafe g x) Unsafe at)
 
 -- a variable in an expression, `_` there, and the name of a call
 abbrev pub VariableWalked : Walk → Walk → ℕ → ℕ → Type 0
-VariableWalked old new x at = Walks old new (λ g. g) (λ g. fault_if (is_unsafe g x) 7 at ++ fault_if (is_new g x) 6 at)
+VariableWalked old new x at = Walks old new (λ g. g) (λ g. fault_if (is_unsafe g x) Unsafe at ++ fault_if (is_new g x) Unbound at)
 
 abbrev pub AnonymousWalked : Walk → Walk → ℕ → Type 0
-AnonymousWalked old new at = Walks old new (λ g. g) (λ g. fault_if true 6 at)
+AnonymousWalked old new at = Walks old new (λ g. g) (λ g. fault_if true Unbound at)
 
 abbrev pub CallWalked : Signatures → Walk → Walk → ℕ → ℕ → ℕ → Type 0
-CallWalked o old new f at arity = Walks old new (λ g. g) (λ g. if lists o f arity then [] else fault_if true 8 at)
+CallWalked o old new f at arity = Walks old new (λ g. g) (λ g. if lists o f arity then [] else fault_if true Undefined at)
 
 -- through a part that begins with no variable, behind which there is none again
-pub record BeginsAnew (old new : Walk) (faults : List Fault) : Type 0 where
+pub record BeginsAnew (old new : Walk) (faults : List Refusal) : Type 0 where
   pub stands : Stands old.variables no_scope → Stands new.variables no_scope
   pub found : Stands old.variables no_scope → kept new.first ≡ earliest (kept old.first) faults

@@ -5,26 +5,27 @@ ghost use Rattle.pf_syntax.specs.Source.{NodeTable, Head as HeadTree};
 ghost use Rattle.pf_syntax.specs.SourceOver.{head_over, heads_over};
 ghost use Rattle.pf_syntax.specs.WrittenModule.{tree_of};
 ghost use Rattle.pf_rules.specs.Static.{defined_faults, export_fault, faults_of, IsFirst};
-ghost use Rattle.pf_faults.specs.Earliest.{earliest, fault_of, kept};
+ghost use Rattle.pf_faults.specs.Earliest.{earliest, kept};
 ghost use Rattle.pf_faults.specs.Defines.{Defines};
 ghost use Rattle.pf_rules.specs.Listing.{Lists};
 
-use crate::first::{CheckFault, First, Found};
+use crate::first::First;
 use crate::variable_states::VariableStates;
 use crate::walk::Walk;
+use pf_fault::{Code, Refusal};
 use pf_rules::{Signatures, is_builtin};
 use pf_syntax::{Head, Source, WrittenFunction};
 use pf_terms::{AtomTable, NoMemory};
 use std::alloc::Global;
 
-/// The first fault of a module: of those at the least offset the one with the least number.
+/// The first fault of a module: of those at the least place the one whose code is the first in the table.
 pub fn first_fault(
     alloc: Global,
     source: &Source,
     atoms: &AtomTable,
-) -> Result<Option<Found>, NoMemory>
+) -> Result<Option<Refusal>, NoMemory>
     ensures none { IfOk result (λ found. IfNone found (faults_of atoms.now (tree_of source.now) ≡ [])) }
-    ensures first { IfOk result (λ found. IfSome found (λ f. IsFirst (faults_of atoms.now (tree_of source.now)) (fault_of f))) }
+    ensures first { IfOk result (λ found. IfSome found (λ f. IsFirst (faults_of atoms.now (tree_of source.now)) f)) }
 {
     let mut first = First::new();
     let own = own_functions(alloc, source, atoms, &mut first)?;
@@ -81,7 +82,7 @@ fn define_head(
     let arity = head.parameters.len() as u64;
     let fresh = own.add(head.word.name, arity)?;
     if !fresh || is_builtin(atoms, head.word.name, arity) {
-        first.note(CheckFault::DefinedTwice, head.word.offset);
+        first.note(Code::DefinedTwice, head.word.offset);
     }
     Ok(())
 }
@@ -93,7 +94,7 @@ fn note_exports(source: &Source, own: &Signatures, first: &mut First)
 {
     for export in source.exports() {
         if !own.has(export.word.name, export.arity) {
-            first.note(CheckFault::ExportOfNothing, export.word.offset);
+            first.note(Code::ExportOfNothing, export.word.offset);
         }
     }
 }

@@ -7,4 +7,3 @@ mod variable_states;
 mod walk;
 
 pub use faults::first_fault;
-pub use first::{CheckFault, Found};

@@ -11,8 +11,9 @@ ghost use Rattle.pf_faults.specs.Walking.{branch_of, AnonymousWalked, BranchWalk
 mod heads;
 mod patterns;
 
-use crate::first::{CheckFault, First};
+use crate::first::First;
 use crate::variable_states::{Status, VariableStates};
+use pf_fault::Code;
 use pf_rules::Signatures;
 use pf_syntax::{
     Branch, Condition, Source, Word, WrittenExpressionId, WrittenExpressionNode, WrittenPatternId,
@@ -231,9 +232,9 @@ impl Walk {
         ensures { VariableWalked self.old self.new word.name.0 word.offset }
     {
         match self.variables.status(word.name) {
-            Status::New => self.first.note(CheckFault::Unbound, word.offset),
+            Status::New => self.first.note(Code::Unbound, word.offset),
             Status::Bound => {}
-            Status::Unsafe => self.first.note(CheckFault::Unsafe, word.offset),
+            Status::Unsafe => self.first.note(Code::Unsafe, word.offset),
         }
     }
 
@@ -241,7 +242,7 @@ impl Walk {
     fn anonymous(&mut self, offset: u32)
         ensures { AnonymousWalked self.old self.new offset }
     {
-        self.first.note(CheckFault::Unbound, offset);
+        self.first.note(Code::Unbound, offset);
     }
 
     /// The name of a call with so many arguments.
@@ -249,7 +250,7 @@ impl Walk {
         ensures { CallWalked own.now self.old self.new word.name.0 word.offset arity }
     {
         if !own.has(word.name, arity as u64) {
-            self.first.note(CheckFault::Undefined, word.offset);
+            self.first.note(Code::Undefined, word.offset);
         }
     }
 }

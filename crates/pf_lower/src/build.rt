@@ -119,8 +119,8 @@ fn function(
     }
 }
 
-/// Adds the functions of a source to its module, which has none yet.
-fn add_functions(
+/// Adds the functions of a source, which the tables know, to its module, which has none yet.
+fn add_each(
     alloc: Global,
     source: &Source,
     functions: &FunctionTable,
@@ -148,14 +148,22 @@ fn add_functions(
     Ok(())
 }
 
+/// Adds the functions of a source to its module, which has none yet.
+fn add_functions(alloc: Global, source: &Source, module: &mut Module) -> Result<(), NoMemory>
+    requires { module.old.functions ≡ [] }
+    ensures { OnOk result (FunctionsAdded source.now.functions source.now.exports module.old module.new) }
+{
+    let functions = FunctionTable::new(alloc, source)?;
+    let exported = exports_of(alloc, source)?;
+    add_each(alloc, source, &functions, &exported, module)
+}
+
 /// The checked module of a source that has no static fault and is formed as the grammar says; of another it is some module.
 pub fn module_of(alloc: Global, source: &Source, atoms: AtomTable) -> Result<Module, NoMemory>
     ensures { IfOk result (λ m. faults_of atoms (tree_of source.now) ≡ [] → AreFormed source.now.functions → IsModule atoms (tree_of source.now) m) }
 {
     let mut module = Module::new(alloc, source.name(), atoms);
-    let functions = FunctionTable::new(alloc, source)?;
-    let exported = exports_of(alloc, source)?;
-    add_functions(alloc, source, &functions, &exported, &mut module)?;
+    add_functions(alloc, source, &mut module)?;
     module.shrink_to_fit();
     Ok(module)
 }

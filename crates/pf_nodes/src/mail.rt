@@ -128,7 +128,7 @@ impl<T> MailList<T> {
 
 impl<T: Drop> MailList<T> {
     /// Puts an item at the end. It takes a spare node of the pool, and asks for memory only where the pool has none.
-    /// The item comes back for want of memory, or at `usize::MAX` items.
+    /// The item comes back where memory runs out, or at `usize::MAX` items.
     pub fn push_back(&mut self, pool: &mut Pool<T>, value: T) -> Result<(), T>
         ensures pushed { OnOk result (self.new ≡ mail (self.old.items ++ value ∷ []) self.old.mark) }
         ensures taken { OnOk result (pool.new ≡ pool.old - 1) }

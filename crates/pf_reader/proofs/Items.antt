@@ -2,16 +2,17 @@
 use Rattle.std.proofs.Common.{◌≡◌, ℕ, suc, List, [], ◌∷◌, ◌++◌, Option, Some, None, refl, sym, ap, ◌∙◌, append_assoc}
 use Rattle.std.specs.Prelude.{map}
 use Rattle.std.proofs.lemmas.List.{map-append}
-use Rattle.pf_reader.specs.declared.fault.ReadFault.{ReadFault}
-use Rattle.pf_reader.specs.declared.fault.ReadFault.TheVariants.{Memory, Syntax}
+use Rattle.pf_fault.specs.declared.fault.OrNoMemory.{OrNoMemory}
+use Rattle.pf_fault.specs.declared.fault.OrNoMemory.TheVariants.{NoMemory, Fault}
+use Rattle.pf_reader.specs.declared.fault.Syntax.{Syntax}
 use Rattle.pf_reader.specs.Given.{Fails, with_front}
 use Rattle.pf_reader.specs.NumberedTokens.{NumberedKind, NumberedToken}
 use Rattle.pf_reader.specs.Parse.{◌>>=◌, Parse, items, after}
 
 -- a fault of a part is a fault of the whole
-pub fails_as : {X Y : Type 0} (e : ReadFault) (a : Option X) (b : Option Y) → (a ≡ None → b ≡ None) → Fails e a → Fails e b
-fails_as Memory a b f h = tt
-fails_as Syntax a b f h = f h
+pub fails_as : {X Y : Type 0} (e : OrNoMemory Syntax) (a : Option X) (b : Option Y) → (a ≡ None → b ≡ None) → Fails e a → Fails e b
+fails_as NoMemory a b f h = tt
+fails_as (Fault s) a b f h = f h
 
 pub no_front : {A : Type 0} (o : Option (List A × List NumberedToken)) → with_front [] o ≡ o
 no_front None = refl

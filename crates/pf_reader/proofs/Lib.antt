@@ -15,3 +15,4 @@ pub mod Turns
 pub mod Numbers
 pub mod Numbering
 pub mod Head
+pub mod Places

@@ -15,16 +15,17 @@ use Rattle.pf_reader.specs.NumberedTokens.{NumberedToken}
 use Rattle.pf_reader.specs.View.{token_list}
 use Rattle.pf_reader.specs.declared.part.Part.{Part}
 use Rattle.pf_reader.specs.declared.part.WrittenPatternPart.{WrittenPatternPart}
-use Rattle.pf_reader.specs.declared.fault.ReadFault.{ReadFault}
-use Rattle.pf_reader.specs.declared.fault.ReadFault.TheVariants.{Memory, Syntax}
+use Rattle.pf_fault.specs.declared.fault.OrNoMemory.{OrNoMemory}
+use Rattle.pf_fault.specs.declared.fault.OrNoMemory.TheVariants.{NoMemory, Fault}
+use Rattle.pf_reader.specs.declared.fault.Syntax.{Syntax}
 
--- want of memory says nothing of the tokens, and a fault of syntax is that nothing is read
-abbrev pub Fails : {Y : Type 0} → ReadFault → Option Y → Type 0
-Fails Memory read = Unit {0}
-Fails Syntax read = read ≡ None
+-- out of memory says nothing of the tokens, and a fault of syntax is that nothing is read
+abbrev pub Fails : {Y : Type 0} → OrNoMemory Syntax → Option Y → Type 0
+Fails NoMemory read = Unit {0}
+Fails (Fault s) read = read ≡ None
 
 -- what a function answered, seen by a view, is what reading gives, unless memory ran out
-abbrev pub Gives : {X Y : Type 0} → (X → Y) → Result X ReadFault → Option Y → Type 0
+abbrev pub Gives : {X Y : Type 0} → (X → Y) → Result X (OrNoMemory Syntax) → Option Y → Type 0
 Gives view (Ok x) read = read ≡ Some (view x)
 Gives view (Err e) read = Fails e read
 

@@ -1,19 +1,36 @@
 -- What the outcome of reading tells of the tokens.
-use Rattle.std.specs.Prelude.{◌≡◌, ℕ, List, Result, Ok, Err}
-use Rattle.pf_reader.specs.declared.fault.TreeFault.{TreeFault}
-use Rattle.pf_reader.specs.declared.fault.TreeFault.TheVariants as faults
+use Rattle.std.specs.Prelude.{◌≡◌, ◌⊎◌, ℕ, List, [], ◌∷◌, Result, Ok, Err}
+use Rattle.pf_fault.specs.declared.code.Code.{Code}
+use Rattle.pf_fault.specs.declared.code.Code.TheVariants.{NoHead, NotGrammar}
+use Rattle.pf_fault.specs.declared.fault.OrNoMemory.{OrNoMemory}
+use Rattle.pf_fault.specs.declared.fault.OrNoMemory.TheVariants.{NoMemory, Fault}
+use Rattle.pf_fault.specs.declared.refusal.Refusal.{Refusal}
 use Rattle.pf_reader.specs.declared.read.ReadModule.{ReadModule}
 use Rattle.pf_reader.specs.NumberedTokens.{NumberedToken}
 use Rattle.pf_reader.specs.Grammar.{tree_of, DerivesTree, HasHead, Tree}
 
 -- the outcome is this module, unless memory ran out
-abbrev pub IsReadAs : Tree → Result ReadModule TreeFault → Type 0
+abbrev pub IsReadAs : Tree → Result ReadModule (OrNoMemory Refusal) → Type 0
 IsReadAs m (Ok t) = tree_of t.source ≡ m
-IsReadAs m (Err faults.Memory) = Unit {0}
+IsReadAs m (Err NoMemory) = Unit {0}
 IsReadAs m (Err _) = ⊥
 
--- a fault of the tokens: they have no first form, or they have one and are no module
-abbrev pub IsTreeFault : List (List ℕ) → List NumberedToken → TreeFault → Type 0
-IsTreeFault atoms ts faults.Memory = Unit {0}
-IsTreeFault atoms ts faults.NoHead = HasHead atoms ts → ⊥
-IsTreeFault atoms ts (faults.NotGrammar place) = HasHead atoms ts × ((m : Tree) → DerivesTree atoms m ts → ⊥)
+-- one of the tokens stands at the place
+abbrev pub Stands : List NumberedToken → ℕ → Type 0
+Stands [] place = ⊥
+Stands (t ∷ ts) place = (t.at ≡ place) ⊎ Stands ts place
+
+-- the place of one of the tokens, or the end of the source
+abbrev pub IsPlaceOf : List NumberedToken → ℕ → ℕ → Type 0
+IsPlaceOf ts end place = (place ≡ end) ⊎ Stands ts place
+
+-- a refusal of the tokens: they have no first form, or they have one and are no module
+abbrev pub IsRefused : List (List ℕ) → List NumberedToken → ℕ → Code → ℕ → Type 0
+IsRefused atoms ts end NoHead place = (HasHead atoms ts → ⊥) × (place ≡ 0)
+IsRefused atoms ts end NotGrammar place = HasHead atoms ts × ((m : Tree) → DerivesTree atoms m ts → ⊥) × IsPlaceOf ts end place
+IsRefused atoms ts end _ place = ⊥
+
+-- out of memory says nothing of the tokens
+abbrev pub IsTreeFault : List (List ℕ) → List NumberedToken → ℕ → OrNoMemory Refusal → Type 0
+IsTreeFault atoms ts end NoMemory = Unit {0}
+IsTreeFault atoms ts end (Fault r) = IsRefused atoms ts end r.code r.place

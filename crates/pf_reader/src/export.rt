@@ -8,9 +8,10 @@ ghost use Rattle.pf_reader.specs.Parse.{entry, export, exports, items, until};
 ghost use Rattle.pf_reader.specs.View.{names_of, token_list};
 ghost use Rattle.pf_reader.specs.Given.{with_front, Gives};
 
-use crate::fault::ReadFault;
+use crate::fault::{ReadFault, Syntax};
 use crate::numbered_token::{NumberedKind, NumberedToken};
 use crate::token::{Context, behind, read_name, read_number, skip, skip_word};
+use pf_fault::OrNoMemory;
 use pf_syntax::{Export, Source};
 use pf_terms::NoMemory;
 use pf_tokens::Mark;
@@ -33,7 +34,7 @@ fn read_entry<'a>(
             },
             rest,
         )),
-        None => Err(ReadFault::Syntax),
+        None => Err(OrNoMemory::Fault(Syntax)),
     }
 }
 
@@ -55,7 +56,7 @@ fn read_entries<'a>(
         };
         rest = after;
     }
-    Err(ReadFault::Syntax)
+    Err(OrNoMemory::Fault(Syntax))
 }
 
 /// Entries with commas between them, or none, before a closing bracket.
@@ -83,7 +84,7 @@ fn read_export<'a>(
     ensures { Gives (λ x. (map export_of x.0.items, token_list x.1.now)) result (export (names_of context.entry) (token_list tokens.now)) }
 {
     let Some(rest) = skip_word(context.atoms, b"export", tokens) else {
-        return Err(ReadFault::Syntax);
+        return Err(OrNoMemory::Fault(Syntax));
     };
     let rest = behind(rest, NumberedKind::Mark(Mark::OpenParenthesis))?;
     let rest = behind(rest, NumberedKind::Mark(Mark::OpenBracket))?;

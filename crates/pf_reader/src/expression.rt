@@ -19,7 +19,7 @@ pub(crate) enum Leaf {
 /// An expression as far as it was gone through. Depths are 0 where there is nothing yet.
 #[derive(Clone, Copy)]
 pub(crate) struct Expression {
-    /// The offset of its first token, where it has one.
+    /// Its first token by number, where it has one.
     start: Option<usize>,
     looks: Looks,
     /// How many patterns were matched in front of it.
@@ -53,16 +53,16 @@ impl Expression {
     };
 
     /// Notes where the expression begins, unless that is known.
-    pub(crate) fn begin(&mut self, at: usize) {
+    pub(crate) fn begin(&mut self, index: usize) {
         if self.start.is_none() {
-            self.start = Some(at);
+            self.start = Some(index);
         }
     }
 
-    /// The offset of its first token.
+    /// Its first token by number.
     pub(crate) fn start(&self) -> usize {
         match self.start {
-            Some(at) => at,
+            Some(index) => index,
             None => 0,
         }
     }

@@ -6,11 +6,12 @@ ghost use Rattle.pf_reader.specs.Parse.{function, functions, head};
 ghost use Rattle.pf_reader.specs.View.{names_of, token_list};
 ghost use Rattle.pf_reader.specs.Given.{with_first, Gives, Grown};
 
-use crate::fault::ReadFault;
+use crate::fault::{ReadFault, Syntax};
 use crate::numbered_token::{NumberedKind, NumberedToken};
 use crate::token::{Context, behind, read_name};
 use crate::written_expression::{read_body, unguarded};
 use crate::written_pattern::read_written_patterns;
+use pf_fault::OrNoMemory;
 use pf_syntax::{Head, Source, WrittenFunction};
 use pf_tokens::Mark;
 use std::alloc::Global;
@@ -87,6 +88,6 @@ pub(crate) fn read_functions(
     if rest.is_empty() {
         Ok(())
     } else {
-        Err(ReadFault::Syntax)
+        Err(OrNoMemory::Fault(Syntax))
     }
 }

@@ -19,6 +19,5 @@ mod token;
 mod written_expression;
 mod written_pattern;
 
-pub use fault::{Place, TreeFault};
 pub use laws::{one_tree, reading_is_complete, reading_is_sound};
 pub use read::{ReadModule, read_tree};

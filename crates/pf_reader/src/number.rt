@@ -1,15 +1,14 @@
 //! Numbers for the names in tokens.
 
-ghost use Rattle.std.specs.Prelude.{◌≡◌, ◌<◌, ◌^◌, ℕ, length, List, map, IfErr, IfOk, OnOk};
+ghost use Rattle.std.specs.Prelude.{◌≡◌, ◌<◌, ◌^◌, ℕ, length, List, map, IfOk, OnOk};
 ghost use Rattle.pf_terms.specs.Atoms.{fixed_names, with_name, with_names};
 ghost use Rattle.pf_tokens.specs.TokenKinds.{placed_of, kind_of};
-ghost use Rattle.pf_reader.specs.declared.fault.ReadFault.TheVariants.{Memory};
 ghost use Rattle.pf_reader.specs.NumberedTokens.{atom_name, atoms_of, number_in, numbered, variable_name};
 ghost use Rattle.pf_reader.specs.View.{token_list};
 ghost use Rattle.pf_reader.specs.Numbering.{StandsForKind};
 
-use crate::fault::ReadFault;
 use crate::numbered_token::{NumberedKind, NumberedToken};
+use pf_fault::NoMemory;
 use pf_terms::{AtomId, AtomTable};
 use pf_tokens::{Kind, Token};
 use std::alloc::Global;
@@ -18,16 +17,15 @@ use std::alloc::Global;
 const LIMIT: usize = 4_294_967_295;
 
 /// The number of a name, which stays the name's as the table grows. The table has room for one more, before and after.
-fn number_of(alloc: Global, table: &mut AtomTable, name: &[u8]) -> Result<AtomId, ReadFault>
+fn number_of(alloc: Global, table: &mut AtomTable, name: &[u8]) -> Result<AtomId, NoMemory>
     requires { length table.old < 2 ^ 32 }
     ensures number { IfOk result (λ a. (more : List (List ℕ)) → number_in (with_names table.new more) name.now ≡ a.0) }
     ensures names { OnOk result (table.new ≡ with_name table.old name.now) }
     ensures room { OnOk result (length table.new < 2 ^ 32) }
-    ensures err { IfErr result (λ e. e ≡ Memory) }
 {
     let number = table.enter(alloc, name)?;
     if table.len() > LIMIT {
-        return Err(ReadFault::Memory);
+        return Err(NoMemory);
     }
     Ok(number)
 }
@@ -38,14 +36,13 @@ fn number_kind(
     atoms: &mut AtomTable,
     variables: &mut AtomTable,
     kind: &Kind,
-) -> Result<NumberedKind, ReadFault>
+) -> Result<NumberedKind, NoMemory>
     requires atoms { length atoms.old < 2 ^ 32 }
     requires variables { length variables.old < 2 ^ 32 }
     ensures kind { IfOk result (λ s. StandsForKind atoms.new variables.new (kind_of kind.now) s) }
     ensures atoms { OnOk result (atoms.new ≡ with_names atoms.old (atom_name (kind_of kind.now))) }
     ensures variables { OnOk result (variables.new ≡ with_names variables.old (variable_name (kind_of kind.now))) }
     ensures room { OnOk result ((length atoms.new < 2 ^ 32) × (length variables.new < 2 ^ 32)) }
-    ensures err { IfErr result (λ e. e ≡ Memory) }
 {
     match kind {
         Kind::Integer(n) => Ok(NumberedKind::Integer(*n)),
@@ -67,28 +64,26 @@ fn number_kind(
 }
 
 /// The offset of a token. A source that has one of 2^32 or more is no source that fits memory.
-fn offset_of(start: usize) -> Result<u32, ReadFault>
+fn offset_of(start: usize) -> Result<u32, NoMemory>
     ensures same { IfOk result (λ at. at ≡ start) }
-    ensures err { IfErr result (λ e. e ≡ Memory) }
 {
     match u32::try_from(start) {
         Ok(at) => Ok(at),
-        Err(_) => Err(ReadFault::Memory),
+        Err(_) => Err(NoMemory),
     }
 }
 
-/// The tokens with numbers for their names, which the tables, fresh ones, get.
+/// The tokens with numbers for their names, which enter two fresh tables.
 fn number_all(
     alloc: Global,
     atoms: &mut AtomTable,
     variables: &mut AtomTable,
     tokens: &[Token],
-) -> Result<Vec<NumberedToken>, ReadFault>
+) -> Result<Vec<NumberedToken>, NoMemory>
     requires atoms { atoms.old ≡ fixed_names }
     requires variables { variables.old ≡ fixed_names }
     ensures atoms { OnOk result (atoms.new ≡ atoms_of (map placed_of tokens.now)) }
     ensures token_list { IfOk result (λ found. token_list found.items ≡ numbered (map placed_of tokens.now)) }
-    ensures err { IfErr result (λ e. e ≡ Memory) }
 {
     let mut found = Vec::new(alloc);
     for token in tokens {
@@ -99,17 +94,29 @@ fn number_all(
     Ok(found)
 }
 
-/// The atoms of the tokens, and the tokens with numbers for their names. It fails by want of memory alone.
+/// The tokens with numbers for their names. Those of atoms enter a fresh table, and those of variables one that is dropped here.
+fn number_names(
+    alloc: Global,
+    atoms: &mut AtomTable,
+    tokens: &[Token],
+) -> Result<Vec<NumberedToken>, NoMemory>
+    requires { atoms.old ≡ fixed_names }
+    ensures atoms { OnOk result (atoms.new ≡ atoms_of (map placed_of tokens.now)) }
+    ensures token_list { IfOk result (λ found. token_list found.items ≡ numbered (map placed_of tokens.now)) }
+{
+    let mut variables = AtomTable::new(alloc)?;
+    number_all(alloc, atoms, &mut variables, tokens)
+}
+
+/// The atoms of the tokens, and the tokens with numbers for their names.
 pub(crate) fn number_tokens(
     alloc: Global,
     tokens: &[Token],
-) -> Result<(AtomTable, Vec<NumberedToken>), ReadFault>
+) -> Result<(AtomTable, Vec<NumberedToken>), NoMemory>
     ensures atoms { IfOk result (λ x. x.0 ≡ atoms_of (map placed_of tokens.now)) }
     ensures token_list { IfOk result (λ x. token_list x.1.items ≡ numbered (map placed_of tokens.now)) }
-    ensures err { IfErr result (λ e. e ≡ Memory) }
 {
     let mut atoms = AtomTable::new(alloc)?;
-    let mut variables = AtomTable::new(alloc)?;
-    let found = number_all(alloc, &mut atoms, &mut variables, tokens)?;
+    let found = number_names(alloc, &mut atoms, tokens)?;
     Ok((atoms, found))
 }

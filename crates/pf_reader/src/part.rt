@@ -6,8 +6,9 @@ ghost use Rattle.pf_reader.specs.Parse.{within};
 ghost use Rattle.pf_reader.specs.View.{token_list};
 ghost use Rattle.pf_reader.specs.Given.{seen, seen_written_pattern, Gives, Grown};
 
-use crate::fault::ReadFault;
+use crate::fault::{ReadFault, Syntax};
 use crate::numbered_token::NumberedToken;
+use pf_fault::OrNoMemory;
 use pf_syntax::{
     Source, WrittenExpressionId, WrittenExpressionNode, WrittenPatternId, WrittenPatternNode,
 };
@@ -76,7 +77,7 @@ pub(crate) fn put_within<'a>(
 {
     let part = put(source, node, rest)?;
     if source.depth(part.written_expression) > limit {
-        return Err(ReadFault::Syntax);
+        return Err(OrNoMemory::Fault(Syntax));
     }
     Ok(part)
 }

@@ -1,11 +1,15 @@
 //! Where tokens that have no tree go wrong: at the first token that no rule allows behind those before it, or at the end; where all
-//! are allowed, at the first part that passes a limit. No contract says which place it is: tests do.
+//! are allowed, at the first part that passes a limit. A contract says that it is a token or the end; which one, tests do.
 //!
 //! The tokens are gone through once, with what is open around each on a stack of its own, so that no source is too deep for it.
 
+ghost use Rattle.std.specs.Prelude.{IfOk};
+ghost use Rattle.pf_reader.specs.Outcome.{IsPlaceOf};
+ghost use Rattle.pf_reader.specs.View.{token_list};
+
 use crate::expression::{Expression, Leaf};
-use crate::fault::{Place, ReadFault};
 use crate::numbered_token::{NumberedKind, NumberedToken};
+use pf_fault::NoMemory;
 use pf_terms::{AtomId, AtomTable};
 use pf_tokens::{Mark, Reserved};
 use std::alloc::Global;
@@ -78,16 +82,34 @@ struct Walk<'a> {
     frame: Frame,
     current: Expression,
     outer: Vec<(Frame, Expression)>,
-    /// The first part that passes a limit.
+    /// The first token of the first part that passes a limit.
     beyond: Option<usize>,
 }
 
-/// Where the tokens behind the first form go wrong.
+/// Where the tokens behind the first form of a source go wrong: the place of one of them, or the end of the source.
 pub(crate) fn fault_place(
     alloc: Global,
     atoms: &AtomTable,
     tokens: &[NumberedToken],
-) -> Result<Place, ReadFault> {
+    end: usize,
+) -> Result<usize, NoMemory>
+    ensures { IfOk result (IsPlaceOf (token_list tokens.now) end) }
+{
+    let Some(index) = wrong_token(alloc, atoms, tokens)? else {
+        return Ok(end);
+    };
+    match tokens.get(index) {
+        Some(token) => Ok(token.at as usize),
+        None => Ok(end),
+    }
+}
+
+/// Which token goes wrong, counted from 0; none where the end does.
+fn wrong_token(
+    alloc: Global,
+    atoms: &AtomTable,
+    tokens: &[NumberedToken],
+) -> Result<Option<usize>, NoMemory> {
     let mut walk = Walk {
         alloc,
         atoms,
@@ -98,10 +120,10 @@ pub(crate) fn fault_place(
         beyond: None,
     };
     walk.limit_atoms(tokens);
-    for token in tokens.iter().skip(HEAD) {
-        match walk.step(token)? {
+    for (index, token) in tokens.iter().enumerate().skip(HEAD) {
+        match walk.step(index, token.kind)? {
             Some(next) => walk.next = next,
-            None => return Ok(Place::At(token.at as usize)),
+            None => return Ok(Some(index)),
         }
     }
     Ok(walk.end())
@@ -123,46 +145,43 @@ fn pattern_next(kind: NumberedKind, end: Next, minus: Next) -> Option<Next> {
 impl<'a> Walk<'a> {
     /// Notes the first atom that is too long.
     fn limit_atoms(&mut self, tokens: &[NumberedToken]) {
-        for token in tokens {
+        for (index, token) in tokens.iter().enumerate() {
             if let NumberedKind::Atom(name) = token.kind {
                 if self.atoms.name(name).len() > LONGEST {
-                    return self.limit(token.at as usize);
+                    return self.limit(index);
                 }
             }
         }
     }
 
-    /// Notes a part that passes a limit, if it is the first.
-    fn limit(&mut self, at: usize) {
+    /// Notes a part that passes a limit, by its first token, if it is the first such part.
+    fn limit(&mut self, index: usize) {
         self.beyond = match self.beyond {
-            Some(first) => Some(first.min(at)),
-            None => Some(at),
+            Some(first) => Some(first.min(index)),
+            None => Some(index),
         };
     }
 
-    /// The place, where every token was allowed.
-    fn end(&self) -> Place {
+    /// The token that goes wrong, where every token was allowed.
+    fn end(&self) -> Option<usize> {
         match self.next {
-            Next::ExportOrFunction | Next::FunctionOnly => match self.beyond {
-                Some(at) => Place::At(at),
-                None => Place::End,
-            },
-            _ => Place::End,
+            Next::ExportOrFunction | Next::FunctionOnly => self.beyond,
+            _ => None,
         }
     }
 
     /// What may stand behind the token; nothing where it may not stand there itself.
-    fn step(&mut self, token: &NumberedToken) -> Result<Option<Next>, ReadFault> {
+    fn step(&mut self, index: usize, kind: NumberedKind) -> Result<Option<Next>, NoMemory> {
         match self.next {
-            Next::Operand | Next::Part | Next::OperandOrEnd => self.operand(token),
-            Next::BehindAtom if token.kind == NumberedKind::Mark(Mark::OpenParenthesis) => {
+            Next::Operand | Next::Part | Next::OperandOrEnd => self.operand(index, kind),
+            Next::BehindAtom if kind == NumberedKind::Mark(Mark::OpenParenthesis) => {
                 self.open(Frame::Arguments(0), Next::OperandOrEnd)
             }
             Next::BehindAtom => {
                 self.current.leaf(Leaf::Other);
-                Ok(self.behind(token.kind))
+                Ok(self.behind(kind))
             }
-            Next::Behind => Ok(self.behind(token.kind)),
+            Next::Behind => Ok(self.behind(kind)),
             Next::ExportOrFunction
             | Next::FunctionOnly
             | Next::Parameters
@@ -170,11 +189,9 @@ impl<'a> Walk<'a> {
             | Next::Parameter
             | Next::NegativeParameter
             | Next::ParameterEnd
-            | Next::HeadArrow => Ok(self.head(token.kind)),
-            Next::Pattern | Next::NegativePattern | Next::ClauseArrow => {
-                Ok(self.clause(token.kind))
-            }
-            _ => Ok(self.export(token.kind)),
+            | Next::HeadArrow => Ok(self.head(kind)),
+            Next::Pattern | Next::NegativePattern | Next::ClauseArrow => { Ok(self.clause(kind)) }
+            _ => Ok(self.export(kind)),
         }
     }
 
@@ -244,7 +261,7 @@ impl<'a> Walk<'a> {
     }
 
     /// Begins an expression that is a part of the one that is read.
-    fn open(&mut self, frame: Frame, next: Next) -> Result<Option<Next>, ReadFault> {
+    fn open(&mut self, frame: Frame, next: Next) -> Result<Option<Next>, NoMemory> {
         self.outer.push((self.frame, self.current))?;
         self.frame = frame;
         self.current = Expression::NEW;
@@ -261,9 +278,9 @@ impl<'a> Walk<'a> {
     }
 
     /// Where an operand may stand.
-    fn operand(&mut self, token: &NumberedToken) -> Result<Option<Next>, ReadFault> {
-        self.current.begin(token.at as usize);
-        match token.kind {
+    fn operand(&mut self, index: usize, kind: NumberedKind) -> Result<Option<Next>, NoMemory> {
+        self.current.begin(index);
+        match kind {
             NumberedKind::Integer(_) => {
                 self.current.leaf(Leaf::Integer);
                 Ok(Some(Next::Behind))
@@ -353,8 +370,8 @@ impl<'a> Walk<'a> {
     /// Notes an element of a function's body that is too deep.
     fn limit_element(&mut self, depth: u32) {
         if depth > DEEPEST {
-            let at = self.current.start();
-            self.limit(at);
+            let index = self.current.start();
+            self.limit(index);
         }
     }
 }

@@ -10,12 +10,13 @@ ghost use Rattle.pf_reader.specs.Given.{Gives};
 ghost use Rattle.pf_reader.specs.Outcome.{IsReadAs, IsTreeFault};
 
 use crate::export::read_exports;
-use crate::fault::{ReadFault, TreeFault};
+use crate::fault::{ReadFault, Syntax};
 use crate::function::read_functions;
 use crate::number::number_tokens;
 use crate::numbered_token::{NumberedKind, NumberedToken};
 use crate::place::fault_place;
 use crate::token::{Context, skip, skip_word};
+use pf_fault::{Code, NoMemory, OrNoMemory, Refusal};
 use pf_syntax::Source;
 use pf_terms::{AtomId, AtomTable};
 use pf_tokens::{Mark, Token};
@@ -64,48 +65,54 @@ fn read_module(
     ensures { Gives tree_of result (tree atoms.now (token_list tokens.now)) }
 {
     let Some((own, rest)) = first_form(atoms, tokens) else {
-        return Err(ReadFault::Syntax);
+        return Err(OrNoMemory::Fault(Syntax));
     };
     let context = Context { atoms, own };
     let mut source = Source::new(alloc, own);
     let rest = read_exports(alloc, context, &mut source, rest)?;
     read_functions(alloc, context, &mut source, rest)?;
     if atoms.name(own).len() > 255 {
-        return Err(ReadFault::Syntax);
+        return Err(OrNoMemory::Fault(Syntax));
     }
     Ok(source)
 }
 
-/// Why tokens that aren't a module have no tree.
-fn tree_fault(alloc: Global, atoms: &AtomTable, tokens: &[NumberedToken]) -> TreeFault
+/// Why tokens that aren't a module have no tree, in a source that ends at `end`.
+fn tree_fault(
+    alloc: Global,
+    atoms: &AtomTable,
+    tokens: &[NumberedToken],
+    end: usize,
+) -> OrNoMemory<Refusal>
     requires { tree atoms.now (token_list tokens.now) ≡ None }
-    ensures { IsTreeFault atoms.now (token_list tokens.now) result }
+    ensures { IsTreeFault atoms.now (token_list tokens.now) end result }
 {
     if first_form(atoms, tokens).is_none() {
-        return TreeFault::NoHead;
+        return OrNoMemory::refusal(Code::NoHead, 0);
     }
-    match fault_place(alloc, atoms, tokens) {
-        Ok(place) => TreeFault::NotGrammar(place),
-        Err(_) => TreeFault::Memory,
+    match fault_place(alloc, atoms, tokens, end) {
+        Ok(place) => OrNoMemory::refusal(Code::NotGrammar, place),
+        Err(NoMemory) => OrNoMemory::NoMemory,
     }
 }
 
-/// The module that the tokens of a source are.
-pub fn read_tree(alloc: Global, tokens: &[Token]) -> Result<ReadModule, TreeFault>
+/// The module that the tokens of a source are, which ends at `end`.
+pub fn read_tree(
+    alloc: Global,
+    tokens: &[Token],
+    end: usize,
+) -> Result<ReadModule, OrNoMemory<Refusal>>
     ensures found { IfOk result (λ t. DerivesTree (atoms_of (map placed_of tokens.now)) (tree_of t.source) (numbered (map placed_of tokens.now))) }
     ensures atoms { IfOk result (λ t. t.atoms ≡ atoms_of (map placed_of tokens.now)) }
 
     // What derives the tokens is read, unless memory runs out.
     ensures only { (m : Tree) → DerivesTree (atoms_of (map placed_of tokens.now)) m (numbered (map placed_of tokens.now)) → IsReadAs m result }
-    ensures fault { IfErr result (IsTreeFault (atoms_of (map placed_of tokens.now)) (numbered (map placed_of tokens.now))) }
+    ensures fault { IfErr result (IsTreeFault (atoms_of (map placed_of tokens.now)) (numbered (map placed_of tokens.now)) end) }
 {
-    let (atoms, found) = match number_tokens(alloc, tokens) {
-        Ok(numbered) => numbered,
-        Err(_) => return Err(TreeFault::Memory),
-    };
+    let (atoms, found) = number_tokens(alloc, tokens)?;
     match read_module(alloc, &atoms, &found) {
         Ok(source) => Ok(ReadModule { source, atoms }),
-        Err(ReadFault::Memory) => Err(TreeFault::Memory),
-        Err(ReadFault::Syntax) => Err(tree_fault(alloc, &atoms, &found)),
+        Err(OrNoMemory::NoMemory) => Err(OrNoMemory::NoMemory),
+        Err(OrNoMemory::Fault(Syntax)) => Err(tree_fault(alloc, &atoms, &found, end)),
     }
 }

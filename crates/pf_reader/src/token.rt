@@ -5,8 +5,9 @@ ghost use Rattle.pf_reader.specs.Parse.{after, atom_in, is, is_word, named, numb
 ghost use Rattle.pf_reader.specs.View.{names_of, kind_of, token_list};
 ghost use Rattle.pf_reader.specs.Given.{Gives};
 
-use crate::fault::ReadFault;
+use crate::fault::{ReadFault, Syntax};
 use crate::numbered_token::{NumberedKind, NumberedToken};
+use pf_fault::OrNoMemory;
 use pf_syntax::Word;
 use pf_terms::{AtomId, AtomTable};
 use pf_tokens::Integer;
@@ -58,7 +59,7 @@ pub(crate) fn behind(
 {
     match skip(tokens, wanted) {
         Some(rest) => Ok(rest),
-        None => Err(ReadFault::Syntax),
+        None => Err(OrNoMemory::Fault(Syntax)),
     }
 }
 
@@ -89,7 +90,7 @@ pub(crate) fn read_name<'a>(
     ensures { Gives (λ x. ((x.0.name.0, x.0.offset), token_list x.1.now)) result (named (names_of context.entry) (token_list tokens.now)) }
 {
     let Some((first, rest)) = tokens.split_first() else {
-        return Err(ReadFault::Syntax);
+        return Err(OrNoMemory::Fault(Syntax));
     };
     match context.atom(first.kind) {
         Some(name) => Ok((
@@ -99,7 +100,7 @@ pub(crate) fn read_name<'a>(
             },
             rest,
         )),
-        None => Err(ReadFault::Syntax),
+        None => Err(OrNoMemory::Fault(Syntax)),
     }
 }
 

@@ -5,19 +5,20 @@ ghost use Rattle.std.specs.List.{All};
 ghost use Rattle.pf_syntax.specs.Source.{NodeTable};
 ghost use Rattle.pf_syntax.specs.SourceOver.{condition_over, ConditionStands, WrittenExpressionStands};
 ghost use Rattle.pf_tokens.specs.declared.marks.Mark.TheVariants.{Comma, CloseParenthesis, Semicolon};
-ghost use Rattle.pf_reader.specs.declared.fault.ReadFault.TheVariants.{Memory};
 ghost use Rattle.pf_reader.specs.NumberedTokens.{mark};
 ghost use Rattle.pf_reader.specs.Grammar.{unguarded};
+ghost use Rattle.pf_reader.specs.ListItems.{item_at};
 ghost use Rattle.pf_reader.specs.Parse.{body, case_of, clause, element, expr, items, level_at, prim, until};
 ghost use Rattle.pf_reader.specs.View.{names_of, token_list};
 ghost use Rattle.pf_reader.specs.Given.{clause_of, written_expression_of, seen, ClauseStands, Gives, Grown};
 
-use crate::fault::ReadFault;
+use crate::fault::{ReadFault, Syntax};
 use crate::numbered_token::{NumberedKind, NumberedToken};
 use crate::operator::operator;
 use crate::part::{Part, put, put_within};
 use crate::token::{Context, behind, skip};
 use crate::written_pattern::{read_match_ahead, read_written_pattern};
+use pf_fault::{NoMemory, OrNoMemory};
 use pf_syntax::{
     Branch, Condition, Source, Tests, Word, WrittenExpressionId, WrittenExpressionNode,
 };
@@ -25,10 +26,9 @@ use pf_tokens::{Mark, Reserved};
 use std::alloc::Global;
 
 /// No guard: one alternative with no test.
-pub(crate) fn unguarded(alloc: Global) -> Result<Condition, ReadFault>
+pub(crate) fn unguarded(alloc: Global) -> Result<Condition, NoMemory>
     ensures meaning { IfOk result (λ g. (b : NodeTable) → condition_over b g ≡ unguarded) }
     ensures stands { IfOk result (λ g. (b : NodeTable) → ConditionStands b g) }
-    ensures err { IfErr result (λ e. e ≡ Memory) }
 {
     let mut alternatives = Vec::new(alloc);
     alternatives.push(Tests {
@@ -52,7 +52,7 @@ fn read_prim<'a>(
     ensures given { Gives (seen source.new.node_table) result (prim (names_of context.entry) limit (token_list tokens.now)) }
 {
     let Some((first, rest)) = tokens.split_first() else {
-        return Err(ReadFault::Syntax);
+        return Err(OrNoMemory::Fault(Syntax));
     };
     let offset = first.at;
     let inner = limit - 1;
@@ -79,7 +79,7 @@ fn read_prim<'a>(
         }
         NumberedKind::Reserved(Reserved::Case) => read_case(alloc, context, source, inner, rest),
         kind => match context.atom(kind) {
-            None => Err(ReadFault::Syntax),
+            None => Err(OrNoMemory::Fault(Syntax)),
             Some(name) => match skip(rest, NumberedKind::Mark(Mark::OpenParenthesis)) {
                 None => put(source, WrittenExpressionNode::Atom(name), rest),
                 Some(rest) => {
@@ -149,7 +149,7 @@ fn read_expr<'a>(
     ensures given { Gives (seen source.new.node_table) result (expr (names_of context.entry) limit (token_list tokens.now)) }
 {
     if limit == 0 {
-        return Err(ReadFault::Syntax);
+        return Err(OrNoMemory::Fault(Syntax));
     }
     read_level(alloc, context, source, 2, limit, tokens)
 }
@@ -168,7 +168,7 @@ fn read_element<'a>(
     ensures given { Gives (seen source.new.node_table) result (element (names_of context.entry) limit (token_list tokens.now)) }
 {
     if limit == 0 {
-        return Err(ReadFault::Syntax);
+        return Err(OrNoMemory::Fault(Syntax));
     }
     match read_match_ahead(context, source, tokens)? {
         None => read_expr(alloc, context, source, limit, tokens),
@@ -180,30 +180,60 @@ fn read_element<'a>(
     }
 }
 
-/// Expressions with commas between them.
+/// What stands between commas.
+#[derive(Clone, Copy)]
+enum Item {
+    /// An expression, which is no match.
+    Expression,
+    /// An element of a body, which may be a match.
+    Element,
+}
+
+/// An expression, or an element of a body.
 #[cycle(written_expression)]
-fn read_expressions<'a>(
+fn read_item<'a>(
     alloc: Global,
     context: Context,
     source: &mut Source,
+    item: Item,
+    limit: u32,
+    tokens: &'a [NumberedToken],
+) -> Result<Part<'a>, ReadFault>
+    ensures grown { Grown source.old source.new }
+    ensures stands { IfOk result (λ x. WrittenExpressionStands source.new.node_table x.written_expression) }
+    ensures given { Gives (seen source.new.node_table) result (item_at (names_of context.entry) item limit (token_list tokens.now)) }
+{
+    match item {
+        Item::Expression => read_expr(alloc, context, source, limit, tokens),
+        Item::Element => read_element(alloc, context, source, limit, tokens),
+    }
+}
+
+/// Expressions, or elements of a body, with commas between them.
+#[cycle(written_expression)]
+fn read_items<'a>(
+    alloc: Global,
+    context: Context,
+    source: &mut Source,
+    item: Item,
     limit: u32,
     tokens: &'a [NumberedToken],
 ) -> Result<(Vec<WrittenExpressionId>, &'a [NumberedToken]), ReadFault>
     ensures grown { Grown source.old source.new }
     ensures stands { IfOk result (λ x. All (WrittenExpressionStands source.new.node_table) x.0.items) }
-    ensures given { Gives (λ x. (map (written_expression_of source.new.node_table) x.0.items, token_list x.1.now)) result (items (mark Comma) (expr (names_of context.entry) limit) (length (token_list tokens.now)) (token_list tokens.now)) }
+    ensures given { Gives (λ x. (map (written_expression_of source.new.node_table) x.0.items, token_list x.1.now)) result (items (mark Comma) (item_at (names_of context.entry) item limit) (length (token_list tokens.now)) (token_list tokens.now)) }
 {
     let mut found = Vec::new(alloc);
     let mut rest = tokens;
     for _ in 0..tokens.len() {
-        let part = read_expr(alloc, context, source, limit, rest)?;
+        let part = read_item(alloc, context, source, item, limit, rest)?;
         found.push(part.written_expression)?;
         let Some(after) = skip(part.rest, NumberedKind::Mark(Mark::Comma)) else {
             return Ok((found, part.rest));
         };
         rest = after;
     }
-    Err(ReadFault::Syntax)
+    Err(OrNoMemory::Fault(Syntax))
 }
 
 /// Expressions with commas between them, or none, before a closing parenthesis.
@@ -222,7 +252,7 @@ fn read_arguments<'a>(
     if let Some(rest) = skip(tokens, NumberedKind::Mark(Mark::CloseParenthesis)) {
         return Ok((Vec::new(alloc), rest));
     }
-    let (arguments, rest) = read_expressions(alloc, context, source, limit, tokens)?;
+    let (arguments, rest) = read_items(alloc, context, source, Item::Expression, limit, tokens)?;
     let rest = behind(rest, NumberedKind::Mark(Mark::CloseParenthesis))?;
     Ok((arguments, rest))
 }
@@ -240,17 +270,7 @@ pub(crate) fn read_body<'a>(
     ensures stands { IfOk result (λ x. All (WrittenExpressionStands source.new.node_table) x.0.items) }
     ensures given { Gives (λ x. (map (written_expression_of source.new.node_table) x.0.items, token_list x.1.now)) result (body (element (names_of context.entry) limit) (token_list tokens.now)) }
 {
-    let mut found = Vec::new(alloc);
-    let mut rest = tokens;
-    for _ in 0..tokens.len() {
-        let part = read_element(alloc, context, source, limit, rest)?;
-        found.push(part.written_expression)?;
-        let Some(after) = skip(part.rest, NumberedKind::Mark(Mark::Comma)) else {
-            return Ok((found, part.rest));
-        };
-        rest = after;
-    }
-    Err(ReadFault::Syntax)
+    read_items(alloc, context, source, Item::Element, limit, tokens)
 }
 
 /// A clause of a `case`: a pattern, an arrow and a body.
@@ -304,7 +324,7 @@ fn read_clauses<'a>(
         };
         rest = after;
     }
-    Err(ReadFault::Syntax)
+    Err(OrNoMemory::Fault(Syntax))
 }
 
 /// What stands behind `case`.

@@ -4,16 +4,16 @@ ghost use Rattle.std.specs.Prelude.{◌≡◌, length, IfErr, IfOk, map, option_
 ghost use Rattle.std.specs.List.{All};
 ghost use Rattle.pf_syntax.specs.SourceOver.{WrittenPatternStands};
 ghost use Rattle.pf_tokens.specs.declared.marks.Mark.TheVariants.{Comma, CloseParenthesis};
-ghost use Rattle.pf_reader.specs.declared.fault.ReadFault.TheVariants.{Memory};
 ghost use Rattle.pf_reader.specs.NumberedTokens.{mark};
 ghost use Rattle.pf_reader.specs.Parse.{items, match_ahead, negative, pattern, until};
 ghost use Rattle.pf_reader.specs.View.{names_of, token_list};
 ghost use Rattle.pf_reader.specs.Given.{seen_written_pattern, written_pattern_of, Gives, Grown};
 
-use crate::fault::ReadFault;
+use crate::fault::{ReadFault, Syntax};
 use crate::numbered_token::{NumberedKind, NumberedToken};
 use crate::part::{WrittenPatternPart, put_written_pattern};
 use crate::token::{Context, behind, read_number, skip};
+use pf_fault::{NoMemory, OrNoMemory};
 use pf_syntax::{Source, Word, WrittenPatternId, WrittenPatternNode};
 use pf_tokens::Mark;
 use std::alloc::Global;
@@ -33,7 +33,7 @@ fn read_negative<'a>(
             WrittenPatternNode::Integer(-(n.value as i64)),
             rest,
         ),
-        None => Err(ReadFault::Syntax),
+        None => Err(OrNoMemory::Fault(Syntax)),
     }
 }
 
@@ -48,7 +48,7 @@ pub(crate) fn read_written_pattern<'a>(
     ensures given { Gives (seen_written_pattern source.new.node_table) result (pattern (names_of context.entry) (token_list tokens.now)) }
 {
     let Some((first, rest)) = tokens.split_first() else {
-        return Err(ReadFault::Syntax);
+        return Err(OrNoMemory::Fault(Syntax));
     };
     let offset = first.at;
     match first.kind {
@@ -66,7 +66,7 @@ pub(crate) fn read_written_pattern<'a>(
         NumberedKind::Mark(Mark::Minus) => read_negative(source, rest),
         kind => match context.atom(kind) {
             Some(atom) => put_written_pattern(source, WrittenPatternNode::Atom(atom), rest),
-            None => Err(ReadFault::Syntax),
+            None => Err(OrNoMemory::Fault(Syntax)),
         },
     }
 }
@@ -76,11 +76,10 @@ pub(crate) fn read_match_ahead<'a>(
     context: Context,
     source: &mut Source,
     tokens: &'a [NumberedToken],
-) -> Result<Option<WrittenPatternPart<'a>>, ReadFault>
+) -> Result<Option<WrittenPatternPart<'a>>, NoMemory>
     ensures grown { Grown source.old source.new }
     ensures stands { IfOk result (λ o. IfSome o (λ p. WrittenPatternStands source.new.node_table p.written_pattern)) }
     ensures given { IfOk result (λ o. option_map (seen_written_pattern source.new.node_table) o ≡ match_ahead (names_of context.entry) (token_list tokens.now)) }
-    ensures err { IfErr result (λ e. e ≡ Memory) }
 {
     match read_written_pattern(context, source, tokens) {
         Ok(part) => match skip(part.rest, NumberedKind::Mark(Mark::Match)) {
@@ -90,8 +89,8 @@ pub(crate) fn read_match_ahead<'a>(
             })),
             None => Ok(None),
         },
-        Err(ReadFault::Syntax) => Ok(None),
-        Err(ReadFault::Memory) => Err(ReadFault::Memory),
+        Err(OrNoMemory::Fault(Syntax)) => Ok(None),
+        Err(OrNoMemory::NoMemory) => Err(NoMemory),
     }
 }
 
@@ -116,7 +115,7 @@ fn read_written_pattern_items<'a>(
         };
         rest = after;
     }
-    Err(ReadFault::Syntax)
+    Err(OrNoMemory::Fault(Syntax))
 }
 
 /// Patterns with commas between them, or none, before a closing parenthesis.

@@ -1,8 +1,11 @@
--- The static rules: all faults of a module, each a number and an offset. E6 is an unbound variable, E7 an unsafe one, E8 a call of
--- an undefined function, E9 a function defined twice or named as a built-in one with its number of arguments, E10 an export of nothing.
+-- The static rules: all faults of a module, each a code and a place.
 use Rattle.std.specs.Prelude.{◌≡◌, ◌⊎◌, ℕ, suc, ◌<◌, ◌≤◌, Bool, true, false, ◌==◌, ◌&&◌, ◌||◌, is_some, if◌then◌else◌, List, [], ◌∷◌, ◌++◌, flat_map, position, Contains, Option, None, codes}
 use Rattle.std.specs.List.{list_any}
 use Rattle.std.specs.Str.{bytes_eq}
+use Rattle.pf_fault.specs.Codes.{rank_of}
+use Rattle.pf_fault.specs.declared.code.Code.{Code}
+use Rattle.pf_fault.specs.declared.code.Code.TheVariants.{Unbound, Unsafe, Undefined, DefinedTwice, ExportOfNothing}
+use Rattle.pf_fault.specs.declared.refusal.Refusal.{Refusal}
 use Rattle.pf_terms.specs.Atoms.{name_of}
 use Rattle.pf_syntax.specs.WrittenPattern as s
 use Rattle.pf_syntax.specs.WrittenPattern.{WrittenPattern, WrittenPatterns, no_written_patterns, written_pattern}
@@ -13,13 +16,9 @@ use Rattle.pf_syntax.specs.Scope.{Scope, no_scope, is_unsafe, is_new, after_writ
 use Rattle.pf_syntax.specs.Naming.{Names, arity_of}
 use Rattle.pf_syntax.specs.WrittenModule.{Tree}
 
-pub record Fault : Type 0 where
-  pub number : ℕ
-  pub offset : ℕ
-
 -- the fault, where the test says so
-abbrev pub fault_if : Bool → ℕ → ℕ → List Fault
-fault_if b number offset = if b then record { number = number; offset = offset } ∷ [] else []
+abbrev pub fault_if : Bool → Code → ℕ → List Refusal
+fault_if b code place = if b then record { code = code; place = place } ∷ [] else []
 
 -- ---- names of functions
 
@@ -56,8 +55,8 @@ is_builtin atoms f arity = list_any (λ b. bytes_eq b.0 (name_of atoms f) && (b.
 -- ---- patterns: an unsafe variable
 
 abbrev mutual
-  pub written_pattern_faults : Scope → WrittenPattern → List Fault
-  written_pattern_faults g (s.variable x at) = fault_if (is_unsafe g x) 7 at
+  pub written_pattern_faults : Scope → WrittenPattern → List Refusal
+  written_pattern_faults g (s.variable x at) = fault_if (is_unsafe g x) Unsafe at
   written_pattern_faults g (s.tuple qs) = written_patterns_faults g qs
   written_pattern_faults g (s.list qs) = written_patterns_faults g qs
   written_pattern_faults g (s.list_on qs q) = written_patterns_faults g qs ++ written_pattern_faults (after_written_patterns g qs) q
@@ -66,7 +65,7 @@ abbrev mutual
   written_pattern_faults g (s.text cs) = []
   written_pattern_faults g s.anything = []
 
-  pub written_patterns_faults : Scope → WrittenPatterns → List Fault
+  pub written_patterns_faults : Scope → WrittenPatterns → List Refusal
   written_patterns_faults g no_written_patterns = []
   written_patterns_faults g (written_pattern q qs) = written_pattern_faults g q ++ written_patterns_faults (after_written_pattern g q) qs
 
@@ -77,17 +76,17 @@ abbrev pub is_defined : Names → ℕ → ℕ → Bool
 is_defined n f arity = is_some (n.own_of f arity) || is_some (n.builtin_of f arity)
 
 abbrev mutual
-  pub written_expression_faults : Names → Scope → WrittenExpression → List Fault
+  pub written_expression_faults : Names → Scope → WrittenExpression → List Refusal
   written_expression_faults n g (p.integer z) = []
   written_expression_faults n g (p.atom a) = []
   written_expression_faults n g (p.text cs) = []
-  written_expression_faults n g (p.variable x at) = fault_if (is_unsafe g x) 7 at ++ fault_if (is_new g x) 6 at
-  written_expression_faults n g (p.anonymous at) = fault_if true 6 at
+  written_expression_faults n g (p.variable x at) = fault_if (is_unsafe g x) Unsafe at ++ fault_if (is_new g x) Unbound at
+  written_expression_faults n g (p.anonymous at) = fault_if true Unbound at
   written_expression_faults n g (p.parentheses a) = written_expression_faults n g a
   written_expression_faults n g (p.tuple es) = written_expressions_faults n g es
   written_expression_faults n g (p.list es) = written_expressions_faults n g es
   written_expression_faults n g (p.list_on es e) = written_expressions_faults n g es ++ written_expression_faults n (after_all g es) e
-  written_expression_faults n g (p.call f at es) = (if is_defined n f (arity_of es) then [] else fault_if true 8 at) ++ written_expressions_faults n g es
+  written_expression_faults n g (p.call f at es) = (if is_defined n f (arity_of es) then [] else fault_if true Undefined at) ++ written_expressions_faults n g es
   written_expression_faults n g (p.binary o a b) = written_expression_faults n g a ++ written_expression_faults n (after g a) b
   written_expression_faults n g (p.negate a) = written_expression_faults n g a
   written_expression_faults n g (p.and_also a b) = written_expression_faults n g a ++ written_expression_faults n (after g a) b
@@ -98,16 +97,16 @@ abbrev mutual
   written_expression_faults n g (p.if_expression bs) = branches_faults n g bs
   written_expression_faults n g (p.receive bs) = branches_faults n g bs
 
-  pub written_expressions_faults : Names → Scope → WrittenExpressions → List Fault
+  pub written_expressions_faults : Names → Scope → WrittenExpressions → List Refusal
   written_expressions_faults n g no_written_expressions = []
   written_expressions_faults n g (written_expression e es) = written_expression_faults n g e ++ written_expressions_faults n (after g e) es
 
-  pub condition_faults : Names → Scope → Condition → List Fault
+  pub condition_faults : Names → Scope → Condition → List Refusal
   condition_faults n g no_tests = []
   condition_faults n g (tests es c) = written_expressions_faults n g es ++ condition_faults n g c
 
   -- each clause begins with what is seen at its construct
-  pub branches_faults : Names → Scope → Branches → List Fault
+  pub branches_faults : Names → Scope → Branches → List Refusal
   branches_faults n g no_branches = []
   branches_faults n g (branch q c es bs) =
       written_pattern_faults g q ++ condition_faults n (after_written_pattern g q) c ++ written_expressions_faults n (after_written_pattern g q) es ++ branches_faults n g bs
@@ -115,26 +114,26 @@ abbrev mutual
 -- ---- modules
 
 -- a clause of a function begins with no variable
-abbrev pub head_faults : Names → Head → List Fault
+abbrev pub head_faults : Names → Head → List Refusal
 head_faults n h =
     written_patterns_faults no_scope h.parameters
     ++ condition_faults n (after_written_patterns no_scope h.parameters) h.condition
     ++ written_expressions_faults n (after_written_patterns no_scope h.parameters) h.body
 
 -- a function whose name and number of arguments an earlier one or a built-in has
-abbrev pub defined_faults : List (List ℕ) → List (List Head) → List (List Head) → List Fault
+abbrev pub defined_faults : List (List ℕ) → List (List Head) → List (List Head) → List Refusal
 defined_faults atoms earlier [] = []
 defined_faults atoms earlier ([] ∷ fs) = defined_faults atoms (earlier ++ [] ∷ []) fs
 defined_faults atoms earlier ((h ∷ hs) ∷ fs) =
-    fault_if (is_some (own_in earlier h.name (parameters_of h.parameters)) || is_builtin atoms h.name (parameters_of h.parameters)) 9 h.offset
+    fault_if (is_some (own_in earlier h.name (parameters_of h.parameters)) || is_builtin atoms h.name (parameters_of h.parameters)) DefinedTwice h.offset
     ++ defined_faults atoms (earlier ++ (h ∷ hs) ∷ []) fs
 
 -- an export of no function
-abbrev pub export_fault : List (List Head) → Export → List Fault
-export_fault fs e = if is_some (own_in fs e.name e.arity) then [] else fault_if true 10 e.offset
+abbrev pub export_fault : List (List Head) → Export → List Refusal
+export_fault fs e = if is_some (own_in fs e.name e.arity) then [] else fault_if true ExportOfNothing e.offset
 
 -- all faults of a module with these atoms
-abbrev pub faults_of : List (List ℕ) → Tree → List Fault
+abbrev pub faults_of : List (List ℕ) → Tree → List Refusal
 faults_of atoms m =
     flat_map (export_fault m.functions) m.exports
     ++ defined_faults atoms [] m.functions
@@ -142,10 +141,10 @@ faults_of atoms m =
 
 -- ---- the first fault
 
--- at a lower offset, or at the same with no higher number
-abbrev pub NotAfter : Fault → Fault → Type 0
-NotAfter a b = (a.offset < b.offset) ⊎ ((a.offset ≡ b.offset) × (a.number ≤ b.number))
+-- at a lower place, or at the same with a code that isn't behind in the table
+abbrev pub NotAfter : Refusal → Refusal → Type 0
+NotAfter a b = (a.place < b.place) ⊎ ((a.place ≡ b.place) × (rank_of a.code ≤ rank_of b.code))
 
--- the fault of the least offset, and of several there that of the least number
-abbrev pub IsFirst : List Fault → Fault → Type 0
-IsFirst faults f = Contains faults f × ((other : Fault) → Contains faults other → NotAfter f other)
+-- the fault of the least place, and of several there the one whose code is the first in the table
+abbrev pub IsFirst : List Refusal → Refusal → Type 0
+IsFirst faults f = Contains faults f × ((other : Refusal) → Contains faults other → NotAfter f other)

@@ -8,7 +8,7 @@ use Rattle.pf_stepper.specs.declared.frame.Focus.{Focus}
 use Rattle.pf_stepper.specs.declared.stack.Stack.{Stack}
 use Rattle.pf_stepper.specs.declared.machine.Machine.TheInside.{Inside}
 
--- the process, unless memory was wanting
+-- the process, unless memory ran out
 abbrev pub process_in : Checked → Stack → Option Focus → Option Process
 process_in m s None = None
 process_in m s (Some x) = Some (stack_process m s x)

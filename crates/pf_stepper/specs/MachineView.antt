@@ -9,7 +9,7 @@ use Rattle.pf_syntax.specs.Code.{coded_tree}
 use Rattle.pf_syntax.specs.Module.{coded_function}
 use Rattle.pf_model.specs.Place.{Process, Running, Ending, Ended, returned, failed, after_values}
 
--- a machine: its pid, the functions that it runs, and its process, None once memory was wanting
+-- a machine: its pid, the functions that it runs, and its process, None once memory ran out
 pub record MachineView : Type 0 where
   pub own : ℕ
   pub program : Program

@@ -45,7 +45,7 @@ impl Stack {
         match self.immediate(code, right)? {
             Some(other) => Ok(MicroStep::Changed(outcome(applied(operator, &value, &other)))),
             None => {
-                self.temps.push(value)?;
+                self.operands.push(value)?;
                 self.wait(Kind::BinaryRight(operator))?;
                 Ok(MicroStep::Same(Focus::Eval(right)))
             }
@@ -64,7 +64,7 @@ impl Stack {
         requires sound { Holds self.old frame }
         ensures { IfOk result (λ t. Gave code.now self.old frame value self.new t) }
     {
-        match self.temps.pop() {
+        match self.operands.pop() {
             Some(left) => Ok(MicroStep::Changed(outcome(applied(operator, &left, &value)))),
             None => Ok(MicroStep::Changed(Focus::Raised(Term::Atom(AtomId::UNDEF)))),
         }
@@ -117,7 +117,7 @@ impl Stack {
         ensures { IfOk result (λ t. Gave code.now self.old frame value self.new t) }
     {
         self.resume(frame);
-        self.temps.push(value)?;
+        self.operands.push(value)?;
         let count = done as usize + 1;
         self.pass(code, function, id, arguments(code, id), count)
     }

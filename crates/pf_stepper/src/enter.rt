@@ -18,7 +18,7 @@ impl Stack {
         function: FunctionId,
         count: usize,
     ) -> Result<MicroStep, NoMemory>
-        requires { Stacked self.old.env.items self.old.temps.items self.old.frames.items count }
+        requires { Stacked self.old.env.items self.old.operands.items self.old.frames.items count }
         ensures { IfOk result (λ t. IsMicroStep code.now self.old (Focus.Enter function count) self.new t) }
     {
         match code.function(function) {
@@ -27,10 +27,10 @@ impl Stack {
                 let end = self.top();
                 self.env.truncate(end);
                 self.base = end;
-                let from = self.temps.len() - count;
+                let from = self.operands.len() - count;
                 let clauses = found.clauses.as_slice();
-                let focus = first_clause(code, clauses, &self.temps[from..], &mut self.env)?;
-                self.temps.truncate(from);
+                let focus = first_clause(code, clauses, &self.operands[from..], &mut self.env)?;
+                self.operands.truncate(from);
                 Ok(MicroStep::Changed(focus))
             }
         }

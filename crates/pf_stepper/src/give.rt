@@ -19,7 +19,7 @@ impl Stack {
         code: &Module,
         value: Term,
     ) -> Result<MicroStep, NoMemory>
-        requires { Stacked self.old.env.items self.old.temps.items self.old.frames.items 0 }
+        requires { Stacked self.old.env.items self.old.operands.items self.old.frames.items 0 }
         ensures { IfOk result (λ t. IsMicroStep code.now self.old (finished value) self.new t) }
     {
         match self.frames.pop() {

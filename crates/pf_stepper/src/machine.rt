@@ -64,7 +64,7 @@ impl Machine {
         let count = args.len();
         let stack = Stack {
             env: Vec::with_capacity(alloc, ROOM)?,
-            temps: args,
+            operands: args,
             frames: Vec::with_capacity(alloc, ROOM)?,
             base: 0,
         };
@@ -83,7 +83,7 @@ impl Machine {
         self.own
     }
 
-    /// One step, or the end of the process, at which it stays. Once memory was wanting, each call answers so.
+    /// One step, or the end of the process, at which it stays. Once memory ran out, each call answers so.
     pub fn advance(&mut self, alloc: Global) -> Result<Move, NoMemory>
         ensures moved { IfOk result (λ m. Moved self.old m self.new) }
         ensures spent { OnErr result (self.new ≡ with_process self.old None) }

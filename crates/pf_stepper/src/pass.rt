@@ -33,7 +33,7 @@ impl Stack {
     ) -> Result<MicroStep, NoMemory>
         requires node { parts_over code.now.tables arguments.now
             ≡ arguments_in (tree_at code.now.tables id.0) }
-        requires stacked { Stacked self.old.env.items self.old.temps.items self.old.frames.items from }
+        requires stacked { Stacked self.old.env.items self.old.operands.items self.old.frames.items from }
         requires inside { self.old.base ≤ length self.old.env.items }
         ensures { IfOk result (λ t. Passed code.now self.old function id from self.new t) }
     {
@@ -41,7 +41,7 @@ impl Stack {
         while count < arguments.len() {
             let argument = arguments[count];
             match self.immediate(code, argument)? {
-                Some(value) => self.temps.push(value)?,
+                Some(value) => self.operands.push(value)?,
                 None => {
                     let done = noted(count)?;
                     self.wait(Kind::Argument(function, id, done))?;

@@ -18,7 +18,7 @@ use pf_terms::{List, NoMemory, Term, copy, equal};
 #[derive(Drop)]
 pub(crate) struct Stack {
     pub(crate) env: Vec<Term>,
-    pub(crate) temps: Vec<Term>,
+    pub(crate) operands: Vec<Term>,
     pub(crate) frames: Vec<Frame>,
     pub(crate) base: usize,
 }
@@ -102,7 +102,7 @@ impl Stack {
         ensures ok { OnOk result (self.new.frames.items
             ≡ self.old.frames.items ++ frame_for kind self.old.base (length self.old.env.items) ∷ []) }
         ensures env { self.new.env ≡ self.old.env }
-        ensures temps { self.new.temps ≡ self.old.temps }
+        ensures operands { self.new.operands ≡ self.old.operands }
         ensures base { self.new.base ≡ self.old.base }
     {
         let frame = self.frame(kind);
@@ -114,7 +114,7 @@ impl Stack {
     #[inline(always)]
     pub(crate) fn resume(&mut self, frame: Frame)
         ensures env { self.new.env.items ≡ take frame.end self.old.env.items }
-        ensures temps { self.new.temps ≡ self.old.temps }
+        ensures operands { self.new.operands ≡ self.old.operands }
         ensures frames { self.new.frames ≡ self.old.frames }
         ensures base { self.new.base ≡ frame.base }
     {

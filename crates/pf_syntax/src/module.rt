@@ -67,7 +67,7 @@ impl Module {
         }
     }
 
-    /// Adds a literal. It fails by want of memory, or where there are 2^32 already; and so the calls below.
+    /// Adds a literal. It fails where memory runs out, or where there are 2^32 already; and so the calls below.
     pub fn add_literal(&mut self, literal: Term) -> Result<LiteralId, NoMemory>
         ensures id { IfOk result (λ l. l.0 ≡ length self.old.tables.literals) }
         ensures added { OnOk result (self.new ≡ with_tables self.old (with_literal self.old.tables (value_of literal))) }

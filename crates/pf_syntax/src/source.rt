@@ -79,7 +79,7 @@ impl Source {
         Ok(())
     }
 
-    /// Adds a pattern after its parts. It fails by want of memory; no source is long enough for the other two cases:
+    /// Adds a pattern after its parts. It fails where memory runs out; no source is long enough for the other two cases:
     /// that there are 2^32 already, or that its tree has 2^32 - 1 nodes or more.
     pub fn add_written_pattern(
         &mut self,

@@ -39,6 +39,37 @@ fn words_of_seeds(rt: HostRuntime) {
     }
 }
 
+// From the same definition: the last of so many words.
+#[test]
+fn words_far_on(rt: HostRuntime) {
+    for (seed, count, last) in [
+        (0, 1_000u32, 0xd046b457usize),
+        (1, 10_000, 0xa9a6636a),
+        (7, 100_000, 0xc19a3884),
+    ] {
+        let mut choices = Choices::seed(seed);
+        let mut word = 0;
+        for _ in 0..count {
+            word = choices.next(WORDS);
+        }
+        assert_eq!(rt; word, last, "of seed {seed}");
+    }
+}
+
+#[test]
+fn a_long_schedule_is_used_up(rt: HostRuntime) -> Result<(), Fail> {
+    let mut numbers = Vec::new(rt.alloc());
+    for number in 0..100_000u32 {
+        numbers.push(number)?;
+    }
+    let mut choices: Choices = Choices::schedule(numbers);
+    for number in 0..100_000usize {
+        assert!(rt; choices.next(WORDS) == number);
+    }
+    assert_eq!(rt; choices.next(WORDS), 0);
+    Ok(())
+}
+
 #[test]
 fn a_schedule_and_then_zeros(rt: HostRuntime) -> Result<(), Fail> {
     let mut choices: Choices = Choices::schedule(vec![in rt.alloc(); 7, 4294967295, 2]?);

@@ -1,15 +1,17 @@
-//! Tests of the crates that know nothing of a module: choices, mail, quotas, tokens, values, atoms, and ends that count and fail.
+//! Tests of the crates that know nothing of a module: choices, mail, quotas, tokens, values, atoms, and streams that count and fail.
 #![tactic(auto)]
 
+#[cfg(test)]
+mod atoms;
 #[cfg(test)]
 mod choices;
 #[cfg(test)]
 mod cutting;
 #[cfg(test)]
-mod ends;
-#[cfg(test)]
 mod mail;
 #[cfg(test)]
 mod quota;
+#[cfg(test)]
+mod streams;
 #[cfg(test)]
 mod values;

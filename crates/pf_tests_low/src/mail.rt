@@ -103,8 +103,36 @@ fn drops_each_item_once(rt: HostRuntime) -> Result<(), Fail> {
     Ok(())
 }
 
+/// Puts so many items at the end.
+fn fill(list: &mut MailList<u32>, pool: &mut Pool<u32>, count: u32) -> Result<(), &'static str> {
+    for item in 0..count {
+        push(list, pool, item)?;
+    }
+    Ok(())
+}
+
 #[test]
-fn keeps_no_more_than_1024(rt: HostRuntime) -> Result<(), Fail> {
+fn spare_nodes_come_back_and_go_out(rt: HostRuntime) -> Result<(), Fail> {
+    let mut pool = Pool::new(rt.alloc());
+    let mut list = MailList::new(rt.alloc());
+    for count in [1000u32, 1024, 1025, 3000] {
+        fill(&mut list, &mut pool, count)?;
+        assert_eq!(rt; (list.len() as u64, pool.len()), (u64::from(count), 0));
+        list.drain_into(&mut pool);
+        assert_eq!(rt;
+            (list.len(), pool.len() as u64),
+            (0, u64::from(count.min(1024)))
+        );
+    }
+    fill(&mut list, &mut pool, 1000)?;
+    assert_eq!(rt; (list.len(), pool.len()), (1000, 24));
+    fill(&mut list, &mut pool, 25)?;
+    assert_eq!(rt; (list.len(), pool.len()), (1025, 0));
+    Ok(())
+}
+
+#[test]
+fn drops_what_a_full_pool_has_no_place_for(rt: HostRuntime) -> Result<(), Fail> {
     let drops = Cell::new(0);
     let mut pool = Pool::new(rt.alloc());
     let mut list = MailList::new(rt.alloc());

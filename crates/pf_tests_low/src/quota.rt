@@ -45,6 +45,32 @@ fn fill_a_project(rt: HostRuntime) -> Result<(), Fail> {
     Ok(())
 }
 
+/// How often the same charge passes, until it is refused.
+fn passes(charge: Charge) -> u32 {
+    let mut usage = Usage::new();
+    let mut count = 0;
+    for _ in 0..100_000 {
+        if usage.charge(charge).is_err() {
+            return count;
+        }
+        count = u32::saturating_add(count, 1);
+    }
+    count
+}
+
+#[test]
+fn charges_pass_up_to_the_limits(rt: HostRuntime) {
+    for (charge, count) in [
+        (Charge::Call, 10_000),
+        (Charge::Module { bytes: 0 }, 16),
+        (Charge::Module { bytes: 65_536 }, 4),
+        (Charge::Trial { steps: 1 }, 64),
+        (Charge::Trial { steps: 100_000 }, 40),
+    ] {
+        assert_eq!(rt; passes(charge), count, "of {charge:?}");
+    }
+}
+
 #[test]
 fn codes(rt: HostRuntime) -> Result<(), Fail> {
     for (refusal, code) in [

@@ -1,18 +1,32 @@
-//! Values: each public call once, the limits at their numbers, the names of the fixed atoms, and drops on small stacks.
+//! Values: each public call once, the limits at their numbers, and drops on small stacks.
 
+use pf_fault::OrNoMemory;
 use pf_terms::{
-    AtomId, AtomTable, List, NoMemory, Term, TermFault, copy, depth, equal, list_of, nodes, order,
-    tuple_of,
+    AtomId, AtomTable, List, Term, TooLarge, copy, depth, equal, list_of, nodes, order, tuple_of,
 };
-use std::alloc::{AllocError, Global};
+use std::alloc::Global;
 use std::cmp::Ordering;
 use std::test::Fail;
 use std::thread::Builder;
 
 fn needs_send<T: Send>(_: &T) {}
 
+/// Whether a value was refused as too large, and for nothing else.
+fn is_too_large<T: Drop>(made: Result<T, OrNoMemory<TooLarge>>) -> bool {
+    matches!(made, Err(OrNoMemory::Fault(TooLarge)))
+}
+
+/// So many zeros.
+fn integers(alloc: Global, count: usize) -> Result<Vec<Term>, Fail> {
+    let mut items = Vec::new(alloc);
+    for _ in 0..count {
+        items.push(Term::Int(0))?;
+    }
+    Ok(items)
+}
+
 /// A list of `len` zeros.
-fn zeros(alloc: Global, len: usize) -> Result<List, TermFault> {
+fn zeros(alloc: Global, len: usize) -> Result<List, Fail> {
     let mut list = List::Nil;
     for _ in 0..len {
         list = List::cons(alloc, Term::Int(0), list)?;
@@ -21,7 +35,7 @@ fn zeros(alloc: Global, len: usize) -> Result<List, TermFault> {
 }
 
 /// A value of depth `levels`, of tuples and lists in turn, with an integer in the middle.
-fn nest(alloc: Global, levels: usize) -> Result<Term, TermFault> {
+fn nest(alloc: Global, levels: usize) -> Result<Term, Fail> {
     let mut term = Term::Int(0);
     for level in 1..levels {
         term = if level % 2 == 0 {
@@ -34,11 +48,11 @@ fn nest(alloc: Global, levels: usize) -> Result<Term, TermFault> {
 }
 
 /// `{Tag, N}`.
-fn pair(alloc: Global, tag: AtomId, n: i64) -> Result<Term, TermFault> {
+fn pair(alloc: Global, tag: AtomId, n: i64) -> Result<Term, Fail> {
     let mut items = Vec::new(alloc);
     items.push(Term::Atom(tag))?;
     items.push(Term::Int(n))?;
-    tuple_of(alloc, items)
+    Ok(tuple_of(alloc, items)?)
 }
 
 #[test]
@@ -58,24 +72,45 @@ fn sizes_count_every_part(rt: HostRuntime) -> Result<(), Fail> {
     Ok(())
 }
 
+// A tuple or a list of n integers has n + 1 nodes.
 #[test]
-fn limits_stand_at_their_numbers(rt: HostRuntime) -> Result<(), Fail> {
+fn most_elements_are_4095(rt: HostRuntime) -> Result<(), Fail> {
     let alloc = rt.alloc();
-    let longest = zeros(alloc, 4095)?;
-    assert!(rt;
-        matches!(
-            List::cons(alloc, Term::Int(0), longest.share()?),
-            Err(TermFault::TooLarge)
-        )
+    assert_eq!(rt; nodes(&tuple_of(alloc, integers(alloc, 4095)?)?), 4096);
+    assert!(rt; is_too_large(tuple_of(alloc, integers(alloc, 4096)?)));
+    assert_eq!(rt;
+        nodes(&Term::List(list_of(alloc, integers(alloc, 4095)?)?)),
+        4096
     );
-    let most = vec![in alloc; Term::List(longest)]?;
-    assert!(rt; matches!(tuple_of(alloc, most), Err(TermFault::TooLarge)));
-    let near = vec![in alloc; Term::List(zeros(alloc, 4094)?)]?;
+    assert!(rt; is_too_large(list_of(alloc, integers(alloc, 4096)?)));
+    let longest = zeros(alloc, 4095)?;
+    assert!(rt; is_too_large(List::cons(alloc, Term::Int(0), longest)));
+    Ok(())
+}
+
+#[test]
+fn nodes_count_within_elements(rt: HostRuntime) -> Result<(), Fail> {
+    let alloc = rt.alloc();
+    let mut near = Vec::new(alloc);
+    near.push(Term::List(zeros(alloc, 4094)?))?;
     assert_eq!(rt; nodes(&tuple_of(alloc, near)?), 4096);
+    let mut past = Vec::new(alloc);
+    past.push(Term::List(zeros(alloc, 4095)?))?;
+    assert!(rt; is_too_large(tuple_of(alloc, past)));
+    Ok(())
+}
+
+#[test]
+fn greatest_depth_is_64(rt: HostRuntime) -> Result<(), Fail> {
+    let alloc = rt.alloc();
     let deepest = nest(alloc, 64)?;
     assert_eq!(rt; depth(&deepest), 64);
-    let deeper = vec![in alloc; deepest]?;
-    assert!(rt; matches!(list_of(alloc, deeper), Err(TermFault::TooLarge)));
+    let mut deeper = Vec::new(alloc);
+    deeper.push(copy(&deepest)?)?;
+    assert!(rt; is_too_large(list_of(alloc, deeper)));
+    let mut deeper = Vec::new(alloc);
+    deeper.push(deepest)?;
+    assert!(rt; is_too_large(tuple_of(alloc, deeper)));
     Ok(())
 }
 
@@ -95,74 +130,58 @@ fn heads_and_tails_are_shared(rt: HostRuntime) -> Result<(), Fail> {
     Ok(())
 }
 
+/// Values without parts, rising in order, where the name of `low` is less than that of `high`.
+fn rising_leaves(alloc: Global, low: AtomId, high: AtomId) -> Result<Vec<Term>, Fail> {
+    let mut rising = Vec::new(alloc);
+    rising.push(Term::Int(-2))?;
+    rising.push(Term::Int(5))?;
+    rising.push(Term::Atom(low))?;
+    rising.push(Term::Atom(high))?;
+    rising.push(Term::Ref(0))?;
+    rising.push(Term::Ref(9))?;
+    rising.push(Term::Pid(0))?;
+    rising.push(Term::Pid(2))?;
+    Ok(rising)
+}
+
+/// Adds tuples, rising in order: the shorter first, and then element by element.
+fn add_tuples(
+    alloc: Global,
+    rising: &mut Vec<Term>,
+    low: AtomId,
+    high: AtomId,
+) -> Result<(), Fail> {
+    rising.push(tuple_of(alloc, integers(alloc, 1)?)?)?;
+    for (tag, n) in [(low, 1), (low, 2), (high, 0)] {
+        rising.push(pair(alloc, tag, n)?)?;
+    }
+    Ok(())
+}
+
+/// Adds lists, rising in order: element by element, with the end first.
+fn add_lists(alloc: Global, rising: &mut Vec<Term>) -> Result<(), Fail> {
+    for len in [0, 2, 3] {
+        rising.push(Term::List(zeros(alloc, len)?))?;
+    }
+    let one = List::cons(alloc, Term::Int(1), List::Nil)?;
+    rising.push(Term::List(one))?;
+    Ok(())
+}
+
 #[test]
 fn order_goes_by_kind_and_content(rt: HostRuntime) -> Result<(), Fail> {
     let alloc = rt.alloc();
     let mut atoms = AtomTable::new(alloc)?;
     let (b, a) = (atoms.enter(alloc, b"b")?, atoms.enter(alloc, b"a")?);
-    let rising = vec![in alloc;
-        Term::Int(-2),
-        Term::Int(5),
-        Term::Atom(a),
-        Term::Atom(b),
-        Term::Ref(0),
-        Term::Ref(9),
-        Term::Pid(0),
-        Term::Pid(2),
-        tuple_of(alloc, vec![in alloc; Term::Int(7)]?)?,
-        pair(alloc, a, 1)?,
-        pair(alloc, a, 2)?,
-        pair(alloc, b, 0)?,
-        Term::List(List::Nil),
-        Term::List(zeros(alloc, 2)?),
-        Term::List(zeros(alloc, 3)?),
-        Term::List(list_of(alloc, vec![in alloc; Term::Int(1)]?)?),
-    ]?;
+    let mut rising = rising_leaves(alloc, a, b)?;
+    add_tuples(alloc, &mut rising, a, b)?;
+    add_lists(alloc, &mut rising)?;
     for (i, x) in rising.iter().enumerate() {
         for (j, y) in rising.iter().enumerate() {
-            assert!(rt; order(x, y, &atoms) == i.cmp(&j));
+            assert!(rt; order(x, y, &atoms) == i.cmp(&j), "{i} {j}");
         }
     }
     assert!(rt; order(&Term::Atom(AtomId(99)), &Term::Atom(a), &atoms) == Ordering::Less);
-    Ok(())
-}
-
-#[test]
-fn fixed_atoms_bear_their_names(rt: HostRuntime) -> Result<(), Fail> {
-    let alloc = rt.alloc();
-    let mut atoms = AtomTable::new(alloc)?;
-    for (atom, name) in [
-        (AtomId::TRUE, "true"),
-        (AtomId::FALSE, "false"),
-        (AtomId::UNDEFINED, "undefined"),
-        (AtomId::NORMAL, "normal"),
-        (AtomId::KILL, "kill"),
-        (AtomId::KILLED, "killed"),
-        (AtomId::NOPROC, "noproc"),
-        (AtomId::PROCESS, "process"),
-        (AtomId::EXIT, "EXIT"),
-        (AtomId::DOWN, "DOWN"),
-        (AtomId::BADARG, "badarg"),
-        (AtomId::BADARITH, "badarith"),
-        (AtomId::BADMATCH, "badmatch"),
-        (AtomId::CASE_CLAUSE, "case_clause"),
-        (AtomId::FUNCTION_CLAUSE, "function_clause"),
-        (AtomId::IF_CLAUSE, "if_clause"),
-        (AtomId::SYSTEM_LIMIT, "system_limit"),
-        (AtomId::UNDEF, "undef"),
-        (AtomId::TRAP_EXIT, "trap_exit"),
-        (AtomId::FLUSH, "flush"),
-    ] {
-        assert_eq!(rt; atoms.name(atom), name.as_bytes());
-        assert!(rt; atoms.find(name.as_bytes()) == Some(atom));
-    }
-    assert_eq!(rt; atoms.len(), 20);
-    assert!(rt; atoms.find(b"m").is_none());
-    assert!(rt; atoms.enter(alloc, b"m")? == AtomId(20));
-    assert!(rt; atoms.enter(alloc, b"m")? == AtomId(20));
-    assert!(rt; atoms.enter(alloc, b"true")? == AtomId::TRUE);
-    assert_eq!(rt; atoms.name(AtomId(21)), b"".as_slice());
-    needs_send(&atoms);
     Ok(())
 }
 
@@ -184,13 +203,10 @@ fn long_and_deep_values_drop_on_a_small_stack(rt: HostRuntime) -> Result<(), Fai
 }
 
 #[test]
-fn faults_print_their_codes(rt: HostRuntime) -> Result<(), AllocError> {
-    let text = format!(in rt.alloc();
-        "{} {} {}",
-        TermFault::TooLarge,
-        TermFault::NoMemory,
-        NoMemory
-    )?;
-    assert_eq!(rt; text.as_str(), "T1 NoMemory NoMemory");
+fn faults_print_their_codes(rt: HostRuntime) -> Result<(), Fail> {
+    let large: OrNoMemory<TooLarge> = OrNoMemory::Fault(TooLarge);
+    let memory: OrNoMemory<TooLarge> = OrNoMemory::NoMemory;
+    let text = format!(in rt.alloc(); "{large} {memory}")?;
+    assert_eq!(rt; text.as_str(), "T1 NoMemory");
     Ok(())
 }

@@ -6,9 +6,9 @@ ghost use Rattle.pf_syntax.specs.Source.{written_pattern_at};
 ghost use Rattle.pf_syntax.specs.SourceOver.{written_pattern_over, written_patterns_at};
 ghost use Rattle.pf_faults.specs.Walking.{SafeWalked, WrittenPatternWalked, WrittenPatternsWalked};
 
-use crate::first::CheckFault;
 use crate::variable_states::Status;
 use crate::walk::Walk;
+use pf_fault::Code;
 use pf_syntax::{Source, Word, WrittenPatternId, WrittenPatternNode};
 use pf_terms::NoMemory;
 
@@ -81,7 +81,7 @@ impl Walk {
         ensures { SafeWalked self.old self.new word.name.0 word.offset }
     {
         if self.variables.status(word.name) == Status::Unsafe {
-            self.first.note(CheckFault::Unsafe, word.offset);
+            self.first.note(Code::Unsafe, word.offset);
         }
     }
 }

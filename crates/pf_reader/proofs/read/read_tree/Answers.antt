@@ -9,16 +9,16 @@ use Rattle.pf_reader.specs.Outcome.{IsTreeFault}
 use Rattle.pf_reader.proofs.Whole.{tree_sound, tree_complete}
 use Rattle.pf_reader.proofs.read.read_tree.Goals as goal
 
-pub returns-in-Ok-read_module-clause-found : goal.returns-in-Ok-read_module-clause-found
-returns-in-Ok-read_module-clause-found c =
+pub returns-in-Ok-clause-found : goal.returns-in-Ok-clause-found
+returns-in-Ok-clause-found c =
     let ts = map placed_of c.args.tokens.now in
-    let read : tree (atoms_of ts) (numbered ts) ≡ Some (tree_of c.in-Ok-read_module.source) = search rules in
-    tree_sound (atoms_of ts) (numbered ts) (tree_of c.in-Ok-read_module.source) read
+    let read : tree (atoms_of ts) (numbered ts) ≡ Some (tree_of c.in-Ok.source) = search rules in
+    tree_sound (atoms_of ts) (numbered ts) (tree_of c.in-Ok.source) read
 
-pub returns-in-Ok-read_module-clause-only : goal.returns-in-Ok-read_module-clause-only
-returns-in-Ok-read_module-clause-only c = λ m d.
+pub returns-in-Ok-clause-only : goal.returns-in-Ok-clause-only
+returns-in-Ok-clause-only c = λ m d.
     let ts = map placed_of c.args.tokens.now in
-    let read : tree (atoms_of ts) (numbered ts) ≡ Some (tree_of c.in-Ok-read_module.source) = search rules in
+    let read : tree (atoms_of ts) (numbered ts) ≡ Some (tree_of c.in-Ok.source) = search rules in
     let whole = tree_complete (atoms_of ts) (numbered ts) m d in
     cc
 
@@ -32,7 +32,7 @@ returns-clause-only c = λ m d.
 pub returns-clause-fault : goal.returns-clause-fault
 returns-clause-fault c =
     let ts = map placed_of c.args.tokens.now in
-    let atoms : c.in-Ok.numbered.0 ≡ atoms_of ts = search rules in
-    let tokens : token_list c.deref-in-Err-Syntax.result.now ≡ numbered ts = search rules in
-    let told = subst (λ us. IsTreeFault c.in-Ok.numbered.0 us c.tree_fault.result) tokens c.tree_fault.ensures in
-    subst (λ names. IsTreeFault names (numbered ts) c.tree_fault.result) atoms told
+    let atoms : c.in_ok-atoms.atoms ≡ atoms_of ts = search rules in
+    let tokens : token_list c.deref-in-Err-Fault.result.now ≡ numbered ts = search rules in
+    let told = subst (λ us. IsTreeFault c.in_ok-atoms.atoms us c.args.end c.tree_fault.result) tokens c.tree_fault.ensures in
+    subst (λ names. IsTreeFault names (numbered ts) c.args.end c.tree_fault.result) atoms told

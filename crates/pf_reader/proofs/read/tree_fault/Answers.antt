@@ -1,4 +1,4 @@
-use Rattle.std.proofs.Common.{◌≡◌, None, rules}
+use Rattle.std.proofs.Common.{◌≡◌, None, refl, rules}
 use Rattle.pf_reader.specs.Parse.{begins}
 use Rattle.pf_reader.specs.View.{token_list}
 use Rattle.pf_reader.proofs.Whole.{tree_complete, begins_complete}
@@ -6,13 +6,15 @@ use Rattle.pf_reader.proofs.Head.{has_head}
 use Rattle.pf_reader.proofs.read.tree_fault.Goals as goal
 
 pub returns-then-is_none : goal.returns-then-is_none
-returns-then-is_none c = λ h.
+returns-then-is_none c =
     let none : begins c.args.atoms.now (token_list c.args.tokens.now) ≡ None = search rules in
-    let some = begins_complete c.args.atoms.now (token_list c.args.tokens.now) h.0 h.1 h.2 in
-    absurd (cc)
+    rw c.refusal.ensures
+    (λ h. let some = begins_complete c.args.atoms.now (token_list c.args.tokens.now) h.0 h.1 h.2 in absurd (cc), refl)
 
 pub returns-in-Ok : goal.returns-in-Ok
-returns-in-Ok c = (
-  has_head c.args.atoms.now (token_list c.args.tokens.now) _ c.first_form.result c.first_form.ensures c.if-is_none.ensures,
-  λ m d. let some = tree_complete c.args.atoms.now (token_list c.args.tokens.now) m d in let none = c.requires in absurd (cc),
-)
+returns-in-Ok c =
+    rw c.refusal-in-Ok.ensures (
+      has_head c.args.atoms.now (token_list c.args.tokens.now) _ c.first_form.result c.first_form.ensures c.if-is_none.ensures,
+      λ m d. let some = tree_complete c.args.atoms.now (token_list c.args.tokens.now) m d in let none = c.requires in absurd (cc),
+      c.in-Ok.ensures,
+    )

@@ -6,6 +6,7 @@ use Rattle.pf_syntax.specs.Operators.{operator_of}
 use Rattle.pf_syntax.proofs.NodeTableExtends.{all_written_expressions_stand}
 use Rattle.pf_tokens.specs.declared.marks.Mark.TheVariants.{Comma, Semicolon, Minus}
 use Rattle.pf_reader.specs.NumberedTokens.{mark}
+use Rattle.pf_reader.specs.ListItems.{item_at}
 use Rattle.pf_reader.specs.Parse.{after, clause, element, expr, level_at, match_ahead, operator}
 use Rattle.pf_reader.specs.View.{names_of, numbered_token_of, token_list}
 use Rattle.pf_reader.specs.Given.{clause_of, written_expression_of, seen_written_pattern, ClauseStands}
@@ -15,31 +16,31 @@ use Rattle.pf_reader.proofs.Kept.{written_expressions_alike, pushed_stands, writ
 use Rattle.pf_reader.proofs.Levels.{more_stops, more_out, more_goes, more_fails, more_deep, levels_more, levels_fail, unary_plain, unary_fails, unary_minus, expr_zero, expr_is, element_zero, element_plain, element_fails, element_match, case_is}
 use Rattle.pf_reader.proofs.written_expression.+written_expression.Goals as goal
 
--- ---- read_expressions
+-- ---- read_items
 
-pub read_expressions-returns-in_err-part-clause-given : goal.read_expressions-returns-in_err-part-clause-given
-read_expressions-returns-in_err-part-clause-given t c =
+pub read_items-returns-in_err-part-clause-given : goal.read_items-returns-in_err-part-clause-given
+read_items-returns-in_err-part-clause-given t c =
     let p = err_from_is_err_and c.from_residual.result c.from_residual.ensures.1 in
     let n = length (token_list c.args.tokens.now) in
     let turn : n - c.loop.counter ≡ suc (n - (c.loop.counter + 1)) = omega (arith, length-map c.args.tokens.now numbered_token_of) in
     rw (p.1, p.2) (fails_as _ _ _ (λ f. loop_fails (mark Comma) _ _ _ _ _ _ turn c.loop.invariant.given f) c.in_err-part.ensures.given)
 
-pub read_expressions-returns-in_default-clause-given : goal.read_expressions-returns-in_default-clause-given
-read_expressions-returns-in_default-clause-given t c =
+pub read_items-returns-in_default-clause-given : goal.read_items-returns-in_default-clause-given
+read_items-returns-in_default-clause-given t c =
     let n = length (token_list c.args.tokens.now) in
     let b = c.loop.source.node_table in
-    let d = c.read_expr.new.source.node_table in
+    let d = c.read_item.new.source.node_table in
     let turn : n - c.loop.counter ≡ suc (n - (c.loop.counter + 1)) = omega (arith, length-map c.args.tokens.now numbered_token_of) in
     let none : after (mark Comma) (token_list c.in_ok-part.part.rest.now) ≡ None = search rules in
     let pushed : c.push.new.self.items ≡ c.loop.found.items ++ c.in_ok-part.part.written_expression ∷ [] = search rules in
     let same = written_expressions_alike b d c.in_ok-part.ensures.grown.node_table c.loop.found.items c.loop.invariant.stands in
-    loop_ends (mark Comma) (expr (names_of c.args.context) c.args.limit) (written_expression_of d) (written_expression_of b) c.loop.found.items c.push.new.self.items c.in_ok-part.part.written_expression _ _ _ _ _ same pushed turn c.loop.invariant.given c.in_ok-part.ensures.given none
+    loop_ends (mark Comma) (item_at (names_of c.args.context) c.args.item c.args.limit) (written_expression_of d) (written_expression_of b) c.loop.found.items c.push.new.self.items c.in_ok-part.part.written_expression _ _ _ _ _ same pushed turn c.loop.invariant.given c.in_ok-part.ensures.given none
 
-pub read_expressions-loop-preserved : goal.read_expressions-loop-preserved
-read_expressions-loop-preserved t c =
+pub read_items-loop-preserved : goal.read_items-loop-preserved
+read_items-loop-preserved t c =
     let n = length (token_list c.args.tokens.now) in
     let b = c.loop.source.node_table in
-    let d = c.read_expr.new.source.node_table in
+    let d = c.read_item.new.source.node_table in
     let on = c.in_ok-part.ensures.grown.node_table in
     let turn : n - c.loop.counter ≡ suc (n - (c.loop.counter + 1)) = omega (arith, length-map c.args.tokens.now numbered_token_of) in
     let next : after (mark Comma) (token_list c.in_ok-part.part.rest.now) ≡ Some (token_list c.in-Some.after.now) = search rules in
@@ -49,54 +50,11 @@ read_expressions-loop-preserved t c =
     record {
       grown = again _ _ _ c.loop.invariant.grown c.in_ok-part.ensures.grown;
       stands = pushed_stands (WrittenExpressionStands d) c.loop.found.items c.push.new.self.items c.in_ok-part.part.written_expression pushed kept c.in_ok-part.ensures.stands;
-      given = loop_goes (mark Comma) (expr (names_of c.args.context) c.args.limit) (written_expression_of d) (written_expression_of b) c.loop.found.items c.push.new.self.items c.in_ok-part.part.written_expression _ _ _ _ _ _ same pushed turn c.loop.invariant.given c.in_ok-part.ensures.given next;
+      given = loop_goes (mark Comma) (item_at (names_of c.args.context) c.args.item c.args.limit) (written_expression_of d) (written_expression_of b) c.loop.found.items c.push.new.self.items c.in_ok-part.part.written_expression _ _ _ _ _ _ same pushed turn c.loop.invariant.given c.in_ok-part.ensures.given next;
     }
 
-pub read_expressions-returns-clause-given : goal.read_expressions-returns-clause-given
-read_expressions-returns-clause-given t c =
-    let n = length (token_list c.args.tokens.now) in
-    let out : n - c.loop.counter ≡ 0 = omega (arith, length-map c.args.tokens.now numbered_token_of) in
-    loop_out (mark Comma) _ _ _ _ _ out c.loop.invariant.given
-
--- ---- read_body
-
-pub read_body-returns-in_err-part-clause-given : goal.read_body-returns-in_err-part-clause-given
-read_body-returns-in_err-part-clause-given t c =
-    let p = err_from_is_err_and c.from_residual.result c.from_residual.ensures.1 in
-    let n = length (token_list c.args.tokens.now) in
-    let turn : n - c.loop.counter ≡ suc (n - (c.loop.counter + 1)) = omega (arith, length-map c.args.tokens.now numbered_token_of) in
-    rw (p.1, p.2) (fails_as _ _ _ (λ f. loop_fails (mark Comma) _ _ _ _ _ _ turn c.loop.invariant.given f) c.in_err-part.ensures.given)
-
-pub read_body-returns-in_default-clause-given : goal.read_body-returns-in_default-clause-given
-read_body-returns-in_default-clause-given t c =
-    let n = length (token_list c.args.tokens.now) in
-    let b = c.loop.source.node_table in
-    let d = c.read_element.new.source.node_table in
-    let turn : n - c.loop.counter ≡ suc (n - (c.loop.counter + 1)) = omega (arith, length-map c.args.tokens.now numbered_token_of) in
-    let none : after (mark Comma) (token_list c.in_ok-part.part.rest.now) ≡ None = search rules in
-    let pushed : c.push.new.self.items ≡ c.loop.found.items ++ c.in_ok-part.part.written_expression ∷ [] = search rules in
-    let same = written_expressions_alike b d c.in_ok-part.ensures.grown.node_table c.loop.found.items c.loop.invariant.stands in
-    loop_ends (mark Comma) (element (names_of c.args.context) c.args.limit) (written_expression_of d) (written_expression_of b) c.loop.found.items c.push.new.self.items c.in_ok-part.part.written_expression _ _ _ _ _ same pushed turn c.loop.invariant.given c.in_ok-part.ensures.given none
-
-pub read_body-loop-preserved : goal.read_body-loop-preserved
-read_body-loop-preserved t c =
-    let n = length (token_list c.args.tokens.now) in
-    let b = c.loop.source.node_table in
-    let d = c.read_element.new.source.node_table in
-    let on = c.in_ok-part.ensures.grown.node_table in
-    let turn : n - c.loop.counter ≡ suc (n - (c.loop.counter + 1)) = omega (arith, length-map c.args.tokens.now numbered_token_of) in
-    let next : after (mark Comma) (token_list c.in_ok-part.part.rest.now) ≡ Some (token_list c.in-Some.after.now) = search rules in
-    let pushed : c.push.new.self.items ≡ c.loop.found.items ++ c.in_ok-part.part.written_expression ∷ [] = search rules in
-    let same = written_expressions_alike b d on c.loop.found.items c.loop.invariant.stands in
-    let kept = all_written_expressions_stand b d on c.loop.found.items c.loop.invariant.stands in
-    record {
-      grown = again _ _ _ c.loop.invariant.grown c.in_ok-part.ensures.grown;
-      stands = pushed_stands (WrittenExpressionStands d) c.loop.found.items c.push.new.self.items c.in_ok-part.part.written_expression pushed kept c.in_ok-part.ensures.stands;
-      given = loop_goes (mark Comma) (element (names_of c.args.context) c.args.limit) (written_expression_of d) (written_expression_of b) c.loop.found.items c.push.new.self.items c.in_ok-part.part.written_expression _ _ _ _ _ _ same pushed turn c.loop.invariant.given c.in_ok-part.ensures.given next;
-    }
-
-pub read_body-returns-clause-given : goal.read_body-returns-clause-given
-read_body-returns-clause-given t c =
+pub read_items-returns-clause-given : goal.read_items-returns-clause-given
+read_items-returns-clause-given t c =
     let n = length (token_list c.args.tokens.now) in
     let out : n - c.loop.counter ≡ 0 = omega (arith, length-map c.args.tokens.now numbered_token_of) in
     loop_out (mark Comma) _ _ _ _ _ out c.loop.invariant.given

@@ -5,7 +5,8 @@ use Rattle.pf_syntax.specs.Source.{written_expression_at}
 use Rattle.pf_syntax.specs.SourceOver.{WrittenExpressionStands}
 use Rattle.pf_tokens.specs.declared.marks.Mark.TheVariants.{Comma, Semicolon}
 use Rattle.pf_reader.specs.NumberedTokens.{mark}
-use Rattle.pf_reader.specs.Parse.{clause, element, expr, items, level_at, more}
+use Rattle.pf_reader.specs.ListItems.{item_at}
+use Rattle.pf_reader.specs.Parse.{clause, element, items, level_at, more}
 use Rattle.pf_reader.specs.View.{names_of, token_list}
 use Rattle.pf_reader.specs.Given.{clause_of, written_expression_of, ClauseStands, with_front, Grown}
 use Rattle.pf_reader.proofs.written_expression.+written_expression.Given as goal
@@ -22,23 +23,26 @@ decreases-read_expr l = 16 * l.limit + 4
 abbrev pub decreases-read_element : goal.decreases-read_element
 decreases-read_element l = 16 * l.limit + 5
 
-abbrev pub decreases-read_expressions : goal.decreases-read_expressions
-decreases-read_expressions l = 16 * l.limit + 5
+abbrev pub decreases-read_item : goal.decreases-read_item
+decreases-read_item l = 16 * l.limit + 6
+
+abbrev pub decreases-read_items : goal.decreases-read_items
+decreases-read_items l = 16 * l.limit + 7
 
 abbrev pub decreases-read_arguments : goal.decreases-read_arguments
-decreases-read_arguments l = 16 * l.limit + 6
+decreases-read_arguments l = 16 * l.limit + 8
 
 abbrev pub decreases-read_body : goal.decreases-read_body
-decreases-read_body l = 16 * l.limit + 6
+decreases-read_body l = 16 * l.limit + 8
 
 abbrev pub decreases-read_clause : goal.decreases-read_clause
-decreases-read_clause l = 16 * l.limit + 7
+decreases-read_clause l = 16 * l.limit + 9
 
 abbrev pub decreases-read_clauses : goal.decreases-read_clauses
-decreases-read_clauses l = 16 * l.limit + 8
+decreases-read_clauses l = 16 * l.limit + 10
 
 abbrev pub decreases-read_case : goal.decreases-read_case
-decreases-read_case l = 16 * l.limit + 9
+decreases-read_case l = 16 * l.limit + 11
 
 -- the operand so far, and what is left, give what the whole gives
 abbrev pub invariant-read_level-loop : goal.invariant-read_level-loop
@@ -49,22 +53,13 @@ invariant-read_level-loop l = record {
       ≡ more (l.level + 1) (level_at (names_of l.fn.context) l.limit (l.level - 1)) l.limit (l.turns - l.counter) (written_expression_at l.source.node_table l.left.written_expression.0) (token_list l.left.rest.now);
 }
 
--- the expressions so far, and what is left, give what the whole gives
-abbrev pub invariant-read_expressions-loop : goal.invariant-read_expressions-loop
-invariant-read_expressions-loop l = record {
+-- the items so far, and what is left, give what the whole gives
+abbrev pub invariant-read_items-loop : goal.invariant-read_items-loop
+invariant-read_items-loop l = record {
   grown : Grown l.fn.source l.source;
   stands : All (WrittenExpressionStands l.source.node_table) l.found.items;
-  given : items (mark Comma) (expr (names_of l.fn.context) l.limit) (length (token_list l.tokens)) (token_list l.tokens)
-      ≡ with_front (map (written_expression_of l.source.node_table) l.found.items) (items (mark Comma) (expr (names_of l.fn.context) l.limit) (length (token_list l.tokens) - l.counter) (token_list l.rest));
-}
-
--- the elements so far, and what is left, give what the whole gives
-abbrev pub invariant-read_body-loop : goal.invariant-read_body-loop
-invariant-read_body-loop l = record {
-  grown : Grown l.fn.source l.source;
-  stands : All (WrittenExpressionStands l.source.node_table) l.found.items;
-  given : items (mark Comma) (element (names_of l.fn.context) l.limit) (length (token_list l.tokens)) (token_list l.tokens)
-      ≡ with_front (map (written_expression_of l.source.node_table) l.found.items) (items (mark Comma) (element (names_of l.fn.context) l.limit) (length (token_list l.tokens) - l.counter) (token_list l.rest));
+  given : items (mark Comma) (item_at (names_of l.fn.context) l.item l.limit) (length (token_list l.tokens)) (token_list l.tokens)
+      ≡ with_front (map (written_expression_of l.source.node_table) l.found.items) (items (mark Comma) (item_at (names_of l.fn.context) l.item l.limit) (length (token_list l.tokens) - l.counter) (token_list l.rest));
 }
 
 -- the clauses so far, and what is left, give what the whole gives

@@ -16,7 +16,7 @@ returns-in-None c =
 pub returns-then-not-branch : goal.returns-then-not-branch
 returns-then-not-branch c =
     let r = c.resume.ensures in
-    rw (r.temps, r.frames, r.base)
+    rw (r.operands, r.frames, r.base)
     (match_fails_as _ _ _ _ _ c.args.frame c.args.value c.requires.sound c.args.id c.args.done _ _
     (ap (patterns_after c.args.done) (sym c.patterns-patterns.ensures) ∙ patterns_some c.args.code.now.tables c.patterns-patterns.result.now c.args.done c.in-Some.pattern.now c.in-Some.ensures.lookup.0 c.in-Some.ensures.lookup.1)
     _ _ r.env _ c.in_ok-fit-in-Some.ensures _ c.requires.kind (search rules) c.in_ok-reason-in-Some.ensures)
@@ -24,7 +24,7 @@ returns-then-not-branch c =
 pub returns-else-done-patterns : goal.returns-else-done-patterns
 returns-else-done-patterns c =
     let r = c.resume.ensures in
-    rw (r.temps, r.frames, r.base)
+    rw (r.operands, r.frames, r.base)
     (match_last_as _ _ _ _ _ c.args.frame c.args.value c.requires.sound c.args.id c.args.done _ _
     (ap (patterns_after c.args.done) (sym c.patterns-patterns.ensures) ∙ patterns_some c.args.code.now.tables c.patterns-patterns.result.now c.args.done c.in-Some.pattern.now c.in-Some.ensures.lookup.0 c.in-Some.ensures.lookup.1)
     _ _ r.env _ c.in_ok-fit-in-Some.ensures c.requires.kind (last_pattern c.args.code.now.tables c.patterns-patterns.result.now c.args.done c.if-done-patterns.false) (search rules))
@@ -33,7 +33,7 @@ pub returns-in_ok-wait-in-Some : goal.returns-in_ok-wait-in-Some
 returns-in_ok-wait-in-Some c =
     let w = c.in_ok-wait-in-Some.ensures in
     let r = c.resume.ensures in
-    rw (w.ok, w.env, w.temps, w.base, r.temps, r.frames, r.base)
+    rw (w.ok, w.env, w.operands, w.base, r.operands, r.frames, r.base)
     (match_more_as _ _ _ _ _ c.args.frame c.args.value c.requires.sound c.args.id c.args.done _ _
     (ap (patterns_after c.args.done) (sym c.patterns-patterns.ensures) ∙ patterns_some c.args.code.now.tables c.patterns-patterns.result.now c.args.done c.in-Some.pattern.now c.in-Some.ensures.lookup.0 c.in-Some.ensures.lookup.1)
     _ _ r.env _ c.in_ok-fit-in-Some.ensures c.requires.kind (more_patterns c.args.code.now.tables c.patterns-patterns.result.now c.args.done c.if-done-patterns.true) (search rules))

@@ -6,7 +6,7 @@ use Rattle.pf_stepper.proofs.stack.Stack.operation.Goals as goal
 pub returns-in_ok-wait-in-Some : goal.returns-in_ok-wait-in-Some
 returns-in_ok-wait-in-Some c =
     let w = c.in_ok-wait-in-Some.ensures in
-    rw (w.ok, w.env, w.temps, w.base)
+    rw (w.ok, w.env, w.operands, w.base)
     (after_slot_node _ _ _ _ _ c.args.id c.requires.sound _ c.requires.found _ _ _ _ refl c.in-Some.ensures.in_scope)
 
 pub returns-in-None : goal.returns-in-None

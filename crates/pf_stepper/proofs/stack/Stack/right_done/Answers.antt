@@ -10,4 +10,4 @@ returns-in-Some c =
     (applies _ _ _ _ _ _ c.in-Some.left c.args.value (rw c.in-Some.ensures.items at c.requires.sound) c.args.operator _ c.requires.kind (rw c.applied.ensures at c.outcome.ensures))
 
 pub returns : goal.returns
-returns c = let z = ap keeps c.requires.kind in absurd (omega (arith, c.in-None.ensures.cases.0, c.args.self.now.temps.ok.0, kept_push c.args.self.now.frames.items c.args.frame))
+returns c = let z = ap keeps c.requires.kind in absurd (omega (arith, c.in-None.ensures.cases.0, c.args.self.now.operands.ok.0, kept_push c.args.self.now.frames.items c.args.frame))

@@ -8,6 +8,6 @@ choose-requires c = rw c.resume.ensures.env (inside_cut c.args.code.now _ _ 0 _ 
 pub returns : goal.returns
 returns c =
     let r = c.resume.ensures in
-    rw (r.temps, r.frames, r.base)
+    rw (r.operands, r.frames, r.base)
     (selects _ _ _ _ _ c.args.frame c.args.value c.requires.sound c.args.id _ _ c.requires.kind
     (rw (← r.env, ← c.clauses-clauses.ensures) c.in_ok-focus.ensures))

@@ -1,0 +1,37 @@
+use Rattle.std.proofs.Common.{◌+◌, ◌≤◌, ◌++◌, ◌∷◌, [], length, take, sym, ap, ◌∙◌, subst, arith}
+use Rattle.std.proofs.lemmas.List.{take_all}
+use Rattle.pf_syntax.specs.SourceOver.{heads_over}
+use Rattle.pf_syntax.specs.Over.{function_over}
+use Rattle.pf_lower.proofs.Knows_more.{next_function, length_mapped}
+use Rattle.pf_lower.proofs.Heads_mean.{EachFunction, one_function_more, functions_are}
+use Rattle.pf_lower.proofs.build.add_each.Goals as goal
+
+pub loop-written-preserved : goal.loop-written-preserved
+loop-written-preserved c =
+    let i = c.loop-written.invariant in
+    let b = c.args.source.now.node_table in
+    let fs = c.args.source.now.functions in
+    let es = c.args.source.now.exports in
+    let d = c.in_ok-one.ensures in
+    let added = c.in_ok-add_function.ensures.added in
+    let k = c.loop-written.written-index in
+    let made = function_over c.function.new.module.tables c.in_ok-one.one in
+    let longer = one_function_more fs es (take k fs) c.loop-written.module.functions (heads_over b c.written-item.result) made i.functions d.answer.means in
+    record {
+      name = ap (λ m. m.name) added ∙ d.grown.name ∙ i.name;
+      atoms = ap (λ m. m.atoms) added ∙ d.grown.atoms ∙ i.atoms;
+      unbound = d.bound_is;
+      functions =
+          subst (EachFunction fs es (take (k + 1) fs)) (sym (ap (λ m. m.functions) added ∙ ap (λ l. l ++ made ∷ []) d.grown.functions))
+          (subst (λ l. EachFunction fs es l (c.loop-written.module.functions ++ made ∷ [])) (sym (next_function b c.functions-written-items.result.now fs k c.written-item.result c.functions-written-items.ensures (omega arith) c.written-item.is)) longer);
+    }
+
+pub returns : goal.returns
+returns c =
+    let i = c.loop-written.invariant in
+    let b = c.args.source.now.node_table in
+    let fs = c.args.source.now.functions in
+    let es = c.args.source.now.exports in
+    let long : length fs ≤ c.loop-written.written-index = omega (arith, ap length c.functions-written-items.ensures, length_mapped (heads_over b) c.functions-written-items.result.now) in
+    let each : EachFunction fs es fs c.loop-written.module.functions = subst (λ l. EachFunction fs es l c.loop-written.module.functions) (take_all c.loop-written.written-index fs long) i.functions in
+    record { name = i.name; atoms = i.atoms; means = functions_are fs es fs c.loop-written.module.functions each }

@@ -1,0 +1,11 @@
+use Rattle.std.proofs.Common.{◌≡◌, take, []}
+use Rattle.pf_lower.proofs.Heads_mean.{EachFunction}
+use Rattle.pf_lower.proofs.build.add_each.Given as goal
+
+abbrev pub invariant-loop-written : goal.invariant-loop-written
+invariant-loop-written l = record {
+  name : l.module.name ≡ l.initial.module.name;
+  atoms : l.module.atoms ≡ l.initial.module.atoms;
+  unbound : l.places ≡ [];
+  functions : EachFunction l.source.functions l.source.exports (take l.written-index l.source.functions) l.module.functions;
+}

@@ -1,0 +1,201 @@
+//! Trees: a module and a source by hand, and long chains that are dropped on small stacks.
+
+ghost use Rattle.std.specs.Prelude.{◌≡◌, ◌+◌, length, OnOk};
+
+use pf_syntax::{
+    Export, Function, FunctionClause, FunctionId, Guard, LiteralId, Module, Node, NodeId, Operator,
+    Part, PatternId, PatternNode, Source, Word, WrittenExpressionId, WrittenExpressionNode,
+    WrittenPatternNode,
+};
+use pf_terms::{AtomId, AtomTable, NoMemory, Term};
+use std::alloc::Global;
+use std::sync::Arc;
+use std::test::Fail;
+use std::thread::Builder;
+
+/// Whether the node is the sum of a node and a literal.
+fn is_sum(node: Option<&Node>, left: NodeId, right: LiteralId) -> bool {
+    match node {
+        Some(Node::Binary(Operator::Plus, Part::Node(a), Part::Literal(b))) => {
+            *a == left && *b == right
+        }
+        _ => false,
+    }
+}
+
+/// Whether the node is the negative of the variable at the first place.
+fn is_negative(node: Option<&Node>) -> bool {
+    matches!(node, Some(Node::Negate(Part::Slot(0))))
+}
+
+#[test]
+fn nodes_are_read_back(rt: HostRuntime) -> Result<(), Fail> {
+    let alloc = rt.alloc();
+    let mut module = Module::new(alloc, AtomId::KILL, AtomTable::new(alloc)?);
+    let seven = module.add_literal(Term::Int(7))?;
+    let negative = module.add_node(Node::Negate(Part::Slot(0)))?;
+    let sum = Node::Binary(Operator::Plus, Part::Node(negative), Part::Literal(seven));
+    let sum = module.add_node(sum)?;
+    assert!(rt; is_sum(module.node(sum), negative, seven));
+    assert!(rt; is_negative(module.node(negative)));
+    Ok(())
+}
+
+#[test]
+fn literals_and_patterns_are_read_back(rt: HostRuntime) -> Result<(), Fail> {
+    let alloc = rt.alloc();
+    let mut module = Module::new(alloc, AtomId::KILL, AtomTable::new(alloc)?);
+    let seven = module.add_literal(Term::Int(7))?;
+    let new = module.add_pattern(PatternNode::New)?;
+    assert!(rt; matches!(module.literal(seven), Some(Term::Int(7))));
+    assert!(rt; matches!(module.pattern(new), Some(PatternNode::New)));
+    assert!(rt; module.pattern(PatternId(1)).is_none());
+    Ok(())
+}
+
+#[test]
+fn a_module_has_its_name_and_atoms(rt: HostRuntime) -> Result<(), Fail> {
+    let alloc = rt.alloc();
+    let mut atoms = AtomTable::new(alloc)?;
+    let f = atoms.enter(alloc, b"f")?;
+    let module = Module::new(alloc, AtomId::KILL, atoms);
+    assert!(rt; module.find(f, 1).is_none());
+    assert_eq!(rt; module.atoms().name(f), b"f".as_slice());
+    assert!(rt; module.name() == AtomId::KILL);
+    Ok(())
+}
+
+#[test]
+fn depths_go_by_the_rules(rt: HostRuntime) -> Result<(), Fail> {
+    let alloc = rt.alloc();
+    let mut source = Source::new(alloc, AtomId::EXIT);
+    let one = source.add_written_expression(WrittenExpressionNode::Integer(1))?;
+    let minus = source.add_written_expression(WrittenExpressionNode::Negate(one))?;
+    let round = source.add_written_expression(WrittenExpressionNode::Parentheses(minus))?;
+    let sum = source.add_written_expression(WrittenExpressionNode::Binary(
+        Operator::Plus,
+        one,
+        round,
+    ))?;
+    assert_eq!(rt; (source.size(one), source.depth(one)), (1, 1));
+    assert_eq!(rt; (source.size(minus), source.depth(minus)), (2, 2));
+    assert_eq!(rt; (source.size(round), source.depth(round)), (3, 3));
+    assert_eq!(rt; (source.size(sum), source.depth(sum)), (5, 4));
+    let five = source.add_written_pattern(WrittenPatternNode::Integer(-5))?;
+    assert_eq!(rt; source.written_pattern_depth(five), 1);
+    let bound = source.add_written_expression(WrittenExpressionNode::Match(five, sum))?;
+    assert_eq!(rt; (source.size(bound), source.depth(bound)), (7, 5));
+    Ok(())
+}
+
+#[test]
+fn parts_may_be_several(rt: HostRuntime) -> Result<(), Fail> {
+    let alloc = rt.alloc();
+    let mut source = Source::new(alloc, AtomId::EXIT);
+    let one = source.add_written_expression(WrittenExpressionNode::Integer(1))?;
+    let word = Word {
+        name: AtomId::DOWN,
+        offset: 8,
+    };
+    let two = source.add_written_expression(WrittenExpressionNode::Call(
+        word,
+        vec![in alloc; one, one]?,
+    ))?;
+    let list = source.add_written_expression(WrittenExpressionNode::List(vec![in alloc;
+        one, two, one,
+    ]?))?;
+    assert_eq!(rt; (source.size(list), source.depth(list)), (6, 3));
+    source.add_export(Export { word, arity: 2 })?;
+    assert_eq!(rt; source.exports().len(), 1);
+    Ok(())
+}
+
+/// Adds the function of one clause, `NAME(..) -> E` over these patterns.
+fn add_identity(alloc: Global, module: &mut Module, name: AtomId) -> Result<FunctionId, NoMemory> {
+    let new = module.add_pattern(PatternNode::New)?;
+    let mut parameters = Vec::new(alloc);
+    parameters.push(new)?;
+    let alternatives = Vec::new(alloc);
+    let mut clauses = Vec::new(alloc);
+    clauses.push(FunctionClause {
+        parameters,
+        guard: Guard { alternatives },
+        body: Part::Slot(0),
+    })?;
+    module.add_function(Function {
+        name,
+        arity: 1,
+        exported: true,
+        clauses,
+    })
+}
+
+#[test]
+fn a_function_is_found_by_name_and_arity(rt: HostRuntime) -> Result<(), Fail> {
+    let alloc = rt.alloc();
+    let mut module = Module::new(alloc, AtomId::KILL, AtomTable::new(alloc)?);
+    let clauses = Vec::new(alloc);
+    module.add_function(Function {
+        name: AtomId::DOWN,
+        arity: 0,
+        exported: false,
+        clauses,
+    })?;
+    let id = add_identity(alloc, &mut module, AtomId::DOWN)?;
+    assert_eq!(rt; module.find(AtomId::DOWN, 1), Some(id));
+    assert_eq!(rt; module.find(AtomId::DOWN, 2), None);
+    assert!(rt; matches!(module.function(id), Some(f) if f.exported && f.clauses.len() == 1));
+    Ok(())
+}
+
+/// An expression of `len` unary minus over 1.
+fn chain(source: &mut Source, len: usize) -> Result<WrittenExpressionId, NoMemory> {
+    let mut top = source.add_written_expression(WrittenExpressionNode::Integer(1))?;
+    for _ in 0..len {
+        top = source.add_written_expression(WrittenExpressionNode::Negate(top))?;
+    }
+    Ok(top)
+}
+
+/// A pattern of a list of `len` elements.
+fn long_pattern(module: &mut Module, len: usize) -> Result<PatternId, NoMemory> {
+    let mut top = module.add_pattern(PatternNode::Nil)?;
+    for _ in 0..len {
+        top = module.add_pattern(PatternNode::Cons(top, top))?;
+    }
+    Ok(top)
+}
+
+/// The depth of an expression of 60,000 unary minus; a pattern of 10,000 elements is made and dropped beside it.
+fn long_and_deep(alloc: Global) -> Result<u32, NoMemory> {
+    let mut source = Source::new(alloc, AtomId::EXIT);
+    let top = chain(&mut source, 60000)?;
+    let mut module = Module::new(alloc, AtomId::EXIT, AtomTable::new(alloc)?);
+    long_pattern(&mut module, 10000)?;
+    Ok(source.depth(top))
+}
+
+#[test]
+fn long_and_deep_trees_drop_on_a_small_stack(rt: HostRuntime) -> Result<(), Fail> {
+    let alloc = rt.alloc();
+    let small = Builder::new().stack_size(64 * 1024);
+    let dropped = small.spawn(&rt, move || -> u32 { long_and_deep(alloc).unwrap_or(0) })?;
+    assert_eq!(rt; dropped.join(&rt), 60001);
+    Ok(())
+}
+
+fn needs_send<T: Send>(_value: &T) {}
+
+#[derive(Drop)]
+struct Run {
+    module: Arc<Module>,
+    at: usize,
+}
+
+fn of_run(run: &Run) {
+    needs_send(run);
+}
+
+fn of_parked(run: &Vec<(Vec<Term>, Arc<Module>)>) {
+    needs_send(run);
+}

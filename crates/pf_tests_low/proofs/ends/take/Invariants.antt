@@ -1,4 +1,0 @@
-use Rattle.pf_tests_low.proofs.ends.take.Given as goal
-
-abbrev pub ghosts-take_by : goal.ghosts-take_by
-ghosts-take_by g a = record { name = a.blank.name; parts = a.blank.parts }

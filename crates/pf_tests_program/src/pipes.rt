@@ -1,0 +1,136 @@
+//! The work of `run` and of `steps` between a reader and a writer in memory that may fail.
+
+ghost use Rattle.std.specs.Prelude.{◌≡◌, ◌<◌};
+
+use pf_command::{RunFault, run_source};
+use pf_terms::{Counted, FailAt};
+use pf_wire::{StepsFault, run_steps};
+use std::alloc::Global;
+use std::io;
+use std::io::{ErrorKind, Write};
+use std::marker::Brand;
+use std::sync::ledger::{Blank, Ledger};
+
+/// A writer that takes at most 7 bytes a call.
+#[derive(Drop)]
+pub struct Narrow {
+    pub taken: Vec<u8>,
+}
+
+impl Write for Narrow {
+    fn write(&mut self, buf: &[u8]) -> io::Result<usize> {
+        let n = buf.len().min(7);
+        if self.taken.extend_from_slice(&buf[..n]).is_err() {
+            return Err(io::Error::from(ErrorKind::OutOfMemory));
+        }
+        Ok(n)
+    }
+
+    fn flush(&mut self) -> io::Result<()> {
+        Ok(())
+    }
+}
+
+/// How the work ended: with a status, or by a fault.
+#[derive(Clone, Copy, Debug, PartialEq, Eq)]
+pub enum Ended {
+    Status(u8),
+    NotRead,
+    NotWritten,
+    NoMemory,
+}
+
+/// What went out, and how the work ended.
+#[derive(Drop)]
+pub struct Worked {
+    pub out: Vec<u8>,
+    pub ended: Ended,
+}
+
+/// The calls of the reader and of the writer that fail, counted from 1, 0 for none.
+#[derive(Clone, Copy)]
+pub struct Failing {
+    pub read: u64,
+    pub write: u64,
+}
+
+fn end_of_run(answer: Result<u8, RunFault>) -> Ended {
+    match answer {
+        Ok(status) => Ended::Status(status),
+        Err(RunFault::Read(_)) => Ended::NotRead,
+        Err(RunFault::Write(_)) => Ended::NotWritten,
+        Err(RunFault::Memory) => Ended::NoMemory,
+    }
+}
+
+fn end_of_steps(answer: Result<u8, StepsFault>) -> Ended {
+    match answer {
+        Ok(status) => Ended::Status(status),
+        Err(StepsFault::Read(_)) => Ended::NotRead,
+        Err(StepsFault::Write(_)) => Ended::NotWritten,
+        Err(StepsFault::Memory) => Ended::NoMemory,
+    }
+}
+
+fn run_by<L: Ledger, M: Ledger>(
+    alloc: Global,
+    words: &[&str],
+    input: &[u8],
+    failing: Failing,
+    reads: Blank,
+    writes: Blank,
+) -> Worked
+    requires reads { reads.name ≡ L.name }
+    requires read_parts { reads.parts ≡ L.parts }
+    requires some_reads { 0 < reads.parts }
+    requires writes { writes.name ≡ M.name }
+    requires write_parts { writes.parts ≡ M.parts }
+    requires some_writes { 0 < writes.parts }
+{
+    let narrow = Narrow {
+        taken: Vec::new(alloc),
+    };
+    let mut reader = Counted::<FailAt<&[u8]>, L>::new(FailAt::new(input, failing.read), reads);
+    let mut writer = Counted::<FailAt<Narrow>, M>::new(FailAt::new(narrow, failing.write), writes);
+    let ended = end_of_run(run_source(alloc, &mut reader, words, &mut writer));
+    let Counted { inner, .. } = writer;
+    let FailAt { inner: narrow, .. } = inner;
+    let Narrow { taken: out } = narrow;
+    Worked { out, ended }
+}
+
+/// Runs the words over a source in memory, with calls that fail.
+pub fn run(alloc: Global, words: &[&str], input: &[u8], failing: Failing) -> Worked {
+    run_by::<Brand, Brand>(alloc, words, input, failing, Blank::new(1), Blank::new(1))
+}
+
+fn carry_out_by<L: Ledger, M: Ledger>(
+    alloc: Global,
+    input: &[u8],
+    failing: Failing,
+    reads: Blank,
+    writes: Blank,
+) -> Worked
+    requires reads { reads.name ≡ L.name }
+    requires read_parts { reads.parts ≡ L.parts }
+    requires some_reads { 0 < reads.parts }
+    requires writes { writes.name ≡ M.name }
+    requires write_parts { writes.parts ≡ M.parts }
+    requires some_writes { 0 < writes.parts }
+{
+    let narrow = Narrow {
+        taken: Vec::new(alloc),
+    };
+    let mut reader = Counted::<FailAt<&[u8]>, L>::new(FailAt::new(input, failing.read), reads);
+    let mut writer = Counted::<FailAt<Narrow>, M>::new(FailAt::new(narrow, failing.write), writes);
+    let ended = end_of_steps(run_steps(alloc, &mut reader, &mut writer));
+    let Counted { inner, .. } = writer;
+    let FailAt { inner: narrow, .. } = inner;
+    let Narrow { taken: out } = narrow;
+    Worked { out, ended }
+}
+
+/// Makes the commands of an input in memory, with calls that fail.
+pub fn carry_out(alloc: Global, input: &[u8], failing: Failing) -> Worked {
+    carry_out_by::<Brand, Brand>(alloc, input, failing, Blank::new(1), Blank::new(1))
+}
