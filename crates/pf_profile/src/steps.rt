@@ -20,11 +20,14 @@ pub fn run_steps<R: Read, W: Write, L: Ledger, M: Ledger>(
 ) -> Result<u8, StepsFault>
     ensures answered { IfOk result (λ status. StepsAnswered profile (R.remaining reader.old.inner)
         (W.contents writer.old.inner) (W.contents writer.new.inner) status) }
-    ensures taken { (bytes : List ℕ) × (length bytes ≤ MOST_BYTES) × Consumes (R.remaining reader.old.inner) (R.remaining reader.new.inner) bytes }
-    ensures counts { OnOk result ((reader.new.failures.total ≡ reader.old.failures.total) × (writer.new.failures.total ≡ writer.old.failures.total)) }
+    ensures taken { (bytes : List ℕ) × (length bytes ≤ MOST_BYTES)
+        × Consumes (R.remaining reader.old.inner) (R.remaining reader.new.inner) bytes }
+    ensures counts { OnOk result ((reader.new.failures.total ≡ reader.old.failures.total)
+        × (writer.new.failures.total ≡ writer.old.failures.total)) }
     ensures fault { IfErr result (λ e. StepsLeaves profile e (R.remaining reader.old.inner)
         (W.contents writer.old.inner) (W.contents writer.new.inner)
-        reader.old.failures.total reader.new.failures.total writer.old.failures.total writer.new.failures.total) }
+        reader.old.failures.total reader.new.failures.total
+        writer.old.failures.total writer.new.failures.total) }
 {
     pf_wire::run_steps(alloc, reader, writer)
 }

@@ -88,7 +88,8 @@ fn answer_front<'a>(
     bytes: &'a [u8],
     number: u64,
 ) -> Result<Answered<'a>, NoMemory>
-    ensures { IfOk result (λ a. AnswersOne bytes.now number book.old a.text.items (option_copied a.rest) book.new) }
+    ensures { IfOk result (λ a.
+        AnswersOne bytes.now number book.old a.text.items (option_copied a.rest) book.new) }
 {
     match read_command(alloc, bytes) {
         Ok((command, rest)) => Ok(Answered {
@@ -109,10 +110,12 @@ fn answer_all<W: Write, M: Ledger>(
     input: &[u8],
     writer: &mut Counted<W, M>,
 ) -> Result<u8, StepsFault>
-    ensures answered { IfOk result (λ status. ForRight (λ p. (text : List ℕ) × StepsText p input.now text status
+    ensures answered { IfOk result (λ status. ForRight (λ p.
+        (text : List ℕ) × StepsText p input.now text status
         × Appends (W.contents writer.old.inner) (W.contents writer.new.inner) text)) }
     ensures kept { OnOk result (writer.new.failures.total ≡ writer.old.failures.total) }
-    ensures fault { IfErr result (λ e. ForRight (λ p. Stops p e input.now (W.contents writer.old.inner) (W.contents writer.new.inner)
+    ensures fault { IfErr result (λ e. ForRight (λ p.
+        Stops p e input.now (W.contents writer.old.inner) (W.contents writer.new.inner)
         writer.old.failures.total writer.new.failures.total)) }
 {
     let mut book = Book::new(alloc);
@@ -144,11 +147,14 @@ pub fn run_steps<R: Read, W: Write, L: Ledger, M: Ledger>(
 ) -> Result<u8, StepsFault>
     ensures answered { IfOk result (λ status. ForRight (λ p. StepsAnswered p (R.remaining reader.old.inner)
         (W.contents writer.old.inner) (W.contents writer.new.inner) status)) }
-    ensures taken { (bytes : List ℕ) × (length bytes ≤ MOST_BYTES) × Consumes (R.remaining reader.old.inner) (R.remaining reader.new.inner) bytes }
-    ensures counts { OnOk result ((reader.new.failures.total ≡ reader.old.failures.total) × (writer.new.failures.total ≡ writer.old.failures.total)) }
+    ensures taken { (bytes : List ℕ) × (length bytes ≤ MOST_BYTES)
+        × Consumes (R.remaining reader.old.inner) (R.remaining reader.new.inner) bytes }
+    ensures counts { OnOk result ((reader.new.failures.total ≡ reader.old.failures.total)
+        × (writer.new.failures.total ≡ writer.old.failures.total)) }
     ensures fault { IfErr result (λ e. ForRight (λ p. StepsLeaves p e (R.remaining reader.old.inner)
         (W.contents writer.old.inner) (W.contents writer.new.inner)
-        reader.old.failures.total reader.new.failures.total writer.old.failures.total writer.new.failures.total)) }
+        reader.old.failures.total reader.new.failures.total
+        writer.old.failures.total writer.new.failures.total)) }
 {
     let mut input = match reader.take_front(alloc, MOST_BYTES) {
         Ok(input) => input,
