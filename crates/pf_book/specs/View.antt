@@ -1,5 +1,5 @@
 -- What the code's calls, replies and notes stand for.
-use Rattle.pf_check.specs.Reads.{number_of}
+use Rattle.pf_fault.specs.Codes.{number_of}
 use Rattle.pf_model.specs.Desk as desk
 use Rattle.pf_book.specs.declared.call.Order.{Order}
 use Rattle.pf_book.specs.declared.call.Call.{Call}

@@ -21,7 +21,7 @@ use crate::plan::{Addition, Plan};
 use crate::refusal::Refusal;
 use crate::reply::{FiledReport, Reply};
 use crate::trial::Trial;
-use pf_check::ReadFault;
+use pf_fault::OrNoMemory;
 use pf_quota::Usage;
 use pf_store::{Source, Store, Stored};
 use pf_terms::NoMemory;
@@ -123,8 +123,8 @@ impl Desk {
                     reply: Reply::Module(number),
                 })
             }
-            Err(ReadFault::Memory) => Err(NoMemory),
-            Err(ReadFault::Refused(refused)) => {
+            Err(OrNoMemory::NoMemory) => Err(NoMemory),
+            Err(OrNoMemory::Fault(refused)) => {
                 let refusal = Refusal::Source(refused.code);
                 let noted = Entry::SubmitRefused(source, refusal);
                 Ok(Plan::reply_alone(noted, Reply::Refused(refusal)))

@@ -1,6 +1,6 @@
 //! Why a call is refused.
 
-use pf_check::Code;
+use pf_fault::Code;
 use std::fmt;
 
 /// Why a call is refused. It prints as its code.

@@ -7,7 +7,7 @@ use Rattle.pf_syntax.specs.WrittenPattern.{WrittenPattern, WrittenPatterns, no_w
 use Rattle.pf_syntax.specs.WrittenExpression as p
 use Rattle.pf_syntax.specs.WrittenExpression.{WrittenExpression, WrittenExpressions, Condition, Branches, no_written_expressions, written_expression, no_branches, branch}
 use Rattle.pf_syntax.specs.Source.{Head}
-use Rattle.pf_reader.specs.NumberedTokens.{NumberedToken}
+use Rattle.pf_numbered.specs.NumberedTokens.{NumberedToken}
 use Rattle.pf_reader.specs.Grammar.{Names, level_of, element, DerivesWrittenPattern, DerivesWrittenPatterns, Derives, DerivesAll, DerivesBody, DerivesBranches, DerivesHead, DerivesFunction, DerivesFunctions, DerivesTree}
 use Rattle.pf_syntax.specs.WrittenModule.{unguarded, Tree}
 use Rattle.pf_rules.specs.Formed.{WrittenPatternFormed, WrittenPatternsFormed, WrittenExpressionFormed, WrittenExpressionsFormed, ConditionFormed, BranchesFormed, HasFirst, HasAlternative, HeadFormed, FunctionFormed, AreFormed}

@@ -4,3 +4,4 @@ pub mod Same
 pub mod Derived
 pub mod AnyOutcome
 pub mod Outcomes
+pub mod Within

@@ -1,42 +1,54 @@
 -- A source whose tokens have a tree is read as its checked module, or as the first fault of that.
-use Rattle.std.proofs.Common.{◌≡◌, ℕ, List, [], subst, sym}
-use Rattle.std.specs.Prelude.{Result, Ok, Err, IfOk, IfErr, Option, Some, IfSome}
+use Rattle.std.proofs.Common.{◌≡◌, ℕ, List, [], subst}
+use Rattle.std.specs.Prelude.{Result, Ok, Err, IfOk, IfErr}
+use Rattle.pf_fault.specs.declared.fault.OrNoMemory.{OrNoMemory}
+use Rattle.pf_fault.specs.declared.fault.OrNoMemory.TheVariants.{NoMemory, Fault}
+use Rattle.pf_fault.specs.declared.refusal.Refusal.{Refusal}
+use Rattle.pf_fault.specs.declared.code.Code.{Code}
+use Rattle.pf_fault.specs.declared.code.Code.TheVariants.{NoHead, NotGrammar}
 use Rattle.pf_tokens.specs.TokenKinds.{Placed}
-use Rattle.pf_tokens.specs.Rules.{HasTokens}
+use Rattle.pf_tokens.specs.Rules.{HasTokens, IsFaultOf}
 use Rattle.pf_syntax.specs.Module.{Checked}
-use Rattle.pf_reader.specs.NumberedTokens.{atoms_of, numbered}
+use Rattle.pf_numbered.specs.NumberedTokens.{atoms_of, numbered}
 use Rattle.pf_reader.specs.Grammar.{DerivesTree}
 use Rattle.pf_syntax.specs.WrittenModule.{Tree}
-use Rattle.pf_check.specs.declared.fault.Code.{Code}
-use Rattle.pf_check.specs.declared.fault.ReadFault.{ReadFault}
-use Rattle.pf_check.specs.declared.fault.ReadFault.TheVariants as faults
-use Rattle.pf_faults.specs.declared.first.Found.{Found}
-use Rattle.pf_rules.specs.Static.{Fault, faults_of, IsFirst}
+use Rattle.pf_reader.specs.Outcome.{IsRefused, IsTreeFault}
+use Rattle.pf_rules.specs.Static.{faults_of}
 use Rattle.pf_rules.specs.Checks.{IsModule}
 use Rattle.pf_rules.specs.Formed.{AreFormed}
 use Rattle.pf_check.proofs.Derived.{tree_formed}
-use Rattle.pf_faults.specs.Earliest.{fault_of, number_of_fault}
-use Rattle.pf_check.specs.Reads.{Reads, static, checked, accepted_as, number_of, IsFirstOf, IsRefusalOf}
+use Rattle.pf_check.specs.Reads.{Reads, token_fault, no_head, no_tree, static, checked, refused, accepted_as, IsFirstOf, IsRefusalOf}
+use Rattle.std.proofs.Common.{length, sym}
 
--- the fault that was found, with its number read off its code
-pub first_with_code : (all : List Fault) (found : Found) (code : Code) → number_of code ≡ number_of_fault found.fault → IsFirst all (fault_of found)
-    → IsFirst all (record { number = number_of code; offset = found.offset })
-first_with_code all found code e h = subst (λ (k : ℕ). IsFirst all (record { number = k; offset = found.offset })) (sym e) h
+-- ---- where there is no tree
 
-pub found_first : (all : List Fault) (o : Option Found) (found : Found) → o ≡ Some found → IfSome o (λ f. IsFirst all (fault_of f)) → IsFirst all (fault_of found)
-found_first all o found e h = subst (λ (x : Option Found). IfSome x (λ f. IsFirst all (fault_of f))) e h
+pub tokens_refused : (bytes : List ℕ) (f : OrNoMemory Refusal) → IsFaultOf bytes f → IsRefusalOf bytes f
+tokens_refused bytes NoMemory h = tt
+tokens_refused bytes (Fault r) h = token_fault r.code r.place h
+
+module _ (bytes : List ℕ) (ts : List Placed) (has : HasTokens bytes ts) where
+  grammar_refused : (code : Code) (place : ℕ) → IsRefused (atoms_of ts) (numbered ts) (length bytes) code place → Reads bytes (refused code place)
+  grammar_refused NoHead place h = subst (λ at. Reads bytes (refused NoHead at)) (sym h.1) (no_head ts has h.0)
+  grammar_refused NotGrammar place h = no_tree ts place has h.0 h.1 h.2
+  grammar_refused _ place h = absurd h
+
+  pub tree_refused : (f : OrNoMemory Refusal) → IsTreeFault (atoms_of ts) (numbered ts) (length bytes) f → IsRefusalOf bytes f
+  tree_refused NoMemory h = tt
+  tree_refused (Fault r) h = grammar_refused r.code r.place h
+
+-- ---- where there is one
 
 module _ (bytes : List ℕ) (ts : List Placed) (atoms : List (List ℕ)) (m : Tree) (has : HasTokens bytes ts) (e : atoms ≡ atoms_of ts) (derives : DerivesTree (atoms_of ts) m (numbered ts)) where
-  pub reads_module : (r : Result Checked ReadFault) → IfOk r (λ c. (faults_of atoms m ≡ []) × (AreFormed m.functions → IsModule atoms m c)) → IfOk r (λ c. Reads bytes (accepted_as c))
+  pub reads_module : (r : Result Checked (OrNoMemory Refusal)) → IfOk r (λ c. (faults_of atoms m ≡ []) × (AreFormed m.functions → IsModule atoms m c)) → IfOk r (λ c. Reads bytes (accepted_as c))
   reads_module (Ok c) h =
-      let and_also = subst (λ (names : List (List ℕ)). (faults_of names m ≡ []) × (AreFormed m.functions → IsModule names m c)) e h in
-      checked ts m c has derives and_also.0 (and_also.1 (tree_formed (atoms_of ts) m (numbered ts) derives))
+      let both = subst (λ (names : List (List ℕ)). (faults_of names m ≡ []) × (AreFormed m.functions → IsModule names m c)) e h in
+      checked ts m c has derives both.0 (both.1 (tree_formed (atoms_of ts) m (numbered ts) derives))
   reads_module (Err f) h = tt
 
-  refused_first : (f : ReadFault) → IsFirstOf (faults_of (atoms_of ts) m) f → IsRefusalOf bytes f
-  refused_first faults.Memory h = tt
-  refused_first (faults.Refused r) h = static ts m _ has derives h
+  refused_first : (f : OrNoMemory Refusal) → IsFirstOf (faults_of (atoms_of ts) m) f → IsRefusalOf bytes f
+  refused_first NoMemory h = tt
+  refused_first (Fault r) h = static ts m r has derives h
 
-  pub reads_fault : (r : Result Checked ReadFault) → IfErr r (IsFirstOf (faults_of atoms m)) → IfErr r (IsRefusalOf bytes)
+  pub reads_fault : (r : Result Checked (OrNoMemory Refusal)) → IfErr r (IsFirstOf (faults_of atoms m)) → IfErr r (IsRefusalOf bytes)
   reads_fault (Ok c) h = tt
   reads_fault (Err f) h = refused_first f (subst (λ (names : List (List ℕ)). IsFirstOf (faults_of names m) f) e h)

@@ -1,6 +1,10 @@
 -- A source is read in one way.
 use Rattle.std.proofs.Common.{◌≡◌, inl, inr, ℕ, Bool, List, [], ◌∷◌, length, Ok, Err, Option, None, Some, refl, sym, ap, ap₂, ◌∙◌, subst, arith}
-use Rattle.pf_tokens.specs.declared.fault.Fault.{Fault}
+use Rattle.pf_fault.specs.Codes.{rank_of}
+use Rattle.pf_fault.specs.declared.code.Code.{Code}
+use Rattle.pf_fault.specs.declared.code.Code.TheVariants.{NoHead, NotGrammar}
+use Rattle.pf_fault.specs.declared.refusal.Refusal.{Refusal}
+use Rattle.pf_fault.proofs.Ranks.{rank_apart}
 use Rattle.pf_tokens.specs.TokenKinds.{Placed}
 use Rattle.pf_tokens.specs.Rules.{HasTokens, HasFault}
 use Rattle.pf_tokens.specs.Scan.{Read}
@@ -9,14 +13,13 @@ use Rattle.pf_syntax.specs.Tree.{Builtin, Function, FunctionClause}
 use Rattle.pf_syntax.specs.Module.{Checked}
 use Rattle.pf_syntax.specs.Source.{Export, Head}
 use Rattle.pf_syntax.specs.Naming.{HeadIs}
-use Rattle.pf_reader.specs.NumberedTokens.{atoms_of, numbered}
+use Rattle.pf_numbered.specs.NumberedTokens.{atoms_of, numbered}
 use Rattle.pf_reader.specs.Grammar.{HasHead, DerivesTree}
 use Rattle.pf_syntax.specs.WrittenModule.{Tree}
 use Rattle.pf_reader.proofs.Whole.{one_tree}
-use Rattle.pf_rules.specs.Static as rules
 use Rattle.pf_rules.specs.Static.{faults_of, names_of, NotAfter, IsFirst}
 use Rattle.pf_rules.specs.Checks.{Pairwise, FunctionIs, IsModule}
-use Rattle.pf_check.specs.Reads.{Outcome, refused, Reads, token_fault, no_head, no_tree, static, checked, SameOutcome, accepted_as, token_number}
+use Rattle.pf_check.specs.Reads.{Outcome, refused, Reads, token_fault, no_head, no_tree, static, checked, SameOutcome, accepted_as}
 use Rattle.pf_check.proofs.Unique.{one_head}
 
 -- ---- tokens
@@ -24,18 +27,18 @@ use Rattle.pf_check.proofs.Unique.{one_head}
 one_list : (ts us : List Placed) → ◌≡◌ {A = Read (List Placed)} (Ok ts) (Ok us) → ts ≡ us
 one_list ts us e = cc
 
-one_error : (f g : Fault) (m n : ℕ) → ◌≡◌ {A = Read (List Placed)} (Err (f, m)) (Err (g, n)) → (f ≡ g) × (m ≡ n)
+one_error : (f g : Code) (m n : ℕ) → ◌≡◌ {A = Read (List Placed)} (Err (f, m)) (Err (g, n)) → (f ≡ g) × (m ≡ n)
 one_error f g m n e =
-    let same : ◌≡◌ {A = Fault × ℕ} (f, m) (g, n) = cc in
-    (ap (λ (p : Fault × ℕ). p.0) same, ap (λ (p : Fault × ℕ). p.1) same)
+    let same : ◌≡◌ {A = Code × ℕ} (f, m) (g, n) = cc in
+    (ap (λ (p : Code × ℕ). p.0) same, ap (λ (p : Code × ℕ). p.1) same)
 
 one_tokens : (text : List ℕ) (ts us : List Placed) → HasTokens text ts → HasTokens text us → us ≡ ts
 one_tokens text ts us a b = one_list us ts (sym (tokens_again text us b) ∙ tokens_again text ts a)
 
-one_fault : (text : List ℕ) (f g : Fault) (m n : ℕ) → HasFault text f m → HasFault text g n → (f ≡ g) × (m ≡ n)
+one_fault : (text : List ℕ) (f g : Code) (m n : ℕ) → HasFault text f m → HasFault text g n → (f ≡ g) × (m ≡ n)
 one_fault text f g m n a b = one_error f g m n (sym (tokens_fail text f m a) ∙ tokens_fail text g n b)
 
-tokens_or_fault : (text : List ℕ) (ts : List Placed) (f : Fault) (m : ℕ) → HasTokens text ts → HasFault text f m → ⊥
+tokens_or_fault : (text : List ℕ) (ts : List Placed) (f : Code) (m : ℕ) → HasTokens text ts → HasFault text f m → ⊥
 tokens_or_fault text ts f m a b =
     let one = tokens_again text ts a in
     let other = tokens_fail text f m b in
@@ -43,16 +46,20 @@ tokens_or_fault text ts f m a b =
 
 -- ---- the first fault
 
-same_place : (f g : rules.Fault) → NotAfter f g → NotAfter g f → (f.number ≡ g.number) × (f.offset ≡ g.offset)
+same_place : (f g : Refusal) → NotAfter f g → NotAfter g f → (f.code ≡ g.code) × (f.place ≡ g.place)
 same_place f g (inl a) (inl b) = absurd (omega (arith, a, b))
 same_place f g (inl a) (inr b) = let e = b.0 in absurd (omega (arith, a, e))
 same_place f g (inr a) (inl b) = let e = a.0 in absurd (omega (arith, b, e))
-same_place f g (inr a) (inr b) = let e = a.1 in let k = b.1 in (omega (arith, e, k), a.0)
+same_place f g (inr a) (inr b) =
+    let e = a.1 in
+    let k = b.1 in
+    let same : rank_of f.code ≡ rank_of g.code = omega (arith, e, k) in
+    (rank_apart f.code g.code same, a.0)
 
-one_first : (all : List rules.Fault) (f g : rules.Fault) → IsFirst all f → IsFirst all g → (f.number ≡ g.number) × (f.offset ≡ g.offset)
+one_first : (all : List Refusal) (f g : Refusal) → IsFirst all f → IsFirst all g → (f.code ≡ g.code) × (f.place ≡ g.place)
 one_first all f g a b = same_place f g (a.1 g b.0) (b.1 f a.0)
 
-none_first : (all : List rules.Fault) (f : rules.Fault) → all ≡ [] → IsFirst all f → ⊥
+none_first : (all : List Refusal) (f : Refusal) → all ≡ [] → IsFirst all f → ⊥
 none_first all f e h =
     let k = h.0.1 in
     let z : length all ≡ 0 = ap length e in
@@ -92,10 +99,10 @@ one_module atoms m c d a b = (
 -- ---- outcomes
 
 module _ (bytes : List ℕ) where
-  fault_only : (f : Fault) (at : ℕ) → HasFault bytes f at → (p : Outcome) → Reads bytes p → SameOutcome (refused (token_number f) at) p
-  fault_only f at h _ (token_fault g to k) = let e = one_fault bytes f g at to h k in (ap token_number e.0, λ _. e.1)
+  fault_only : (f : Code) (at : ℕ) → HasFault bytes f at → (p : Outcome) → Reads bytes p → SameOutcome (refused f at) p
+  fault_only f at h _ (token_fault g to k) = let e = one_fault bytes f g at to h k in (e.0, λ _. e.1)
   fault_only f at h _ (no_head us has none) = absurd (tokens_or_fault bytes us f at has h)
-  fault_only f at h _ (no_tree us to has head none) = absurd (tokens_or_fault bytes us f at has h)
+  fault_only f at h _ (no_tree us to has head none there) = absurd (tokens_or_fault bytes us f at has h)
   fault_only f at h _ (static us m g has derives first) = absurd (tokens_or_fault bytes us f at has h)
   fault_only f at h _ (checked us m c has derives none is) = absurd (tokens_or_fault bytes us f at has h)
 
@@ -110,19 +117,19 @@ module _ (bytes : List ℕ) where
     head_of_tree : (us : List Placed) (m : Tree) → HasTokens bytes us → DerivesTree (atoms_of us) m (numbered us) → HasHead (atoms_of ts) (numbered ts)
     head_of_tree us m k d = let e = tree_here us m k d in (m.name, e.rest, e.begins)
 
-    headless_only : (HasHead (atoms_of ts) (numbered ts) → ⊥) → (p : Outcome) → Reads bytes p → SameOutcome (refused 4 0) p
+    headless_only : (HasHead (atoms_of ts) (numbered ts) → ⊥) → (p : Outcome) → Reads bytes p → SameOutcome (refused NoHead 0) p
     headless_only h _ (token_fault g to k) = absurd (tokens_or_fault bytes ts g to has k)
     headless_only h _ (no_head us k none) = (refl, λ _. refl)
-    headless_only h _ (no_tree us to k head none) = absurd (h (head_here us k head))
+    headless_only h _ (no_tree us to k head none there) = absurd (h (head_here us k head))
     headless_only h _ (static us m g k derives first) = absurd (h (head_of_tree us m k derives))
     headless_only h _ (checked us m c k derives none is) = absurd (h (head_of_tree us m k derives))
 
     treeless_only : (at : ℕ) → HasHead (atoms_of ts) (numbered ts) → ((m : Tree) → DerivesTree (atoms_of ts) m (numbered ts) → ⊥)
-        → (p : Outcome) → Reads bytes p → SameOutcome (refused 5 at) p
+        → (p : Outcome) → Reads bytes p → SameOutcome (refused NotGrammar at) p
     treeless_only at head h _ (token_fault g to k) = absurd (tokens_or_fault bytes ts g to has k)
     treeless_only at head h _ (no_head us k none) =
         absurd (none (subst (λ l. HasHead (atoms_of l) (numbered l)) (sym (one_tokens bytes ts us has k)) head))
-    treeless_only at head h _ (no_tree us to k other none) = (refl, λ not_five. absurd (not_five refl))
+    treeless_only at head h _ (no_tree us to k other none there) = (refl, λ elsewhere. absurd (elsewhere refl))
     treeless_only at head h _ (static us m g k derives first) = absurd (h m (tree_here us m k derives))
     treeless_only at head h _ (checked us m c k derives none is) = absurd (h m (tree_here us m k derives))
 
@@ -144,10 +151,10 @@ module _ (bytes : List ℕ) where
       told_here P us o k d h =
           subst (P (atoms_of ts)) (tree_is us o k d) (subst (λ l. P (atoms_of l) o) (one_tokens bytes ts us has k) h)
 
-      static_only : (f : rules.Fault) → IsFirst (faults_of (atoms_of ts) m) f → (p : Outcome) → Reads bytes p → SameOutcome (refused f.number f.offset) p
+      static_only : (f : Refusal) → IsFirst (faults_of (atoms_of ts) m) f → (p : Outcome) → Reads bytes p → SameOutcome (refused f.code f.place) p
       static_only f first _ (token_fault g to k) = absurd (tokens_or_fault bytes ts g to has k)
       static_only f first _ (no_head us k none) = absurd (no_head_not us k none)
-      static_only f first _ (no_tree us to k head none) = absurd (no_tree_not us k none)
+      static_only f first _ (no_tree us to k head none there) = absurd (no_tree_not us k none)
       static_only f first _ (static us o g k d other) =
           let e = one_first (faults_of (atoms_of ts) m) f g first (told_here (λ atoms tree. IsFirst (faults_of atoms tree) g) us o k d other) in
           (e.0, λ _. e.1)
@@ -157,7 +164,7 @@ module _ (bytes : List ℕ) where
       checked_only : (c : Checked) → faults_of (atoms_of ts) m ≡ [] → IsModule (atoms_of ts) m c → (p : Outcome) → Reads bytes p → SameOutcome (accepted_as c) p
       checked_only c none is _ (token_fault g to k) = absurd (tokens_or_fault bytes ts g to has k)
       checked_only c none is _ (no_head us k h) = absurd (no_head_not us k h)
-      checked_only c none is _ (no_tree us to k head h) = absurd (no_tree_not us k h)
+      checked_only c none is _ (no_tree us to k head h there) = absurd (no_tree_not us k h)
       checked_only c none is _ (static us o g k d other) =
           absurd (none_first (faults_of (atoms_of ts) m) g none (told_here (λ atoms tree. IsFirst (faults_of atoms tree) g) us o k d other))
       checked_only c none is _ (checked us o b k d none_too is_too) =
@@ -166,6 +173,6 @@ module _ (bytes : List ℕ) where
   pub same_outcome : (o p : Outcome) → Reads bytes o → Reads bytes p → SameOutcome o p
   same_outcome _ p (token_fault f at h) r = fault_only f at h p r
   same_outcome _ p (no_head ts has none) r = headless_only ts has none p r
-  same_outcome _ p (no_tree ts at has head none) r = treeless_only ts has at head none p r
+  same_outcome _ p (no_tree ts at has head none there) r = treeless_only ts has at head none p r
   same_outcome _ p (static ts m f has derives first) r = static_only ts has m derives f first p r
   same_outcome _ p (checked ts m c has derives none is) r = checked_only ts has m derives c none is p r

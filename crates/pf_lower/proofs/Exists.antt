@@ -3,6 +3,8 @@ use Rattle.std.proofs.Common.{◌≡◌, ℕ, zero, suc, Bool, true, false, List
 use Rattle.std.specs.Prelude.{slice_get, ◌==◌, ◌||◌, not, nat_eq, is_some, if◌then◌else◌}
 use Rattle.std.proofs.lemmas.Bool.Decides.{nat_tests}
 use Rattle.std.proofs.lemmas.List.Elements.{All-head, All-tail}
+use Rattle.pf_fault.specs.declared.refusal.Refusal.{Refusal}
+use Rattle.pf_fault.specs.declared.code.Code.TheVariants.{Unbound, Undefined, Unsafe}
 use Rattle.pf_terms.specs.Value.{int, atom as atom_value}
 use Rattle.pf_syntax.specs.Pattern.{Pattern, Patterns, any, new, slot, known, tuple_of, no_patterns, pattern}
 use Rattle.pf_syntax.specs.WrittenPattern as s
@@ -15,7 +17,7 @@ use Rattle.pf_syntax.specs.Source.{Export, Head}
 use Rattle.pf_syntax.specs.Scope.{Scope, no_scope, has, is_unsafe, is_new, after_written_pattern, after_written_patterns, after, after_all}
 use Rattle.pf_syntax.specs.Naming as w
 use Rattle.pf_syntax.specs.Naming.{Names, WrittenPatternIs, WrittenPatternsAre, WrittenExpressionIs, WrittenExpressionsAre, ElementIs, BodyIs, GuardIs, BranchesAre, HeadIs, IsPlaceOf, arity_of, behind, ending, conses, conses_of, empty_list, string}
-use Rattle.pf_rules.specs.Static.{Fault, fault_if, parameters_of, is_defined, written_pattern_faults, written_patterns_faults, written_expression_faults, written_expressions_faults, condition_faults, branches_faults, head_faults}
+use Rattle.pf_rules.specs.Static.{fault_if, parameters_of, is_defined, written_pattern_faults, written_patterns_faults, written_expression_faults, written_expressions_faults, condition_faults, branches_faults, head_faults}
 use Rattle.pf_rules.specs.Checks.{Pairwise, FunctionIs, is_exported}
 use Rattle.pf_rules.specs.Formed.{WrittenExpressionFormed, WrittenExpressionsFormed, ConditionFormed, BranchesFormed, HasFirst, HeadFormed, FunctionFormed, AreFormed}
 
@@ -51,12 +53,12 @@ place_of x (y ∷ names) h = by_first (y == x) refl (place_of x names)
     by_first false e further = let i = further (no_or (y == x) (has names x) e h) in (suc i.0, i.1)
 
 -- what two tests leave open
-pub new_by_tests : (at : ℕ) (u b : Bool) → fault_if u 7 at ≡ [] → b ≡ false → IsTrue (not (b || u))
+pub new_by_tests : (at : ℕ) (u b : Bool) → fault_if u Unsafe at ≡ [] → b ≡ false → IsTrue (not (b || u))
 new_by_tests at true b h e = cc
 new_by_tests at false true h e = cc
 new_by_tests at false false h e = refl
 
-pub bound_by_tests : (at : ℕ) (u b : Bool) → fault_if u 7 at ++ fault_if (not (b || u)) 6 at ≡ [] → b ≡ true
+pub bound_by_tests : (at : ℕ) (u b : Bool) → fault_if u Unsafe at ++ fault_if (not (b || u)) Unbound at ≡ [] → b ≡ true
 bound_by_tests at true b h = cc
 bound_by_tests at false true h = refl
 bound_by_tests at false false h = cc
@@ -64,7 +66,7 @@ bound_by_tests at false false h = cc
 module _ (n : Names) where
   -- ---- patterns
 
-  variable_written_pattern : (g : Scope) (x at : ℕ) → fault_if (is_unsafe g x) 7 at ≡ [] → (y : Pattern) × WrittenPatternIs n g (s.variable x at) y
+  variable_written_pattern : (g : Scope) (x at : ℕ) → fault_if (is_unsafe g x) Unsafe at ≡ [] → (y : Pattern) × WrittenPatternIs n g (s.variable x at) y
   variable_written_pattern g x at h = by_bound (has g.bound x) refl
     where
       by_bound : (b : Bool) → has g.bound x ≡ b → (y : Pattern) × WrittenPatternIs n g (s.variable x at) y
@@ -103,14 +105,14 @@ module _ (n : Names) where
   standing false g e x h = (x, h)
   standing true g e x h = (no_patterns, x, w.plain g e x h)
 
-  variable_written_expression : (g : Scope) (x at : ℕ) → fault_if (is_unsafe g x) 7 at ++ fault_if (is_new g x) 6 at ≡ [] → (k : ℕ) × WrittenExpressionIs n g (p.variable x at) (var k)
+  variable_written_expression : (g : Scope) (x at : ℕ) → fault_if (is_unsafe g x) Unsafe at ++ fault_if (is_new g x) Unbound at ≡ [] → (k : ℕ) × WrittenExpressionIs n g (p.variable x at) (var k)
   variable_written_expression g x at h = let k = place_of x g.bound (bound_by_tests at (is_unsafe g x) (has g.bound x) h) in (k.0, w.variable g x at k.0 k.1)
 
-  no_fault_there : (at : ℕ) → fault_if true 6 at ≡ [] → ⊥
+  no_fault_there : (at : ℕ) → fault_if true Unbound at ≡ [] → ⊥
   no_fault_there at h = cc
 
   callee_by : (g : Scope) (f at : ℕ) (es : WrittenExpressions) (xs : Trees) (o : Option ℕ) (b : Option Builtin) → n.own_of f (arity_of es) ≡ o → n.builtin_of f (arity_of es) ≡ b
-      → (if is_some o || is_some b then [] else fault_if true 8 at) ≡ [] → WrittenExpressionsAre n g es xs → (x : Tree) × WrittenExpressionIs n g (p.call f at es) x
+      → (if is_some o || is_some b then [] else fault_if true Undefined at) ≡ [] → WrittenExpressionsAre n g es xs → (x : Tree) × WrittenExpressionIs n g (p.call f at es) x
   callee_by g f at es xs (Some i) b e1 e2 h k = (t.call i xs, w.own g f at i es xs e1 k)
   callee_by g f at es xs None (Some b) e1 e2 h k = (t.builtin b xs, w.builtin g f at b es xs e2 k)
   callee_by g f at es xs None None e1 e2 h k = cc
@@ -134,7 +136,7 @@ module _ (n : Names) where
         let j = some_written_expression false (after_all g es) e f.1 (right_empty (written_expressions_faults n g es) _ h) in
         standing m g _ _ (w.list_on g es e i.0 j.0 i.1 j.1)
     some_written_expression m g (p.call a at es) f h =
-        let undefined : List Fault = if is_defined n a (arity_of es) then [] else fault_if true 8 at in
+        let undefined : List Refusal = if is_defined n a (arity_of es) then [] else fault_if true Undefined at in
         let i = some_written_expressions g es f (right_empty undefined (written_expressions_faults n g es) h) in
         let j = callee_by g a at es i.0 (n.own_of a (arity_of es)) (n.builtin_of a (arity_of es)) refl refl (left_empty undefined (written_expressions_faults n g es) h) i.1 in
         standing m g _ _ j.1

@@ -6,11 +6,10 @@ use Rattle.std.proofs.lemmas.List.{take_more}
 use Rattle.std.proofs.lemmas.Iterator.Adapters.{position_from-zero}
 use Rattle.std.proofs.lemmas.Bool.Decides.{nat_tests}
 use Rattle.pf_syntax.specs.Source.{NodeTable, Head}
-use Rattle.pf_syntax.specs.SourceOver.{written_patterns_at, head_over, heads_over}
-use Rattle.pf_syntax.specs.declared.written.WrittenPatternId.{WrittenPatternId}
+use Rattle.pf_syntax.specs.SourceOver.{head_over, heads_over}
 use Rattle.pf_syntax.specs.declared.written.Head.{Head as HeadNode}
 use Rattle.pf_syntax.specs.declared.written.WrittenFunction.{WrittenFunction}
-use Rattle.pf_rules.specs.Static.{own_in, is_named, parameters_of}
+use Rattle.pf_rules.specs.Static.{own_in, is_named}
 use Rattle.pf_lower.specs.Knows.{same_key}
 use Rattle.pf_lower.specs.Heads.{first_of}
 use Rattle.pf_rules.proofs.Counts.{parameters_length}

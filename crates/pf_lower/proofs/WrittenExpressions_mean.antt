@@ -1,8 +1,9 @@
 -- Expressions: an expression of the grammar binds nothing outside bodies, and what its parts mean is what it means.
-use Rattle.std.proofs.Common.{◌≡◌, ℕ, zero, suc, ◌<◌, ◌≤◌, Bool, true, false, List, [], ◌∷◌, ◌++◌, length, take, get_or, refl, sym, ap, ◌∙◌, subst, arith}
-use Rattle.std.specs.Prelude.{fold, slice_get, Some, None, ◌||◌, not, if◌then◌else◌, is_some, Option}
+use Rattle.std.proofs.Common.{◌≡◌, ℕ, zero, suc, ◌<◌, ◌≤◌, true, false, List, [], ◌∷◌, ◌++◌, length, take, get_or, refl, sym, ap, ◌∙◌, subst, arith}
+use Rattle.std.specs.Prelude.{fold, slice_get, Some, None, ◌||◌, if◌then◌else◌, is_some, Option}
 use Rattle.std.proofs.lemmas.List.{take_all}
 use Rattle.std.proofs.lemmas.List.Elements.{All-nil, All-cons}
+use Rattle.pf_fault.specs.declared.code.Code.TheVariants.{Undefined}
 use Rattle.pf_syntax.specs.WrittenExpression as p
 use Rattle.pf_syntax.specs.WrittenExpression.{WrittenExpression, WrittenExpressions, Branches, no_written_expressions, written_expression, written_expression_depth, written_expressions_depth}
 use Rattle.pf_syntax.specs.Tree as tr
@@ -195,7 +196,7 @@ variable_bound fs g names x at e h = sym (ap (λ n. has n x) e) ∙ bound_by_tes
 pub variable_means : (fs : List (List Head)) (g : Scope) (names : List ℕ) (x at k : ℕ) → g.bound ≡ names → slice_get names k ≡ Some x → WrittenExpressionIs (names_of fs) g (p.variable x at) (var k)
 variable_means fs g names x at k e there = w.variable g x at k (ap (λ n. slice_get n k) e ∙ there)
 
-undefined : (fs : List (List Head)) (f at : ℕ) (n : ℕ) (o : Option ℕ) → o ≡ None → (if is_some o || false then [] else fault_if true 8 at) ≡ [] → ⊥
+undefined : (fs : List (List Head)) (f at : ℕ) (n : ℕ) (o : Option ℕ) → o ≡ None → (if is_some o || false then [] else fault_if true Undefined at) ≡ [] → ⊥
 undefined fs f at n None e h = cc
 undefined fs f at n (Some x) e h = cc
 
@@ -203,7 +204,7 @@ pub call_defined : (fs : List (List Head)) (g : Scope) (f at : ℕ) (es : Writte
 call_defined fs g f at es e h = undefined fs f at (arity_of es) (own_in fs f (arity_of es)) e (left_empty _ (written_expressions_faults (names_of fs) g es) h)
 
 pub call_clean : (fs : List (List Head)) (g : Scope) (f at : ℕ) (es : WrittenExpressions) → written_expression_faults (names_of fs) g (p.call f at es) ≡ [] → written_expressions_faults (names_of fs) g es ≡ []
-call_clean fs g f at es h = right_empty (if is_defined (names_of fs) f (arity_of es) then [] else fault_if true 8 at) _ h
+call_clean fs g f at es h = right_empty (if is_defined (names_of fs) f (arity_of es) then [] else fault_if true Undefined at) _ h
 
 -- ---- several
 

@@ -1,7 +1,8 @@
 -- Patterns: what each of several means is what they mean together.
-use Rattle.std.proofs.Common.{◌≡◌, ℕ, zero, suc, ◌<◌, ◌≤◌, length, take, get_or, arith, Bool, true, false, List, [], ◌∷◌, ◌++◌, refl, sym, ap, ◌∙◌, subst, IsTrue}
+use Rattle.std.proofs.Common.{◌≡◌, ℕ, zero, suc, ◌<◌, ◌≤◌, length, take, get_or, arith, Bool, true, false, List, [], ◌∷◌, ◌++◌, refl, sym, ap, ◌∙◌, subst}
 use Rattle.std.specs.Prelude.{fold, not, ◌||◌, if◌then◌else◌, slice_get, Some}
 use Rattle.std.proofs.lemmas.List.Elements.{All-nil, All-cons}
+use Rattle.pf_fault.specs.declared.code.Code.TheVariants.{Unsafe}
 use Rattle.pf_syntax.specs.WrittenPattern as s
 use Rattle.pf_syntax.specs.WrittenPattern.{WrittenPattern, WrittenPatterns, no_written_patterns, written_pattern, written_pattern_depth, written_patterns_depth}
 use Rattle.pf_syntax.specs.Pattern.{new, slot, known, tuple_of}
@@ -35,7 +36,7 @@ right_empty (x ∷ xs) ys h = cc
 
 -- ---- what is bound
 
-by_tests : (g : Scope) (x at : ℕ) (u b : Bool) → fault_if u 7 at ≡ []
+by_tests : (g : Scope) (x at : ℕ) (u b : Bool) → fault_if u Unsafe at ≡ []
     → (if not (b || u) then record { bound = g.bound ++ x ∷ []; unsafe = g.unsafe } else g).bound ≡ (if b then g.bound else g.bound ++ x ∷ [])
 by_tests g x at true b h = cc
 by_tests g x at false true h = refl

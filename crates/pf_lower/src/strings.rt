@@ -6,7 +6,8 @@ ghost use Rattle.pf_terms.specs.Term.{value_of, values_of};
 ghost use Rattle.pf_syntax.specs.Naming as spec;
 ghost use Rattle.pf_syntax.specs.Naming.{characters};
 
-use pf_terms::{NoMemory, Term, TermFault, list_of};
+use pf_fault::OrNoMemory;
+use pf_terms::{NoMemory, Term, TooLarge, list_of};
 use std::alloc::Global;
 
 /// A code, as an integer.
@@ -32,7 +33,7 @@ pub(crate) fn string(alloc: Global, codes: &[u8]) -> Result<Option<Term>, NoMemo
 {
     match list_of(alloc, integers(alloc, codes)?) {
         Ok(list) => Ok(Some(Term::List(list))),
-        Err(TermFault::TooLarge) => Ok(None),
-        Err(TermFault::NoMemory) => Err(NoMemory),
+        Err(OrNoMemory::Fault(TooLarge)) => Ok(None),
+        Err(OrNoMemory::NoMemory) => Err(NoMemory),
     }
 }

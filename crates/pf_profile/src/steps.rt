@@ -5,8 +5,9 @@ ghost use Rattle.std.specs.Io.KnownBytes.{Consumes};
 ghost use Rattle.pf_wire.specs.Steps.{StepsAnswered, StepsLeaves};
 ghost use Rattle.pf_profile.specs.Profile.{profile};
 
-use pf_terms::Counted;
-use pf_wire::{MOST_BYTES, StepsFault};
+use pf_fault::OrNoMemory;
+use pf_terms::{Counted, StreamFault};
+use pf_wire::MOST_BYTES;
 use std::alloc::Global;
 use std::io::{Read, Write};
 use std::sync::ledger::Ledger;
@@ -17,7 +18,7 @@ pub fn run_steps<R: Read, W: Write, L: Ledger, M: Ledger>(
     alloc: Global,
     reader: &mut Counted<R, L>,
     writer: &mut Counted<W, M>,
-) -> Result<u8, StepsFault>
+) -> Result<u8, OrNoMemory<StreamFault>>
     ensures answered { IfOk result (λ status. StepsAnswered profile (R.remaining reader.old.inner)
         (W.contents writer.old.inner) (W.contents writer.new.inner) status) }
     ensures taken { (bytes : List ℕ) × (length bytes ≤ MOST_BYTES)

@@ -7,7 +7,7 @@ use Rattle.pf_tokens.specs.declared.words.Reserved.TheVariants as words
 use Rattle.pf_syntax.specs.Tree.{Operator}
 use Rattle.pf_syntax.specs.WrittenExpression as p
 use Rattle.pf_syntax.specs.WrittenExpression.{WrittenExpression, WrittenExpressions, Branches, written_expression_depth, written_expressions_depth, branches_depth}
-use Rattle.pf_reader.specs.NumberedTokens.{atom, mark, reserved, NumberedToken}
+use Rattle.pf_numbered.specs.NumberedTokens.{atom, mark, reserved, NumberedToken}
 use Rattle.pf_reader.specs.Grammar.{Names, IsAtom, level_of, top, element as body_level, Derives}
 use Rattle.pf_reader.specs.Parse.{Parse, Clause, after, atom_in, until, operator, within, more_step, more, unary, levels, call_step, body, clause, prim_with, match_ahead, element_step, expr_with, expr, element}
 use Rattle.pf_reader.proofs.Single.{after_here, atom_in_is, operator_here, level_low, level_high}

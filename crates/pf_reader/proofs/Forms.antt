@@ -6,7 +6,7 @@ use Rattle.pf_tokens.specs.declared.marks.Mark.TheVariants as marks
 use Rattle.pf_syntax.specs.WrittenPattern.{WrittenPattern}
 use Rattle.pf_syntax.specs.WrittenExpression.{WrittenExpression}
 use Rattle.pf_syntax.specs.Source.{Export, Head}
-use Rattle.pf_reader.specs.NumberedTokens.{dot, mark, NumberedToken}
+use Rattle.pf_numbered.specs.NumberedTokens.{dot, mark, NumberedToken}
 use Rattle.pf_reader.specs.Grammar.{Names, element as body_level, unguarded, max_depth, DerivesWrittenPattern, DerivesHead, DerivesFunction, DerivesFunctions, DerivesEntry, DerivesEntries, DerivesExport, DerivesExports}
 use Rattle.pf_reader.specs.Parse.{after, named, number, word, until, written_patterns_of, written_expressions_of, pattern, body, element, head, function, functions, entry, export, exports_step, exports}
 use Rattle.pf_reader.proofs.Single.{bind_some, some_is, after_some, after_here, atom_no_mark, named_some, named_is, number_some, number_is, word_some, word_is}

@@ -4,7 +4,7 @@ use Rattle.pf_tokens.specs.declared.marks.Mark.TheVariants as marks
 use Rattle.pf_syntax.specs.WrittenPattern.{WrittenPattern, written_pattern_depth}
 use Rattle.pf_syntax.specs.WrittenExpression as p
 use Rattle.pf_syntax.specs.WrittenExpression.{WrittenExpression, WrittenExpressions, Condition, Branches, no_written_expressions, written_expression, no_branches, branch, written_expression_depth, written_expressions_depth, condition_depth, branches_depth}
-use Rattle.pf_reader.specs.NumberedTokens.{mark, NumberedToken}
+use Rattle.pf_numbered.specs.NumberedTokens.{mark, NumberedToken}
 use Rattle.pf_reader.specs.Grammar.{Names, Apart, top, element, unguarded, DerivesWrittenPattern, Derives, DerivesAll, DerivesBody, DerivesBranches}
 use Rattle.pf_reader.specs.Parse.{Clause, written_expressions_of, branches_of}
 use Rattle.pf_reader.proofs.Lists.{Separated, Several}

@@ -2,7 +2,7 @@
 use Rattle.std.proofs.Common.{◌≡◌, ℕ, List, Option, Some, None, true, sym}
 use Rattle.std.specs.Prelude.{option_map}
 use Rattle.std.specs.Option.{is_some}
-use Rattle.pf_reader.specs.NumberedTokens.{NumberedToken}
+use Rattle.pf_numbered.specs.NumberedTokens.{NumberedToken}
 use Rattle.pf_reader.specs.Grammar.{HasHead}
 use Rattle.pf_reader.specs.Parse.{begins}
 use Rattle.pf_reader.proofs.Whole.{begins_sound}

@@ -6,7 +6,7 @@ use Rattle.pf_syntax.specs.Tree.{Operator}
 use Rattle.pf_syntax.specs.WrittenPattern.{WrittenPattern}
 use Rattle.pf_syntax.specs.WrittenExpression as p
 use Rattle.pf_syntax.specs.WrittenExpression.{WrittenExpression, WrittenExpressions, Branches}
-use Rattle.pf_reader.specs.NumberedTokens.{NumberedToken, mark, reserved}
+use Rattle.pf_numbered.specs.NumberedTokens.{NumberedToken, mark, reserved}
 use Rattle.pf_reader.specs.Grammar.{Names}
 use Rattle.pf_reader.specs.Parse.{Parse, Clause, after, operator, within, more_step, more, unary, levels, prim, level_at, expr, element, element_step, match_ahead, items, clause, branches_of, case_of}
 

@@ -12,7 +12,4 @@ pub mod Items
 pub mod Kept
 pub mod Levels
 pub mod Turns
-pub mod Numbers
-pub mod Numbering
 pub mod Head
-pub mod Places

@@ -4,7 +4,7 @@ use Rattle.std.specs.Prelude.{ℤ, pos, neg_ℤ, nat_eq}
 use Rattle.pf_tokens.specs.declared.marks.Mark.TheVariants as marks
 use Rattle.pf_syntax.specs.WrittenPattern as s
 use Rattle.pf_syntax.specs.WrittenPattern.{WrittenPattern, WrittenPatterns, no_written_patterns, written_pattern, written_pattern_depth, written_patterns_depth}
-use Rattle.pf_reader.specs.NumberedTokens.{NumberedKind, integer, atom, variable, anonymous, text, own_module, dot, mark, reserved, NumberedToken}
+use Rattle.pf_numbered.specs.NumberedTokens.{NumberedKind, integer, atom, variable, anonymous, text, own_module, dot, mark, reserved, NumberedToken}
 use Rattle.pf_reader.specs.Grammar.{Names, IsAtom, IsOne, Behind, DerivesWrittenPattern, DerivesWrittenPatterns}
 use Rattle.pf_reader.specs.Parse.{mark_code, atom_in, number, written_patterns_of, atom_written_pattern, negative, written_pattern_kind, pattern}
 use Rattle.pf_reader.proofs.Single.{bind_some, same_mark, atom_in_some, atom_in_is, atom_no_mark, number_some}

@@ -10,7 +10,7 @@ use Rattle.pf_tokens.specs.declared.marks.Mark.TheVariants as marks
 use Rattle.pf_tokens.specs.declared.words.Reserved.{Reserved}
 use Rattle.pf_tokens.specs.declared.words.Reserved.TheVariants as words
 use Rattle.pf_syntax.specs.Tree.{Operator, times}
-use Rattle.pf_reader.specs.NumberedTokens.{NumberedKind, integer, atom, own_module, dot, mark, reserved, NumberedToken}
+use Rattle.pf_numbered.specs.NumberedTokens.{NumberedKind, integer, atom, own_module, dot, mark, reserved, NumberedToken}
 use Rattle.pf_reader.specs.Grammar.{Names, IsAtom, IsWord, op_of, level_of}
 use Rattle.pf_reader.specs.Parse.{◌>>=◌, mark_code, reserved_code, is, after, atom_in, named, number_kind, number, is_word, word, at_level, operator}
 

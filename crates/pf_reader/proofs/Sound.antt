@@ -8,7 +8,7 @@ use Rattle.pf_syntax.specs.Tree.{Operator}
 use Rattle.pf_syntax.specs.WrittenPattern.{WrittenPattern}
 use Rattle.pf_syntax.specs.WrittenExpression as p
 use Rattle.pf_syntax.specs.WrittenExpression.{WrittenExpression, WrittenExpressions, written_expression_depth, written_expressions_depth}
-use Rattle.pf_reader.specs.NumberedTokens.{NumberedKind, integer, atom, variable, anonymous, text, own_module, dot, mark, reserved, NumberedToken}
+use Rattle.pf_numbered.specs.NumberedTokens.{NumberedKind, integer, atom, variable, anonymous, text, own_module, dot, mark, reserved, NumberedToken}
 use Rattle.pf_reader.specs.Grammar.{Names, IsAtom, level_of, top, element as body_level, DerivesWrittenPattern, Derives}
 use Rattle.pf_reader.specs.Parse.{
   ◌>>=◌,

@@ -8,7 +8,7 @@ use Rattle.pf_syntax.specs.WrittenPattern as s
 use Rattle.pf_syntax.specs.WrittenPattern.{WrittenPattern}
 use Rattle.pf_syntax.specs.WrittenExpression as p
 use Rattle.pf_syntax.specs.WrittenExpression.{WrittenExpression, written_expression_depth}
-use Rattle.pf_reader.specs.NumberedTokens.{NumberedKind, mark, NumberedToken}
+use Rattle.pf_numbered.specs.NumberedTokens.{NumberedKind, mark, NumberedToken}
 use Rattle.pf_reader.specs.Grammar.{Names, IsAtom, op_of, level_of, top, Derives}
 use Rattle.pf_reader.specs.Parse.{◌>>=◌, is, after, pattern, operator, at_level, match_ahead, negative}
 use Rattle.pf_reader.proofs.Single.{after_other, atom_no_mark, level_low, level_high, op_no_mark}

@@ -4,7 +4,7 @@ use Rattle.pf_tokens.specs.declared.marks.Mark.TheVariants as marks
 use Rattle.pf_syntax.specs.WrittenPattern.{WrittenPattern, WrittenPatterns}
 use Rattle.pf_syntax.specs.WrittenExpression.{WrittenExpression, WrittenExpressions, Condition}
 use Rattle.pf_syntax.specs.Source.{Export, Head}
-use Rattle.pf_reader.specs.NumberedTokens.{NumberedToken, mark}
+use Rattle.pf_numbered.specs.NumberedTokens.{NumberedToken, mark}
 use Rattle.pf_reader.specs.Grammar.{Names, unguarded, max_depth}
 use Rattle.pf_reader.specs.Parse.{◌>>=◌, after, body, element, export, exports, function, functions, head, named, pattern, written_expressions_of, written_patterns_of, until}
 use Rattle.pf_reader.specs.Given.{with_front, with_first}

@@ -11,8 +11,8 @@ use Rattle.pf_syntax.specs.WrittenExpression.{WrittenExpression}
 use Rattle.pf_syntax.specs.Source.{NodeTable, Written, written_pattern_at, written_expression_at}
 use Rattle.pf_syntax.specs.declared.written.WrittenPatternId.{WrittenPatternId}
 use Rattle.pf_syntax.specs.declared.written.WrittenExpressionId.{WrittenExpressionId}
-use Rattle.pf_reader.specs.NumberedTokens.{NumberedToken}
-use Rattle.pf_reader.specs.View.{token_list}
+use Rattle.pf_numbered.specs.NumberedTokens.{NumberedToken}
+use Rattle.pf_numbered.specs.View.{token_list}
 use Rattle.pf_reader.specs.declared.part.Part.{Part}
 use Rattle.pf_reader.specs.declared.part.WrittenPatternPart.{WrittenPatternPart}
 use Rattle.pf_fault.specs.declared.fault.OrNoMemory.{OrNoMemory}

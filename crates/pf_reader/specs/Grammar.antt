@@ -11,7 +11,7 @@ use Rattle.pf_syntax.specs.WrittenExpression as p
 use Rattle.pf_syntax.specs.WrittenExpression.{WrittenExpression, WrittenExpressions, Condition, Branches, no_written_expressions, written_expression, no_tests, tests, no_branches, branch, written_expressions_depth}
 use Rattle.pf_syntax.specs.Source.{Export, Head}
 pub use Rattle.pf_syntax.specs.WrittenModule.{Tree, tree_of, unguarded}
-use Rattle.pf_reader.specs.NumberedTokens.{NumberedKind, integer, atom, variable, anonymous, own_module, dot, mark, reserved, NumberedToken}
+use Rattle.pf_numbered.specs.NumberedTokens.{NumberedKind, integer, atom, variable, anonymous, own_module, dot, mark, reserved, NumberedToken}
 
 -- what numbers in tokens stand for: the names of atoms, and the number of the module's own name
 pub record Names : Type 0 where

@@ -1,8 +1,6 @@
-pub mod NumberedTokens
 pub mod Grammar
 pub mod Parse
 pub mod ListItems
 pub mod View
 pub mod Given
-pub mod Numbering
 pub mod Outcome

@@ -1,12 +1,13 @@
 -- What the outcome of reading tells of the tokens.
-use Rattle.std.specs.Prelude.{◌≡◌, ◌⊎◌, ℕ, List, [], ◌∷◌, Result, Ok, Err}
+use Rattle.std.specs.Prelude.{◌≡◌, ℕ, List, Result, Ok, Err}
 use Rattle.pf_fault.specs.declared.code.Code.{Code}
 use Rattle.pf_fault.specs.declared.code.Code.TheVariants.{NoHead, NotGrammar}
 use Rattle.pf_fault.specs.declared.fault.OrNoMemory.{OrNoMemory}
 use Rattle.pf_fault.specs.declared.fault.OrNoMemory.TheVariants.{NoMemory, Fault}
 use Rattle.pf_fault.specs.declared.refusal.Refusal.{Refusal}
 use Rattle.pf_reader.specs.declared.read.ReadModule.{ReadModule}
-use Rattle.pf_reader.specs.NumberedTokens.{NumberedToken}
+use Rattle.pf_numbered.specs.NumberedTokens.{NumberedToken}
+use Rattle.pf_numbered.specs.Places.{IsPlaceOf}
 use Rattle.pf_reader.specs.Grammar.{tree_of, DerivesTree, HasHead, Tree}
 
 -- the outcome is this module, unless memory ran out
@@ -14,15 +15,6 @@ abbrev pub IsReadAs : Tree → Result ReadModule (OrNoMemory Refusal) → Type 0
 IsReadAs m (Ok t) = tree_of t.source ≡ m
 IsReadAs m (Err NoMemory) = Unit {0}
 IsReadAs m (Err _) = ⊥
-
--- one of the tokens stands at the place
-abbrev pub Stands : List NumberedToken → ℕ → Type 0
-Stands [] place = ⊥
-Stands (t ∷ ts) place = (t.at ≡ place) ⊎ Stands ts place
-
--- the place of one of the tokens, or the end of the source
-abbrev pub IsPlaceOf : List NumberedToken → ℕ → ℕ → Type 0
-IsPlaceOf ts end place = (place ≡ end) ⊎ Stands ts place
 
 -- a refusal of the tokens: they have no first form, or they have one and are no module
 abbrev pub IsRefused : List (List ℕ) → List NumberedToken → ℕ → Code → ℕ → Type 0

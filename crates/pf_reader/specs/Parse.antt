@@ -12,7 +12,7 @@ use Rattle.pf_syntax.specs.WrittenPattern.{WrittenPattern, WrittenPatterns, no_w
 use Rattle.pf_syntax.specs.WrittenExpression as p
 use Rattle.pf_syntax.specs.WrittenExpression.{WrittenExpression, WrittenExpressions, Branches, no_written_expressions, written_expression, no_branches, branch, written_expression_depth}
 use Rattle.pf_syntax.specs.Source.{Export, Head}
-use Rattle.pf_reader.specs.NumberedTokens.{NumberedKind, integer, atom, variable, anonymous, own_module, dot, mark, reserved, NumberedToken}
+use Rattle.pf_numbered.specs.NumberedTokens.{NumberedKind, integer, atom, variable, anonymous, own_module, dot, mark, reserved, NumberedToken}
 use Rattle.pf_reader.specs.Grammar.{Names, op_of, level_of, top, unguarded, max_depth, Tree}
 
 infixl 10 ◌>>=◌

@@ -1,28 +1,6 @@
--- What the code's tokens, and the names that it passes on, stand for.
-use Rattle.std.specs.Prelude.{List, map}
-use Rattle.pf_reader.specs.declared.numbered_token.NumberedKind.{NumberedKind as CodeNumberedKind}
-use Rattle.pf_reader.specs.declared.numbered_token.NumberedKind.TheVariants as kinds
-use Rattle.pf_reader.specs.declared.numbered_token.NumberedToken.{NumberedToken as CodeNumberedToken}
+-- What the names that the code passes on stand for.
 use Rattle.pf_reader.specs.declared.token.Context.{Context}
 use Rattle.pf_reader.specs.Grammar.{Names}
-use Rattle.pf_reader.specs.NumberedTokens.{NumberedKind, integer, atom, variable, anonymous, text, own_module, dot, mark, reserved, NumberedToken}
-
-abbrev pub kind_of : CodeNumberedKind → NumberedKind
-kind_of (kinds.Integer n) = integer n.value
-kind_of (kinds.Atom a) = atom a.0
-kind_of (kinds.Variable x) = variable x.0
-kind_of kinds.Anonymous = anonymous
-kind_of kinds.Text = text
-kind_of kinds.OwnModule = own_module
-kind_of kinds.Dot = dot
-kind_of (kinds.Mark m) = mark m
-kind_of (kinds.Reserved r) = reserved r
-
-abbrev pub numbered_token_of : CodeNumberedToken → NumberedToken
-numbered_token_of t = record { kind = kind_of t.kind; at = t.at }
-
-abbrev pub token_list : List CodeNumberedToken → List NumberedToken
-token_list ts = map numbered_token_of ts
 
 abbrev pub names_of : Context → Names
 names_of c = record { atoms = c.atoms.now; own = c.own.0 }

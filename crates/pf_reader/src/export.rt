@@ -3,15 +3,16 @@
 ghost use Rattle.std.specs.Prelude.{◌≡◌, ◌++◌, length, map, OnOk};
 ghost use Rattle.pf_syntax.specs.SourceOver.{export_of};
 ghost use Rattle.pf_tokens.specs.declared.marks.Mark.TheVariants.{CloseBracket, Comma};
-ghost use Rattle.pf_reader.specs.NumberedTokens.{mark};
+ghost use Rattle.pf_numbered.specs.NumberedTokens.{mark};
 ghost use Rattle.pf_reader.specs.Parse.{entry, export, exports, items, until};
-ghost use Rattle.pf_reader.specs.View.{names_of, token_list};
+ghost use Rattle.pf_numbered.specs.View.{token_list};
+ghost use Rattle.pf_reader.specs.View.{names_of};
 ghost use Rattle.pf_reader.specs.Given.{with_front, Gives};
 
 use crate::fault::{ReadFault, Syntax};
-use crate::numbered_token::{NumberedKind, NumberedToken};
 use crate::token::{Context, behind, read_name, read_number, skip, skip_word};
 use pf_fault::OrNoMemory;
+use pf_numbered::{NumberedKind, NumberedToken};
 use pf_syntax::{Export, Source};
 use pf_terms::NoMemory;
 use pf_tokens::Mark;

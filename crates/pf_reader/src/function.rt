@@ -3,15 +3,16 @@
 ghost use Rattle.std.specs.Prelude.{◌≡◌, length, IfOk};
 ghost use Rattle.pf_syntax.specs.SourceOver.{head_over, heads_over, HeadStands, HeadsStand};
 ghost use Rattle.pf_reader.specs.Parse.{function, functions, head};
-ghost use Rattle.pf_reader.specs.View.{names_of, token_list};
+ghost use Rattle.pf_numbered.specs.View.{token_list};
+ghost use Rattle.pf_reader.specs.View.{names_of};
 ghost use Rattle.pf_reader.specs.Given.{with_first, Gives, Grown};
 
 use crate::fault::{ReadFault, Syntax};
-use crate::numbered_token::{NumberedKind, NumberedToken};
 use crate::token::{Context, behind, read_name};
 use crate::written_expression::{read_body, unguarded};
 use crate::written_pattern::read_written_patterns;
 use pf_fault::OrNoMemory;
+use pf_numbered::{NumberedKind, NumberedToken};
 use pf_syntax::{Head, Source, WrittenFunction};
 use pf_tokens::Mark;
 use std::alloc::Global;

@@ -5,15 +5,11 @@
 #![tactic(auto)]
 
 mod export;
-mod expression;
 mod fault;
 mod function;
 mod laws;
-mod number;
-mod numbered_token;
 mod operator;
 mod part;
-mod place;
 mod read;
 mod token;
 mod written_expression;

@@ -4,9 +4,9 @@ ghost use Rattle.std.specs.Prelude.{◌≡◌, option_map};
 ghost use Rattle.pf_syntax.specs.Operators.{operator_of};
 ghost use Rattle.pf_reader.specs.Grammar.{level_of, op_of};
 ghost use Rattle.pf_reader.specs.Parse.{operator};
-ghost use Rattle.pf_reader.specs.View.{kind_of, token_list};
+ghost use Rattle.pf_numbered.specs.View.{kind_of, token_list};
 
-use crate::numbered_token::{NumberedKind, NumberedToken};
+use pf_numbered::{NumberedKind, NumberedToken};
 use pf_syntax::Operator;
 use pf_tokens::{Mark, Reserved};
 

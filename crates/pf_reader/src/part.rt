@@ -3,12 +3,12 @@
 ghost use Rattle.std.specs.Prelude.{◌≡◌, IfOk, Some};
 ghost use Rattle.pf_syntax.specs.SourceOver.{written_expression_over, written_pattern_over, WrittenExpressionPartsStand, WrittenExpressionStands, WrittenPatternPartsStand, WrittenPatternStands};
 ghost use Rattle.pf_reader.specs.Parse.{within};
-ghost use Rattle.pf_reader.specs.View.{token_list};
+ghost use Rattle.pf_numbered.specs.View.{token_list};
 ghost use Rattle.pf_reader.specs.Given.{seen, seen_written_pattern, Gives, Grown};
 
 use crate::fault::{ReadFault, Syntax};
-use crate::numbered_token::NumberedToken;
 use pf_fault::OrNoMemory;
+use pf_numbered::NumberedToken;
 use pf_syntax::{
     Source, WrittenExpressionId, WrittenExpressionNode, WrittenPatternId, WrittenPatternNode,
 };

@@ -2,21 +2,19 @@
 
 ghost use Rattle.std.specs.Prelude.{◌≡◌, map, option_map, IfErr, IfOk, None};
 ghost use Rattle.pf_tokens.specs.TokenKinds.{placed_of};
-ghost use Rattle.pf_reader.specs.NumberedTokens.{atoms_of, numbered};
+ghost use Rattle.pf_numbered.specs.NumberedTokens.{atoms_of, numbered};
 ghost use Rattle.pf_reader.specs.Grammar.{tree_of, DerivesTree, Tree};
 ghost use Rattle.pf_reader.specs.Parse.{any_atom, begins, tree};
-ghost use Rattle.pf_reader.specs.View.{token_list};
+ghost use Rattle.pf_numbered.specs.View.{token_list};
 ghost use Rattle.pf_reader.specs.Given.{Gives};
 ghost use Rattle.pf_reader.specs.Outcome.{IsReadAs, IsTreeFault};
 
 use crate::export::read_exports;
 use crate::fault::{ReadFault, Syntax};
 use crate::function::read_functions;
-use crate::number::number_tokens;
-use crate::numbered_token::{NumberedKind, NumberedToken};
-use crate::place::fault_place;
 use crate::token::{Context, skip, skip_word};
 use pf_fault::{Code, NoMemory, OrNoMemory, Refusal};
+use pf_numbered::{NumberedKind, NumberedToken, fault_place, number_tokens};
 use pf_syntax::Source;
 use pf_terms::{AtomId, AtomTable};
 use pf_tokens::{Mark, Token};

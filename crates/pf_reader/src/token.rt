@@ -2,12 +2,13 @@
 
 ghost use Rattle.std.specs.Prelude.{◌≡◌, option_map};
 ghost use Rattle.pf_reader.specs.Parse.{after, atom_in, is, is_word, named, number, word};
-ghost use Rattle.pf_reader.specs.View.{names_of, kind_of, token_list};
+ghost use Rattle.pf_numbered.specs.View.{kind_of, token_list};
+ghost use Rattle.pf_reader.specs.View.{names_of};
 ghost use Rattle.pf_reader.specs.Given.{Gives};
 
 use crate::fault::{ReadFault, Syntax};
-use crate::numbered_token::{NumberedKind, NumberedToken};
 use pf_fault::OrNoMemory;
+use pf_numbered::{NumberedKind, NumberedToken};
 use pf_syntax::Word;
 use pf_terms::{AtomId, AtomTable};
 use pf_tokens::Integer;

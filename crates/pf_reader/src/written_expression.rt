@@ -5,20 +5,21 @@ ghost use Rattle.std.specs.List.{All};
 ghost use Rattle.pf_syntax.specs.Source.{NodeTable};
 ghost use Rattle.pf_syntax.specs.SourceOver.{condition_over, ConditionStands, WrittenExpressionStands};
 ghost use Rattle.pf_tokens.specs.declared.marks.Mark.TheVariants.{Comma, CloseParenthesis, Semicolon};
-ghost use Rattle.pf_reader.specs.NumberedTokens.{mark};
+ghost use Rattle.pf_numbered.specs.NumberedTokens.{mark};
 ghost use Rattle.pf_reader.specs.Grammar.{unguarded};
 ghost use Rattle.pf_reader.specs.ListItems.{item_at};
 ghost use Rattle.pf_reader.specs.Parse.{body, case_of, clause, element, expr, items, level_at, prim, until};
-ghost use Rattle.pf_reader.specs.View.{names_of, token_list};
+ghost use Rattle.pf_numbered.specs.View.{token_list};
+ghost use Rattle.pf_reader.specs.View.{names_of};
 ghost use Rattle.pf_reader.specs.Given.{clause_of, written_expression_of, seen, ClauseStands, Gives, Grown};
 
 use crate::fault::{ReadFault, Syntax};
-use crate::numbered_token::{NumberedKind, NumberedToken};
 use crate::operator::operator;
 use crate::part::{Part, put, put_within};
 use crate::token::{Context, behind, skip};
 use crate::written_pattern::{read_match_ahead, read_written_pattern};
 use pf_fault::{NoMemory, OrNoMemory};
+use pf_numbered::{NumberedKind, NumberedToken};
 use pf_syntax::{
     Branch, Condition, Source, Tests, Word, WrittenExpressionId, WrittenExpressionNode,
 };

@@ -4,16 +4,17 @@ ghost use Rattle.std.specs.Prelude.{◌≡◌, length, IfErr, IfOk, map, option_
 ghost use Rattle.std.specs.List.{All};
 ghost use Rattle.pf_syntax.specs.SourceOver.{WrittenPatternStands};
 ghost use Rattle.pf_tokens.specs.declared.marks.Mark.TheVariants.{Comma, CloseParenthesis};
-ghost use Rattle.pf_reader.specs.NumberedTokens.{mark};
+ghost use Rattle.pf_numbered.specs.NumberedTokens.{mark};
 ghost use Rattle.pf_reader.specs.Parse.{items, match_ahead, negative, pattern, until};
-ghost use Rattle.pf_reader.specs.View.{names_of, token_list};
+ghost use Rattle.pf_numbered.specs.View.{token_list};
+ghost use Rattle.pf_reader.specs.View.{names_of};
 ghost use Rattle.pf_reader.specs.Given.{seen_written_pattern, written_pattern_of, Gives, Grown};
 
 use crate::fault::{ReadFault, Syntax};
-use crate::numbered_token::{NumberedKind, NumberedToken};
 use crate::part::{WrittenPatternPart, put_written_pattern};
 use crate::token::{Context, behind, read_number, skip};
 use pf_fault::{NoMemory, OrNoMemory};
+use pf_numbered::{NumberedKind, NumberedToken};
 use pf_syntax::{Source, Word, WrittenPatternId, WrittenPatternNode};
 use pf_tokens::Mark;
 use std::alloc::Global;

@@ -5,8 +5,9 @@
 
 mod mail;
 
+use pf_fault::OrNoMemory;
 use pf_terms::{
-    AtomId, AtomTable, List, NoMemory, Term, TermFault, copy, list_of, nodes, tuple_of,
+    AtomId, AtomTable, List, NoMemory, Term, TooLarge, copy, list_of, nodes, tuple_of,
 };
 use std::alloc::Global;
 use std::io;
@@ -32,11 +33,11 @@ impl From<NoMemory> for Answer {
     }
 }
 
-impl From<TermFault> for Answer {
-    fn from(fault: TermFault) -> Answer {
+impl From<OrNoMemory<TooLarge>> for Answer {
+    fn from(fault: OrNoMemory<TooLarge>) -> Answer {
         match fault {
-            TermFault::NoMemory => Answer::Refused,
-            TermFault::TooLarge => Answer::Changed,
+            OrNoMemory::NoMemory => Answer::Refused,
+            OrNoMemory::Fault(TooLarge) => Answer::Changed,
         }
     }
 }

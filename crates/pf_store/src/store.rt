@@ -9,7 +9,7 @@ ghost use Rattle.pf_store.specs.Sources.{IsReadAs, with_source};
 use crate::source::Source;
 use crate::stored::Stored;
 use indexmap::IndexMap;
-use pf_check::ReadFault;
+use pf_fault::{OrNoMemory, Refusal};
 use pf_syntax::Module;
 use pf_terms::NoMemory;
 use std::alloc::Global;
@@ -72,7 +72,11 @@ impl Store {
     }
 
     /// The module of a source, with the bytes that are kept: read and kept where no module of these bytes is kept yet.
-    pub fn take_or_read(&mut self, alloc: Global, source: &Source) -> Result<Stored, ReadFault>
+    pub fn take_or_read(
+        &mut self,
+        alloc: Global,
+        source: &Source,
+    ) -> Result<Stored, OrNoMemory<Refusal>>
         ensures read { IfOk result (λ s. (s.source ≡ source.now) × IsReadAs source.now s) }
         ensures fault { IfErr result (IsRefusalOf source.now) }
         ensures kept { OnOk result (self.new ≡ with_source self.old source.now) }

@@ -5,7 +5,8 @@ ghost use Rattle.pf_check.specs.Reads.{IsRefusalOf, Reads, accepted_as};
 ghost use Rattle.pf_store.specs.Sources.{IsReadAs};
 
 use crate::source::Source;
-use pf_check::{ReadFault, read};
+use pf_check::read;
+use pf_fault::{OrNoMemory, Refusal};
 use pf_syntax::Module;
 use pf_terms::NoMemory;
 use std::alloc::Global;
@@ -48,12 +49,12 @@ impl Stored {
     }
 
     /// The module that a source is, or why it is none.
-    pub(crate) fn read(alloc: Global, source: &Source) -> Result<Stored, ReadFault>
+    pub(crate) fn read(alloc: Global, source: &Source) -> Result<Stored, OrNoMemory<Refusal>>
         ensures read { IfOk result (λ s. (s.source ≡ source.now) × IsReadAs source.now s) }
         ensures fault { IfErr result (IsRefusalOf source.now) }
     {
         let Ok(module) = Arc::new(alloc, read(alloc, source.bytes())?) else {
-            return Err(ReadFault::Memory);
+            return Err(OrNoMemory::NoMemory);
         };
         Ok(Stored::of(source, module)?)
     }

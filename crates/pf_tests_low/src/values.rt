@@ -133,14 +133,18 @@ fn heads_and_tails_are_shared(rt: HostRuntime) -> Result<(), Fail> {
 /// Values without parts, rising in order, where the name of `low` is less than that of `high`.
 fn rising_leaves(alloc: Global, low: AtomId, high: AtomId) -> Result<Vec<Term>, Fail> {
     let mut rising = Vec::new(alloc);
-    rising.push(Term::Int(-2))?;
-    rising.push(Term::Int(5))?;
-    rising.push(Term::Atom(low))?;
-    rising.push(Term::Atom(high))?;
-    rising.push(Term::Ref(0))?;
-    rising.push(Term::Ref(9))?;
-    rising.push(Term::Pid(0))?;
-    rising.push(Term::Pid(2))?;
+    for n in [-2, 5] {
+        rising.push(Term::Int(n))?;
+    }
+    for atom in [low, high] {
+        rising.push(Term::Atom(atom))?;
+    }
+    for reference in [0, 9] {
+        rising.push(Term::Ref(reference))?;
+    }
+    for pid in [0, 2] {
+        rising.push(Term::Pid(pid))?;
+    }
     Ok(rising)
 }
 

@@ -2,9 +2,10 @@
 
 ghost use Rattle.std.specs.Prelude.{◌≡◌, ◌<◌};
 
-use pf_command::{RunFault, run_source};
-use pf_terms::{Counted, FailAt};
-use pf_wire::{StepsFault, run_steps};
+use pf_command::{RunWords, run_source};
+use pf_fault::OrNoMemory;
+use pf_terms::{Counted, FailAt, StreamFault};
+use pf_wire::run_steps;
 use std::alloc::Global;
 use std::io;
 use std::io::{ErrorKind, Write};
@@ -54,27 +55,18 @@ pub struct Failing {
     pub write: u64,
 }
 
-fn end_of_run(answer: Result<u8, RunFault>) -> Ended {
+fn end_of(answer: Result<u8, OrNoMemory<StreamFault>>) -> Ended {
     match answer {
         Ok(status) => Ended::Status(status),
-        Err(RunFault::Read(_)) => Ended::NotRead,
-        Err(RunFault::Write(_)) => Ended::NotWritten,
-        Err(RunFault::Memory) => Ended::NoMemory,
-    }
-}
-
-fn end_of_steps(answer: Result<u8, StepsFault>) -> Ended {
-    match answer {
-        Ok(status) => Ended::Status(status),
-        Err(StepsFault::Read(_)) => Ended::NotRead,
-        Err(StepsFault::Write(_)) => Ended::NotWritten,
-        Err(StepsFault::Memory) => Ended::NoMemory,
+        Err(OrNoMemory::Fault(StreamFault::Read(_))) => Ended::NotRead,
+        Err(OrNoMemory::Fault(StreamFault::Write(_))) => Ended::NotWritten,
+        Err(OrNoMemory::NoMemory) => Ended::NoMemory,
     }
 }
 
 fn run_by<L: Ledger, M: Ledger>(
     alloc: Global,
-    words: &[&str],
+    words: &RunWords,
     input: &[u8],
     failing: Failing,
     reads: Blank,
@@ -92,16 +84,22 @@ fn run_by<L: Ledger, M: Ledger>(
     };
     let mut reader = Counted::<FailAt<&[u8]>, L>::new(FailAt::new(input, failing.read), reads);
     let mut writer = Counted::<FailAt<Narrow>, M>::new(FailAt::new(narrow, failing.write), writes);
-    let ended = end_of_run(run_source(alloc, &mut reader, words, &mut writer));
+    let ended = end_of(run_source(alloc, &mut reader, words, &mut writer));
     let Counted { inner, .. } = writer;
     let FailAt { inner: narrow, .. } = inner;
     let Narrow { taken: out } = narrow;
     Worked { out, ended }
 }
 
-/// Runs the words over a source in memory, with calls that fail.
-pub fn run(alloc: Global, words: &[&str], input: &[u8], failing: Failing) -> Worked {
-    run_by::<Brand, Brand>(alloc, words, input, failing, Blank::new(1), Blank::new(1))
+/// Runs `main` of a source in memory within 1,000 steps, with calls that fail.
+pub fn run(alloc: Global, input: &[u8], failing: Failing) -> Worked {
+    let words = RunWords {
+        file: None,
+        root: "main",
+        limit: 1_000,
+        schedule: Vec::new(alloc),
+    };
+    run_by::<Brand, Brand>(alloc, &words, input, failing, Blank::new(1), Blank::new(1))
 }
 
 fn carry_out_by<L: Ledger, M: Ledger>(
@@ -123,7 +121,7 @@ fn carry_out_by<L: Ledger, M: Ledger>(
     };
     let mut reader = Counted::<FailAt<&[u8]>, L>::new(FailAt::new(input, failing.read), reads);
     let mut writer = Counted::<FailAt<Narrow>, M>::new(FailAt::new(narrow, failing.write), writes);
-    let ended = end_of_steps(run_steps(alloc, &mut reader, &mut writer));
+    let ended = end_of(run_steps(alloc, &mut reader, &mut writer));
     let Counted { inner, .. } = writer;
     let FailAt { inner: narrow, .. } = inner;
     let Narrow { taken: out } = narrow;

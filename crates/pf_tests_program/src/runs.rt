@@ -2,47 +2,15 @@
 
 use crate::pipes::{Ended, Failing, run};
 
-const WORDS: [&str; 8] = [
-    "pulsefarm",
-    "run",
-    "--root",
-    "main",
-    "--limit",
-    "1000",
-    "--schedule",
-    "none",
-];
-
 const SUM: &str = "-module(m).\n-export([main/0]).\nmain() -> 1 + 2 * 3.\n";
 
 const SUM_REPORT: &str = "0/1 <0> end normal\nfinished 7\nsteps 4\nproperty holds\n";
 
 #[test]
-fn words_without_a_run_read_and_write_nothing(rt: HostRuntime) {
-    for (last, status) in [
-        ("--help", 0),
-        ("--version", 0),
-        ("--limit=+5", 2),
-        ("--seed=7", 2),
-    ] {
-        let words = ["pulsefarm", last];
-        let failing = Failing { read: 1, write: 1 };
-        let ran = run(rt.alloc(), &words, SUM.as_bytes(), failing);
-        assert_eq!(rt; ran.ended, Ended::Status(status), "{last}");
-        assert!(rt; ran.out.is_empty(), "{last}");
-    }
-}
-
-#[test]
 fn a_reader_that_fails_leaves_nothing(rt: HostRuntime) {
     let mut failed = 0u64;
     for k in 1..1000u64 {
-        let ran = run(
-            rt.alloc(),
-            &WORDS,
-            SUM.as_bytes(),
-            Failing { read: k, write: 0 },
-        );
+        let ran = run(rt.alloc(), SUM.as_bytes(), Failing { read: k, write: 0 });
         match ran.ended {
             Ended::NotRead => {
                 assert!(rt; ran.out.is_empty(), "call {k}");
@@ -63,12 +31,7 @@ fn a_reader_that_fails_leaves_nothing(rt: HostRuntime) {
 fn a_writer_that_fails_leaves_a_beginning(rt: HostRuntime) {
     let mut failed = 0u64;
     for k in 1..1000u64 {
-        let ran = run(
-            rt.alloc(),
-            &WORDS,
-            SUM.as_bytes(),
-            Failing { read: 0, write: k },
-        );
+        let ran = run(rt.alloc(), SUM.as_bytes(), Failing { read: 0, write: k });
         match ran.ended {
             Ended::NotWritten => {
                 assert!(rt; SUM_REPORT.as_bytes().starts_with(&ran.out), "call {k}");

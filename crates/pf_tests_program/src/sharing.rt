@@ -1,6 +1,6 @@
 //! Who submits the same bytes shares their module, and each of many sources has its own.
 
-use pf_check::ReadFault;
+use pf_fault::OrNoMemory;
 use pf_store::{Source, Store, Stored};
 use std::alloc::Global;
 use std::sync::Arc;
@@ -21,7 +21,7 @@ fn take(alloc: Global, store: &mut Store, text: &str) -> Result<Stored, Fail> {
 fn refusal_of(alloc: Global, store: &mut Store, text: &str) -> Result<String, Fail> {
     let source = source_of(alloc, text)?;
     match store.take_or_read(alloc, &source) {
-        Err(ReadFault::Refused(refusal)) => Ok(format!(in alloc; "{refusal}")?),
+        Err(OrNoMemory::Fault(refusal)) => Ok(format!(in alloc; "{refusal}")?),
         outcome => {
             outcome?;
             Ok(String::new(alloc))

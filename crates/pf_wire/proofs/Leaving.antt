@@ -2,7 +2,11 @@
 use Rattle.std.proofs.Common.{◌≡◌, ◌==◌, ◌<◌, ◌+◌, ℕ, true, false, List, [], ◌∷◌, ◌++◌, length, take, Option, Some, None, refl, sym, ap, ◌∙◌, subst, arith, append_assoc, eqb-true}
 use Rattle.std.specs.Io.KnownBytes.{Appends}
 use Rattle.std.proofs.lemmas.List.{append-nil}
-use Rattle.pf_terms.specs.Ends.{AppendsFront}
+use Rattle.pf_fault.specs.declared.fault.OrNoMemory.{OrNoMemory}
+use Rattle.pf_fault.specs.declared.fault.OrNoMemory.TheVariants.{NoMemory, Fault}
+use Rattle.pf_terms.specs.declared.stream.StreamFault.{StreamFault}
+use Rattle.pf_terms.specs.declared.stream.StreamFault.TheVariants.{Read, Write}
+use Rattle.pf_terms.specs.Streams.{AppendsFront, CountsReadOrNone, CountsWrite}
 use Rattle.pf_terms.proofs.Writes.{appends_both}
 use Rattle.pf_model.specs.Desk.{Profile}
 use Rattle.pf_model.specs.World.{World}
@@ -10,8 +14,6 @@ use Rattle.pf_model.specs.Told.{outcome_text}
 use Rattle.pf_book.specs.Profile.{IsRight}
 use Rattle.pf_wire.specs.Steps.{AnswersOne, AnswersInPart, AreRead, StepsAnsweredInPart, StepsText, Stops, StepsLeaves, last_text}
 use Rattle.pf_wire.specs.declared.steps.TheConstants.{MOST_BYTES}
-use Rattle.pf_wire.specs.declared.steps.StepsFault.{StepsFault}
-use Rattle.pf_wire.specs.declared.steps.StepsFault.TheVariants.{Memory, Read, Write}
 use Rattle.pf_wire.proofs.Shorter.{command_shorter}
 use Rattle.pf_wire.proofs.Progress.{SoFar, begun, answered_one, finished_well, finished_ill, goes_on}
 
@@ -72,11 +74,23 @@ module _ (p : Profile) where
       (f.0, f.1, stops_here f.0 f.0 [] 1 w w (begins f.0 w))
 
   -- what answers some bytes answers those that were read
-  pub answers_read : (r w0 w1 : Option (List ℕ)) (bytes : List ℕ) (e : StepsFault) (m0 m1 n0 n1 : ℕ) → m1 ≡ m0 → AreRead r bytes → Stops p e bytes w0 w1 n0 n1
+  pub answers_read : (r w0 w1 : Option (List ℕ)) (bytes : List ℕ) (e : OrNoMemory StreamFault) (m0 m1 n0 n1 : ℕ) → m1 ≡ m0 → AreRead r bytes → Stops p e bytes w0 w1 n0 n1
       → StepsLeaves p e r w0 w1 m0 m1 n0 n1
-  answers_read r w0 w1 bytes Memory m0 m1 n0 n1 k h s = (k, s.0, (bytes, h, s.1))
-  answers_read r w0 w1 bytes (Read f) m0 m1 n0 n1 k h s = absurd s
-  answers_read r w0 w1 bytes (Write f) m0 m1 n0 n1 k h s = (k, s.0, (bytes, h, s.1))
+  answers_read r w0 w1 bytes NoMemory m0 m1 n0 n1 k h s = (k, s.0, (bytes, h, s.1))
+  answers_read r w0 w1 bytes (Fault (Read f)) m0 m1 n0 n1 k h s = absurd s
+  answers_read r w0 w1 bytes (Fault (Write f)) m0 m1 n0 n1 k h s = (k, s.0, (bytes, h, s.1))
+
+  -- a write failed, and a beginning of the answer went out
+  pub stops_at : (w0 w1 : Option (List ℕ)) (bytes : List ℕ) (f : StreamFault) (n0 n n1 : ℕ) → n ≡ n0 → CountsWrite f n n1 → AnswersInPart p bytes w0 w1
+      → Stops p (Fault f) bytes w0 w1 n0 n1
+  stops_at w0 w1 bytes (Read e) n0 n n1 k c h = absurd c
+  stops_at w0 w1 bytes (Write e) n0 n n1 k c h = (omega (arith, k, c), h)
+
+  -- nothing was read
+  pub stops_unread : (r0 w : Option (List ℕ)) (f : OrNoMemory StreamFault) (m0 m1 n : ℕ) → CountsReadOrNone f m0 m1 → StepsLeaves p f r0 w w m0 m1 n n
+  stops_unread r0 w NoMemory m0 m1 n c = (c, refl, stops_before r0 w)
+  stops_unread r0 w (Fault (Read e)) m0 m1 n c = (c, refl, refl)
+  stops_unread r0 w (Fault (Write e)) m0 m1 n c = absurd c
 
 module _ (p : Profile) (right : IsRight p) where
   -- a beginning of one answer more went out

@@ -2,7 +2,11 @@
 use Rattle.std.specs.Prelude.{◌≡◌, ℕ, ◌+◌, Bool, if◌then◌else◌, List, [], ◌++◌, length, map, take, Option, Some, None, false, IfSome, codes}
 use Rattle.std.specs.Fmt.{decimal}
 use Rattle.std.specs.Io.KnownBytes.{Appends}
-use Rattle.pf_terms.specs.Ends.{AppendsFront}
+use Rattle.pf_fault.specs.declared.fault.OrNoMemory.{OrNoMemory}
+use Rattle.pf_fault.specs.declared.fault.OrNoMemory.TheVariants.{NoMemory, Fault}
+use Rattle.pf_terms.specs.declared.stream.StreamFault.{StreamFault}
+use Rattle.pf_terms.specs.declared.stream.StreamFault.TheVariants.{Read, Write}
+use Rattle.pf_terms.specs.Streams.{AppendsFront}
 use Rattle.pf_model.specs.Text.{line}
 use Rattle.pf_model.specs.World.{World, Step, Answer, told, alone, AnswersStep, AnswersInTurn}
 use Rattle.pf_model.specs.Told.{outcome_text, outcomes_text}
@@ -10,8 +14,6 @@ use Rattle.pf_model.specs.Desk.{Profile}
 use Rattle.pf_book.specs.Profile.{ForRight}
 use Rattle.pf_wire.specs.Commands.{Commands, command_at}
 use Rattle.pf_wire.specs.declared.steps.TheConstants.{MOST_BYTES}
-use Rattle.pf_wire.specs.declared.steps.StepsFault.{StepsFault}
-use Rattle.pf_wire.specs.declared.steps.StepsFault.TheVariants.{Memory, Read, Write}
 
 -- command number k, counted from 1, is none
 abbrev pub last_text : Bool → ℕ → List ℕ
@@ -58,14 +60,14 @@ StepsAnswered p r0 w0 w1 status = (bytes : List ℕ) × (text : List ℕ) × Are
 abbrev pub StepsAnsweredInPart : Profile → (read_old written_old written_new : Option (List ℕ)) → Type 0
 StepsAnsweredInPart p r0 w0 w1 = (bytes : List ℕ) × AreRead r0 bytes × AnswersInPart p bytes w0 w1
 
--- what a fault leaves of the bytes that were read: which end failed once more, and what went out
-abbrev pub Stops : Profile → StepsFault → List ℕ → (written_old written_new : Option (List ℕ)) → (writes_old writes_new : ℕ) → Type 0
-Stops p Memory bytes w0 w1 n0 n1 = (n1 ≡ n0) × AnswersInPart p bytes w0 w1
-Stops p (Read e) bytes w0 w1 n0 n1 = ⊥
-Stops p (Write e) bytes w0 w1 n0 n1 = (n1 ≡ n0 + 1) × AnswersInPart p bytes w0 w1
+-- what a fault leaves of the bytes that were read: which stream failed once more, and what went out
+abbrev pub Stops : Profile → OrNoMemory StreamFault → List ℕ → (written_old written_new : Option (List ℕ)) → (writes_old writes_new : ℕ) → Type 0
+Stops p NoMemory bytes w0 w1 n0 n1 = (n1 ≡ n0) × AnswersInPart p bytes w0 w1
+Stops p (Fault (Read e)) bytes w0 w1 n0 n1 = ⊥
+Stops p (Fault (Write e)) bytes w0 w1 n0 n1 = (n1 ≡ n0 + 1) × AnswersInPart p bytes w0 w1
 
--- what a fault leaves: which end failed once more, and what went out
-abbrev pub StepsLeaves : Profile → StepsFault → (read_old written_old written_new : Option (List ℕ)) → (reads_old reads_new writes_old writes_new : ℕ) → Type 0
-StepsLeaves p Memory r0 w0 w1 m0 m1 n0 n1 = (m1 ≡ m0) × (n1 ≡ n0) × StepsAnsweredInPart p r0 w0 w1
-StepsLeaves p (Read e) r0 w0 w1 m0 m1 n0 n1 = (m1 ≡ m0 + 1) × (n1 ≡ n0) × (w1 ≡ w0)
-StepsLeaves p (Write e) r0 w0 w1 m0 m1 n0 n1 = (m1 ≡ m0) × (n1 ≡ n0 + 1) × StepsAnsweredInPart p r0 w0 w1
+-- what a fault leaves: which stream failed once more, and what went out
+abbrev pub StepsLeaves : Profile → OrNoMemory StreamFault → (read_old written_old written_new : Option (List ℕ)) → (reads_old reads_new writes_old writes_new : ℕ) → Type 0
+StepsLeaves p NoMemory r0 w0 w1 m0 m1 n0 n1 = (m1 ≡ m0) × (n1 ≡ n0) × StepsAnsweredInPart p r0 w0 w1
+StepsLeaves p (Fault (Read e)) r0 w0 w1 m0 m1 n0 n1 = (m1 ≡ m0 + 1) × (n1 ≡ n0) × (w1 ≡ w0)
+StepsLeaves p (Fault (Write e)) r0 w0 w1 m0 m1 n0 n1 = (m1 ≡ m0) × (n1 ≡ n0 + 1) × StepsAnsweredInPart p r0 w0 w1

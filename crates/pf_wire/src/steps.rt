@@ -12,41 +12,12 @@ ghost use Rattle.pf_wire.specs.Steps.{last_text, AnswersOne, StepsText, Stops, S
 use crate::command::{Command, LineFault, read_command};
 use crate::outcome::{Requester, perform, put_outcome};
 use pf_book::Book;
-use pf_terms::{Counted, EndFault, NoMemory, TakeFault};
+use pf_fault::{NoMemory, OrNoMemory};
+use pf_terms::{Counted, StreamFault};
 use pf_text::{put, put_number};
 use std::alloc::Global;
-use std::error::Error;
-use std::fmt;
 use std::io::{Read, Write};
 use std::sync::ledger::Ledger;
-
-/// Why the work stopped.
-#[derive(Debug, Drop)]
-pub enum StepsFault {
-    /// A growth was refused.
-    Memory,
-    /// The commands can't be read.
-    Read(EndFault),
-    /// The replies can't be written.
-    Write(EndFault),
-}
-
-impl fmt::Display for StepsFault {
-    ghost use Rattle.std.specs.Prelude.{Some};
-    ghost use Rattle.pf_wire.specs.Faults.{stop_text};
-
-    ghost output = { λ e. Some (stop_text e) };
-
-    fn fmt<W: fmt::Write>(&self, f: &mut fmt::Formatter<W>) -> fmt::Result {
-        f.write_str(match self {
-            StepsFault::Memory => "NoMemory",
-            StepsFault::Read(_) => "the commands can't be read",
-            StepsFault::Write(_) => "the replies can't be written",
-        })
-    }
-}
-
-impl Error for StepsFault {}
 
 /// The most bytes that are read: 64 MiB.
 pub const MOST_BYTES: usize = 67_108_864;
@@ -109,7 +80,7 @@ fn answer_all<W: Write, M: Ledger>(
     alloc: Global,
     input: &[u8],
     writer: &mut Counted<W, M>,
-) -> Result<u8, StepsFault>
+) -> Result<u8, OrNoMemory<StreamFault>>
     ensures answered { IfOk result (λ status. ForRight (λ p.
         (text : List ℕ) × StepsText p input.now text status
         × Appends (W.contents writer.old.inner) (W.contents writer.new.inner) text)) }
@@ -124,10 +95,10 @@ fn answer_all<W: Write, M: Ledger>(
     while !rest.is_empty() {
         let answered = match answer_front(alloc, &mut book, rest, number) {
             Ok(answered) => answered,
-            Err(NoMemory) => return Err(StepsFault::Memory),
+            Err(NoMemory) => return Err(OrNoMemory::NoMemory),
         };
         if let Err(e) = writer.put(&answered.text) {
-            return Err(StepsFault::Write(e));
+            return Err(OrNoMemory::Fault(e));
         }
         let Some(behind) = answered.rest else {
             return Ok(2);
@@ -144,7 +115,7 @@ pub fn run_steps<R: Read, W: Write, L: Ledger, M: Ledger>(
     alloc: Global,
     reader: &mut Counted<R, L>,
     writer: &mut Counted<W, M>,
-) -> Result<u8, StepsFault>
+) -> Result<u8, OrNoMemory<StreamFault>>
     ensures answered { IfOk result (λ status. ForRight (λ p. StepsAnswered p (R.remaining reader.old.inner)
         (W.contents writer.old.inner) (W.contents writer.new.inner) status)) }
     ensures taken { (bytes : List ℕ) × (length bytes ≤ MOST_BYTES)
@@ -158,8 +129,7 @@ pub fn run_steps<R: Read, W: Write, L: Ledger, M: Ledger>(
 {
     let mut input = match reader.take_front(alloc, MOST_BYTES) {
         Ok(input) => input,
-        Err(TakeFault::Memory) => return Err(StepsFault::Memory),
-        Err(TakeFault::End(e)) => return Err(StepsFault::Read(e)),
+        Err(fault) => return Err(fault),
     };
     input.shrink_to_fit();
     answer_all(alloc, &input, writer)

@@ -1,31 +1,36 @@
-use Rattle.std.proofs.Common.{sym, subst}
+use Rattle.std.proofs.Common.{rules, sym, subst}
 use Rattle.std.specs.Prelude.{map}
 use Rattle.pf_tokens.specs.TokenKinds.{placed_of}
 use Rattle.pf_tokens.specs.Rules.{HasTokens}
 use Rattle.pf_syntax.specs.WrittenModule.{tree_of}
-use Rattle.pf_check.proofs.Outcomes.{reads_module, reads_fault}
+use Rattle.pf_check.specs.Reads.{IsRefusalOf}
+use Rattle.pf_check.proofs.Outcomes.{reads_module, reads_fault, tokens_refused, tree_refused}
 use Rattle.pf_check.proofs.reading.read.Goals as goal
 
-pub returns-in-Err-clause-fault : goal.returns-in-Err-clause-fault
-returns-in-Err-clause-fault c = c.of_tokens.ensures c.args.source.now c.in-Err.ensures.fault
+pub returns-in_err-found-clause-fault : goal.returns-in_err-found-clause-fault
+returns-in_err-found-clause-fault c =
+    let told : IsRefusalOf c.args.source.now c.in_err-found.field-0.0 = tokens_refused c.args.source.now c.in_err-found.field-0.0 c.in_err-found.ensures.fault in
+    search rules
 
-pub returns-in-Ok-read_tree-clause-read : goal.returns-in-Ok-read_tree-clause-read
-returns-in-Ok-read_tree-clause-read c =
-    let r = c.in-Ok-read_tree.field-0 in
-    let told = c.in-Ok-read_tree.ensures in
+pub returns-in_err-source-clause-fault : goal.returns-in_err-source-clause-fault
+returns-in_err-source-clause-fault c =
     let ts = map placed_of c.deref.result.now in
-    let has : HasTokens c.args.source.now ts = subst (λ xs. HasTokens c.args.source.now (map placed_of xs)) (sym c.deref.ensures.value) c.in-Ok.ensures.found in
+    let has : HasTokens c.args.source.now ts = subst (λ xs. HasTokens c.args.source.now (map placed_of xs)) (sym c.deref.ensures.value) c.in_ok-found.ensures.found in
+    let told : IsRefusalOf c.args.source.now c.in_err-source.field-0.0 = tree_refused c.args.source.now ts has c.in_err-source.field-0.0 c.in_err-source.ensures.fault in
+    search rules
+
+pub returns-clause-read : goal.returns-clause-read
+returns-clause-read c =
+    let r = c.in_ok-source.field-0 in
+    let told = c.in_ok-source.ensures in
+    let ts = map placed_of c.deref.result.now in
+    let has : HasTokens c.args.source.now ts = subst (λ xs. HasTokens c.args.source.now (map placed_of xs)) (sym c.deref.ensures.value) c.in_ok-found.ensures.found in
     reads_module c.args.source.now ts r.atoms (tree_of r.source) has told.atoms told.found c.check.result c.check.ensures.checked
-
-pub returns-in-Ok-read_tree-clause-fault : goal.returns-in-Ok-read_tree-clause-fault
-returns-in-Ok-read_tree-clause-fault c =
-    let r = c.in-Ok-read_tree.field-0 in
-    let told = c.in-Ok-read_tree.ensures in
-    let ts = map placed_of c.deref.result.now in
-    let has : HasTokens c.args.source.now ts = subst (λ xs. HasTokens c.args.source.now (map placed_of xs)) (sym c.deref.ensures.value) c.in-Ok.ensures.found in
-    reads_fault c.args.source.now ts r.atoms (tree_of r.source) has told.atoms told.found c.check.result c.check.ensures.fault
 
 pub returns-clause-fault : goal.returns-clause-fault
 returns-clause-fault c =
-    let has = subst (λ xs. HasTokens c.args.source.now (map placed_of xs)) (sym c.deref.ensures.value) c.in-Ok.ensures.found in
-    c.of_tree.ensures c.args.source.now (map placed_of c.deref.result.now) has c.in-Err-read_tree.ensures.fault
+    let r = c.in_ok-source.field-0 in
+    let told = c.in_ok-source.ensures in
+    let ts = map placed_of c.deref.result.now in
+    let has : HasTokens c.args.source.now ts = subst (λ xs. HasTokens c.args.source.now (map placed_of xs)) (sym c.deref.ensures.value) c.in_ok-found.ensures.found in
+    reads_fault c.args.source.now ts r.atoms (tree_of r.source) has told.atoms told.found c.check.result c.check.ensures.fault

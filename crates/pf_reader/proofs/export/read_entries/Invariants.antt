@@ -2,9 +2,10 @@ use Rattle.std.proofs.Common.{◌≡◌, ◌-◌, length}
 use Rattle.std.specs.Prelude.{map}
 use Rattle.pf_syntax.specs.SourceOver.{export_of}
 use Rattle.pf_tokens.specs.declared.marks.Mark.TheVariants.{Comma}
-use Rattle.pf_reader.specs.NumberedTokens.{mark}
+use Rattle.pf_numbered.specs.NumberedTokens.{mark}
 use Rattle.pf_reader.specs.Parse.{entry, items}
-use Rattle.pf_reader.specs.View.{names_of, token_list}
+use Rattle.pf_numbered.specs.View.{token_list}
+use Rattle.pf_reader.specs.View.{names_of}
 use Rattle.pf_reader.specs.Given.{with_front}
 use Rattle.pf_reader.proofs.export.read_entries.Given as goal
 

@@ -4,9 +4,10 @@ use Rattle.std.proofs.lemmas.Result.{err_from_is_err_and}
 use Rattle.std.proofs.lemmas.List.{length-map}
 use Rattle.pf_syntax.specs.SourceOver.{export_of}
 use Rattle.pf_tokens.specs.declared.marks.Mark.TheVariants.{Minus}
-use Rattle.pf_reader.specs.NumberedTokens.{mark}
+use Rattle.pf_numbered.specs.NumberedTokens.{mark}
 use Rattle.pf_reader.specs.Parse.{after, exports}
-use Rattle.pf_reader.specs.View.{names_of, numbered_token_of, token_list}
+use Rattle.pf_numbered.specs.View.{numbered_token_of, token_list}
+use Rattle.pf_reader.specs.View.{names_of}
 use Rattle.pf_reader.specs.Given.{with_front}
 use Rattle.pf_reader.proofs.Items.{fails_as}
 use Rattle.pf_reader.proofs.Turns.{exports_stop, exports_out, exports_fail, exports_go}

@@ -3,7 +3,8 @@ use Rattle.std.proofs.lemmas.Result.{err_from_is_err_and}
 use Rattle.std.proofs.lemmas.List.{length-map}
 use Rattle.pf_syntax.specs.SourceOver.{heads_over}
 use Rattle.pf_reader.specs.Parse.{functions}
-use Rattle.pf_reader.specs.View.{names_of, numbered_token_of, token_list}
+use Rattle.pf_numbered.specs.View.{numbered_token_of, token_list}
+use Rattle.pf_reader.specs.View.{names_of}
 use Rattle.pf_reader.specs.Given.{with_first}
 use Rattle.pf_reader.proofs.Items.{fails_as}
 use Rattle.pf_reader.proofs.Turns.{functions_stop, functions_out, functions_fail, functions_go}

@@ -1,6 +1,7 @@
 use Rattle.std.proofs.Common.{◌≡◌, ◌-◌, length}
 use Rattle.pf_reader.specs.Parse.{functions}
-use Rattle.pf_reader.specs.View.{names_of, token_list}
+use Rattle.pf_numbered.specs.View.{token_list}
+use Rattle.pf_reader.specs.View.{names_of}
 use Rattle.pf_reader.specs.Given.{with_first}
 use Rattle.pf_reader.proofs.function.read_functions.Given as goal
 

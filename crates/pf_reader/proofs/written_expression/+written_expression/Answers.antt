@@ -5,10 +5,11 @@ use Rattle.pf_syntax.specs.SourceOver.{WrittenExpressionStands, WrittenPatternSt
 use Rattle.pf_syntax.specs.Operators.{operator_of}
 use Rattle.pf_syntax.proofs.NodeTableExtends.{all_written_expressions_stand}
 use Rattle.pf_tokens.specs.declared.marks.Mark.TheVariants.{Comma, Semicolon, Minus}
-use Rattle.pf_reader.specs.NumberedTokens.{mark}
+use Rattle.pf_numbered.specs.NumberedTokens.{mark}
 use Rattle.pf_reader.specs.ListItems.{item_at}
 use Rattle.pf_reader.specs.Parse.{after, clause, element, expr, level_at, match_ahead, operator}
-use Rattle.pf_reader.specs.View.{names_of, numbered_token_of, token_list}
+use Rattle.pf_numbered.specs.View.{numbered_token_of, token_list}
+use Rattle.pf_reader.specs.View.{names_of}
 use Rattle.pf_reader.specs.Given.{clause_of, written_expression_of, seen_written_pattern, ClauseStands}
 use Rattle.pf_reader.proofs.Growth.{again}
 use Rattle.pf_reader.proofs.Items.{fails_as, loop_ends, loop_goes, loop_fails, loop_out}

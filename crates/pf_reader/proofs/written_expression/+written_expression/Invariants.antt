@@ -4,10 +4,11 @@ use Rattle.std.specs.List.{All}
 use Rattle.pf_syntax.specs.Source.{written_expression_at}
 use Rattle.pf_syntax.specs.SourceOver.{WrittenExpressionStands}
 use Rattle.pf_tokens.specs.declared.marks.Mark.TheVariants.{Comma, Semicolon}
-use Rattle.pf_reader.specs.NumberedTokens.{mark}
+use Rattle.pf_numbered.specs.NumberedTokens.{mark}
 use Rattle.pf_reader.specs.ListItems.{item_at}
 use Rattle.pf_reader.specs.Parse.{clause, element, items, level_at, more}
-use Rattle.pf_reader.specs.View.{names_of, token_list}
+use Rattle.pf_numbered.specs.View.{token_list}
+use Rattle.pf_reader.specs.View.{names_of}
 use Rattle.pf_reader.specs.Given.{clause_of, written_expression_of, ClauseStands, with_front, Grown}
 use Rattle.pf_reader.proofs.written_expression.+written_expression.Given as goal
 

@@ -4,9 +4,10 @@ use Rattle.std.proofs.lemmas.List.{length-map}
 use Rattle.pf_syntax.specs.SourceOver.{WrittenPatternStands}
 use Rattle.pf_syntax.proofs.NodeTableExtends.{all_written_patterns_stand}
 use Rattle.pf_tokens.specs.declared.marks.Mark.TheVariants.{Comma}
-use Rattle.pf_reader.specs.NumberedTokens.{mark}
+use Rattle.pf_numbered.specs.NumberedTokens.{mark}
 use Rattle.pf_reader.specs.Parse.{pattern, after}
-use Rattle.pf_reader.specs.View.{names_of, numbered_token_of, token_list}
+use Rattle.pf_numbered.specs.View.{numbered_token_of, token_list}
+use Rattle.pf_reader.specs.View.{names_of}
 use Rattle.pf_reader.specs.Given.{written_pattern_of}
 use Rattle.pf_reader.proofs.Growth.{again}
 use Rattle.pf_reader.proofs.Items.{fails_as, loop_ends, loop_goes, loop_fails, loop_out}

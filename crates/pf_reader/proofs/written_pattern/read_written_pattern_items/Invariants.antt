@@ -3,9 +3,10 @@ use Rattle.std.specs.Prelude.{map}
 use Rattle.std.specs.List.{All}
 use Rattle.pf_syntax.specs.SourceOver.{WrittenPatternStands}
 use Rattle.pf_tokens.specs.declared.marks.Mark.TheVariants.{Comma}
-use Rattle.pf_reader.specs.NumberedTokens.{mark}
+use Rattle.pf_numbered.specs.NumberedTokens.{mark}
 use Rattle.pf_reader.specs.Parse.{items, pattern}
-use Rattle.pf_reader.specs.View.{names_of, token_list}
+use Rattle.pf_numbered.specs.View.{token_list}
+use Rattle.pf_reader.specs.View.{names_of}
 use Rattle.pf_reader.specs.Given.{written_pattern_of, with_front, Grown}
 use Rattle.pf_reader.proofs.written_pattern.read_written_pattern_items.Given as goal
 

@@ -1,5 +1,5 @@
 use Rattle.std.proofs.Common.{◌∙◌, refl, sym, arith}
-use Rattle.pf_wire.proofs.Leaving.{begins_empty, stops_here, stops_within, shorter_behind, goes_out, ends_ill, ends_well}
+use Rattle.pf_wire.proofs.Leaving.{begins_empty, stops_here, stops_within, stops_at, shorter_behind, goes_out, ends_ill, ends_well}
 use Rattle.pf_wire.proofs.steps.answer_all.Goals as goal
 
 pub loop-rest-init : goal.loop-rest-init
@@ -16,11 +16,10 @@ returns-in-Err-clause-fault g c = λ p right.
 pub returns-in-Err-put-clause-fault : goal.returns-in-Err-put-clause-fault
 returns-in-Err-put-clause-fault g c =
     let some = sym c.is_empty.ensures ∙ c.loop-rest-test.true in
-    λ p right. (
-      omega (arith, c.loop-rest.invariant.same, c.in-Err-put.ensures.counted),
-      stops_within p right c.args.input.now c.loop-rest.rest.now c.loop-rest.book c.answer_front.new.book c.loop-rest.number _ _ _ c.in-Ok.answered.text.items _ some
-          (c.loop-rest.invariant.so_far p right) c.in-Ok.ensures (rw c.deref.ensures.value at c.in-Err-put.ensures.front),
-    )
+    λ p right.
+    stops_at p _ _ c.args.input.now c.in-Err-put.e _ _ _ c.loop-rest.invariant.same c.in-Err-put.ensures.counted
+    (stops_within p right c.args.input.now c.loop-rest.rest.now c.loop-rest.book c.answer_front.new.book c.loop-rest.number _ _ _ c.in-Ok.answered.text.items _ some
+    (c.loop-rest.invariant.so_far p right) c.in-Ok.ensures (rw c.deref.ensures.value at c.in-Err-put.ensures.front))
 
 pub returns-in_default-rest-clause-answered : goal.returns-in_default-rest-clause-answered
 returns-in_default-rest-clause-answered g c =

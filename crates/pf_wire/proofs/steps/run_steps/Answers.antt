@@ -1,10 +1,9 @@
-use Rattle.std.proofs.Common.{refl}
 use Rattle.std.proofs.lemmas.Result.{IfOk-weaker, IfErr-weaker}
-use Rattle.pf_wire.proofs.Leaving.{stops_before, answers_read}
+use Rattle.pf_wire.proofs.Leaving.{stops_unread, answers_read}
 use Rattle.pf_wire.proofs.steps.run_steps.Goals as goal
 
-pub returns-in-Err-Memory-clause-fault : goal.returns-in-Err-Memory-clause-fault
-returns-in-Err-Memory-clause-fault g c = λ p right. (rw c.in-Err-Memory.field-0-is at c.in-Err-Memory.ensures.counted, refl, stops_before p _ _)
+pub returns-in-Err-clause-fault : goal.returns-in-Err-clause-fault
+returns-in-Err-clause-fault g c = λ p right. stops_unread p _ _ c.in-Err.fault _ _ _ c.in-Err.ensures.counted
 
 pub returns-clause-answered : goal.returns-clause-answered
 returns-clause-answered g c =

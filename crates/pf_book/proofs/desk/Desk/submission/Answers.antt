@@ -1,7 +1,7 @@
 use Rattle.std.proofs.Common.{rules, ◌≡◌, ℕ, ◌+◌, List, [], ◌∷◌, ◌++◌, length, refl, ap, ◌∙◌, subst}
 use Rattle.pf_model.specs.Desk as desk
-use Rattle.pf_check.specs.Reads.{number_of, IsRefusalOf}
-use Rattle.pf_check.specs.declared.fault.ReadFault.TheVariants.{Refused}
+use Rattle.pf_fault.specs.declared.fault.OrNoMemory.TheVariants.{Fault}
+use Rattle.pf_check.specs.Reads.{IsRefusalOf}
 use Rattle.pf_book.specs.declared.refusal.Refusal.TheVariants as refusal
 use Rattle.pf_book.specs.declared.reply.Reply.TheVariants as reply
 use Rattle.pf_book.specs.declared.entry.Entry.TheVariants.{SubmitRefused}
@@ -20,10 +20,10 @@ returns-in_ok-share-in-Ok c =
       ap (λ (text : List ℕ). desk.called (desk.submit text) (desk.number (c.len.result + 1))) noted,
     )
 
-pub returns-in-Err-Refused : goal.returns-in-Err-Refused
-returns-in-Err-Refused c =
+pub returns-in-Err-Fault : goal.returns-in-Err-Fault
+returns-in-Err-Fault c =
     let d = c.args.self.now in
-    let r = c.in-Err-Refused.refused in
-    let fault : IsRefusalOf c.args.source (Refused r) = subst (IsRefusalOf c.args.source) c.in-Err-Refused.field-0-is c.in-Err-Refused.ensures.fault in
+    let r = c.in-Err-Fault.refused in
+    let fault : IsRefusalOf c.args.source (Fault r) = subst (IsRefusalOf c.args.source) c.in-Err-Fault.field-0-is c.in-Err-Fault.ensures.fault in
     let plan : c.reply_alone.result ≡ record { addition = Nothing; noted = SubmitRefused c.args.source (refusal.Source r.code); reply = reply.Refused (refusal.Source r.code) } = search rules in
-    rw plan (λ p right. submitted_refused p right d c.args.source (number_of r.code) r.place fault, refl)
+    rw plan (λ p right. submitted_refused p right d c.args.source r.code r.place fault, refl)

@@ -1,0 +1,122 @@
+//! Numbers for the names in tokens.
+
+ghost use Rattle.std.specs.Prelude.{◌≡◌, ◌<◌, ◌^◌, ℕ, length, List, map, IfOk, OnOk};
+ghost use Rattle.pf_terms.specs.Atoms.{fixed_names, with_name, with_names};
+ghost use Rattle.pf_tokens.specs.TokenKinds.{placed_of, kind_of};
+ghost use Rattle.pf_numbered.specs.NumberedTokens.{atom_name, atoms_of, number_in, numbered, variable_name};
+ghost use Rattle.pf_numbered.specs.View.{token_list};
+ghost use Rattle.pf_numbered.specs.Numbering.{StandsForKind};
+
+use crate::numbered_token::{NumberedKind, NumberedToken};
+use pf_fault::NoMemory;
+use pf_terms::{AtomId, AtomTable};
+use pf_tokens::{Kind, Token};
+use std::alloc::Global;
+
+/// The most names that a table takes.
+const LIMIT: usize = 4_294_967_295;
+
+/// The number of a name, which stays the name's as the table grows. The table has room for one more, before and after.
+fn number_of(alloc: Global, table: &mut AtomTable, name: &[u8]) -> Result<AtomId, NoMemory>
+    requires { length table.old < 2 ^ 32 }
+    ensures number { IfOk result (λ a. (more : List (List ℕ)) → number_in (with_names table.new more) name.now ≡ a.0) }
+    ensures names { OnOk result (table.new ≡ with_name table.old name.now) }
+    ensures room { OnOk result (length table.new < 2 ^ 32) }
+{
+    let number = table.enter(alloc, name)?;
+    if table.len() > LIMIT {
+        return Err(NoMemory);
+    }
+    Ok(number)
+}
+
+/// A kind of token with a number for its name.
+fn number_kind(
+    alloc: Global,
+    atoms: &mut AtomTable,
+    variables: &mut AtomTable,
+    kind: &Kind,
+) -> Result<NumberedKind, NoMemory>
+    requires atoms { length atoms.old < 2 ^ 32 }
+    requires variables { length variables.old < 2 ^ 32 }
+    ensures kind { IfOk result (λ s. StandsForKind atoms.new variables.new (kind_of kind.now) s) }
+    ensures atoms { OnOk result (atoms.new ≡ with_names atoms.old (atom_name (kind_of kind.now))) }
+    ensures variables { OnOk result (variables.new ≡ with_names variables.old (variable_name (kind_of kind.now))) }
+    ensures room { OnOk result ((length atoms.new < 2 ^ 32) × (length variables.new < 2 ^ 32)) }
+{
+    match kind {
+        Kind::Integer(n) => Ok(NumberedKind::Integer(*n)),
+        Kind::Atom(name) => {
+            let number = number_of(alloc, atoms, name)?;
+            Ok(NumberedKind::Atom(number))
+        }
+        Kind::Variable(name) => {
+            let number = number_of(alloc, variables, name)?;
+            Ok(NumberedKind::Variable(number))
+        }
+        Kind::Anonymous => Ok(NumberedKind::Anonymous),
+        Kind::Text(_) => Ok(NumberedKind::Text),
+        Kind::Module => Ok(NumberedKind::OwnModule),
+        Kind::Dot => Ok(NumberedKind::Dot),
+        Kind::Mark(mark) => Ok(NumberedKind::Mark(*mark)),
+        Kind::Reserved(word) => Ok(NumberedKind::Reserved(*word)),
+    }
+}
+
+/// The offset of a token. A source that has one of 2^32 or more is no source that fits memory.
+fn offset_of(start: usize) -> Result<u32, NoMemory>
+    ensures same { IfOk result (λ at. at ≡ start) }
+{
+    match u32::try_from(start) {
+        Ok(at) => Ok(at),
+        Err(_) => Err(NoMemory),
+    }
+}
+
+/// The tokens with numbers for their names, which enter two fresh tables.
+fn number_all(
+    alloc: Global,
+    atoms: &mut AtomTable,
+    variables: &mut AtomTable,
+    tokens: &[Token],
+) -> Result<Vec<NumberedToken>, NoMemory>
+    requires atoms { atoms.old ≡ fixed_names }
+    requires variables { variables.old ≡ fixed_names }
+    ensures atoms { OnOk result (atoms.new ≡ atoms_of (map placed_of tokens.now)) }
+    ensures token_list { IfOk result (λ found. token_list found.items ≡ numbered (map placed_of tokens.now)) }
+{
+    let mut found = Vec::new(alloc);
+    for token in tokens {
+        let kind = number_kind(alloc, atoms, variables, &token.kind)?;
+        let at = offset_of(token.start)?;
+        found.push(NumberedToken { kind, at })?;
+    }
+    Ok(found)
+}
+
+/// The tokens with numbers for their names. Those of atoms enter a fresh table, and those of variables one that is dropped here.
+fn number_names(
+    alloc: Global,
+    atoms: &mut AtomTable,
+    tokens: &[Token],
+) -> Result<Vec<NumberedToken>, NoMemory>
+    requires { atoms.old ≡ fixed_names }
+    ensures atoms { OnOk result (atoms.new ≡ atoms_of (map placed_of tokens.now)) }
+    ensures token_list { IfOk result (λ found. token_list found.items ≡ numbered (map placed_of tokens.now)) }
+{
+    let mut variables = AtomTable::new(alloc)?;
+    number_all(alloc, atoms, &mut variables, tokens)
+}
+
+/// The atoms of the tokens, and the tokens with numbers for their names.
+pub fn number_tokens(
+    alloc: Global,
+    tokens: &[Token],
+) -> Result<(AtomTable, Vec<NumberedToken>), NoMemory>
+    ensures atoms { IfOk result (λ x. x.0 ≡ atoms_of (map placed_of tokens.now)) }
+    ensures token_list { IfOk result (λ x. token_list x.1.items ≡ numbered (map placed_of tokens.now)) }
+{
+    let mut atoms = AtomTable::new(alloc)?;
+    let found = number_names(alloc, &mut atoms, tokens)?;
+    Ok((atoms, found))
+}
