@@ -106,9 +106,9 @@ impl Book {
     pub fn once(&mut self, alloc: Global, project: u32, ticket: u64) -> Result<bool, NoMemory>
         ensures { Works self.old project ticket result self.new }
     {
-        if let Some(desk) = self.desks.get_mut(&project) {
-            return desk.once(alloc, ticket);
-        }
-        Ok(false)
+        let Some(desk) = self.desks.get_mut(&project) else {
+            return Ok(false);
+        };
+        desk.once(alloc, ticket)
     }
 }

@@ -84,7 +84,8 @@ impl Job {
 
     /// The report of the run.
     pub fn run(&self, alloc: Global) -> Result<Report, NoMemory>
-        ensures { IfOk result (λ r. Means self.now.stored.functions self.now.root self.now.limit (report_of r)) }
+        ensures { IfOk result (λ r.
+            Means self.now.stored.functions self.now.root self.now.limit (report_of r)) }
     {
         run_one(alloc, self.stored.module(), self.root, self.order.limit)
     }

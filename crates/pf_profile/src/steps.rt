@@ -2,29 +2,33 @@
 
 ghost use Rattle.std.specs.Prelude.{◌≡◌, ◌≤◌, ℕ, List, length, IfOk, IfErr, OnOk};
 ghost use Rattle.std.specs.Io.KnownBytes.{Consumes};
-ghost use Rattle.pf_wire.specs.Steps.{most_bytes, StepsAnswered, StepsLeaves};
+ghost use Rattle.pf_wire.specs.Steps.{StepsAnswered, StepsLeaves};
 ghost use Rattle.pf_profile.specs.Profile.{profile};
 
-use pf_terms::Counted;
-use pf_wire::StepsFault;
+use pf_fault::OrNoMemory;
+use pf_terms::{Counted, StreamFault};
+use pf_wire::MOST_BYTES;
 use std::alloc::Global;
 use std::io::{Read, Write};
 use std::sync::ledger::Ledger;
 
-/// Reads at most 67,108,864 bytes, answers each command as it is done, and gives the status: 2 where a line is no command,
+/// Reads at most 64 MiB, answers each command as it is done, and gives the status: 2 where a line is no command,
 /// behind which nothing is done, and else 0.
 pub fn run_steps<R: Read, W: Write, L: Ledger, M: Ledger>(
     alloc: Global,
     reader: &mut Counted<R, L>,
     writer: &mut Counted<W, M>,
-) -> Result<u8, StepsFault>
+) -> Result<u8, OrNoMemory<StreamFault>>
     ensures answered { IfOk result (λ status. StepsAnswered profile (R.remaining reader.old.inner)
         (W.contents writer.old.inner) (W.contents writer.new.inner) status) }
-    ensures taken { (bytes : List ℕ) × (length bytes ≤ most_bytes) × Consumes (R.remaining reader.old.inner) (R.remaining reader.new.inner) bytes }
-    ensures counts { OnOk result ((reader.new.failures.total ≡ reader.old.failures.total) × (writer.new.failures.total ≡ writer.old.failures.total)) }
+    ensures taken { (bytes : List ℕ) × (length bytes ≤ MOST_BYTES)
+        × Consumes (R.remaining reader.old.inner) (R.remaining reader.new.inner) bytes }
+    ensures counts { OnOk result ((reader.new.failures.total ≡ reader.old.failures.total)
+        × (writer.new.failures.total ≡ writer.old.failures.total)) }
     ensures fault { IfErr result (λ e. StepsLeaves profile e (R.remaining reader.old.inner)
         (W.contents writer.old.inner) (W.contents writer.new.inner)
-        reader.old.failures.total reader.new.failures.total writer.old.failures.total writer.new.failures.total) }
+        reader.old.failures.total reader.new.failures.total
+        writer.old.failures.total writer.new.failures.total) }
 {
     pf_wire::run_steps(alloc, reader, writer)
 }

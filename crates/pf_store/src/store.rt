@@ -34,7 +34,8 @@ impl Model for Store {
     ghost view = { λ s. keys s.modules };
 
     // The module under a source is what the source is read as.
-    ghost invariant = { λ s. (source : List ℕ) → IfSome (get bytes_eq s.modules source) (λ m. Reads source (accepted_as (arc_value m))) };
+    ghost invariant = { λ s. (source : List ℕ)
+        → IfSome (get bytes_eq s.modules source) (λ m. Reads source (accepted_as (arc_value m))) };
 }
 
 impl Store {
@@ -51,7 +52,8 @@ impl Store {
     fn kept(&self, source: &Source) -> Result<Option<Stored>, NoMemory>
         ensures { IfOk result (λ found. MatchOption found
             (list_any (bytes_eq source.now) self.now ≡ false)
-            (λ s. (list_any (bytes_eq source.now) self.now ≡ true) × (s.source ≡ source.now) × IsReadAs source.now s)) }
+            (λ s. (list_any (bytes_eq source.now) self.now ≡ true)
+            × (s.source ≡ source.now) × IsReadAs source.now s)) }
     {
         match self.modules.get_key_value(source) {
             Some((kept, module)) => Ok(Some(Stored::of(kept, Arc::try_clone(module)?)?)),
@@ -70,7 +72,11 @@ impl Store {
     }
 
     /// The module of a source, with the bytes that are kept: read and kept where no module of these bytes is kept yet.
-    pub fn take_or_read(&mut self, alloc: Global, source: &Source) -> Result<Stored, OrNoMemory<Refusal>>
+    pub fn take_or_read(
+        &mut self,
+        alloc: Global,
+        source: &Source,
+    ) -> Result<Stored, OrNoMemory<Refusal>>
         ensures read { IfOk result (λ s. (s.source ≡ source.now) × IsReadAs source.now s) }
         ensures fault { IfErr result (IsRefusalOf source.now) }
         ensures kept { OnOk result (self.new ≡ with_source self.old source.now) }

@@ -30,7 +30,8 @@ impl Model for Stored {
 
     ghost coded = { coded_stored };
 
-    ghost view = { λ s. record { source = s.source; atoms = (arc_value s.module).atoms; functions = (arc_value s.module).functions } };
+    ghost view = { λ s. let m = arc_value s.module in
+        record { source = s.source; atoms = m.atoms; functions = m.functions } };
 
     ghost invariant = { λ s. Reads s.source (accepted_as (arc_value s.module)) };
 }

@@ -12,7 +12,8 @@ use Rattle.pf_model.specs.Desk.{Profile}
 use Rattle.pf_model.specs.World.{World}
 use Rattle.pf_model.specs.Told.{outcome_text}
 use Rattle.pf_book.specs.Profile.{IsRight}
-use Rattle.pf_wire.specs.Steps.{most_bytes, AnswersOne, AnswersInPart, AreRead, StepsAnsweredInPart, StepsText, Stops, StepsLeaves, last_text}
+use Rattle.pf_wire.specs.Steps.{AnswersOne, AnswersInPart, AreRead, StepsAnsweredInPart, StepsText, Stops, StepsLeaves, last_text}
+use Rattle.pf_wire.specs.declared.steps.TheConstants.{MOST_BYTES}
 use Rattle.pf_wire.proofs.Shorter.{command_shorter}
 use Rattle.pf_wire.proofs.Progress.{SoFar, begun, answered_one, finished_well, finished_ill, goes_on}
 
@@ -35,7 +36,7 @@ front_both w0 w1 w2 a b more h k = (
 
 first_bytes : (r : Option (List ℕ)) → (bytes : List ℕ) × AreRead r bytes
 first_bytes None = ([], tt)
-first_bytes (Some input) = (take most_bytes input, refl)
+first_bytes (Some input) = (take MOST_BYTES input, refl)
 
 -- how far it came, with what went out
 abbrev pub WentOut : Profile → (bytes rest : List ℕ) → World → ℕ → (written_old written_new : Option (List ℕ)) → Type 0

@@ -13,10 +13,7 @@ use Rattle.pf_model.specs.Told.{outcome_text, outcomes_text}
 use Rattle.pf_model.specs.Desk.{Profile}
 use Rattle.pf_book.specs.Profile.{ForRight}
 use Rattle.pf_wire.specs.Commands.{Commands, command_at}
-
--- of the bytes at most 67,108,864 are read
-abbrev pub most_bytes : ℕ
-most_bytes = 67108864
+use Rattle.pf_wire.specs.declared.steps.TheConstants.{MOST_BYTES}
 
 -- command number k, counted from 1, is none
 abbrev pub last_text : Bool → ℕ → List ℕ
@@ -53,7 +50,7 @@ AnswersInPart p bytes w0 w1 = (text : List ℕ) × (status : ℕ) × StepsText p
 
 -- the bytes that are read are the first 67,108,864, where it is known what there is
 abbrev pub AreRead : Option (List ℕ) → List ℕ → Type 0
-AreRead r0 bytes = IfSome r0 (λ input. bytes ≡ take most_bytes input)
+AreRead r0 bytes = IfSome r0 (λ input. bytes ≡ take MOST_BYTES input)
 
 -- what was read is answered with the text that went out and the status
 abbrev pub StepsAnswered : Profile → (read_old written_old written_new : Option (List ℕ)) → ℕ → Type 0

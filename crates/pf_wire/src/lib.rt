@@ -10,4 +10,4 @@ mod steps;
 
 pub use command::{Command, LineFault, read_command};
 pub use outcome::{Outcome, Requester, perform, put_outcome};
-pub use steps::run_steps;
+pub use steps::{MOST_BYTES, run_steps};

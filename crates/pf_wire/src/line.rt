@@ -58,7 +58,8 @@ fn read_submit(words: &[u8]) -> Option<Request>
 }
 
 fn read_fetch(words: &[u8]) -> Option<Request>
-    ensures { option_map request_seen result ≡ of_two (λ p t. made (client p (fetch t))) (words_of words.now) }
+    ensures { option_map request_seen result
+        ≡ of_two (λ p t. made (client p (fetch t))) (words_of words.now) }
 {
     let (project, ticket) = two_numbers(words)?;
     Some(Request::Made(Command::Client(project, Call::Fetch(u64::from(ticket)))))
@@ -95,7 +96,8 @@ fn is_word(text: &[u8]) -> bool
 fn order_words(words: &[u8]) -> Option<OrderWords<'_>>
     ensures { MatchOption result
         (of_order (words_of words.now) ≡ None)
-        (λ w. words_of words.now ≡ w.project.now ∷ w.module.now ∷ w.root.now ∷ w.property.now ∷ w.choices.now ∷ w.limit.now ∷ []) }
+        (λ w. words_of words.now
+        ≡ w.project.now ∷ w.module.now ∷ w.root.now ∷ w.property.now ∷ w.choices.now ∷ w.limit.now ∷ []) }
 {
     let (project, words) = first_word(words)?;
     let (module, words) = first_word(words)?;

@@ -79,7 +79,8 @@ pub fn perform(alloc: Global, book: &mut Book, command: Command) -> Outcome
 
 /// Puts that a growth was refused.
 fn put_memory(alloc: Global, out: &mut Vec<u8>, requester: Requester) -> Result<(), NoMemory>
-    ensures { (s : Step) → requester ≡ requester_of s → OnOk result (out.new.items ≡ out.old.items ++ memory_text s) }
+    ensures { (s : Step) → requester ≡ requester_of s
+        → OnOk result (out.new.items ≡ out.old.items ++ memory_text s) }
 {
     match requester {
         Requester::Client(project) => {
@@ -97,7 +98,8 @@ pub fn put_outcome(
     requester: Requester,
     outcome: &Outcome,
 ) -> Result<(), NoMemory>
-    ensures { (s : Step) → requester ≡ requester_of s → OnOk result (out.new.items ≡ out.old.items ++ outcome_text s (outcome_seen outcome.now)) }
+    ensures { (s : Step) → requester ≡ requester_of s
+        → OnOk result (out.new.items ≡ out.old.items ++ outcome_text s (outcome_seen outcome.now)) }
 {
     match outcome {
         Outcome::Replied(reply) => match requester {

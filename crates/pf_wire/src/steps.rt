@@ -7,7 +7,7 @@ ghost use Rattle.pf_model.specs.World.{Answer, AnswersStep};
 ghost use Rattle.pf_model.specs.Told.{outcome_text};
 ghost use Rattle.pf_book.specs.Profile.{ForRight};
 ghost use Rattle.pf_wire.specs.View.{command_seen};
-ghost use Rattle.pf_wire.specs.Steps.{last_text, most_bytes, AnswersOne, StepsText, Stops, StepsAnswered, StepsLeaves};
+ghost use Rattle.pf_wire.specs.Steps.{last_text, AnswersOne, StepsText, Stops, StepsAnswered, StepsLeaves};
 
 use crate::command::{Command, LineFault, read_command};
 use crate::outcome::{Requester, perform, put_outcome};
@@ -19,8 +19,8 @@ use std::alloc::Global;
 use std::io::{Read, Write};
 use std::sync::ledger::Ledger;
 
-/// The most bytes that are read.
-const MOST_BYTES: usize = 67_108_864;
+/// The most bytes that are read: 64 MiB.
+pub const MOST_BYTES: usize = 67_108_864;
 
 /// Does what a command asks for, and gives the text of what came of it.
 fn answer(alloc: Global, book: &mut Book, command: Command) -> Result<Vec<u8>, NoMemory>
@@ -59,7 +59,8 @@ fn answer_front<'a>(
     bytes: &'a [u8],
     number: u64,
 ) -> Result<Answered<'a>, NoMemory>
-    ensures { IfOk result (λ a. AnswersOne bytes.now number book.old a.text.items (option_copied a.rest) book.new) }
+    ensures { IfOk result (λ a.
+        AnswersOne bytes.now number book.old a.text.items (option_copied a.rest) book.new) }
 {
     match read_command(alloc, bytes) {
         Ok((command, rest)) => Ok(Answered {
@@ -80,10 +81,12 @@ fn answer_all<W: Write, M: Ledger>(
     input: &[u8],
     writer: &mut Counted<W, M>,
 ) -> Result<u8, OrNoMemory<StreamFault>>
-    ensures answered { IfOk result (λ status. ForRight (λ p. (text : List ℕ) × StepsText p input.now text status
+    ensures answered { IfOk result (λ status. ForRight (λ p.
+        (text : List ℕ) × StepsText p input.now text status
         × Appends (W.contents writer.old.inner) (W.contents writer.new.inner) text)) }
     ensures kept { OnOk result (writer.new.failures.total ≡ writer.old.failures.total) }
-    ensures fault { IfErr result (λ e. ForRight (λ p. Stops p e input.now (W.contents writer.old.inner) (W.contents writer.new.inner)
+    ensures fault { IfErr result (λ e. ForRight (λ p.
+        Stops p e input.now (W.contents writer.old.inner) (W.contents writer.new.inner)
         writer.old.failures.total writer.new.failures.total)) }
 {
     let mut book = Book::new(alloc);
@@ -106,7 +109,7 @@ fn answer_all<W: Write, M: Ledger>(
     Ok(0)
 }
 
-/// Reads at most 67,108,864 bytes, answers each command as it is done, and gives the status: 2 where a line is no command,
+/// Reads at most 64 MiB, answers each command as it is done, and gives the status: 2 where a line is no command,
 /// behind which nothing is done, and else 0.
 pub fn run_steps<R: Read, W: Write, L: Ledger, M: Ledger>(
     alloc: Global,
@@ -115,11 +118,14 @@ pub fn run_steps<R: Read, W: Write, L: Ledger, M: Ledger>(
 ) -> Result<u8, OrNoMemory<StreamFault>>
     ensures answered { IfOk result (λ status. ForRight (λ p. StepsAnswered p (R.remaining reader.old.inner)
         (W.contents writer.old.inner) (W.contents writer.new.inner) status)) }
-    ensures taken { (bytes : List ℕ) × (length bytes ≤ most_bytes) × Consumes (R.remaining reader.old.inner) (R.remaining reader.new.inner) bytes }
-    ensures counts { OnOk result ((reader.new.failures.total ≡ reader.old.failures.total) × (writer.new.failures.total ≡ writer.old.failures.total)) }
+    ensures taken { (bytes : List ℕ) × (length bytes ≤ MOST_BYTES)
+        × Consumes (R.remaining reader.old.inner) (R.remaining reader.new.inner) bytes }
+    ensures counts { OnOk result ((reader.new.failures.total ≡ reader.old.failures.total)
+        × (writer.new.failures.total ≡ writer.old.failures.total)) }
     ensures fault { IfErr result (λ e. ForRight (λ p. StepsLeaves p e (R.remaining reader.old.inner)
         (W.contents writer.old.inner) (W.contents writer.new.inner)
-        reader.old.failures.total reader.new.failures.total writer.old.failures.total writer.new.failures.total)) }
+        reader.old.failures.total reader.new.failures.total
+        writer.old.failures.total writer.new.failures.total)) }
 {
     let mut input = match reader.take_front(alloc, MOST_BYTES) {
         Ok(input) => input,

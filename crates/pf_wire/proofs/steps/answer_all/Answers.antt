@@ -18,8 +18,8 @@ returns-in-Err-put-clause-fault g c =
     let some = sym c.is_empty.ensures ∙ c.loop-rest-test.true in
     λ p right.
     stops_at p _ _ c.args.input.now c.in-Err-put.e _ _ _ c.loop-rest.invariant.same c.in-Err-put.ensures.counted
-      (stops_within p right c.args.input.now c.loop-rest.rest.now c.loop-rest.book c.answer_front.new.book c.loop-rest.number _ _ _ c.in-Ok.answered.text.items _ some
-          (c.loop-rest.invariant.so_far p right) c.in-Ok.ensures (rw c.deref.ensures.value at c.in-Err-put.ensures.front))
+    (stops_within p right c.args.input.now c.loop-rest.rest.now c.loop-rest.book c.answer_front.new.book c.loop-rest.number _ _ _ c.in-Ok.answered.text.items _ some
+    (c.loop-rest.invariant.so_far p right) c.in-Ok.ensures (rw c.deref.ensures.value at c.in-Err-put.ensures.front))
 
 pub returns-in_default-rest-clause-answered : goal.returns-in_default-rest-clause-answered
 returns-in_default-rest-clause-answered g c =

@@ -5,8 +5,8 @@ use Rattle.pf_model.specs.World.{desk_at, put_desk}
 use Rattle.pf_book.proofs.Placed.{at_some, at_none, put_set, put_same, works, no_work, none_queued}
 use Rattle.pf_book.proofs.book.Book.once.Goals as goal
 
-pub returns-in-Some : goal.returns-in-Some
-returns-in-Some c =
+pub returns : goal.returns
+returns c =
     let es = c.self.inside.desks.entries in
     let q = c.args.project in
     let d = c.in-Some.desk.now in
@@ -17,8 +17,8 @@ returns-in-Some c =
     let same : put_desk q d c.args.self.now ≡ c.args.self.now = ap (put_desk q d) (sym seen) ∙ put_same q es d found ∙ seen in
     works q c.args.self.now c.args.ticket d c.once.new.self here _ put same c.once.result c.once.ensures
 
-pub returns : goal.returns
-returns c =
+pub returns-in_default : goal.returns-in_default
+returns-in_default c =
     let es = c.self.inside.desks.entries in
     let q = c.args.project in
     let absent : lookup (nat_eq q) es ≡ None = search rules in
