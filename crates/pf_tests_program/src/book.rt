@@ -2,6 +2,7 @@
 
 use pf_book::{Book, Order, Reply, Word};
 use pf_store::Source;
+use pf_terms::NoMemory;
 use std::alloc::Global;
 use std::test::Fail;
 
@@ -24,19 +25,24 @@ fn described(alloc: Global, reply: Reply) -> Result<String, Fail> {
     Ok(text)
 }
 
-fn submitted(alloc: Global, book: &mut Book, project: u32) -> Result<String, Fail> {
-    let source = Source::new(alloc, Vec::from_slice(alloc, SUM.as_bytes())?)?;
+fn submitted(alloc: Global, book: &mut Book, project: u32, text: &str) -> Result<String, Fail> {
+    let source = Source::new(alloc, Vec::from_slice(alloc, text.as_bytes())?)?;
     described(alloc, book.submit(alloc, project, source)?)
 }
 
-fn ordered(alloc: Global, book: &mut Book, project: u32, module: u64) -> Result<String, Fail> {
-    let order = Order {
+/// An order within 100 steps, without a schedule.
+fn order_of(alloc: Global, module: u64, root: &str, property: &str) -> Result<Order, Fail> {
+    Ok(Order {
         module,
-        root: Word::from_slice(alloc, b"main")?,
-        property: Word::from_slice(alloc, b"returns")?,
+        root: Word::from_slice(alloc, root.as_bytes())?,
+        property: Word::from_slice(alloc, property.as_bytes())?,
         schedule: Vec::new(alloc),
         limit: 100,
-    };
+    })
+}
+
+fn ordered(alloc: Global, book: &mut Book, project: u32, module: u64) -> Result<String, Fail> {
+    let order = order_of(alloc, module, "main", "returns")?;
     described(alloc, book.order(alloc, project, order)?)
 }
 
@@ -44,39 +50,60 @@ fn fetched(alloc: Global, book: &mut Book, project: u32, ticket: u64) -> Result<
     described(alloc, book.fetch(alloc, project, ticket)?)
 }
 
+/// Whether a worker ran the trial.
+fn worked(alloc: Global, book: &mut Book, project: u32, ticket: u64) -> Result<bool, NoMemory> {
+    book.once(alloc, project, ticket)
+}
+
 fn used(alloc: Global, book: &mut Book, project: u32) -> Result<String, Fail> {
     described(alloc, book.usage(alloc, project)?)
+}
+
+/// What a project is told that submits and orders for the first time.
+fn told_first(alloc: Global, book: &mut Book, project: u32) -> Result<String, Fail> {
+    let nothing = used(alloc, book, project)?;
+    let early = ordered(alloc, book, project, 1)?;
+    let module = submitted(alloc, book, project, SUM)?;
+    let ticket = ordered(alloc, book, project, 1)?;
+    let waiting = fetched(alloc, book, project, 1)?;
+    Ok(format!(in alloc; "{nothing}, {early}, {module}, {ticket}, {waiting}")?)
+}
+
+/// What it is told then, when a worker has run its trial and has nothing more to run.
+fn told_then(alloc: Global, book: &mut Book, project: u32) -> Result<String, Fail> {
+    let done = worked(alloc, book, project, 1)?;
+    let again = worked(alloc, book, project, 1)?;
+    let report = fetched(alloc, book, project, 1)?;
+    let unknown = fetched(alloc, book, project, 2)?;
+    let all = used(alloc, book, project)?;
+    Ok(format!(in alloc; "{done}, {again}, {report}, {unknown}, {all}")?)
 }
 
 #[test]
 fn projects_are_told_their_own(rt: HostRuntime) -> Result<(), Fail> {
     let alloc = rt.alloc();
     let mut book = Book::new(alloc);
+    let first = "0 0 0 0 0, refused B1, module 1, ticket 1, refused B5";
     for project in [0u32, 7, 4294967295] {
-        assert_eq!(rt; used(alloc, &mut book, project)?.as_str(), "0 0 0 0 0");
-        assert_eq!(rt;
-            ordered(alloc, &mut book, project, 1)?.as_str(),
-            "refused B1"
-        );
-        assert_eq!(rt; submitted(alloc, &mut book, project)?.as_str(), "module 1");
-        assert_eq!(rt; ordered(alloc, &mut book, project, 1)?.as_str(), "ticket 1");
-        assert_eq!(rt;
-            fetched(alloc, &mut book, project, 1)?.as_str(),
-            "refused B5"
-        );
+        let told = told_first(alloc, &mut book, project)?;
+        assert_eq!(rt; told.as_str(), first, "{project}");
     }
+    let then = "true, false, 4 steps, refused B3, 1 51 1 100 7";
     for project in [4294967295u32, 0, 7] {
-        assert!(rt; book.once(alloc, project, 1)?);
-        assert!(rt; !book.once(alloc, project, 1)?);
-        assert_eq!(rt; fetched(alloc, &mut book, project, 1)?.as_str(), "4 steps");
-        assert_eq!(rt;
-            fetched(alloc, &mut book, project, 2)?.as_str(),
-            "refused B3"
-        );
-        assert_eq!(rt; used(alloc, &mut book, project)?.as_str(), "1 51 1 100 7");
+        let told = told_then(alloc, &mut book, project)?;
+        assert_eq!(rt; told.as_str(), then, "{project}");
     }
-    assert!(rt; !book.once(alloc, 1, 1)?);
+    assert!(rt; !worked(alloc, &mut book, 1, 1)?);
     Ok(())
+}
+
+/// What one project is told in a round with its module and trial of this number.
+fn told_in_round(alloc: Global, book: &mut Book, number: u64) -> Result<String, Fail> {
+    let module = submitted(alloc, book, 0, SUM)?;
+    let ticket = ordered(alloc, book, 0, number)?;
+    let done = worked(alloc, book, 0, number)?;
+    let report = fetched(alloc, book, 0, number)?;
+    Ok(format!(in alloc; "{module}, {ticket}, {done}, {report}")?)
 }
 
 #[test]
@@ -84,15 +111,9 @@ fn many_modules_and_trials_of_one_project(rt: HostRuntime) -> Result<(), Fail> {
     let alloc = rt.alloc();
     let mut book = Book::new(alloc);
     for number in 1..100u64 {
-        let module = format!(in alloc; "module {number}")?;
-        assert_eq!(rt; submitted(alloc, &mut book, 0)?.as_str(), module.as_str());
-        let ticket = format!(in alloc; "ticket {number}")?;
-        assert_eq!(rt;
-            ordered(alloc, &mut book, 0, number)?.as_str(),
-            ticket.as_str()
-        );
-        assert!(rt; book.once(alloc, 0, number)?);
-        assert_eq!(rt; fetched(alloc, &mut book, 0, number)?.as_str(), "4 steps");
+        let told = told_in_round(alloc, &mut book, number)?;
+        let want = format!(in alloc; "module {number}, ticket {number}, true, 4 steps")?;
+        assert_eq!(rt; told.as_str(), want.as_str());
     }
     Ok(())
 }
