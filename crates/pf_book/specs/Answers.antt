@@ -14,7 +14,7 @@ DeskAnswers d c (Ok r) d' = ForRight (λ p. (reply_seen r ≡ reply_to p d c) ×
 DeskAnswers d c (Err e) d' = d' ≡ d
 
 -- DeskWorks d t r d': a worker runs the trial of a ticket whole and the desk goes on to the next one, or the trial isn't queued; memory
--- is wanting only where it is, and leaves the desk as it was
+-- runs out only where it is, and the desk is as it was then
 abbrev pub DeskWorks : desk.Desk → ℕ → Result Bool NoMemory → desk.Desk → Type 0
 DeskWorks d t (Ok true) d' = ForRight (λ p. worker_step p d (once t) ≡ Some d')
 DeskWorks d t (Ok false) d' = (is_queued (numbered d.trials t) ≡ false) × (d' ≡ d)
@@ -26,8 +26,8 @@ abbrev pub Answers : World → ℕ → desk.Call → Result Reply NoMemory → W
 Answers w q c (Ok r) w' = ForRight (λ p. ◌≡◌ {A = World × Answer} (step p w (client q c)) (w', replied (reply_seen r)))
 Answers w q c (Err e) w' = w' ≡ w
 
--- Works w q t r w': a worker runs the trial of a project's ticket whole, as the world's step says, and leads to the next world; memory is
--- wanting only where the trial is queued, and leaves the world as it was
+-- Works w q t r w': a worker runs the trial of a project's ticket whole, as the world's step says, and leads to the next world; memory
+-- runs out only where the trial is queued, and the world is as it was then
 abbrev pub Works : World → ℕ → ℕ → Result Bool NoMemory → World → Type 0
 Works w q t (Ok b) w' = ForRight (λ p. ◌≡◌ {A = World × Answer} (step p w (worker q (once t))) (w', if b then work_done else not_now))
 Works w q t (Err e) w' = (is_queued (numbered (desk_at q w).trials t) ≡ true) × (w' ≡ w)

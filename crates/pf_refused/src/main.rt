@@ -6,9 +6,7 @@
 mod mail;
 
 use pf_fault::OrNoMemory;
-use pf_terms::{
-    AtomId, AtomTable, List, NoMemory, Term, TooLarge, copy, list_of, nodes, tuple_of,
-};
+use pf_terms::{AtomId, AtomTable, List, NoMemory, Term, TooLarge, copy, list_of, nodes, tuple_of};
 use std::alloc::Global;
 use std::io;
 use std::process::ExitCode;
