@@ -24,7 +24,7 @@ fn describe(out: &mut String, source: &Source) -> Result<(), Fail> {
 fn read(alloc: Global, text: &str) -> Result<String, Fail> {
     let mut out = String::new(alloc);
     let found = tokens(alloc, text.as_bytes())?;
-    let read = read_tree(alloc, &found)?;
+    let read = read_tree(alloc, &found, text.len())?;
     describe(&mut out, &read.source)?;
     Ok(out)
 }
