@@ -17,6 +17,7 @@ use Rattle.pf_model.specs.Meaning.{Means, Report}
 use Rattle.pf_model.specs.Text.{line, report_text, returns_holds}
 use Rattle.pf_check.specs.Reads.{Reads, accepted, refused}
 use Rattle.pf_command.specs.Words.{Request}
+use Rattle.pf_command.specs.declared.answer.Answer.{Answer}
 use Rattle.pf_command.specs.declared.source.TheConstants.{MOST_BYTES}
 
 -- the run that is asked for is one that may be
@@ -41,6 +42,10 @@ pub data Answers (r : Request) (bytes : List ℕ) : List ℕ → ℕ → Type 0 
   reported : (name : ℕ) (atoms : List (List ℕ)) (functions : Program) (i : ℕ) (report : Report) → Reads bytes (accepted name atoms functions)
       → root_of r.root atoms functions ≡ Some i → may_be_asked r ≡ true → Means functions i r.limit report
       → Answers r bytes (report_text (name_of atoms) report) (run_status (returns_holds report.outcome))
+
+-- the answer is these words on a line of their own, with the status of what is refused
+abbrev pub Refuses : Answer → List ℕ → Type 0
+Refuses a words = (a.text.items ≡ line words) × (a.status ≡ 2)
 
 -- these are the first 65,537 bytes of what was to be read, where it is known
 abbrev pub AreRead : Option (List ℕ) → List ℕ → Type 0

@@ -117,3 +117,7 @@ IsFaultOf k words =
 -- the status of words that ask for no run: 0 where they ask for help or the version, else 2
 unfoldable pub words_status : List Text → ℕ
 words_status words = if list_any is_shown (fault_of pulsefarm words) then 0 else 2
+
+-- words that ask for nothing have the status of each kind that they may fail by
+abbrev pub StatusesAgree : Type 0
+StatusesAgree = (words : List Text) (k : ErrorKind) → IsFaultOf k words → status_of_kind k ≡ words_status words

@@ -4,11 +4,11 @@ ghost use Rattle.std.specs.Prelude.{◌≡◌, length, ℕ, List, IfOk, Some, tr
 ghost use Rattle.pf_fault.specs.Codes.{code_text, refusal_text};
 ghost use Rattle.pf_syntax.specs.Root.{root_of};
 ghost use Rattle.pf_model.specs.Limits.{is_in_range};
-ghost use Rattle.pf_model.specs.Text.{line, returns_holds};
+ghost use Rattle.pf_model.specs.Text.{returns_holds};
 ghost use Rattle.pf_model.specs.Reports.{outcome_of};
 ghost use Rattle.pf_check.specs.Reads.{Reads, accepted_as};
 ghost use Rattle.pf_command.specs.Words.{request};
-ghost use Rattle.pf_command.specs.Answers.{Answers, run_status};
+ghost use Rattle.pf_command.specs.Answers.{Answers, Refuses, run_status};
 
 use crate::words::RunWords;
 use pf_check::read;
@@ -33,8 +33,7 @@ pub struct Answer {
 
 /// These words on a line of their own, with the status of what is refused.
 fn refused(alloc: Global, words: &str) -> Result<Answer, NoMemory>
-    ensures text { IfOk result (λ a. a.text.items ≡ line words.entry.now) }
-    ensures status { IfOk result (λ a. a.status ≡ 2) }
+    ensures { IfOk result (λ a. Refuses a words.entry.now) }
 {
     let mut text = Vec::new(alloc);
     put(&mut text, words.as_bytes())?;
@@ -47,8 +46,7 @@ fn refused(alloc: Global, words: &str) -> Result<Answer, NoMemory>
 
 /// A code, as `B2`.
 fn refused_by_code(alloc: Global, code: Code) -> Result<Answer, NoMemory>
-    ensures text { IfOk result (λ a. a.text.items ≡ line (code_text code)) }
-    ensures status { IfOk result (λ a. a.status ≡ 2) }
+    ensures { IfOk result (λ a. Refuses a (code_text code)) }
 {
     let words = format!(in alloc; "{code}")?;
     refused(alloc, &words)
@@ -56,8 +54,7 @@ fn refused_by_code(alloc: Global, code: Code) -> Result<Answer, NoMemory>
 
 /// A code with its place, as `E6 at 41`.
 fn refused_at(alloc: Global, refusal: Refusal) -> Result<Answer, NoMemory>
-    ensures text { IfOk result (λ a. a.text.items ≡ line (refusal_text refusal.code refusal.place)) }
-    ensures status { IfOk result (λ a. a.status ≡ 2) }
+    ensures { IfOk result (λ a. Refuses a (refusal_text refusal.code refusal.place)) }
 {
     let words = format!(in alloc; "{refusal}")?;
     refused(alloc, &words)

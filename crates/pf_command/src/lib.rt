@@ -2,8 +2,10 @@
 #![tactic(auto)]
 
 mod answer;
+mod laws;
 mod source;
 mod words;
 
-pub use source::run_source;
+pub use laws::statuses_agree;
+pub use source::{MOST_BYTES, run_source};
 pub use words::{RunWords, StepsWords, Words, read_words, status_of_kind};

@@ -1,9 +1,9 @@
 //! The words of the command line.
 
-ghost use Rattle.std.specs.Prelude.{◌≡◌, ◌⊎◌, List, IfOk, IfErr, map, true, false, Some, None, codes, option_map};
-ghost use Rattle.clap.specs.Words.{FailsBy, Shape, Text, app_of, fault_of, subcommand_of, subcommand_rows_of, rule_of, new_app, kind_of, first_of, rows_of, found_of};
+ghost use Rattle.std.specs.Prelude.{◌≡◌, ◌⊎◌, IfOk, IfErr, map, true, false, Some, None, codes, option_map};
+ghost use Rattle.clap.specs.Words.{FailsBy, Shape, app_of, fault_of, subcommand_of, subcommand_rows_of, rule_of, new_app, kind_of, first_of, rows_of, found_of};
 ghost use Rattle.clap.specs.declared.builder.command.Command.TheViews.{out-Command};
-ghost use Rattle.pf_command.specs.Words.{IsFaultOf, file_of, file_rule, named_file, of_command, option_rule, pulsefarm, request, run_app, run_of, status_of_kind, steps_app, top_shape, wanted, wanted_of, words_status};
+ghost use Rattle.pf_command.specs.Words.{IsFaultOf, file_of, file_rule, named_file, of_command, option_rule, pulsefarm, request, run_app, run_of, status_of_kind, steps_app, top_shape, wanted, wanted_of};
 
 use clap::error::ErrorKind;
 use clap::{Arg, ArgMatches, Command, Error};
@@ -260,10 +260,9 @@ pub fn read_words<'a>(alloc: Global, words: &'a [&'a str]) -> Result<Words<'a>, 
     }
 }
 
-/// The status that a kind of error ends the program with: that of all words that are refused by it, or ask for its text.
+/// The status that a kind of error ends the program with.
 pub fn status_of_kind(kind: ErrorKind) -> u8
-    ensures kind { result ≡ status_of_kind kind }
-    ensures words { (words : List Text) → IsFaultOf kind words → result ≡ words_status words }
+    ensures { result ≡ status_of_kind kind }
 {
     match kind {
         ErrorKind::DisplayHelp | ErrorKind::DisplayVersion => 0,

@@ -1,0 +1,8 @@
+//! Laws of the definitions: functions with empty bodies, whose contracts are the laws.
+
+ghost use Rattle.pf_command.specs.Words.{StatusesAgree};
+
+/// Words that are refused, or ask for help or the version, have one status, whichever kind of error they fail by.
+pub fn statuses_agree()
+    ensures { StatusesAgree }
+{}
