@@ -6,6 +6,10 @@
 set -u
 top=$(cd "$(dirname "$0")/../.." && pwd)
 program=${1:-$top/crates/pulsefarm/out/pulsefarm}
+if [ ! -x "$program" ]; then
+  echo "there is no program $program"
+  exit 1
+fi
 room=$(mktemp -d)
 trap 'rm -rf "$room"' EXIT
 passed=0

@@ -12,6 +12,10 @@
 set -u
 rows=$(cd "$(dirname "$0")" && pwd)
 program=${1:-$rows/../../crates/pulsefarm/out/pulsefarm}
+if [ ! -x "$program" ]; then
+  echo "there is no program $program"
+  exit 1
+fi
 room=$(mktemp -d)
 trap 'rm -rf "$room"' EXIT
 passed=0
