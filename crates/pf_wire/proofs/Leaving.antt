@@ -8,9 +8,9 @@ use Rattle.pf_terms.specs.declared.stream.StreamFault.{StreamFault}
 use Rattle.pf_terms.specs.declared.stream.StreamFault.TheVariants.{Read, Write}
 use Rattle.pf_terms.specs.Streams.{AppendsFront, CountsReadOrNone, CountsWrite}
 use Rattle.pf_terms.proofs.Writes.{appends_both}
-use Rattle.pf_model.specs.Desk.{Profile}
-use Rattle.pf_model.specs.World.{World}
-use Rattle.pf_model.specs.Told.{outcome_text}
+use Rattle.pf_single.specs.Desk.{Profile}
+use Rattle.pf_single.specs.World.{World}
+use Rattle.pf_single.specs.Told.{outcome_text}
 use Rattle.pf_book.specs.Profile.{IsRight}
 use Rattle.pf_wire.specs.Steps.{AnswersOne, AnswersInPart, AreRead, StepsAnsweredInPart, StepsText, Stops, StepsLeaves, last_text}
 use Rattle.pf_wire.specs.declared.steps.TheConstants.{MOST_BYTES}
