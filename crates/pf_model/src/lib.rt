@@ -1,0 +1,4 @@
+//! What a module of the language means: the definitions of runs of many processes, and their laws.
+#![tactic(auto)]
+
+pub mod limits;
