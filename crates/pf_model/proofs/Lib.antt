@@ -1,2 +1,6 @@
 pub mod Receives
 pub mod Places
+pub mod Sought
+pub mod Turned
+pub mod Enabled
+pub mod Meanings

@@ -1,4 +1,4 @@
--- Evaluation: the definitions worked out, as functions. By the law `one_meaning` what is evaluated is what a job means.
+-- Evaluation: the definitions worked out, as functions. What is evaluated is what a job means (the law `evaluation_is_the_meaning`).
 use Rattle.std.specs.Prelude.{ℕ, zero, suc, ◌+◌, ◌-◌, ◌%◌, true, false, List, [], ◌∷◌, Option, Some, None, length, get_or, slice_get}
 use Rattle.pf_terms.specs.Value.{Value, Values, none, more, list}
 use Rattle.pf_terms.specs.Value as value

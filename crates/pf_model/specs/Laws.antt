@@ -9,6 +9,7 @@ use Rattle.pf_model.specs.Configuration.{Configuration}
 use Rattle.pf_model.specs.Runs.{Actor, process, channel, Transition, Words, Goes, start}
 use Rattle.pf_model.specs.Meaning.{Job, Report, Means}
 use Rattle.pf_model.specs.Shrinking.{by_schedule}
+use Rattle.pf_model.specs.Evaluation.{evaluated}
 
 -- a tree has at most one leftmost innermost redex
 abbrev pub OnePlace : Type 0
@@ -19,6 +20,10 @@ OnePlace =
 -- each job has a meaning, and no other
 abbrev pub OneMeaning : Type 0
 OneMeaning = (j : Job) → (r : Report) × Means j r × ((s : Report) → Means j s → s ≡ r)
+
+-- what is evaluated is what a job means
+abbrev pub EvaluationIsMeaning : Type 0
+EvaluationIsMeaning = (j : Job) → Means j (evaluated j)
 
 -- a job that is given the choices of another's trace as its schedule, all else equal, means the same
 abbrev pub Replay : Type 0

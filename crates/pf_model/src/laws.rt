@@ -1,6 +1,6 @@
 //! Laws of the definitions: functions with empty bodies, whose contracts are the laws.
 
-ghost use Rattle.pf_model.specs.Laws.{OnePlace};
+ghost use Rattle.pf_model.specs.Laws.{OnePlace, OneMeaning, EvaluationIsMeaning, Replay};
 ghost use Rattle.pf_model.specs.Receive.{ReceiveIsRelation};
 
 /// The function of `receive` selects as the relation says which message is taken.
@@ -11,4 +11,19 @@ pub fn receive_is_a_relation()
 /// A tree has at most one leftmost innermost redex.
 pub fn one_place()
     ensures { OnePlace }
+{}
+
+/// Each job has exactly one meaning.
+pub fn one_meaning()
+    ensures { OneMeaning }
+{}
+
+/// What the functions of the evaluation work out is what a job means.
+pub fn evaluation_is_the_meaning()
+    ensures { EvaluationIsMeaning }
+{}
+
+/// The choices of a report, given back as a schedule, mean that report.
+pub fn replay()
+    ensures { Replay }
 {}
