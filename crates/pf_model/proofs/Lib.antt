@@ -4,3 +4,5 @@ pub mod Sought
 pub mod Turned
 pub mod Enabled
 pub mod Meanings
+pub mod Maps
+pub mod Orders

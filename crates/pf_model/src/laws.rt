@@ -1,6 +1,6 @@
 //! Laws of the definitions: functions with empty bodies, whose contracts are the laws.
 
-ghost use Rattle.pf_model.specs.Laws.{OnePlace, OneMeaning, EvaluationIsMeaning, Replay};
+ghost use Rattle.pf_model.specs.Laws.{OnePlace, OneMeaning, EvaluationIsMeaning, Replay, PairOrder};
 ghost use Rattle.pf_model.specs.Receive.{ReceiveIsRelation};
 
 /// The function of `receive` selects as the relation says which message is taken.
@@ -26,4 +26,10 @@ pub fn evaluation_is_the_meaning()
 /// The choices of a report, given back as a schedule, mean that report.
 pub fn replay()
     ensures { Replay }
+{}
+
+/// At any point of a run, and whatever its choices, the signals taken from one process to another are a
+/// beginning of those sent.
+pub fn pair_order()
+    ensures { PairOrder }
 {}
