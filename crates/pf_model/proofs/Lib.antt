@@ -6,3 +6,4 @@ pub mod Enabled
 pub mod Meanings
 pub mod Maps
 pub mod Orders
+pub mod Shrinks

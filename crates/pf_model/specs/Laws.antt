@@ -1,5 +1,5 @@
 -- The laws of runs.
-use Rattle.std.specs.Prelude.{◌≡◌, ℕ, if◌then◌else◌, ◌==◌, List, [], ◌∷◌, ◌++◌, Option, Some, None, map}
+use Rattle.std.specs.Prelude.{◌≡◌, ◌<◌, ◌⊎◌, ◌↔◌, ℕ, Bool, true, false, if◌then◌else◌, ◌==◌, List, [], ◌∷◌, ◌++◌, Option, Some, None, map, length, sum, All}
 use Rattle.pf_syntax.specs.Tree.{Tree}
 use Rattle.pf_model.specs.Code.{Code}
 use Rattle.pf_model.specs.Contraction.{Change}
@@ -8,7 +8,7 @@ use Rattle.pf_model.specs.Channels.{Signal}
 use Rattle.pf_model.specs.Configuration.{Configuration}
 use Rattle.pf_model.specs.Runs.{Actor, process, channel, Transition, Words, Goes, start}
 use Rattle.pf_model.specs.Meaning.{Job, Report, Means}
-use Rattle.pf_model.specs.Shrinking.{by_schedule}
+use Rattle.pf_model.specs.Shrinking.{Found, candidates, shrunk, by_schedule}
 use Rattle.pf_model.specs.Evaluation.{evaluated}
 
 -- a tree has at most one leftmost innermost redex
@@ -68,3 +68,26 @@ abbrev pub PairOrder : Type 0
 PairOrder =
     (m : Code) (ws : Words) (n root : ℕ) (ts : List Transition) (d : Configuration) (k : ℕ) → Goes m ws n (start root) ts d k
     → (a b : ℕ) → (left : List Signal) × (all_taken a b ts ++ left ≡ all_sent a b ts)
+
+-- ---- shrinking
+
+-- a schedule is shorter than another, or as long with a smaller sum
+abbrev pub IsSmaller : (one other : List ℕ) → Type 0
+IsSmaller ms ns = (length ms < length ns) ⊎ ((length ms ≡ length ns) × (sum ms < sum ns))
+
+-- what is found of a schedule: it fails, and is that schedule or a smaller one; where the search was complete, no candidate of it
+-- fails
+pub record IsFoundOf (fails : List ℕ → Bool) (ns : List ℕ) (f : Found) : Type 0 where
+  pub still_fails : fails f.schedule ≡ true
+  pub no_larger : (f.schedule ≡ ns) ⊎ IsSmaller f.schedule ns
+  pub none_left : f.complete ≡ true → All (λ c. fails c ≡ false) (candidates f.schedule)
+
+-- with a run at least, nothing is found exactly where the schedule doesn't fail; each candidate of a schedule is smaller
+pub record ShrinksRight (fails : List ℕ → Bool) (runs : ℕ) (ns : List ℕ) : Type 0 where
+  pub found : (f : Found) → shrunk fails runs ns ≡ Some f → IsFoundOf fails ns f
+  pub nothing : 0 < runs → (shrunk fails runs ns ≡ None) ↔ (fails ns ≡ false)
+  pub candidates_are_smaller : All (λ c. IsSmaller c ns) (candidates ns)
+
+-- whichever schedules fail
+abbrev pub ShrinkingIsRight : Type 0
+ShrinkingIsRight = (fails : List ℕ → Bool) (runs : ℕ) (ns : List ℕ) → ShrinksRight fails runs ns

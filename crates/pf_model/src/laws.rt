@@ -1,6 +1,6 @@
 //! Laws of the definitions: functions with empty bodies, whose contracts are the laws.
 
-ghost use Rattle.pf_model.specs.Laws.{OnePlace, OneMeaning, EvaluationIsMeaning, Replay, PairOrder};
+ghost use Rattle.pf_model.specs.Laws.{OnePlace, OneMeaning, EvaluationIsMeaning, Replay, PairOrder, ShrinkingIsRight};
 ghost use Rattle.pf_model.specs.Receive.{ReceiveIsRelation};
 
 /// The function of `receive` selects as the relation says which message is taken.
@@ -32,4 +32,10 @@ pub fn replay()
 /// beginning of those sent.
 pub fn pair_order()
     ensures { PairOrder }
+{}
+
+/// Whichever schedules fail, what shrinking finds fails, and where it is complete no candidate of it does; it
+/// finds nothing only where the schedule doesn't fail. Each candidate is shorter, or as long with a smaller sum.
+pub fn shrinking_is_right()
+    ensures { ShrinkingIsRight }
 {}
