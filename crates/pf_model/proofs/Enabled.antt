@@ -1,5 +1,5 @@
 -- Each enabled actor can pass.
-use Rattle.std.proofs.Common.{◌≡◌, ℕ, zero, suc, ◌+◌, Bool, true, false, List, [], ◌∷◌, ◌++◌, Some, ◌==◌, if◌then◌else◌, refl, subst, arith, map, add-zero}
+use Rattle.std.proofs.Common.{◌≡◌, ℕ, zero, suc, ◌+◌, Bool, true, false, List, [], ◌∷◌, Some, ◌==◌, if◌then◌else◌, refl, subst, arith, map, add-zero}
 use Rattle.std.specs.Prelude.{All, slice_get}
 use Rattle.std.proofs.Math.Nat.{zero-add}
 use Rattle.std.proofs.lemmas.Bool.{eq-eqb}
@@ -36,18 +36,18 @@ heads_all : (P : ℕ × ℕ → Type 0) (n : ℕ) (cs : Channels) → ((a b : �
 heads_all P n [] h = All-nil P
 heads_all P n (r ∷ rs) h =
     All-append P (heads_of n r) (heads_from (suc n) rs)
-      (row_all n P r (λ b q e. subst (λ x. P (x, b)) (add-zero n) (h zero b q e)))
-      (heads_all P (suc n) rs (λ a b q e. let d : n + suc a ≡ suc n + a = omega arith in subst (λ x. P (x, b)) d (h (suc a) b q e)))
+    (row_all n P r (λ b q e. subst (λ x. P (x, b)) (add-zero n) (h zero b q e)))
+    (heads_all P (suc n) rs (λ a b q e. let d : n + suc a ≡ suc n + a = omega arith in subst (λ x. P (x, b)) d (h (suc a) b q e)))
 
 all_can_pass : (c : Configuration) → All (CanPass c) (enabled c)
 all_can_pass c =
     All-append (CanPass c) (map process (numbers_of can_go zero c.core.processes)) (map (λ h. channel h.0 h.1) (heads c.channels))
-      (All-map (CanPass c) process (numbers_of can_go zero c.core.processes)
-        (numbers_all (λ a. CanPass c (process a)) can_go zero c.core.processes (λ j e. rw (zero-add j) e)))
-      (All-map (CanPass c) (λ h. channel h.0 h.1) (heads c.channels)
-        (heads_all (λ h. CanPass c (channel h.0 h.1)) zero c.channels (λ a b q e. (q, rw (zero-add a) e))))
+    (All-map (CanPass c) process (numbers_of can_go zero c.core.processes)
+    (numbers_all (λ a. CanPass c (process a)) can_go zero c.core.processes (λ j e. rw (zero-add j) e)))
+    (All-map (CanPass c) (λ h. channel h.0 h.1) (heads c.channels)
+    (heads_all (λ h. CanPass c (channel h.0 h.1)) zero c.channels (λ a b q e. (q, rw (zero-add a) e))))
 
 pub enabled_can_pass : (c : Configuration) (i : ℕ) (x : Actor) → slice_get (enabled c) i ≡ Some x → CanPass c x
 enabled_can_pass c i x e =
     subst (CanPass c) (get_or_from_slice_get (enabled c) i x x e)
-      (All-get_or (CanPass c) (enabled c) i x (slice_get_within (enabled c) i x e) (all_can_pass c))
+    (All-get_or (CanPass c) (enabled c) i x (slice_get_within (enabled c) i x e) (all_can_pass c))

@@ -1,5 +1,5 @@
 -- What is evaluated is what a job means, and nothing else is; the choices of a run give it again.
-use Rattle.std.proofs.Common.{◌≡◌, ◌⊎◌, inl, inr, ℕ, zero, suc, ◌+◌, ◌-◌, ◌%◌, ◌<◌, ◌≤◌, List, [], ◌∷◌, Option, Some, None, refl, sym, ap, ◌∙◌, subst, arith, length, map, get_or}
+use Rattle.std.proofs.Common.{◌≡◌, inl, inr, ℕ, zero, suc, ◌+◌, ◌-◌, ◌%◌, ◌<◌, ◌≤◌, List, [], ◌∷◌, Some, refl, sym, ap, ◌∙◌, subst, arith, length, map, get_or}
 use Rattle.std.specs.Prelude.{slice_get}
 use Rattle.std.proofs.Math.Nat.{mod-mod, sub-zero}
 use Rattle.std.proofs.lemmas.Nat.{mod_below}
@@ -8,7 +8,7 @@ use Rattle.pf_choice.specs.Words.{schedule_word}
 use Rattle.pf_model.specs.Code.{Code}
 use Rattle.pf_model.specs.Configuration.{Configuration}
 use Rattle.pf_model.specs.Runs.{Actor, Passed, Passes, Transition, transition, Words, later, Goes, stays, more, Stops, enabled, start}
-use Rattle.pf_model.specs.Meaning.{Job, Report, Means, event_of, report_of, words_of}
+use Rattle.pf_model.specs.Meaning.{Job, Report, Means, event_of, words_of}
 use Rattle.pf_model.specs.Evaluation.{pass_of, Ran, ran, ran_on, run_behind, run_by, run_of, run_of_job, evaluated, evaluated_as}
 use Rattle.pf_model.specs.Laws.{OneMeaning, EvaluationIsMeaning, Replay}
 use Rattle.pf_model.proofs.Turned.{passes_as, pass_only, pass_uses}
@@ -49,7 +49,7 @@ module _ (m : Code) where
       let p = pass_of m (suc n) c y in
       let u = pass_uses m n c y p s in
       subst (λ ys. IsRun ws (suc n) c (run_behind (ws zero) ys y p next (suc n))) e
-        (goes_behind ws n c y p (next (suc n - p.used) p.after) h s (rest (suc n - p.used) p.after (omega arith)))
+      (goes_behind ws n c y p (next (suc n - p.used) p.after) h s (rest (suc n - p.used) p.after (omega arith)))
 
   runs_as : (most : ℕ) (ws : Words) (n : ℕ) (c : Configuration) → n ≤ most → IsRun ws n c (run_of most m ws n c)
   runs_as zero ws n c h = stays_there ws n c (inr (omega arith))
@@ -101,7 +101,7 @@ module _ (m : Code) where
       let vs = schedule_word (w ∷ choices ts) in
       let h : slice_get (enabled c) (w % length (enabled c)) ≡ Some x = ap (slice_get (enabled c)) (mod-mod (ws zero) (length (enabled c))) ∙ e in
       subst (λ t. Goes m vs (suc n) c (t ∷ ts) d (p.used + k)) (same_choice (ws zero) (enabled c) x p)
-        (more vs n c x p ts d k h s (replayed (later ws) (suc n - p.used) p.after ts d k r))
+      (more vs n c x p ts d k h s (replayed (later ws) (suc n - p.used) p.after ts d k r))
 
 -- ---- the laws
 

@@ -73,10 +73,10 @@ on_way_sent a b c d s cs =
     let old = row_of c cs in
     let row = put d (with_last (got d old) s) old in
     let here : (a == c) ≡ true → (b == d) ≡ true → signals_in (got b row) ≡ on_way a b cs ++ s ∷ [] =
-      λ e f. let p = eqb-true a c e in let q = eqb-true b d f in
-        rw (p, q) (ap signals_in (got_put d (with_last (got d old) s) old) ∙ last_is_last (got d old) s) in
+    λ e f. let p = eqb-true a c e in let q = eqb-true b d f in
+    rw (p, q) (ap signals_in (got_put d (with_last (got d old) s) old) ∙ last_is_last (got d old) s) in
     let there : (a == c) ≡ true → (b == d) ≡ false → got b row ≡ got b (row_of a cs) =
-      λ e f. let p = eqb-true a c e in got_other b d (with_last (got d old) s) old f ∙ ap (λ n. got b (row_of n cs)) (sym p) in
+    λ e f. let p = eqb-true a c e in got_other b d (with_last (got d old) s) old f ∙ ap (λ n. got b (row_of n cs)) (sym p) in
     changed_at a b c d row cs (on_way a b cs ++ s ∷ []) (a == c) (b == d) refl refl here there
     ∙ added_where_both (a == c) (b == d) (on_way a b cs) (s ∷ [])
 
@@ -131,12 +131,12 @@ on_way_taken a b c d s cs after h =
     let q = k.0 in
     let row = left_in d q.rest (row_of c cs) in
     let here : (a == c) ≡ true → (b == d) ≡ true → signals_in (got b row) ≡ q.rest =
-      λ e f. let p = eqb-true b d f in rw p (left_is d q.rest (row_of c cs)) in
+    λ e f. let p = eqb-true b d f in rw p (left_is d q.rest (row_of c cs)) in
     let there : (a == c) ≡ true → (b == d) ≡ false → got b row ≡ got b (row_of a cs) =
-      λ e f. let p = eqb-true a c e in left_other b d q.rest (row_of c cs) f ∙ ap (λ n. got b (row_of n cs)) (sym p) in
+    λ e f. let p = eqb-true a c e in left_other b d q.rest (row_of c cs) f ∙ ap (λ n. got b (row_of n cs)) (sym p) in
     let whole : (a == c) ≡ true → (b == d) ≡ true → on_way a b cs ≡ s ∷ q.rest =
-      λ e f. let p = eqb-true a c e in let r = eqb-true b d f in
-        ap (λ n. on_way n b cs) p ∙ ap (λ n. on_way c n cs) r ∙ ap signals_in k.1 ∙ ap (λ x. x ∷ q.rest) (sym k.2) in
+    λ e f. let p = eqb-true a c e in let r = eqb-true b d f in
+    ap (λ n. on_way n b cs) p ∙ ap (λ n. on_way c n cs) r ∙ ap signals_in k.1 ∙ ap (λ x. x ∷ q.rest) (sym k.2) in
     first_where_both (a == c) (b == d) (on_way a b cs) q.rest s whole
     ∙ ap (λ x. where_both (a == c) (b == d) (s ∷ []) ++ x) (sym (changed_at a b c d row cs q.rest (a == c) (b == d) refl refl here there) ∙ ap (on_way a b) (sym k.3))
 
@@ -161,8 +161,8 @@ whole_run : (m : Code) (ws : Words) (n : ℕ) (c : Configuration) (ts : List Tra
 whole_run m _ _ _ _ _ _ a b (stays ws n c) = append-nil (on_way a b c.channels)
 whole_run m _ _ _ _ _ _ a b (more ws n c x p ts d k e s r) =
     joined (on_way a b c.channels) (on_way a b p.after.channels) (on_way a b d.channels)
-      (sent_in a b (transition (ws zero) (enabled c) x p)) (taken_by a b x p.taken) (all_sent a b ts) (all_taken a b ts)
-      (one_passed m (suc n) c x p a b (ws zero) (enabled c) s) (whole_run m (later ws) (suc n - p.used) p.after ts d k a b r)
+    (sent_in a b (transition (ws zero) (enabled c) x p)) (taken_by a b x p.taken) (all_sent a b ts) (all_taken a b ts)
+    (one_passed m (suc n) c x p a b (ws zero) (enabled c) s) (whole_run m (later ws) (suc n - p.used) p.after ts d k a b r)
 
 none_at_first : (a b : ℕ) → on_way a b ([] ∷ []) ≡ []
 none_at_first zero b = refl

@@ -3,7 +3,7 @@ use Rattle.std.proofs.Common.{◌≡◌, ℕ, true, false, List, [], ◌∷◌, 
 use Rattle.std.specs.Prelude.{slice_get}
 use Rattle.pf_terms.specs.Value.{Value, Values, none, more}
 use Rattle.pf_terms.specs.Value as value
-use Rattle.pf_syntax.specs.Tree.{Operator, Tree, Trees, lit, tuple, cons, op, neg, call, match, bind, case, no_trees, tree}
+use Rattle.pf_syntax.specs.Tree.{Tree, Trees, lit, tree}
 use Rattle.pf_ops.specs.Arithmetic.{negated}
 use Rattle.pf_ops.specs.Operations.{limited, operated, consed}
 use Rattle.pf_ops.specs.Guards.{truth_of}
@@ -11,7 +11,7 @@ use Rattle.pf_ops.specs.Reasons.{no_case}
 use Rattle.pf_model.specs.Code.{Code, name_in}
 use Rattle.pf_model.specs.Contraction.{Change, Asks, Act, contract, as_value, as_values, add_value, with_both, worked_out, decided, entered, called, matched, bound, picked, body_or_raise}
 use Rattle.pf_model.specs.Contraction as c
-use Rattle.pf_model.specs.Place.{Frame, element_of, first_of, tail_of, left_of, right_of, negation, and_also_of, or_else_of, argument_of, builtin_argument_of, match_of, bind_of, case_of, receiver_of, message_of, after_values, around, fill, Place}
+use Rattle.pf_model.specs.Place.{Frame, element_of, first_of, tail_of, left_of, right_of, negation, and_also_of, or_else_of, argument_of, builtin_argument_of, match_of, bind_of, case_of, receiver_of, message_of, after_values, around, fill}
 use Rattle.pf_model.specs.Laws.{OnePlace}
 
 around_no_value : (f : Frame) (x : Tree) → as_value (around f x) ≡ None

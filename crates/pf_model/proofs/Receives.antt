@@ -4,7 +4,7 @@ use Rattle.pf_terms.specs.Value.{Value}
 use Rattle.pf_syntax.specs.Tree.{Tree, Clauses}
 use Rattle.pf_model.specs.Code.{Code}
 use Rattle.pf_model.specs.Contraction.{picked}
-use Rattle.pf_model.specs.Receive.{Taken, taking, and_before, taken_or_later, selected, FitsNone, Takes, SelectsAsTakes, ReceiveIsRelation}
+use Rattle.pf_model.specs.Receive.{Taken, taking, and_before, taken_or_later, selected, FitsNone, Takes, ReceiveIsRelation}
 
 module _ (m : Code) (own : ℕ) (ks : Clauses) where
   -- a message that no clause picks stands before what is taken of the others

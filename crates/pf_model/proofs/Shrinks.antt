@@ -1,10 +1,10 @@
 -- Shrinking finds a schedule that fails, and of which no candidate does where it is complete.
-use Rattle.std.proofs.Common.{◌≡◌, ◌<◌, ◌⊎◌, inl, inr, ◌/◌, ◌+◌, ℕ, zero, suc, Bool, true, false, List, [], ◌∷◌, ◌++◌, Option, Some, None, refl, sym, ap, ◌∙◌, subst, arith, length, map, if◌then◌else◌}
+use Rattle.std.proofs.Common.{◌≡◌, ◌<◌, ◌⊎◌, inl, inr, ◌/◌, ◌+◌, ℕ, zero, suc, Bool, true, false, List, [], ◌∷◌, ◌++◌, Some, None, refl, sym, subst, arith, if◌then◌else◌}
 use Rattle.std.specs.Prelude.{All, sum, ◌↔◌}
 use Rattle.std.proofs.lemmas.List.Elements.{All-nil, All-cons, All-head, All-tail, All-append, All-map, All-weaker}
 use Rattle.std.proofs.lemmas.List.Sums.{sum_by-cons}
-use Rattle.pf_model.specs.Shrinking.{behind, without_last, without_one, halved, candidates, Found, found, search, shrunk}
-use Rattle.pf_model.specs.Laws.{IsSmaller, IsFoundOf, ShrinksRight, ShrinkingIsRight}
+use Rattle.pf_model.specs.Shrinking.{behind, without_last, without_one, halved, candidates, Found, search, shrunk}
+use Rattle.pf_model.specs.Laws.{IsSmaller, IsFoundOf, ShrinkingIsRight}
 
 -- ---- smaller schedules
 
@@ -42,7 +42,7 @@ without_one_smaller [] = All-nil (λ c. IsSmaller c [])
 without_one_smaller (n ∷ []) = All-nil (λ c. IsSmaller c (n ∷ []))
 without_one_smaller (n ∷ m ∷ ns) =
     All-cons (λ c. IsSmaller c (n ∷ m ∷ ns)) (m ∷ ns) (behind n (without_one (m ∷ ns))) (inl (omega arith))
-      (all_behind n (m ∷ ns) (without_one (m ∷ ns)) (without_one_smaller (m ∷ ns)))
+    (all_behind n (m ∷ ns) (without_one (m ∷ ns)) (without_one_smaller (m ∷ ns)))
 
 half_smaller : (n : ℕ) (ns : List ℕ) → IsSmaller (suc n / 2 ∷ ns) (suc n ∷ ns)
 half_smaller n ns =
@@ -55,13 +55,13 @@ halved_smaller [] = All-nil (λ c. IsSmaller c [])
 halved_smaller (zero ∷ ns) = all_behind zero ns (halved ns) (halved_smaller ns)
 halved_smaller (suc n ∷ ns) =
     All-cons (λ c. IsSmaller c (suc n ∷ ns)) (suc n / 2 ∷ ns) (behind (suc n) (halved ns)) (half_smaller n ns)
-      (all_behind (suc n) ns (halved ns) (halved_smaller ns))
+    (all_behind (suc n) ns (halved ns) (halved_smaller ns))
 
 candidates_smaller : (ns : List ℕ) → AllSmaller ns (candidates ns)
 candidates_smaller ns =
     let P : List ℕ → Type 0 = λ c. IsSmaller c ns in
     All-append P (without_last ns ++ without_one ns) (halved ns)
-      (All-append P (without_last ns) (without_one ns) (without_last_smaller ns) (without_one_smaller ns)) (halved_smaller ns)
+    (All-append P (without_last ns) (without_one ns) (without_last_smaller ns) (without_one_smaller ns)) (halved_smaller ns)
 
 -- ---- the search
 

@@ -1,5 +1,5 @@
 -- What is sought in a tree is its value or its place, so each tree has one move.
-use Rattle.std.proofs.Common.{◌≡◌, ℕ, true, false, List, [], ◌∷◌, Some, refl, sym, ap, ◌∙◌, subst, option_map}
+use Rattle.std.proofs.Common.{◌≡◌, ℕ, true, false, List, [], Some, refl, sym, ap, ◌∙◌, subst, option_map}
 use Rattle.std.specs.Prelude.{slice_get}
 use Rattle.pf_terms.specs.Value.{Value, Values, none, more, list}
 use Rattle.pf_terms.specs.Value as value
@@ -46,8 +46,8 @@ module _ (m : Code) (own : ℕ) where
       → IsIn (whole a b) (part left (sought m own a) (λ v. part (right v) (sought m own b) (λ w. placed [] (whole (lit v) (lit w)) (last v w))))
   two_parts left right whole last a b hl hr redex ia ib =
       part_is_in left a (whole a b) (sought m own a) (λ v. part (right v) (sought m own b) (λ w. placed [] (whole (lit v) (lit w)) (last v w))) hl ia
-        (λ v e. part_is_in (right v) b (whole a b) (sought m own b) (λ w. placed [] (whole (lit v) (lit w)) (last v w)) (hr v b ∙ ap (λ x. whole x b) (sym e)) ib
-          (λ w d. is_redex (whole a b) (whole (lit v) (lit w)) (last v w) (ap (λ x. whole x (lit w)) (sym e) ∙ ap (whole a) (sym d)) (redex v w)))
+      (λ v e. part_is_in (right v) b (whole a b) (sought m own b) (λ w. placed [] (whole (lit v) (lit w)) (last v w)) (hr v b ∙ ap (λ x. whole x b) (sym e)) ib
+      (λ w d. is_redex (whole a b) (whole (lit v) (lit w)) (last v w) (ap (λ x. whole x (lit w)) (sym e) ∙ ap (whole a) (sym d)) (redex v w)))
 
   -- the one part of a tree
   only_part : (f : Frame) (whole : Tree → Tree) (last : Value → Change) (a : Tree)
@@ -55,7 +55,7 @@ module _ (m : Code) (own : ℕ) where
       → IsIn a (sought m own a) → IsIn (whole a) (part f (sought m own a) (λ v. placed [] (whole (lit v)) (last v)))
   only_part f whole last a hf redex ia =
       part_is_in f a (whole a) (sought m own a) (λ v. placed [] (whole (lit v)) (last v)) hf ia
-        (λ v e. is_redex (whole a) (whole (lit v)) (last v) (ap whole (sym e)) (redex v))
+      (λ v e. is_redex (whole a) (whole (lit v)) (last v) (ap whole (sym e)) (redex v))
 
   mutual
     pub sought_is_in : (t : Tree) → IsIn t (sought m own t)
@@ -63,7 +63,7 @@ module _ (m : Code) (own : ℕ) where
     sought_is_in (var x) = is_redex (var x) (var x) (Raises undef) refl refl
     sought_is_in (tuple ts) =
         in_parts element_of tuple (λ vs. worked_out (limited (value.tuple vs))) (λ vs us x. refl)
-          (λ vs. ap (option_map (λ ws. worked_out (limited (value.tuple ws)))) (literals_are vs)) none ts
+        (λ vs. ap (option_map (λ ws. worked_out (limited (value.tuple ws)))) (literals_are vs)) none ts
     sought_is_in (cons a t) =
         two_parts (first_of t) tail_of cons (λ v w. worked_out (consed v w)) a t refl (λ v x. refl) (λ v w. refl) (sought_is_in a) (sought_is_in t)
     sought_is_in (op o a t) =
@@ -75,7 +75,7 @@ module _ (m : Code) (own : ℕ) where
         only_part (or_else_of t) (λ x. or_else x t) (λ v. decided true v t (truth_of v)) a refl (λ v. refl) (sought_is_in a)
     sought_is_in (call f ts) =
         in_parts (argument_of f) (call f) (entered m own (slice_get m.functions f)) (λ vs us x. refl)
-          (λ vs. ap (option_map (entered m own (slice_get m.functions f))) (literals_are vs)) none ts
+        (λ vs. ap (option_map (entered m own (slice_get m.functions f))) (literals_are vs)) none ts
     sought_is_in (builtin f ts) =
         in_parts (builtin_argument_of f) (builtin f) (called own f) (λ vs us x. refl) (λ vs. ap (option_map (called own f)) (literals_are vs)) none ts
     sought_is_in (match ps a) = only_part (match_of ps) (match ps) (matched ps) a refl (λ v. refl) (sought_is_in a)
@@ -97,8 +97,8 @@ module _ (m : Code) (own : ℕ) where
     in_parts frame whole last hf redex vs (tree t ts) =
         let next : Values → Sought = λ ws. sought_in m own frame (λ us. placed [] (whole (literals us)) (last us)) ws ts in
         part_is_in (frame vs ts) t (whole (after_values vs (tree t ts))) (sought m own t) (λ v. next (and_last vs v)) (hf vs ts t) (sought_is_in t)
-          (λ v e. subst (λ x. IsIn (whole x) (next (and_last vs v))) (push_value vs v ts ∙ ap (λ x. after_values vs (tree x ts)) (sym e))
-            (in_parts frame whole last hf redex (and_last vs v) ts))
+        (λ v e. subst (λ x. IsIn (whole x) (next (and_last vs v))) (push_value vs v ts ∙ ap (λ x. after_values vs (tree x ts)) (sym e))
+        (in_parts frame whole last hf redex (and_last vs v) ts))
 
   moves_as : (t : Tree) (s : Sought) → IsIn t s → Moves m own t (move_of s)
   moves_as t (valued v) h = at_value v h refl

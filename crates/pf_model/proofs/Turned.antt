@@ -1,11 +1,10 @@
 -- Turns and transitions are what they are worked out to be.
-use Rattle.std.proofs.Common.{◌≡◌, ℕ, zero, suc, ◌<◌, true, List, Option, Some, None, refl, sym, ap, ◌∙◌, subst, arith}
-use Rattle.pf_terms.specs.Value.{Value}
+use Rattle.std.proofs.Common.{◌≡◌, ℕ, zero, suc, ◌<◌, true, List, Some, refl, sym, ap, ◌∙◌, subst, arith}
 use Rattle.pf_syntax.specs.Tree.{Tree}
 use Rattle.pf_model.specs.Code.{Code}
 use Rattle.pf_model.specs.Contraction.{Change, Becomes, Raises, Exits, Asks, Awaits}
-use Rattle.pf_model.specs.Place.{Frame, State, running, waiting, ending, ended, failed, returned, Move, goes_on, asks, awaits, returns, moved, Moves}
-use Rattle.pf_model.specs.Channels.{Signal, Channels, Queue, row_of, with_row, left_in, taken, taken_from}
+use Rattle.pf_model.specs.Place.{Frame, State, running, waiting, ending, ended, returned, Move, goes_on, asks, awaits, returns, moved, Moves}
+use Rattle.pf_model.specs.Channels.{Queue, row_of, with_row, left_in, taken, taken_from}
 use Rattle.pf_model.specs.Maps.{got}
 use Rattle.pf_model.specs.Configuration.{Core, Configuration, of}
 use Rattle.pf_model.specs.Actions.{acted}

@@ -15,5 +15,5 @@ pub mod Properties
 pub mod Meaning
 pub mod Shrinking
 pub mod Text
-pub mod Evaluation
 pub mod Laws
+pub mod Evaluation
