@@ -1,3 +1,4 @@
+pub mod Worked
 pub mod Receives
 pub mod Places
 pub mod Sought

@@ -17,3 +17,5 @@ pub mod Shrinking
 pub mod Text
 pub mod Laws
 pub mod Evaluation
+pub mod WorkedCode
+pub mod WorkedRuns

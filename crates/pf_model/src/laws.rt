@@ -2,6 +2,7 @@
 
 ghost use Rattle.pf_model.specs.Laws.{OnePlace, OneMeaning, EvaluationIsMeaning, Replay, PairOrder, ShrinkingIsRight};
 ghost use Rattle.pf_model.specs.Receive.{ReceiveIsRelation};
+ghost use Rattle.pf_model.specs.WorkedRuns.{WorkedRuns};
 
 /// The function of `receive` selects as the relation says which message is taken.
 pub fn receive_is_a_relation()
@@ -38,4 +39,9 @@ pub fn pair_order()
 /// finds nothing only where the schedule doesn't fail. Each candidate is shorter, or as long with a smaller sum.
 pub fn shrinking_is_right()
     ensures { ShrinkingIsRight }
+{}
+
+/// Worked runs have the reports that they are to have.
+pub fn worked_runs()
+    ensures { WorkedRuns }
 {}
