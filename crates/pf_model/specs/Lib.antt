@@ -19,3 +19,4 @@ pub mod Laws
 pub mod Evaluation
 pub mod WorkedCode
 pub mod WorkedRuns
+pub mod Signals

@@ -3,3 +3,6 @@
 
 pub mod laws;
 pub mod limits;
+mod signal;
+
+pub use signal::Signal;
