@@ -2,7 +2,7 @@
 use Rattle.std.specs.Prelude.{ℕ, suc, Bool, true, false, ◌&&◌, ◌||◌, not, ◌==◌, nat_lt, if◌then◌else◌, List, [], ◌∷◌, ◌++◌, Option, Some, None, is_some, Result, Ok, Err, length}
 use Rattle.pf_terms.specs.Value.{Value, Values, none, more, count, atom, pid, ref, list, same}
 use Rattle.pf_terms.specs.Fixed.{true_atom, undefined, process, trap_exit, badarg, system_limit, undef}
-use Rattle.pf_syntax.specs.Tree.{Tree, Trees, lit, call, no_trees, tree}
+use Rattle.pf_syntax.specs.Tree.{Trees, lit, call, no_trees, tree}
 use Rattle.pf_ops.specs.Operations.{truth}
 use Rattle.pf_ops.specs.Guards.{truth_of}
 use Rattle.pf_ops.specs.Reasons.{ending_reason}
@@ -154,7 +154,7 @@ abbrev pub acted : Code → Core → ℕ → Act → Acted
 acted m c a (send to v) = given c (receiver c to) (λ b. gives c ((b, signal.message v) ∷ []) v (label.sends b v))
 acted m c a (spawn linked w f vs) =
     given c (as_atom w) (λ home. given c (as_atom f) (λ name. given c (as_elements vs) (λ arguments.
-      spawned c a linked (start_of m home name arguments))))
+    spawned c a linked (start_of m home name arguments))))
 acted m c a (link p) = given c (as_pid p) (linked_to c a)
 acted m c a (unlink p) = given c (as_pid p) (unlinked_from c a)
 acted m c a (monitor k p) = given c (as_pid p) (λ b. only_if c (same k process) (monitored c a b))

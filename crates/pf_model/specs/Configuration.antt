@@ -1,5 +1,5 @@
 -- Processes, and all that there is at a time of a run.
-use Rattle.std.specs.Prelude.{ℕ, zero, suc, Bool, true, false, List, [], ◌∷◌, ◌++◌, slice_set}
+use Rattle.std.specs.Prelude.{ℕ, zero, suc, Bool, true, false, List, [], ◌∷◌, slice_set}
 use Rattle.pf_terms.specs.Value.{Value}
 use Rattle.pf_terms.specs.Fixed.{undefined}
 use Rattle.pf_model.specs.Place.{State, running, waiting, ending, ended, failed}

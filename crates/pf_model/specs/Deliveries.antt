@@ -1,5 +1,5 @@
 -- Deliveries: what the oldest signal of a channel does to its receiver, by the first row that applies.
-use Rattle.std.specs.Prelude.{ℕ, Bool, true, false, not, ◌&&◌, ◌==◌, if◌then◌else◌, List, [], ◌∷◌, ◌++◌, Option, Some, None}
+use Rattle.std.specs.Prelude.{ℕ, Bool, true, false, not, ◌&&◌, ◌==◌, if◌then◌else◌, [], ◌∷◌, ◌++◌, Option, Some, None}
 use Rattle.pf_terms.specs.Value.{Value, none, more, pid, ref, tuple, same}
 use Rattle.pf_terms.specs.Fixed.{normal, kill, killed, noproc, process, exit_atom, down_atom}
 use Rattle.pf_ops.specs.Reasons.{built}

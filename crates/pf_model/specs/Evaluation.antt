@@ -13,7 +13,7 @@ use Rattle.pf_model.specs.Contraction as c
 use Rattle.pf_model.specs.Contraction.{Change, Raises, Asks, Awaits, worked_out, picked, body_or_raise, entered, matched, bound, decided, called}
 use Rattle.pf_model.specs.Place.{Frame, element_of, first_of, tail_of, left_of, right_of, negation, and_also_of, or_else_of, argument_of, builtin_argument_of, match_of, bind_of, case_of, receiver_of, message_of, after_values, State, running, waiting, ending, ended, failed, returned, Move, goes_on, asks, awaits, returns, moved}
 use Rattle.pf_model.specs.Channels.{Signal, Channels, taken}
-use Rattle.pf_model.specs.Configuration.{Core, Configuration, Left, leaving, of, with_state}
+use Rattle.pf_model.specs.Configuration.{Core, Configuration, leaving, of, with_state}
 use Rattle.pf_model.specs.Labels as label
 use Rattle.pf_model.specs.Actions.{acted}
 use Rattle.pf_model.specs.Receive.{selected}

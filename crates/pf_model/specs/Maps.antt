@@ -1,5 +1,5 @@
 -- Finite maps from numbers, and finite sets of numbers, as lists by rising key.
-use Rattle.std.specs.Prelude.{ℕ, Bool, true, false, not, ◌==◌, nat_lt, if◌then◌else◌, List, [], ◌∷◌, Option, Some, None, filter}
+use Rattle.std.specs.Prelude.{ℕ, Bool, true, false, ◌==◌, nat_lt, if◌then◌else◌, List, [], ◌∷◌, Option, Some, None}
 
 -- what stands at a key
 abbrev pub got : {T : Type 0} → ℕ → List (ℕ × T) → Option T

@@ -1,7 +1,6 @@
 -- Meaning: the report of a job.
 use Rattle.std.specs.Prelude.{◌≡◌, ℕ, zero, Bool, List, [], ◌∷◌, Option, map}
 use Rattle.pf_choice.specs.Words.{seed_word, schedule_word}
-use Rattle.pf_terms.specs.Value.{Value}
 use Rattle.pf_model.specs.Code.{Code}
 use Rattle.pf_model.specs.Place.{State, running, waiting, ending, ended, returned, failed}
 use Rattle.pf_model.specs.Configuration.{Configuration, Core, of}

@@ -1,11 +1,10 @@
 -- Runs: who may go, and transitions one after another.
 use Rattle.std.specs.Prelude.{◌≡◌, ◌⊎◌, ℕ, zero, suc, ◌+◌, ◌-◌, ◌%◌, Bool, true, false, if◌then◌else◌, List, [], ◌∷◌, ◌++◌, Option, Some, None, length, map, slice_get}
-use Rattle.pf_terms.specs.Value.{Value}
-use Rattle.pf_syntax.specs.Tree.{Tree, call, no_trees}
+use Rattle.pf_syntax.specs.Tree.{call, no_trees}
 use Rattle.pf_model.specs.Code.{Code}
 use Rattle.pf_model.specs.Place.{State, running, waiting, ending, ended}
 use Rattle.pf_model.specs.Channels.{Signal, Channels, heads, taken, with_senders}
-use Rattle.pf_model.specs.Configuration.{Process, Core, Configuration, fresh, of, posted}
+use Rattle.pf_model.specs.Configuration.{Process, Configuration, fresh, of, posted}
 use Rattle.pf_model.specs.Labels.{Label}
 use Rattle.pf_model.specs.Deliveries.{Deed, delivered}
 use Rattle.pf_model.specs.Turns.{Turn}

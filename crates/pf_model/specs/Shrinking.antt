@@ -1,6 +1,6 @@
 -- Shrinking: from a schedule that fails to one that fails and of which no candidate does.
-use Rattle.std.specs.Prelude.{◌≡◌, ℕ, zero, suc, ◌/◌, Bool, true, false, if◌then◌else◌, List, [], ◌∷◌, ◌++◌, Option, Some, None, map, length}
-use Rattle.pf_model.specs.Meaning.{Job, Report, Means, Choices, schedule}
+use Rattle.std.specs.Prelude.{◌≡◌, ℕ, zero, suc, ◌/◌, Bool, true, false, if◌then◌else◌, List, [], ◌∷◌, ◌++◌, Option, Some, None, map}
+use Rattle.pf_model.specs.Meaning.{Job, Report, Means, schedule}
 
 -- the schedules that begin alike and of whose rest these are what came of it
 abbrev pub behind : ℕ → List (List ℕ) → List (List ℕ)

@@ -1,7 +1,6 @@
 -- The text of a report: its events, its outcome, its steps and its verdict, each on a line.
 use Rattle.std.specs.Prelude.{ℕ, Bool, true, false, List, [], ◌∷◌, ◌++◌, Option, Some, None, flat_map, codes}
 use Rattle.std.specs.Fmt.{decimal}
-use Rattle.pf_terms.specs.Value.{Value}
 use Rattle.pf_ops.specs.Operations.{truth}
 use Rattle.pf_single.specs.Text.{value_text, atom_text, pid_text, line}
 use Rattle.pf_model.specs.Channels.{Signal, message, link, unlink, monitor, demonitor, down, exit}

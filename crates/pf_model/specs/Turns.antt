@@ -5,7 +5,7 @@ use Rattle.pf_syntax.specs.Tree.{Tree, Clauses, lit, receive}
 use Rattle.pf_ops.specs.Reasons.{ending_reason}
 use Rattle.pf_model.specs.Code.{Code}
 use Rattle.pf_model.specs.Place.{Frame, fill, State, running, waiting, ending, returned, failed, End, Move, goes_on, asks, awaits, returns, Moves}
-use Rattle.pf_model.specs.Configuration.{Core, Left, leaving, of, with_process, with_state}
+use Rattle.pf_model.specs.Configuration.{Core, leaving, of, with_process, with_state}
 use Rattle.pf_model.specs.Labels as label
 use Rattle.pf_model.specs.Actions.{Acted, acted}
 use Rattle.pf_model.specs.Receive.{Taken, selected}
