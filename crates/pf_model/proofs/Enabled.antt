@@ -13,7 +13,8 @@ use Rattle.pf_model.specs.Runs.{Actor, process, channel, can_go, numbers_of, ena
 use Rattle.pf_model.proofs.Turned.{CanPass}
 
 -- what holds of each process in such a state holds of their numbers
-numbers_all : (P : ℕ → Type 0) (so : State → Bool) (n : ℕ) (ps : List Process) → ((j : ℕ) → so (process_at j ps).state ≡ true → P (n + j)) → All P (numbers_of so n ps)
+numbers_all : (P : ℕ → Type 0) (so : State → Bool) (n : ℕ) (ps : List Process) → ((j : ℕ) → so (process_at j ps).state ≡ true → P (n + j))
+    → All P (numbers_of so n ps)
 numbers_all P so n [] h = All-nil P
 numbers_all P so n (p ∷ ps) h =
     by (so p.state) refl (numbers_all P so (suc n) ps (λ j e. let q : n + suc j ≡ suc n + j = omega arith in subst P q (h (suc j) e)))
@@ -32,7 +33,8 @@ row_all a P (p ∷ ps) h =
     behind b q g true e = h b p.1 (rw e refl)
     behind b q g false e = h b q (rw e g)
 
-heads_all : (P : ℕ × ℕ → Type 0) (n : ℕ) (cs : Channels) → ((a b : ℕ) (q : Queue) → got b (row_of a cs) ≡ Some q → P (n + a, b)) → All P (heads_from n cs)
+heads_all : (P : ℕ × ℕ → Type 0) (n : ℕ) (cs : Channels) → ((a b : ℕ) (q : Queue) → got b (row_of a cs) ≡ Some q → P (n + a, b))
+    → All P (heads_from n cs)
 heads_all P n [] h = All-nil P
 heads_all P n (r ∷ rs) h =
     All-append P (heads_of n r) (heads_from (suc n) rs)

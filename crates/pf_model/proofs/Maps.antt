@@ -17,7 +17,8 @@ pub got_put : {T : Type 0} → (k : ℕ) (x : T) (ps : List (ℕ × T)) → got 
 got_put k x [] = rw (eq_self k) refl
 got_put k x (p ∷ ps) = by k x p ps (k == p.0) (nat_lt k p.0) refl (got_put k x ps)
   where
-    by : {T : Type 0} → (k : ℕ) (x : T) (p : ℕ × T) (ps : List (ℕ × T)) (e l : Bool) → (k == p.0) ≡ e → got k (put k x ps) ≡ Some x → got k (put_at k x p ps e l) ≡ Some x
+    by : {T : Type 0} → (k : ℕ) (x : T) (p : ℕ × T) (ps : List (ℕ × T)) (e l : Bool) → (k == p.0) ≡ e → got k (put k x ps) ≡ Some x
+        → got k (put_at k x p ps e l) ≡ Some x
     by k x p ps true l h rest = rw (eq_self k) refl
     by k x p ps false true h rest = rw (eq_self k) refl
     by k x p ps false false h rest = rw h rest

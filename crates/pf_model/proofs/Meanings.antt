@@ -14,11 +14,15 @@ use Rattle.pf_model.specs.Laws.{OneMeaning, EvaluationIsMeaning, Replay}
 use Rattle.pf_model.proofs.Turned.{passes_as, pass_only, pass_uses}
 use Rattle.pf_model.proofs.Enabled.{enabled_can_pass}
 
--- a choice among actors, of whom there is one at least
+-- a word chooses this actor
+abbrev Chooses : ℕ → List Actor → Actor → Type 0
+Chooses w xs x = slice_get xs (w % length xs) ≡ Some x
+
+-- the choice among actors of whom there is one at least
 abbrev chosen : ℕ → Actor → List Actor → Actor
 chosen w x xs = get_or (x ∷ xs) (w % length (x ∷ xs)) x
 
-chosen_is : (w : ℕ) (x : Actor) (xs : List Actor) → slice_get (x ∷ xs) (w % length (x ∷ xs)) ≡ Some (chosen w x xs)
+chosen_is : (w : ℕ) (x : Actor) (xs : List Actor) → Chooses w (x ∷ xs) (chosen w x xs)
 chosen_is w x xs = slice_get-get_or (x ∷ xs) (w % length (x ∷ xs)) x (mod_below w (length (x ∷ xs)) (omega arith))
 
 module _ (m : Code) where
@@ -32,7 +36,8 @@ module _ (m : Code) where
   stays_there : (ws : Words) (n : ℕ) (c : Configuration) → Stops n c → IsRun ws n c (ran [] c zero)
   stays_there ws n c h = record { goes = stays ws n c; stops = subst (λ k. Stops k c) (sym (sub-zero n)) h }
 
-  goes_behind : (ws : Words) (n : ℕ) (c : Configuration) (x : Actor) (p : Passed) (r : Ran) → slice_get (enabled c) (ws zero % length (enabled c)) ≡ Some x
+  goes_behind : (ws : Words) (n : ℕ) (c : Configuration) (x : Actor) (p : Passed) (r : Ran)
+      → Chooses (ws zero) (enabled c) x
       → Passes m (suc n) c x p → IsRun (later ws) (suc n - p.used) p.after r → IsRun ws (suc n) c (ran_on (transition (ws zero) (enabled c) x p) p r)
   goes_behind ws n c x p r e s h =
       let q : suc n - p.used - r.used ≡ suc n - (p.used + r.used) = omega arith in
@@ -44,7 +49,7 @@ module _ (m : Code) where
   runs_by ws zero c next (x ∷ xs) e rest = stays_there ws zero c (inr refl)
   runs_by ws (suc n) c next (x ∷ xs) e rest =
       let y = chosen (ws zero) x xs in
-      let h : slice_get (enabled c) (ws zero % length (enabled c)) ≡ Some y = subst (λ ys. slice_get ys (ws zero % length ys) ≡ Some y) (sym e) (chosen_is (ws zero) x xs) in
+      let h : Chooses (ws zero) (enabled c) y = subst (λ ys. Chooses (ws zero) ys y) (sym e) (chosen_is (ws zero) x xs) in
       let s = passes_as m (suc n) c y (enabled_can_pass c (ws zero % length (enabled c)) y h) in
       let p = pass_of m (suc n) c y in
       let u = pass_uses m n c y p s in
@@ -66,7 +71,8 @@ module _ (m : Code) where
       at_limit [] = refl
       at_limit (x ∷ xs) = refl
 
-  run_by_chosen : (ws : Words) (n : ℕ) (c : Configuration) (next : ℕ → Configuration → Ran) (xs : List Actor) (x : Actor) → slice_get xs (ws zero % length xs) ≡ Some x
+  run_by_chosen : (ws : Words) (n : ℕ) (c : Configuration) (next : ℕ → Configuration → Ran) (xs : List Actor) (x : Actor)
+      → Chooses (ws zero) xs x
       → run_by m ws (suc n) c next xs ≡ run_behind (ws zero) xs x (pass_of m (suc n) c x) next (suc n)
   run_by_chosen ws n c next [] x e = absurd (cc)
   run_by_chosen ws n c next (y ∷ ys) x e =
@@ -82,7 +88,8 @@ module _ (m : Code) where
       let q : suc n - (p.used + k) ≡ suc n - p.used - k = omega arith in
       run_by_chosen ws n c next (enabled c) x e
       ∙ ap (λ z. run_behind (ws zero) (enabled c) x z next (suc n)) (pass_only m (suc n) c x p s)
-      ∙ ap (ran_on (transition (ws zero) (enabled c) x p) p) (run_only most (later ws) (suc n - p.used) p.after ts d k (omega arith) r (subst (λ z. Stops z d) q h))
+      ∙ ap (ran_on (transition (ws zero) (enabled c) x p) p)
+      (run_only most (later ws) (suc n - p.used) p.after ts d k (omega arith) r (subst (λ z. Stops z d) q h))
 
   -- ---- replay
 
@@ -94,12 +101,13 @@ module _ (m : Code) where
   same_choice w xs x p =
       ap (λ k. let t : Transition = record { choice = k; count = length xs; actor = x; label = p.label; sent = p.sent; taken = p.taken } in t) (mod-mod w (length xs))
 
-  replayed : (ws : Words) (n : ℕ) (c : Configuration) (ts : List Transition) (d : Configuration) (k : ℕ) → Goes m ws n c ts d k → Goes m (schedule_word (choices ts)) n c ts d k
+  replayed : (ws : Words) (n : ℕ) (c : Configuration) (ts : List Transition) (d : Configuration) (k : ℕ) → Goes m ws n c ts d k
+      → Goes m (schedule_word (choices ts)) n c ts d k
   replayed _ _ _ _ _ _ (stays ws n c) = stays (schedule_word []) n c
   replayed _ _ _ _ _ _ (more ws n c x p ts d k e s r) =
       let w = ws zero % length (enabled c) in
       let vs = schedule_word (w ∷ choices ts) in
-      let h : slice_get (enabled c) (w % length (enabled c)) ≡ Some x = ap (slice_get (enabled c)) (mod-mod (ws zero) (length (enabled c))) ∙ e in
+      let h : Chooses w (enabled c) x = ap (slice_get (enabled c)) (mod-mod (ws zero) (length (enabled c))) ∙ e in
       subst (λ t. Goes m vs (suc n) c (t ∷ ts) d (p.used + k)) (same_choice (ws zero) (enabled c) x p)
       (more vs n c x p ts d k h s (replayed (later ws) (suc n - p.used) p.after ts d k r))
 
@@ -113,7 +121,8 @@ evaluation_is_the_meaning j =
 
 only_evaluated : (j : Job) (r : Report) → Means j r → r ≡ evaluated j
 only_evaluated j r h =
-    h.report ∙ ap (evaluated_as j) (sym (run_only j.code j.limit (words_of j.choices) j.limit (start j.root) h.transitions h.last r.steps (omega arith) h.run.goes h.run.stops))
+    let e = run_only j.code j.limit (words_of j.choices) j.limit (start j.root) h.transitions h.last r.steps (omega arith) h.run.goes h.run.stops in
+    h.report ∙ ap (evaluated_as j) (sym e)
 
 pub one_meaning : OneMeaning
 one_meaning j = (evaluated j, evaluation_is_the_meaning j, only_evaluated j)

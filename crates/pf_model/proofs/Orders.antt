@@ -84,7 +84,8 @@ on_way_sent a b c d s cs =
 abbrev sent_where : Bool → ℕ → List (ℕ × Signal) → List Signal
 sent_where e b ss = if e then to_one b ss else []
 
-one_more_sent : (e f : Bool) (w ss : List Signal) (s : Signal) → (w ++ where_both e f (s ∷ [])) ++ (if e then ss else []) ≡ w ++ (if e then (if f then s ∷ ss else ss) else [])
+one_more_sent : (e f : Bool) (w ss : List Signal) (s : Signal)
+    → (w ++ where_both e f (s ∷ [])) ++ (if e then ss else []) ≡ w ++ (if e then (if f then s ∷ ss else ss) else [])
 one_more_sent true true w ss s = append_assoc (w) (s ∷ []) (ss)
 one_more_sent true false w ss s = ap (λ q. q ++ ss) (append-nil w)
 one_more_sent false f w ss s = append-nil (w ++ [])
@@ -99,7 +100,8 @@ on_way_posted a b c (x ∷ xs) cs =
     on_way_posted a b c xs (sent c x.0 x.1 cs) ∙ ap (λ w. w ++ sent_where (a == c) b xs) (on_way_sent a b c x.0 x.1 cs)
     ∙ one_more_sent (a == c) (b == x.0) (on_way a b cs) (to_one b xs) x.1
 
-on_way_passed : (a b c n : ℕ) (ss : List (ℕ × Signal)) (cs : Channels) → on_way a b (posted c ss (with_senders n cs)) ≡ on_way a b cs ++ sent_where (a == c) b ss
+on_way_passed : (a b c n : ℕ) (ss : List (ℕ × Signal)) (cs : Channels)
+    → on_way a b (posted c ss (with_senders n cs)) ≡ on_way a b cs ++ sent_where (a == c) b ss
 on_way_passed a b c n ss cs =
     on_way_posted a b c ss (with_senders n cs) ∙ ap (λ r. signals_in (got b r) ++ sent_where (a == c) b ss) (row_added a n cs)
 
@@ -120,12 +122,14 @@ taken_is_first a b cs s after (Some q) h =
     let e : ◌≡◌ {A = Signal × Channels} (q.first, with_row a (left_in b q.rest (row_of a cs)) cs) (s, after) = cc in
     (q, refl, sym (ap (λ x. x.0) e), sym (ap (λ x. x.1) e))
 
-first_where_both : (e f : Bool) (w x : List Signal) (s : Signal) → (e ≡ true → f ≡ true → w ≡ s ∷ x) → w ≡ where_both e f (s ∷ []) ++ (if e then (if f then x else w) else w)
+first_where_both : (e f : Bool) (w x : List Signal) (s : Signal) → (e ≡ true → f ≡ true → w ≡ s ∷ x)
+    → w ≡ where_both e f (s ∷ []) ++ (if e then (if f then x else w) else w)
 first_where_both true true w x s h = h refl refl
 first_where_both true false w x s h = refl
 first_where_both false f w x s h = refl
 
-on_way_taken : (a b c d : ℕ) (s : Signal) (cs after : Channels) → taken c d cs ≡ Some (s, after) → on_way a b cs ≡ where_both (a == c) (b == d) (s ∷ []) ++ on_way a b after
+on_way_taken : (a b c d : ℕ) (s : Signal) (cs after : Channels) → taken c d cs ≡ Some (s, after)
+    → on_way a b cs ≡ where_both (a == c) (b == d) (s ∷ []) ++ on_way a b after
 on_way_taken a b c d s cs after h =
     let k = taken_is_first c d cs s after (got d (row_of c cs)) h in
     let q = k.0 in
@@ -137,8 +141,9 @@ on_way_taken a b c d s cs after h =
     let whole : (a == c) ≡ true → (b == d) ≡ true → on_way a b cs ≡ s ∷ q.rest =
     λ e f. let p = eqb-true a c e in let r = eqb-true b d f in
     ap (λ n. on_way n b cs) p ∙ ap (λ n. on_way c n cs) r ∙ ap signals_in k.1 ∙ ap (λ x. x ∷ q.rest) (sym k.2) in
+    let left = changed_at a b c d row cs q.rest (a == c) (b == d) refl refl here there in
     first_where_both (a == c) (b == d) (on_way a b cs) q.rest s whole
-    ∙ ap (λ x. where_both (a == c) (b == d) (s ∷ []) ++ x) (sym (changed_at a b c d row cs q.rest (a == c) (b == d) refl refl here there) ∙ ap (on_way a b) (sym k.3))
+    ∙ ap (λ x. where_both (a == c) (b == d) (s ∷ []) ++ x) (sym left ∙ ap (on_way a b) (sym k.3))
 
 -- ---- transitions and runs
 
@@ -152,9 +157,11 @@ one_passed m n c _ _ a b w xs (delivery e f s cs h) =
     ∙ append_assoc (where_both (a == e) (b == f) (s ∷ [])) (on_way a b cs) (sent_where (a == f) b d.left.sent)
     ∙ ap (λ q. where_both (a == e) (b == f) (s ∷ []) ++ q) (sym (on_way_passed a b f (length d.left.core.processes) d.left.sent cs))
 
-joined : (first second third s t ss ts : List Signal) → first ++ s ≡ t ++ second → second ++ ss ≡ ts ++ third → first ++ (s ++ ss) ≡ (t ++ ts) ++ third
+joined : (first second third s t ss ts : List Signal) → first ++ s ≡ t ++ second → second ++ ss ≡ ts ++ third
+    → first ++ (s ++ ss) ≡ (t ++ ts) ++ third
 joined first second third s t ss ts h k =
-    sym (append_assoc (first) (s) (ss)) ∙ ap (λ q. q ++ ss) h ∙ append_assoc (t) (second) (ss) ∙ ap (λ q. t ++ q) k ∙ sym (append_assoc (t) (ts) (third))
+    sym (append_assoc (first) (s) (ss)) ∙ ap (λ q. q ++ ss) h ∙ append_assoc (t) (second) (ss) ∙ ap (λ q. t ++ q) k
+    ∙ sym (append_assoc (t) (ts) (third))
 
 whole_run : (m : Code) (ws : Words) (n : ℕ) (c : Configuration) (ts : List Transition) (d : Configuration) (k a b : ℕ) → Goes m ws n c ts d k
     → on_way a b c.channels ++ all_sent a b ts ≡ all_taken a b ts ++ on_way a b d.channels

@@ -41,7 +41,8 @@ no_value x v h e = let q = ap as_value e in cc
 
 -- ---- two ways to see one tree are one
 
-same_values : (vs ws : Values) (x y : Tree) (ts us : Trees) → as_value x ≡ None → as_value y ≡ None → after_values vs (tree x ts) ≡ after_values ws (tree y us) → (vs ≡ ws) × (x ≡ y) × (ts ≡ us)
+same_values : (vs ws : Values) (x y : Tree) (ts us : Trees) → as_value x ≡ None → as_value y ≡ None
+    → after_values vs (tree x ts) ≡ after_values ws (tree y us) → (vs ≡ ws) × (x ≡ y) × (ts ≡ us)
 same_values none none x y ts us hx hy e = (refl, cc, cc)
 same_values none (more w ws) x y ts us hx hy e = absurd (no_value x w hx (cc))
 same_values (more v vs) none x y ts us hx hy e = absurd (no_value y v hy (cc))
@@ -115,11 +116,13 @@ module _ (m : Code) (own : ℕ) where
   around_no_redex (message_of v) x h = ap (λ o. with_both (Some v) o (λ v w. Asks (c.send v w))) h
 
   -- frames round a redex make no redex
-  no_redex_around : (f : Frame) (fs : List Frame) (r s : Tree) (d e : Change) → contract m own r ≡ Some d → contract m own s ≡ Some e → s ≡ fill (f ∷ fs) r → ⊥
+  no_redex_around : (f : Frame) (fs : List Frame) (r s : Tree) (d e : Change) → contract m own r ≡ Some d → contract m own s ≡ Some e
+      → s ≡ fill (f ∷ fs) r → ⊥
   no_redex_around f fs r s d e hr hs q =
       let k = around_no_redex f (fill fs r) (fill_no_value fs r d hr) in let p = ap (contract m own) q in cc
 
-  same_fill : (fs gs : List Frame) (r s : Tree) (d e : Change) → contract m own r ≡ Some d → contract m own s ≡ Some e → fill fs r ≡ fill gs s → (fs ≡ gs) × (r ≡ s)
+  same_fill : (fs gs : List Frame) (r s : Tree) (d e : Change) → contract m own r ≡ Some d → contract m own s ≡ Some e
+      → fill fs r ≡ fill gs s → (fs ≡ gs) × (r ≡ s)
   same_fill [] [] r s d e hr hs q = (refl, q)
   same_fill [] (g ∷ gs) r s d e hr hs q = absurd (no_redex_around g gs s r e d hs hr q)
   same_fill (f ∷ fs) [] r s d e hr hs q = absurd (no_redex_around f fs r s d e hr hs (sym q))

@@ -8,16 +8,25 @@ use Rattle.pf_model.specs.Receive.{Taken, taking, and_before, taken_or_later, se
 
 module _ (m : Code) (own : ℕ) (ks : Clauses) where
   -- a message that no clause picks stands before what is taken of the others
-  takes_behind : (v : Value) (vs : List Value) (t : Taken) → picked m own ks v ≡ None → Takes m own ks vs t → Takes m own ks (v ∷ vs) (record t { others = v ∷ t.others })
+  takes_behind : (v : Value) (vs : List Value) (t : Taken) → picked m own ks v ≡ None → Takes m own ks vs t
+      → Takes m own ks (v ∷ vs) (record t { others = v ∷ t.others })
   takes_behind v vs t h k =
-      record { front = v ∷ k.front; back = k.back; mailbox_is = ap (λ x. v ∷ x) k.mailbox_is; others_are = ap (λ x. v ∷ x) k.others_are; none_before = (h, k.none_before); picks = k.picks }
+      record {
+        front = v ∷ k.front;
+        back = k.back;
+        mailbox_is = ap (λ x. v ∷ x) k.mailbox_is;
+        others_are = ap (λ x. v ∷ x) k.others_are;
+        none_before = (h, k.none_before);
+        picks = k.picks;
+      }
 
   takes_first : (v : Value) (vs : List Value) (body : Tree) → picked m own ks v ≡ Some body → Takes m own ks (v ∷ vs) (taking body v vs)
   takes_first v vs body h = record { front = []; back = vs; mailbox_is = refl; others_are = refl; none_before = tt; picks = h }
 
   -- ---- from the function to the relation
 
-  behind_is : (v : Value) (o : Option Taken) (t : Taken) → and_before v o ≡ Some t → (u : Taken) × (o ≡ Some u) × (t ≡ record u { others = v ∷ u.others })
+  behind_is : (v : Value) (o : Option Taken) (t : Taken) → and_before v o ≡ Some t
+      → (u : Taken) × (o ≡ Some u) × (t ≡ record u { others = v ∷ u.others })
   behind_is v None t e = absurd (cc)
   behind_is v (Some u) t e = (u, refl, cc)
 
@@ -51,7 +60,8 @@ module _ (m : Code) (own : ℕ) (ks : Clauses) where
       → selected m own ks (front ++ v ∷ back) ≡ Some (taking body v (front ++ back))
   selected_behind [] back body v h p = ap (λ o. taken_or_later o v back (selected m own ks back)) p
   selected_behind (w ∷ ws) back body v h p =
-      ap (λ o. taken_or_later o w (ws ++ v ∷ back) (selected m own ks (ws ++ v ∷ back))) h.0 ∙ ap (and_before w) (selected_behind ws back body v h.1 p)
+      ap (λ o. taken_or_later o w (ws ++ v ∷ back) (selected m own ks (ws ++ v ∷ back))) h.0
+      ∙ ap (and_before w) (selected_behind ws back body v h.1 p)
 
   takes_only : (vs : List Value) (t : Taken) → Takes m own ks vs t → selected m own ks vs ≡ Some t
   takes_only vs t k =

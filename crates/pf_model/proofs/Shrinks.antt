@@ -21,7 +21,8 @@ smaller_behind n ms ns (inr h) =
 
 all_behind : (n : ℕ) (ns : List ℕ) (cs : List (List ℕ)) → AllSmaller ns cs → AllSmaller (n ∷ ns) (behind n cs)
 all_behind n ns cs h =
-    All-map (λ c. IsSmaller c (n ∷ ns)) (λ c. n ∷ c) cs (All-weaker (λ c. IsSmaller c ns) (λ c. IsSmaller (n ∷ c) (n ∷ ns)) (λ c. smaller_behind n c ns) cs h)
+    All-map (λ c. IsSmaller c (n ∷ ns)) (λ c. n ∷ c) cs
+    (All-weaker (λ c. IsSmaller c ns) (λ c. IsSmaller (n ∷ c) (n ∷ ns)) (λ c. smaller_behind n c ns) cs h)
 
 smaller_of_smaller : (ls ms ns : List ℕ) → IsSmaller ls ms → IsSmaller ms ns → IsSmaller ls ns
 smaller_of_smaller ls ms ns (inl h) (inl k) = inl (omega arith)
@@ -78,13 +79,15 @@ module _ (fails : List ℕ → Bool) where
       by (inr l) = smaller_of_smaller f.schedule ms ns l h
 
   -- with these candidates left, where none but they may fail
-  search_finds : (k : ℕ) (ns : List ℕ) (cs : List (List ℕ)) → fails ns ≡ true → AllSmaller ns cs → (NoneFails cs → NoneFails (candidates ns)) → IsFoundOf fails ns (search fails k ns cs)
+  search_finds : (k : ℕ) (ns : List ℕ) (cs : List (List ℕ)) → fails ns ≡ true → AllSmaller ns cs
+      → (NoneFails cs → NoneFails (candidates ns)) → IsFoundOf fails ns (search fails k ns cs)
   search_finds k ns [] e s rest = record { still_fails = e; no_larger = inl refl; none_left = λ h. rest (All-nil (λ c. fails c ≡ false)) }
   search_finds zero ns (c ∷ cs) e s rest = record { still_fails = e; no_larger = inl refl; none_left = λ h. absurd (cc) }
   search_finds (suc k) ns (c ∷ cs) e s rest = by (fails c) refl (search_finds k c (candidates c)) (search_finds k ns cs)
     where
       by : (b : Bool) → fails c ≡ b
-          → (fails c ≡ true → AllSmaller c (candidates c) → (NoneFails (candidates c) → NoneFails (candidates c)) → IsFoundOf fails c (search fails k c (candidates c)))
+          → (fails c ≡ true → AllSmaller c (candidates c) → (NoneFails (candidates c) → NoneFails (candidates c))
+          → IsFoundOf fails c (search fails k c (candidates c)))
           → (fails ns ≡ true → AllSmaller ns cs → (NoneFails cs → NoneFails (candidates ns)) → IsFoundOf fails ns (search fails k ns cs))
           → IsFoundOf fails ns (if b then search fails k c (candidates c) else search fails k ns cs)
       by true h again on =

@@ -23,7 +23,8 @@ module _ (m : Code) (own : ℕ) where
   IsIn t (placed fs r d) = Place m own t fs r d
 
   -- what is in a part is in the whole, where that is so once the part is a value
-  part_is_in : (f : Frame) (a t : Tree) (s : Sought) (go : Value → Sought) → around f a ≡ t → IsIn a s → ((v : Value) → a ≡ lit v → IsIn t (go v)) → IsIn t (part f s go)
+  part_is_in : (f : Frame) (a t : Tree) (s : Sought) (go : Value → Sought) → around f a ≡ t → IsIn a s
+      → ((v : Value) → a ≡ lit v → IsIn t (go v)) → IsIn t (part f s go)
   part_is_in f a t (valued v) go e h next = next v h
   part_is_in f a t (placed fs r d) go e h next = record { filled = ap (around f) h.filled ∙ e; redex = h.redex }
 
@@ -41,12 +42,14 @@ module _ (m : Code) (own : ℕ) where
 
   -- two parts of a tree, the right one once the left one is a value
   two_parts : (left : Frame) (right : Value → Frame) (whole : Tree → Tree → Tree) (last : Value → Value → Change) (a b : Tree)
-      → around left a ≡ whole a b → ((v : Value) (x : Tree) → around (right v) x ≡ whole (lit v) x) → ((v w : Value) → contract m own (whole (lit v) (lit w)) ≡ Some (last v w))
+      → around left a ≡ whole a b → ((v : Value) (x : Tree) → around (right v) x ≡ whole (lit v) x)
+      → ((v w : Value) → contract m own (whole (lit v) (lit w)) ≡ Some (last v w))
       → IsIn a (sought m own a) → IsIn b (sought m own b)
       → IsIn (whole a b) (part left (sought m own a) (λ v. part (right v) (sought m own b) (λ w. placed [] (whole (lit v) (lit w)) (last v w))))
   two_parts left right whole last a b hl hr redex ia ib =
-      part_is_in left a (whole a b) (sought m own a) (λ v. part (right v) (sought m own b) (λ w. placed [] (whole (lit v) (lit w)) (last v w))) hl ia
-      (λ v e. part_is_in (right v) b (whole a b) (sought m own b) (λ w. placed [] (whole (lit v) (lit w)) (last v w)) (hr v b ∙ ap (λ x. whole x b) (sym e)) ib
+      let both : Value → Value → Sought = λ v w. placed [] (whole (lit v) (lit w)) (last v w) in
+      part_is_in left a (whole a b) (sought m own a) (λ v. part (right v) (sought m own b) (both v)) hl ia
+      (λ v e. part_is_in (right v) b (whole a b) (sought m own b) (both v) (hr v b ∙ ap (λ x. whole x b) (sym e)) ib
       (λ w d. is_redex (whole a b) (whole (lit v) (lit w)) (last v w) (ap (λ x. whole x (lit w)) (sym e) ∙ ap (whole a) (sym d)) (redex v w)))
 
   -- the one part of a tree
@@ -67,7 +70,8 @@ module _ (m : Code) (own : ℕ) where
     sought_is_in (cons a t) =
         two_parts (first_of t) tail_of cons (λ v w. worked_out (consed v w)) a t refl (λ v x. refl) (λ v w. refl) (sought_is_in a) (sought_is_in t)
     sought_is_in (op o a t) =
-        two_parts (left_of o t) (right_of o) (op o) (λ v w. worked_out (operated (name_in m) o v w)) a t refl (λ v x. refl) (λ v w. refl) (sought_is_in a) (sought_is_in t)
+        two_parts (left_of o t) (right_of o) (op o) (λ v w. worked_out (operated (name_in m) o v w)) a t refl (λ v x. refl) (λ v w. refl)
+        (sought_is_in a) (sought_is_in t)
     sought_is_in (neg a) = only_part negation neg (λ v. worked_out (negated v)) a refl (λ v. refl) (sought_is_in a)
     sought_is_in (and_also a t) =
         only_part (and_also_of t) (λ x. and_also x t) (λ v. decided false v t (truth_of v)) a refl (λ v. refl) (sought_is_in a)
