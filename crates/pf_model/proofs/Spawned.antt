@@ -29,7 +29,7 @@ module _ (fs : Program) (name k : ℕ) where
       let p = (position-Some (is_named name k) fs i g h).1 in
       named_arity name k g (subst (λ x. is_named name k x ≡ true) (get_or_from_slice_get fs i g g e) p)
 
-  exported_has : (f : ℕ) → exported_at fs (first_named name k fs) ≡ Some f → HasArity fs f k
+  pub exported_has : (f : ℕ) → exported_at fs (first_named name k fs) ≡ Some f → HasArity fs f k
   exported_has f = by (first_named name k fs) refl
     where
       at : (i : ℕ) → first_named name k fs ≡ Some i → (o : Option Function) → slice_get fs i ≡ o → exported_of i o ≡ Some f → HasArity fs f k
