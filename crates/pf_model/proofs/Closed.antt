@@ -32,7 +32,8 @@ module _ (m : Code) (code : CodeIsClosed m.functions) where
   MoveIsClosed (awaits gs ks) = FillsClosed gs × ClausesAreClosed m.functions 0 ks
   MoveIsClosed (returns v) = Unit {0}
 
-  redex_closed : (own : ℕ) (t r : Tree) (gs : List Frame) (d : Change) → IsClosed m.functions 0 t → Place m own t gs r d → IsClosed m.functions 0 r
+  redex_closed : (own : ℕ) (t r : Tree) (gs : List Frame) (d : Change) → IsClosed m.functions 0 t → Place m own t gs r d
+      → IsClosed m.functions 0 r
   redex_closed own t r gs d h p = hole_closed m.functions gs r (rw p.filled h)
 
   redex_fine : (own : ℕ) (t r : Tree) (gs : List Frame) (d : Change) → IsClosed m.functions 0 t → Place m own t gs r d → IsFine m own d
@@ -58,7 +59,8 @@ module _ (m : Code) (code : CodeIsClosed m.functions) where
   answered_closed gs (Ok v) h = h (lit v) tt
   answered_closed gs (Err e) h = tt
 
-  received_keeps : (c : Core) (a : ℕ) (gs : List Frame) (ks : Clauses) → CoreIsClosed m.functions c → FillsClosed gs → ClausesAreClosed m.functions 0 ks
+  received_keeps : (c : Core) (a : ℕ) (gs : List Frame) (ks : Clauses) → CoreIsClosed m.functions c → FillsClosed gs
+      → ClausesAreClosed m.functions 0 ks
       → DeedKeeps m (received c a gs ks (selected m a ks (of c a).mailbox))
   received_keeps c a gs ks h g k = by (selected m a ks (of c a).mailbox) refl
     where
@@ -72,7 +74,8 @@ module _ (m : Code) (code : CodeIsClosed m.functions) where
   SomeKeeps None = Unit {0}
   SomeKeeps (Some d) = DeedKeeps m d
 
-  last_keeps : (c : Core) (a : ℕ) (x : Move) (d : Deed) → CoreIsClosed m.functions c → MoveIsClosed x → last_of_turn m c a x ≡ Some d → DeedKeeps m d
+  last_keeps : (c : Core) (a : ℕ) (x : Move) (d : Deed) → CoreIsClosed m.functions c → MoveIsClosed x → last_of_turn m c a x ≡ Some d
+      → DeedKeeps m d
   last_keeps c a (goes_on s) d h k e = absurd (cc)
   last_keeps c a (asks gs x) d h k e =
       let y = acted m c a x in
@@ -83,7 +86,8 @@ module _ (m : Code) (code : CodeIsClosed m.functions) where
   last_keeps c a (returns v) d h k e =
       subst SomeKeeps e (ended_keeps m c a (returned v) h)
 
-  turn_keeps : (a : ℕ) (c : Core) (n : ℕ) (s : State) (d : Deed) (k : ℕ) → CoreIsClosed m.functions c → StateIsClosed m.functions s → Turn m a c n s d k
+  turn_keeps : (a : ℕ) (c : Core) (n : ℕ) (s : State) (d : Deed) (k : ℕ) → CoreIsClosed m.functions c → StateIsClosed m.functions s
+      → Turn m a c n s d k
       → DeedKeeps m d
   turn_keeps a c _ _ _ _ h g (cut_running t) = with_closed m c a _ h g
   turn_keeps a c _ _ _ _ h g (cut_ending r) = with_closed m c a _ h tt
@@ -98,7 +102,8 @@ module _ (m : Code) (code : CodeIsClosed m.functions) where
   pass_keeps n c _ _ h (turn a k d t) = turn_keeps a c.core n (of c.core a).state d k h (of_closed m c.core a h) t
   pass_keeps n c _ _ h (delivery a b s cs e) = delivered_keeps m c.core a b s h
 
-  run_keeps : (ws : Words) (n : ℕ) (c : Configuration) (ts : List Transition) (d : Configuration) (k : ℕ) → ConfigurationIsClosed m.functions c
+  run_keeps : (ws : Words) (n : ℕ) (c : Configuration) (ts : List Transition) (d : Configuration) (k : ℕ)
+      → ConfigurationIsClosed m.functions c
       → Goes m ws n c ts d k → ConfigurationIsClosed m.functions d
   run_keeps _ _ _ _ _ _ h (stays ws n c) = h
   run_keeps _ _ _ _ _ _ h (more ws n c x p ts d k e s next) =

@@ -22,7 +22,8 @@ use Rattle.pf_model.proofs.Substituted.{fit_length, fit_all_length, sub_all_bind
 use Rattle.pf_model.proofs.Undefined.{IsAnother, another_atom, limited_another, tagged_another, consed_another, negated_another, operated_another, head_another, tail_another, list_length_another, element_another, tuple_length_another}
 
 -- what an option's values have, its mapped one has
-mapped : {A B : Type 0} (P : B → Type 0) (f : A → B) (o : Option A) (y : B) → ((x : A) → o ≡ Some x → P (f x)) → option_map f o ≡ Some y → P y
+mapped : {A B : Type 0} (P : B → Type 0) (f : A → B) (o : Option A) (y : B) → ((x : A) → o ≡ Some x → P (f x)) → option_map f o ≡ Some y
+    → P y
 mapped P f None y h e = absurd (cc)
 mapped P f (Some x) y h e = let d : f x ≡ y = cc in subst P d (h x refl)
 
@@ -70,7 +71,8 @@ module _ (m : Code) (own : ℕ) where
       by true d = let r : sub e t ≡ s = cc in subst (IsClosed m.functions 0) r (sub_closed e m.functions k 0 t (omega arith) h)
       by false d = next d
 
-  pub picked_closed : (ks : Clauses) (v : Value) (s : Tree) → ClausesAreClosed m.functions 0 ks → picked m own ks v ≡ Some s → IsClosed m.functions 0 s
+  pub picked_closed : (ks : Clauses) (v : Value) (s : Tree) → ClausesAreClosed m.functions 0 ks → picked m own ks v ≡ Some s
+      → IsClosed m.functions 0 s
   picked_closed no_clauses v s h e = absurd (cc)
   picked_closed (clause p g t ks) v s h e = by (fit p v []) refl (picked_closed ks v s h.3) e
     where
@@ -96,7 +98,8 @@ module _ (m : Code) (own : ℕ) where
           let l = fit_all_length k.parameters vs x q in
           opened_closed k.guard k.body x (all_bind k.parameters) (picked_by_all m own ks vs) s (omega arith) first.body next d
 
-  body_fine : (o : Option Tree) (e : Value) → ((s : Tree) → o ≡ Some s → IsClosed m.functions 0 s) → (e ≡ undef → ⊥) → IsFine (body_or_raise o e)
+  body_fine : (o : Option Tree) (e : Value) → ((s : Tree) → o ≡ Some s → IsClosed m.functions 0 s) → (e ≡ undef → ⊥)
+      → IsFine (body_or_raise o e)
   body_fine None e h k = k
   body_fine (Some s) e h k = h s refl
 
@@ -110,13 +113,15 @@ module _ (m : Code) (own : ℕ) where
   matched_fine no_patterns v h = tt
   matched_fine (pattern p ps) v h = by (fit p v []) refl
     where
-      by : (o : Option Scope) → fit p v [] ≡ o → IsFine (fits_or o (λ e. Becomes (matches_left (sub_patterns e ps) v)) (Raises (no_match v)))
+      by : (o : Option Scope) → fit p v [] ≡ o
+          → IsFine (fits_or o (λ e. Becomes (matches_left (sub_patterns e ps) v)) (Raises (no_match v)))
       by None q = tagged_another badmatch v
       by (Some e) q =
           let l = fit_length p v e q in
           matches_left_closed (sub_patterns e ps) v (sub_patterns_closed e (0 + binds p) 0 ps (omega arith) h.1)
 
-  bound_fine : (ps : Patterns) (v : Value) (rest : Tree) → PatternsAreClosed 0 ps → IsClosed m.functions (0 + all_bind ps) rest → IsFine (bound ps v rest)
+  bound_fine : (ps : Patterns) (v : Value) (rest : Tree) → PatternsAreClosed 0 ps → IsClosed m.functions (0 + all_bind ps) rest
+      → IsFine (bound ps v rest)
   bound_fine no_patterns v rest h k = k
   bound_fine (pattern p ps) v rest h k = by (fit p v []) refl
     where
@@ -140,7 +145,8 @@ module _ (m : Code) (own : ℕ) where
   decided_fine false v right (Some true) h = h
   decided_fine false v right (Some false) h = tt
 
-  entered_fine : (f k : ℕ) (vs : Values) → CodeIsClosed m.functions → HasArity m.functions f k → IsFine (entered m own (slice_get m.functions f) vs)
+  entered_fine : (f k : ℕ) (vs : Values) → CodeIsClosed m.functions → HasArity m.functions f k
+      → IsFine (entered m own (slice_get m.functions f) vs)
   entered_fine f k vs code h = by (slice_get m.functions f) refl h
     where
       by : (o : Option Function) → slice_get m.functions f ≡ o → option_map (λ g. g.arity) o ≡ Some k → IsFine (entered m own o vs)

@@ -35,7 +35,8 @@ module _ (m : Code) where
   with_closed c a p h k = All-set IsKept c.processes a p k h
 
   -- a process that changed in all but its state
-  same_state : (c : Core) (a : ℕ) (p : Process) → CoreIsClosed m.functions c → p.state ≡ (of c a).state → CoreIsClosed m.functions (with_process c a p)
+  same_state : (c : Core) (a : ℕ) (p : Process) → CoreIsClosed m.functions c → p.state ≡ (of c a).state
+      → CoreIsClosed m.functions (with_process c a p)
   same_state c a p h e = with_closed c a p h (rw e (of_closed c a h))
 
   -- ---- actions
@@ -43,7 +44,8 @@ module _ (m : Code) where
   abbrev ActKeeps : Acted → Type 0
   ActKeeps x = CoreIsClosed m.functions x.left.core
 
-  given_keeps : {T : Type 0} (c : Core) (o : Option T) (go : T → Acted) → CoreIsClosed m.functions c → ((x : T) → ActKeeps (go x)) → ActKeeps (given c o go)
+  given_keeps : {T : Type 0} (c : Core) (o : Option T) (go : T → Acted) → CoreIsClosed m.functions c → ((x : T) → ActKeeps (go x))
+      → ActKeeps (given c o go)
   given_keeps c None go h k = h
   given_keeps c (Some x) go h k = k x
 
@@ -58,7 +60,8 @@ module _ (m : Code) where
   linked_keeps : (c : Core) (a p : ℕ) → CoreIsClosed m.functions c → CoreIsClosed m.functions (linked_with c a p)
   linked_keeps c a p h = same_state c a _ h refl
 
-  fresh_keeps : (c : Core) (s : State) (ls : List ℕ) → CoreIsClosed m.functions c → StateIsClosed m.functions s → CoreIsClosed m.functions (with_fresh c s ls)
+  fresh_keeps : (c : Core) (s : State) (ls : List ℕ) → CoreIsClosed m.functions c → StateIsClosed m.functions s
+      → CoreIsClosed m.functions (with_fresh c s ls)
   fresh_keeps c s ls h k = All-push IsKept c.processes _ h k
 
   after_spawn_keeps : (c : Core) (a : ℕ) (b : Bool) (s : State) → CoreIsClosed m.functions c → StateIsClosed m.functions s
@@ -67,7 +70,8 @@ module _ (m : Code) where
       fresh_keeps (linked_with c a (length c.processes)) s (a ∷ []) (linked_keeps c a (length c.processes) h) k
   after_spawn_keeps c a false s h k = fresh_keeps c s [] h k
 
-  spawned_keeps : (c : Core) (a : ℕ) (b : Bool) (s : State) → CoreIsClosed m.functions c → StateIsClosed m.functions s → ActKeeps (spawned c a b s)
+  spawned_keeps : (c : Core) (a : ℕ) (b : Bool) (s : State) → CoreIsClosed m.functions c → StateIsClosed m.functions s
+      → ActKeeps (spawned c a b s)
   spawned_keeps c a b s h k = either_keeps (nat_lt (length c.processes) MOST_PROCESSES) _ _ (after_spawn_keeps c a b s h k) h
 
   linked_to_keeps : (c : Core) (a p : ℕ) → CoreIsClosed m.functions c → ActKeeps (linked_to c a p)

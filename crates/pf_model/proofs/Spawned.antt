@@ -32,7 +32,8 @@ module _ (fs : Program) (name k : ℕ) where
   pub exported_has : (f : ℕ) → exported_at fs (first_named name k fs) ≡ Some f → HasArity fs f k
   exported_has f = by (first_named name k fs) refl
     where
-      at : (i : ℕ) → first_named name k fs ≡ Some i → (o : Option Function) → slice_get fs i ≡ o → exported_of i o ≡ Some f → HasArity fs f k
+      at : (i : ℕ) → first_named name k fs ≡ Some i → (o : Option Function) → slice_get fs i ≡ o → exported_of i o ≡ Some f
+          → HasArity fs f k
       at i h None e d = absurd (cc)
       at i h (Some g) e d = exported g.exported d
         where
@@ -46,7 +47,8 @@ module _ (fs : Program) (name k : ℕ) where
       by None h d = absurd (cc)
       by (Some i) h d = at i h (slice_get fs i) refl d
 
-begun_closed : (fs : Program) (o : Option ℕ) (vs : Values) → ((f : ℕ) → o ≡ Some f → HasArity fs f (count vs)) → StateIsClosed fs (begun o vs)
+begun_closed : (fs : Program) (o : Option ℕ) (vs : Values) → ((f : ℕ) → o ≡ Some f → HasArity fs f (count vs))
+    → StateIsClosed fs (begun o vs)
 begun_closed fs None vs h = tt
 begun_closed fs (Some f) vs h = (rw (literals_count vs) (h f refl), literals_closed fs vs)
 

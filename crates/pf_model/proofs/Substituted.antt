@@ -66,7 +66,8 @@ module _ (e : Scope) where
   sub_count (tree t ts) = ap (λ n. 1 + n) (sub_count ts)
 
   -- what is closed under k variables, the first of which get values, is closed under the other n
-  slot_closed : (k n x : ℕ) → k ≡ length e + n → x < k → (o : Option Value) → slice_get e x ≡ o → PatternIsClosed n (known_or_slot o (x - length e))
+  slot_closed : (k n x : ℕ) → k ≡ length e + n → x < k → (o : Option Value) → slice_get e x ≡ o
+      → PatternIsClosed n (known_or_slot o (x - length e))
   slot_closed k n x q h None d = let l = past e x d in omega arith
   slot_closed k n x q h (Some v) d = tt
 
@@ -82,14 +83,16 @@ module _ (e : Scope) where
         (sub_pattern_closed k n p q h.0, sub_pattern_closed (k + binds p) (n + binds (sub_pattern e p)) r (omega arith) h.1)
     sub_pattern_closed k n never q h = tt
 
-    pub sub_patterns_closed : (k n : ℕ) (ps : Patterns) → k ≡ length e + n → PatternsAreClosed k ps → PatternsAreClosed n (sub_patterns e ps)
+    pub sub_patterns_closed : (k n : ℕ) (ps : Patterns) → k ≡ length e + n → PatternsAreClosed k ps
+        → PatternsAreClosed n (sub_patterns e ps)
     sub_patterns_closed k n no_patterns q h = tt
     sub_patterns_closed k n (pattern p ps) q h =
         let d = sub_binds p in
         (sub_pattern_closed k n p q h.0, sub_patterns_closed (k + binds p) (n + binds (sub_pattern e p)) ps (omega arith) h.1)
 
   module _ (fs : Program) where
-    var_closed : (k n x : ℕ) → k ≡ length e + n → x < k → (o : Option Value) → slice_get e x ≡ o → IsClosed fs n (value_or_var o (x - length e))
+    var_closed : (k n x : ℕ) → k ≡ length e + n → x < k → (o : Option Value) → slice_get e x ≡ o
+        → IsClosed fs n (value_or_var o (x - length e))
     var_closed k n x q h None d = let l = past e x d in omega arith
     var_closed k n x q h (Some v) d = tt
 

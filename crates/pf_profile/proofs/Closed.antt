@@ -34,7 +34,8 @@ like R (a ∷ xs) (b ∷ ys) (suc i) x h e = like R xs ys i x h.1 e
 
 -- a function that is named so has so many parameters
 module _ (m : Tree) (fs : Program) (all : Pairwise (FunctionIs (names_of m.functions) m.exports) m.functions fs) where
-  named_takes : (f k : ℕ) (hs : List Head) (g : Function) → is_named f k hs ≡ true → FunctionIs (names_of m.functions) m.exports hs g → g.arity ≡ k
+  named_takes : (f k : ℕ) (hs : List Head) (g : Function) → is_named f k hs ≡ true → FunctionIs (names_of m.functions) m.exports hs g
+      → g.arity ≡ k
   named_takes f k [] g e h = absurd h
   named_takes f k (x ∷ hs) g e h = let d = h.1 in grind (arith, common_steps)
 
@@ -102,7 +103,8 @@ read_is_closed bytes _ (no_tree ts at h k l i) = tt
 read_is_closed bytes _ (static ts m f h d i) = tt
 read_is_closed bytes _ (checked ts m c h d f i) = module_closed _ m c _ d i
 
-root_has : (word : List ℕ) (atoms : List (List ℕ)) (functions : Program) (root : ℕ) → root_of word atoms functions ≡ Some root → HasArity functions root 0
+root_has : (word : List ℕ) (atoms : List (List ℕ)) (functions : Program) (root : ℕ) → root_of word atoms functions ≡ Some root
+    → HasArity functions root 0
 root_has word atoms functions root = by (position (bytes_eq word) atoms)
   where
     by : (o : Option ℕ) → root_at functions o ≡ Some root → HasArity functions root 0
