@@ -8,3 +8,10 @@ pub mod Meanings
 pub mod Maps
 pub mod Orders
 pub mod Shrinks
+pub mod Substituted
+pub mod Undefined
+pub mod Contracted
+pub mod Filled
+pub mod Spawned
+pub mod Kept
+pub mod Closed

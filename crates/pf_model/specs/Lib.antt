@@ -15,6 +15,7 @@ pub mod Properties
 pub mod Meaning
 pub mod Shrinking
 pub mod Text
+pub mod Closed
 pub mod Laws
 pub mod Evaluation
 pub mod WorkedCode

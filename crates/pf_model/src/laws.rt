@@ -1,6 +1,7 @@
 //! Laws of the definitions: functions with empty bodies, whose contracts are the laws.
 
 ghost use Rattle.pf_model.specs.Laws.{OnePlace, OneMeaning, EvaluationIsMeaning, Replay, PairOrder, ShrinkingIsRight};
+ghost use Rattle.pf_model.specs.Closed.{ClosedStatesStayClosed};
 ghost use Rattle.pf_model.specs.Receive.{ReceiveIsRelation};
 ghost use Rattle.pf_model.specs.WorkedRuns.{WorkedRuns};
 
@@ -44,4 +45,10 @@ pub fn shrinking_is_right()
 /// Worked runs have the reports that they are to have.
 pub fn worked_runs()
     ensures { WorkedRuns }
+{}
+
+/// In closed code all states of a run are closed, whatever its root and its choices: no variable lacks a value, no
+/// call its function, and no built-in function has another number of arguments.
+pub fn closed_states()
+    ensures { ClosedStatesStayClosed }
 {}

@@ -1,1 +1,4 @@
 pub mod Right
+pub mod Bindings
+pub mod Closing
+pub mod Closed
