@@ -3,4 +3,6 @@ pub mod Cuts
 pub mod Faults
 pub mod View
 pub mod Outcomes
+pub mod Whole
 pub mod Steps
+pub mod Turns

@@ -1,0 +1,140 @@
+//! Takes an input piece by piece, and gathers what goes out.
+
+ghost use Rattle.std.specs.Prelude.{◌≡◌, ◌≤◌, ◌<◌, ◌+◌, ◌++◌, [], List, ℕ, length, false, true, IfErr, IfOk, OnErr, OnOk};
+ghost use Rattle.std.specs.Io.KnownBytes.{Appends, Consumes};
+ghost use Rattle.pf_terms.specs.Streams.{AppendsFront, CountsWrite};
+ghost use Rattle.pf_wire.specs.Cuts.{Lacks};
+ghost use Rattle.pf_wire.specs.Turns.{TakesPiece, PieceLeaves};
+ghost use Rattle.pf_wire.specs.Whole.{is_due};
+
+use crate::steps::MOST_BYTES;
+use crate::whole::is_due;
+use pf_fault::{NoMemory, OrNoMemory};
+use pf_terms::{Counted, StreamFault};
+use std::alloc::Global;
+use std::io::{Read, Write};
+use std::sync::ledger::Ledger;
+
+/// The most bytes of a piece, and of what is gathered.
+const ROOM: usize = 65_536;
+
+/// Whether a line ends among some bytes.
+fn ends_line(bytes: &[u8]) -> bool
+    ensures { result ≡ false → Lacks 10 bytes.now }
+{
+    bytes.contains(&b'\n')
+}
+
+/// What was taken of an input and isn't answered yet.
+#[derive(Drop)]
+pub(crate) struct Input {
+    pub bytes: Vec<u8>,
+    /// How many bytes were taken in all.
+    pub taken: usize,
+    /// No line ends among the bytes, which needn't be looked through again.
+    is_open: bool,
+    piece: Vec<u8>,
+    ghost lacks: { is_open ≡ true → Lacks 10 bytes.items },
+    ghost room: { 0 < length piece.items },
+}
+
+impl Input {
+    /// The input of which nothing was taken yet.
+    pub fn new(alloc: Global) -> Result<Input, NoMemory>
+        ensures { IfOk result (λ input. (input.bytes.items ≡ []) × (input.taken ≡ 0)) }
+    {
+        Ok(Input {
+            bytes: Vec::new(alloc),
+            taken: 0,
+            is_open: true,
+            piece: vec![in alloc; 0u8; ROOM]?,
+        })
+    }
+
+    /// Takes what the reader has at hand, of all that may be read; whether the input is over.
+    pub fn take_piece<R: Read, L: Ledger>(
+        &mut self,
+        reader: &mut Counted<R, L>,
+    ) -> Result<bool, OrNoMemory<StreamFault>>
+        requires { self.old.taken < MOST_BYTES }
+        ensures piece { IfOk result (λ over. TakesPiece (R.remaining reader.old.inner) (R.remaining reader.new.inner)
+            self.old.bytes.items self.new.bytes.items self.old.taken self.new.taken over) }
+        ensures taken { (bytes : List ℕ) × (self.old.taken + length bytes ≤ MOST_BYTES)
+            × Consumes (R.remaining reader.old.inner) (R.remaining reader.new.inner) bytes }
+        ensures kept { OnOk result (reader.new.failures.total ≡ reader.old.failures.total) }
+        ensures fault { IfErr result (λ e. PieceLeaves e (R.remaining reader.old.inner) (R.remaining reader.new.inner)
+            reader.old.failures.total reader.new.failures.total) }
+    {
+        let want = (MOST_BYTES - self.taken).min(self.piece.len());
+        let n = reader.take_some(&mut self.piece[..want])?;
+        self.is_open = self.is_open && !ends_line(&self.piece[..n]);
+        self.bytes.extend_from_slice(&self.piece[..n])?;
+        self.taken += n;
+        Ok(n == 0 || self.taken == MOST_BYTES)
+    }
+
+    /// Whether what stands in front is answered now.
+    pub fn is_due(&self, is_over: bool) -> bool
+        ensures { result ≡ is_due is_over self.now.bytes.items }
+    {
+        if self.is_open && !is_over {
+            return false;
+        }
+        is_due(&self.bytes, is_over)
+    }
+
+    /// Keeps no more than these bytes.
+    pub fn keep(&mut self, rest: Vec<u8>)
+        ensures bytes { self.new.bytes.items ≡ rest.items }
+        ensures taken { self.new.taken ≡ self.old.taken }
+    {
+        self.is_open = !ends_line(&rest);
+        self.bytes = rest;
+    }
+}
+
+/// What is to go out, gathered so that one write hands on many replies.
+#[derive(Drop)]
+pub(crate) struct Gathered {
+    pub text: Vec<u8>,
+}
+
+impl Gathered {
+    /// Writes what was gathered.
+    pub fn send<W: Write, M: Ledger>(
+        &mut self,
+        writer: &mut Counted<W, M>,
+    ) -> Result<(), StreamFault>
+        ensures sent { OnOk result (Appends (W.contents writer.old.inner) (W.contents writer.new.inner) self.old.text.items
+            × (self.new.text.items ≡ [])) }
+        ensures front { OnErr result (AppendsFront (W.contents writer.old.inner) (W.contents writer.new.inner)
+            self.old.text.items) }
+        ensures kept { OnOk result (writer.new.failures.total ≡ writer.old.failures.total) }
+        ensures counted { IfErr result (λ e. CountsWrite e writer.old.failures.total writer.new.failures.total) }
+    {
+        writer.put(&self.text)?;
+        self.text.clear();
+        Ok(())
+    }
+
+    /// Adds a text, and writes all where there is no room for it.
+    pub fn add<W: Write, M: Ledger>(
+        &mut self,
+        writer: &mut Counted<W, M>,
+        text: &[u8],
+    ) -> Result<(), StreamFault>
+        ensures added { OnOk result ((out : List ℕ) × Appends (W.contents writer.old.inner) (W.contents writer.new.inner) out
+            × (out ++ self.new.text.items ≡ self.old.text.items ++ text.now)) }
+        ensures front { OnErr result (AppendsFront (W.contents writer.old.inner) (W.contents writer.new.inner)
+            (self.old.text.items ++ text.now)) }
+        ensures kept { OnOk result (writer.new.failures.total ≡ writer.old.failures.total) }
+        ensures counted { IfErr result (λ e. CountsWrite e writer.old.failures.total writer.new.failures.total) }
+    {
+        let fits = text.len() <= ROOM.saturating_sub(self.text.len());
+        if fits && self.text.extend_from_slice(text).is_ok() {
+            return Ok(());
+        }
+        self.send(writer)?;
+        writer.put(text)
+    }
+}
