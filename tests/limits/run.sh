@@ -5,32 +5,17 @@
 # Usage: run.sh [BINARY]; the program is that of the crate `pulsefarm` where none is named.
 set -u
 top=$(cd "$(dirname "$0")/../.." && pwd)
-program=${1:-$top/crates/pulsefarm/out/pulsefarm}
-if [ ! -x "$program" ]; then
-  echo "there is no program $program"
-  exit 1
-fi
-room=$(mktemp -d)
-trap 'rm -rf "$room"' EXIT
-passed=0
-failed=0
+. "$top/tests/compare.sh"
 
 # Runs the program on `$room/in` under the words from $3 on; $1 names the run, $2 is the status. What has to go out is `$room/wanted`.
-compare() {
+expect() {
   name=$1 wanted=$2
   shift 2
-  timeout 120 "$program" "$@" < "$room/in" > "$room/out" 2> "$room/err"
-  status=$?
-  if [ "$status" = "$wanted" ] && cmp -s "$room/out" "$room/wanted"; then
-    passed=$((passed + 1))
-  else
-    failed=$((failed + 1))
-    echo "$name: status $status for $wanted, output: $(head -c 300 "$room/out")"
-  fi
+  compare "$name" "$wanted" "$room/in" "$room/wanted" "$@"
 }
 
 # Runs the source in `$room/in` from `main` within $3 steps; $1 and $2 as above.
-run_within() { compare "$1" "$2" run --root main --limit "$3" --schedule none; }
+run_within() { expect "$1" "$2" run --root main --limit "$3" --schedule none; }
 
 # Says in `$room/wanted` that the root returned $1, in $2 steps.
 returned() { printf '0/1 <0> end normal\nfinished %s\nsteps %s\nproperty holds\n' "$1" "$2" > "$room/wanted"; }
@@ -74,7 +59,7 @@ lengths_of_sources() {
   run_within 'source of 65,537 bytes' 2 1000
   { echo 'submit 0 65536'; cat "$room/source"; echo; echo 'submit 0 65537'; cat "$room/source"; echo ' '; echo 'usage 0'; } > "$room/in"
   printf '%s\n' 'p0 module 1' 'p0 refused E11' 'p0 usage 1 65536 0 0 2' > "$room/wanted"
-  compare 'submissions of 65,536 and 65,537 bytes' 0 steps
+  expect 'submissions of 65,536 and 65,537 bytes' 0 steps
 }
 
 lengths_of_atoms() {
@@ -139,17 +124,17 @@ limits_of_steps() {
 schedules() {
   main_is '1 + 2 * 3'
   returned 7 4
-  compare 'schedule of 65,000 numbers' 0 run --root main --limit 1000 --schedule "0$(repeated ,1 64999)"
-  compare 'number 4294967295' 0 run --root main --limit 1000 --schedule 0,4294967295
+  expect 'schedule of 65,000 numbers' 0 run --root main --limit 1000 --schedule "0$(repeated ,1 64999)"
+  expect 'number 4294967295' 0 run --root main --limit 1000 --schedule 0,4294967295
   : > "$room/wanted"
-  compare 'number 4294967296' 2 run --root main --limit 1000 --schedule 0,4294967296
+  expect 'number 4294967296' 2 run --root main --limit 1000 --schedule 0,4294967296
   cp "$room/in" "$room/source"
   size=$(($(wc -c < "$room/source")))
   { echo "submit 3 $size"; cat "$room/source"; echo; echo "order 3 1 main returns 0$(repeated ,4294967295 99999) 100000"; echo 'once 3 1'; echo 'fetch 3 1'
     echo "order 3 1 main returns 0$(repeated ,1 100000) 100000"; echo 'order 3 1 main returns 4294967296 1'; } > "$room/in"
   printf '%s\n' 'p3 module 1' 'p3 ticket 1' 'w0 done' 'p3 report 4' '0/1 <0> end normal' 'finished 7' 'steps 4' 'property holds' \
     'p3 refused B6' 'command 6 refused C1' > "$room/wanted"
-  compare 'schedules of 100,000 and 100,001 numbers' 2 steps
+  expect 'schedules of 100,000 and 100,001 numbers' 2 steps
 }
 
 # Numbers from 1 to $1 behind the text $2, with commas between them.
@@ -205,7 +190,7 @@ projects_in_turns() {
       }
     }
   }'
-  compare "$1 rounds of six projects" 0 steps
+  expect "$1 rounds of six projects" 0 steps
 }
 
 lengths_of_sources
@@ -217,5 +202,4 @@ schedules
 sizes_of_modules
 projects_in_turns 1
 projects_in_turns 100
-echo "$passed passed, $failed failed"
-[ "$failed" = 0 ] && [ "$passed" != 0 ]
+tell_counts

@@ -1,7 +1,6 @@
 -- What right profiles say of a source that was read, and what the run of a job means.
 use Rattle.std.proofs.Common.{◌≡◌, ℕ, ◌+◌, List, [], ◌∷◌, ◌++◌, length, Result, Ok, Err, sym, ap, ◌∙◌, subst}
 use Rattle.std.specs.Prelude.{IfOk}
-use Rattle.pf_fault.specs.Codes.{number_of}
 use Rattle.pf_fault.specs.declared.code.Code.{Code}
 use Rattle.pf_fault.specs.declared.memory.NoMemory.{NoMemory}
 use Rattle.pf_syntax.specs.Tree.{Program}
@@ -24,7 +23,7 @@ module _ (p : Profile) (right : IsRight p) where
 
   -- what a source is answered with that was refused
   pub submitted_refused : (d : Desk) (bytes : List ℕ) (code : Code) (place : ℕ) → Reads bytes (refused code place)
-      → ◌≡◌ {A = Desk × Reply} (d, desk.refused (source (number_of code))) (submitted d bytes (p.reading bytes))
+      → ◌≡◌ {A = Desk × Reply} (d, desk.refused code) (submitted d bytes (p.reading bytes))
   submitted_refused d bytes code place h = ap (submitted d bytes) (sym (right.reads bytes (refused code place) h))
 
 -- what was run is the job

@@ -1,6 +1,5 @@
 -- Profiles that are right: they read sources as the language does, and jobs mean to them what they mean in it.
 use Rattle.std.specs.Prelude.{◌≡◌, ℕ, List}
-use Rattle.pf_fault.specs.Codes.{number_of}
 use Rattle.pf_check.specs.Reads.{Outcome, accepted, refused, Reads}
 use Rattle.pf_model.specs.Meaning.{Report, Means}
 use Rattle.pf_model.specs.Desk.{Reading, readable, faulty, Job, Profile}
@@ -8,7 +7,7 @@ use Rattle.pf_model.specs.Desk.{Reading, readable, faulty, Job, Profile}
 -- what desks see of an outcome: a module without its name, or the number of a refusal without its place
 abbrev pub reading_from : Outcome → Reading
 reading_from (accepted name atoms functions) = readable atoms functions
-reading_from (refused code place) = faulty (number_of code)
+reading_from (refused code place) = faulty code
 
 -- however a source is read, the profile reads it so; whatever a job's module means, is what the job means
 pub record IsRight (p : Profile) : Type 0 where

@@ -1,5 +1,6 @@
 -- What the code's calls, replies and notes stand for.
-use Rattle.pf_fault.specs.Codes.{number_of}
+use Rattle.pf_fault.specs.declared.code.Code.{Code}
+use Rattle.pf_fault.specs.declared.code.Code.TheVariants as code
 use Rattle.pf_model.specs.Desk as desk
 use Rattle.pf_book.specs.declared.call.Order.{Order}
 use Rattle.pf_book.specs.declared.call.Call.{Call}
@@ -22,29 +23,29 @@ call_seen (call.Order o) = order_seen o
 call_seen (call.Fetch t) = desk.fetch t
 call_seen call.Usage = desk.usage
 
-abbrev pub refusal_seen : Refusal → desk.Refusal
-refusal_seen (refusal.Source code) = desk.source (number_of code)
-refusal_seen refusal.NoModule = desk.no_module
-refusal_seen refusal.NoRoot = desk.no_root
-refusal_seen refusal.NoProperty = desk.no_property
-refusal_seen refusal.NoTrial = desk.no_trial
-refusal_seen refusal.NotDone = desk.not_done
-refusal_seen refusal.OutOfRange = desk.out_of_range
+abbrev pub code_of : Refusal → Code
+code_of (refusal.Source c) = c
+code_of refusal.NoModule = code.NoModule
+code_of refusal.NoRoot = code.NoRoot
+code_of refusal.NoProperty = code.NoProperty
+code_of refusal.NoTrial = code.NoTrial
+code_of refusal.NotDone = code.NotDone
+code_of refusal.OutOfRange = code.OutOfRange
 
 abbrev pub reply_seen : Reply → desk.Reply
 reply_seen (reply.Module n) = desk.number n
 reply_seen (reply.Ticket t) = desk.ticket t
 reply_seen (reply.Report t) = desk.report t.0 t.1
 reply_seen (reply.Usage u) = desk.uses u
-reply_seen (reply.Refused e) = desk.refused (refusal_seen e)
+reply_seen (reply.Refused e) = desk.refused (code_of e)
 
 abbrev pub entry_seen : Entry → desk.Entry
 entry_seen (entry.Submitted s n) = desk.called (desk.submit s) (desk.number n)
-entry_seen (entry.SubmitRefused s e) = desk.called (desk.submit s) (desk.refused (refusal_seen e))
+entry_seen (entry.SubmitRefused s e) = desk.called (desk.submit s) (desk.refused (code_of e))
 entry_seen (entry.Ordered o t) = desk.called (order_seen o.value) (desk.ticket t)
-entry_seen (entry.OrderRefused o e) = desk.called (order_seen o.value) (desk.refused (refusal_seen e))
+entry_seen (entry.OrderRefused o e) = desk.called (order_seen o.value) (desk.refused (code_of e))
 entry_seen (entry.Fetched t filed) = desk.called (desk.fetch t) (desk.report filed.0 filed.1)
-entry_seen (entry.FetchRefused t e) = desk.called (desk.fetch t) (desk.refused (refusal_seen e))
+entry_seen (entry.FetchRefused t e) = desk.called (desk.fetch t) (desk.refused (code_of e))
 entry_seen (entry.Used u) = desk.called desk.usage (desk.uses u.value)
 entry_seen (entry.Claimed t) = desk.claimed t
 entry_seen (entry.Filed t) = desk.filed t

@@ -6,7 +6,7 @@ ghost use Rattle.pf_model.specs.Desk as desk;
 ghost use Rattle.pf_model.specs.Desk.{no_desk, fetched};
 ghost use Rattle.pf_model.specs.History.{IsLegalDesk};
 ghost use Rattle.pf_book.specs.Profile.{ForRight};
-ghost use Rattle.pf_book.specs.View.{call_seen, order_seen, refusal_seen};
+ghost use Rattle.pf_book.specs.View.{call_seen, order_seen, code_of};
 ghost use Rattle.pf_book.specs.Answers.{DeskAnswers, DeskWorks};
 ghost use Rattle.pf_book.specs.Plans.{IsPlan};
 ghost use Rattle.pf_book.specs.Queued.{job_at};
@@ -14,7 +14,6 @@ ghost use Rattle.pf_book.specs.Trials.{AtomsAt};
 
 use crate::call::{Call, Order};
 use crate::entry::Entry;
-use crate::fault::Fault;
 use crate::job::Job;
 use crate::numbers::{make_room, numbered};
 use crate::plan::{Addition, Plan};
@@ -145,8 +144,8 @@ impl Desk {
                     reply: Reply::Ticket(ticket),
                 })
             }
-            Err(Fault::Memory) => Err(NoMemory),
-            Err(Fault::Refused(refusal)) => {
+            Err(OrNoMemory::NoMemory) => Err(NoMemory),
+            Err(OrNoMemory::Fault(refusal)) => {
                 let noted = Entry::OrderRefused(order, refusal);
                 Ok(Plan::reply_alone(noted, Reply::Refused(refusal)))
             }
@@ -196,7 +195,7 @@ fn queued(trials: &[Trial], ticket: u64) -> Option<&Job>
 fn filed_report(trials: &[Trial], ticket: u64) -> Result<&FiledReport, Refusal>
     ensures { MatchResult result
         (λ r. fetched (desk.numbered trials.now ticket) ≡ desk.report r.now.0 r.now.1)
-        (λ e. fetched (desk.numbered trials.now ticket) ≡ desk.refused (refusal_seen e)) }
+        (λ e. fetched (desk.numbered trials.now ticket) ≡ desk.refused (code_of e)) }
 {
     numbered(trials, ticket).ok_or(Refusal::NoTrial)?.report()
 }

@@ -6,9 +6,9 @@ ghost use Rattle.pf_model.specs.Reports.{report_of};
 ghost use Rattle.pf_book.specs.Orders.{job_asked, IsRefusedJob};
 
 use crate::call::Order;
-use crate::fault::Fault;
 use crate::numbers::numbered;
 use crate::refusal::Refusal;
+use pf_fault::OrNoMemory;
 use pf_model::limits::is_in_range;
 use pf_model::report::Report;
 use pf_stepper::run_one;
@@ -47,21 +47,21 @@ impl Model for Job {
 
 impl Job {
     /// The job of an order to a project with these modules.
-    pub fn ordered(modules: &[Stored], order: &Arc<Order>) -> Result<Job, Fault>
+    pub fn ordered(modules: &[Stored], order: &Arc<Order>) -> Result<Job, OrNoMemory<Refusal>>
         ensures { MatchResult result
             (λ job. job_asked modules.now order.now.value ≡ Ok job)
             (IsRefusedJob (job_asked modules.now order.now.value)) }
     {
-        let stored = numbered(modules, order.module).ok_or(Refusal::NoModule)?;
+        let stored = numbered(modules, order.module).ok_or(OrNoMemory::Fault(Refusal::NoModule))?;
         let root = stored
             .module()
             .root(order.root.as_slice())
-            .ok_or(Refusal::NoRoot)?;
+            .ok_or(OrNoMemory::Fault(Refusal::NoRoot))?;
         if order.property.as_slice() != RETURNS {
-            return Err(Fault::Refused(Refusal::NoProperty));
+            return Err(OrNoMemory::Fault(Refusal::NoProperty));
         }
         if !is_in_range(order.limit, order.schedule.len()) {
-            return Err(Fault::Refused(Refusal::OutOfRange));
+            return Err(OrNoMemory::Fault(Refusal::OutOfRange));
         }
         Ok(Job {
             stored: stored.share()?,

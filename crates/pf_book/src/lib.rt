@@ -5,7 +5,6 @@ mod book;
 mod call;
 mod desk;
 mod entry;
-mod fault;
 mod job;
 mod numbers;
 mod plan;

@@ -1,5 +1,8 @@
 //! Why a call is refused.
 
+ghost use Rattle.std.specs.Prelude.{◌≡◌};
+ghost use Rattle.pf_book.specs.View.{code_of};
+
 use pf_fault::Code;
 use std::fmt;
 
@@ -22,22 +25,30 @@ pub enum Refusal {
     OutOfRange,
 }
 
+impl Refusal {
+    /// Its code.
+    pub fn code(self) -> Code
+        ensures { result ≡ code_of self }
+    {
+        match self {
+            Refusal::Source(code) => code,
+            Refusal::NoModule => Code::NoModule,
+            Refusal::NoRoot => Code::NoRoot,
+            Refusal::NoProperty => Code::NoProperty,
+            Refusal::NoTrial => Code::NoTrial,
+            Refusal::NotDone => Code::NotDone,
+            Refusal::OutOfRange => Code::OutOfRange,
+        }
+    }
+}
+
 impl fmt::Display for Refusal {
     ghost use Rattle.std.specs.Prelude.{Some};
-    ghost use Rattle.pf_model.specs.Told.{refusal_code};
-    ghost use Rattle.pf_book.specs.View.{refusal_seen};
+    ghost use Rattle.pf_fault.specs.Codes.{code_text};
 
-    ghost output = { λ r. Some (refusal_code (refusal_seen r)) };
+    ghost output = { λ r. Some (code_text (code_of r)) };
 
     fn fmt<W: fmt::Write>(&self, f: &mut fmt::Formatter<W>) -> fmt::Result {
-        match self {
-            Refusal::Source(code) => write!(f, "E{}", code.number()),
-            Refusal::NoModule => f.write_str("B1"),
-            Refusal::NoRoot => f.write_str("B2"),
-            Refusal::NoProperty => f.write_str("P1"),
-            Refusal::NoTrial => f.write_str("B3"),
-            Refusal::NotDone => f.write_str("B5"),
-            Refusal::OutOfRange => f.write_str("B6"),
-        }
+        write!(f, "{}", self.code())
     }
 }

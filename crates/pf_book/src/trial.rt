@@ -3,7 +3,7 @@
 ghost use Rattle.std.specs.Prelude.{◌≡◌, MatchResult};
 ghost use Rattle.std.specs.Option.{option_copied};
 ghost use Rattle.pf_model.specs.Desk as desk;
-ghost use Rattle.pf_book.specs.View.{refusal_seen};
+ghost use Rattle.pf_book.specs.View.{code_of};
 ghost use Rattle.pf_book.specs.Queued.{queued_job};
 
 use crate::job::Job;
@@ -75,7 +75,7 @@ impl Trial {
     pub fn report(&self) -> Result<&FiledReport, Refusal>
         ensures { MatchResult result
             (λ r. desk.report_in self.now.job.stored.atoms self.now.state ≡ desk.report r.now.0 r.now.1)
-            (λ e. desk.report_in self.now.job.stored.atoms self.now.state ≡ desk.refused (refusal_seen e)) }
+            (λ e. desk.report_in self.now.job.stored.atoms self.now.state ≡ desk.refused (code_of e)) }
     {
         match &self.state {
             State::Queued => Err(Refusal::NotDone),

@@ -47,7 +47,7 @@ pub data Answers (r : Request) (bytes : List ℕ) : List ℕ → ℕ → Type 0 
 abbrev pub Refuses : Answer → List ℕ → Type 0
 Refuses a words = (a.text.items ≡ line words) × (a.status ≡ 2)
 
--- these are the first 65,537 bytes of what was to be read, where it is known
+-- these are the first MOST_BYTES bytes of what was to be read, where it is known
 abbrev pub AreRead : Option (List ℕ) → List ℕ → Type 0
 AreRead r0 bytes = IfSome r0 (λ input. bytes ≡ take MOST_BYTES input)
 

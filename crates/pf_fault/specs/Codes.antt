@@ -1,5 +1,5 @@
 -- The texts of refusals.
-use Rattle.std.specs.Prelude.{ℕ, List, ◌++◌, Option, Some, codes}
+use Rattle.std.specs.Prelude.{◌≡◌, ℕ, List, [], ◌∷◌, ◌++◌, Option, Some, codes, get_or, refl}
 use Rattle.std.specs.Fmt.{decimal}
 use Rattle.pf_fault.specs.declared.code.Code.{Code}
 use Rattle.pf_fault.specs.declared.code.Code.TheVariants as table
@@ -19,14 +19,23 @@ parts_of table.Undefined = (codes "E", 8)
 parts_of table.DefinedTwice = (codes "E", 9)
 parts_of table.ExportOfNothing = (codes "E", 10)
 parts_of table.SourceTooLong = (codes "E", 11)
+parts_of table.HeadsDiffer = (codes "E", 12)
 parts_of table.NoModule = (codes "B", 1)
 parts_of table.NoRoot = (codes "B", 2)
 parts_of table.NoTrial = (codes "B", 3)
+parts_of table.ModuleInUse = (codes "B", 4)
 parts_of table.NotDone = (codes "B", 5)
 parts_of table.OutOfRange = (codes "B", 6)
 parts_of table.NoProperty = (codes "P", 1)
 parts_of table.NoCommand = (codes "C", 1)
+parts_of table.Stray = (codes "N", 1)
 parts_of table.NotNow = (codes "N", 2)
+parts_of table.TooManyModules = (codes "Q", 1)
+parts_of table.TooManyBytes = (codes "Q", 2)
+parts_of table.TooManyTrials = (codes "Q", 3)
+parts_of table.TooManySteps = (codes "Q", 4)
+parts_of table.TooManyCalls = (codes "Q", 5)
+parts_of table.NothingFails = (codes "S", 1)
 parts_of table.TooLarge = (codes "T", 1)
 
 abbrev pub family_of : Code → List ℕ
@@ -35,7 +44,17 @@ family_of code = (parts_of code).0
 abbrev pub number_of : Code → ℕ
 number_of code = (parts_of code).1
 
--- the order of the table: how many codes stand before this one
+-- the table, in its order
+abbrev pub all_codes : List Code
+all_codes =
+    table.UnexpectedByte ∷ table.Unfinished ∷ table.IntegerTooLarge ∷ table.NoHead ∷ table.NotGrammar
+    ∷ table.Unbound ∷ table.Unsafe ∷ table.Undefined ∷ table.DefinedTwice ∷ table.ExportOfNothing
+    ∷ table.SourceTooLong ∷ table.HeadsDiffer ∷ table.NoModule ∷ table.NoRoot ∷ table.NoTrial
+    ∷ table.ModuleInUse ∷ table.NotDone ∷ table.OutOfRange ∷ table.NoProperty ∷ table.NoCommand
+    ∷ table.Stray ∷ table.NotNow ∷ table.TooManyModules ∷ table.TooManyBytes ∷ table.TooManyTrials
+    ∷ table.TooManySteps ∷ table.TooManyCalls ∷ table.NothingFails ∷ table.TooLarge ∷ []
+
+-- how many codes of the table stand before this one
 abbrev pub rank_of : Code → ℕ
 rank_of table.UnexpectedByte = 0
 rank_of table.Unfinished = 1
@@ -48,15 +67,59 @@ rank_of table.Undefined = 7
 rank_of table.DefinedTwice = 8
 rank_of table.ExportOfNothing = 9
 rank_of table.SourceTooLong = 10
-rank_of table.NoModule = 11
-rank_of table.NoRoot = 12
-rank_of table.NoTrial = 13
-rank_of table.NotDone = 14
-rank_of table.OutOfRange = 15
-rank_of table.NoProperty = 16
-rank_of table.NoCommand = 17
-rank_of table.NotNow = 18
-rank_of table.TooLarge = 19
+rank_of table.HeadsDiffer = 11
+rank_of table.NoModule = 12
+rank_of table.NoRoot = 13
+rank_of table.NoTrial = 14
+rank_of table.ModuleInUse = 15
+rank_of table.NotDone = 16
+rank_of table.OutOfRange = 17
+rank_of table.NoProperty = 18
+rank_of table.NoCommand = 19
+rank_of table.Stray = 20
+rank_of table.NotNow = 21
+rank_of table.TooManyModules = 22
+rank_of table.TooManyBytes = 23
+rank_of table.TooManyTrials = 24
+rank_of table.TooManySteps = 25
+rank_of table.TooManyCalls = 26
+rank_of table.NothingFails = 27
+rank_of table.TooLarge = 28
+
+-- the code of a rank; behind the table the last one stands
+abbrev pub code_at : ℕ → Code
+code_at n = get_or all_codes n table.TooLarge
+
+pub code_at-rank_of : (c : Code) → code_at (rank_of c) ≡ c
+code_at-rank_of table.UnexpectedByte = refl
+code_at-rank_of table.Unfinished = refl
+code_at-rank_of table.IntegerTooLarge = refl
+code_at-rank_of table.NoHead = refl
+code_at-rank_of table.NotGrammar = refl
+code_at-rank_of table.Unbound = refl
+code_at-rank_of table.Unsafe = refl
+code_at-rank_of table.Undefined = refl
+code_at-rank_of table.DefinedTwice = refl
+code_at-rank_of table.ExportOfNothing = refl
+code_at-rank_of table.SourceTooLong = refl
+code_at-rank_of table.HeadsDiffer = refl
+code_at-rank_of table.NoModule = refl
+code_at-rank_of table.NoRoot = refl
+code_at-rank_of table.NoTrial = refl
+code_at-rank_of table.ModuleInUse = refl
+code_at-rank_of table.NotDone = refl
+code_at-rank_of table.OutOfRange = refl
+code_at-rank_of table.NoProperty = refl
+code_at-rank_of table.NoCommand = refl
+code_at-rank_of table.Stray = refl
+code_at-rank_of table.NotNow = refl
+code_at-rank_of table.TooManyModules = refl
+code_at-rank_of table.TooManyBytes = refl
+code_at-rank_of table.TooManyTrials = refl
+code_at-rank_of table.TooManySteps = refl
+code_at-rank_of table.TooManyCalls = refl
+code_at-rank_of table.NothingFails = refl
+code_at-rank_of table.TooLarge = refl
 
 -- a code as it is printed, like E6
 abbrev pub code_text : Code → List ℕ

@@ -23,26 +23,44 @@ pub enum Code {
     Undefined,
     /// `E9`: a function is defined twice, or named as a built-in one with its number of arguments.
     DefinedTwice,
-    /// `E10`: a function is exported that there is none of.
+    /// `E10`: a function is exported that the module doesn't define.
     ExportOfNothing,
     /// `E11`: the source is longer than 65,536 bytes.
     SourceTooLong,
+    /// `E12`: a clause of a function has another name or number of arguments than the first.
+    HeadsDiffer,
     /// `B1`: the project has no module of this number.
     NoModule,
     /// `B2`: the module exports no function of this name without arguments.
     NoRoot,
     /// `B3`: the project has no trial of this ticket.
     NoTrial,
+    /// `B4`: a trial that is held uses the module.
+    ModuleInUse,
     /// `B5`: the trial has no report yet.
     NotDone,
-    /// `B6`: the limit or the schedule is out of range.
+    /// `B6`: the limit, the number of runs or the schedule is out of range.
     OutOfRange,
     /// `P1`: there is no such property.
     NoProperty,
     /// `C1`: the line is no command.
     NoCommand,
+    /// `N1`: the trial isn't what the worker takes it for.
+    Stray,
     /// `N2`: the worker can't do this now.
     NotNow,
+    /// `Q1`: the project would hold too many modules.
+    TooManyModules,
+    /// `Q2`: the sources of the project's modules would have too many bytes.
+    TooManyBytes,
+    /// `Q3`: the project would hold too many trials.
+    TooManyTrials,
+    /// `Q4`: the limits of the project's trials would add up to too many steps.
+    TooManySteps,
+    /// `Q5`: the project has made too many calls.
+    TooManyCalls,
+    /// `S1`: the schedule that is to be shrunk doesn't fail.
+    NothingFails,
     /// `T1`: a value would have more than 4,096 nodes or be deeper than 64.
     TooLarge,
 }
@@ -68,14 +86,23 @@ impl Code {
             Code::DefinedTwice => ("E", 9),
             Code::ExportOfNothing => ("E", 10),
             Code::SourceTooLong => ("E", 11),
+            Code::HeadsDiffer => ("E", 12),
             Code::NoModule => ("B", 1),
             Code::NoRoot => ("B", 2),
             Code::NoTrial => ("B", 3),
+            Code::ModuleInUse => ("B", 4),
             Code::NotDone => ("B", 5),
             Code::OutOfRange => ("B", 6),
             Code::NoProperty => ("P", 1),
             Code::NoCommand => ("C", 1),
+            Code::Stray => ("N", 1),
             Code::NotNow => ("N", 2),
+            Code::TooManyModules => ("Q", 1),
+            Code::TooManyBytes => ("Q", 2),
+            Code::TooManyTrials => ("Q", 3),
+            Code::TooManySteps => ("Q", 4),
+            Code::TooManyCalls => ("Q", 5),
+            Code::NothingFails => ("S", 1),
             Code::TooLarge => ("T", 1),
         }
     }

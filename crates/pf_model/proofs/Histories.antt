@@ -1,7 +1,8 @@
 -- Histories that stay legal.
 use Rattle.std.proofs.Common.{◌≡◌, ℕ, ◌==◌, Bool, true, false, List, [], ◌∷◌, ◌++◌, Option, Some, None, refl, sym, ap, subst}
 use Rattle.std.specs.Prelude.{Result, Ok, Err, if◌then◌else◌, option_and_then}
-use Rattle.pf_model.specs.Desk.{Profile, Desk, no_desk, Entry, called, claimed, filed, Call, submit, order, fetch, usage, Reading, readable, faulty, submitted, Refusal, ordered, answered, job_of, Job}
+use Rattle.pf_fault.specs.declared.code.Code.{Code}
+use Rattle.pf_model.specs.Desk.{Profile, Desk, no_desk, Entry, called, claimed, filed, Call, submit, order, fetch, usage, Reading, readable, faulty, submitted, ordered, answered, job_of, Job}
 use Rattle.pf_model.specs.Desk.{numbered, is_queued, is_running, reply_to, after_call, after_claim, after_file, Work, claim, file, once, claim_step, file_step, worker_step}
 use Rattle.pf_model.specs.History.{Follows, IsLegal, IsLegalDesk}
 use Rattle.pf_model.specs.World.{World, Step, client, worker, desk_at, put_desk, worked, step}
@@ -27,7 +28,7 @@ module _ (p : Profile) (d : Desk) where
   submission_notes text (readable atoms functions) = refl
   submission_notes text (faulty n) = refl
 
-  order_notes : (r : Result Job Refusal) → (ordered d r).0.history ≡ d.history
+  order_notes : (r : Result Job Code) → (ordered d r).0.history ≡ d.history
   order_notes (Ok j) = refl
   order_notes (Err e) = refl
 

@@ -1,6 +1,8 @@
 -- Desks: what the farm holds for one project, and what a call of its clients or the work of a worker makes of it.
 use Rattle.std.specs.Prelude.{ℕ, zero, suc, ◌+◌, Bool, true, false, if◌then◌else◌, List, [], ◌∷◌, ◌++◌, length, map, Option, Some, None, option_and_then, Result, Ok, Err, slice_get, slice_set, codes}
 use Rattle.std.specs.Str.{bytes_eq}
+use Rattle.pf_fault.specs.declared.code.Code.{Code}
+use Rattle.pf_fault.specs.declared.code.Code.TheVariants as code
 use Rattle.pf_syntax.specs.Tree.{Program}
 use Rattle.pf_quota.specs.Usage.{usage_of}
 use Rattle.pf_quota.specs.declared.usage.Usage.{Usage}
@@ -42,23 +44,13 @@ pub data Call : Type 0 where
   fetch : ℕ → Call
   usage : Call
 
-pub data Refusal : Type 0 where
-  -- the source is refused with a number
-  source : ℕ → Refusal
-  no_module : Refusal
-  no_root : Refusal
-  no_property : Refusal
-  no_trial : Refusal
-  not_done : Refusal
-  out_of_range : Refusal
-
--- what a client is told; a report comes with the names of its atoms
+-- what a client is told, a refusal by its code; a report comes with the names of its atoms
 pub data Reply : Type 0 where
   number : ℕ → Reply
   ticket : ℕ → Reply
   report : List (List ℕ) → Report → Reply
   uses : Usage → Reply
-  refused : Refusal → Reply
+  refused : Code → Reply
 
 -- what is noted: a call with its reply, and that a worker claimed a trial or filed its report
 pub data Entry : Type 0 where
@@ -83,7 +75,7 @@ numbered xs (suc i) = slice_get xs i
 
 pub data Reading : Type 0 where
   readable : List (List ℕ) → Program → Reading
-  faulty : ℕ → Reading
+  faulty : Code → Reading
 
 -- the profile of the language, as far as desks ask for it
 pub record Profile : Type 0 where
@@ -96,34 +88,34 @@ pub record Profile : Type 0 where
 abbrev pub submitted : Desk → List ℕ → Reading → Desk × Reply
 submitted d text (readable atoms functions) =
     (record d { modules = d.modules ++ record { source = text; atoms = atoms; functions = functions } ∷ [] }, number (length d.modules + 1))
-submitted d text (faulty n) = (d, refused (source n))
+submitted d text (faulty c) = (d, refused c)
 
 -- the job of an order, or what it is refused for: first the root, then the property, then the range
-abbrev pub job_from : Stored → Option ℕ → (property schedule : List ℕ) → ℕ → Result Job Refusal
-job_from m None property schedule limit = Err no_root
+abbrev pub job_from : Stored → Option ℕ → (property schedule : List ℕ) → ℕ → Result Job Code
+job_from m None property schedule limit = Err code.NoRoot
 job_from m (Some root) property schedule limit =
     if bytes_eq property (codes "returns")
     then (if is_in_range limit (length schedule)
     then Ok (record { stored = m; root = root; schedule = schedule; limit = limit })
-    else Err out_of_range)
-    else Err no_property
+    else Err code.OutOfRange)
+    else Err code.NoProperty
 
 -- the module comes before all of these
-abbrev pub job_of : Option Stored → (root property schedule : List ℕ) → ℕ → Result Job Refusal
-job_of None root property schedule limit = Err no_module
+abbrev pub job_of : Option Stored → (root property schedule : List ℕ) → ℕ → Result Job Code
+job_of None root property schedule limit = Err code.NoModule
 job_of (Some m) root property schedule limit = job_from m (root_of root m.atoms m.functions) property schedule limit
 
 -- the desk with a job as its newest trial, which is queued
-abbrev pub ordered : Desk → Result Job Refusal → Desk × Reply
+abbrev pub ordered : Desk → Result Job Code → Desk × Reply
 ordered d (Ok j) = (record d { trials = d.trials ++ record { job = j; state = queued } ∷ [] }, ticket (length d.trials + 1))
 ordered d (Err e) = (d, refused e)
 
 abbrev pub report_in : List (List ℕ) → State → Reply
 report_in atoms (done r) = report atoms r
-report_in atoms s = refused not_done
+report_in atoms s = refused code.NotDone
 
 abbrev pub fetched : Option Trial → Reply
-fetched None = refused no_trial
+fetched None = refused code.NoTrial
 fetched (Some t) = report_in t.job.stored.atoms t.state
 
 -- what a desk holds, as far as limits count it

@@ -4,10 +4,12 @@ use Rattle.std.proofs.Common.{inl, inr}
 use Rattle.std.specs.Coded.{Coded, code_by, coded×, coded⊎, coded_ℕ, coded_list}
 use Rattle.pf_terms.specs.Value.{Value}
 use Rattle.pf_terms.specs.Code.{coded_value}
+use Rattle.pf_fault.specs.declared.code.Code.{Code}
+use Rattle.pf_fault.specs.Codes.{rank_of, code_at, code_at-rank_of}
 use Rattle.pf_syntax.specs.Module.{coded_function}
 use Rattle.pf_quota.specs.declared.usage.Usage.{Usage}
 use Rattle.pf_model.specs.Meaning.{Label, ends, cut, Actor, process, Event, Outcome, finished, ended, limit, Report}
-use Rattle.pf_model.specs.Desk.{Stored, Job, State, queued, running, done, Trial, Call, submit, order, fetch, usage, Refusal, source, no_module, no_root, no_property, no_trial, not_done, out_of_range, Reply, number, ticket, report, uses, refused, Entry, called, claimed, filed, Desk}
+use Rattle.pf_model.specs.Desk.{Stored, Job, State, queued, running, done, Trial, Call, submit, order, fetch, usage, Reply, number, ticket, report, uses, refused, Entry, called, claimed, filed, Desk}
 
 -- ---- reports
 
@@ -129,35 +131,8 @@ abbrev pub coded_call : Coded Call
 coded_call =
     code_by _ (coded⊎ (coded_list coded_ℕ) (coded⊎ coded_ordered (coded⊎ coded_ℕ coded_ℕ))) parts_of_call call_from call_from-parts_of
 
-abbrev pub parts_of_refusal : Refusal → ℕ ⊎ ℕ
-parts_of_refusal (source n) = inl n
-parts_of_refusal no_module = inr 0
-parts_of_refusal no_root = inr 1
-parts_of_refusal no_property = inr 2
-parts_of_refusal no_trial = inr 3
-parts_of_refusal not_done = inr 4
-parts_of_refusal out_of_range = inr 5
-
-abbrev pub refusal_from : ℕ ⊎ ℕ → Refusal
-refusal_from (inl n) = source n
-refusal_from (inr zero) = no_module
-refusal_from (inr (suc zero)) = no_root
-refusal_from (inr (suc (suc zero))) = no_property
-refusal_from (inr (suc (suc (suc zero)))) = no_trial
-refusal_from (inr (suc (suc (suc (suc zero))))) = not_done
-refusal_from (inr (suc (suc (suc (suc (suc n)))))) = out_of_range
-
-pub refusal_from-parts_of : (e : Refusal) → refusal_from (parts_of_refusal e) ≡ e
-refusal_from-parts_of (source n) = refl
-refusal_from-parts_of no_module = refl
-refusal_from-parts_of no_root = refl
-refusal_from-parts_of no_property = refl
-refusal_from-parts_of no_trial = refl
-refusal_from-parts_of not_done = refl
-refusal_from-parts_of out_of_range = refl
-
-abbrev pub coded_refusal : Coded Refusal
-coded_refusal = code_by _ (coded⊎ coded_ℕ coded_ℕ) parts_of_refusal refusal_from refusal_from-parts_of
+abbrev pub coded_code : Coded Code
+coded_code = code_by _ coded_ℕ rank_of code_at code_at-rank_of
 
 abbrev pub coded_usage : Coded Usage
 coded_usage =
@@ -165,14 +140,14 @@ coded_usage =
     (λ u. ((u.modules, u.bytes), (u.trials, (u.steps, u.calls))))
     (λ p. record { modules = p.0.0; bytes = p.0.1; trials = p.1.0; steps = p.1.1.0; calls = p.1.1.1 }) (λ _. refl)
 
-abbrev pub parts_of_reply : Reply → (ℕ ⊎ ℕ) ⊎ ((List (List ℕ) × Report) ⊎ (Usage ⊎ Refusal))
+abbrev pub parts_of_reply : Reply → (ℕ ⊎ ℕ) ⊎ ((List (List ℕ) × Report) ⊎ (Usage ⊎ Code))
 parts_of_reply (number n) = inl (inl n)
 parts_of_reply (ticket t) = inl (inr t)
 parts_of_reply (report atoms r) = inr (inl (atoms, r))
 parts_of_reply (uses u) = inr (inr (inl u))
 parts_of_reply (refused e) = inr (inr (inr e))
 
-abbrev pub reply_from : (ℕ ⊎ ℕ) ⊎ ((List (List ℕ) × Report) ⊎ (Usage ⊎ Refusal)) → Reply
+abbrev pub reply_from : (ℕ ⊎ ℕ) ⊎ ((List (List ℕ) × Report) ⊎ (Usage ⊎ Code)) → Reply
 reply_from (inl (inl n)) = number n
 reply_from (inl (inr t)) = ticket t
 reply_from (inr (inl p)) = report p.0 p.1
@@ -188,7 +163,7 @@ reply_from-parts_of (refused e) = refl
 
 abbrev pub coded_reply : Coded Reply
 coded_reply =
-    code_by _ (coded⊎ (coded⊎ coded_ℕ coded_ℕ) (coded⊎ (coded× coded_names coded_report) (coded⊎ coded_usage coded_refusal)))
+    code_by _ (coded⊎ (coded⊎ coded_ℕ coded_ℕ) (coded⊎ (coded× coded_names coded_report) (coded⊎ coded_usage coded_code)))
     parts_of_reply reply_from reply_from-parts_of
 
 abbrev pub parts_of_entry : Entry → (Call × Reply) ⊎ (ℕ ⊎ ℕ)

@@ -1,21 +1,14 @@
 -- The text of what is answered.
 use Rattle.std.specs.Prelude.{ℕ, ◌+◌, List, [], ◌∷◌, ◌++◌, length, Option, Some, None, codes}
 use Rattle.std.specs.Fmt.{decimal}
+use Rattle.pf_fault.specs.Codes.{code_text, no_memory_text}
+use Rattle.pf_fault.specs.declared.code.Code.TheVariants as code
 use Rattle.pf_terms.specs.Atoms.{name_of}
 use Rattle.pf_quota.specs.declared.usage.Usage.{Usage}
 use Rattle.pf_model.specs.Meaning.{Report}
 use Rattle.pf_model.specs.Text.{line, report_text}
-use Rattle.pf_model.specs.Desk.{Refusal, source, no_module, no_root, no_property, no_trial, not_done, out_of_range, Reply, number, ticket, report, uses, refused}
+use Rattle.pf_model.specs.Desk.{Reply, number, ticket, report, uses, refused}
 use Rattle.pf_model.specs.World.{Step, client, worker, Answer, replied, work_done, not_now, named}
-
-abbrev pub refusal_code : Refusal → List ℕ
-refusal_code (source n) = codes "E" ++ decimal n
-refusal_code no_module = codes "B1"
-refusal_code no_root = codes "B2"
-refusal_code no_property = codes "P1"
-refusal_code no_trial = codes "B3"
-refusal_code not_done = codes "B5"
-refusal_code out_of_range = codes "B6"
 
 -- MODULES BYTES TRIALS STEPS CALLS
 abbrev pub usage_text : Usage → List ℕ
@@ -32,7 +25,7 @@ reply_head (number n) = codes "module " ++ decimal n
 reply_head (ticket n) = codes "ticket " ++ decimal n
 reply_head (report atoms r) = codes "report " ++ decimal (lines_of r)
 reply_head (uses u) = codes "usage " ++ usage_text u
-reply_head (refused e) = codes "refused " ++ refusal_code e
+reply_head (refused c) = codes "refused " ++ code_text c
 
 -- the lines that follow it
 abbrev pub reply_rest : Reply → List ℕ
@@ -49,11 +42,11 @@ reply_text q r = to_project q (reply_head r) ++ reply_rest r
 abbrev pub answer_text : ℕ → Answer → List ℕ
 answer_text q (replied r) = reply_text q r
 answer_text q work_done = line (codes "w0 done")
-answer_text q not_now = line (codes "w0 not now N2")
+answer_text q not_now = line (codes "w0 not now " ++ code_text code.NotNow)
 
 -- a growth was refused in a step, which left all as it was
 abbrev pub memory_text : Step → List ℕ
-memory_text (client q c) = to_project q (codes "refused NoMemory")
+memory_text (client q c) = to_project q (codes "refused " ++ no_memory_text)
 memory_text (worker q k) = line (codes "w0 no memory")
 
 -- what came of a step

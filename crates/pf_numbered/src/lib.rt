@@ -2,10 +2,12 @@
 #![tactic(auto)]
 
 mod expression;
+mod limits;
 mod number;
 mod numbered_token;
 mod place;
 
+pub use limits::{MOST_NAME_BYTES, MOST_TREE_DEPTH};
 pub use number::number_tokens;
 pub use numbered_token::{NumberedKind, NumberedToken};
 pub use place::fault_place;

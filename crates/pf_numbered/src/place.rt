@@ -8,17 +8,12 @@ ghost use Rattle.pf_numbered.specs.Places.{IsPlaceOf};
 ghost use Rattle.pf_numbered.specs.View.{token_list};
 
 use crate::expression::{Expression, Leaf};
+use crate::limits::{MOST_NAME_BYTES, MOST_TREE_DEPTH};
 use crate::numbered_token::{NumberedKind, NumberedToken};
 use pf_fault::NoMemory;
 use pf_terms::{AtomId, AtomTable};
 use pf_tokens::{Mark, Reserved};
 use std::alloc::Global;
-
-/// The most bytes that the name of an atom may have.
-const LONGEST: usize = 255;
-
-/// How deep an element of a body may be.
-const DEEPEST: u32 = 256;
 
 /// How many tokens the first form has.
 const HEAD: usize = 6;
@@ -147,7 +142,7 @@ impl<'a> Walk<'a> {
     fn limit_atoms(&mut self, tokens: &[NumberedToken]) {
         for (index, token) in tokens.iter().enumerate() {
             if let NumberedKind::Atom(name) = token.kind {
-                if self.atoms.name(name).len() > LONGEST {
+                if self.atoms.name(name).len() > MOST_NAME_BYTES {
                     return self.limit(index);
                 }
             }
@@ -369,7 +364,7 @@ impl<'a> Walk<'a> {
 
     /// Notes an element of a function's body that is too deep.
     fn limit_element(&mut self, depth: u32) {
-        if depth > DEEPEST {
+        if depth > MOST_TREE_DEPTH {
             let index = self.current.start();
             self.limit(index);
         }

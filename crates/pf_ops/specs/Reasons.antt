@@ -1,11 +1,12 @@
 -- Terms that the system builds around a value.
 use Rattle.std.specs.Prelude.{Bool, ◌&&◌, nat_le, if◌then◌else◌}
+use Rattle.pf_terms.specs.declared.limits.TheConstants.{MOST_DEPTH, MOST_NODES}
 use Rattle.pf_terms.specs.Value.{Value, tuple, list, none, more, nodes, depth}
 use Rattle.pf_terms.specs.Fixed.{badmatch, case_clause, system_limit}
 
 -- whether a value is within the limits
 abbrev pub fits_limits : Value → Bool
-fits_limits v = nat_le (nodes v) 4096 && nat_le (depth v) 64
+fits_limits v = nat_le (nodes v) MOST_NODES && nat_le (depth v) MOST_DEPTH
 
 -- {V, W}
 abbrev pub pair : Value → Value → Value

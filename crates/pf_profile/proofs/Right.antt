@@ -1,6 +1,5 @@
 -- The profile of the language is right.
 use Rattle.std.proofs.Common.{◌≡◌, ℕ, List, sym, ap}
-use Rattle.pf_fault.specs.Codes.{number_of}
 use Rattle.pf_fault.specs.declared.code.Code.{Code}
 use Rattle.pf_check.specs.Reads.{Outcome, accepted, refused, Reads, SameOutcome}
 use Rattle.pf_check.proofs.AnyOutcome.{any_outcome}
@@ -15,7 +14,7 @@ same_reading : (o p : Outcome) → SameOutcome o p → reading_from o ≡ readin
 same_reading (accepted n a f) (accepted m b g) h = let same_atoms = h.1 in let same_functions = h.2 in cc
 same_reading (accepted n a f) (refused m y) h = absurd h
 same_reading (refused n x) (accepted m b g) h = absurd h
-same_reading (refused n x) (refused m y) h = ap (λ (c : Code). faulty (number_of c)) h.0
+same_reading (refused n x) (refused m y) h = ap faulty h.0
 
 reading_is : (bytes : List ℕ) (o : Outcome) → Reads bytes o → profile.reading bytes ≡ reading_from o
 unfolding profile

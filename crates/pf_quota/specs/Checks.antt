@@ -6,7 +6,7 @@ use Rattle.pf_quota.specs.declared.charges.Charge.{Charge}
 use Rattle.pf_quota.specs.declared.charges.Charge.TheVariants as charge
 use Rattle.pf_quota.specs.declared.refusals.Refusal.{Refusal}
 use Rattle.pf_quota.specs.declared.refusals.Refusal.TheVariants.{Modules, Bytes, Trials, Steps, Calls}
-use Rattle.pf_quota.specs.Limits.{module_limit, byte_limit, trial_limit, step_limit, call_limit}
+use Rattle.pf_quota.specs.declared.refusals.TheConstants.{MOST_MODULES, MOST_MODULE_BYTES, MOST_TRIALS, MOST_TRIAL_STEPS, MOST_CALLS}
 use Rattle.pf_quota.specs.declared.usage.Usage.{Usage}
 
 -- a check: a total, the limit that it may reach, and the refusal where it passes the limit
@@ -21,11 +21,11 @@ check total limit refusal = record { total = total; limit = limit; refusal = ref
 
 -- the checks of a charge, in their order
 abbrev pub checks_of : Usage → Charge → List Check
-checks_of usage charge.Call = check (usage.calls + 1) call_limit Calls ∷ []
+checks_of usage charge.Call = check (usage.calls + 1) MOST_CALLS Calls ∷ []
 checks_of usage (charge.Module bytes) =
-    check (usage.modules + 1) module_limit Modules ∷ check (usage.bytes + bytes) byte_limit Bytes ∷ []
+    check (usage.modules + 1) MOST_MODULES Modules ∷ check (usage.bytes + bytes) MOST_MODULE_BYTES Bytes ∷ []
 checks_of usage (charge.Trial steps) =
-    check (usage.trials + 1) trial_limit Trials ∷ check (usage.steps + steps) step_limit Steps ∷ []
+    check (usage.trials + 1) MOST_TRIALS Trials ∷ check (usage.steps + steps) MOST_TRIAL_STEPS Steps ∷ []
 
 -- the refusal of a charge: that of the first check whose total passes its limit
 abbrev pub refusal_of : Usage → Charge → Option Refusal
@@ -34,8 +34,8 @@ refusal_of usage charge =
 
 -- no total passes its limit
 pub record IsWithinLimits (usage : Usage) : Type 0 where
-  pub modules : usage.modules ≤ module_limit
-  pub bytes : usage.bytes ≤ byte_limit
-  pub trials : usage.trials ≤ trial_limit
-  pub steps : usage.steps ≤ step_limit
-  pub calls : usage.calls ≤ call_limit
+  pub modules : usage.modules ≤ MOST_MODULES
+  pub bytes : usage.bytes ≤ MOST_MODULE_BYTES
+  pub trials : usage.trials ≤ MOST_TRIALS
+  pub steps : usage.steps ≤ MOST_TRIAL_STEPS
+  pub calls : usage.calls ≤ MOST_CALLS

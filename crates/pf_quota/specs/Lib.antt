@@ -1,4 +1,3 @@
-pub mod Limits
 pub mod Charges
 pub mod Refusals
 pub mod Usage

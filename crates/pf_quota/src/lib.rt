@@ -7,5 +7,7 @@ mod refusals;
 mod usage;
 
 pub use charges::{Charge, Held, trial_steps};
-pub use refusals::{MAX_BYTES, MAX_CALLS, MAX_MODULES, MAX_STEPS, MAX_TRIALS, Refusal};
+pub use refusals::{
+    MOST_CALLS, MOST_MODULE_BYTES, MOST_MODULES, MOST_TRIAL_STEPS, MOST_TRIALS, Refusal,
+};
 pub use usage::{Usage, limits_hold, usage_follows_held};

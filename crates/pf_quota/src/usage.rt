@@ -9,7 +9,9 @@ ghost use Rattle.pf_quota.specs.Usage.{usage_of, charged, refunded, Covers, char
 ghost use Rattle.pf_quota.specs.Checks.{refusal_of, IsWithinLimits};
 
 use crate::charges::{Charge, Held};
-use crate::refusals::{MAX_BYTES, MAX_CALLS, MAX_MODULES, MAX_STEPS, MAX_TRIALS, Refusal};
+use crate::refusals::{
+    MOST_CALLS, MOST_MODULE_BYTES, MOST_MODULES, MOST_TRIAL_STEPS, MOST_TRIALS, Refusal,
+};
 
 /// What a project uses of its limits.
 #[derive(Clone, Copy, Debug, Default, PartialEq, Eq)]
@@ -44,15 +46,15 @@ impl Usage {
         ensures err { OnErr result (self.new ≡ self.old) }
     {
         match charge {
-            Charge::Call => self.calls = sum_within(self.calls, 1, MAX_CALLS, Refusal::Calls)?,
+            Charge::Call => self.calls = sum_within(self.calls, 1, MOST_CALLS, Refusal::Calls)?,
             Charge::Module { bytes } => {
-                let modules = sum_within(self.modules, 1, MAX_MODULES, Refusal::Modules)?;
-                self.bytes = sum_within(self.bytes, bytes, MAX_BYTES, Refusal::Bytes)?;
+                let modules = sum_within(self.modules, 1, MOST_MODULES, Refusal::Modules)?;
+                self.bytes = sum_within(self.bytes, bytes, MOST_MODULE_BYTES, Refusal::Bytes)?;
                 self.modules = modules;
             }
             Charge::Trial { steps } => {
-                let trials = sum_within(self.trials, 1, MAX_TRIALS, Refusal::Trials)?;
-                self.steps = sum_within(self.steps, steps, MAX_STEPS, Refusal::Steps)?;
+                let trials = sum_within(self.trials, 1, MOST_TRIALS, Refusal::Trials)?;
+                self.steps = sum_within(self.steps, steps, MOST_TRIAL_STEPS, Refusal::Steps)?;
                 self.trials = trials;
             }
         }

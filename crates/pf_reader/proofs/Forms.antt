@@ -6,8 +6,9 @@ use Rattle.pf_tokens.specs.declared.marks.Mark.TheVariants as marks
 use Rattle.pf_syntax.specs.WrittenPattern.{WrittenPattern}
 use Rattle.pf_syntax.specs.WrittenExpression.{WrittenExpression}
 use Rattle.pf_syntax.specs.Source.{Export, Head}
+use Rattle.pf_numbered.specs.declared.limits.TheConstants.{MOST_TREE_DEPTH}
 use Rattle.pf_numbered.specs.NumberedTokens.{dot, mark, NumberedToken}
-use Rattle.pf_reader.specs.Grammar.{Names, element as body_level, unguarded, max_depth, DerivesWrittenPattern, DerivesHead, DerivesFunction, DerivesFunctions, DerivesEntry, DerivesEntries, DerivesExport, DerivesExports}
+use Rattle.pf_reader.specs.Grammar.{Names, element as body_level, unguarded, DerivesWrittenPattern, DerivesHead, DerivesFunction, DerivesFunctions, DerivesEntry, DerivesEntries, DerivesExport, DerivesExports}
 use Rattle.pf_reader.specs.Parse.{after, named, number, word, until, written_patterns_of, written_expressions_of, pattern, body, element, head, function, functions, entry, export, exports_step, exports}
 use Rattle.pf_reader.proofs.Single.{bind_some, some_is, after_some, after_here, atom_no_mark, named_some, named_is, number_some, number_is, word_some, word_is}
 use Rattle.pf_reader.proofs.Lists.{Took, SoundFor, CompleteFor, took_is, grow, Separated, Opens, opens_front, opens_on, items_sound, until_sound, until_complete}
@@ -29,15 +30,15 @@ head_sound n ts x e =
     let b = bind_some (after (mark marks.OpenParenthesis) a.0.1) _ x a.2 in
     let c = bind_some (until (mark marks.CloseParenthesis) (pattern n) b.0) _ x b.2 in
     let g = bind_some (after (mark marks.Arrow) c.0.1) _ x c.2 in
-    let k = bind_some (body (element n max_depth) g.0) _ x g.2 in
+    let k = bind_some (body (element n MOST_TREE_DEPTH) g.0) _ x g.2 in
     let t = named_some n ts a.0 a.1 in
     let opens = after_some (mark marks.OpenParenthesis) a.0.1 b.0 b.1 in
     let qs = until_sound WrittenPattern (mark marks.CloseParenthesis) (DerivesWrittenPattern n) (pattern n) (pattern_sound n) b.0 c.0 c.1 in
     let arrow = after_some (mark marks.Arrow) c.0.1 g.0 g.1 in
-    let es = items_sound WrittenExpression (mark marks.Comma) (Fits n body_level max_depth) (element n max_depth) (element_sound n max_depth) (length g.0) g.0 k.0 k.1 in
+    let es = items_sound WrittenExpression (mark marks.Comma) (Fits n body_level MOST_TREE_DEPTH) (element n MOST_TREE_DEPTH) (element_sound n MOST_TREE_DEPTH) (length g.0) g.0 k.0 k.1 in
     let inside = qs.holds in
     let written_patterns = written_patterns_from n c.0.0 inside.0 inside.4 in
-    let elements = body_from n max_depth k.0.0 es.front es.holds in
+    let elements = body_from n MOST_TREE_DEPTH k.0.0 es.front es.holds in
     let made : Head = record { name = a.0.0.0; offset = a.0.0.1; parameters = written_patterns_of c.0.0; condition = unguarded; body = written_expressions_of k.0.0 } in
     let first : a.0.1 ≡ (opens.0 ∷ qs.front) ++ c.0.1 = opens.2 ∙ ap (λ (l : List NumberedToken). opens.0 ∷ l) qs.parts in
     let tail = grow a.0.1 (opens.0 ∷ qs.front) c.0.1 (arrow.0 ∷ es.front) k.0.1 first (arrow.2 ∙ ap (λ (l : List NumberedToken). arrow.0 ∷ l) es.parts) in
@@ -69,7 +70,7 @@ head_complete n h front rest d ends =
     let qs = until_complete WrittenPattern (mark marks.CloseParenthesis) (DerivesWrittenPattern n) (pattern n) Any refl refl (λ s xs r p u. pattern_complete n s xs r p) (written_pattern_opens n) (λ t ts u. tt) (λ t ts u. tt)
     (written_pattern_list h.parameters) b.1 behind (c.0, c.1, c.2, c.3, written_patterns_to n h.parameters c.0 c.4) in
     let arrow = after_here (mark marks.Arrow) q.1 (q.2 ++ rest) refl q.3 in
-    let es = body_complete n max_depth (element n max_depth) (element_complete n max_depth) (written_expression_list h.body) q.2 rest (body_to n max_depth h.body q.2 q.6 d.shallow_body) ends in
+    let es = body_complete n MOST_TREE_DEPTH (element n MOST_TREE_DEPTH) (element_complete n MOST_TREE_DEPTH) (written_expression_list h.body) q.2 rest (body_to n MOST_TREE_DEPTH h.body q.2 q.6 d.shallow_body) ends in
     let written_patterns = written_patterns_back h.parameters in
     let elements = written_expressions_back h.body in
     let condition = d.condition_is in

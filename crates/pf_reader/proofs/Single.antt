@@ -10,6 +10,7 @@ use Rattle.pf_tokens.specs.declared.marks.Mark.TheVariants as marks
 use Rattle.pf_tokens.specs.declared.words.Reserved.{Reserved}
 use Rattle.pf_tokens.specs.declared.words.Reserved.TheVariants as words
 use Rattle.pf_syntax.specs.Tree.{Operator, times}
+use Rattle.pf_numbered.specs.declared.limits.TheConstants.{MOST_NAME_BYTES}
 use Rattle.pf_numbered.specs.NumberedTokens.{NumberedKind, integer, atom, own_module, dot, mark, reserved, NumberedToken}
 use Rattle.pf_reader.specs.Grammar.{Names, IsAtom, IsWord, op_of, level_of}
 use Rattle.pf_reader.specs.Parse.{◌>>=◌, mark_code, reserved_code, is, after, atom_in, named, number_kind, number, is_word, word, at_level, operator}
@@ -144,7 +145,7 @@ after_other s t ts e = rw e refl
 
 pub atom_in_some : (n : Names) (s : NumberedKind) (t : NumberedToken) (a : ℕ) → t.kind ≡ s → atom_in n s ≡ Some a → IsAtom n a t
 atom_in_some n (atom b) t a e h =
-    let c = cond_some (nat_le (length (name_of n.atoms b)) 255) (Some b) a h in
+    let c = cond_some (nat_le (length (name_of n.atoms b)) MOST_NAME_BYTES) (Some b) a h in
     let same : b ≡ a = some_is b a c.1 in
     inl (e ∙ ap atom same, rw (← same) (leb-true _ _ c.0))
 atom_in_some n own_module t a e h = inr (e, sym (some_is n.own a h))

@@ -4,8 +4,9 @@ use Rattle.pf_tokens.specs.declared.marks.Mark.TheVariants as marks
 use Rattle.pf_syntax.specs.WrittenPattern.{WrittenPattern, WrittenPatterns}
 use Rattle.pf_syntax.specs.WrittenExpression.{WrittenExpression, WrittenExpressions, Condition}
 use Rattle.pf_syntax.specs.Source.{Export, Head}
+use Rattle.pf_numbered.specs.declared.limits.TheConstants.{MOST_TREE_DEPTH}
 use Rattle.pf_numbered.specs.NumberedTokens.{NumberedToken, mark}
-use Rattle.pf_reader.specs.Grammar.{Names, unguarded, max_depth}
+use Rattle.pf_reader.specs.Grammar.{Names, unguarded}
 use Rattle.pf_reader.specs.Parse.{◌>>=◌, after, body, element, export, exports, function, functions, head, named, pattern, written_expressions_of, written_patterns_of, until}
 use Rattle.pf_reader.specs.Given.{with_front, with_first}
 
@@ -88,5 +89,5 @@ module _ (n : Names) where
 
   pub head_is : (ts r1 r2 r3 r4 r5 : List NumberedToken) (a at : ℕ) (qs : List WrittenPattern) (es : List WrittenExpression) (all_written_patterns : WrittenPatterns) (all_written_expressions : WrittenExpressions) (c : Condition) → all_written_patterns ≡ written_patterns_of qs → all_written_expressions ≡ written_expressions_of es → c ≡ unguarded
       → named n ts ≡ Some ((a, at), r1) → after (mark marks.OpenParenthesis) r1 ≡ Some r2 → until (mark marks.CloseParenthesis) (pattern n) r2 ≡ Some (qs, r3) → after (mark marks.Arrow) r3 ≡ Some r4
-      → body (element n max_depth) r4 ≡ Some (es, r5) → head n ts ≡ Some (record { name = a; offset = at; parameters = all_written_patterns; condition = c; body = all_written_expressions }, r5)
+      → body (element n MOST_TREE_DEPTH) r4 ≡ Some (es, r5) → head n ts ≡ Some (record { name = a; offset = at; parameters = all_written_patterns; condition = c; body = all_written_expressions }, r5)
   head_is ts r1 r2 r3 r4 r5 a at qs es all_written_patterns all_written_expressions c s e g h1 h2 h3 h4 h5 = rw (s, e, g, h1, h2, h3, h4, h5) refl

@@ -5,6 +5,7 @@ use Rattle.std.proofs.lemmas.Bool.{leb-true, le-leb}
 use Rattle.std.proofs.lemmas.List.{length-append}
 use Rattle.pf_terms.specs.Atoms.{name_of}
 use Rattle.pf_tokens.specs.declared.marks.Mark.TheVariants as marks
+use Rattle.pf_numbered.specs.declared.limits.TheConstants.{MOST_NAME_BYTES}
 use Rattle.pf_numbered.specs.NumberedTokens.{NumberedKind, atom, dot, mark, NumberedToken}
 use Rattle.pf_reader.specs.Grammar.{Names, Begins, Tree, DerivesTree}
 use Rattle.pf_reader.specs.Parse.{after, word, functions, exports, atom_kind, any_atom, begins, behind, tree}
@@ -75,7 +76,7 @@ tree_sound atoms ts m e =
     let b = bind_some (exports n (length a.0.1) a.0.1) _ m a.2 in
     let c = bind_some (functions n (length b.0.1) b.0.1) _ m b.2 in
     let made : Tree = record { name = a.0.0; exports = b.0.0; functions = c.0 } in
-    let g = cond_some (nat_le (length (name_of atoms a.0.0)) 255) (Some made) m c.2 in
+    let g = cond_some (nat_le (length (name_of atoms a.0.0)) MOST_NAME_BYTES) (Some made) m c.2 in
     let es = exports_sound n (length a.0.1) a.0.1 b.0 b.1 in
     let fs = functions_sound n (length b.0.1) b.0.1 c.0 c.1 in
     subst (λ (t : Tree). DerivesTree atoms t ts) (some_is made m g.1)
@@ -89,7 +90,7 @@ tree_complete atoms ts m d =
     let enough : length q.0 ≤ length d.rest = let w = ap length q.2 in omega (arith, w, length-append q.0 q.1) in
     let es : exports n (length d.rest) d.rest ≡ Some (flat_map (λ fs. fs) d.forms, q.1) = ap (exports n (length d.rest)) q.2 ∙ exports_complete n d.forms q.0 q.1 (length d.rest) q.3 (functions_open n m.functions q.1 q.4) enough in
     let fs = functions_complete n m.functions q.1 (length q.1) q.4 (omega arith) in
-    let short = le-leb (length (name_of atoms m.name)) 255 d.short in
+    let short = le-leb (length (name_of atoms m.name)) MOST_NAME_BYTES d.short in
     let all = d.all_exports in
     rw (first, es, fs, short, all) refl
 

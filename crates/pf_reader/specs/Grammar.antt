@@ -11,6 +11,7 @@ use Rattle.pf_syntax.specs.WrittenExpression as p
 use Rattle.pf_syntax.specs.WrittenExpression.{WrittenExpression, WrittenExpressions, Condition, Branches, no_written_expressions, written_expression, no_tests, tests, no_branches, branch, written_expressions_depth}
 use Rattle.pf_syntax.specs.Source.{Export, Head}
 pub use Rattle.pf_syntax.specs.WrittenModule.{Tree, tree_of, unguarded}
+use Rattle.pf_numbered.specs.declared.limits.TheConstants.{MOST_NAME_BYTES, MOST_TREE_DEPTH}
 use Rattle.pf_numbered.specs.NumberedTokens.{NumberedKind, integer, atom, variable, anonymous, own_module, dot, mark, reserved, NumberedToken}
 
 -- what numbers in tokens stand for: the names of atoms, and the number of the module's own name
@@ -46,9 +47,9 @@ Between first last P ts = Behind first (Before last P) ts
 
 -- ---- names
 
--- the token is this atom, whose name has at most 255 bytes, or `?MODULE`
+-- the token is this atom, whose name isn't too long, or `?MODULE`
 abbrev pub IsAtom : Names → ℕ → NumberedToken → Type 0
-IsAtom n a t = ((t.kind ≡ atom a) × (length (name_of n.atoms a) ≤ 255)) ⊎ ((t.kind ≡ own_module) × (a ≡ n.own))
+IsAtom n a t = ((t.kind ≡ atom a) × (length (name_of n.atoms a) ≤ MOST_NAME_BYTES)) ⊎ ((t.kind ≡ own_module) × (a ≡ n.own))
 
 -- the token is an atom of these bytes
 abbrev pub IsWord : Names → List ℕ → NumberedToken → Type 0
@@ -140,11 +141,7 @@ abbrev mutual
 
 -- ---- functions
 
--- patterns and elements of bodies are at most 256 deep
-abbrev pub max_depth : ℕ
-max_depth = 256
-
--- a clause of a function: its name, patterns between parentheses, an arrow and a body
+-- a clause of a function: its name, patterns between parentheses, an arrow and a body; no pattern or element is too deep
 pub record DerivesHead (n : Names) (h : Head) (ts : List NumberedToken) : Type 0 where
   pub name : NumberedToken
   pub more : List NumberedToken
@@ -153,8 +150,8 @@ pub record DerivesHead (n : Names) (h : Head) (ts : List NumberedToken) : Type 0
   pub place_is : name.at ≡ h.offset
   pub condition_is : h.condition ≡ unguarded
   pub parts : Apart (mark marks.Arrow) (Between (mark marks.OpenParenthesis) (mark marks.CloseParenthesis) (DerivesWrittenPatterns n h.parameters)) (DerivesBody n h.body) more
-  pub shallow_parameters : written_patterns_depth h.parameters ≤ max_depth
-  pub shallow_body : written_expressions_depth h.body ≤ max_depth
+  pub shallow_parameters : written_patterns_depth h.parameters ≤ MOST_TREE_DEPTH
+  pub shallow_body : written_expressions_depth h.body ≤ MOST_TREE_DEPTH
 
 -- a function is one clause and a dot
 abbrev pub DerivesFunction : Names → List Head → List NumberedToken → Type 0
@@ -224,11 +221,11 @@ pub record Begins (atoms : List (List ℕ)) (name : ℕ) (rest ts : List Numbere
 abbrev pub HasHead : List (List ℕ) → List NumberedToken → Type 0
 HasHead atoms ts = (name : ℕ) × (rest : List NumberedToken) × Begins atoms name rest ts
 
--- a module is its first form, its exports and its functions; its name has at most 255 bytes
+-- a module is its first form, its exports and its functions; its name isn't too long
 pub record DerivesTree (atoms : List (List ℕ)) (m : Tree) (ts : List NumberedToken) : Type 0 where
   pub rest : List NumberedToken
   pub begins : Begins atoms m.name rest ts
-  pub short : length (name_of atoms m.name) ≤ 255
+  pub short : length (name_of atoms m.name) ≤ MOST_NAME_BYTES
   pub forms : List (List Export)
   pub all_exports : flat_map (λ es. es) forms ≡ m.exports
   pub parts : Together (DerivesExports (record { atoms = atoms; own = m.name }) forms) (DerivesFunctions (record { atoms = atoms; own = m.name }) m.functions) rest

@@ -12,8 +12,9 @@ use Rattle.pf_syntax.specs.WrittenPattern.{WrittenPattern, WrittenPatterns, no_w
 use Rattle.pf_syntax.specs.WrittenExpression as p
 use Rattle.pf_syntax.specs.WrittenExpression.{WrittenExpression, WrittenExpressions, Branches, no_written_expressions, written_expression, no_branches, branch, written_expression_depth}
 use Rattle.pf_syntax.specs.Source.{Export, Head}
+use Rattle.pf_numbered.specs.declared.limits.TheConstants.{MOST_NAME_BYTES, MOST_TREE_DEPTH}
 use Rattle.pf_numbered.specs.NumberedTokens.{NumberedKind, integer, atom, variable, anonymous, own_module, dot, mark, reserved, NumberedToken}
-use Rattle.pf_reader.specs.Grammar.{Names, op_of, level_of, top, unguarded, max_depth, Tree}
+use Rattle.pf_reader.specs.Grammar.{Names, op_of, level_of, top, unguarded, Tree}
 
 infixl 10 ◌>>=◌
 abbrev pub ◌>>=◌ : {A B : Type 0} → Option A → (A → Option B) → Option B
@@ -97,7 +98,7 @@ after s (t ∷ ts) = if is s t.kind then Some ts else None
 
 -- the atom that a kind of token is
 abbrev pub atom_in : Names → NumberedKind → Option ℕ
-atom_in n (atom a) = if nat_le (length (name_of n.atoms a)) 255 then Some a else None
+atom_in n (atom a) = if nat_le (length (name_of n.atoms a)) MOST_NAME_BYTES then Some a else None
 atom_in n own_module = Some n.own
 atom_in n _ = None
 
@@ -291,7 +292,7 @@ head n ts = do
   ts1 ← after (mark marks.OpenParenthesis) name.1
   qs ← until (mark marks.CloseParenthesis) (pattern n) ts1
   ts2 ← after (mark marks.Arrow) qs.1
-  es ← body (element n max_depth) ts2
+  es ← body (element n MOST_TREE_DEPTH) ts2
   Some (record { name = name.0.0; offset = name.0.1; parameters = written_patterns_of qs.0; condition = unguarded; body = written_expressions_of es.0 }, es.1)
 
 abbrev pub function : Names → Parse (List Head)
@@ -362,7 +363,7 @@ abbrev pub behind : List (List ℕ) → ℕ → List NumberedToken → Option Tr
 behind atoms name ts = do
   es ← exports (record { atoms = atoms; own = name }) (length ts) ts
   fs ← functions (record { atoms = atoms; own = name }) (length es.1) es.1
-  if nat_le (length (name_of atoms name)) 255 then Some (record { name = name; exports = es.0; functions = fs }) else None
+  if nat_le (length (name_of atoms name)) MOST_NAME_BYTES then Some (record { name = name; exports = es.0; functions = fs }) else None
 
 -- the module that the tokens are
 abbrev pub tree : List (List ℕ) → List NumberedToken → Option Tree

@@ -12,13 +12,10 @@ use crate::token::{Context, behind, read_name};
 use crate::written_expression::{read_body, unguarded};
 use crate::written_pattern::read_written_patterns;
 use pf_fault::OrNoMemory;
-use pf_numbered::{NumberedKind, NumberedToken};
+use pf_numbered::{MOST_TREE_DEPTH, NumberedKind, NumberedToken};
 use pf_syntax::{Head, Source, WrittenFunction};
 use pf_tokens::Mark;
 use std::alloc::Global;
-
-/// How deep an element of a body may be.
-const MAX_DEPTH: u32 = 256;
 
 /// A clause of a function.
 fn read_head<'a>(
@@ -35,7 +32,7 @@ fn read_head<'a>(
     let rest = behind(rest, NumberedKind::Mark(Mark::OpenParenthesis))?;
     let (parameters, rest) = read_written_patterns(alloc, context, source, rest)?;
     let rest = behind(rest, NumberedKind::Mark(Mark::Arrow))?;
-    let (body, rest) = read_body(alloc, context, source, MAX_DEPTH, rest)?;
+    let (body, rest) = read_body(alloc, context, source, MOST_TREE_DEPTH, rest)?;
     let condition = unguarded(alloc)?;
     Ok((
         Head {

@@ -14,7 +14,7 @@ use crate::fault::{ReadFault, Syntax};
 use crate::function::read_functions;
 use crate::token::{Context, skip, skip_word};
 use pf_fault::{Code, NoMemory, OrNoMemory, Refusal};
-use pf_numbered::{NumberedKind, NumberedToken, fault_place, number_tokens};
+use pf_numbered::{MOST_NAME_BYTES, NumberedKind, NumberedToken, fault_place, number_tokens};
 use pf_syntax::Source;
 use pf_terms::{AtomId, AtomTable};
 use pf_tokens::{Mark, Token};
@@ -69,7 +69,7 @@ fn read_module(
     let mut source = Source::new(alloc, own);
     let rest = read_exports(alloc, context, &mut source, rest)?;
     read_functions(alloc, context, &mut source, rest)?;
-    if atoms.name(own).len() > 255 {
+    if atoms.name(own).len() > MOST_NAME_BYTES {
         return Err(OrNoMemory::Fault(Syntax));
     }
     Ok(source)

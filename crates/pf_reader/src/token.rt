@@ -8,7 +8,7 @@ ghost use Rattle.pf_reader.specs.Given.{Gives};
 
 use crate::fault::{ReadFault, Syntax};
 use pf_fault::OrNoMemory;
-use pf_numbered::{NumberedKind, NumberedToken};
+use pf_numbered::{MOST_NAME_BYTES, NumberedKind, NumberedToken};
 use pf_syntax::Word;
 use pf_terms::{AtomId, AtomTable};
 use pf_tokens::Integer;
@@ -71,7 +71,7 @@ impl Context<'_> {
     {
         match kind {
             NumberedKind::Atom(atom) => {
-                if self.atoms.name(atom).len() <= 255 {
+                if self.atoms.name(atom).len() <= MOST_NAME_BYTES {
                     Some(atom)
                 } else {
                     None

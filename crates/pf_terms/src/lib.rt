@@ -11,8 +11,6 @@ mod ordering;
 mod sameness;
 mod stream;
 mod term;
-#[cfg(test)]
-mod tests;
 
 pub use atoms::{AtomId, AtomTable};
 pub use build::{TooLarge, list_of, tuple_of};

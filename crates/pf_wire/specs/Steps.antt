@@ -2,6 +2,8 @@
 use Rattle.std.specs.Prelude.{◌≡◌, ℕ, ◌+◌, Bool, if◌then◌else◌, List, [], ◌++◌, length, map, take, Option, Some, None, false, IfSome, codes}
 use Rattle.std.specs.Fmt.{decimal}
 use Rattle.std.specs.Io.KnownBytes.{Appends, Consumes}
+use Rattle.pf_fault.specs.Codes.{code_text}
+use Rattle.pf_fault.specs.declared.code.Code.TheVariants as code
 use Rattle.pf_fault.specs.declared.fault.OrNoMemory.{OrNoMemory}
 use Rattle.pf_fault.specs.declared.fault.OrNoMemory.TheVariants.{NoMemory, Fault}
 use Rattle.pf_terms.specs.declared.stream.StreamFault.{StreamFault}
@@ -18,7 +20,7 @@ use Rattle.pf_wire.specs.declared.steps.TheConstants.{MOST_BYTES}
 
 -- command number k, counted from 1, is none
 abbrev pub last_text : Bool → ℕ → List ℕ
-last_text good k = if good then [] else line (codes "command " ++ decimal k ++ codes " refused C1")
+last_text good k = if good then [] else line (codes "command " ++ decimal k ++ codes " refused " ++ code_text code.NoCommand)
 
 abbrev pub steps_status : Bool → ℕ
 steps_status good = if good then 0 else 2

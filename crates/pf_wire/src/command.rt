@@ -2,6 +2,7 @@
 
 ghost use Rattle.std.specs.Prelude.{◌≡◌, Err, None, Some, true, IfOk};
 ghost use Rattle.std.specs.Option.{option_map};
+ghost use Rattle.pf_fault.specs.declared.fault.OrNoMemory.TheVariants.{Fault};
 ghost use Rattle.pf_model.specs.Desk.{submit};
 ghost use Rattle.pf_model.specs.World.{client};
 ghost use Rattle.pf_wire.specs.Commands.{command_at, with_source};
@@ -10,9 +11,9 @@ ghost use Rattle.pf_wire.specs.View.{command_seen};
 use crate::cut::first_line;
 use crate::line::{Request, read_line};
 use pf_book::Call;
+use pf_fault::{Code, OrNoMemory};
 use pf_store::Source;
-use pf_terms::NoMemory;
-use std::alloc::{AllocError, Global};
+use std::alloc::Global;
 use std::error::Error;
 use std::fmt;
 
@@ -25,52 +26,26 @@ pub enum Command {
     Once(u32, u64),
 }
 
-/// Why no command was read. It prints as its code.
+/// `C1`: the line is no command. It prints as its code.
 #[derive(Clone, Copy, Debug, PartialEq, Eq)]
-pub enum LineFault {
-    /// A growth was refused.
-    Memory,
-    /// `C1`: the line is no command.
-    NoCommand,
-}
+pub struct NoCommand;
 
-impl From<NoMemory> for LineFault {
-    ghost use Rattle.std.specs.Prelude.{◌≡◌};
-    ghost use Rattle.pf_wire.specs.declared.command.LineFault.TheVariants.{Memory};
-
-    ghost from_gives = { λ _ e. e ≡ Memory };
-
-    fn from(_refused: NoMemory) -> LineFault {
-        LineFault::Memory
-    }
-}
-
-impl From<AllocError> for LineFault {
-    ghost use Rattle.std.specs.Prelude.{◌≡◌};
-    ghost use Rattle.pf_wire.specs.declared.command.LineFault.TheVariants.{Memory};
-
-    ghost from_gives = { λ _ e. e ≡ Memory };
-
-    fn from(_refused: AllocError) -> LineFault {
-        LineFault::Memory
-    }
-}
-
-impl fmt::Display for LineFault {
+impl fmt::Display for NoCommand {
     ghost use Rattle.std.specs.Prelude.{Some};
-    ghost use Rattle.pf_wire.specs.Faults.{fault_text};
+    ghost use Rattle.pf_fault.specs.Codes.{code_text};
+    ghost use Rattle.pf_fault.specs.declared.code.Code.TheVariants as code;
 
-    ghost output = { λ e. Some (fault_text e) };
+    ghost output = { λ _. Some (code_text code.NoCommand) };
 
     fn fmt<W: fmt::Write>(&self, f: &mut fmt::Formatter<W>) -> fmt::Result {
-        f.write_str(match self {
-            LineFault::Memory => "NoMemory",
-            LineFault::NoCommand => "C1",
-        })
+        write!(f, "{}", Code::NoCommand)
     }
 }
 
-impl Error for LineFault {}
+impl Error for NoCommand {}
+
+/// Why no command was read.
+pub type LineFault = OrNoMemory<NoCommand>;
 
 /// The source of so many bytes that stands in front, and what follows the line end after it.
 fn split_source(bytes: &[u8], size: usize) -> Option<(&[u8], &[u8])>
@@ -91,18 +66,18 @@ fn split_source(bytes: &[u8], size: usize) -> Option<(&[u8], &[u8])>
 /// The command that some bytes begin with, and what follows it.
 pub fn read_command(alloc: Global, bytes: &[u8]) -> Result<(Command, &[u8]), LineFault>
     ensures command { IfOk result (λ r. command_at bytes.now ≡ Some (command_seen r.0, r.1.now)) }
-    ensures none { result ≡ Err LineFault.NoCommand → command_at bytes.now ≡ None }
+    ensures none { result ≡ Err (Fault NoCommand) → command_at bytes.now ≡ None }
 {
     let line = first_line(bytes);
     match read_line(alloc, line.text)? {
         Some(Request::Made(command)) => Ok((command, line.rest)),
         Some(Request::Submission(project, size)) if line.is_ended => {
             let Some((source, rest)) = split_source(line.rest, size as usize) else {
-                return Err(LineFault::NoCommand);
+                return Err(OrNoMemory::Fault(NoCommand));
             };
             let source = Source::new(alloc, Vec::from_slice(alloc, source)?)?;
             Ok((Command::Client(project, Call::Submit(source)), rest))
         }
-        _ => Err(LineFault::NoCommand),
+        _ => Err(OrNoMemory::Fault(NoCommand)),
     }
 }

@@ -1,7 +1,10 @@
 //! What comes of a command, and its text.
 
-ghost use Rattle.std.specs.Prelude.{◌≡◌, ◌++◌, OnOk};
+ghost use Rattle.std.specs.Prelude.{◌≡◌, ◌++◌, OnOk, codes};
+ghost use Rattle.pf_fault.specs.Codes.{code_text};
+ghost use Rattle.pf_fault.specs.declared.code.Code.TheVariants.{NotNow};
 ghost use Rattle.pf_model.specs.World.{Step, AnswersStep};
+ghost use Rattle.pf_model.specs.Text.{line};
 ghost use Rattle.pf_model.specs.Told.{memory_text, outcome_text};
 ghost use Rattle.pf_wire.specs.View.{command_seen};
 ghost use Rattle.pf_book.specs.Answers.{Answers};
@@ -10,10 +13,11 @@ ghost use Rattle.pf_book.specs.View.{call_seen};
 ghost use Rattle.pf_wire.specs.Outcomes.{requester_of, outcome_seen};
 
 use crate::command::Command;
-use crate::reply::{put_project, put_reply};
+use crate::reply::{put_code, put_project, put_reply};
 use pf_book::{Book, Call, Reply};
+use pf_fault::Code;
 use pf_terms::NoMemory;
-use pf_text::put;
+use pf_text::{put, put_byte};
 use std::alloc::Global;
 
 /// Who made a command: a client of a project, or a worker for it.
@@ -77,6 +81,15 @@ pub fn perform(alloc: Global, book: &mut Book, command: Command) -> Outcome
     }
 }
 
+/// Puts that a worker can't do this now.
+fn put_not_now(alloc: Global, out: &mut Vec<u8>) -> Result<(), NoMemory>
+    ensures { OnOk result (out.new.items ≡ out.old.items ++ line (codes "w0 not now " ++ code_text NotNow)) }
+{
+    put(out, b"w0 not now ")?;
+    put_code(alloc, out, Code::NotNow)?;
+    put_byte(out, b'\n')
+}
+
 /// Puts that a growth was refused.
 fn put_memory(alloc: Global, out: &mut Vec<u8>, requester: Requester) -> Result<(), NoMemory>
     ensures { (s : Step) → requester ≡ requester_of s
@@ -108,7 +121,7 @@ pub fn put_outcome(
             }
         },
         Outcome::Done => put(out, b"w0 done\n"),
-        Outcome::NotNow => put(out, b"w0 not now N2\n"),
+        Outcome::NotNow => put_not_now(alloc, out),
         Outcome::Memory => put_memory(alloc, out, requester),
     }
 }

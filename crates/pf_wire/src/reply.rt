@@ -2,11 +2,13 @@
 
 ghost use Rattle.std.specs.Prelude.{◌≡◌, ◌++◌, OnOk, codes};
 ghost use Rattle.std.specs.Fmt.{decimal};
+ghost use Rattle.pf_fault.specs.Codes.{code_text};
 ghost use Rattle.pf_model.specs.Reports.{report_of};
-ghost use Rattle.pf_model.specs.Told.{lines_of, refusal_code, reply_head, reply_rest, reply_text, usage_text};
-ghost use Rattle.pf_book.specs.View.{refusal_seen, reply_seen};
+ghost use Rattle.pf_model.specs.Told.{lines_of, reply_head, reply_rest, reply_text, usage_text};
+ghost use Rattle.pf_book.specs.View.{reply_seen};
 
-use pf_book::{Refusal, Reply};
+use pf_book::Reply;
+use pf_fault::Code;
 use pf_model::report::Report;
 use pf_quota::Usage;
 use pf_terms::NoMemory;
@@ -37,11 +39,12 @@ fn put_usage(alloc: Global, out: &mut Vec<u8>, usage: Usage) -> Result<(), NoMem
     put_number(alloc, out, usage.calls)
 }
 
-fn put_code(alloc: Global, out: &mut Vec<u8>, refusal: Refusal) -> Result<(), NoMemory>
-    ensures { OnOk result (out.new.items ≡ out.old.items ++ refusal_code (refusal_seen refusal)) }
+/// Puts a code of the table of refusals.
+pub(crate) fn put_code(alloc: Global, out: &mut Vec<u8>, code: Code) -> Result<(), NoMemory>
+    ensures { OnOk result (out.new.items ≡ out.old.items ++ code_text code) }
 {
-    let code = format!(in alloc; "{refusal}")?;
-    put(out, code.as_bytes())
+    let text = format!(in alloc; "{code}")?;
+    put(out, text.as_bytes())
 }
 
 /// Puts how many lines a report has.
@@ -74,7 +77,7 @@ fn put_head(alloc: Global, out: &mut Vec<u8>, reply: &Reply) -> Result<(), NoMem
         }
         Reply::Refused(refusal) => {
             put(out, b"refused ")?;
-            put_code(alloc, out, *refusal)
+            put_code(alloc, out, refusal.code())
         }
     }
 }

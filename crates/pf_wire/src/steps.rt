@@ -11,14 +11,15 @@ ghost use Rattle.pf_wire.specs.Steps.{last_text, AnswersOne, StepsAnswered, Step
 ghost use Rattle.pf_wire.specs.Turns.{TellsAll, TellsUpTo, TurnsLeave};
 ghost use Rattle.pf_wire.specs.Whole.{is_due};
 
-use crate::command::{Command, LineFault, read_command};
+use crate::command::{Command, NoCommand, read_command};
 use crate::outcome::{Requester, perform, put_outcome};
+use crate::reply::put_code;
 use crate::stream::{Gathered, Input};
 use crate::whole::is_due;
 use pf_book::Book;
-use pf_fault::{NoMemory, OrNoMemory};
+use pf_fault::{Code, NoMemory, OrNoMemory};
 use pf_terms::{Counted, StreamFault};
-use pf_text::{put, put_number};
+use pf_text::{put, put_byte, put_number};
 use std::alloc::Global;
 use std::io::{Read, Write};
 use std::sync::ledger::Ledger;
@@ -45,7 +46,9 @@ fn refuse(alloc: Global, number: u64) -> Result<Vec<u8>, NoMemory>
     let mut text = Vec::new(alloc);
     put(&mut text, b"command ")?;
     put_number(alloc, &mut text, number)?;
-    put(&mut text, b" refused C1\n")?;
+    put(&mut text, b" refused ")?;
+    put_code(alloc, &mut text, Code::NoCommand)?;
+    put_byte(&mut text, b'\n')?;
     Ok(text)
 }
 
@@ -71,11 +74,11 @@ fn answer_front<'a>(
             text: answer(alloc, book, command)?,
             rest: Some(rest),
         }),
-        Err(LineFault::NoCommand) => Ok(Answered {
+        Err(OrNoMemory::Fault(NoCommand)) => Ok(Answered {
             text: refuse(alloc, number)?,
             rest: None,
         }),
-        Err(LineFault::Memory) => Err(NoMemory),
+        Err(OrNoMemory::NoMemory) => Err(NoMemory),
     }
 }
 
