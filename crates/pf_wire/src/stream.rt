@@ -3,10 +3,11 @@
 ghost use Rattle.std.specs.Prelude.{◌≡◌, ◌≤◌, ◌<◌, ◌+◌, ◌++◌, [], List, ℕ, length, false, true, IfErr, IfOk, OnErr, OnOk};
 ghost use Rattle.std.specs.Io.KnownBytes.{Appends, Consumes};
 ghost use Rattle.pf_terms.specs.Streams.{AppendsFront, CountsWrite};
-ghost use Rattle.pf_wire.specs.Cuts.{Lacks};
+ghost use Rattle.pf_wire.specs.Commands.{first_line};
 ghost use Rattle.pf_wire.specs.Turns.{TakesPiece, PieceLeaves};
 ghost use Rattle.pf_wire.specs.Whole.{is_due};
 
+use crate::cut::first_line;
 use crate::steps::MOST_BYTES;
 use crate::whole::is_due;
 use pf_fault::{NoMemory, OrNoMemory};
@@ -18,13 +19,6 @@ use std::sync::ledger::Ledger;
 /// The most bytes of a piece, and of what is gathered.
 const ROOM: usize = 65_536;
 
-/// Whether a line ends among some bytes.
-fn ends_line(bytes: &[u8]) -> bool
-    ensures { result ≡ false → Lacks 10 bytes.now }
-{
-    bytes.contains(&b'\n')
-}
-
 /// What was taken of an input and isn't answered yet.
 #[derive(Drop)]
 pub(crate) struct Input {
@@ -34,7 +28,7 @@ pub(crate) struct Input {
     /// No line ends among the bytes, which needn't be looked through again.
     is_open: bool,
     piece: Vec<u8>,
-    ghost lacks: { is_open ≡ true → Lacks 10 bytes.items },
+    ghost open: { is_open ≡ true → (first_line bytes.items).is_ended ≡ false },
     ghost room: { 0 < length piece.items },
 }
 
@@ -67,7 +61,7 @@ impl Input {
     {
         let want = (MOST_BYTES - self.taken).min(self.piece.len());
         let n = reader.take_some(&mut self.piece[..want])?;
-        self.is_open = self.is_open && !ends_line(&self.piece[..n]);
+        self.is_open = self.is_open && !first_line(&self.piece[..n]).is_ended;
         self.bytes.extend_from_slice(&self.piece[..n])?;
         self.taken += n;
         Ok(n == 0 || self.taken == MOST_BYTES)
@@ -88,7 +82,7 @@ impl Input {
         ensures bytes { self.new.bytes.items ≡ rest.items }
         ensures taken { self.new.taken ≡ self.old.taken }
     {
-        self.is_open = !ends_line(&rest);
+        self.is_open = !first_line(&rest).is_ended;
         self.bytes = rest;
     }
 }
