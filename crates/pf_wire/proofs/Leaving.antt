@@ -1,6 +1,6 @@
 -- What went out where the work stops.
-use Rattle.std.proofs.Common.{◌≡◌, ◌==◌, ◌<◌, ◌≤◌, ◌+◌, ◌-◌, ℕ, Bool, true, false, List, [], ◌∷◌, ◌++◌, length, take, Option, Some, None, refl, sym, ap, ◌∙◌, subst, arith, append_assoc, length-append, ◌⊎◌, inl, inr, zero, suc}
-use Rattle.std.specs.Prelude.{IfSome}
+use Rattle.std.proofs.Common.{◌≡◌, ◌==◌, ◌<◌, ◌≤◌, ◌+◌, ◌-◌, ℕ, Bool, true, false, List, [], ◌∷◌, ◌++◌, length, take, Option, Some, None, refl, sym, ap, ◌∙◌, subst, arith, append_assoc, length-append, ◌⊎◌, inl, inr, zero, suc, not, eqb-true}
+use Rattle.std.specs.Prelude.{IfSome, if◌then◌else◌}
 use Rattle.std.specs.Io.KnownBytes.{Appends, Consumes, IsAtEnd, Keeps}
 use Rattle.std.proofs.KnownBytes.{Appends-nil, Consumes-nil, Consumes-trans, Consumes-kept}
 use Rattle.std.proofs.lemmas.List.{append-nil}
@@ -31,12 +31,20 @@ front_both w0 w1 w2 a b more h k = (
   appends_both w0 w1 w2 a k.0 h k.3,
 )
 
-front_of_both : (w0 w1 w2 : Option (List ℕ)) (a b : List ℕ) → Appends w0 w1 a → AppendsFront w1 w2 b → AppendsFront w0 w2 (a ++ b)
+pub front_of_both : (w0 w1 w2 : Option (List ℕ)) (a b : List ℕ) → Appends w0 w1 a → AppendsFront w1 w2 b → AppendsFront w0 w2 (a ++ b)
 front_of_both w0 w1 w2 a b h k = subst (AppendsFront w0 w2) (append-nil (a ++ b)) (front_both w0 w1 w2 a b [] h k)
+
+not_false : (b : Bool) → not b ≡ false → b ≡ true
+not_false true h = refl
+not_false false h = absurd cc
+
+-- a beginning of a text is one of a longer text
+pub front_of_more : (w0 w1 : Option (List ℕ)) (a b : List ℕ) → AppendsFront w0 w1 a → AppendsFront w0 w1 (a ++ b)
+front_of_more w0 w1 a b k = (k.0, k.1 ++ b, ap (λ (t : List ℕ). t ++ b) k.2 ∙ append_assoc k.0 k.1 b, k.3)
 
 -- something is due at the end
 some_due : (b : ℕ) (bs : List ℕ) → is_due true (b ∷ bs) ≡ false → ⊥
-some_due b bs h = ?
+some_due b bs h = omega (arith, eqb-true (length (b ∷ bs)) 0 (not_false (length (b ∷ bs) == 0) h))
 
 -- what follows what is due is shorter
 pub shorter_behind : (over : Bool) (rest behind : List ℕ) (k : ℕ) (w w' : World) (text : List ℕ) → is_due over rest ≡ true → AnswersOne rest k w text (Some behind) w'
@@ -145,7 +153,7 @@ take_both most xs ys le =
     let same : most ≡ length xs + (most - length xs) = omega (arith, le) in
     ap (λ (n : ℕ). take n (xs ++ ys)) same ∙ take-append-add xs ys (most - length xs)
 
-take_none : (n : ℕ) → take n {A = ℕ} [] ≡ []
+take_none : (n : ℕ) → ◌≡◌ {A = List ℕ} (take n []) []
 take_none zero = refl
 take_none (suc n) = refl
 
@@ -172,9 +180,23 @@ stands_first bytes w taken r out none_read no_desk none_taken = (
   Consumes-nil r,
   sym none_taken,
   λ (o : false ≡ true). absurd cc,
-  λ p right. ([], subst (λ (v : World). Turns p false [] [] 1 [] bytes v 1) (sym no_desk)
-      (subst (λ (bs : List ℕ). Turns p false [] [] 1 [] bs [] 1) (sym none_read) (begun p false [] [] 1)), Appends-nil out),
+  λ p right. (
+    [],
+    subst (λ (v : World). Turns p false [] [] 1 [] bytes v 1) (sym no_desk)
+        (subst (λ (bs : List ℕ). Turns p false [] [] 1 [] bs [] 1) (sym none_read) (begun p false [] [] 1)),
+    Appends-nil out,
+  ),
 )
+
+-- the number of the next command is no more than the bytes that were taken
+pub within_later : (old new piece : List ℕ) (k taken taken' : ℕ) → new ≡ old ++ piece → taken' ≡ taken + length piece → k + length old ≤ taken + 1 → k + length new ≤ taken' + 1
+within_later old new piece k taken taken' e t le = omega (arith, ap length e, length-append old piece, t, le)
+
+-- less is left to be taken
+pub less_left : (over : Bool) (most taken taken' : ℕ) → (over ≡ false → (taken < taken') × (taken' < most)) → taken ≤ taken'
+    → (most - taken') + (if over then 0 else 1) < (most - taken) + 1
+less_left true most taken taken' more le = omega (arith, le)
+less_left false most taken taken' more le = omega (arith, more refl)
 
 -- how what was read goes on
 goes : (over : Bool) (r0 r1 : Option (List ℕ)) (read : List ℕ) (taken : ℕ) → Consumes r0 r1 read → length read ≡ taken → taken ≤ MOST_BYTES
@@ -231,6 +253,10 @@ module _ (p : Profile) (right : IsRight p) where
       let t = s.4 p right in
       let m = goes_on p over s.0 bytes c.0 w t.0 k t.1 c.1 in
       (s.0 ++ c.0, c.2, (t.0 ++ m.0, m.1, m.2, (t.0, m.0, refl, t.2)))
+
+  -- nothing was read
+  pub stands_before : (r w : Option (List ℕ)) → StepsAnsweredInPart p r w w
+  stands_before r w = stands_in_part false [] [] 1 0 r r w w (stands_first [] [] 0 r w refl refl refl) (omega arith)
 
   tells_in_part : (over : Bool) (read bytes more : List ℕ) (w : World) (k : ℕ) (w0 w1 w2 : Option (List ℕ)) (front text : List ℕ) → Turns p over read [] 1 front bytes w k
       → Follows over more → Appends w0 w1 front → Tells p over bytes w k text → AppendsFront w1 w2 text → AnswersInPart p (read ++ more) w0 w2

@@ -58,7 +58,7 @@ with_none : (o : Option (Step × List ℕ)) → with_more [] o ≡ o
 with_none None = refl
 with_none (Some q) = ap (λ (bs : List ℕ). Some (q.0, bs)) (append-nil q.1)
 
-nothing_due : (over : Bool) → is_due over [] ≡ true → ⊥
+pub nothing_due : (over : Bool) → is_due over [] ≡ true → ⊥
 nothing_due true h = cc
 nothing_due false h = cc
 

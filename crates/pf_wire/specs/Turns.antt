@@ -1,5 +1,5 @@
 -- How far the commands of some bytes were answered, when more bytes may follow them.
-use Rattle.std.specs.Prelude.{◌≡◌, ℕ, ◌+◌, ◌<◌, Bool, true, false, List, [], ◌++◌, length, Option, Some, None}
+use Rattle.std.specs.Prelude.{◌≡◌, ℕ, ◌+◌, ◌<◌, ◌≤◌, ◌⊎◌, Bool, true, false, List, [], ◌++◌, length, Option, Some, None}
 use Rattle.std.specs.Io.KnownBytes.{Appends, Consumes, IsAtEnd, Keeps}
 use Rattle.pf_fault.specs.declared.fault.OrNoMemory.{OrNoMemory}
 use Rattle.pf_fault.specs.declared.fault.OrNoMemory.TheVariants.{NoMemory, Fault}
@@ -66,7 +66,7 @@ TurnsLeave p (Fault (Write e)) over bytes v j w0 w1 n0 n1 = (n1 ≡ n0 + 1) × T
 -- a piece was taken; so many bytes of the input are taken then, and whether the input is over
 abbrev pub TakesPiece : (read_old read_new : Option (List ℕ)) → (bytes_old bytes_new : List ℕ) → (taken_old taken_new : ℕ) → Bool → Type 0
 TakesPiece r0 r1 b0 b1 t0 t1 over = (piece : List ℕ) × Consumes r0 r1 piece × (b1 ≡ b0 ++ piece) × (t1 ≡ t0 + length piece)
-    × (over ≡ true → IsAtEnd r1 ⊎ (t1 ≡ MOST_BYTES)) × (over ≡ false → (t0 < t1) × (t1 < MOST_BYTES))
+    × (over ≡ true → IsAtEnd r1 ⊎ (t1 ≡ MOST_BYTES)) × (over ≡ false → (t0 < t1) × (t1 < MOST_BYTES)) × (t1 ≤ MOST_BYTES)
 
 -- what a failed read leaves
 abbrev pub PieceLeaves : OrNoMemory StreamFault → (read_old read_new : Option (List ℕ)) → (reads_old reads_new : ℕ) → Type 0

@@ -14,7 +14,7 @@ ghost use Rattle.pf_wire.specs.Whole.{is_due};
 use crate::command::{Command, NoCommand, read_command};
 use crate::outcome::{Requester, perform, put_outcome};
 use crate::reply::put_code;
-use crate::stream::{Gathered, Input};
+use crate::stream::{Gathered, Input, ROOM};
 use crate::whole::is_due;
 use pf_book::Book;
 use pf_fault::{Code, NoMemory, OrNoMemory};
@@ -155,12 +155,14 @@ pub fn run_steps<R: Read, W: Write, L: Ledger, M: Ledger>(
         reader.old.failures.total reader.new.failures.total
         writer.old.failures.total writer.new.failures.total)) }
 {
-    let mut input = Input::new(alloc)?;
+    let mut room = vec![in alloc; 0u8; ROOM]?;
+    let piece = room.as_mut_slice();
+    let mut input = Input::new(alloc);
     let mut book = Book::new(alloc);
     let mut number: u64 = 1;
     let mut is_over = false;
     while !is_over {
-        is_over = input.take_piece(reader)?;
+        is_over = input.take_piece(reader, piece)?;
         if input.is_due(is_over) {
             let Some(left) = answer_due(alloc, &mut book, number, &input.bytes, is_over, writer)?
             else {

@@ -10,14 +10,14 @@ ghost use Rattle.pf_wire.specs.Whole.{is_due};
 use crate::cut::first_line;
 use crate::steps::MOST_BYTES;
 use crate::whole::is_due;
-use pf_fault::{NoMemory, OrNoMemory};
+use pf_fault::OrNoMemory;
 use pf_terms::{Counted, StreamFault};
 use std::alloc::Global;
 use std::io::{Read, Write};
 use std::sync::ledger::Ledger;
 
 /// The most bytes of a piece, and of what is gathered.
-const ROOM: usize = 65_536;
+pub(crate) const ROOM: usize = 65_536;
 
 /// What was taken of an input and isn't answered yet.
 #[derive(Drop)]
@@ -27,30 +27,31 @@ pub(crate) struct Input {
     pub taken: usize,
     /// No line ends among the bytes, which needn't be looked through again.
     is_open: bool,
-    piece: Vec<u8>,
     ghost open: { is_open ≡ true → (first_line bytes.items).is_ended ≡ false },
-    ghost room: { 0 < length piece.items },
 }
 
 impl Input {
     /// The input of which nothing was taken yet.
-    pub fn new(alloc: Global) -> Result<Input, NoMemory>
-        ensures { IfOk result (λ input. (input.bytes.items ≡ []) × (input.taken ≡ 0)) }
+    pub fn new(alloc: Global) -> Input
+        ensures bytes { result.bytes.items ≡ [] }
+        ensures taken { result.taken ≡ 0 }
     {
-        Ok(Input {
+        Input {
             bytes: Vec::new(alloc),
             taken: 0,
             is_open: true,
-            piece: vec![in alloc; 0u8; ROOM]?,
-        })
+        }
     }
 
-    /// Takes what the reader has at hand, of all that may be read; whether the input is over.
+    /// Takes what the reader has at hand, as far as there is room in the piece and no more than may be read; whether the
+    /// input is over.
     pub fn take_piece<R: Read, L: Ledger>(
         &mut self,
         reader: &mut Counted<R, L>,
+        piece: &mut [u8],
     ) -> Result<bool, OrNoMemory<StreamFault>>
-        requires { self.old.taken < MOST_BYTES }
+        requires more { self.old.taken < MOST_BYTES }
+        requires room { 0 < length piece.old }
         ensures piece { IfOk result (λ over. TakesPiece (R.remaining reader.old.inner) (R.remaining reader.new.inner)
             self.old.bytes.items self.new.bytes.items self.old.taken self.new.taken over) }
         ensures taken { (bytes : List ℕ) × (self.old.taken + length bytes ≤ MOST_BYTES)
@@ -59,10 +60,13 @@ impl Input {
         ensures fault { IfErr result (λ e. PieceLeaves e (R.remaining reader.old.inner) (R.remaining reader.new.inner)
             reader.old.failures.total reader.new.failures.total) }
     {
-        let want = (MOST_BYTES - self.taken).min(self.piece.len());
-        let n = reader.take_some(&mut self.piece[..want])?;
-        self.is_open = self.is_open && !first_line(&self.piece[..n]).is_ended;
-        self.bytes.extend_from_slice(&self.piece[..n])?;
+        let want = (MOST_BYTES - self.taken).min(piece.len());
+        let n = reader.take_some(&mut piece[..want])?;
+        let given = &piece[..n];
+        let is_open = self.is_open && !first_line(given).is_ended;
+        self.is_open = false;
+        self.bytes.extend_from_slice(given)?;
+        self.is_open = is_open;
         self.taken += n;
         Ok(n == 0 || self.taken == MOST_BYTES)
     }
@@ -82,8 +86,9 @@ impl Input {
         ensures bytes { self.new.bytes.items ≡ rest.items }
         ensures taken { self.new.taken ≡ self.old.taken }
     {
-        self.is_open = !first_line(&rest).is_ended;
+        self.is_open = false;
         self.bytes = rest;
+        self.is_open = !first_line(&self.bytes).is_ended;
     }
 }
 
@@ -111,6 +116,23 @@ impl Gathered {
         Ok(())
     }
 
+    /// Writes what was gathered, and then a text.
+    fn send_with<W: Write, M: Ledger>(
+        &mut self,
+        writer: &mut Counted<W, M>,
+        text: &[u8],
+    ) -> Result<(), StreamFault>
+        ensures sent { OnOk result (Appends (W.contents writer.old.inner) (W.contents writer.new.inner)
+            (self.old.text.items ++ text.now) × (self.new.text.items ≡ [])) }
+        ensures front { OnErr result (AppendsFront (W.contents writer.old.inner) (W.contents writer.new.inner)
+            (self.old.text.items ++ text.now)) }
+        ensures kept { OnOk result (writer.new.failures.total ≡ writer.old.failures.total) }
+        ensures counted { IfErr result (λ e. CountsWrite e writer.old.failures.total writer.new.failures.total) }
+    {
+        self.send(writer)?;
+        writer.put(text)
+    }
+
     /// Adds a text, and writes all where there is no room for it.
     pub fn add<W: Write, M: Ledger>(
         &mut self,
@@ -124,11 +146,12 @@ impl Gathered {
         ensures kept { OnOk result (writer.new.failures.total ≡ writer.old.failures.total) }
         ensures counted { IfErr result (λ e. CountsWrite e writer.old.failures.total writer.new.failures.total) }
     {
-        let fits = text.len() <= ROOM.saturating_sub(self.text.len());
-        if fits && self.text.extend_from_slice(text).is_ok() {
-            return Ok(());
+        if text.len() > ROOM.saturating_sub(self.text.len()) {
+            return self.send_with(writer, text);
         }
-        self.send(writer)?;
-        writer.put(text)
+        match self.text.extend_from_slice(text) {
+            Ok(()) => Ok(()),
+            Err(_) => self.send_with(writer, text),
+        }
     }
 }
