@@ -5,11 +5,11 @@ use Rattle.pf_fault.specs.declared.code.Code.{Code}
 use Rattle.pf_fault.specs.declared.memory.NoMemory.{NoMemory}
 use Rattle.pf_syntax.specs.Tree.{Program}
 use Rattle.pf_check.specs.Reads.{accepted, refused, Reads}
-use Rattle.pf_model.specs.Meaning.{Means}
-use Rattle.pf_model.specs.Desk as desk
-use Rattle.pf_model.specs.Desk.{Profile, Stored, Job, Desk, Reply, number, source, submitted}
-use Rattle.pf_model.specs.Reports.{report_of}
-use Rattle.pf_model.specs.declared.report.Report.{Report}
+use Rattle.pf_single.specs.Meaning.{Means}
+use Rattle.pf_single.specs.Desk as desk
+use Rattle.pf_single.specs.Desk.{Profile, Stored, Job, Desk, Reply, number, submitted}
+use Rattle.pf_single.specs.Reports.{report_of}
+use Rattle.pf_single.specs.declared.report.Report.{Report}
 use Rattle.pf_book.specs.Profile.{IsRight}
 
 module _ (p : Profile) (right : IsRight p) where

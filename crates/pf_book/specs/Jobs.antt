@@ -1,7 +1,7 @@
 -- What the fields of a job stand for, and what is true of them.
 use Rattle.std.specs.Prelude.{◌≡◌, Ok}
 use Rattle.pf_syntax.specs.Root.{root_of}
-use Rattle.pf_model.specs.Desk.{Job, job_from}
+use Rattle.pf_single.specs.Desk.{Job, job_from}
 use Rattle.pf_book.specs.declared.job.Job.TheInside.{Inside}
 
 abbrev pub job_in : Inside → Job

@@ -1,8 +1,8 @@
 -- Profiles that are right: they read sources as the language does, and jobs mean to them what they mean in it.
 use Rattle.std.specs.Prelude.{◌≡◌, ℕ, List}
 use Rattle.pf_check.specs.Reads.{Outcome, accepted, refused, Reads}
-use Rattle.pf_model.specs.Meaning.{Report, Means}
-use Rattle.pf_model.specs.Desk.{Reading, readable, faulty, Job, Profile}
+use Rattle.pf_single.specs.Meaning.{Report, Means}
+use Rattle.pf_single.specs.Desk.{Reading, readable, faulty, Job, Profile}
 
 -- what desks see of an outcome: a module without its name, or the number of a refusal without its place
 abbrev pub reading_from : Outcome → Reading

@@ -1,6 +1,6 @@
 -- Whose atoms reports speak of.
 use Rattle.std.specs.Prelude.{◌≡◌, ℕ, List, IfSome}
-use Rattle.pf_model.specs.Desk.{Trial, numbered}
+use Rattle.pf_single.specs.Desk.{Trial, numbered}
 use Rattle.pf_book.specs.declared.trial.State.{State}
 use Rattle.pf_book.specs.declared.trial.State.TheVariants.{Queued, Done}
 

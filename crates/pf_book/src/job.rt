@@ -1,16 +1,16 @@
 //! A run that was ordered.
 
 ghost use Rattle.std.specs.Prelude.{◌≡◌, Ok, IfOk, MatchResult};
-ghost use Rattle.pf_model.specs.Meaning.{Means};
-ghost use Rattle.pf_model.specs.Reports.{report_of};
+ghost use Rattle.pf_single.specs.Meaning.{Means};
+ghost use Rattle.pf_single.specs.Reports.{report_of};
 ghost use Rattle.pf_book.specs.Orders.{job_asked, IsRefusedJob};
 
 use crate::call::Order;
 use crate::numbers::numbered;
 use crate::refusal::Refusal;
 use pf_fault::OrNoMemory;
-use pf_model::limits::is_in_range;
-use pf_model::report::Report;
+use pf_single::limits::is_in_range;
+use pf_single::report::Report;
 use pf_stepper::run_one;
 use pf_store::Stored;
 use pf_syntax::{FunctionId, Module};
@@ -31,8 +31,8 @@ pub(crate) struct Job {
 }
 
 impl Model for Job {
-    ghost use Rattle.pf_model.specs.Desk as desk;
-    ghost use Rattle.pf_model.specs.DeskCode.{coded_job};
+    ghost use Rattle.pf_single.specs.Desk as desk;
+    ghost use Rattle.pf_single.specs.DeskCode.{coded_job};
 
     ghost Value = { desk.Job };
 

@@ -2,7 +2,7 @@
 
 ghost use Rattle.std.specs.Prelude.{◌≡◌, MatchResult};
 ghost use Rattle.std.specs.Option.{option_copied};
-ghost use Rattle.pf_model.specs.Desk as desk;
+ghost use Rattle.pf_single.specs.Desk as desk;
 ghost use Rattle.pf_book.specs.View.{code_of};
 ghost use Rattle.pf_book.specs.Queued.{queued_job};
 
@@ -27,8 +27,8 @@ pub(crate) struct Trial {
 }
 
 impl Model for Trial {
-    ghost use Rattle.pf_model.specs.Desk as desk;
-    ghost use Rattle.pf_model.specs.DeskCode.{coded_trial};
+    ghost use Rattle.pf_single.specs.Desk as desk;
+    ghost use Rattle.pf_single.specs.DeskCode.{coded_trial};
 
     ghost Value = { desk.Trial };
 

@@ -6,9 +6,9 @@ use Rattle.pf_fault.specs.declared.code.Code.{Code}
 use Rattle.pf_fault.specs.declared.code.Code.TheVariants as table
 use Rattle.pf_terms.specs.Atoms.{name_of}
 use Rattle.pf_syntax.specs.Module.{Checked}
-use Rattle.pf_model.specs.Meaning.{Means, Report}
+use Rattle.pf_single.specs.Meaning.{Means, Report}
 use Rattle.pf_syntax.specs.Root.{root_of}
-use Rattle.pf_model.specs.Text.{line, report_text, returns_holds}
+use Rattle.pf_single.specs.Text.{line, report_text, returns_holds}
 use Rattle.pf_check.specs.Reads.{Reads, refused, accepted_as}
 use Rattle.pf_command.specs.Words.{Request}
 use Rattle.pf_command.specs.Answers.{Answers, may_be_asked, run_status, source_refused, no_root, out_of_bounds, reported}

@@ -12,9 +12,9 @@ use Rattle.pf_terms.specs.declared.stream.StreamFault.{StreamFault}
 use Rattle.pf_terms.specs.declared.stream.StreamFault.TheVariants.{Read, Write}
 use Rattle.pf_syntax.specs.Tree.{Program}
 use Rattle.pf_syntax.specs.Root.{root_of}
-use Rattle.pf_model.specs.Limits.{is_in_range}
-use Rattle.pf_model.specs.Meaning.{Means, Report}
-use Rattle.pf_model.specs.Text.{line, report_text, returns_holds}
+use Rattle.pf_single.specs.Limits.{is_in_range}
+use Rattle.pf_single.specs.Meaning.{Means, Report}
+use Rattle.pf_single.specs.Text.{line, report_text, returns_holds}
 use Rattle.pf_check.specs.Reads.{Reads, accepted, refused}
 use Rattle.pf_command.specs.Words.{Request}
 use Rattle.pf_command.specs.declared.answer.Answer.{Answer}

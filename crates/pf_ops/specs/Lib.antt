@@ -1,3 +1,5 @@
 pub mod Arithmetic
 pub mod Reasons
 pub mod Results
+pub mod Operations
+pub mod Guards

@@ -4,9 +4,9 @@ use Rattle.pf_fault.specs.declared.code.Code.{Code}
 use Rattle.pf_check.specs.Reads.{Outcome, accepted, refused, Reads, SameOutcome}
 use Rattle.pf_check.proofs.AnyOutcome.{any_outcome}
 use Rattle.pf_check.proofs.Same.{same_outcome}
-use Rattle.pf_model.specs.Meaning.{Means, Report}
-use Rattle.pf_model.specs.Desk.{faulty, Job}
-use Rattle.pf_model.proofs.Meanings.{one_meaning}
+use Rattle.pf_single.specs.Meaning.{Means, Report}
+use Rattle.pf_single.specs.Desk.{faulty, Job}
+use Rattle.pf_single.proofs.Meanings.{one_meaning}
 use Rattle.pf_book.specs.Profile.{reading_from, IsRight}
 use Rattle.pf_profile.specs.Profile.{profile}
 

@@ -1,7 +1,7 @@
 -- The profile of the language: what a source is read as, and what a job means.
 use Rattle.pf_check.proofs.AnyOutcome.{any_outcome}
-use Rattle.pf_model.specs.Desk.{Profile}
-use Rattle.pf_model.proofs.Meanings.{one_meaning}
+use Rattle.pf_single.specs.Desk.{Profile}
+use Rattle.pf_single.proofs.Meanings.{one_meaning}
 use Rattle.pf_book.specs.Profile.{reading_from}
 
 -- a source is read as the rules of reading say, and a job means the one report that its module means

@@ -3,8 +3,8 @@ use Rattle.std.proofs.Common.{◌≡◌, ℕ, zero, suc, ◌-◌, Bool, true, fa
 use Rattle.std.specs.Prelude.{slice_get}
 use Rattle.pf_terms.specs.Value.{Value, Values, tuple, list, none, more, same}
 use Rattle.pf_syntax.specs.Pattern.{Pattern, Patterns, any, new, slot, known, tuple_of, cons_of, never, no_patterns, pattern}
-use Rattle.pf_model.specs.Fit.{Scope, kept_if, fit_bound, and_then, fit, fit_all}
-use Rattle.pf_model.specs.Substitution.{known_or_slot, sub_pattern, sub_patterns}
+use Rattle.pf_single.specs.Fit.{Scope, kept_if, fit_bound, and_then, fit, fit_all}
+use Rattle.pf_single.specs.Substitution.{known_or_slot, sub_pattern, sub_patterns}
 
 module _ (e : Scope) where
   kept_from : (b : Bool) (f : Scope) → kept_if b (e ++ f) ≡ option_map (λ g. e ++ g) (kept_if b f)

@@ -8,12 +8,12 @@ use Rattle.pf_terms.specs.Term.{value_of}
 use Rattle.pf_fault.specs.declared.memory.NoMemory.{NoMemory}
 use Rattle.pf_terms.specs.declared.term.Term.{Term}
 use Rattle.pf_syntax.specs.Tree.{Tree, lit, call, no_trees, Program}
-use Rattle.pf_model.specs.Contraction.{Change, Becomes, Raises}
-use Rattle.pf_model.specs.Place.{Frame, after, Process, Running, Ending, Ended, returned, failed, Steps}
-use Rattle.pf_model.specs.Meaning.{IsEnabled, Label, ends, cut, Turn, stop_running, stop_ending, finish, give_up, go, only_turn, Run, Means, Report as Meant, outcome_of, limit, finished, ended}
-use Rattle.pf_model.proofs.Meanings.{run_of_turn}
-use Rattle.pf_model.specs.Reports.{of_one_turn, report_of}
-use Rattle.pf_model.specs.declared.report.Report.{Report}
+use Rattle.pf_single.specs.Contraction.{Change, Becomes, Raises}
+use Rattle.pf_single.specs.Place.{Frame, after, Process, Running, Ending, Ended, returned, failed, Steps}
+use Rattle.pf_single.specs.Meaning.{IsEnabled, Label, ends, cut, Turn, stop_running, stop_ending, finish, give_up, go, only_turn, Run, Means, Report as Meant, outcome_of, limit, finished, ended}
+use Rattle.pf_single.proofs.Meanings.{run_of_turn}
+use Rattle.pf_single.specs.Reports.{of_one_turn, report_of}
+use Rattle.pf_single.specs.declared.report.Report.{Report}
 use Rattle.pf_stepper.specs.MachineView.{MachineView, at_call}
 use Rattle.pf_stepper.specs.Moves.{Stepped, with_process}
 use Rattle.pf_stepper.specs.MicroSteps.{Contracts}

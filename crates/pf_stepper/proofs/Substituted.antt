@@ -3,8 +3,8 @@ use Rattle.std.proofs.Common.{◌≡◌, ℕ, zero, suc, ◌-◌, [], ◌∷◌,
 use Rattle.std.specs.Prelude.{slice_get}
 use Rattle.pf_syntax.specs.Pattern.{Pattern, Patterns, any, new, slot, known, tuple_of, cons_of, never, no_patterns, pattern}
 use Rattle.pf_syntax.specs.Tree.{Tree, Trees, Clauses, Guard, lit, var, tuple, cons, op, neg, and_also, or_else, call, builtin, match, bind, case, if_expression, receive, send, no_trees, tree, no_clauses, clause, no_alternatives, alternative}
-use Rattle.pf_model.specs.Fit.{Scope}
-use Rattle.pf_model.specs.Substitution.{value_or_var, known_or_slot, sub_pattern, sub_patterns, sub, sub_trees, sub_clauses, sub_guard}
+use Rattle.pf_single.specs.Fit.{Scope}
+use Rattle.pf_single.specs.Substitution.{value_or_var, known_or_slot, sub_pattern, sub_patterns, sub, sub_trees, sub_clauses, sub_guard}
 
 var_twice : (e f : Scope) (x : ℕ) → sub f (value_or_var (slice_get e x) (x - length e)) ≡ value_or_var (slice_get (e ++ f) x) (x - length (e ++ f))
 var_twice [] f x = let z : x - 0 ≡ x = omega arith in ap (λ n. sub f (var n)) z

@@ -1,8 +1,8 @@
 -- What a fit leaves on the stack of slots.
 use Rattle.std.specs.Prelude.{◌≡◌, ℕ, Bool, List, ◌++◌, drop, Option}
 use Rattle.pf_terms.specs.declared.term.Term.{Term}
-use Rattle.pf_model.specs.Fit.{Scope}
-use Rattle.pf_model.specs.Scopes.{scope_if}
+use Rattle.pf_single.specs.Fit.{Scope}
+use Rattle.pf_single.specs.Scopes.{scope_if}
 use Rattle.pf_stepper.specs.View.{activation}
 
 -- slots came onto the stack; where the value fits, the activation above `base` then is what the fit means

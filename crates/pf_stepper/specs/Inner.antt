@@ -1,7 +1,7 @@
 -- What the fields of a machine stand for, and what is true of them.
 use Rattle.std.specs.Prelude.{Option, Some, None}
 use Rattle.pf_syntax.specs.Module.{Checked}
-use Rattle.pf_model.specs.Place.{Process}
+use Rattle.pf_single.specs.Place.{Process}
 use Rattle.pf_stepper.specs.MachineView.{MachineView}
 use Rattle.pf_stepper.specs.Advanced.{stack_process, IsSound}
 use Rattle.pf_stepper.specs.declared.frame.Focus.{Focus}

@@ -7,7 +7,7 @@ use Rattle.pf_terms.specs.Code.{coded_value}
 use Rattle.pf_syntax.specs.Tree.{Tree, call, no_trees, Program}
 use Rattle.pf_syntax.specs.Code.{coded_tree}
 use Rattle.pf_syntax.specs.Module.{coded_function}
-use Rattle.pf_model.specs.Place.{Process, Running, Ending, Ended, returned, failed, after_values}
+use Rattle.pf_single.specs.Place.{Process, Running, Ending, Ended, returned, failed, after_values}
 
 -- a machine: its pid, the functions that it runs, and its process, None once memory ran out
 pub record MachineView : Type 0 where

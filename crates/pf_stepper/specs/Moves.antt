@@ -2,7 +2,7 @@
 use Rattle.std.specs.Prelude.{◌≡◌, Option, Some, Ok, Err}
 use Rattle.pf_terms.specs.Term.{value_of}
 use Rattle.pf_syntax.specs.Tree.{Tree, lit}
-use Rattle.pf_model.specs.Place.{Process, Running, Ending, Steps}
+use Rattle.pf_single.specs.Place.{Process, Running, Ending, Steps}
 use Rattle.pf_stepper.specs.MachineView.{MachineView}
 use Rattle.pf_stepper.specs.declared.machine.Move.{Move}
 use Rattle.pf_stepper.specs.declared.machine.Move.TheVariants as v

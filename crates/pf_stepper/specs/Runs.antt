@@ -3,8 +3,8 @@ use Rattle.std.specs.Prelude.{◌≡◌, ℕ, ◌+◌, ◌-◌, Some}
 use Rattle.pf_terms.specs.Term.{value_of}
 use Rattle.pf_terms.specs.Fixed.{normal}
 use Rattle.pf_syntax.specs.Tree.{Program}
-use Rattle.pf_model.specs.Place.{Process, Ended, returned, failed}
-use Rattle.pf_model.specs.Meaning.{Label, Turn, ends, cut, IsEnabled}
+use Rattle.pf_single.specs.Place.{Process, Ended, returned, failed}
+use Rattle.pf_single.specs.Meaning.{Label, Turn, ends, cut, IsEnabled}
 use Rattle.pf_stepper.specs.MachineView.{MachineView}
 use Rattle.pf_stepper.specs.declared.run.Ran.{Ran}
 use Rattle.pf_stepper.specs.declared.run.Ran.TheVariants as r

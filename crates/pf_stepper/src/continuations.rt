@@ -1,7 +1,7 @@
 //! What each kind of frame does with the value that it waited for. The frame has been taken off the stack.
 
 ghost use Rattle.std.specs.Prelude.{◌≡◌, IfOk};
-ghost use Rattle.pf_model.specs.Contraction.{change_of_result};
+ghost use Rattle.pf_single.specs.Contraction.{change_of_result};
 ghost use Rattle.pf_ops.specs.Results.{result_of};
 ghost use Rattle.pf_stepper.specs.MicroSteps.{Gave, Holds, IsOutcome};
 ghost use Rattle.pf_stepper.specs.declared.frame.Kind.TheVariants as kind;

@@ -6,7 +6,7 @@ ghost use Rattle.pf_terms.specs.Term.{elements_of, value_of, values_of};
 ghost use Rattle.pf_syntax.specs.Pattern.{cons_of, tuple_of};
 ghost use Rattle.pf_syntax.specs.Module.{pattern_at};
 ghost use Rattle.pf_syntax.specs.Over.{patterns_at};
-ghost use Rattle.pf_model.specs.Fit as spec;
+ghost use Rattle.pf_single.specs.Fit as spec;
 ghost use Rattle.pf_stepper.specs.Fitted.{Fitted};
 
 use crate::lookups::fits_literal;

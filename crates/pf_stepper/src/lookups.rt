@@ -6,7 +6,7 @@ ghost use Rattle.pf_terms.specs.Term.{value_of};
 ghost use Rattle.pf_syntax.specs.Module.{literal_at, tree_at};
 ghost use Rattle.pf_syntax.specs.Over.{clauses_over, guard_over, part_over, parts_over, patterns_at};
 ghost use Rattle.pf_syntax.specs.Operators.{operator_of};
-ghost use Rattle.pf_model.specs.Contraction as spec;
+ghost use Rattle.pf_single.specs.Contraction as spec;
 ghost use Rattle.pf_stepper.specs.Lookups.{arguments_in, clauses_in, operator_in, patterns_in, rest_in, right_in};
 
 use pf_syntax::{Clause, Guard, LiteralId, Module, Node, NodeId, Operator, Part, PatternId};

@@ -2,13 +2,13 @@
 
 ghost use Rattle.std.specs.Prelude.{◌≡◌, ◌<◌, IfOk};
 ghost use Rattle.pf_syntax.specs.Tree.{call, no_trees};
-ghost use Rattle.pf_model.specs.Meaning.{Means};
-ghost use Rattle.pf_model.specs.Place.{Running as runs};
-ghost use Rattle.pf_model.specs.Reports.{label_of, of_one_turn, outcome_of, report_of};
+ghost use Rattle.pf_single.specs.Meaning.{Means};
+ghost use Rattle.pf_single.specs.Place.{Running as runs};
+ghost use Rattle.pf_single.specs.Reports.{label_of, of_one_turn, outcome_of, report_of};
 ghost use Rattle.pf_stepper.specs.Runs.{IsRun};
 
 use crate::machine::{Machine, Move};
-use pf_model::report::{Actor, Event, Label, Outcome, Report};
+use pf_single::report::{Actor, Event, Label, Outcome, Report};
 use pf_syntax::{FunctionId, Module};
 use pf_terms::{AtomId, NoMemory, Term, copy};
 use std::alloc::Global;

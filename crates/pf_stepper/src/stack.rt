@@ -3,8 +3,8 @@
 ghost use Rattle.std.specs.Prelude.{◌≡◌, ◌∷◌, [], ◌++◌, drop, length, option_map, slice_get, take, IfOk, OnOk};
 ghost use Rattle.pf_terms.specs.Term.{value_of};
 ghost use Rattle.pf_syntax.specs.Pattern.{slot as variable};
-ghost use Rattle.pf_model.specs.Fit.{fit};
-ghost use Rattle.pf_model.specs.Scopes.{scope_if};
+ghost use Rattle.pf_single.specs.Fit.{fit};
+ghost use Rattle.pf_single.specs.Scopes.{scope_if};
 ghost use Rattle.pf_stepper.specs.Lookups.{IsImmediate, value_at};
 ghost use Rattle.pf_stepper.specs.View.{activation};
 ghost use Rattle.pf_stepper.specs.Sound.{frame_for, top_end};

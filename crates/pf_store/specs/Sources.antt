@@ -3,7 +3,7 @@ use Rattle.std.specs.Prelude.{ℕ, List}
 use Rattle.std.specs.Str.{bytes_eq}
 use Rattle.indexmap.specs.IndexSet.{insert_key}
 use Rattle.pf_check.specs.Reads.{accepted, Reads}
-use Rattle.pf_model.specs.Desk.{Stored}
+use Rattle.pf_single.specs.Desk.{Stored}
 
 -- a source is read as a module, under some name
 abbrev pub IsReadAs : List ℕ → Stored → Type 0

@@ -23,8 +23,8 @@ pub struct Stored {
 impl Model for Stored {
     ghost use Rattle.std.specs.Arc.{arc_value};
     ghost use Rattle.pf_check.specs.Reads.{Reads, accepted_as};
-    ghost use Rattle.pf_model.specs.Desk as desk;
-    ghost use Rattle.pf_model.specs.DeskCode.{coded_stored};
+    ghost use Rattle.pf_single.specs.Desk as desk;
+    ghost use Rattle.pf_single.specs.DeskCode.{coded_stored};
 
     ghost Value = { desk.Stored };
 

@@ -3,12 +3,12 @@
 ghost use Rattle.std.specs.Prelude.{◌≡◌, ◌++◌, OnOk, codes, flat_map};
 ghost use Rattle.std.specs.Fmt.{decimal};
 ghost use Rattle.pf_terms.specs.Atoms.{name_of};
-ghost use Rattle.pf_model.specs.Reports.{actor_of, event_of, label_of, outcome_of, report_of};
-ghost use Rattle.pf_model.specs.Text.{actor_text, event_text, label_text, line, outcome_text, property_text, report_text, returns_holds};
+ghost use Rattle.pf_single.specs.Reports.{actor_of, event_of, label_of, outcome_of, report_of};
+ghost use Rattle.pf_single.specs.Text.{actor_text, event_text, label_text, line, outcome_text, property_text, report_text, returns_holds};
 
 use crate::terms::{put_pid, put_term};
 use crate::text::{put, put_byte, put_number};
-use pf_model::report::{Actor, Event, Label, Outcome, Report};
+use pf_single::report::{Actor, Event, Label, Outcome, Report};
 use pf_terms::{AtomTable, NoMemory};
 use std::alloc::Global;
 

@@ -5,7 +5,7 @@ ghost use Rattle.std.specs.Fmt.{decimal};
 ghost use Rattle.pf_terms.specs.Term.{elements_of, value_of, values_of};
 ghost use Rattle.pf_terms.specs.Atoms.{name_of};
 ghost use Rattle.pf_terms.specs.Value.{list, ref, tuple};
-ghost use Rattle.pf_model.specs.Text.{pid_text, rest_text, value_text};
+ghost use Rattle.pf_single.specs.Text.{pid_text, rest_text, value_text};
 
 use crate::names::put_atom;
 use crate::text::{put, put_number, put_signed};

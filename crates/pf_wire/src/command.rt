@@ -2,10 +2,10 @@
 
 ghost use Rattle.std.specs.Prelude.{◌≡◌, Err, None, Some, true, IfOk};
 ghost use Rattle.std.specs.Option.{option_map};
-ghost use Rattle.pf_fault.specs.declared.fault.OrNoMemory.TheVariants.{Fault};
-ghost use Rattle.pf_model.specs.Desk.{submit};
-ghost use Rattle.pf_model.specs.World.{client};
+ghost use Rattle.pf_single.specs.Desk.{submit};
+ghost use Rattle.pf_single.specs.World.{client};
 ghost use Rattle.pf_wire.specs.Commands.{command_at, with_source};
+ghost use Rattle.pf_wire.specs.Faults.{no_command};
 ghost use Rattle.pf_wire.specs.View.{command_seen};
 
 use crate::cut::first_line;
@@ -66,7 +66,7 @@ fn split_source(bytes: &[u8], size: usize) -> Option<(&[u8], &[u8])>
 /// The command that some bytes begin with, and what follows it.
 pub fn read_command(alloc: Global, bytes: &[u8]) -> Result<(Command, &[u8]), LineFault>
     ensures command { IfOk result (λ r. command_at bytes.now ≡ Some (command_seen r.0, r.1.now)) }
-    ensures none { result ≡ Err (Fault NoCommand) → command_at bytes.now ≡ None }
+    ensures none { result ≡ Err no_command → command_at bytes.now ≡ None }
 {
     let line = first_line(bytes);
     match read_line(alloc, line.text)? {

@@ -1,7 +1,7 @@
 use Rattle.std.proofs.Common.{◌≡◌}
 use Rattle.pf_terms.specs.Atoms.{name_of}
-use Rattle.pf_model.specs.Reports.{report_of}
-use Rattle.pf_model.specs.Text.{report_text}
+use Rattle.pf_single.specs.Reports.{report_of}
+use Rattle.pf_single.specs.Text.{report_text}
 use Rattle.pf_command.specs.Words.{request}
 use Rattle.pf_command.proofs.Rows.{row_reported}
 use Rattle.pf_command.proofs.answer.report_run.Goals as goal

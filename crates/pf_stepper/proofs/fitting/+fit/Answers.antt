@@ -1,8 +1,8 @@
 use Rattle.std.proofs.Common.{◌≡◌, ◌≤◌, List, [], ◌∷◌, ◌++◌, length, drop, refl, ap, None, arith}
 use Rattle.pf_terms.specs.Term.{values_of}
 use Rattle.pf_terms.specs.declared.term.Term.{Term}
-use Rattle.pf_model.specs.Fit.{Scope, fit_all}
-use Rattle.pf_model.specs.Scopes.{scope_of}
+use Rattle.pf_single.specs.Fit.{Scope, fit_all}
+use Rattle.pf_single.specs.Scopes.{scope_of}
 use Rattle.pf_syntax.specs.declared.node.PatternId.{PatternId}
 use Rattle.pf_syntax.specs.Module.{Tables}
 use Rattle.pf_syntax.specs.Over.{patterns_at}

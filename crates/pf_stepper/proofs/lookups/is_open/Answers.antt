@@ -1,5 +1,5 @@
 use Rattle.std.proofs.Common.{◌∙◌, ap, arith}
-use Rattle.pf_model.specs.Contraction.{is_open}
+use Rattle.pf_single.specs.Contraction.{is_open}
 use Rattle.pf_syntax.specs.Over.{guard_from}
 use Rattle.pf_stepper.proofs.Parts.{open_one, open_more}
 use Rattle.pf_stepper.proofs.lookups.is_open.Goals as goal

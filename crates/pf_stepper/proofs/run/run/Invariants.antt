@@ -1,6 +1,6 @@
 use Rattle.std.proofs.Common.{◌-◌, ◌≤◌}
 use Rattle.pf_syntax.specs.Tree.{call, no_trees}
-use Rattle.pf_model.specs.Place.{Running}
+use Rattle.pf_single.specs.Place.{Running}
 use Rattle.pf_stepper.specs.Runs.{SoFar}
 use Rattle.pf_stepper.proofs.run.run.Given as goal
 

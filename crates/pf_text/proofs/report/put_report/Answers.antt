@@ -3,9 +3,9 @@ use Rattle.std.specs.Prelude.{Bool}
 use Rattle.std.proofs.lemmas.Result.{on_ok_weaker}
 use Rattle.std.proofs.lemmas.List.Folds.{flat_map-map}
 use Rattle.pf_terms.specs.Atoms.{name_of}
-use Rattle.pf_model.specs.Meaning.{Event}
-use Rattle.pf_model.specs.Reports.{event_of}
-use Rattle.pf_model.specs.Text.{line, event_text, property_text}
+use Rattle.pf_single.specs.Meaning.{Event}
+use Rattle.pf_single.specs.Reports.{event_of}
+use Rattle.pf_single.specs.Text.{line, event_text, property_text}
 use Rattle.pf_text.proofs.report.put_report.Goals as goal
 
 -- four pieces in turn are one text behind what was there

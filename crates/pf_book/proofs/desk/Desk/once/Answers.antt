@@ -1,14 +1,14 @@
 use Rattle.std.proofs.Common.{◌≡◌, ℕ, List, [], ◌∷◌, ◌++◌, map, Some, refl, sym, ap, ◌∙◌}
 use Rattle.std.proofs.lemmas.List.{map_push}
-use Rattle.pf_model.specs.Desk.{Desk, Job, Trial, claimed, filed, once, worker_step}
-use Rattle.pf_model.specs.Meaning.{Report, Means}
+use Rattle.pf_single.specs.Desk.{Desk, Job, Trial, claimed, filed, once, worker_step}
+use Rattle.pf_single.specs.Meaning.{Report, Means}
 use Rattle.pf_book.specs.Profile.{ForRight}
 use Rattle.pf_book.specs.View.{entry_seen}
 use Rattle.pf_book.specs.Queued.{job_at}
 use Rattle.pf_book.specs.Kept.{desk_in}
 use Rattle.pf_book.specs.declared.entry.Entry.{Entry}
 use Rattle.pf_book.specs.declared.entry.Entry.TheVariants.{Claimed, Filed}
-use Rattle.pf_model.proofs.Histories.{legal_work}
+use Rattle.pf_single.proofs.Histories.{legal_work}
 use Rattle.pf_book.proofs.Filed.{once_is, once_sums}
 use Rattle.pf_book.proofs.desk.Desk.once.Goals as goal
 

@@ -1,5 +1,5 @@
 use Rattle.std.proofs.Common.{rules, ◌≡◌, ℕ, ◌+◌, List, [], ◌∷◌, ◌++◌, length, refl, ap, ◌∙◌, subst}
-use Rattle.pf_model.specs.Desk as desk
+use Rattle.pf_single.specs.Desk as desk
 use Rattle.pf_fault.specs.declared.fault.OrNoMemory.TheVariants.{Fault}
 use Rattle.pf_check.specs.Reads.{IsRefusalOf}
 use Rattle.pf_book.specs.declared.refusal.Refusal.TheVariants as refusal

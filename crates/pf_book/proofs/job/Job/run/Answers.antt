@@ -1,5 +1,5 @@
 use Rattle.std.proofs.Common.{ap, ◌∙◌}
-use Rattle.pf_model.specs.Desk.{Job}
+use Rattle.pf_single.specs.Desk.{Job}
 use Rattle.pf_book.proofs.Profiles.{means_run}
 use Rattle.pf_book.proofs.job.Job.run.Goals as goal
 

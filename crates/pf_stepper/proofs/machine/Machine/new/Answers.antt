@@ -1,6 +1,6 @@
 use Rattle.std.proofs.Common.{ap, Some}
 use Rattle.pf_stepper.specs.MachineView.{MachineView}
-use Rattle.pf_model.specs.Place.{Process}
+use Rattle.pf_single.specs.Place.{Process}
 use Rattle.pf_stepper.proofs.Focused.{at_start}
 use Rattle.pf_stepper.proofs.machine.Machine.new.Goals as goal
 

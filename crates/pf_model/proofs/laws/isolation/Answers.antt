@@ -1,5 +1,0 @@
-use Rattle.pf_model.proofs.Isolated.{isolated}
-use Rattle.pf_model.proofs.laws.isolation.Goals as goal
-
-pub returns : goal.returns
-returns c = isolated
