@@ -95,26 +95,26 @@ fn answer_due<'a, W: Write, M: Ledger>(
     alloc: Global,
     book: &mut Book,
     first: u64,
-    bytes: &'a [u8],
+    input: &'a [u8],
     is_over: bool,
     writer: &mut Counted<W, M>,
 ) -> Result<Option<Left<'a>>, OrNoMemory<StreamFault>>
-    requires { first + length bytes.now < 2 ^ 63 }
+    requires { first + length input.now < 2 ^ 63 }
     ensures answered { IfOk result (λ left. MatchOption left
-        (ForRight (λ p. TellsAll p is_over bytes.now book.old first
+        (ForRight (λ p. TellsAll p is_over input.now book.old first
         (W.contents writer.old.inner) (W.contents writer.new.inner)))
-        (λ l. ForRight (λ p. TellsUpTo p is_over bytes.now book.old first l.rest.now book.new l.number
+        (λ l. ForRight (λ p. TellsUpTo p is_over input.now book.old first l.rest.now book.new l.number
         (W.contents writer.old.inner) (W.contents writer.new.inner))
-        × (is_due is_over l.rest.now ≡ false) × (l.number + length l.rest.now ≤ first + length bytes.now))) }
+        × (is_due is_over l.rest.now ≡ false) × (l.number + length l.rest.now ≤ first + length input.now))) }
     ensures kept { OnOk result (writer.new.failures.total ≡ writer.old.failures.total) }
-    ensures fault { IfErr result (λ e. ForRight (λ p. TurnsLeave p e is_over bytes.now book.old first
+    ensures fault { IfErr result (λ e. ForRight (λ p. TurnsLeave p e is_over input.now book.old first
         (W.contents writer.old.inner) (W.contents writer.new.inner)
         writer.old.failures.total writer.new.failures.total)) }
 {
     let mut gathered = Gathered {
         text: Vec::new(alloc),
     };
-    let mut rest = bytes;
+    let mut rest = input;
     let mut number = first;
     while is_due(rest, is_over) {
         let answered = match answer_front(alloc, book, rest, number) {

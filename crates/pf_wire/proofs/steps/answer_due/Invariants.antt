@@ -8,10 +8,10 @@ abbrev pub invariant-loop-alloc : goal.invariant-loop-alloc
 invariant-loop-alloc g l =
     let contents = g.W.Write.contents in
     record {
-      so_far : ForRight (λ p. AtHand p l.is_over l.bytes l.fn.book l.first l.gathered.text.items l.rest l.book l.number
+      so_far : ForRight (λ p. AtHand p l.is_over l.input l.fn.book l.first l.gathered.text.items l.rest l.book l.number
           (contents l.fn.writer.inner) (contents l.writer.inner));
       same : l.writer.failures.total ≡ l.fn.writer.failures.total;
-      within : l.number + length l.rest ≤ l.first + length l.bytes;
+      within : l.number + length l.rest ≤ l.first + length l.input;
     }
 
 abbrev pub decreases-loop-alloc : goal.decreases-loop-alloc
