@@ -1,0 +1,8 @@
+//! What a module of the language means: the definitions of runs of many processes, and their laws.
+#![tactic(auto)]
+
+pub mod laws;
+pub mod limits;
+mod signal;
+
+pub use signal::Signal;
