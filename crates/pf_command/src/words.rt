@@ -108,7 +108,7 @@ fn run_command<'a>(alloc: Global) -> Result<Command<'a>, AllocError>
 {
     let about = "Runs a module of one process and reports each of its turns";
     let source =
-        "File of the module's source, at most 65,536 bytes; - is the standard input, as is no FILE";
+        "File of the module's source, at most 65,536 bytes; `-` is standard input [default: -]";
     let run = bare(alloc, "run", about)
         .arg(file(alloc, source))?
         .arg(root(alloc))?
@@ -121,9 +121,9 @@ fn steps_command<'a>(alloc: Global) -> Result<Command<'a>, AllocError>
     ensures app { IfOk result (λ c. app_of c ≡ steps_app) }
     ensures local { IfOk result (λ c. (out-Command c).has_globals ≡ false) }
 {
-    let about = "Carries out commands, one after another, and writes what each is answered";
+    let about = "Carries out commands, one after another, and answers each as it comes";
     let commands =
-        "File of the commands, at most 67,108,864 bytes; - is the standard input, as is no FILE";
+        "File of the commands, at most 67,108,864 bytes; `-` is standard input [default: -]";
     let steps = bare(alloc, "steps", about).arg(file(alloc, commands))?;
     Ok(steps)
 }

@@ -5,9 +5,11 @@ ghost use Rattle.std.specs.Prelude.{◌≡◌, ◌<◌};
 
 mod given;
 mod shown;
+mod stack;
 
 use crate::given::{Word, bytes_of, given_words, open};
 use crate::shown::{Shown, without_tip};
+use crate::stack::{STACK_BYTES, first_thread_has_stack};
 use clap::error::ErrorKind;
 use pf_command::{Words, read_words, run_source, status_of_kind};
 use pf_fault::{NoMemory, OrNoMemory};
@@ -21,9 +23,6 @@ use std::process::ExitCode;
 use std::sync::ledger::{Blank, Ledger};
 use std::thread::Builder;
 use std::{fmt, io};
-
-/// The stack of the thread that does all work: twice what the deepest source may take, whatever the system's own limit is.
-const STACK_BYTES: usize = 4 << 20;
 
 /// The status where something is refused, can't be read or written, or memory runs out.
 const REFUSED: u8 = 2;
@@ -187,8 +186,8 @@ fn obey<R: Print + Eprint + AllocGlobal, I: Read + Drop>(
     }
 }
 
-/// Reads the words and does what they ask for; what it gives is the status.
-fn work<R: Env + Print + Eprint + AllocGlobal, I: Read + Drop>(
+/// Reads the words and does what they ask for.
+fn try_work<R: Env + Print + Eprint + AllocGlobal, I: Read + Drop>(
     rt: &R,
     stdin: I,
 ) -> Result<u8, AllocError> {
@@ -205,13 +204,21 @@ fn work<R: Env + Print + Eprint + AllocGlobal, I: Read + Drop>(
     })
 }
 
+/// Does all work; what it gives is the status.
+fn work<R: Env + Print + Eprint + AllocGlobal, I: Read + Drop>(rt: &R, stdin: I) -> u8 {
+    match try_work(rt, stdin) {
+        Ok(status) => status,
+        Err(AllocError) => no_memory(rt),
+    }
+}
+
 fn main(rt: HostRuntime) -> ExitCode {
+    if first_thread_has_stack() {
+        return ExitCode::from(work(&rt, rt.stdin()));
+    }
     let worker = Builder::new()
         .stack_size(STACK_BYTES)
-        .spawn(&rt, move || match work(&rt, rt.stdin()) {
-            Ok(status) => status,
-            Err(AllocError) => no_memory(&rt),
-        });
+        .spawn(&rt, move || work(&rt, rt.stdin()));
     match worker {
         Ok(worker) => ExitCode::from(worker.join(&rt)),
         Err(error) => {
