@@ -13,10 +13,9 @@ use Rattle.pf_terms.specs.Streams.{AppendsFront, CountsWrite}
 use Rattle.pf_terms.proofs.Writes.{appends_both}
 use Rattle.pf_single.specs.Desk.{Profile}
 use Rattle.pf_single.specs.World.{World, Step, Answer, AnswersInTurn}
-use Rattle.pf_single.specs.Told.{outcome_text}
 use Rattle.pf_book.specs.Profile.{IsRight, ForRight}
 use Rattle.pf_wire.specs.Steps.{AnswersOne, AnswersInPart, AreRead, StepsAnswered, StepsAnsweredInPart, StepsLeaves, WholeAnswered, last_text}
-use Rattle.pf_wire.specs.Turns.{Follows, Turns, IsNoCommand, Tells, so_far, no_more, TellsUpTo, TellsAll, TellsInPart, TurnsLeave, TakesPiece, PieceLeaves}
+use Rattle.pf_wire.specs.Turns.{Follows, Turns, Tells, so_far, no_more, TellsUpTo, TellsAll, TellsInPart, TurnsLeave, TakesPiece, PieceLeaves}
 use Rattle.pf_wire.specs.Whole.{is_due, is_whole, WholeCommands, unfinished}
 use Rattle.pf_wire.specs.declared.steps.TheConstants.{MOST_BYTES}
 use Rattle.pf_wire.proofs.Shorter.{command_shorter}

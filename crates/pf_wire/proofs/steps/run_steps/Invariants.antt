@@ -1,4 +1,4 @@
-use Rattle.std.proofs.Common.{◌≡◌, ◌≤◌, ◌<◌, ◌+◌, ◌-◌, ℕ, Bool, true, false, length, if◌then◌else◌}
+use Rattle.std.proofs.Common.{◌≡◌, ◌≤◌, ◌<◌, ◌+◌, ◌-◌, false, length, if◌then◌else◌}
 use Rattle.pf_wire.specs.Whole.{is_due}
 use Rattle.pf_wire.specs.declared.steps.TheConstants.{MOST_BYTES}
 use Rattle.pf_wire.proofs.Leaving.{Stands}

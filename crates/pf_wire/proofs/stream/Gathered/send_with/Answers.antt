@@ -1,7 +1,6 @@
-use Rattle.std.proofs.Common.{◌≡◌, ◌++◌, ℕ, List, Option, Result, Ok, Err, refl, ap, ◌∙◌, append_assoc}
+use Rattle.std.proofs.Common.{Result, Ok, Err}
 use Rattle.std.specs.Prelude.{OnErr}
 use Rattle.std.proofs.lemmas.Result.{on_ok_weaker}
-use Rattle.pf_terms.specs.Streams.{AppendsFront}
 use Rattle.pf_terms.proofs.Writes.{appends_both}
 use Rattle.pf_wire.proofs.Leaving.{front_of_both, front_of_more}
 use Rattle.pf_wire.proofs.stream.Gathered.send_with.Goals as goal
