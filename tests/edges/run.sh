@@ -1,6 +1,6 @@
 #!/bin/sh
-# Runs the program at its edges: files and their names, words, streams that are closed, full or end, pipes with a client that waits
-# for each reply, and the deepest sources on half of the stack that the program takes.
+# Runs the program at its edges: files and their names, words, streams that are closed, full or end, a client on a pipe
+# that waits for each reply, the deepest sources on half of the stack that the program takes, and long inputs.
 #
 # Usage: run.sh [BINARY]; the program is that of the crate `pulsefarm` where none is named.
 set -u
@@ -29,7 +29,7 @@ run() {
   status=$?
 }
 
-# Checks that the run before ended with status $2, the output $3 and the errors $4, each with its line ends; $1 names it.
+# Checks that the run before ended with status $2, the output $3 and the errors $4, each with its line ends; $1 is its name.
 ended() {
   printf -- "$3" > wanted
   printf -- "$4" > wanted_errors
@@ -55,6 +55,8 @@ files() {
   ended 'run of a file' 0 "$report" ''
   run steps commands
   ended 'steps of a file' 0 'p0 usage 0 0 0 0 0\n' ''
+  run run "$top/tests/rows/run_quotient_by_zero/input" $asked
+  ended 'run of a file whose root does not return' 1 "$(cat "$top/tests/rows/run_quotient_by_zero/output")\n" ''
   odd=$(printf 'm\377\001.erl')
   cp m.erl "$odd"
   run run "$odd" $asked
@@ -74,26 +76,29 @@ files() {
   ended 'file that is named -' 2 'command 1 refused C1\n' ''
 }
 
+missing='No such file or directory (os error 2)\n'
+
 # shellcheck disable=SC2086
 files_that_are_not_read() {
   : > in
   run run missing.erl $asked
-  ended 'missing file' 2 '' 'pulsefarm: missing.erl: No such file or directory (os error 2)\n'
+  ended 'missing file' 2 '' "pulsefarm: missing.erl: $missing"
   run steps missing
-  ended 'missing file of steps' 2 '' 'pulsefarm: missing: No such file or directory (os error 2)\n'
+  ended 'missing file of steps' 2 '' "pulsefarm: missing: $missing"
   mkdir folder
   run run folder $asked
   ended 'folder' 2 '' 'pulsefarm: folder: Is a directory (os error 21)\n'
   run steps folder
   ended 'folder of steps' 2 '' 'pulsefarm: folder: Is a directory (os error 21)\n'
   run steps "$(printf 'a\nb\033\377\303\251')"
-  ended 'odd bytes in a name that is no text' 2 '' 'pulsefarm: a\\x0ab\\x1b\\xff\\xc3\\xa9: No such file or directory (os error 2)\n'
+  ended 'odd bytes in a name that is no text' 2 '' "pulsefarm: a\\\\x0ab\\\\x1b\\\\xff\\\\xc3\\\\xa9: $missing"
   run steps "$(printf 'a\nb\177\303\251')"
-  ended 'odd bytes in a name that is text' 2 '' 'pulsefarm: a\\x0ab\\x7f\303\251: No such file or directory (os error 2)\n'
+  ended 'odd bytes in a name that is text' 2 '' "pulsefarm: a\\\\x0ab\\\\x7f\\303\\251: $missing"
   run steps ''
-  ended 'empty name' 2 '' 'pulsefarm: : No such file or directory (os error 2)\n'
+  ended 'empty name' 2 '' "pulsefarm: : $missing"
   printf -- "$module" > secret.erl
   chmod 000 secret.erl
+  # No file is unreadable to root.
   if [ "$(id -u)" = 0 ]; then
     cp "$program" ./program
     setpriv --reuid=65534 --regid=65534 --clear-groups ./program run secret.erl $asked < in > out 2> err
@@ -110,19 +115,19 @@ files_that_are_not_read() {
 usage='\n\nUsage: pulsefarm run --root <F> --limit <N> --schedule <L> [FILE]\n'
 more="\nFor more information, try '--help'.\n"
 
+number='a number of steps from 1 to 100000, without leading zeros'
+numbers='`none`, or numbers from 0 to 4294967295 with commas between them'
+
 words() {
   : > in
   run run --root main --limit 007 --schedule none
-  ended 'leading zeros of a limit' 2 '' "error: invalid value '007' for '--limit <N>': it wants a number of steps from 1 to 100000, \
-without leading zeros$usage$more"
+  ended 'leading zeros of a limit' 2 '' "error: invalid value '007' for '--limit <N>': it wants $number$usage$more"
   run run --root main --limit 5 --schedule 1,,2
-  ended 'empty number of a schedule' 2 '' "error: invalid value '1,,2' for '--schedule <L>': it wants \`none\`, or numbers from 0 to \
-4294967295 with commas between them$usage$more"
+  ended 'empty number of a schedule' 2 '' "error: invalid value '1,,2' for '--schedule <L>': it wants $numbers$usage$more"
   run run --root main --limit -1 --schedule none
   ended 'negative limit' 2 '' "error: unexpected argument '-1' found$usage$more"
   run run --root main --limit=-1 --schedule none
-  ended 'negative limit in one word' 2 '' "error: invalid value '-1' for '--limit <N>': it wants a number of steps from 1 to 100000, \
-without leading zeros$usage$more"
+  ended 'negative limit in one word' 2 '' "error: invalid value '-1' for '--limit <N>': it wants $number$usage$more"
   run steps "$(printf -- '--\033[1m\377')"
   check 'odd bytes in a word' test "$status" = 2
   check 'odd bytes in a word' grep -qF -e '--\x1b[1m\xff' err
@@ -165,7 +170,7 @@ streams() {
   ended 'closed input' 2 '' "pulsefarm: the input can't be read: Bad file descriptor (os error 9)\n"
 }
 
-# Sends the text $2 on the pipe, and checks that the reply $3 comes while the pipe stays open; $1 names the command.
+# Sends the text $2 on the pipe, and checks that the reply $3 comes while the pipe stays open; $1 is its name.
 says() {
   printf -- "$2" >&3
   timeout 5 sh -c 'IFS= read -r line <&4 && printf "%s\n" "$line"' > out
@@ -186,6 +191,7 @@ client_that_waits() {
   mkfifo to from
   "$program" steps < to > from 2> err &
   worker=$!
+  trap '' PIPE
   exec 3> to 4< from
   says usage 'usage 1\n' 'p1 usage 0 0 0 0 0'
   waits 'a line without its end' 'usage '
@@ -202,6 +208,7 @@ client_that_waits() {
   exec 3>&-
   timeout 5 cat <&4 > out
   exec 4<&-
+  trap - PIPE
   wait "$worker"
   status=$?
   ended 'the last line, once the input has ended' 0 'p2 usage 0 0 0 0 1\n' ''
@@ -209,20 +216,27 @@ client_that_waits() {
 
 # Writes the nesting of $1 cases into `in`, no more than a source may have.
 nest() {
-  printf -- '-module(m).\n-export([main/0]).\nmain() -> %s1%s.\n' "$(repeated 'case 1 of 1 -> ' "$1")" "$(repeated ' end' "$1")" \
-    | head -c 65536 > in
+  {
+    printf -- '-module(m).\n-export([main/0]).\nmain() -> '
+    repeated 'case 1 of 1 -> ' "$1"
+    printf 1
+    repeated ' end' "$1"
+    printf '.\n'
+  } | head -c 65536 > in
 }
 
-# Runs the words from $2 on, on `in`, where the system gives so many KiB of stack, and a thread has half of what is asked for.
+# Runs the words from $2 on, on `in`, where the system gives $1 KiB of stack, and a thread gets half of what is asked for.
 run_on() {
-  kilobytes=$1
-  shift
-  (ulimit -s "$kilobytes"; STACK_TOLD=stack LD_PRELOAD=./halve.so exec timeout 60 "$program" "$@") < in > out 2> err
+  (
+    ulimit -s "$1"
+    shift
+    STACK_TOLD=stack LD_PRELOAD=./halve.so exec timeout 60 "$program" "$@"
+  ) < in > out 2> err
   status=$?
 }
 
-# The deepest source that is read, and the deepest that is refused: where the system gives enough stack, and where the program takes
-# a thread with a stack of its own, of which it gets half here.
+# The deepest source that is read, and deeper ones that are refused: where the system gives enough stack, and where the
+# program takes a thread with a stack of its own, of which it gets half here.
 # shellcheck disable=SC2086
 deep_sources() {
   cc -O2 -shared -fPIC -o halve.so "$edges/halve.c" -ldl || exit 1
