@@ -165,7 +165,8 @@ fn value<'a>(rows: &ArgMatches<'a>, name: &str) -> Option<&'a str>
 
 /// The file that the words name; `-` is the standard input.
 fn named_file<'a>(rows: &ArgMatches<'a>) -> Option<&'a str>
-    ensures { option_map (λ s. s.now) result ≡ file_named (first_of (codes "file") (rows_of (found_of rows.now))) }
+    ensures { option_map (λ s. s.now) result
+        ≡ file_named (first_of (codes "file") (rows_of (found_of rows.now))) }
 {
     match value(rows, "file") {
         Some(name) if name == "-" => None,
@@ -208,7 +209,8 @@ fn refuse_value(alloc: Global, option: &str, value: &str, wants: &str) -> Error
 /// The run that the values of the options ask for.
 fn run_words<'a>(alloc: Global, rows: &ArgMatches<'a>) -> Result<RunWords<'a>, Error>
     ensures ok { IfOk result (λ w. run_of (rows_of (found_of rows.now)) ≡ Some (request w)) }
-    ensures file { IfOk result (λ w. option_map (λ s. s.now) w.file ≡ file_named (first_of (codes "file") (rows_of (found_of rows.now)))) }
+    ensures file { IfOk result (λ w. option_map (λ s. s.now) w.file
+        ≡ file_named (first_of (codes "file") (rows_of (found_of rows.now)))) }
     ensures err { IfErr result (λ e. (kind_of e ≡ ErrorKind.OutOfMemory)
         ⊎ ((kind_of e ≡ ErrorKind.InvalidValue) × (run_of (rows_of (found_of rows.now)) ≡ None))) }
 {
@@ -251,7 +253,8 @@ fn entered<'m, 'a>(matches: &'m ArgMatches<'a>) -> Option<(&'a str, &'m ArgMatch
 /// What the command of this name asks for by the values of its options.
 fn command_words<'a>(alloc: Global, name: &str, rows: &ArgMatches<'a>) -> Result<Words<'a>, Error>
     ensures ok { IfOk result (λ w. of_command name.now (rows_of (found_of rows.now)) ≡ Some (wanted w)) }
-    ensures file { IfOk result (λ w. named_file w ≡ file_named (first_of (codes "file") (rows_of (found_of rows.now)))) }
+    ensures file { IfOk result (λ w. named_file w
+        ≡ file_named (first_of (codes "file") (rows_of (found_of rows.now)))) }
     ensures err { IfErr result (λ e. (kind_of e ≡ ErrorKind.OutOfMemory)
         ⊎ ((kind_of e ≡ ErrorKind.InvalidValue) × (of_command name.now (rows_of (found_of rows.now)) ≡ None))) }
 {

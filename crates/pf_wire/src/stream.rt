@@ -52,12 +52,14 @@ impl Input {
     ) -> Result<bool, OrNoMemory<StreamFault>>
         requires more { self.old.taken < MOST_BYTES }
         requires room { 0 < length piece.old }
-        ensures piece { IfOk result (λ over. TakesPiece (R.remaining reader.old.inner) (R.remaining reader.new.inner)
+        ensures piece { IfOk result (λ over. TakesPiece
+            (R.remaining reader.old.inner) (R.remaining reader.new.inner)
             self.old.bytes.items self.new.bytes.items self.old.taken self.new.taken over) }
         ensures taken { (bytes : List ℕ) × (self.old.taken + length bytes ≤ MOST_BYTES)
             × Consumes (R.remaining reader.old.inner) (R.remaining reader.new.inner) bytes }
         ensures kept { OnOk result (reader.new.failures.total ≡ reader.old.failures.total) }
-        ensures fault { IfErr result (λ e. PieceLeaves e (R.remaining reader.old.inner) (R.remaining reader.new.inner)
+        ensures fault { IfErr result (λ e. PieceLeaves e
+            (R.remaining reader.old.inner) (R.remaining reader.new.inner)
             reader.old.failures.total reader.new.failures.total) }
     {
         let want = (MOST_BYTES - self.taken).min(piece.len());
@@ -104,12 +106,13 @@ impl Gathered {
         &mut self,
         writer: &mut Counted<W, M>,
     ) -> Result<(), StreamFault>
-        ensures sent { OnOk result (Appends (W.contents writer.old.inner) (W.contents writer.new.inner) self.old.text.items
-            × (self.new.text.items ≡ [])) }
+        ensures sent { OnOk result (Appends (W.contents writer.old.inner) (W.contents writer.new.inner)
+            self.old.text.items × (self.new.text.items ≡ [])) }
         ensures front { OnErr result (AppendsFront (W.contents writer.old.inner) (W.contents writer.new.inner)
             self.old.text.items) }
         ensures kept { OnOk result (writer.new.failures.total ≡ writer.old.failures.total) }
-        ensures counted { IfErr result (λ e. CountsWrite e writer.old.failures.total writer.new.failures.total) }
+        ensures counted { IfErr result (λ e.
+            CountsWrite e writer.old.failures.total writer.new.failures.total) }
     {
         writer.put(&self.text)?;
         self.text.clear();
@@ -127,7 +130,8 @@ impl Gathered {
         ensures front { OnErr result (AppendsFront (W.contents writer.old.inner) (W.contents writer.new.inner)
             (self.old.text.items ++ text.now)) }
         ensures kept { OnOk result (writer.new.failures.total ≡ writer.old.failures.total) }
-        ensures counted { IfErr result (λ e. CountsWrite e writer.old.failures.total writer.new.failures.total) }
+        ensures counted { IfErr result (λ e.
+            CountsWrite e writer.old.failures.total writer.new.failures.total) }
     {
         self.send(writer)?;
         writer.put(text)
@@ -139,12 +143,14 @@ impl Gathered {
         writer: &mut Counted<W, M>,
         text: &[u8],
     ) -> Result<(), StreamFault>
-        ensures added { OnOk result ((out : List ℕ) × Appends (W.contents writer.old.inner) (W.contents writer.new.inner) out
+        ensures added { OnOk result ((out : List ℕ)
+            × Appends (W.contents writer.old.inner) (W.contents writer.new.inner) out
             × (out ++ self.new.text.items ≡ self.old.text.items ++ text.now)) }
         ensures front { OnErr result (AppendsFront (W.contents writer.old.inner) (W.contents writer.new.inner)
             (self.old.text.items ++ text.now)) }
         ensures kept { OnOk result (writer.new.failures.total ≡ writer.old.failures.total) }
-        ensures counted { IfErr result (λ e. CountsWrite e writer.old.failures.total writer.new.failures.total) }
+        ensures counted { IfErr result (λ e.
+            CountsWrite e writer.old.failures.total writer.new.failures.total) }
     {
         if text.len() > ROOM.saturating_sub(self.text.len()) {
             return self.send_with(writer, text);

@@ -78,14 +78,11 @@ impl fmt::Display for Source<'_> {
     fn fmt<W: fmt::Write>(&self, f: &mut fmt::Formatter<W>) -> fmt::Result {
         match self {
             Source::Stdin => f.write_str("the input can't be read"),
-            Source::File(text) => write!(
-                f,
-                "{}",
-                Shown {
-                    text,
-                    has_lines: false
-                }
-            ),
+            Source::File(text) => Shown {
+                text,
+                has_lines: false,
+            }
+            .fmt(f),
         }
     }
 }
@@ -123,12 +120,12 @@ fn not_written(rt: &impl Eprint, error: &io::Error) -> u8 {
 /// Prints the text of words that ask for no command: help and the version, or what is wrong with the words.
 fn no_command(rt: &(impl Print + Eprint + AllocGlobal), error: &clap::Error) -> u8 {
     let status = status_of_kind(error.kind());
-    let Ok(text) = format!(in rt.alloc(); "{error}") else {
-        return no_memory(rt);
-    };
     if error.kind() == ErrorKind::OutOfMemory {
         return no_memory(rt);
     }
+    let Ok(text) = format!(in rt.alloc(); "{error}") else {
+        return no_memory(rt);
+    };
     if error.use_stderr() {
         let (front, back) = without_tip(&text);
         for text in [front, back] {
