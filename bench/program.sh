@@ -8,7 +8,10 @@ mkdir -p "$room/crates/bench/src"
 cp "$top/HANDLES" "$room/HANDLES"
 cp "$top/bench/$1/main.rt.in" "$room/crates/bench/src/main.rt"
 cp "$top/bench/$1/crates" "$room/crates.txt"
-for crate in $(sed -n 's/^\(pf_[a-z]*\):.*/\1/p' "$room/crates.txt"); do
+# The crates of the repository that it stands on have their lines of the repository's own crates.txt.
+for crate in $(sed 's/^bench://' "$top/bench/$1/crates"); do
+  [ -d "$top/crates/$crate" ] || continue
+  sed -n "/^$crate\( [^:]*\)\{0,1\}:/p" "$top/crates.txt" >> "$room/crates.txt"
   cp -r "$top/crates/$crate" "$room/crates/$crate"
 done
 cd "$room/crates/bench"

@@ -5,7 +5,7 @@ use Rattle.clap.specs.Words.{Text, Row, Kinds, HasKind, IsAmong, fault_of, first
 use Rattle.clap.specs.declared.error.Error.{Error}
 use Rattle.clap.specs.declared.error.kind.ErrorKind.{ErrorKind}
 use Rattle.clap.specs.declared.error.kind.ErrorKind.TheVariants as kind
-use Rattle.pf_command.specs.Words.{IsFaultOf, pulsefarm, of_command, asked, unless_refused, wanted_of, file_of}
+use Rattle.pf_command.specs.Words.{IsFaultOf, pulsefarm, of_command, asked, unless_refused, wanted_of, file_named, file_of}
 
 refused : {T : Type 0} (kinds : Kinds) (k : ErrorKind) (r : Option T) → IsAmong k kinds → unless_refused kinds r ≡ None
 refused [] k r h = absurd h
@@ -31,9 +31,9 @@ pub words_wanted : (words : List Text) (name : Text) (rows : List Row) → fault
 unfolding wanted_of
 words_wanted words name rows k e = unrefused (fault_of pulsefarm words) (asked of_command (subcommand_of pulsefarm words)) k ∙ ap (asked of_command) e
 
-pub words_file : (words : List Text) (name : Text) (rows : List Row) → subcommand_of pulsefarm words ≡ Some (name, rows) → file_of words ≡ first_of (codes "file") rows
+pub words_file : (words : List Text) (name : Text) (rows : List Row) → subcommand_of pulsefarm words ≡ Some (name, rows) → file_of words ≡ file_named (first_of (codes "file") rows)
 unfolding file_of
-words_file words name rows e = ap (asked (λ (n : Text). first_of (codes "file"))) e
+words_file words name rows e = ap (asked (λ (n : Text) (rs : List Row). file_named (first_of (codes "file") rs))) e
 
 -- a value that is no number or no schedule, or no command
 pub values_refused : (words : List Text) (k : ErrorKind) → wanted_of words ≡ None → fault_of pulsefarm words ≡ [] → k ≡ kind.InvalidValue → IsFaultOf k words

@@ -80,9 +80,14 @@ unless_refused (k ∷ ks) r = None
 unfoldable pub wanted_of : List Text → Option Wanted
 wanted_of words = unless_refused (fault_of pulsefarm words) (asked of_command (subcommand_of pulsefarm words))
 
+-- the file that a word names; the word `-` names none
+abbrev pub file_named : Option Text → Option Text
+file_named None = None
+file_named (Some name) = if bytes_eq name (codes "-") then None else Some name
+
 -- the file of the source or of the steps; none where it is the standard input
 unfoldable pub file_of : List Text → Option Text
-file_of words = asked (λ name. first_of (codes "file")) (subcommand_of pulsefarm words)
+file_of words = asked (λ name rows. file_named (first_of (codes "file") rows)) (subcommand_of pulsefarm words)
 
 -- the request that the code's own stands for
 abbrev pub request : RunWords → Request

@@ -3,7 +3,7 @@
 ghost use Rattle.std.specs.Prelude.{◌≡◌, ◌⊎◌, IfOk, IfErr, map, true, false, Some, None, codes, option_map};
 ghost use Rattle.clap.specs.Words.{FailsBy, Shape, app_of, fault_of, subcommand_of, subcommand_rows_of, rule_of, new_app, kind_of, first_of, rows_of, found_of};
 ghost use Rattle.clap.specs.declared.builder.command.Command.TheViews.{out-Command};
-ghost use Rattle.pf_command.specs.Words.{IsFaultOf, file_of, file_rule, named_file, of_command, option_rule, pulsefarm, request, run_app, run_of, status_of_kind, steps_app, top_shape, wanted, wanted_of};
+ghost use Rattle.pf_command.specs.Words.{IsFaultOf, file_named, file_of, file_rule, named_file, of_command, option_rule, pulsefarm, request, run_app, run_of, status_of_kind, steps_app, top_shape, wanted, wanted_of};
 
 use clap::error::ErrorKind;
 use clap::{Arg, ArgMatches, Command, Error};
@@ -107,7 +107,8 @@ fn run_command<'a>(alloc: Global) -> Result<Command<'a>, AllocError>
     ensures local { IfOk result (λ c. (out-Command c).has_globals ≡ false) }
 {
     let about = "Runs a module of one process and reports each of its turns";
-    let source = "File of the module's source, at most 65,536 bytes [default: standard input]";
+    let source =
+        "File of the module's source, at most 65,536 bytes; `-` is standard input [default: -]";
     let run = bare(alloc, "run", about)
         .arg(file(alloc, source))?
         .arg(root(alloc))?
@@ -120,8 +121,9 @@ fn steps_command<'a>(alloc: Global) -> Result<Command<'a>, AllocError>
     ensures app { IfOk result (λ c. app_of c ≡ steps_app) }
     ensures local { IfOk result (λ c. (out-Command c).has_globals ≡ false) }
 {
-    let about = "Carries out commands, one after another, and writes what each is answered";
-    let commands = "File of the commands, at most 67,108,864 bytes [default: standard input]";
+    let about = "Carries out commands, one after another, and answers each as it comes";
+    let commands =
+        "File of the commands, at most 67,108,864 bytes; `-` is standard input [default: -]";
     let steps = bare(alloc, "steps", about).arg(file(alloc, commands))?;
     Ok(steps)
 }
@@ -161,6 +163,16 @@ fn value<'a>(rows: &ArgMatches<'a>, name: &str) -> Option<&'a str>
     rows.get_str(name)
 }
 
+/// The file that the words name; `-` is the standard input.
+fn named_file<'a>(rows: &ArgMatches<'a>) -> Option<&'a str>
+    ensures { option_map (λ s. s.now) result ≡ file_named (first_of (codes "file") (rows_of (found_of rows.now))) }
+{
+    match value(rows, "file") {
+        Some(name) if name == "-" => None,
+        file => file,
+    }
+}
+
 /// An error with its text.
 fn mistake(alloc: Global, text: &str) -> Error
     ensures { (kind_of result ≡ ErrorKind.OutOfMemory) ⊎ (kind_of result ≡ ErrorKind.InvalidValue) }
@@ -174,14 +186,33 @@ fn mistake(alloc: Global, text: &str) -> Error
     }
 }
 
+/// An error that names the value of an option of `run`, with the usage of that command.
+fn try_refuse(alloc: Global, option: &str, value: &str, wants: &str) -> Result<Error, AllocError>
+    ensures { IfOk result (λ e. kind_of e ≡ ErrorKind.InvalidValue) }
+{
+    let text = format!(in alloc; "invalid value '{value}' for '{option}': it wants {wants}")?;
+    run_command(alloc)?
+        .bin_name("pulsefarm run")?
+        .error(ErrorKind::InvalidValue, &text)
+}
+
+fn refuse_value(alloc: Global, option: &str, value: &str, wants: &str) -> Error
+    ensures { (kind_of result ≡ ErrorKind.OutOfMemory) ⊎ (kind_of result ≡ ErrorKind.InvalidValue) }
+{
+    match try_refuse(alloc, option, value, wants) {
+        Ok(error) => error,
+        Err(e) => Error::from(e),
+    }
+}
+
 /// The run that the values of the options ask for.
 fn run_words<'a>(alloc: Global, rows: &ArgMatches<'a>) -> Result<RunWords<'a>, Error>
     ensures ok { IfOk result (λ w. run_of (rows_of (found_of rows.now)) ≡ Some (request w)) }
-    ensures file { IfOk result (λ w. option_map (λ s. s.now) w.file ≡ first_of (codes "file") (rows_of (found_of rows.now))) }
+    ensures file { IfOk result (λ w. option_map (λ s. s.now) w.file ≡ file_named (first_of (codes "file") (rows_of (found_of rows.now)))) }
     ensures err { IfErr result (λ e. (kind_of e ≡ ErrorKind.OutOfMemory)
         ⊎ ((kind_of e ≡ ErrorKind.InvalidValue) × (run_of (rows_of (found_of rows.now)) ≡ None))) }
 {
-    let file = value(rows, "file");
+    let file = named_file(rows);
     let Some(root) = value(rows, "root") else {
         return Err(mistake(alloc, "--root is missing"));
     };
@@ -192,10 +223,8 @@ fn run_words<'a>(alloc: Global, rows: &ArgMatches<'a>) -> Result<RunWords<'a>, E
         return Err(mistake(alloc, "--schedule is missing"));
     };
     let Some(limit) = number_of(limit.as_bytes()) else {
-        return Err(mistake(
-            alloc,
-            "--limit wants a number of steps from 1 to 100000, without leading zeros",
-        ));
+        let wants = "a number of steps from 1 to 100000, without leading zeros";
+        return Err(refuse_value(alloc, "--limit <N>", limit, wants));
     };
     match schedule_of(alloc, schedule.as_bytes()) {
         Ok(Some(schedule)) => Ok(RunWords {
@@ -204,10 +233,10 @@ fn run_words<'a>(alloc: Global, rows: &ArgMatches<'a>) -> Result<RunWords<'a>, E
             limit,
             schedule,
         }),
-        Ok(None) => Err(mistake(
-            alloc,
-            "--schedule wants `none`, or numbers from 0 to 4294967295 with commas between them",
-        )),
+        Ok(None) => {
+            let wants = "`none`, or numbers from 0 to 4294967295 with commas between them";
+            Err(refuse_value(alloc, "--schedule <L>", schedule, wants))
+        }
         Err(e) => Err(Error::from(e)),
     }
 }
@@ -222,7 +251,7 @@ fn entered<'m, 'a>(matches: &'m ArgMatches<'a>) -> Option<(&'a str, &'m ArgMatch
 /// What the command of this name asks for by the values of its options.
 fn command_words<'a>(alloc: Global, name: &str, rows: &ArgMatches<'a>) -> Result<Words<'a>, Error>
     ensures ok { IfOk result (λ w. of_command name.now (rows_of (found_of rows.now)) ≡ Some (wanted w)) }
-    ensures file { IfOk result (λ w. named_file w ≡ first_of (codes "file") (rows_of (found_of rows.now))) }
+    ensures file { IfOk result (λ w. named_file w ≡ file_named (first_of (codes "file") (rows_of (found_of rows.now)))) }
     ensures err { IfErr result (λ e. (kind_of e ≡ ErrorKind.OutOfMemory)
         ⊎ ((kind_of e ≡ ErrorKind.InvalidValue) × (of_command name.now (rows_of (found_of rows.now)) ≡ None))) }
 {
@@ -234,7 +263,7 @@ fn command_words<'a>(alloc: Global, name: &str, rows: &ArgMatches<'a>) -> Result
     }
     if name == "steps" {
         return Ok(Words::Steps(StepsWords {
-            file: value(rows, "file"),
+            file: named_file(rows),
         }));
     }
     Err(mistake(alloc, "a command is missing"))

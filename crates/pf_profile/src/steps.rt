@@ -12,8 +12,8 @@ use std::alloc::Global;
 use std::io::{Read, Write};
 use std::sync::ledger::Ledger;
 
-/// Reads at most 64 MiB, answers each command as it is done, and gives the status: 2 where a line is no command,
-/// behind which nothing is done, and else 0.
+/// Reads at most 64 MiB, piece by piece, answers each command before it waits for more, and gives the status: 2 where a
+/// line is no command, behind which nothing is done, and else 0.
 pub fn run_steps<R: Read, W: Write, L: Ledger, M: Ledger>(
     alloc: Global,
     reader: &mut Counted<R, L>,
@@ -25,7 +25,8 @@ pub fn run_steps<R: Read, W: Write, L: Ledger, M: Ledger>(
         × Consumes (R.remaining reader.old.inner) (R.remaining reader.new.inner) bytes }
     ensures counts { OnOk result ((reader.new.failures.total ≡ reader.old.failures.total)
         × (writer.new.failures.total ≡ writer.old.failures.total)) }
-    ensures fault { IfErr result (λ e. StepsLeaves profile e (R.remaining reader.old.inner)
+    ensures fault { IfErr result (λ e. StepsLeaves profile e
+        (R.remaining reader.old.inner) (R.remaining reader.new.inner)
         (W.contents writer.old.inner) (W.contents writer.new.inner)
         reader.old.failures.total reader.new.failures.total
         writer.old.failures.total writer.new.failures.total) }

@@ -14,13 +14,14 @@ p1 report 4\n0/1 <0> end normal\nfinished 7\nsteps 4\nproperty holds\n\
 p2 refused B5\np2 refused B3\nw0 not now N2\n";
 
 #[test]
-fn a_reader_that_fails_leaves_no_text(rt: HostRuntime) {
+fn a_reader_that_fails_leaves_what_it_gave_before(rt: HostRuntime) {
     let mut failed = 0u64;
     for k in 1..1000u64 {
         let work = carry_out(rt.alloc(), TWO.as_bytes(), Failing { read: k, write: 0 });
         match work.ended {
             Ended::NotRead => {
-                assert!(rt; work.out.is_empty(), "call {k}");
+                let text = if k == 1 { "" } else { TWO_TEXT };
+                assert_eq!(rt; work.out.as_slice(), text.as_bytes(), "call {k}");
                 failed = k;
             }
             ended => {
@@ -51,6 +52,6 @@ fn a_writer_that_fails_leaves_a_beginning(rt: HostRuntime) {
             }
         }
     }
-    // Its 12 answers go out by 7 bytes a call, each in calls of its own: 2 each for the shorter ones, and 12 for the report.
-    assert!(rt; failed >= 24);
+    // All answers go out together, by 7 bytes a call.
+    assert_eq!(rt; failed as usize, TWO_TEXT.len().div_ceil(7));
 }

@@ -1,29 +1,25 @@
--- What is left where the work stops.
-use Rattle.std.proofs.Common.{◌≡◌, ◌==◌, ◌<◌, ◌+◌, ℕ, true, false, List, [], ◌∷◌, ◌++◌, length, take, Option, Some, None, refl, sym, ap, ◌∙◌, subst, arith, append_assoc, eqb-true}
-use Rattle.std.specs.Io.KnownBytes.{Appends}
+-- What went out where the work stops.
+use Rattle.std.proofs.Common.{◌≡◌, ◌==◌, ◌<◌, ◌≤◌, ◌+◌, ◌-◌, ℕ, Bool, true, false, List, [], ◌∷◌, ◌++◌, length, take, Option, Some, None, refl, sym, ap, ◌∙◌, subst, arith, append_assoc, length-append, ◌⊎◌, inl, inr, zero, suc, not, eqb-true}
+use Rattle.std.specs.Prelude.{IfSome, if◌then◌else◌}
+use Rattle.std.specs.Io.KnownBytes.{Appends, Consumes, IsAtEnd, Keeps}
+use Rattle.std.proofs.KnownBytes.{Appends-nil, Consumes-nil, Consumes-trans, Consumes-kept}
 use Rattle.std.proofs.lemmas.List.{append-nil}
+use Rattle.std.proofs.Math.Seq.{take-append-add}
 use Rattle.pf_fault.specs.declared.fault.OrNoMemory.{OrNoMemory}
 use Rattle.pf_fault.specs.declared.fault.OrNoMemory.TheVariants.{NoMemory, Fault}
 use Rattle.pf_terms.specs.declared.stream.StreamFault.{StreamFault}
 use Rattle.pf_terms.specs.declared.stream.StreamFault.TheVariants.{Read, Write}
-use Rattle.pf_terms.specs.Streams.{AppendsFront, CountsReadOrNone, CountsWrite}
+use Rattle.pf_terms.specs.Streams.{AppendsFront, CountsWrite}
 use Rattle.pf_terms.proofs.Writes.{appends_both}
 use Rattle.pf_single.specs.Desk.{Profile}
-use Rattle.pf_single.specs.World.{World}
-use Rattle.pf_single.specs.Told.{outcome_text}
-use Rattle.pf_book.specs.Profile.{IsRight}
-use Rattle.pf_wire.specs.Steps.{AnswersOne, AnswersInPart, AreRead, StepsAnsweredInPart, StepsText, Stops, StepsLeaves, last_text}
+use Rattle.pf_single.specs.World.{World, Step, Answer, AnswersInTurn}
+use Rattle.pf_book.specs.Profile.{IsRight, ForRight}
+use Rattle.pf_wire.specs.Steps.{AnswersOne, AnswersInPart, AreRead, StepsAnswered, StepsAnsweredInPart, StepsLeaves, WholeAnswered, last_text}
+use Rattle.pf_wire.specs.Turns.{Follows, Turns, Tells, so_far, no_more, TellsUpTo, TellsAll, TellsInPart, TurnsLeave, TakesPiece, PieceLeaves}
+use Rattle.pf_wire.specs.Whole.{is_due, is_whole, WholeCommands, unfinished}
 use Rattle.pf_wire.specs.declared.steps.TheConstants.{MOST_BYTES}
 use Rattle.pf_wire.proofs.Shorter.{command_shorter}
-use Rattle.pf_wire.proofs.Progress.{SoFar, begun, answered_one, finished_well, finished_ill, goes_on}
-
-not_empty : (b : ℕ) (bs : List ℕ) → (length (b ∷ bs) == 0) ≡ true → ⊥
-not_empty b bs h = omega (arith, eqb-true (length (b ∷ bs)) 0 h)
-
--- nothing went out
-appends_none : (w : Option (List ℕ)) → Appends w w []
-appends_none None = tt
-appends_none (Some xs) = sym (append-nil xs)
+use Rattle.pf_wire.proofs.Progress.{begun, none_due, nothing_due, turn_of_one, turns_both, turns_later, finished_well, finished_ill, goes_on}
 
 -- a text, and the beginning of what goes on behind it
 front_both : (w0 w1 w2 : Option (List ℕ)) (a b more : List ℕ) → Appends w0 w1 a → AppendsFront w1 w2 b → AppendsFront w0 w2 ((a ++ b) ++ more)
@@ -34,98 +30,317 @@ front_both w0 w1 w2 a b more h k = (
   appends_both w0 w1 w2 a k.0 h k.3,
 )
 
-first_bytes : (r : Option (List ℕ)) → (bytes : List ℕ) × AreRead r bytes
-first_bytes None = ([], tt)
-first_bytes (Some input) = (take MOST_BYTES input, refl)
+pub front_of_both : (w0 w1 w2 : Option (List ℕ)) (a b : List ℕ) → Appends w0 w1 a → AppendsFront w1 w2 b → AppendsFront w0 w2 (a ++ b)
+front_of_both w0 w1 w2 a b h k = subst (AppendsFront w0 w2) (append-nil (a ++ b)) (front_both w0 w1 w2 a b [] h k)
 
--- how far it came, with what went out
-abbrev pub WentOut : Profile → (bytes rest : List ℕ) → World → ℕ → (written_old written_new : Option (List ℕ)) → Type 0
-WentOut p bytes rest w k w0 w1 = (text : List ℕ) × SoFar p bytes rest w text k × Appends w0 w1 text
+not_false : (b : Bool) → not b ≡ false → b ≡ true
+not_false true h = refl
+not_false false h = absurd cc
 
--- what follows a command is shorter
-pub shorter_behind : (rest behind : List ℕ) (k : ℕ) (w w' : World) (text : List ℕ) → (length rest == 0) ≡ false → AnswersOne rest k w text (Some behind) w'
+-- a beginning of a text is one of a longer text
+pub front_of_more : (w0 w1 : Option (List ℕ)) (a b : List ℕ) → AppendsFront w0 w1 a → AppendsFront w0 w1 (a ++ b)
+front_of_more w0 w1 a b k = (k.0, k.1 ++ b, ap (λ (t : List ℕ). t ++ b) k.2 ∙ append_assoc k.0 k.1 b, k.3)
+
+-- something is due at the end
+some_due : (b : ℕ) (bs : List ℕ) → is_due true (b ∷ bs) ≡ false → ⊥
+some_due b bs h = omega (arith, eqb-true (length (b ∷ bs)) 0 (not_false (length (b ∷ bs) == 0) h))
+
+-- what follows what is due is shorter
+pub shorter_behind : (over : Bool) (rest behind : List ℕ) (k : ℕ) (w w' : World) (text : List ℕ) → is_due over rest ≡ true → AnswersOne rest k w text (Some behind) w'
     → length behind < length rest
-shorter_behind [] behind k w w' text some a = absurd cc
-shorter_behind (b ∷ bs) behind k w w' text some a = omega (arith, command_shorter b bs a.0 behind a.2)
+shorter_behind over [] behind k w w' text due a = absurd (nothing_due over due)
+shorter_behind over (b ∷ bs) behind k w w' text due a = omega (arith, command_shorter b bs a.0 behind a.2)
+
+-- ---- turns that are gathered
+
+-- what went out, and behind it what is gathered, is the text of commands up to a rest
+abbrev pub AtHand : Profile → Bool → (bytes : List ℕ) → World → ℕ → (gathered rest : List ℕ) → World → ℕ → (written_old written_new : Option (List ℕ)) → Type 0
+AtHand p over bytes v j gathered rest w k w0 w1 = (out : List ℕ) × Appends w0 w1 out × Turns p over bytes v j (out ++ gathered) rest w k
+
+-- a text was added
+abbrev pub IsAdded : (gathered_old text gathered_new : List ℕ) → (written_old written_new : Option (List ℕ)) → Type 0
+IsAdded g text g' w0 w1 = (out : List ℕ) × Appends w0 w1 out × (out ++ g' ≡ g ++ text)
+
+moved : (out more g g' text : List ℕ) → more ++ g' ≡ g ++ text → (out ++ g) ++ text ≡ (out ++ more) ++ g'
+moved out more g g' text e = append_assoc out g text ∙ ap (λ (t : List ℕ). out ++ t) (sym e) ∙ sym (append_assoc out more g')
 
 module _ (p : Profile) where
-  begins : (bytes : List ℕ) (w : Option (List ℕ)) → WentOut p bytes bytes [] 1 w w
-  begins bytes w = ([], begun p bytes, appends_none w)
+  pub at_hand_first : (over : Bool) (bytes g : List ℕ) (v : World) (j : ℕ) (w : Option (List ℕ)) → g ≡ [] → AtHand p over bytes v j g bytes v j w w
+  at_hand_first over bytes g v j w e =
+      ([], Appends-nil w, subst (λ (t : List ℕ). Turns p over bytes v j t bytes v j) (sym e) (begun p over bytes v j))
 
-  pub begins_empty : (bytes : List ℕ) (v : World) (w : Option (List ℕ)) → v ≡ [] → WentOut p bytes bytes v 1 w w
-  begins_empty bytes v w e = subst (λ (u : World). WentOut p bytes bytes u 1 w w) (sym e) (begins bytes w)
+  pub in_part : (over : Bool) (bytes rest : List ℕ) (v w : World) (j k : ℕ) (w0 w1 : Option (List ℕ)) → TellsUpTo p over bytes v j rest w k w0 w1
+      → TellsInPart p over bytes v j w0 w1
+  in_part over bytes rest v w j k w0 w1 t = (t.0, so_far rest w k t.1, (t.0, [], sym (append-nil t.0), t.2))
 
-  -- nothing more went out
-  pub stops_here : (bytes rest : List ℕ) (w : World) (k : ℕ) (w0 w1 : Option (List ℕ)) → WentOut p bytes rest w k w0 w1 → AnswersInPart p bytes w0 w1
-  stops_here bytes rest w k w0 w1 out =
-      let m = goes_on p bytes rest w out.0 k out.1 in
-      (out.0 ++ m.0, m.1, m.2, (out.0, m.0, refl, out.2))
+  -- all that is gathered went out
+  pub at_hand_sent : (over : Bool) (bytes g rest : List ℕ) (v w : World) (j k : ℕ) (w0 w1 w2 : Option (List ℕ)) → AtHand p over bytes v j g rest w k w0 w1
+      → Appends w1 w2 g → TellsUpTo p over bytes v j rest w k w0 w2
+  at_hand_sent over bytes g rest v w j k w0 w1 w2 a h = (a.0 ++ g, a.2, appends_both w0 w1 w2 a.0 g a.1 h)
 
-  -- all is answered
-  pub ends_well : (bytes rest : List ℕ) (w : World) (k : ℕ) (w0 w1 : Option (List ℕ)) → (length rest == 0) ≡ true → WentOut p bytes rest w k w0 w1
-      → (all : List ℕ) × StepsText p bytes all 0 × Appends w0 w1 all
-  ends_well bytes [] w k w0 w1 none out = (out.0, finished_well p bytes w out.0 k out.1, out.2)
-  ends_well bytes (b ∷ bs) w k w0 w1 none out = absurd (not_empty b bs none)
+  -- a beginning of it went out
+  pub at_hand_in_part : (over : Bool) (bytes g rest : List ℕ) (v w : World) (j k : ℕ) (w0 w1 w2 : Option (List ℕ)) → AtHand p over bytes v j g rest w k w0 w1
+      → AppendsFront w1 w2 g → TellsInPart p over bytes v j w0 w2
+  at_hand_in_part over bytes g rest v w j k w0 w1 w2 a h = (a.0 ++ g, so_far rest w k a.2, front_of_both w0 w1 w2 a.0 g a.1 h)
 
-  -- nothing was answered
-  pub stops_before : (r w : Option (List ℕ)) → StepsAnsweredInPart p r w w
-  stops_before r w =
-      let f = first_bytes r in
-      (f.0, f.1, stops_here f.0 f.0 [] 1 w w (begins f.0 w))
-
-  -- what answers some bytes answers those that were read
-  pub answers_read : (r w0 w1 : Option (List ℕ)) (bytes : List ℕ) (e : OrNoMemory StreamFault) (m0 m1 n0 n1 : ℕ) → m1 ≡ m0 → AreRead r bytes → Stops p e bytes w0 w1 n0 n1
-      → StepsLeaves p e r w0 w1 m0 m1 n0 n1
-  answers_read r w0 w1 bytes NoMemory m0 m1 n0 n1 k h s = (k, s.0, (bytes, h, s.1))
-  answers_read r w0 w1 bytes (Fault (Read f)) m0 m1 n0 n1 k h s = absurd s
-  answers_read r w0 w1 bytes (Fault (Write f)) m0 m1 n0 n1 k h s = (k, s.0, (bytes, h, s.1))
-
-  -- a write failed, and a beginning of the answer went out
-  pub stops_at : (w0 w1 : Option (List ℕ)) (bytes : List ℕ) (f : StreamFault) (n0 n n1 : ℕ) → n ≡ n0 → CountsWrite f n n1 → AnswersInPart p bytes w0 w1
-      → Stops p (Fault f) bytes w0 w1 n0 n1
-  stops_at w0 w1 bytes (Read e) n0 n n1 k c h = absurd c
-  stops_at w0 w1 bytes (Write e) n0 n n1 k c h = (omega (arith, k, c), h)
-
-  -- nothing was read
-  pub stops_unread : (r0 w : Option (List ℕ)) (f : OrNoMemory StreamFault) (m0 m1 n : ℕ) → CountsReadOrNone f m0 m1 → StepsLeaves p f r0 w w m0 m1 n n
-  stops_unread r0 w NoMemory m0 m1 n c = (c, refl, stops_before r0 w)
-  stops_unread r0 w (Fault (Read e)) m0 m1 n c = (c, refl, refl)
-  stops_unread r0 w (Fault (Write e)) m0 m1 n c = absurd c
+  -- a write failed
+  pub leaves_at : (over : Bool) (bytes : List ℕ) (v : World) (j : ℕ) (w0 w1 : Option (List ℕ)) (f : StreamFault) (n0 n n1 : ℕ) → n ≡ n0 → CountsWrite f n n1
+      → TellsInPart p over bytes v j w0 w1 → TurnsLeave p (Fault f) over bytes v j w0 w1 n0 n1
+  leaves_at over bytes v j w0 w1 (Read e) n0 n n1 k c h = absurd c
+  leaves_at over bytes v j w0 w1 (Write e) n0 n n1 k c h = (omega (arith, k, c), h)
 
 module _ (p : Profile) (right : IsRight p) where
-  -- a beginning of one answer more went out
-  pub stops_within : (bytes rest : List ℕ) (w w' : World) (k : ℕ) (w0 w1 w2 : Option (List ℕ)) (text : List ℕ) (next : Option (List ℕ)) → (length rest == 0) ≡ false
-      → WentOut p bytes rest w k w0 w1 → AnswersOne rest k w text next w' → AppendsFront w1 w2 text → AnswersInPart p bytes w0 w2
-  stops_within bytes [] w w' k w0 w1 w2 text next some out a f = absurd cc
-  stops_within bytes (b ∷ bs) w w' k w0 w1 w2 text (Some rest) some out a f =
-      let s = a.0 in
-      let x = a.1 in
-      let m = goes_on p bytes rest w' (out.0 ++ outcome_text s x) (k + 1) (answered_one p bytes b bs rest w w' out.0 k s x out.1 a.2 (a.4 p right)) in
-      ((out.0 ++ outcome_text s x) ++ m.0, m.1, m.2, front_both w0 w1 w2 out.0 (outcome_text s x) m.0 out.2 (subst (AppendsFront w1 w2) a.3 f))
-  stops_within bytes (b ∷ bs) w w' k w0 w1 w2 text None some out a f =
-      let last = last_text false k in (
-        out.0 ++ last,
+  one_more : (over : Bool) (bytes rest behind : List ℕ) (v w w' : World) (j k : ℕ) (front text : List ℕ) → Turns p over bytes v j front rest w k → is_due over rest ≡ true
+      → AnswersOne rest k w text (Some behind) w' → Turns p over bytes v j (front ++ text) behind w' (k + 1)
+  one_more over bytes rest behind v w w' j k front text t due a =
+      let one = turn_of_one p over rest behind w w' k a.0 a.1 due a.2 (a.4 p right) in
+      turns_both p over bytes rest behind v w w' j k (k + 1) front text t
+      (subst (λ (s : List ℕ). Turns p over rest w k s behind w' (k + 1)) (sym a.3) one)
+
+  -- the answer is gathered too
+  pub at_hand_more : (over : Bool) (bytes g g' rest behind : List ℕ) (v w w' : World) (j k : ℕ) (w0 w1 w2 : Option (List ℕ)) (text : List ℕ) → AtHand p over bytes v j g rest w k w0 w1
+      → is_due over rest ≡ true → AnswersOne rest k w text (Some behind) w' → IsAdded g text g' w1 w2 → AtHand p over bytes v j g' behind w' (k + 1) w0 w2
+  at_hand_more over bytes g g' rest behind v w w' j k w0 w1 w2 text h due a added = (
+    h.0 ++ added.0,
+    appends_both w0 w1 w2 h.0 added.0 h.1 added.1,
+    subst (λ (t : List ℕ). Turns p over bytes v j t behind w' (k + 1)) (moved h.0 added.0 g g' text added.2)
+        (one_more over bytes rest behind v w w' j k (h.0 ++ g) text h.2 due a),
+  )
+
+  -- a beginning of it went out, with what was gathered before
+  pub more_in_part : (over : Bool) (bytes g rest : List ℕ) (v w w' : World) (j k : ℕ) (w0 w1 w2 : Option (List ℕ)) (text : List ℕ) (next : Option (List ℕ))
+      → AtHand p over bytes v j g rest w k w0 w1 → is_due over rest ≡ true → AnswersOne rest k w text next w' → AppendsFront w1 w2 (g ++ text) → TellsInPart p over bytes v j w0 w2
+  more_in_part over bytes g rest v w w' j k w0 w1 w2 text (Some behind) h due a f = (
+    (h.0 ++ g) ++ text,
+    so_far behind w' (k + 1) (one_more over bytes rest behind v w w' j k (h.0 ++ g) text h.2 due a),
+    subst (AppendsFront w0 w2) (sym (append_assoc h.0 g text)) (front_of_both w0 w1 w2 h.0 (g ++ text) h.1 f),
+  )
+  more_in_part over bytes g rest v w w' j k w0 w1 w2 text None h due a f = (
+    (h.0 ++ g) ++ text,
+    no_more (h.0 ++ g) rest w k h.2 (none_due over rest due a.0) (ap (λ (t : List ℕ). (h.0 ++ g) ++ t) a.1),
+    subst (AppendsFront w0 w2) (sym (append_assoc h.0 g text)) (front_of_both w0 w1 w2 h.0 (g ++ text) h.1 f),
+  )
+
+  -- that the line is no command went out
+  pub ends_ill : (over : Bool) (bytes g g' rest : List ℕ) (v w w' : World) (j k : ℕ) (w0 w1 w2 w3 : Option (List ℕ)) (text : List ℕ) → AtHand p over bytes v j g rest w k w0 w1
+      → is_due over rest ≡ true → AnswersOne rest k w text None w' → IsAdded g text g' w1 w2 → Appends w2 w3 g' → TellsAll p over bytes v j w0 w3
+  ends_ill over bytes g g' rest v w w' j k w0 w1 w2 w3 text h due a added sent = (
+    h.0 ++ g,
+    rest,
+    w,
+    k,
+    h.2,
+    none_due over rest due a.0,
+    subst (Appends w0 w3) (sym (moved h.0 added.0 g g' text added.2) ∙ ap (λ (t : List ℕ). (h.0 ++ g) ++ t) a.1)
+        (appends_both w0 w2 w3 (h.0 ++ added.0) g' (appends_both w0 w1 w2 h.0 added.0 h.1 added.1) sent),
+  )
+
+  -- a beginning of that went out
+  pub ends_ill_in_part : (over : Bool) (bytes g g' rest : List ℕ) (v w w' : World) (j k : ℕ) (w0 w1 w2 w3 : Option (List ℕ)) (text : List ℕ) → AtHand p over bytes v j g rest w k w0 w1
+      → is_due over rest ≡ true → AnswersOne rest k w text None w' → IsAdded g text g' w1 w2 → AppendsFront w2 w3 g' → TellsInPart p over bytes v j w0 w3
+  ends_ill_in_part over bytes g g' rest v w w' j k w0 w1 w2 w3 text h due a added sent = (
+    (h.0 ++ g) ++ text,
+    no_more (h.0 ++ g) rest w k h.2 (none_due over rest due a.0) (ap (λ (t : List ℕ). (h.0 ++ g) ++ t) a.1),
+    subst (AppendsFront w0 w3) (sym (moved h.0 added.0 g g' text added.2))
+        (front_of_both w0 w2 w3 (h.0 ++ added.0) g' (appends_both w0 w1 w2 h.0 added.0 h.1 added.1) sent),
+  )
+
+-- ---- pieces of an input
+
+take_both : (most : ℕ) (xs ys : List ℕ) → length xs ≤ most → take most (xs ++ ys) ≡ xs ++ take (most - length xs) ys
+take_both most xs ys le =
+    let same : most ≡ length xs + (most - length xs) = omega (arith, le) in
+    ap (λ (n : ℕ). take n (xs ++ ys)) same ∙ take-append-add xs ys (most - length xs)
+
+take_none : (n : ℕ) → ◌≡◌ {A = List ℕ} (take n []) []
+take_none zero = refl
+take_none (suc n) = refl
+
+none_left : (most : ℕ) (left read : List ℕ) → (left ≡ []) ⊎ (length read ≡ most) → take (most - length read) left ≡ []
+none_left most left read (inl e) = rw e (take_none (most - length read))
+none_left most left read (inr e) = let none : most - length read ≡ 0 = omega (arith, e) in ap (λ (n : ℕ). take n left) none
+
+-- how what was read goes on, up to the most that may be read
+covers : (most : ℕ) (over : Bool) (r0 r1 : Option (List ℕ)) (read : List ℕ) → Consumes r0 r1 read → length read ≤ most
+    → (over ≡ true → IsAtEnd r1 ⊎ (length read ≡ most)) → (more : List ℕ) × Follows over more × IfSome r0 (λ input. read ++ more ≡ take most input)
+covers most over None r1 read h le ends = ([], λ o. refl, tt)
+covers most over (Some input) None read h le ends = absurd h
+covers most over (Some input) (Some left) read h le ends =
+    (take (most - length read) left, λ o. none_left most left read (ends o), sym (ap (take most) h ∙ take_both most read left le))
+
+-- so many bytes were read, and what went out is the text of their commands up to the bytes that are kept
+abbrev pub Stands : (over : Bool) (bytes : List ℕ) → World → (k taken : ℕ) (read_old read_new written_old written_new : Option (List ℕ)) → Type 0
+Stands over bytes w k taken r0 r1 w0 w1 = (read : List ℕ) × Consumes r0 r1 read × (length read ≡ taken)
+    × (over ≡ true → IsAtEnd r1 ⊎ (taken ≡ MOST_BYTES)) × ForRight (λ p. TellsUpTo p over read [] 1 bytes w k w0 w1)
+
+pub stands_first : (bytes : List ℕ) (w : World) (taken : ℕ) (r w' : Option (List ℕ)) → bytes ≡ [] → w ≡ [] → taken ≡ 0 → Stands false bytes w 1 taken r r w' w'
+stands_first bytes w taken r out none_read no_desk none_taken = (
+  [],
+  Consumes-nil r,
+  sym none_taken,
+  λ (o : false ≡ true). absurd cc,
+  λ p right. (
+    [],
+    subst (λ (v : World). Turns p false [] [] 1 [] bytes v 1) (sym no_desk)
+        (subst (λ (bs : List ℕ). Turns p false [] [] 1 [] bs [] 1) (sym none_read) (begun p false [] [] 1)),
+    Appends-nil out,
+  ),
+)
+
+-- the number of the next command is no more than the bytes that were taken
+pub within_later : (old new piece : List ℕ) (k taken taken' : ℕ) → new ≡ old ++ piece → taken' ≡ taken + length piece → k + length old ≤ taken + 1 → k + length new ≤ taken' + 1
+within_later old new piece k taken taken' e t le = omega (arith, ap length e, length-append old piece, t, le)
+
+-- less is left to be taken
+pub less_left : (over : Bool) (most taken taken' : ℕ) → (over ≡ false → (taken < taken') × (taken' < most)) → taken ≤ taken'
+    → (most - taken') + (if over then 0 else 1) < (most - taken) + 1
+less_left true most taken taken' more le = omega (arith, le)
+less_left false most taken taken' more le = omega (arith, more refl)
+
+-- how what was read goes on
+goes : (over : Bool) (r0 r1 : Option (List ℕ)) (read : List ℕ) (taken : ℕ) → Consumes r0 r1 read → length read ≡ taken → taken ≤ MOST_BYTES
+    → (over ≡ true → IsAtEnd r1 ⊎ (taken ≡ MOST_BYTES)) → (more : List ℕ) × Follows over more × AreRead r0 (read ++ more)
+goes over r0 r1 read taken h e le ends =
+    covers MOST_BYTES over r0 r1 read h (subst (λ (n : ℕ). n ≤ MOST_BYTES) (sym e) le)
+    (λ o. subst (λ (n : ℕ). IsAtEnd r1 ⊎ (n ≡ MOST_BYTES)) (sym e) (ends o))
+
+-- the bytes that were read are no more than may be
+pub stands_taken : (over : Bool) (bytes : List ℕ) (w : World) (k taken : ℕ) (r0 r1 w0 w1 : Option (List ℕ)) → Stands over bytes w k taken r0 r1 w0 w1 → taken ≤ MOST_BYTES
+    → (read : List ℕ) × (length read ≤ MOST_BYTES) × Consumes r0 r1 read
+stands_taken over bytes w k taken r0 r1 w0 w1 s le = (s.0, subst (λ (n : ℕ). n ≤ MOST_BYTES) (sym s.2) le, s.1)
+
+-- with what was taken after it
+pub stands_taken_more : (over : Bool) (bytes : List ℕ) (w : World) (k taken : ℕ) (r0 r1 r2 w0 w1 : Option (List ℕ)) (piece : List ℕ) → Stands over bytes w k taken r0 r1 w0 w1
+    → taken + length piece ≤ MOST_BYTES → Consumes r1 r2 piece → (read : List ℕ) × (length read ≤ MOST_BYTES) × Consumes r0 r2 read
+stands_taken_more over bytes w k taken r0 r1 r2 w0 w1 piece s le h =
+    let sum : length (s.0 ++ piece) ≡ taken + length piece = omega (arith, length-append s.0 piece, s.2) in
+    (s.0 ++ piece, subst (λ (n : ℕ). n ≤ MOST_BYTES) (sym sum) le, Consumes-trans r0 r1 r2 s.0 piece s.1 h)
+
+-- a piece more was read
+pub stands_later : (over : Bool) (bytes bytes' : List ℕ) (w : World) (k taken taken' : ℕ) (r0 r1 r2 w0 w1 : Option (List ℕ)) → Stands false bytes w k taken r0 r1 w0 w1
+    → TakesPiece r1 r2 bytes bytes' taken taken' over → Stands over bytes' w k taken' r0 r2 w0 w1
+stands_later over bytes bytes' w k taken taken' r0 r1 r2 w0 w1 s t = (
+  s.0 ++ t.0,
+  Consumes-trans r0 r1 r2 s.0 t.0 s.1 t.1,
+  omega (arith, length-append s.0 t.0, s.2, t.3),
+  t.4,
+  λ p right.
+      let one = s.4 p right in
+      (one.0, subst (λ (bs : List ℕ). Turns p over (s.0 ++ t.0) [] 1 one.0 bs w k) (sym t.2) (turns_later p over s.0 bytes t.0 [] w 1 k one.0 one.1), one.2),
+)
+
+-- some commands more were answered
+pub stands_further : (over : Bool) (bytes rest : List ℕ) (w w' : World) (k l taken : ℕ) (r0 r1 w0 w1 w2 : Option (List ℕ)) → Stands over bytes w k taken r0 r1 w0 w1
+    → ForRight (λ p. TellsUpTo p over bytes w k rest w' l w1 w2) → Stands over rest w' l taken r0 r1 w0 w2
+stands_further over bytes rest w w' k l taken r0 r1 w0 w1 w2 s t = (
+  s.0,
+  s.1,
+  s.2,
+  s.3,
+  λ p right.
+      let one = s.4 p right in
+      let two = t p right in
+      (one.0 ++ two.0, turns_both p over s.0 bytes rest [] w w' 1 k l one.0 two.0 one.1 two.1, appends_both w0 w1 w2 one.0 two.0 one.2 two.2),
+)
+
+module _ (p : Profile) (right : IsRight p) where
+  -- a beginning of the answer went out
+  pub stands_in_part : (over : Bool) (bytes : List ℕ) (w : World) (k taken : ℕ) (r0 r1 w0 w1 : Option (List ℕ)) → Stands over bytes w k taken r0 r1 w0 w1 → taken ≤ MOST_BYTES
+      → StepsAnsweredInPart p r0 w0 w1
+  stands_in_part over bytes w k taken r0 r1 w0 w1 s le =
+      let c = goes over r0 r1 s.0 taken s.1 s.2 le s.3 in
+      let t = s.4 p right in
+      let m = goes_on p over s.0 bytes c.0 w t.0 k t.1 c.1 in
+      (s.0 ++ c.0, c.2, (t.0 ++ m.0, m.1, m.2, (t.0, m.0, refl, t.2)))
+
+  -- nothing was read
+  pub stands_before : (r w : Option (List ℕ)) → StepsAnsweredInPart p r w w
+  stands_before r w = stands_in_part false [] [] 1 0 r r w w (stands_first [] [] 0 r w refl refl refl) (omega arith)
+
+  tells_in_part : (over : Bool) (read bytes more : List ℕ) (w : World) (k : ℕ) (w0 w1 w2 : Option (List ℕ)) (front text : List ℕ) → Turns p over read [] 1 front bytes w k
+      → Follows over more → Appends w0 w1 front → Tells p over bytes w k text → AppendsFront w1 w2 text → AnswersInPart p (read ++ more) w0 w2
+  tells_in_part over read bytes more w k w0 w1 w2 front text t f h (so_far rest x l u) g =
+      let both = turns_both p over read bytes rest [] w x 1 k l front text t u in
+      let m = goes_on p over read rest more x (front ++ text) l both f in
+      ((front ++ text) ++ m.0, m.1, m.2, front_both w0 w1 w2 front text m.0 h g)
+  tells_in_part over read bytes more w k w0 w1 w2 front text t f h (no_more next rest x l u none e) g =
+      let both = turns_both p over read bytes rest [] w x 1 k l front next t u in
+      let same : (front ++ next) ++ last_text false l ≡ front ++ text = append_assoc front next (last_text false l) ∙ ap (λ (s : List ℕ). front ++ s) (sym e) in (
+        (front ++ next) ++ last_text false l,
         2,
-        finished_ill p bytes b bs w out.0 k out.1 a.0,
-        subst (AppendsFront w0 w2) (append-nil (out.0 ++ last)) (front_both w0 w1 w2 out.0 last [] out.2 (subst (AppendsFront w1 w2) a.1 f)),
+        finished_ill p over read rest more x (front ++ next) l both f none,
+        subst (AppendsFront w0 w2) (sym same) (front_of_both w0 w1 w2 front text h g),
       )
 
-  -- one answer more went out
-  pub goes_out : (bytes rest behind : List ℕ) (w w' : World) (k : ℕ) (w0 w1 w2 : Option (List ℕ)) (text : List ℕ) → (length rest == 0) ≡ false
-      → WentOut p bytes rest w k w0 w1 → AnswersOne rest k w text (Some behind) w' → Appends w1 w2 text → WentOut p bytes behind w' (k + 1) w0 w2
-  goes_out bytes [] behind w w' k w0 w1 w2 text some out a f = absurd cc
-  goes_out bytes (b ∷ bs) behind w w' k w0 w1 w2 text some out a f =
-      let s = a.0 in
-      let x = a.1 in (
-        out.0 ++ outcome_text s x,
-        answered_one p bytes b bs behind w w' out.0 k s x out.1 a.2 (a.4 p right),
-        appends_both w0 w1 w2 out.0 (outcome_text s x) out.2 (subst (Appends w1 w2) a.3 f),
+  -- the answers to what was due stopped
+  pub stands_stopped : (over : Bool) (bytes : List ℕ) (w : World) (k taken : ℕ) (r0 r1 w0 w1 w2 : Option (List ℕ)) (e : OrNoMemory StreamFault) (m0 m1 n0 n1 n2 : ℕ)
+      → Stands over bytes w k taken r0 r1 w0 w1 → taken ≤ MOST_BYTES → m1 ≡ m0 → n1 ≡ n0 → TurnsLeave p e over bytes w k w1 w2 n1 n2
+      → StepsLeaves p e r0 r1 w0 w2 m0 m1 n0 n2
+  stands_stopped over bytes w k taken r0 r1 w0 w1 w2 NoMemory m0 m1 n0 n1 n2 s le m n t =
+      let c = goes over r0 r1 s.0 taken s.1 s.2 le s.3 in
+      let one = s.4 p right in
+      (m, t.0 ∙ n, (s.0 ++ c.0, c.2, tells_in_part over s.0 bytes c.0 w k w0 w1 w2 one.0 t.1.0 one.1 c.1 one.2 t.1.1 t.1.2))
+  stands_stopped over bytes w k taken r0 r1 w0 w1 w2 (Fault (Read f)) m0 m1 n0 n1 n2 s le m n t = absurd t
+  stands_stopped over bytes w k taken r0 r1 w0 w1 w2 (Fault (Write f)) m0 m1 n0 n1 n2 s le m n t =
+      let c = goes over r0 r1 s.0 taken s.1 s.2 le s.3 in
+      let one = s.4 p right in
+      (m, t.0 ∙ ap (λ (i : ℕ). i + 1) n, (s.0 ++ c.0, c.2, tells_in_part over s.0 bytes c.0 w k w0 w1 w2 one.0 t.1.0 one.1 c.1 one.2 t.1.1 t.1.2))
+
+  -- memory ran out
+  pub stands_without_memory : (over : Bool) (bytes : List ℕ) (w : World) (k taken : ℕ) (r0 r1 r2 w0 w1 : Option (List ℕ)) (m0 m1 n0 n1 : ℕ)
+      → Stands over bytes w k taken r0 r1 w0 w1 → taken ≤ MOST_BYTES → m1 ≡ m0 → n1 ≡ n0 → StepsLeaves p NoMemory r0 r2 w0 w1 m0 m1 n0 n1
+  stands_without_memory over bytes w k taken r0 r1 r2 w0 w1 m0 m1 n0 n1 s le m n = (m, n, stands_in_part over bytes w k taken r0 r1 w0 w1 s le)
+
+  -- the whole commands are answered
+  whole_answered : (bytes : List ℕ) (w : World) (k taken : ℕ) (r0 r1 r2 w0 w1 : Option (List ℕ)) → Stands false bytes w k taken r0 r1 w0 w1 → is_whole bytes ≡ false
+      → Keeps r1 r2 → WholeAnswered p r0 r2 w0 w1
+  whole_answered bytes w k taken r0 r1 r2 w0 w1 s rest kept =
+      let t = s.4 p right in
+      let turns = t.1 in
+      let left : WholeCommands (bytes ++ []) [] = subst (λ (bs : List ℕ). WholeCommands bs []) (sym (append-nil bytes)) (unfinished bytes rest) in
+      let all = turns.wholes refl [] [] left in
+      let steps : turns.steps ++ [] ≡ turns.steps = append-nil turns.steps in
+      let outcomes : turns.outcomes ++ [] ≡ turns.outcomes = append-nil turns.outcomes in (
+        s.0,
+        turns.steps,
+        turns.outcomes,
+        Consumes-kept r0 r1 r2 s.0 s.1 kept,
+        subst (λ (bs : List ℕ). WholeCommands bs turns.steps) (append-nil s.0) (subst (WholeCommands (s.0 ++ [])) steps all),
+        subst (λ (xs : List (Option Answer)). AnswersInTurn p [] turns.steps xs) outcomes
+            (subst (λ (ss : List Step). AnswersInTurn p [] ss (turns.outcomes ++ [])) steps (turns.in_turn [] [] tt)),
+        subst (Appends w0 w1) turns.writes t.2,
       )
 
-  -- the line that is no command is answered
-  pub ends_ill : (bytes rest : List ℕ) (w w' : World) (k : ℕ) (w0 w1 w2 : Option (List ℕ)) (text : List ℕ) → (length rest == 0) ≡ false
-      → WentOut p bytes rest w k w0 w1 → AnswersOne rest k w text None w' → Appends w1 w2 text → (all : List ℕ) × StepsText p bytes all 2 × Appends w0 w2 all
-  ends_ill bytes [] w w' k w0 w1 w2 text some out a f = absurd cc
-  ends_ill bytes (b ∷ bs) w w' k w0 w1 w2 text some out a f =
-      let last = last_text false k in
-      (out.0 ++ last, finished_ill p bytes b bs w out.0 k out.1 a.0, appends_both w0 w1 w2 out.0 last out.2 (subst (Appends w1 w2) a.1 f))
+  -- a piece could not be read
+  pub stands_unread : (e : OrNoMemory StreamFault) (bytes : List ℕ) (w : World) (k taken : ℕ) (r0 r1 r2 w0 w1 : Option (List ℕ)) (m0 m1 m2 n0 n1 : ℕ)
+      → Stands false bytes w k taken r0 r1 w0 w1 → taken ≤ MOST_BYTES → is_whole bytes ≡ false → m1 ≡ m0 → n1 ≡ n0 → PieceLeaves e r1 r2 m1 m2
+      → StepsLeaves p e r0 r2 w0 w1 m0 m2 n0 n1
+  stands_unread NoMemory bytes w k taken r0 r1 r2 w0 w1 m0 m1 m2 n0 n1 s le rest m n t =
+      (t ∙ m, n, stands_in_part false bytes w k taken r0 r1 w0 w1 s le)
+  stands_unread (Fault (Read f)) bytes w k taken r0 r1 r2 w0 w1 m0 m1 m2 n0 n1 s le rest m n t =
+      (t.0 ∙ ap (λ (i : ℕ). i + 1) m, n, stands_in_part false bytes w k taken r0 r1 w0 w1 s le, whole_answered bytes w k taken r0 r1 r2 w0 w1 s rest t.1)
+  stands_unread (Fault (Write f)) bytes w k taken r0 r1 r2 w0 w1 m0 m1 m2 n0 n1 s le rest m n t = absurd t
+
+  -- all was answered, and the last line was no command
+  pub stands_ended_ill : (over : Bool) (bytes : List ℕ) (w : World) (k taken : ℕ) (r0 r1 w0 w1 w2 : Option (List ℕ)) → Stands over bytes w k taken r0 r1 w0 w1 → taken ≤ MOST_BYTES
+      → TellsAll p over bytes w k w1 w2 → StepsAnswered p r0 w0 w2 2
+  stands_ended_ill over bytes w k taken r0 r1 w0 w1 w2 s le t =
+      let c = goes over r0 r1 s.0 taken s.1 s.2 le s.3 in
+      let one = s.4 p right in
+      let both = turns_both p over s.0 bytes t.1 [] w t.2 1 k t.3 one.0 t.0 one.1 t.4 in
+      let last = last_text false t.3 in (
+        s.0 ++ c.0,
+        (one.0 ++ t.0) ++ last,
+        c.2,
+        finished_ill p over s.0 t.1 c.0 t.2 (one.0 ++ t.0) t.3 both c.1 t.5,
+        subst (Appends w0 w2) (sym (append_assoc one.0 t.0 last)) (appends_both w0 w1 w2 one.0 (t.0 ++ last) one.2 t.6),
+      )
+
+  -- all was answered
+  pub stands_ended : (bytes : List ℕ) (w : World) (k taken : ℕ) (r0 r1 w0 w1 : Option (List ℕ)) → Stands true bytes w k taken r0 r1 w0 w1 → taken ≤ MOST_BYTES
+      → is_due true bytes ≡ false → StepsAnswered p r0 w0 w1 0
+  stands_ended (b ∷ bs) w k taken r0 r1 w0 w1 s le done = absurd (some_due b bs done)
+  stands_ended [] w k taken r0 r1 w0 w1 s le done =
+      let c = goes true r0 r1 s.0 taken s.1 s.2 le s.3 in
+      let t = s.4 p right in
+      (s.0, t.0, subst (AreRead r0) (ap (λ (more : List ℕ). s.0 ++ more) (c.1 refl) ∙ append-nil s.0) c.2, finished_well p s.0 w t.0 k t.1, t.2)

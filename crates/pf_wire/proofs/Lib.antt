@@ -1,4 +1,5 @@
 pub mod Cutting
 pub mod Shorter
+pub mod Wholes
 pub mod Progress
 pub mod Leaving

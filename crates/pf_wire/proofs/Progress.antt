@@ -1,4 +1,4 @@
--- How far the commands of some bytes were answered.
+-- How far the commands of some bytes were answered, and what goes on from there.
 use Rattle.std.proofs.Common.{◌≡◌, ◌≤◌, ◌+◌, ℕ, zero, suc, Bool, true, false, List, [], ◌∷◌, ◌++◌, length, Option, Some, None, refl, sym, ap, ◌∙◌, subst, arith, append_assoc, length-append}
 use Rattle.std.specs.Prelude.{map, take}
 use Rattle.std.proofs.lemmas.List.{append-nil}
@@ -9,7 +9,10 @@ use Rattle.pf_single.proofs.Isolated.{isolated}
 use Rattle.pf_wire.specs.Commands as commands
 use Rattle.pf_wire.specs.Commands.{Commands, command_at}
 use Rattle.pf_wire.specs.Steps.{StepsText, last_text, steps_status}
+use Rattle.pf_wire.specs.Turns.{Follows, Turns, IsNoCommand}
+use Rattle.pf_wire.specs.Whole.{is_due, is_whole, WholeCommands, command}
 use Rattle.pf_wire.proofs.Shorter.{command_shorter}
+use Rattle.pf_wire.proofs.Wholes.{with_more, command_stays, whole_stays}
 
 -- ---- worlds
 
@@ -51,6 +54,14 @@ text_append (s ∷ ss) ts (x ∷ xs) ys h =
 
 -- ---- commands
 
+with_none : (o : Option (Step × List ℕ)) → with_more [] o ≡ o
+with_none None = refl
+with_none (Some q) = ap (λ (bs : List ℕ). Some (q.0, bs)) (append-nil q.1)
+
+pub nothing_due : (over : Bool) → is_due over [] ≡ true → ⊥
+nothing_due true h = cc
+nothing_due false h = cc
+
 abbrev IsAny : List ℕ → Type 0
 IsAny rest = (ss : List Step) × (good : Bool) × Commands rest ss good
 
@@ -66,61 +77,118 @@ any_within n [] le = ([], true, commands.over)
 any_within zero (b ∷ bs) le = absurd (omega arith)
 any_within (suc n) (b ∷ bs) le = any_from b bs (λ rest shorter. any_within n rest (omega arith)) (command_at (b ∷ bs)) refl
 
--- ---- progress
+-- ---- one command more
 
--- SoFar p bytes rest w text k: the bytes are some commands and then the rest; what came of them is the text, and leads to the world; the
--- next command is number k
-pub record SoFar (p : Profile) (bytes rest : List ℕ) (w : World) (text : List ℕ) (k : ℕ) : Type 0 where
-  pub steps : List Step
-  pub outcomes : List (Option Answer)
-  pub commands : (ss : List Step) (good : Bool) → Commands rest ss good → Commands bytes (steps ++ ss) good
-  pub in_turn : (ss : List Step) (xs : List (Option Answer)) → AnswersInTurn p w ss xs → AnswersInTurn p [] (steps ++ ss) (outcomes ++ xs)
-  pub paired : length steps ≡ length outcomes
-  pub writes : text ≡ outcomes_text steps outcomes
-  pub counts : k ≡ length steps + 1
+-- what is due is what it is, whatever may follow
+due_stays : (over : Bool) (rest more : List ℕ) → is_due over rest ≡ true → Follows over more → command_at (rest ++ more) ≡ with_more more (command_at rest)
+due_stays false rest more due f = command_stays rest more due
+due_stays true rest more due f =
+    rw (f refl) (ap command_at (append-nil rest) ∙ sym (with_none (command_at rest)))
 
-pub begun : (p : Profile) (bytes : List ℕ) → SoFar p bytes bytes [] [] 1
-begun p bytes = record {
+one_due : (over : Bool) (rest behind more : List ℕ) (s : Step) (ss : List Step) (good : Bool) → is_due over rest ≡ true → Follows over more
+    → command_at rest ≡ Some (s, behind) → Commands (behind ++ more) ss good → Commands (rest ++ more) (s ∷ ss) good
+one_due over [] behind more s ss good due f e c = absurd (nothing_due over due)
+one_due over (b ∷ bs) behind more s ss good due f e c =
+    commands.command b (bs ++ more) (behind ++ more) s ss good (due_stays over (b ∷ bs) more due f ∙ ap (with_more more) e) c
+
+whole_due : (over : Bool) (rest : List ℕ) → over ≡ false → is_due over rest ≡ true → is_whole rest ≡ true
+whole_due false rest o due = due
+whole_due true rest o due = absurd cc
+
+one_whole : (rest behind more : List ℕ) (s : Step) (ss : List Step) → is_whole rest ≡ true → command_at rest ≡ Some (s, behind) → WholeCommands (behind ++ more) ss
+    → WholeCommands (rest ++ more) (s ∷ ss)
+one_whole rest behind more s ss whole e c =
+    command (rest ++ more) (behind ++ more) s ss (whole_stays rest more whole) (command_stays rest more whole ∙ ap (with_more more) e) c
+
+-- a line that is due and no command is none, whatever follows
+pub none_due : (over : Bool) (rest : List ℕ) → is_due over rest ≡ true → command_at rest ≡ None → IsNoCommand over rest
+none_due over [] due e = absurd (nothing_due over due)
+none_due over (b ∷ bs) due e = λ more f. commands.no_command b (bs ++ more) (due_stays over (b ∷ bs) more due f ∙ ap (with_more more) e)
+
+-- ---- turns
+
+pub begun : (p : Profile) (over : Bool) (bytes : List ℕ) (v : World) (j : ℕ) → Turns p over bytes v j [] bytes v j
+begun p over bytes v j = record {
   steps = [];
   outcomes = [];
-  commands = λ ss good c. c;
+  commands = λ more f ss good c. c;
+  wholes = λ o more ss c. c;
   in_turn = λ ss xs c. c;
   paired = refl;
   writes = refl;
   counts = omega arith;
 }
 
--- one command more
-pub answered_one : (p : Profile) (bytes : List ℕ) (b : ℕ) (bs rest : List ℕ) (w w' : World) (text : List ℕ) (k : ℕ) (s : Step) (x : Option Answer)
-    → SoFar p bytes (b ∷ bs) w text k → command_at (b ∷ bs) ≡ Some (s, rest) → AnswersStep p w s x w' → SoFar p bytes rest w' (text ++ outcome_text s x) (k + 1)
-answered_one p bytes b bs rest w w' text k s x so e h = record {
-  steps = so.steps ++ s ∷ [];
-  outcomes = so.outcomes ++ x ∷ [];
-  commands = λ ss good c.
-      subst (λ (ts : List Step). Commands bytes ts good) (sym (append_assoc so.steps (s ∷ []) ss)) (so.commands (s ∷ ss) good (commands.command b bs rest s ss good e c));
-  in_turn = λ ss xs c.
-      subst (λ (ts : List Step). AnswersInTurn p [] ts ((so.outcomes ++ x ∷ []) ++ xs)) (sym (append_assoc so.steps (s ∷ []) ss))
-      (subst (λ (ys : List (Option Answer)). AnswersInTurn p [] (so.steps ++ s ∷ ss) ys) (sym (append_assoc so.outcomes (x ∷ []) xs))
-      (so.in_turn (s ∷ ss) (x ∷ xs) (w', h, c)));
-  paired = omega (arith, length-append so.steps (s ∷ []), length-append so.outcomes (x ∷ []), so.paired);
-  writes =
-      ap (λ (t : List ℕ). t ++ outcome_text s x) so.writes
-      ∙ sym (text_append so.steps (s ∷ []) so.outcomes (x ∷ []) so.paired ∙ ap (λ (t : List ℕ). outcomes_text so.steps so.outcomes ++ t) (append-nil (outcome_text s x)));
-  counts = omega (arith, length-append so.steps (s ∷ []), so.counts);
+-- one command is its turn
+pub turn_of_one : (p : Profile) (over : Bool) (rest behind : List ℕ) (w w' : World) (k : ℕ) (s : Step) (x : Option Answer) → is_due over rest ≡ true
+    → command_at rest ≡ Some (s, behind) → AnswersStep p w s x w' → Turns p over rest w k (outcome_text s x) behind w' (k + 1)
+turn_of_one p over rest behind w w' k s x due e h = record {
+  steps = s ∷ [];
+  outcomes = x ∷ [];
+  commands = λ more f ss good c. one_due over rest behind more s ss good due f e c;
+  wholes = λ o more ss c. one_whole rest behind more s ss (whole_due over rest o due) e c;
+  in_turn = λ ss xs c. (w', h, c);
+  paired = refl;
+  writes = sym (append-nil (outcome_text s x));
+  counts = refl;
 }
 
+-- some commands and then some more
+pub turns_both : (p : Profile) (over : Bool) (bytes rest left : List ℕ) (v w x : World) (j k l : ℕ) (text more_text : List ℕ)
+    → Turns p over bytes v j text rest w k → Turns p over rest w k more_text left x l → Turns p over bytes v j (text ++ more_text) left x l
+turns_both p over bytes rest left v w x j k l text more_text a b = record {
+  steps = a.steps ++ b.steps;
+  outcomes = a.outcomes ++ b.outcomes;
+  commands = λ more f ss good c.
+      subst (λ (ts : List Step). Commands (bytes ++ more) ts good) (sym (append_assoc a.steps b.steps ss))
+      (a.commands more f (b.steps ++ ss) good (b.commands more f ss good c));
+  wholes = λ o more ss c.
+      subst (WholeCommands (bytes ++ more)) (sym (append_assoc a.steps b.steps ss)) (a.wholes o more (b.steps ++ ss) (b.wholes o more ss c));
+  in_turn = λ ss xs c.
+      subst (λ (ts : List Step). AnswersInTurn p v ts ((a.outcomes ++ b.outcomes) ++ xs)) (sym (append_assoc a.steps b.steps ss))
+      (subst (λ (ys : List (Option Answer)). AnswersInTurn p v (a.steps ++ (b.steps ++ ss)) ys) (sym (append_assoc a.outcomes b.outcomes xs))
+      (a.in_turn (b.steps ++ ss) (b.outcomes ++ xs) (b.in_turn ss xs c)));
+  paired = omega (arith, length-append a.steps b.steps, length-append a.outcomes b.outcomes, a.paired, b.paired);
+  writes =
+      ap (λ (t : List ℕ). t ++ more_text) a.writes
+      ∙ ap (λ (t : List ℕ). outcomes_text a.steps a.outcomes ++ t) b.writes
+      ∙ sym (text_append a.steps b.steps a.outcomes b.outcomes a.paired);
+  counts = omega (arith, length-append a.steps b.steps, a.counts, b.counts);
+}
+
+-- a piece more was read
+pub turns_later : (p : Profile) (over : Bool) (bytes rest piece : List ℕ) (v w : World) (j k : ℕ) (text : List ℕ) → Turns p false bytes v j text rest w k
+    → Turns p over (bytes ++ piece) v j text (rest ++ piece) w k
+turns_later p over bytes rest piece v w j k text a = record {
+  steps = a.steps;
+  outcomes = a.outcomes;
+  commands = λ more f ss good c.
+      subst (λ (bs : List ℕ). Commands bs (a.steps ++ ss) good) (sym (append_assoc bytes piece more))
+      (a.commands (piece ++ more) (λ (o : false ≡ true). absurd cc) ss good
+      (subst (λ (bs : List ℕ). Commands bs ss good) (append_assoc rest piece more) c));
+  wholes = λ o more ss c.
+      subst (λ (bs : List ℕ). WholeCommands bs (a.steps ++ ss)) (sym (append_assoc bytes piece more))
+      (a.wholes refl (piece ++ more) ss (subst (λ (bs : List ℕ). WholeCommands bs ss) (append_assoc rest piece more) c));
+  in_turn = a.in_turn;
+  paired = a.paired;
+  writes = a.writes;
+  counts = a.counts;
+}
+
+-- ---- the whole text
+
 -- the rest in one
-pub finished : (p : Profile) (bytes rest : List ℕ) (w : World) (text : List ℕ) (k : ℕ) (ss : List Step) (xs : List (Option Answer)) (good : Bool)
-    → SoFar p bytes rest w text k → Commands rest ss good → AnswersInTurn p w ss xs
-    → StepsText p bytes (text ++ (outcomes_text ss xs ++ last_text good (k + length ss))) (steps_status good)
-finished p bytes rest w text k ss xs good so c h =
+finished : (p : Profile) (over : Bool) (bytes rest more : List ℕ) (w : World) (text : List ℕ) (k : ℕ) (ss : List Step) (xs : List (Option Answer)) (good : Bool)
+    → Turns p over bytes [] 1 text rest w k → Follows over more → Commands (rest ++ more) ss good → AnswersInTurn p w ss xs
+    → StepsText p (bytes ++ more) (text ++ (outcomes_text ss xs ++ last_text good (k + length ss))) (steps_status good)
+finished p over bytes rest more w text k ss xs good so f c h =
     let in_turn = so.in_turn ss xs h in
     let number : k + length ss ≡ length (so.steps ++ ss) + 1 = omega (arith, length-append so.steps ss, so.counts) in
     let last = last_text good (k + length ss) in
     record {
       steps = so.steps ++ ss;
       good = good;
-      commands = so.commands ss good c;
+      commands = so.commands more f ss good c;
       outcomes = so.outcomes ++ xs;
       in_turn = in_turn;
       writes =
@@ -132,23 +200,27 @@ finished p bytes rest w text k ss xs good so c h =
       isolated = told_alone p (so.steps ++ ss) (so.outcomes ++ xs) in_turn;
     }
 
--- at the end of the bytes
-pub finished_well : (p : Profile) (bytes : List ℕ) (w : World) (text : List ℕ) (k : ℕ) → SoFar p bytes [] w text k → StepsText p bytes text 0
+-- at the end of the input
+pub finished_well : (p : Profile) (bytes : List ℕ) (w : World) (text : List ℕ) (k : ℕ) → Turns p true bytes [] 1 text [] w k → StepsText p bytes text 0
 finished_well p bytes w text k so =
-    subst (λ (t : List ℕ). StepsText p bytes t 0) (append-nil text) (finished p bytes [] w text k [] [] true so commands.over tt)
+    subst (λ (bs : List ℕ). StepsText p bs text 0) (append-nil bytes)
+    (subst (λ (t : List ℕ). StepsText p (bytes ++ []) t 0) (append-nil text) (finished p true bytes [] [] w text k [] [] true so (λ o. refl) commands.over tt))
 
 -- at a line that is no command
-pub finished_ill : (p : Profile) (bytes : List ℕ) (b : ℕ) (bs : List ℕ) (w : World) (text : List ℕ) (k : ℕ) → SoFar p bytes (b ∷ bs) w text k
-    → command_at (b ∷ bs) ≡ None → StepsText p bytes (text ++ last_text false k) 2
-finished_ill p bytes b bs w text k so e =
+pub finished_ill : (p : Profile) (over : Bool) (bytes rest more : List ℕ) (w : World) (text : List ℕ) (k : ℕ) → Turns p over bytes [] 1 text rest w k
+    → Follows over more → IsNoCommand over rest → StepsText p (bytes ++ more) (text ++ last_text false k) 2
+finished_ill p over bytes rest more w text k so f none =
     let same : k + length {A = Step} [] ≡ k = omega arith in
-    subst (λ (n : ℕ). StepsText p bytes (text ++ last_text false n) 2) same
-    (finished p bytes (b ∷ bs) w text k [] [] false so (commands.no_command b bs e) tt)
+    subst (λ (n : ℕ). StepsText p (bytes ++ more) (text ++ last_text false n) 2) same
+    (finished p over bytes rest more w text k [] [] false so f (none more f) tt)
 
 -- however far it came, there is a text that goes on from here
-pub goes_on : (p : Profile) (bytes rest : List ℕ) (w : World) (text : List ℕ) (k : ℕ) → SoFar p bytes rest w text k
-    → (more : List ℕ) × (status : ℕ) × StepsText p bytes (text ++ more) status
-goes_on p bytes rest w text k so =
-    let c = any_within (length rest) rest (omega arith) in
-    let xs = map Some (answers p w c.0) in
-    (outcomes_text c.0 xs ++ last_text c.1 (k + length c.0), steps_status c.1, finished p bytes rest w text k c.0 xs c.1 so c.2 (all_answered p w c.0))
+pub goes_on : (p : Profile) (over : Bool) (bytes rest more : List ℕ) (w : World) (text : List ℕ) (k : ℕ) → Turns p over bytes [] 1 text rest w k → Follows over more
+    → (others : List ℕ) × (status : ℕ) × StepsText p (bytes ++ more) (text ++ others) status
+goes_on p over bytes rest more w text k so f =
+    let c = any_within (length (rest ++ more)) (rest ++ more) (omega arith) in
+    let xs = map Some (answers p w c.0) in (
+      outcomes_text c.0 xs ++ last_text c.1 (k + length c.0),
+      steps_status c.1,
+      finished p over bytes rest more w text k c.0 xs c.1 so f c.2 (all_answered p w c.0),
+    )

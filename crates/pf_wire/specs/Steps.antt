@@ -1,7 +1,7 @@
 -- What `steps` writes for the bytes that it reads.
 use Rattle.std.specs.Prelude.{◌≡◌, ℕ, ◌+◌, Bool, if◌then◌else◌, List, [], ◌++◌, length, map, take, Option, Some, None, false, IfSome, codes}
 use Rattle.std.specs.Fmt.{decimal}
-use Rattle.std.specs.Io.KnownBytes.{Appends}
+use Rattle.std.specs.Io.KnownBytes.{Appends, Consumes}
 use Rattle.pf_fault.specs.Codes.{code_text}
 use Rattle.pf_fault.specs.declared.code.Code.TheVariants as code
 use Rattle.pf_fault.specs.declared.fault.OrNoMemory.{OrNoMemory}
@@ -15,6 +15,7 @@ use Rattle.pf_single.specs.Told.{outcome_text, outcomes_text}
 use Rattle.pf_single.specs.Desk.{Profile}
 use Rattle.pf_book.specs.Profile.{ForRight}
 use Rattle.pf_wire.specs.Commands.{Commands, command_at}
+use Rattle.pf_wire.specs.Whole.{WholeCommands}
 use Rattle.pf_wire.specs.declared.steps.TheConstants.{MOST_BYTES}
 
 -- command number k, counted from 1, is none
@@ -62,14 +63,13 @@ StepsAnswered p r0 w0 w1 status = (bytes : List ℕ) × (text : List ℕ) × Are
 abbrev pub StepsAnsweredInPart : Profile → (read_old written_old written_new : Option (List ℕ)) → Type 0
 StepsAnsweredInPart p r0 w0 w1 = (bytes : List ℕ) × AreRead r0 bytes × AnswersInPart p bytes w0 w1
 
--- what a fault leaves of the bytes that were read: which stream failed once more, and what went out
-abbrev pub Stops : Profile → OrNoMemory StreamFault → List ℕ → (written_old written_new : Option (List ℕ)) → (writes_old writes_new : ℕ) → Type 0
-Stops p NoMemory bytes w0 w1 n0 n1 = (n1 ≡ n0) × AnswersInPart p bytes w0 w1
-Stops p (Fault (Read e)) bytes w0 w1 n0 n1 = ⊥
-Stops p (Fault (Write e)) bytes w0 w1 n0 n1 = (n1 ≡ n0 + 1) × AnswersInPart p bytes w0 w1
+-- the commands that stand whole in what was read are answered, each with its whole text
+abbrev pub WholeAnswered : Profile → (read_old read_new written_old written_new : Option (List ℕ)) → Type 0
+WholeAnswered p r0 r1 w0 w1 = (bytes : List ℕ) × (steps : List Step) × (outcomes : List (Option Answer)) × Consumes r0 r1 bytes
+    × WholeCommands bytes steps × AnswersInTurn p [] steps outcomes × Appends w0 w1 (outcomes_text steps outcomes)
 
 -- what a fault leaves: which stream failed once more, and what went out
-abbrev pub StepsLeaves : Profile → OrNoMemory StreamFault → (read_old written_old written_new : Option (List ℕ)) → (reads_old reads_new writes_old writes_new : ℕ) → Type 0
-StepsLeaves p NoMemory r0 w0 w1 m0 m1 n0 n1 = (m1 ≡ m0) × (n1 ≡ n0) × StepsAnsweredInPart p r0 w0 w1
-StepsLeaves p (Fault (Read e)) r0 w0 w1 m0 m1 n0 n1 = (m1 ≡ m0 + 1) × (n1 ≡ n0) × (w1 ≡ w0)
-StepsLeaves p (Fault (Write e)) r0 w0 w1 m0 m1 n0 n1 = (m1 ≡ m0) × (n1 ≡ n0 + 1) × StepsAnsweredInPart p r0 w0 w1
+abbrev pub StepsLeaves : Profile → OrNoMemory StreamFault → (read_old read_new written_old written_new : Option (List ℕ)) → (reads_old reads_new writes_old writes_new : ℕ) → Type 0
+StepsLeaves p NoMemory r0 r1 w0 w1 m0 m1 n0 n1 = (m1 ≡ m0) × (n1 ≡ n0) × StepsAnsweredInPart p r0 w0 w1
+StepsLeaves p (Fault (Read e)) r0 r1 w0 w1 m0 m1 n0 n1 = (m1 ≡ m0 + 1) × (n1 ≡ n0) × StepsAnsweredInPart p r0 w0 w1 × WholeAnswered p r0 r1 w0 w1
+StepsLeaves p (Fault (Write e)) r0 r1 w0 w1 m0 m1 n0 n1 = (m1 ≡ m0) × (n1 ≡ n0 + 1) × StepsAnsweredInPart p r0 w0 w1

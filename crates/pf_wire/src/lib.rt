@@ -7,6 +7,8 @@ mod line;
 mod outcome;
 mod reply;
 mod steps;
+mod stream;
+mod whole;
 
 pub use command::{Command, LineFault, read_command};
 pub use outcome::{Outcome, Requester, perform, put_outcome};

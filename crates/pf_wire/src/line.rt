@@ -42,7 +42,7 @@ fn one_number(words: &[u8]) -> Option<u32>
 }
 
 /// The numbers that the words are, where they are two.
-fn two_numbers(words: &[u8]) -> Option<(u32, u32)>
+pub(crate) fn two_numbers(words: &[u8]) -> Option<(u32, u32)>
     ensures { (f : ℕ → ℕ → Asked) → option_map (λ p. f p.0 p.1) result ≡ of_two f (words_of words.now) }
 {
     let (first, others) = first_word(words)?;

@@ -1,17 +1,21 @@
 //! The work of `steps` between a reader and a writer.
 
-ghost use Rattle.std.specs.Prelude.{◌≡◌, ◌≤◌, ℕ, List, Option, false, length, IfOk, IfErr, OnOk};
+ghost use Rattle.std.specs.Prelude.{◌≡◌, ◌≤◌, ◌<◌, ◌+◌, ◌^◌, ℕ, List, Option, false, length, IfOk, IfErr, MatchOption, OnOk};
 ghost use Rattle.std.specs.Option.{option_copied};
-ghost use Rattle.std.specs.Io.KnownBytes.{Appends, Consumes};
+ghost use Rattle.std.specs.Io.KnownBytes.{Consumes};
 ghost use Rattle.pf_single.specs.World.{Answer, AnswersStep};
 ghost use Rattle.pf_single.specs.Told.{outcome_text};
 ghost use Rattle.pf_book.specs.Profile.{ForRight};
 ghost use Rattle.pf_wire.specs.View.{command_seen};
-ghost use Rattle.pf_wire.specs.Steps.{last_text, AnswersOne, StepsText, Stops, StepsAnswered, StepsLeaves};
+ghost use Rattle.pf_wire.specs.Steps.{last_text, AnswersOne, StepsAnswered, StepsLeaves};
+ghost use Rattle.pf_wire.specs.Turns.{TellsAll, TellsUpTo, TurnsLeave};
+ghost use Rattle.pf_wire.specs.Whole.{is_due};
 
 use crate::command::{Command, NoCommand, read_command};
 use crate::outcome::{Requester, perform, put_outcome};
 use crate::reply::put_code;
+use crate::stream::{Gathered, Input, ROOM};
+use crate::whole::is_due;
 use pf_book::Book;
 use pf_fault::{Code, NoMemory, OrNoMemory};
 use pf_terms::{Counted, StreamFault};
@@ -78,42 +82,62 @@ fn answer_front<'a>(
     }
 }
 
-/// Answers the commands of an input, each before the next is done, and gives the status.
-fn answer_all<W: Write, M: Ledger>(
+/// What was left behind the commands that were answered, and the number of the next.
+#[derive(Clone, Copy)]
+struct Left<'a> {
+    rest: &'a [u8],
+    number: u64,
+}
+
+/// Answers the commands that are due, the first of which has this number, up to a line that is none; behind that there
+/// is nothing left.
+fn answer_due<'a, W: Write, M: Ledger>(
     alloc: Global,
-    input: &[u8],
+    book: &mut Book,
+    first: u64,
+    input: &'a [u8],
+    is_over: bool,
     writer: &mut Counted<W, M>,
-) -> Result<u8, OrNoMemory<StreamFault>>
-    ensures answered { IfOk result (λ status. ForRight (λ p.
-        (text : List ℕ) × StepsText p input.now text status
-        × Appends (W.contents writer.old.inner) (W.contents writer.new.inner) text)) }
+) -> Result<Option<Left<'a>>, OrNoMemory<StreamFault>>
+    requires { first + length input.now < 2 ^ 63 }
+    ensures answered { IfOk result (λ left. MatchOption left
+        (ForRight (λ p. TellsAll p is_over input.now book.old first
+        (W.contents writer.old.inner) (W.contents writer.new.inner)))
+        (λ l. ForRight (λ p. TellsUpTo p is_over input.now book.old first l.rest.now book.new l.number
+        (W.contents writer.old.inner) (W.contents writer.new.inner))
+        × (is_due is_over l.rest.now ≡ false) × (l.number + length l.rest.now ≤ first + length input.now))) }
     ensures kept { OnOk result (writer.new.failures.total ≡ writer.old.failures.total) }
-    ensures fault { IfErr result (λ e. ForRight (λ p.
-        Stops p e input.now (W.contents writer.old.inner) (W.contents writer.new.inner)
+    ensures fault { IfErr result (λ e. ForRight (λ p. TurnsLeave p e is_over input.now book.old first
+        (W.contents writer.old.inner) (W.contents writer.new.inner)
         writer.old.failures.total writer.new.failures.total)) }
 {
-    let mut book = Book::new(alloc);
+    let mut gathered = Gathered {
+        text: Vec::new(alloc),
+    };
     let mut rest = input;
-    let mut number: u64 = 1;
-    while !rest.is_empty() {
-        let answered = match answer_front(alloc, &mut book, rest, number) {
+    let mut number = first;
+    while is_due(rest, is_over) {
+        let answered = match answer_front(alloc, book, rest, number) {
             Ok(answered) => answered,
-            Err(NoMemory) => return Err(OrNoMemory::NoMemory),
+            Err(NoMemory) => {
+                gathered.send(writer)?;
+                return Err(OrNoMemory::NoMemory);
+            }
         };
-        if let Err(e) = writer.put(&answered.text) {
-            return Err(OrNoMemory::Fault(e));
-        }
+        gathered.add(writer, &answered.text)?;
         let Some(behind) = answered.rest else {
-            return Ok(2);
+            gathered.send(writer)?;
+            return Ok(None);
         };
         rest = behind;
         number += 1;
     }
-    Ok(0)
+    gathered.send(writer)?;
+    Ok(Some(Left { rest, number }))
 }
 
-/// Reads at most 64 MiB, answers each command as it is done, and gives the status: 2 where a line is no command,
-/// behind which nothing is done, and else 0.
+/// Reads at most 64 MiB, piece by piece, answers each command before it waits for more, and gives the status: 2 where a
+/// line is no command, behind which nothing is done, and else 0.
 pub fn run_steps<R: Read, W: Write, L: Ledger, M: Ledger>(
     alloc: Global,
     reader: &mut Counted<R, L>,
@@ -125,15 +149,29 @@ pub fn run_steps<R: Read, W: Write, L: Ledger, M: Ledger>(
         × Consumes (R.remaining reader.old.inner) (R.remaining reader.new.inner) bytes }
     ensures counts { OnOk result ((reader.new.failures.total ≡ reader.old.failures.total)
         × (writer.new.failures.total ≡ writer.old.failures.total)) }
-    ensures fault { IfErr result (λ e. ForRight (λ p. StepsLeaves p e (R.remaining reader.old.inner)
+    ensures fault { IfErr result (λ e. ForRight (λ p. StepsLeaves p e
+        (R.remaining reader.old.inner) (R.remaining reader.new.inner)
         (W.contents writer.old.inner) (W.contents writer.new.inner)
         reader.old.failures.total reader.new.failures.total
         writer.old.failures.total writer.new.failures.total)) }
 {
-    let mut input = match reader.take_front(alloc, MOST_BYTES) {
-        Ok(input) => input,
-        Err(fault) => return Err(fault),
-    };
-    input.shrink_to_fit();
-    answer_all(alloc, &input, writer)
+    let mut room = vec![in alloc; 0u8; ROOM]?;
+    let piece = room.as_mut_slice();
+    let mut input = Input::new(alloc);
+    let mut book = Book::new(alloc);
+    let mut number: u64 = 1;
+    let mut is_over = false;
+    while !is_over {
+        is_over = input.take_piece(reader, piece)?;
+        if input.is_due(is_over) {
+            let Some(left) = answer_due(alloc, &mut book, number, &input.bytes, is_over, writer)?
+            else {
+                return Ok(2);
+            };
+            number = left.number;
+            let rest = Vec::from_slice(alloc, left.rest)?;
+            input.keep(rest);
+        }
+    }
+    Ok(0)
 }

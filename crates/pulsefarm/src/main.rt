@@ -3,17 +3,32 @@
 
 ghost use Rattle.std.specs.Prelude.{◌≡◌, ◌<◌};
 
+mod given;
+mod shown;
+mod stack;
+
+use crate::given::{Word, bytes_of, given_words, open};
+use crate::shown::{Shown, without_tip};
+use crate::stack::{STACK_BYTES, first_thread_has_stack};
 use clap::error::ErrorKind;
 use pf_command::{Words, read_words, run_source, status_of_kind};
 use pf_fault::{NoMemory, OrNoMemory};
 use pf_profile::run_steps;
 use pf_terms::{Counted, StreamFault};
+use std::alloc::{AllocError, AllocGlobal};
 use std::env::Env;
 use std::io::{Read, Write};
 use std::marker::Brand;
 use std::process::ExitCode;
 use std::sync::ledger::{Blank, Ledger};
-use std::{env, fs, io};
+use std::thread::Builder;
+use std::{fmt, io};
+
+/// The status where something is refused, can't be read or written, or memory runs out.
+const REFUSED: u8 = 2;
+
+/// The status where nobody reads the output any more: that of a program which the signal of a broken pipe has ended.
+const NOT_WANTED: u8 = 128 + 13;
 
 /// What the work of a command ends with: a status, or what stopped it.
 type Answered = Result<u8, OrNoMemory<StreamFault>>;
@@ -52,96 +67,163 @@ fn answer<R: Read + Drop, W: Write + Drop>(
     answer_by::<R, W, Brand, Brand>(rt, asked, reader, writer, Blank::new(1), Blank::new(1))
 }
 
-fn given_words(rt: &(impl Env + AllocGlobal)) -> io::Result<Vec<String>> {
-    let words: Vec<String> = env::args(rt)?.collect(rt.alloc())?;
-    Ok(words)
+/// What a command is asked to read.
+#[derive(Clone, Copy)]
+enum Source<'a> {
+    Stdin,
+    File(&'a str),
 }
 
-/// Says that memory ran out.
-fn no_memory(rt: &impl Print) -> ExitCode {
-    let _printed = println!(rt; "{NoMemory}");
-    ExitCode::from(2)
-}
-
-/// The same on standard error, for a command whose replies went out before.
-fn no_more_memory(rt: &impl Eprint) -> ExitCode {
-    let _printed = eprintln!(rt; "pulsefarm: {NoMemory}");
-    ExitCode::from(2)
-}
-
-/// Says which stream failed, and why.
-fn failed(rt: &impl Eprint, fault: &StreamFault) -> ExitCode {
-    let _printed = eprintln!(rt; "pulsefarm: {fault}: {}", fault.error());
-    ExitCode::from(2)
-}
-
-/// Says what could not be read or opened, and why.
-fn not_read(rt: &(impl Print + Eprint), what: &str, error: &io::Error) -> ExitCode {
-    if error.kind() == io::ErrorKind::OutOfMemory {
-        return no_memory(rt);
-    }
-    let _printed = eprintln!(rt; "pulsefarm: {what}: {error}");
-    ExitCode::from(2)
-}
-
-/// Prints the text of words that ask for no command.
-fn no_command(rt: &(impl Print + Eprint), error: &clap::Error) -> ExitCode {
-    if error.kind() == ErrorKind::OutOfMemory {
-        return no_memory(rt);
-    }
-    match error.print(rt) {
-        Ok(()) => ExitCode::from(status_of_kind(error.kind())),
-        Err(_) => ExitCode::from(2),
-    }
-}
-
-/// What stopped the work, but for memory that ran out: in the work itself or in a stream.
-fn stream_fault(fault: OrNoMemory<StreamFault>) -> Option<StreamFault> {
-    match fault {
-        OrNoMemory::NoMemory => None,
-        OrNoMemory::Fault(fault) => {
-            if fault.error().kind() == io::ErrorKind::OutOfMemory {
-                return None;
-            }
-            Some(fault)
+impl fmt::Display for Source<'_> {
+    fn fmt<W: fmt::Write>(&self, f: &mut fmt::Formatter<W>) -> fmt::Result {
+        match self {
+            Source::Stdin => f.write_str("the input can't be read"),
+            Source::File(text) => write!(
+                f,
+                "{}",
+                Shown {
+                    text,
+                    has_lines: false
+                }
+            ),
         }
     }
 }
 
-fn end(rt: &(impl Print + Eprint), asked: &Words, answered: Answered) -> ExitCode {
-    let fault = match answered {
-        Ok(status) => return ExitCode::from(status),
-        Err(fault) => fault,
+/// Says that memory ran out.
+fn no_memory(rt: &impl Print) -> u8 {
+    let _printed = println!(rt; "{NoMemory}");
+    REFUSED
+}
+
+/// The same on standard error, for a command whose replies went out before.
+fn no_more_memory(rt: &impl Eprint) -> u8 {
+    let _printed = eprintln!(rt; "pulsefarm: {NoMemory}");
+    REFUSED
+}
+
+/// Says what can't be read, and why.
+fn not_read(rt: &(impl Print + Eprint), source: Source<'_>, error: &io::Error) -> u8 {
+    if error.kind() == io::ErrorKind::OutOfMemory {
+        return no_memory(rt);
+    }
+    let _printed = eprintln!(rt; "pulsefarm: {source}: {error}");
+    REFUSED
+}
+
+/// Says why the output can't be written. Where nobody reads it any more, that is no fault to speak of.
+fn not_written(rt: &impl Eprint, error: &io::Error) -> u8 {
+    if error.kind() == io::ErrorKind::BrokenPipe {
+        return NOT_WANTED;
+    }
+    let _printed = eprintln!(rt; "pulsefarm: the output can't be written: {error}");
+    REFUSED
+}
+
+/// Prints the text of words that ask for no command: help and the version, or what is wrong with the words.
+fn no_command(rt: &(impl Print + Eprint + AllocGlobal), error: &clap::Error) -> u8 {
+    let status = status_of_kind(error.kind());
+    let Ok(text) = format!(in rt.alloc(); "{error}") else {
+        return no_memory(rt);
     };
-    match (stream_fault(fault), asked) {
-        (Some(fault), _) => failed(rt, &fault),
-        (None, Words::Run(_)) => no_memory(rt),
-        (None, Words::Steps(_)) => no_more_memory(rt),
+    if error.kind() == ErrorKind::OutOfMemory {
+        return no_memory(rt);
+    }
+    if error.use_stderr() {
+        let (front, back) = without_tip(&text);
+        for text in [front, back] {
+            let shown = Shown {
+                text,
+                has_lines: true,
+            };
+            let _printed = eprint!(rt; "{shown}");
+        }
+        return status;
+    }
+    match print!(rt; "{text}") {
+        Ok(()) => status,
+        Err(error) => not_written(rt, &error),
+    }
+}
+
+/// The status of a command, and what is said of its end.
+fn end(rt: &(impl Print + Eprint), asked: &Words, source: Source<'_>, answered: Answered) -> u8 {
+    let fault = match answered {
+        Ok(status) => return status,
+        Err(OrNoMemory::Fault(fault)) if fault.error().kind() != io::ErrorKind::OutOfMemory =>
+            fault,
+        Err(_) => {
+            return match asked {
+                Words::Run(_) => no_memory(rt),
+                Words::Steps(_) => no_more_memory(rt),
+            };
+        }
+    };
+    match &fault {
+        StreamFault::Read(error) => not_read(rt, source, error),
+        StreamFault::Write(error) => not_written(rt, error),
+    }
+}
+
+/// Does what the words ask for.
+fn obey<R: Print + Eprint + AllocGlobal, I: Read + Drop>(
+    rt: &R,
+    given: &[Word],
+    asked: &Words,
+    stdin: I,
+) -> u8 {
+    let Some(text) = asked.file() else {
+        let answered = answer(rt, asked, stdin, io::writer(rt));
+        return end(rt, asked, Source::Stdin, answered);
+    };
+    let source = Source::File(text);
+    match open(bytes_of(given, text)) {
+        Ok(file) => {
+            let answered = answer(rt, asked, file, io::writer(rt));
+            end(rt, asked, source, answered)
+        }
+        Err(error) => not_read(rt, source, &error),
+    }
+}
+
+/// Reads the words and does what they ask for.
+fn try_work<R: Env + Print + Eprint + AllocGlobal, I: Read + Drop>(
+    rt: &R,
+    stdin: I,
+) -> Result<u8, AllocError> {
+    let alloc = rt.alloc();
+    let given = given_words(rt)?;
+    let mut words = Vec::new(alloc);
+    words.push("pulsefarm")?;
+    for word in &given {
+        words.push(word.text.as_str())?;
+    }
+    Ok(match read_words(alloc, &words) {
+        Ok(asked) => obey(rt, &given, &asked, stdin),
+        Err(error) => no_command(rt, &error),
+    })
+}
+
+/// Does all work; what it gives is the status.
+fn work<R: Env + Print + Eprint + AllocGlobal, I: Read + Drop>(rt: &R, stdin: I) -> u8 {
+    match try_work(rt, stdin) {
+        Ok(status) => status,
+        Err(AllocError) => no_memory(rt),
     }
 }
 
 fn main(rt: HostRuntime) -> ExitCode {
-    let alloc = rt.alloc();
-    let given = match given_words(&rt) {
-        Ok(given) => given,
-        Err(error) => return not_read(&rt, "the words can't be read", &error),
-    };
-    let mut words = Vec::new(alloc);
-    for word in &given {
-        if words.push(word.as_str()).is_err() {
-            return no_memory(&rt);
+    if first_thread_has_stack() {
+        return ExitCode::from(work(&rt, rt.stdin()));
+    }
+    let worker = Builder::new()
+        .stack_size(STACK_BYTES)
+        .spawn(&rt, move || work(&rt, rt.stdin()));
+    match worker {
+        Ok(worker) => ExitCode::from(worker.join(&rt)),
+        Err(error) => {
+            let _printed = eprintln!(rt; "pulsefarm: no thread can be started: {error}");
+            ExitCode::from(REFUSED)
         }
     }
-    let asked = match read_words(alloc, &words) {
-        Ok(asked) => asked,
-        Err(error) => return no_command(&rt, &error),
-    };
-    let answered = match asked.file() {
-        None => answer(&rt, &asked, rt.stdin(), io::writer(&rt)),
-        Some(path) => match fs::open(&rt, path) {
-            Ok(opened) => answer(&rt, &asked, opened, io::writer(&rt)),
-            Err(error) => return not_read(&rt, path, &error),
-        },
-    };
-    end(&rt, &asked, answered)
 }

@@ -1,0 +1,80 @@
+use Rattle.std.proofs.Common.{◌≡◌, ◌∷◌, ℕ, List, [], Bool, true, false, Option, Some, None, refl, sym, ap, ◌∙◌}
+use Rattle.std.specs.Prelude.{codes, ◌&&◌, not, if◌then◌else◌}
+use Rattle.std.specs.Str.{bytes_eq}
+use Rattle.pf_text.specs.Numbers.{number_of, schedule_of}
+use Rattle.pf_single.specs.Desk.{fetch, usage, once}
+use Rattle.pf_single.specs.World.{Step, client, worker}
+use Rattle.pf_wire.specs.Commands.{Asked, made, with_one, with_two, with_order, of_one, of_two, of_order, asked_by, words_of, is_word}
+use Rattle.pf_wire.specs.Whole.{size_in}
+use Rattle.pf_wire.proofs.whole.source_size.Goals as goal
+
+-- what is made wants no source
+with_one_made : (f : ℕ → Step) (a : Option ℕ) → size_in (with_one (λ m. made (f m)) a) ≡ None
+with_one_made f None = refl
+with_one_made f (Some m) = refl
+
+with_two_made : (f : ℕ → ℕ → Step) (a b : Option ℕ) → size_in (with_two (λ m n. made (f m n)) a b) ≡ None
+with_two_made f None b = refl
+with_two_made f (Some m) None = refl
+with_two_made f (Some m) (Some n) = refl
+
+one_made : (f : ℕ → Step) (ws : List (List ℕ)) → size_in (of_one (λ m. made (f m)) ws) ≡ None
+one_made f [] = refl
+one_made f (a ∷ []) = with_one_made f (number_of a)
+one_made f (a ∷ b ∷ ws) = refl
+
+two_made : (f : ℕ → ℕ → Step) (ws : List (List ℕ)) → size_in (of_two (λ m n. made (f m n)) ws) ≡ None
+two_made f [] = refl
+two_made f (a ∷ []) = refl
+two_made f (a ∷ b ∷ []) = with_two_made f (number_of a) (number_of b)
+two_made f (a ∷ b ∷ c ∷ ws) = refl
+
+with_order_made : (root property : List ℕ) (p n : Option ℕ) (s : Option (List ℕ)) (l : Option ℕ) → size_in (with_order root property p n s l) ≡ None
+with_order_made root property None n s l = refl
+with_order_made root property (Some p) None s l = refl
+with_order_made root property (Some p) (Some n) None l = refl
+with_order_made root property (Some p) (Some n) (Some s) None = refl
+with_order_made root property (Some p) (Some n) (Some s) (Some l) = refl
+
+pick_none : (c : Bool) (x y : Option Asked) → size_in x ≡ None → size_in y ≡ None → size_in (if◌then◌else◌ {A = Option Asked} c x y) ≡ None
+pick_none true x y h k = h
+pick_none false x y h k = k
+
+order_made : (ws : List (List ℕ)) → size_in (of_order ws) ≡ None
+order_made [] = refl
+order_made (a ∷ []) = refl
+order_made (a ∷ b ∷ []) = refl
+order_made (a ∷ b ∷ c ∷ []) = refl
+order_made (a ∷ b ∷ c ∷ d ∷ []) = refl
+order_made (a ∷ b ∷ c ∷ d ∷ e ∷ []) = refl
+order_made (p ∷ m ∷ root ∷ property ∷ choices ∷ limit ∷ []) =
+    pick_none (is_word root && is_word property) (with_order root property (number_of p) (number_of m) (schedule_of choices) (number_of limit)) None
+    (with_order_made root property (number_of p) (number_of m) (schedule_of choices) (number_of limit)) refl
+order_made (a ∷ b ∷ c ∷ d ∷ e ∷ f ∷ g ∷ ws) = refl
+
+not_true : (b : Bool) → not b ≡ true → b ≡ false
+not_true true h = absurd cc
+not_true false h = refl
+
+-- only a submission wants a source
+others_want_none : (w : List ℕ) (ws : List (List ℕ)) → bytes_eq w (codes "submit") ≡ false → size_in (asked_by (w ∷ ws)) ≡ None
+others_want_none w ws h =
+    let fetched = of_two (λ p t. made (client p (fetch t))) ws in
+    let used = of_one (λ p. made (client p usage)) ws in
+    let worked = of_two (λ p t. made (worker p (once t))) ws in
+    let is_once = bytes_eq w (codes "once") in
+    let last = pick_none is_once worked None (two_made (λ p t. worker p (once t)) ws) refl in
+    let is_usage = bytes_eq w (codes "usage") in
+    let from_usage = pick_none is_usage used _ (one_made (λ p. client p usage) ws) last in
+    let is_fetch = bytes_eq w (codes "fetch") in
+    let from_fetch = pick_none is_fetch fetched _ (two_made (λ p t. client p (fetch t)) ws) from_usage in
+    let is_order = bytes_eq w (codes "order") in
+    let from_order = pick_none is_order (of_order ws) _ (order_made ws) from_fetch in
+    rw h from_order
+
+pub returns-then-ne : goal.returns-then-ne
+returns-then-ne c =
+    let name = c.in_ok-name.name.now in
+    let words = words_of c.in_ok-name.words.now in
+    let other : bytes_eq name (codes "submit") ≡ false = ap (bytes_eq name) (sym c.as_slice.ensures) ∙ not_true _ (sym c.if-ne.ensures) in
+    sym (ap (λ (ws : List (List ℕ)). size_in (asked_by ws)) c.in_ok-name.ensures ∙ others_want_none name words other)

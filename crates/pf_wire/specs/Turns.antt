@@ -1,0 +1,75 @@
+-- How far the commands of some bytes were answered, when more bytes may follow them.
+use Rattle.std.specs.Prelude.{◌≡◌, ℕ, ◌+◌, ◌<◌, ◌≤◌, ◌⊎◌, Bool, true, false, List, [], ◌++◌, length, Option}
+use Rattle.std.specs.Io.KnownBytes.{Appends, Consumes, IsAtEnd, Keeps}
+use Rattle.pf_fault.specs.declared.fault.OrNoMemory.{OrNoMemory}
+use Rattle.pf_fault.specs.declared.fault.OrNoMemory.TheVariants.{NoMemory, Fault}
+use Rattle.pf_terms.specs.declared.stream.StreamFault.{StreamFault}
+use Rattle.pf_terms.specs.declared.stream.StreamFault.TheVariants.{Read, Write}
+use Rattle.pf_terms.specs.Streams.{AppendsFront}
+use Rattle.pf_single.specs.Desk.{Profile}
+use Rattle.pf_single.specs.World.{World, Step, Answer, AnswersInTurn}
+use Rattle.pf_single.specs.Told.{outcomes_text}
+use Rattle.pf_wire.specs.Commands.{Commands}
+use Rattle.pf_wire.specs.Whole.{WholeCommands}
+use Rattle.pf_wire.specs.Steps.{last_text}
+use Rattle.pf_wire.specs.declared.steps.TheConstants.{MOST_BYTES}
+
+-- what may follow: anything, but nothing where the input is over
+abbrev pub Follows : Bool → List ℕ → Type 0
+Follows over more = over ≡ true → more ≡ []
+
+-- Turns p over bytes v j text rest w k: whatever follows, the bytes are some commands and then the rest, which are whole commands unless the
+-- input is over; their steps lead from the world v to w, the text is what came of them, and they are numbered from j up to k
+pub record Turns (p : Profile) (over : Bool) (bytes : List ℕ) (v : World) (j : ℕ) (text rest : List ℕ) (w : World) (k : ℕ) : Type 0 where
+  pub steps : List Step
+  pub outcomes : List (Option Answer)
+  pub commands : (more : List ℕ) → Follows over more → (ss : List Step) (good : Bool)
+      → Commands (rest ++ more) ss good → Commands (bytes ++ more) (steps ++ ss) good
+  pub wholes : over ≡ false → (more : List ℕ) (ss : List Step)
+      → WholeCommands (rest ++ more) ss → WholeCommands (bytes ++ more) (steps ++ ss)
+  pub in_turn : (ss : List Step) (xs : List (Option Answer)) → AnswersInTurn p w ss xs → AnswersInTurn p v (steps ++ ss) (outcomes ++ xs)
+  pub paired : length steps ≡ length outcomes
+  pub writes : text ≡ outcomes_text steps outcomes
+  pub counts : k ≡ j + length steps
+
+-- whatever follows, the line in front is no command
+abbrev pub IsNoCommand : Bool → List ℕ → Type 0
+IsNoCommand over rest = (more : List ℕ) → Follows over more → Commands (rest ++ more) [] false
+
+-- the text answers some commands, the last of which may be none
+pub data Tells (p : Profile) (over : Bool) (bytes : List ℕ) (v : World) (j : ℕ) (text : List ℕ) : Type 0 where
+  so_far : (rest : List ℕ) (w : World) (k : ℕ) → Turns p over bytes v j text rest w k → Tells p over bytes v j text
+  no_more : (front rest : List ℕ) (w : World) (k : ℕ) → Turns p over bytes v j front rest w k → IsNoCommand over rest
+      → text ≡ front ++ last_text false k → Tells p over bytes v j text
+
+-- what went out is the text of commands up to a rest, which is not due
+abbrev pub TellsUpTo : Profile → Bool → (bytes : List ℕ) → World → ℕ → (rest : List ℕ) → World → ℕ → (written_old written_new : Option (List ℕ)) → Type 0
+TellsUpTo p over bytes v j rest w k w0 w1 = (text : List ℕ) × Turns p over bytes v j text rest w k × Appends w0 w1 text
+
+-- what went out is the text of commands and of a line that is none
+abbrev pub TellsAll : Profile → Bool → (bytes : List ℕ) → World → ℕ → (written_old written_new : Option (List ℕ)) → Type 0
+TellsAll p over bytes v j w0 w1 = (front rest : List ℕ) × (w : World) × (k : ℕ) × Turns p over bytes v j front rest w k
+    × IsNoCommand over rest × Appends w0 w1 (front ++ last_text false k)
+
+-- a beginning of such a text went out
+abbrev pub TellsInPart : Profile → Bool → (bytes : List ℕ) → World → ℕ → (written_old written_new : Option (List ℕ)) → Type 0
+TellsInPart p over bytes v j w0 w1 = (text : List ℕ) × Tells p over bytes v j text × AppendsFront w0 w1 text
+
+-- what a fault leaves: whether a write failed, and what went out
+abbrev pub TurnsLeave : Profile → OrNoMemory StreamFault → Bool → (bytes : List ℕ) → World → ℕ → (written_old written_new : Option (List ℕ)) → (writes_old writes_new : ℕ) → Type 0
+TurnsLeave p NoMemory over bytes v j w0 w1 n0 n1 = (n1 ≡ n0) × TellsInPart p over bytes v j w0 w1
+TurnsLeave p (Fault (Read e)) over bytes v j w0 w1 n0 n1 = ⊥
+TurnsLeave p (Fault (Write e)) over bytes v j w0 w1 n0 n1 = (n1 ≡ n0 + 1) × TellsInPart p over bytes v j w0 w1
+
+-- ---- pieces of an input
+
+-- a piece was taken; so many bytes of the input are taken then, and whether the input is over
+abbrev pub TakesPiece : (read_old read_new : Option (List ℕ)) → (bytes_old bytes_new : List ℕ) → (taken_old taken_new : ℕ) → Bool → Type 0
+TakesPiece r0 r1 b0 b1 t0 t1 over = (piece : List ℕ) × Consumes r0 r1 piece × (b1 ≡ b0 ++ piece) × (t1 ≡ t0 + length piece)
+    × (over ≡ true → IsAtEnd r1 ⊎ (t1 ≡ MOST_BYTES)) × (over ≡ false → (t0 < t1) × (t1 < MOST_BYTES)) × (t1 ≤ MOST_BYTES)
+
+-- what a failed read leaves
+abbrev pub PieceLeaves : OrNoMemory StreamFault → (read_old read_new : Option (List ℕ)) → (reads_old reads_new : ℕ) → Type 0
+PieceLeaves NoMemory r0 r1 m0 m1 = m1 ≡ m0
+PieceLeaves (Fault (Read e)) r0 r1 m0 m1 = (m1 ≡ m0 + 1) × Keeps r0 r1
+PieceLeaves (Fault (Write e)) r0 r1 m0 m1 = ⊥

@@ -1,0 +1,291 @@
+#!/bin/sh
+# Runs the program at its edges: files and their names, words, streams that are closed, full or end, a client on a pipe
+# that waits for each reply, the deepest sources on half of the stack that the program takes, and long inputs.
+#
+# Usage: run.sh [BINARY]; the program is that of the crate `pulsefarm` where none is named.
+set -u
+edges=$(cd "$(dirname "$0")" && pwd)
+top=$edges/../..
+. "$top/tests/compare.sh"
+program=$(realpath "$program")
+cd "$room" || exit 2
+chmod 755 "$room"
+
+# Counts a test: $1 names it, and the words from $2 on hold or not.
+check() {
+  name=$1
+  shift
+  if "$@"; then
+    passed=$((passed + 1))
+  else
+    failed=$((failed + 1))
+    echo "$name: not so: $*; status ${status:-none}, output: $(head -c 200 out), errors: $(head -c 400 err)"
+  fi
+}
+
+# Runs the program under these words on the input `in`; leaves `out`, `err` and `status`.
+run() {
+  timeout 60 "$program" "$@" < in > out 2> err
+  status=$?
+}
+
+# Checks that the run before ended with status $2, the output $3 and the errors $4, each with its line ends; $1 is its name.
+ended() {
+  printf -- "$3" > wanted
+  printf -- "$4" > wanted_errors
+  check "$1" test "$status" = "$2"
+  check "$1" cmp -s out wanted
+  check "$1" cmp -s err wanted_errors
+}
+
+# The text $1, so many times.
+repeated() { awk -v text="$1" -v count="$2" 'BEGIN { for (i = 0; i < count; i++) printf "%s", text }'; }
+
+module='-module(m).\n-export([main/0]).\nmain() -> 1 + 2 * 3.\n'
+report='0/1 <0> end normal\nfinished 7\nsteps 4\nproperty holds\n'
+asked='--root main --limit 1000 --schedule none'
+
+# The words in `$asked` have no blanks in them.
+# shellcheck disable=SC2086
+files() {
+  : > in
+  printf -- "$module" > m.erl
+  printf 'usage 0\n' > commands
+  run run m.erl $asked
+  ended 'run of a file' 0 "$report" ''
+  run steps commands
+  ended 'steps of a file' 0 'p0 usage 0 0 0 0 0\n' ''
+  run run "$top/tests/rows/run_quotient_by_zero/input" $asked
+  ended 'run of a file whose root does not return' 1 "$(cat "$top/tests/rows/run_quotient_by_zero/output")\n" ''
+  odd=$(printf 'm\377\001.erl')
+  cp m.erl "$odd"
+  run run "$odd" $asked
+  ended 'file whose name is no text' 0 "$report" ''
+  cp m.erl ./--limit
+  run run $asked -- --limit
+  ended 'file that is named as an option' 0 "$report" ''
+  cp m.erl in
+  run run - $asked
+  ended 'standard input by -' 0 "$report" ''
+  cp commands in
+  run steps -
+  ended 'standard input of steps by -' 0 'p0 usage 0 0 0 0 0\n' ''
+  cp m.erl -
+  : > in
+  run steps ./-
+  ended 'file that is named -' 2 'command 1 refused C1\n' ''
+}
+
+missing='No such file or directory (os error 2)\n'
+
+# shellcheck disable=SC2086
+files_that_are_not_read() {
+  : > in
+  run run missing.erl $asked
+  ended 'missing file' 2 '' "pulsefarm: missing.erl: $missing"
+  run steps missing
+  ended 'missing file of steps' 2 '' "pulsefarm: missing: $missing"
+  mkdir folder
+  run run folder $asked
+  ended 'folder' 2 '' 'pulsefarm: folder: Is a directory (os error 21)\n'
+  run steps folder
+  ended 'folder of steps' 2 '' 'pulsefarm: folder: Is a directory (os error 21)\n'
+  run steps "$(printf 'a\nb\033\377\303\251')"
+  ended 'odd bytes in a name that is no text' 2 '' "pulsefarm: a\\\\x0ab\\\\x1b\\\\xff\\\\xc3\\\\xa9: $missing"
+  run steps "$(printf 'a\nb\177\303\251')"
+  ended 'odd bytes in a name that is text' 2 '' "pulsefarm: a\\\\x0ab\\\\x7f\\303\\251: $missing"
+  run steps ''
+  ended 'empty name' 2 '' "pulsefarm: : $missing"
+  printf -- "$module" > secret.erl
+  chmod 000 secret.erl
+  # No file is unreadable to root.
+  if [ "$(id -u)" = 0 ]; then
+    cp "$program" ./program
+    setpriv --reuid=65534 --regid=65534 --clear-groups ./program run secret.erl $asked < in > out 2> err
+    status=$?
+  else
+    run run secret.erl $asked
+  fi
+  ended 'unreadable file' 2 '' 'pulsefarm: secret.erl: Permission denied (os error 13)\n'
+  timeout 60 "$program" steps < folder > out 2> err
+  status=$?
+  ended 'standard input that is a folder' 2 '' "pulsefarm: the input can't be read: Is a directory (os error 21)\n"
+}
+
+usage='\n\nUsage: pulsefarm run --root <F> --limit <N> --schedule <L> [FILE]\n'
+more="\nFor more information, try '--help'.\n"
+
+number='a number of steps from 1 to 100000, without leading zeros'
+numbers='`none`, or numbers from 0 to 4294967295 with commas between them'
+
+words() {
+  : > in
+  run run --root main --limit 007 --schedule none
+  ended 'leading zeros of a limit' 2 '' "error: invalid value '007' for '--limit <N>': it wants $number$usage$more"
+  run run --root main --limit 5 --schedule 1,,2
+  ended 'empty number of a schedule' 2 '' "error: invalid value '1,,2' for '--schedule <L>': it wants $numbers$usage$more"
+  run run --root main --limit -1 --schedule none
+  ended 'negative limit' 2 '' "error: unexpected argument '-1' found$usage$more"
+  run run --root main --limit=-1 --schedule none
+  ended 'negative limit in one word' 2 '' "error: invalid value '-1' for '--limit <N>': it wants $number$usage$more"
+  run steps "$(printf -- '--\033[1m\377')"
+  check 'odd bytes in a word' test "$status" = 2
+  check 'odd bytes in a word' grep -qF -e '--\x1b[1m\xff' err
+  check 'odd bytes in a word' sh -c '! LC_ALL=C grep -q "[[:cntrl:]]" err'
+  for name in "$(printf '\377\033')" ''; do
+    bash -c 'exec -a "$1" "$2" --version' bash "$name" "$program" < in > out 2> err
+    status=$?
+    ended "program called '$name'" 0 'pulsefarm 0.1.0\n' ''
+  done
+}
+
+# Checks a run whose output can't be written: $1 names it, $2 is why not.
+unwritten() { ended "$1" 2 '' "pulsefarm: the output can't be written: $2\n"; }
+
+# shellcheck disable=SC2086
+streams() {
+  : > out
+  printf -- "$module" > m.erl
+  for words in "run m.erl $asked" 'steps commands' --help --version 'run --help'; do
+    timeout 60 "$program" $words > /dev/full 2> err
+    status=$?
+    unwritten "$words to a full disk" 'No space left on device (os error 28)'
+    timeout 60 "$program" $words >&- 2> err
+    status=$?
+    unwritten "$words to a closed output" 'Bad file descriptor (os error 9)'
+  done
+  # A reader that is gone from the start.
+  for words in "run m.erl $asked" 'steps commands' --help; do
+    { sleep 0.2; timeout 60 "$program" $words 2> err; echo $? > told; } | :
+    status=$(cat told)
+    ended "$words to a pipe that nobody reads" 141 '' ''
+  done
+  repeated 'usage 0
+' 300000 > many
+  { timeout 60 "$program" steps many 2> err; echo $? > told; } | head -n 1 > out
+  status=$(cat told)
+  ended 'steps | head -1' 141 'p0 usage 0 0 0 0 0\n' ''
+  timeout 60 "$program" steps <&- > out 2> err
+  status=$?
+  ended 'closed input' 2 '' "pulsefarm: the input can't be read: Bad file descriptor (os error 9)\n"
+}
+
+# Sends the text $2 on the pipe, and checks that the reply $3 comes while the pipe stays open; $1 is its name.
+says() {
+  printf -- "$2" >&3
+  timeout 5 sh -c 'IFS= read -r line <&4 && printf "%s\n" "$line"' > out
+  status=$?
+  printf '%s\n' "$3" > wanted
+  check "reply to $1" cmp -s out wanted
+}
+
+# Sends the text $2 on the pipe, and checks that no reply comes for a while.
+waits() {
+  printf -- "$2" >&3
+  timeout 0.5 sh -c 'IFS= read -r line <&4 && printf "%s\n" "$line"' > out
+  status=$?
+  check "nothing said to $1" test "$status" = 124
+}
+
+client_that_waits() {
+  mkfifo to from
+  "$program" steps < to > from 2> err &
+  worker=$!
+  trap '' PIPE
+  exec 3> to 4< from
+  says usage 'usage 1\n' 'p1 usage 0 0 0 0 0'
+  waits 'a line without its end' 'usage '
+  says 'the rest of the line' '1\n' 'p1 usage 0 0 0 0 1'
+  waits 'a submission without its source' 'submit 1 52\n'
+  waits 'a source in part' '-module(m).\n'
+  waits 'a source without a line end' '-export([main/0]).\nmain() -> 1 + 2 * 3.\n'
+  says 'the line end' '\n' 'p1 module 1'
+  says order 'order 1 1 main returns none 1000\n' 'p1 ticket 1'
+  says once 'once 1 1\n' 'w0 done'
+  says 'two commands at once' 'once 1 1\nusage 2\n' 'w0 not now N2'
+  says 'nothing more' '' 'p2 usage 0 0 0 0 0'
+  waits 'a last line without its end' 'usage 2'
+  exec 3>&-
+  timeout 5 cat <&4 > out
+  exec 4<&-
+  trap - PIPE
+  wait "$worker"
+  status=$?
+  ended 'the last line, once the input has ended' 0 'p2 usage 0 0 0 0 1\n' ''
+}
+
+# Writes the nesting of $1 cases into `in`, no more than a source may have.
+nest() {
+  {
+    printf -- '-module(m).\n-export([main/0]).\nmain() -> '
+    repeated 'case 1 of 1 -> ' "$1"
+    printf 1
+    repeated ' end' "$1"
+    printf '.\n'
+  } | head -c 65536 > in
+}
+
+# Runs the words from $2 on, on `in`, where the system gives $1 KiB of stack, and a thread gets half of what is asked for.
+run_on() {
+  (
+    ulimit -s "$1"
+    shift
+    STACK_TOLD=stack LD_PRELOAD=./halve.so exec timeout 60 "$program" "$@"
+  ) < in > out 2> err
+  status=$?
+}
+
+# The deepest source that is read, and deeper ones that are refused: where the system gives enough stack, and where the
+# program takes a thread with a stack of its own, of which it gets half here.
+# shellcheck disable=SC2086
+deep_sources() {
+  cc -O2 -shared -fPIC -o halve.so "$edges/halve.c" -ldl || exit 1
+  for kilobytes in 128 4095 4096; do
+    rm -f stack
+    nest 255
+    run_on "$kilobytes" run $asked
+    ended "255 cases on $kilobytes KiB" 0 '0/1 <0> end normal\nfinished 1\nsteps 257\nproperty holds\n' ''
+    nest 256
+    run_on "$kilobytes" run $asked
+    ended "256 cases on $kilobytes KiB" 2 'E5 at 41\n' ''
+    nest 4000
+    { printf 'submit 0 '; wc -c < in; cat in; } > commands
+    mv commands in
+    run_on "$kilobytes" steps
+    ended "4000 cases submitted on $kilobytes KiB" 0 'p0 refused E5\n' ''
+    told=$(cat stack 2> /dev/null || echo none)
+    case $kilobytes in
+      4096) check "no thread on $kilobytes KiB" test "$told" = none ;;
+      *) check "a thread on $kilobytes KiB" test "$told" = 4194304 ;;
+    esac
+  done
+}
+
+# Memory goes by the longest command, and no byte past 67,108,864 leaves the input.
+long_inputs() {
+  yes 'once 7 1' | head -c 60000000 > in
+  (ulimit -v 40000; exec timeout 60 "$program" steps) < in > out 2> err
+  status=$?
+  check 'memory of 60 MB of commands' test "$status" = 2
+  check 'memory of 60 MB of commands' test "$(wc -l < out)" = 6666667
+  check 'memory of 60 MB of commands' test "$(tail -n 1 out)" = 'command 6666667 refused C1'
+  repeated 'once 7 1
+' 7456541 | head -c 67108869 > in
+  { timeout 60 "$program" steps > out; status=$?; cat > rest; } < in 2> err
+  check 'what is left of the input' test "$(wc -c < rest)" = 5
+  check 'bytes at the most' test "$(tail -n 1 out)" = 'command 7456541 refused C1'
+  printf 'submit 1 52\n%b\nusage 1\nonce 1 1' "$module" > in
+  dd if=in bs=1 2> /dev/null | timeout 60 "$program" steps > out 2> err
+  status=$?
+  ended 'a byte at a time' 0 'p1 module 1\np1 usage 1 52 0 0 1\nw0 not now N2\n' ''
+}
+
+files
+files_that_are_not_read
+words
+streams
+client_that_waits
+deep_sources
+long_inputs
+cd /
+tell_counts
