@@ -44,6 +44,7 @@ repeated() { awk -v text="$1" -v count="$2" 'BEGIN { for (i = 0; i < count; i++)
 module='-module(m).\n-export([main/0]).\nmain() -> 1 + 2 * 3.\n'
 report='0/1 <0> end normal\nfinished 7\nsteps 4\nproperty holds\n'
 asked='--root main --limit 1000 --schedule none'
+no_text="a name that isn't UTF-8 can't be opened; give the file as standard input\n"
 
 # The words in `$asked` have no blanks in them.
 # shellcheck disable=SC2086
@@ -60,7 +61,10 @@ files() {
   odd=$(printf 'm\377\001.erl')
   cp m.erl "$odd"
   run run "$odd" $asked
-  ended 'file whose name is no text' 0 "$report" ''
+  ended 'file whose name is no UTF-8' 2 '' "pulsefarm: m\\\\xff\\\\x01.erl: $no_text"
+  cp "$odd" in
+  run run $asked
+  ended 'the same file as standard input' 0 "$report" ''
   cp m.erl ./--limit
   run run $asked -- --limit
   ended 'file that is named as an option' 0 "$report" ''
@@ -91,7 +95,7 @@ files_that_are_not_read() {
   run steps folder
   ended 'folder of steps' 2 '' 'pulsefarm: folder: Is a directory (os error 21)\n'
   run steps "$(printf 'a\nb\033\377\303\251')"
-  ended 'odd bytes in a name that is no text' 2 '' "pulsefarm: a\\\\x0ab\\\\x1b\\\\xff\\\\xc3\\\\xa9: $missing"
+  ended 'odd bytes in a name that is no UTF-8' 2 '' "pulsefarm: a\\\\x0ab\\\\x1b\\\\xff\\\\xc3\\\\xa9: $no_text"
   run steps "$(printf 'a\nb\177\303\251')"
   ended 'odd bytes in a name that is text' 2 '' "pulsefarm: a\\\\x0ab\\\\x7f\\303\\251: $missing"
   run steps ''

@@ -1,19 +1,13 @@
-//! The words that the program is given, and the files that they name.
+//! The words that the program is given.
 
-ghost use Rattle.std.specs.Prelude.{◌≤ℤ◌, pos};
-
-use os::FromRawFd;
 use std::alloc::{AllocError, AllocGlobal, Global};
 use std::env::{Env, FillError};
-use std::io;
-use std::os::fd::OwnedFd;
-use std::process::ChildStdout;
 
-/// A word as it was given, and as text.
+/// A word as it was given.
 #[derive(Drop)]
 pub struct Word {
-    pub bytes: Vec<u8>,
-    /// The bytes where they are UTF-8. Else each byte from 128 on stands as a NUL and two digits, so that no two words have
+    pub is_text: bool,
+    /// Its bytes where they are UTF-8. Else each byte from 128 on stands as a NUL and two digits, so that no two words have
     /// the same text, since no word has a NUL.
     pub text: String,
 }
@@ -30,12 +24,17 @@ fn marked(alloc: Global, bytes: &[u8]) -> Result<String, AllocError> {
     Ok(text)
 }
 
-fn read_word(alloc: Global, bytes: Vec<u8>) -> Result<Word, AllocError> {
-    let text = match str::from_utf8(&bytes) {
-        Ok(text) => String::from_str(alloc, text)?,
-        Err(_) => marked(alloc, &bytes)?,
-    };
-    Ok(Word { bytes, text })
+fn read_word(alloc: Global, bytes: &[u8]) -> Result<Word, AllocError> {
+    Ok(match str::from_utf8(bytes) {
+        Ok(text) => Word {
+            is_text: true,
+            text: String::from_str(alloc, text)?,
+        },
+        Err(_) => Word {
+            is_text: false,
+            text: marked(alloc, bytes)?,
+        },
+    })
 }
 
 /// The bytes of a word; none where there is no such word.
@@ -59,27 +58,16 @@ pub fn given_words(rt: &(impl Env + AllocGlobal)) -> Result<Vec<Word>, AllocErro
     let mut given = Vec::new(rt.alloc());
     for at in 1..usize::MAX {
         match bytes_at(rt, at)? {
-            Some(bytes) => given.push(read_word(rt.alloc(), bytes)?)?,
+            Some(bytes) => given.push(read_word(rt.alloc(), &bytes)?)?,
             None => break,
         }
     }
     Ok(given)
 }
 
-/// The bytes of the word with this text.
-pub fn bytes_of<'a>(given: &'a [Word], text: &'a str) -> &'a [u8] {
-    match given.iter().find(|word| word.text.as_str() == text) {
-        Some(word) => &word.bytes,
-        None => text.as_bytes(),
-    }
-}
-
-/// Opens a file by the bytes of its name, which need be no text.
-pub fn open(name: &[u8]) -> io::Result<ChildStdout> {
-    let fd = os::open_read(name);
-    if fd < 0 {
-        return Err(io::Error::from_raw_os_error(os::errno()));
-    }
-    let fd = unsafe { OwnedFd::from_raw_fd(fd) };
-    Ok(ChildStdout::from(fd))
+/// Whether the word with this text was given as text.
+pub fn is_text(given: &[Word], text: &str) -> bool {
+    given
+        .iter()
+        .any(|word| word.is_text && word.text.as_str() == text)
 }

@@ -7,7 +7,7 @@ mod given;
 mod shown;
 mod stack;
 
-use crate::given::{Word, bytes_of, given_words, open};
+use crate::given::{Word, given_words, is_text};
 use crate::shown::{Shown, without_tip};
 use crate::stack::{STACK_BYTES, first_thread_has_stack};
 use clap::error::ErrorKind;
@@ -17,12 +17,12 @@ use pf_profile::run_steps;
 use pf_terms::{Counted, StreamFault};
 use std::alloc::{AllocError, AllocGlobal};
 use std::env::Env;
-use std::io::{Read, Write};
+use std::fs::{self, Files};
+use std::io::{self, Read, Write};
 use std::marker::Brand;
 use std::process::ExitCode;
 use std::sync::ledger::{Blank, Ledger};
 use std::thread::Builder;
-use std::{fmt, io};
 
 /// The status where something is refused, can't be read or written, or memory runs out.
 const REFUSED: u8 = 2;
@@ -67,26 +67,6 @@ fn answer<R: Read + Drop, W: Write + Drop>(
     answer_by::<R, W, Brand, Brand>(rt, asked, reader, writer, Blank::new(1), Blank::new(1))
 }
 
-/// What a command is asked to read.
-#[derive(Clone, Copy)]
-enum Source<'a> {
-    Stdin,
-    File(&'a str),
-}
-
-impl fmt::Display for Source<'_> {
-    fn fmt<W: fmt::Write>(&self, f: &mut fmt::Formatter<W>) -> fmt::Result {
-        match self {
-            Source::Stdin => f.write_str("the input can't be read"),
-            Source::File(text) => Shown {
-                text,
-                has_lines: false,
-            }
-            .fmt(f),
-        }
-    }
-}
-
 /// Says that memory ran out.
 fn no_memory(rt: &impl Print) -> u8 {
     let _printed = println!(rt; "{NoMemory}");
@@ -99,33 +79,36 @@ fn no_more_memory(rt: &impl Eprint) -> u8 {
     REFUSED
 }
 
-/// Says what can't be read, and why.
-fn not_read(rt: &(impl Print + Eprint), source: Source<'_>, error: &io::Error) -> u8 {
-    if error.kind() == io::ErrorKind::OutOfMemory {
-        return no_memory(rt);
-    }
-    let _printed = eprintln!(rt; "pulsefarm: {source}: {error}");
-    REFUSED
-}
-
-/// Says why the output can't be written. Where nobody reads it any more, that is no fault to speak of.
-fn not_written(rt: &impl Eprint, error: &io::Error) -> u8 {
+/// Says what failed, and why; a file by its name. Where nobody reads the output any more, that is no fault to speak of.
+fn failed(rt: &(impl Print + Eprint), file: Option<&str>, fault: &StreamFault) -> u8 {
+    let error = fault.error();
     if error.kind() == io::ErrorKind::BrokenPipe {
         return NOT_WANTED;
     }
-    let _printed = eprintln!(rt; "pulsefarm: the output can't be written: {error}");
+    match (fault, file) {
+        (StreamFault::Read(_), Some(text)) => {
+            let shown = Shown {
+                text,
+                has_lines: false,
+            };
+            let _printed = eprintln!(rt; "pulsefarm: {shown}: {error}");
+        }
+        _ => {
+            let _printed = eprintln!(rt; "pulsefarm: {fault}: {error}");
+        }
+    }
     REFUSED
 }
 
 /// Prints the text of words that ask for no command: help and the version, or what is wrong with the words.
 fn no_command(rt: &(impl Print + Eprint + AllocGlobal), error: &clap::Error) -> u8 {
     let status = status_of_kind(error.kind());
-    if error.kind() == ErrorKind::OutOfMemory {
-        return no_memory(rt);
-    }
     let Ok(text) = format!(in rt.alloc(); "{error}") else {
         return no_memory(rt);
     };
+    if error.kind() == ErrorKind::OutOfMemory {
+        return no_memory(rt);
+    }
     if error.use_stderr() {
         let (front, back) = without_tip(&text);
         for text in [front, back] {
@@ -139,52 +122,53 @@ fn no_command(rt: &(impl Print + Eprint + AllocGlobal), error: &clap::Error) -> 
     }
     match print!(rt; "{text}") {
         Ok(()) => status,
-        Err(error) => not_written(rt, &error),
+        Err(error) => failed(rt, None, &StreamFault::Write(error)),
     }
 }
 
 /// The status of a command, and what is said of its end.
-fn end(rt: &(impl Print + Eprint), asked: &Words, source: Source<'_>, answered: Answered) -> u8 {
-    let fault = match answered {
-        Ok(status) => return status,
-        Err(OrNoMemory::Fault(fault)) if fault.error().kind() != io::ErrorKind::OutOfMemory =>
-            fault,
-        Err(_) => {
-            return match asked {
-                Words::Run(_) => no_memory(rt),
-                Words::Steps(_) => no_more_memory(rt),
-            };
+fn end(rt: &(impl Print + Eprint), asked: &Words, file: Option<&str>, answered: Answered) -> u8 {
+    match answered {
+        Ok(status) => status,
+        Err(OrNoMemory::Fault(fault)) if fault.error().kind() != io::ErrorKind::OutOfMemory => {
+            failed(rt, file, &fault)
         }
-    };
-    match &fault {
-        StreamFault::Read(error) => not_read(rt, source, error),
-        StreamFault::Write(error) => not_written(rt, error),
+        Err(_) => match asked {
+            Words::Run(_) => no_memory(rt),
+            Words::Steps(_) => no_more_memory(rt),
+        },
     }
 }
 
+/// Opens a file. Paths are text, so one with another name can't be opened.
+fn open<R: Files>(rt: &R, given: &[Word], name: &str) -> io::Result<R::File> {
+    if is_text(given, name) {
+        return fs::open(rt, name);
+    }
+    let reason = "a name that isn't UTF-8 can't be opened; give the file as standard input";
+    Err(io::Error::new(io::ErrorKind::InvalidInput, reason))
+}
+
 /// Does what the words ask for.
-fn obey<R: Print + Eprint + AllocGlobal, I: Read + Drop>(
+fn obey<R: Files + Print + Eprint + AllocGlobal, I: Read + Drop>(
     rt: &R,
     given: &[Word],
     asked: &Words,
     stdin: I,
 ) -> u8 {
-    let Some(text) = asked.file() else {
+    let Some(name) = asked.file() else {
         let answered = answer(rt, asked, stdin, io::writer(rt));
-        return end(rt, asked, Source::Stdin, answered);
+        return end(rt, asked, None, answered);
     };
-    let source = Source::File(text);
-    match open(bytes_of(given, text)) {
-        Ok(file) => {
-            let answered = answer(rt, asked, file, io::writer(rt));
-            end(rt, asked, source, answered)
-        }
-        Err(error) => not_read(rt, source, &error),
-    }
+    let answered = match open(rt, given, name) {
+        Ok(file) => answer(rt, asked, file, io::writer(rt)),
+        Err(error) => Err(OrNoMemory::Fault(StreamFault::Read(error))),
+    };
+    end(rt, asked, Some(name), answered)
 }
 
 /// Reads the words and does what they ask for.
-fn try_work<R: Env + Print + Eprint + AllocGlobal, I: Read + Drop>(
+fn try_work<R: Env + Files + Print + Eprint + AllocGlobal, I: Read + Drop>(
     rt: &R,
     stdin: I,
 ) -> Result<u8, AllocError> {
@@ -202,7 +186,7 @@ fn try_work<R: Env + Print + Eprint + AllocGlobal, I: Read + Drop>(
 }
 
 /// Does all work; what it gives is the status.
-fn work<R: Env + Print + Eprint + AllocGlobal, I: Read + Drop>(rt: &R, stdin: I) -> u8 {
+fn work<R: Env + Files + Print + Eprint + AllocGlobal, I: Read + Drop>(rt: &R, stdin: I) -> u8 {
     match try_work(rt, stdin) {
         Ok(status) => status,
         Err(AllocError) => no_memory(rt),
@@ -210,7 +194,7 @@ fn work<R: Env + Print + Eprint + AllocGlobal, I: Read + Drop>(rt: &R, stdin: I)
 }
 
 fn main(rt: HostRuntime) -> ExitCode {
-    if first_thread_has_stack() {
+    if first_thread_has_stack(&rt) {
         return ExitCode::from(work(&rt, rt.stdin()));
     }
     let worker = Builder::new()
