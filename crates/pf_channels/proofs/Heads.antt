@@ -120,8 +120,8 @@ sought_later rs k from left n count r h l read e m =
     ∙ sym (ap (λ hs. slice_get hs left) rest) ∙ h.found in
     record {
       at = ap (λ x. x + 1) h.at;
-      found = rw add-one found;
-      within = rw add-one (omega (arith, length-append (heads_of from r) later));
+      found = rw (add-one from) found;
+      within = rw (add-one from) (omega (arith, length-append (heads_of from r) later));
     }
 
 pub sought_none : (rs : Channels) (k from left n : ℕ) → IsSought rs k from left n → length rs ≤ n → ⊥

@@ -2,3 +2,4 @@ pub mod Sorted
 pub mod Rows
 pub mod Places
 pub mod Heads
+pub mod Crossing

@@ -1,6 +1,6 @@
 -- Lists by rising key: what a search finds in them, and what a change at its place makes of them.
 use Rattle.std.proofs.Common.{◌≡◌, ℕ, zero, suc, ◌+◌, ◌<◌, ◌≤◌, ◌^◌, ◌==◌, nat_lt, true, false, List, [], ◌∷◌, Some, None}
-use Rattle.std.proofs.Common.{Result, Ok, Err, IfOk, IfErr, refl, sym, ap, ◌∙◌, arith, length, slice_index_or, slice_set}
+use Rattle.std.proofs.Common.{Result, Ok, Err, MatchResult, refl, sym, ap, ◌∙◌, arith, length, slice_index_or, slice_set}
 use Rattle.std.specs.List.{insert, remove}
 use Rattle.std.specs.List.Sorted.{IsSearchInRange, IsBinarySearchResult, IsNonDecreasingBy}
 use Rattle.std.specs.Ordering.{nat_cmp, ordering_index}
@@ -67,20 +67,17 @@ module _ {T : Type 0} (k : ℕ) (ps : List (ℕ × T)) (rises : Rises 0 ps) wher
 
   -- a binary search ends at the key, or at its gap
   pub searched : (r : Result ℕ ℕ) → IsSearchInRange r (length ps) → IsBinarySearchResult (λ p. nat_cmp p.0 k) ps r
-      → record { found : IfOk r (λ i. (i < length ps) × IsAt k ps i); absent : IfErr r (λ i. (i ≤ length ps) × IsGapFor k ps i) }
-  searched (Ok i) within equal = record { found = (within, by ps rises within equal); absent = tt }
+      → MatchResult r (λ i. (i < length ps) × IsAt k ps i) (λ i. (i ≤ length ps) × IsGapFor k ps i)
+  searched (Ok i) within equal = (within, by ps rises within equal)
     where
       by : (ps : List (ℕ × T)) → Rises 0 ps → i < length ps → IsBinarySearchResult (λ p. nat_cmp p.0 k) ps (Ok i) → IsAt k ps i
       by [] rises within equal = absurd (omega arith)
       by (p ∷ ps) rises within equal = at_from 0 k (p ∷ ps) i p rises within (ranked _ k _ (sym (equal p)))
-  searched (Err i) within parted = record {
-    found = tt;
-    absent = (
-      within,
-      gap_from k ps i within (λ j d l. ranked _ k _ (sym ((parted comparisons_rise).0 j d (omega arith) l)))
-          (λ j d le l. ranked _ k _ (sym ((parted comparisons_rise).1 j d le l))),
-    );
-  }
+  searched (Err i) within parted = (
+    within,
+    gap_from k ps i within (λ j d l. ranked _ k _ (sym ((parted comparisons_rise).0 j d (omega arith) l)))
+        (λ j d le l. ranked _ k _ (sym ((parted comparisons_rise).1 j d le l))),
+  )
 
 -- ---- what stands at a key
 

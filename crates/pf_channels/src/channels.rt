@@ -90,10 +90,11 @@ impl Channels {
         ensures stays { IfNone result (self.new ≡ self.old) }
         ensures senders { length self.new ≡ length self.old }
     {
-        if from as usize >= self.rows.len() {
+        let sender = from as usize;
+        if sender >= self.rows.len() {
             return None;
         }
-        let row = &mut self.rows[from as usize];
+        let row = &mut self.rows[sender];
         let before = row.len();
         let signal = row.take(to);
         self.count -= before - row.len();

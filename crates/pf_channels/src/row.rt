@@ -1,7 +1,7 @@
 //! What one process has on its way to others.
 
 ghost use Rattle.std.specs.Prelude.{◌≡◌, ◌+◌, ◌^◌, ◌<◌, ◌≤◌, length, map, [], Some, None, slice_get};
-ghost use Rattle.std.specs.Prelude.{IfOk, IfErr, IfSome, OnOk, OnErr, IfNone};
+ghost use Rattle.std.specs.Prelude.{IfSome, IfNone, OnOk, OnErr, MatchResult};
 ghost use Rattle.pf_model.specs.Channels.{with_last};
 ghost use Rattle.pf_model.specs.Maps.{got, put};
 ghost use Rattle.pf_model.specs.Signals.{signal_of};
@@ -92,8 +92,8 @@ impl Row {
 
     // Where the queue to a receiver stands, or where it would stand.
     fn search(&self, to: u32) -> Result<usize, usize>
-        ensures found { IfOk result (λ at. (at < length self.now) × IsAt to self.now at) }
-        ensures absent { IfErr result (λ at. (at ≤ length self.now) × IsGapFor to self.now at) }
+        ensures { MatchResult result (λ at. (at < length self.now) × IsAt to self.now at)
+            (λ at. (at ≤ length self.now) × IsGapFor to self.now at) }
     {
         self.queues.binary_search_by_key(&to, |queue| queue.0)
     }

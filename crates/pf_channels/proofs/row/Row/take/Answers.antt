@@ -8,13 +8,13 @@ use Rattle.pf_channels.proofs.row.Row.take.Goals as goal
 
 pub returns-in_default-clause-nothing : goal.returns-in_default-clause-nothing
 returns-in_default-clause-nothing c =
-    let g = rw (← c.self.view_is) at c.in_default.ensures.absent in
+    let g = rw (← c.self.view_is) at c.in_default.ensures in
     rw (← c.self.view_is) (taken_none c.args.to c.self.inside.queues.items c.in_default.field-0 c.self.invariant g.1)
 
 pub invariant_of-self : goal.invariant_of-self
 invariant_of-self c =
     found_rises c.args.to c.self.inside.queues.items c.in-Ok.at c.index_mut.result.now c.shift.new.self
-    (found c.args.to c.self.inside.queues.items c.args.self.now c.in-Ok.at c.index_mut.result.now c.self.invariant c.self.view_is c.in-Ok.ensures.found
+    (found c.args.to c.self.inside.queues.items c.args.self.now c.in-Ok.at c.index_mut.result.now c.self.invariant c.self.view_is c.in-Ok.ensures
     c.index_mut.ensures.value)
 
 pub invariant_of-self-in-None : goal.invariant_of-self-in-None
@@ -27,11 +27,11 @@ returns-in-Some-clause-taken c =
     rw (← c.self.view_is)
     (taken_found c.args.to c.self.inside.queues.items c.in-Ok.at c.index_mut.result.now c.shift.new.self (signal_of c.in-Some.signal)
     (found c.args.to c.self.inside.queues.items c.args.self.now c.in-Ok.at c.index_mut.result.now c.self.invariant c.self.view_is
-    c.in-Ok.ensures.found c.index_mut.ensures.value) c.in-Some.ensures.oldest c.in-Some.ensures.left)
+    c.in-Ok.ensures c.index_mut.ensures.value) c.in-Some.ensures.oldest c.in-Some.ensures.left)
 
 pub returns-in-None-clause-taken : goal.returns-in-None-clause-taken
 returns-in-None-clause-taken c =
-    let l = rw (← c.self.view_is) at c.in-Ok.ensures.found in
+    let l = rw (← c.self.view_is) at c.in-Ok.ensures in
     let set : ℕ × Queue = (c.index_mut.result.now.0, c.shift.new.self) in
     let v : c.remove.result ≡ set = c.remove.ensures.value ∙ get_or-set_same c.self.inside.queues.items c.in-Ok.at set c.remove.result l.0 in
     let first = ap (λ q. q.first) (sym c.in-None.ensures.stays) ∙ ap (λ p. p.1.first) (sym v) ∙ sym c.into_first.ensures in
@@ -39,4 +39,4 @@ returns-in-None-clause-taken c =
     (taken_only c.args.to c.self.inside.queues.items c.in-Ok.at c.index_mut.result.now (c.index_mut.result.now.0, c.shift.new.self)
     (signal_of c.into_first.result)
     (found c.args.to c.self.inside.queues.items c.args.self.now c.in-Ok.at c.index_mut.result.now c.self.invariant c.self.view_is
-    c.in-Ok.ensures.found c.index_mut.ensures.value) first c.in-None.ensures.only)
+    c.in-Ok.ensures c.index_mut.ensures.value) first c.in-None.ensures.only)
