@@ -1,8 +1,11 @@
-//! Tests of the crates that know nothing of a module: choices, mail, quotas, tokens, values, atoms, and streams that count and fail.
+//! Tests of the crates that know nothing of a module: channels, choices, mail, quotas, tokens, values, atoms, and
+//! streams that count and fail.
 #![tactic(auto)]
 
 #[cfg(test)]
 mod atoms;
+#[cfg(test)]
+mod channels;
 #[cfg(test)]
 mod choices;
 #[cfg(test)]

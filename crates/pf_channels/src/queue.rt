@@ -1,0 +1,71 @@
+//! What is on its way in one channel.
+
+ghost use Rattle.std.specs.Prelude.{◌≡◌, [], ◌∷◌, Some, None, IfSome, IfNone, OnOk, OnErr};
+ghost use Rattle.pf_model.specs.Channels.{with_last};
+ghost use Rattle.pf_model.specs.Signals.{signal_of};
+
+use pf_fault::NoMemory;
+use pf_model::Signal;
+use std::alloc::Global;
+use std::collections::VecDeque;
+use std::marker::Model;
+use std::mem;
+
+/// Signals, the oldest first: never none. One signal alone takes no memory of its own.
+#[derive(Drop)]
+pub(crate) struct Queue {
+    first: Signal,
+    rest: VecDeque<Signal>,
+}
+
+impl Model for Queue {
+    ghost use Rattle.std.specs.Prelude.{map};
+    ghost use Rattle.pf_model.specs.Channels.{Queue as Signals};
+    ghost use Rattle.pf_model.specs.Signals.{signal_of};
+    ghost use Rattle.pf_channels.specs.Codes.{coded_queue};
+
+    ghost Value = { Signals };
+
+    ghost coded = { coded_queue };
+
+    ghost view = { λ q. record { first = signal_of q.first; rest = map signal_of q.rest.items } };
+}
+
+impl Queue {
+    /// The queue of one signal.
+    pub(crate) fn new(alloc: Global, signal: Signal) -> Queue
+        ensures { result ≡ with_last None (signal_of signal) }
+    {
+        Queue {
+            first: signal,
+            rest: VecDeque::new(alloc),
+        }
+    }
+
+    /// Adds a signal as the youngest.
+    pub(crate) fn push(&mut self, signal: Signal) -> Result<(), NoMemory>
+        ensures pushed { OnOk result (self.new ≡ with_last (Some self.old) (signal_of signal)) }
+        ensures refused { OnErr result (self.new ≡ self.old) }
+    {
+        self.rest.push_back(signal)?;
+        Ok(())
+    }
+
+    /// Takes the oldest signal, unless it is the only one.
+    pub(crate) fn shift(&mut self) -> Option<Signal>
+        ensures oldest { IfSome result (λ signal. self.old.first ≡ signal_of signal) }
+        ensures left { IfSome result (λ _. self.old.rest ≡ self.new.first ∷ self.new.rest) }
+        ensures only { IfNone result (self.old.rest ≡ []) }
+        ensures stays { IfNone result (self.new ≡ self.old) }
+    {
+        let next = self.rest.pop_front()?;
+        Some(mem::replace(&mut self.first, next))
+    }
+
+    /// The oldest signal, without those after it.
+    pub(crate) fn into_first(self) -> Signal
+        ensures { signal_of result ≡ self.first }
+    {
+        self.first
+    }
+}
