@@ -1,3 +1,5 @@
 pub mod Places
 pub mod Sets
 pub mod Maps
+pub mod LookUps
+pub mod Naming

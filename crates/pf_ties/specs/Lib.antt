@@ -1,3 +1,4 @@
 pub mod Sorted
+pub mod Names
 pub mod Ties
 pub mod Fates

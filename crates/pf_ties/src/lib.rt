@@ -3,6 +3,8 @@
 
 mod fate;
 mod map;
+mod names;
 mod numbers;
+mod process;
 
 pub use fate::Fate;
