@@ -3,3 +3,4 @@ pub mod Sets
 pub mod Maps
 pub mod LookUps
 pub mod Naming
+pub mod Kept

@@ -2,3 +2,4 @@ pub mod Sorted
 pub mod Names
 pub mod Ties
 pub mod Fates
+pub mod Refusals

@@ -6,5 +6,9 @@ mod map;
 mod names;
 mod numbers;
 mod process;
+mod refusal;
+mod ties;
 
 pub use fate::Fate;
+pub use refusal::BadArgument;
+pub use ties::Ties;
