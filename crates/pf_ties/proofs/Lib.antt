@@ -4,3 +4,4 @@ pub mod Maps
 pub mod LookUps
 pub mod Naming
 pub mod Kept
+pub mod Followed

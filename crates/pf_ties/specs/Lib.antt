@@ -3,3 +3,4 @@ pub mod Names
 pub mod Ties
 pub mod Fates
 pub mod Refusals
+pub mod Laws

@@ -2,6 +2,7 @@
 #![tactic(auto)]
 
 mod fate;
+pub mod laws;
 mod map;
 mod names;
 mod numbers;
