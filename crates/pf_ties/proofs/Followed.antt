@@ -58,19 +58,19 @@ begun_ties s ls e = ap (λ b. record { lives = b; traps_exits = false; links = l
 more_ties : (c : Core) (s : State) (ls : List ℕ) → is_alive s ≡ true → ties_of (actions.with_fresh c s ls) ≡ ties.with_fresh (ties_of c) ls
 more_ties c s ls e =
     ap (λ ts. record (ties_of c) { processes = ts })
-      (map_more c.processes (fresh s ls) ∙ ap (λ t. map process_ties c.processes ++ t ∷ []) (begun_ties s ls e))
+    (map_more c.processes (fresh s ls) ∙ ap (λ t. map process_ties c.processes ++ t ∷ []) (begun_ties s ls e))
 
 spawn_link : (c : Core) (a : ℕ) (s : State) → is_alive s ≡ true → ties_of (actions.after_spawn c a true s) ≡ ties.opened (ties_of c) (Some a)
 spawn_link c a s e =
     more_ties (actions.linked_with c a (length c.processes)) s (a ∷ []) e
     ∙ rw (map_length c.processes, at_map a c.processes)
-        (ap (λ t. ties.with_fresh t (a ∷ [])) (one_changed c a (record (of c a) { links = with_number (length c.processes) (of c a).links })))
+    (ap (λ t. ties.with_fresh t (a ∷ [])) (one_changed c a (record (of c a) { links = with_number (length c.processes) (of c a).links })))
 
 link : (c : Core) (a p : ℕ) → ties_of (actions.linked_to c a p).left.core ≡ ties.linked (ties_of c) a p
 link c a p = rw (at_map a c.processes) (by ((p == a) || has p (of c a).links))
   where
     by : (t : Bool) → ties_of (if t then actions.gives c [] true_atom (label.links p)
-          else actions.gives (actions.linked_with c a p) ((p, signal.link) ∷ []) true_atom (label.links p)).left.core
+        else actions.gives (actions.linked_with c a p) ((p, signal.link) ∷ []) true_atom (label.links p)).left.core
         ≡ (if t then ties_of c else ties.with_ties (ties_of c) a (record (process_ties (of c a)) { links = with_number p (of c a).links }))
     by true = refl
     by false = one_changed c a (record (of c a) { links = with_number p (of c a).links })
@@ -80,7 +80,7 @@ link_sends : (c : Core) (a p : ℕ)
 link_sends c a p = rw (at_map a c.processes) (by ((p == a) || has p (of c a).links))
   where
     by : (t : Bool) → (if t then actions.gives c [] true_atom (label.links p)
-          else actions.gives (actions.linked_with c a p) ((p, signal.link) ∷ []) true_atom (label.links p)).left.sent
+        else actions.gives (actions.linked_with c a p) ((p, signal.link) ∷ []) true_atom (label.links p)).left.sent
         ≡ (if not t then (p, signal.link) ∷ [] else [])
     by true = refl
     by false = refl
@@ -109,7 +109,7 @@ unlink_sends c a p = rw (at_map a c.processes) (by (has p (of c a).links))
 monitor : (c : Core) (a p : ℕ) → ties_of (actions.monitored c a p).left.core ≡ ties.monitored (ties_of c) a p
 monitor c a p =
     rw (at_map a c.processes)
-      (ap {A = AllTies} (λ t. record t { next_reference = suc c.next_reference }) (one_changed c a (record (of c a) { active = put c.next_reference p (of c a).active })))
+    (ap {A = AllTies} (λ t. record t { next_reference = suc c.next_reference }) (one_changed c a (record (of c a) { active = put c.next_reference p (of c a).active })))
 
 inactive : (c : Core) (a r : ℕ) → ties_of (with_process c a (record (of c a) { active = without r (of c a).active }))
     ≡ ties.with_ties (ties_of c) a (record (process_ties (of c a)) { active = without r (of c a).active })
@@ -162,8 +162,8 @@ down c a b r v = by (got r (of c b).active) (ap (λ t. got r t.active) (at_map b
     by (Some p) e =
         let q : Process = record (of c b) { active = without r (of c b).active } in
         rw (e, at_map b c.processes)
-          (one_changed c b (deliveries.with_message q (deliveries.down_message r a v))
-           ∙ ap (ties.with_ties (ties_of c) b) (message_ties q (deliveries.down_message r a v)))
+        (one_changed c b (deliveries.with_message q (deliveries.down_message r a v))
+        ∙ ap (ties.with_ties (ties_of c) b) (message_ties q (deliveries.down_message r a v)))
 
 exit_placed : (c : Core) (a b : ℕ) (by_link : Bool) → ties_of (without_link c a b by_link) ≡ ties.exit_placed (ties_of c) a b by_link
 exit_placed c a b by_link = rw (at_map b c.processes) (by (by_link && has a (of c b).links))
@@ -178,8 +178,8 @@ exit_at_fate : (c : Core) (a b : ℕ) (by_link : Bool) (r : Value)
 exit_at_fate c a b by_link r = by (not by_link && same r kill) (of c b).traps_exits (same r normal && not (a == b))
   where
     by : (k t n : Bool) → (if k then deliveries.ends_with c b (signal.exit by_link r) killed
-          else (if t then deliveries.changes c b (deliveries.with_message (of c b) (deliveries.exit_message a r)) (signal.exit by_link r) label.as_message
-          else (if n then deliveries.drops c (signal.exit by_link r) else deliveries.ends_with c b (signal.exit by_link r) r)))
+        else (if t then deliveries.changes c b (deliveries.with_message (of c b) (deliveries.exit_message a r)) (signal.exit by_link r) label.as_message
+        else (if n then deliveries.drops c (signal.exit by_link r) else deliveries.ends_with c b (signal.exit by_link r) r)))
         ≡ done_by c a b by_link r (if k then fates.ends_with killed else (if t then fates.becomes_message else (if n then fates.drops else fates.ends_with r)))
     by true t n = refl
     by false true n = refl
@@ -194,14 +194,14 @@ flag_kept (suc b) (p ∷ ps) ls = flag_kept b ps ls
 
 exit : (c : Core) (a b : ℕ) (by_link : Bool) (r : Value)
     → deliveries.at_living c a b (signal.exit by_link r)
-      ≡ done_by (without_link c a b by_link) a b by_link r (fate_at (ties.of (ties_of c) b) a b by_link r)
+    ≡ done_by (without_link c a b by_link) a b by_link r (fate_at (ties.of (ties_of c) b) a b by_link r)
 exit c a b false r = rw (at_map b c.processes) (exit_at_fate c a b false r)
 exit c a b true r = rw (at_map b c.processes) (by (has a (of c b).links))
   where
     by : (t : Bool) → (if t then deliveries.exit_at (with_process c b (record (of c b) { links = without_number a (of c b).links })) a b true r
-          else deliveries.drops c (signal.exit true r))
+        else deliveries.drops c (signal.exit true r))
         ≡ done_by (if t then with_process c b (record (of c b) { links = without_number a (of c b).links }) else c) a b true r
-            (if t then exit_fate (of c b).traps_exits a b true r else fates.drops)
+        (if t then exit_fate (of c b).traps_exits a b true r else fates.drops)
     by true =
         let d = with_process c b (record (of c b) { links = without_number a (of c b).links }) in
         exit_at_fate d a b true r

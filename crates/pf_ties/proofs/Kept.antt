@@ -84,7 +84,7 @@ pub opened_is : (s : AllTies) (a n : ℕ) → n ≡ length s.processes → a < l
     → record s { processes = slice_set (s.processes ++ begun (a ∷ []) ∷ []) a (record (of s a) { links = with_number n (of s a).links }) } ≡ opened s (Some a)
 opened_is s a n e l =
     rw e (ap (λ ts. record s { processes = ts })
-      (set_front a s.processes (begun (a ∷ []) ∷ []) (record (of s a) { links = with_number (length s.processes) (of s a).links }) l))
+    (set_front a s.processes (begun (a ∷ []) ∷ []) (record (of s a) { links = with_number (length s.processes) (of s a).links }) l))
 
 -- ---- clauses
 

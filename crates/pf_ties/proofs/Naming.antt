@@ -27,6 +27,7 @@ leads_put a b n p h free m q e = by (m == n) refl
     other true z k =
         none_some (got p b) m free (ap (λ y. got y b) (sym (same_from q p z)) ∙ h m q (sym (got_put_other m n p a k) ∙ e))
     other false z k = got_put_other q p n b z ∙ h m q (sym (got_put_other m n p a k) ∙ e)
+
     by : (t : Bool) → (m == n) ≡ t → got q (put p n b) ≡ Some m
     by true k =
         let i = same_from m n k in
@@ -51,6 +52,7 @@ leads_without a b n p h has m q e = by (m == n) refl
         let i : m ≡ n = some_is m n (sym (h m q (sym (got_without_other m n a k) ∙ e)) ∙ ap (λ y. got y b) (same_from q p z) ∙ h n p has) in
         absurd (false≢true (sym k ∙ eq_of n m (sym i)))
     other false z k = got_without_other q p b z ∙ h m q (sym (got_without_other m n a k) ∙ e)
+
     by : (t : Bool) → (m == n) ≡ t → got q (without p b) ≡ Some m
     by true k =
         none_some (got m (without n a)) q (ap (λ y. got y (without n a)) (same_from m n k) ∙ got_without n a) e
@@ -136,6 +138,7 @@ lost p n low (x ∷ xs) h e one = by (n == x.0) (x.1 == p) refl refl e (lost p n
     none_more i m g =
         let k : m ≡ x.0 = one m (got_more m p x xs h.1 g) ∙ i in
         none_some (got m xs) p (ap (λ y. got y xs) k ∙ got_above x.0 (suc x.0) xs (omega arith) h.1) g
+
     by : (t u : Bool) → (n == x.0) ≡ t → (x.1 == p) ≡ u → (if t then Some x.1 else got n xs) ≡ Some p
         → (got n xs ≡ Some p → ((m : ℕ) → got m xs ≡ Some p → m ≡ n) → without n xs ≡ without_name p xs)
         → (if t then without n xs else x ∷ without n xs) ≡ (if not u then x ∷ without_name p xs else without_name p xs)

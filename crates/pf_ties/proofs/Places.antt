@@ -49,9 +49,10 @@ module _ {T : Type 0} (key : T → ℕ) where
       → ((k : ℕ) (d : T) → i ≤ k → k < length xs → nat_lt (key (slice_index_or xs k d)) b ≡ false) → IsPlace key b xs i
   at_place b [] i l low high = omega arith
   at_place b (x ∷ xs) zero l low high = le_from (key x) b (high zero x (omega arith) (omega arith))
-  at_place b (x ∷ xs) (suc i) l low high =
-      (lt_from (key x) b (low zero x (omega arith) (omega arith)),
-       at_place b xs i (omega arith) (λ k d _ h. low (suc k) d (omega arith) (omega arith)) (λ k d h m. high (suc k) d (omega arith) (omega arith)))
+  at_place b (x ∷ xs) (suc i) l low high = (
+    lt_from (key x) b (low zero x (omega arith) (omega arith)),
+    at_place b xs i (omega arith) (λ k d _ h. low (suc k) d (omega arith) (omega arith)) (λ k d h m. high (suc k) d (omega arith) (omega arith)),
+  )
 
   pub there_from : (b : ℕ) (xs : List T) (i : ℕ) (d : T) → i < length xs → IsPlace key b xs i → key (slice_index_or xs i d) ≡ b → IsThere key b xs i
   there_from b [] i d l h e = absurd (omega arith)

@@ -1,4 +1,4 @@
--- The ties of processes: all that a system keeps of them beside their states, their mailboxes and the signals on their way.
+-- The ties of processes: all that is kept of them beside their states, their mailboxes and the signals on their way.
 use Rattle.std.specs.Prelude.{ℕ, zero, suc, Bool, true, false, not, ◌&&◌, ◌||◌, ◌==◌, if◌then◌else◌, List, [], ◌∷◌, ◌++◌, Option, Some, None, is_some, length, map, slice_set}
 use Rattle.pf_terms.specs.Value.{Value, atom, same}
 use Rattle.pf_terms.specs.Fixed.{undefined}
@@ -78,7 +78,8 @@ unlinked s a p = if has p (of s a).links then with_links s a (without_number p (
 
 -- a new reference watches the process
 abbrev pub monitored : AllTies → (a p : ℕ) → AllTies
-monitored s a p = record (with_active s a (put s.next_reference p (of s a).active)) { next_reference = suc s.next_reference }
+monitored s a p =
+    record (with_active s a (put s.next_reference p (of s a).active)) { next_reference = suc s.next_reference }
 
 -- a reference that is active is so no more
 abbrev pub without_active : AllTies → (a reference : ℕ) → Option ℕ → AllTies
@@ -97,7 +98,8 @@ reference_made s = record s { next_reference = suc s.next_reference }
 -- whether this name may be given to this process: neither has the other kind yet, and the process lives
 abbrev pub may_register : AllTies → (name pid : ℕ) → Bool
 may_register s n p =
-    not (is_some (got n s.names)) && (not (same (atom n) undefined) && ((of s p).lives && not (is_named p s.names)))
+    not (is_some (got n s.names))
+    && (not (same (atom n) undefined) && ((of s p).lives && not (is_named p s.names)))
 
 abbrev pub with_names : AllTies → List (ℕ × ℕ) → AllTies
 with_names s ns = record s { names = ns }
@@ -123,7 +125,7 @@ exit_placed s a b by_link =
 
 -- ---- the end of a process
 
--- an exit signal to each linked process, by rising number, and then a down signal to each watcher, by rising reference
+-- an exit signal to each linked process, by rising number, then a down signal to each watcher, by rising reference
 abbrev pub last_signals_of : ProcessTies → Value → List (ℕ × Signal)
 last_signals_of t r = map (λ l. (l, exit true r)) t.links ++ map (λ w. (w.1, down w.0 r)) t.watchers
 

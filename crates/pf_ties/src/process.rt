@@ -30,7 +30,13 @@ impl Model for Process {
 
     ghost Value = { ProcessTies };
 
-    ghost view = { λ p. record { lives = p.lives; traps_exits = p.traps_exits; links = p.links; active = p.active; watchers = p.watchers } };
+    ghost view = { λ p. record {
+      lives = p.lives;
+      traps_exits = p.traps_exits;
+      links = p.links;
+      active = p.active;
+      watchers = p.watchers;
+    } };
 }
 
 impl Process {
@@ -104,7 +110,8 @@ impl Process {
     }
 
     pub(crate) fn watch(&mut self, reference: u64, pid: u32) -> Result<(), NoMemory>
-        ensures active { OnOk result (self.new ≡ record self.old { active = put reference pid self.old.active }) }
+        ensures active { OnOk result
+            (self.new ≡ record self.old { active = put reference pid self.old.active }) }
         ensures refused { OnErr result (self.new ≡ self.old) }
     {
         self.active.insert(reference, pid)
@@ -119,7 +126,8 @@ impl Process {
     }
 
     pub(crate) fn add_watcher(&mut self, reference: u64, pid: u32) -> Result<(), NoMemory>
-        ensures added { OnOk result (self.new ≡ record self.old { watchers = put reference pid self.old.watchers }) }
+        ensures added { OnOk result
+            (self.new ≡ record self.old { watchers = put reference pid self.old.watchers }) }
         ensures refused { OnErr result (self.new ≡ self.old) }
     {
         self.watchers.insert(reference, pid)
@@ -179,7 +187,13 @@ fn add_exits(signals: &mut Vec<(u32, Signal)>, links: &[u32], reason: &Term) -> 
 {
     for link in links {
         let reason = copy(reason)?;
-        signals.push((*link, Signal::Exit { by_link: true, reason }))?;
+        signals.push((
+            *link,
+            Signal::Exit {
+                by_link: true,
+                reason,
+            },
+        ))?;
     }
     Ok(())
 }

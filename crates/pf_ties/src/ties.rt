@@ -1,10 +1,13 @@
 //! The ties of all processes.
 
-ghost use Rattle.std.specs.Prelude.{◌≡◌, ◌<◌, ◌^◌, ◌-◌, length, map, true, false, None, is_some, IfErr, IfOk, IfSome, MatchOption, MatchResult, OnErr, OnOk};
+ghost use Rattle.std.specs.Prelude.{◌≡◌, ◌<◌, ◌^◌, ◌-◌, length, map, true, false, None, is_some};
+ghost use Rattle.std.specs.Prelude.{IfErr, IfOk, IfSome, MatchResult, OnErr, OnOk};
 ghost use Rattle.pf_terms.specs.Term.{value_of};
 ghost use Rattle.pf_model.specs.Maps.{got, has, put, without};
 ghost use Rattle.pf_model.specs.declared.limits.TheConstants.{MOST_PROCESSES};
-ghost use Rattle.pf_ties.specs.Ties.{demonitor_placed, demonitored, ended, exit_placed, flag_set, is_new_link, last_signals_of, link_placed, linked, may_register, monitor_placed, monitored, no_process, of, opened, reference_made, unlink_placed, unlinked, with_names};
+ghost use Rattle.pf_ties.specs.Ties.{flag_set, is_new_link, last_signals_of, linked, may_register, monitored};
+ghost use Rattle.pf_ties.specs.Ties.{no_process, of, opened, demonitored, ended, reference_made, unlinked, with_names};
+ghost use Rattle.pf_ties.specs.Ties.{demonitor_placed, exit_placed, link_placed, monitor_placed, unlink_placed};
 ghost use Rattle.pf_ties.specs.Fates.{fate_at, fate_of, sent_of};
 ghost use Rattle.pf_ties.specs.Refusals.{IsRefusedOnlyIf};
 
@@ -31,7 +34,11 @@ impl Model for Ties {
 
     ghost Value = { AllTies };
 
-    ghost view = { λ t. record { processes = t.processes.items; names = t.names; next_reference = t.next_reference } };
+    ghost view = { λ t. record {
+      processes = t.processes.items;
+      names = t.names;
+      next_reference = t.next_reference;
+    } };
 }
 
 impl Ties {
@@ -44,6 +51,13 @@ impl Ties {
             names: Names::new(alloc),
             next_reference: 0,
         }
+    }
+
+    /// How many processes there are: the next pid.
+    pub fn len(&self) -> usize
+        ensures { result ≡ length self.now.processes }
+    {
+        self.processes.len()
     }
 
     /// One process more, which may be linked to another, with the pid that it gets.
@@ -90,8 +104,9 @@ impl Ties {
         }
     }
 
-    /// Links a process to another. It tells whether the link is new and not to oneself: then a link signal goes out.
-    pub fn link(&mut self, from: u32, to: u32) -> Result<bool, NoMemory>
+    /// Links a process to another. It tells whether the link is new and not to oneself: then a link signal
+    /// goes out.
+    pub fn link(&mut self, alloc: Global, from: u32, to: u32) -> Result<bool, NoMemory>
         requires { from < length self.old.processes }
         ensures new { IfOk result (λ new. new ≡ is_new_link self.old from to) }
         ensures linked { OnOk result (self.new ≡ linked self.old from to) }
@@ -119,7 +134,7 @@ impl Ties {
     }
 
     /// The new reference by which a process watches another from now on, and that the monitor signal has.
-    pub fn monitor(&mut self, from: u32, to: u32) -> Result<u64, NoMemory>
+    pub fn monitor(&mut self, alloc: Global, from: u32, to: u32) -> Result<u64, NoMemory>
         requires from { from < length self.old.processes }
         requires references { self.old.next_reference < 2 ^ 64 - 1 }
         ensures reference { IfOk result (λ reference. reference ≡ self.old.next_reference) }
@@ -133,8 +148,8 @@ impl Ties {
         Ok(reference)
     }
 
-    /// Makes a reference inactive. It gives the process that the reference watched, to which a demonitor signal
-    /// goes out.
+    /// Makes a reference inactive. It gives the process that the reference watched, to which a demonitor
+    /// signal goes out.
     pub fn demonitor(&mut self, from: u32, reference: u64) -> Option<u32>
         requires { from < length self.old.processes }
         ensures was { result ≡ got reference (of self.old from).active }
@@ -142,6 +157,13 @@ impl Ties {
     {
         let process = &mut self.processes[from as usize];
         process.unwatch(reference)
+    }
+
+    /// The reference that is made next.
+    pub fn next_reference(&self) -> u64
+        ensures { result ≡ self.now.next_reference }
+    {
+        self.next_reference
     }
 
     /// A reference that watches nothing.
@@ -165,9 +187,14 @@ impl Ties {
         process.set_flag(traps)
     }
 
-    /// Gives a process a name. It is refused where the name is in use or `undefined`, and where the process doesn't live
-    /// or has a name.
-    pub fn register(&mut self, name: AtomId, pid: u32) -> Result<(), OrNoMemory<BadArgument>>
+    /// Gives a process a name. It is refused where the name is in use or `undefined`, and where the process
+    /// doesn't live or has a name.
+    pub fn register(
+        &mut self,
+        alloc: Global,
+        name: AtomId,
+        pid: u32,
+    ) -> Result<(), OrNoMemory<BadArgument>>
         ensures allowed { OnOk result (may_register self.old name.0 pid ≡ true) }
         ensures refused { IfErr result (IsRefusedOnlyIf (may_register self.old name.0 pid ≡ false)) }
         ensures registered { OnOk result (self.new ≡ with_names self.old (put name.0 pid self.old.names)) }
@@ -211,7 +238,7 @@ impl Ties {
     }
 
     /// A link signal comes.
-    pub fn on_link(&mut self, from: u32, to: u32) -> Result<(), NoMemory>
+    pub fn on_link(&mut self, alloc: Global, from: u32, to: u32) -> Result<(), NoMemory>
         requires { to < length self.old.processes }
         ensures placed { OnOk result (self.new ≡ link_placed self.old from to) }
         ensures refused { OnErr result (self.new ≡ self.old) }
@@ -230,7 +257,13 @@ impl Ties {
     }
 
     /// A monitor signal comes.
-    pub fn on_monitor(&mut self, from: u32, to: u32, reference: u64) -> Result<(), NoMemory>
+    pub fn on_monitor(
+        &mut self,
+        alloc: Global,
+        from: u32,
+        to: u32,
+        reference: u64,
+    ) -> Result<(), NoMemory>
         requires { to < length self.old.processes }
         ensures placed { OnOk result (self.new ≡ monitor_placed self.old from to reference) }
         ensures refused { OnErr result (self.new ≡ self.old) }
@@ -248,7 +281,8 @@ impl Ties {
         process.remove_watcher(reference);
     }
 
-    /// A down signal comes. It tells whether its reference was active: then it becomes a message, else it is dropped.
+    /// A down signal comes. It tells whether its reference was active: then it becomes a message, else it is
+    /// dropped.
     pub fn on_down(&mut self, to: u32, reference: u64) -> bool
         requires { to < length self.old.processes }
         ensures was { result ≡ is_some (got reference (of self.old to).active) }
@@ -257,7 +291,8 @@ impl Ties {
         self.demonitor(to, reference).is_some()
     }
 
-    /// An exit signal comes, and what becomes of it. One by link is dropped where there is no link, and takes it away.
+    /// An exit signal comes, and what becomes of it. One by link is dropped where there is no link, and else
+    /// takes the link away.
     pub fn on_exit_signal(&mut self, from: u32, to: u32, by_link: bool, reason: Term) -> Fate
         requires { to < length self.old.processes }
         ensures fate { fate_of result ≡ fate_at (of self.old to) from to by_link (value_of reason) }
@@ -273,11 +308,17 @@ impl Ties {
         process.exit_fate(from, to, true, reason)
     }
 
-    /// A process ends, and the signals that go out then, each with its receiver: exits by link by rising number, then
-    /// downs by rising reference.
-    pub fn ended(&mut self, alloc: Global, pid: u32, reason: &Term) -> Result<Vec<(u32, Signal)>, NoMemory>
+    /// A process ends, and the signals that go out then, each with its receiver: exits by link by rising
+    /// number, then downs by rising reference.
+    pub fn ended(
+        &mut self,
+        alloc: Global,
+        pid: u32,
+        reason: &Term,
+    ) -> Result<Vec<(u32, Signal)>, NoMemory>
         requires { pid < length self.old.processes }
-        ensures last { IfOk result (λ ss. map sent_of ss.items ≡ last_signals_of (of self.old pid) (value_of reason.now)) }
+        ensures last { IfOk result (λ signals. map sent_of signals.items
+            ≡ last_signals_of (of self.old pid) (value_of reason.now)) }
         ensures ended { OnOk result (self.new ≡ ended self.old pid) }
         ensures refused { OnErr result (self.new ≡ self.old) }
     {

@@ -7,9 +7,10 @@ returns-then-at-entries c =
     (c.place_of-at.ensures.within, gap_past (λ e. e.0) c.args.key c.args.entries.now _ c.place_of-at.ensures.place (omega arith))
 
 pub returns-then-entries-at : goal.returns-then-entries-at
-returns-then-entries-at c =
-    (c.place_of-at.ensures.within,
-     gap_from (λ e. e.0) c.args.key c.args.entries.now _ (0, 0) c.place_of-at.ensures.place (λ e. let q = c.if-entries-at.true in omega arith))
+returns-then-entries-at c = (
+  c.place_of-at.ensures.within,
+  gap_from (λ e. e.0) c.args.key c.args.entries.now _ (0, 0) c.place_of-at.ensures.place (λ e. let q = c.if-entries-at.true in omega arith),
+)
 
 pub returns : goal.returns
 returns c =

@@ -7,5 +7,5 @@ pub returns-clause-place : goal.returns-clause-place
 returns-clause-place c =
     let xs = c.args.entries.now in
     let h = IsPartitionPoint-from_clause (λ e. nat_lt e.0 c.args.key) xs c.partition_point.result c.partition_point.ensures.partitioned
-      (IsPartitionedBy-ltb (λ e. e.0) xs c.args.key (non_decreasing (λ e. e.0) 0 xs c.requires)) (λ a r g called. search rules) in
+    (IsPartitionedBy-ltb (λ e. e.0) xs c.args.key (non_decreasing (λ e. e.0) 0 xs c.requires)) (λ a r g called. search rules) in
     at_place (λ e. e.0) c.args.key xs c.partition_point.result c.partition_point.ensures.bound h.0 h.1

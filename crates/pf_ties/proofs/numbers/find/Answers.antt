@@ -7,9 +7,10 @@ returns-then-at-items c =
     (c.place_of-at.ensures.within, gap_past (λ x. x) c.args.number c.args.items.now _ c.place_of-at.ensures.place (omega arith))
 
 pub returns-then-items-at : goal.returns-then-items-at
-returns-then-items-at c =
-    (c.place_of-at.ensures.within,
-     gap_from (λ x. x) c.args.number c.args.items.now _ 0 c.place_of-at.ensures.place (λ e. let q = c.if-items-at.true in omega arith))
+returns-then-items-at c = (
+  c.place_of-at.ensures.within,
+  gap_from (λ x. x) c.args.number c.args.items.now _ 0 c.place_of-at.ensures.place (λ e. let q = c.if-items-at.true in omega arith),
+)
 
 pub returns : goal.returns
 returns c =

@@ -7,5 +7,5 @@ pub returns-clause-place : goal.returns-clause-place
 returns-clause-place c =
     let xs = c.args.items.now in
     let h = IsPartitionPoint-from_clause (λ e. nat_lt e c.args.number) xs c.partition_point.result c.partition_point.ensures.partitioned
-      (IsPartitionedBy-ltb (λ x. x) xs c.args.number (non_decreasing (λ x. x) 0 xs c.requires)) (λ a r g called. search rules) in
+    (IsPartitionedBy-ltb (λ x. x) xs c.args.number (non_decreasing (λ x. x) 0 xs c.requires)) (λ a r g called. search rules) in
     at_place (λ x. x) c.args.number xs c.partition_point.result c.partition_point.ensures.bound h.0 h.1

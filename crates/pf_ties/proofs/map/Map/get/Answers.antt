@@ -6,7 +6,7 @@ pub returns-in-Ok : goal.returns-in-Ok
 returns-in-Ok c =
     let h = rw c.deref.ensures.value at c.in-Ok.ensures in
     rw (← c.self.view_is)
-      (ap (λ e. Some e.1) c.index.ensures ∙ sym (got_there c.args.key c.self.inside.entries.items c.in-Ok.at c.index.result.now h.1))
+    (ap (λ e. Some e.1) c.index.ensures ∙ sym (got_there c.args.key c.self.inside.entries.items c.in-Ok.at c.index.result.now h.1))
 
 pub returns-in-Err : goal.returns-in-Err
 returns-in-Err c =

@@ -6,13 +6,13 @@ pub invariant_of-self : goal.invariant_of-self
 invariant_of-self c =
     let h = rw c.deref.ensures.value at c.in-Ok.ensures in
     rw (c.remove.ensures.items, without_there c.args.key 0 c.self.inside.entries.items c.in-Ok.at c.self.invariant h.1)
-      (without_rises 0 c.args.key c.self.inside.entries.items c.self.invariant)
+    (without_rises 0 c.args.key c.self.inside.entries.items c.self.invariant)
 
 pub returns-in-Ok-clause-was : goal.returns-in-Ok-clause-was
 returns-in-Ok-clause-was c =
     let h = rw c.deref.ensures.value at c.in-Ok.ensures in
     rw (← c.self.view_is)
-      (ap (λ e. Some e.1) c.remove.ensures.value ∙ sym (got_there c.args.key c.self.inside.entries.items c.in-Ok.at c.remove.result h.1))
+    (ap (λ e. Some e.1) c.remove.ensures.value ∙ sym (got_there c.args.key c.self.inside.entries.items c.in-Ok.at c.remove.result h.1))
 
 pub returns-in-Ok-clause-removed : goal.returns-in-Ok-clause-removed
 returns-in-Ok-clause-removed c =

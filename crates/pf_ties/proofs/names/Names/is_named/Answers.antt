@@ -7,4 +7,4 @@ pub returns : goal.returns
 returns c =
     let e = rw c.from.ensures at c.get.ensures in
     rw (← c.self.view_is)
-      (c.is_some.ensures ∙ ap is_some e ∙ named_same c.self.inside.by_name c.self.inside.by_process c.args.pid c.self.invariant)
+    (c.is_some.ensures ∙ ap is_some e ∙ named_same c.self.inside.by_name c.self.inside.by_process c.args.pid c.self.invariant)

@@ -6,7 +6,7 @@ pub invariant_of-self-in-Err : goal.invariant_of-self-in-Err
 invariant_of-self-in-Err c =
     let h = rw c.deref.ensures.value at c.in-Err.ensures in
     rw (c.in_ok-insert-in-Err.ensures.items, with_gap c.args.number c.self.inside.items.items c.in-Err.at h.1)
-      (with_rises 0 c.args.number c.self.inside.items.items (omega arith) c.self.invariant)
+    (with_rises 0 c.args.number c.self.inside.items.items (omega arith) c.self.invariant)
 
 pub returns-in-Ok-clause-inserted : goal.returns-in-Ok-clause-inserted
 returns-in-Ok-clause-inserted c =

@@ -6,7 +6,7 @@ pub invariant_of-self : goal.invariant_of-self
 invariant_of-self c =
     let h = rw c.deref.ensures.value at c.in-Ok.ensures in
     rw (c.remove.ensures.items, without_there c.args.number 0 c.self.inside.items.items c.in-Ok.at c.self.invariant h.1)
-      (without_rises 0 c.args.number c.self.inside.items.items c.self.invariant)
+    (without_rises 0 c.args.number c.self.inside.items.items c.self.invariant)
 
 pub returns-in-Ok-clause-was : goal.returns-in-Ok-clause-was
 returns-in-Ok-clause-was c =

@@ -15,4 +15,4 @@ pub returns-in-None : goal.returns-in-None
 returns-in-None c =
     let k = rw c.deref.ensures.value at c.in-None.ensures.lookup in
     rw (← c.self.view_is)
-      (sym (past_end c.args.pid c.self.inside.processes.items (le_from c.args.pid (length c.self.inside.processes.items) (sym k.0))))
+    (sym (past_end c.args.pid c.self.inside.processes.items (le_from c.args.pid (length c.self.inside.processes.items) (sym k.0))))
