@@ -87,13 +87,6 @@ impl Process {
         self.links.has(to)
     }
 
-    /// The process that an active reference watches.
-    pub(crate) fn watched(&self, reference: u64) -> Option<u32>
-        ensures { result ≡ got reference self.now.active }
-    {
-        self.active.get(reference)
-    }
-
     pub(crate) fn link(&mut self, to: u32) -> Result<(), NoMemory>
         ensures linked { OnOk result (self.new ≡ record self.old { links = with_number to self.old.links }) }
         ensures refused { OnErr result (self.new ≡ self.old) }

@@ -223,7 +223,7 @@ impl Ties {
         ensures unregistered { OnOk result (self.new ≡ with_names self.old (without name.0 self.old.names)) }
         ensures err { OnErr result (self.new ≡ self.old) }
     {
-        if self.names.get(name).is_none() {
+        if self.whereis(name).is_none() {
             return Err(BadArgument);
         }
         self.names.remove(name);
