@@ -1,4 +1,5 @@
-//! Tests of the crates that know nothing of a module: choices, mail, quotas, tokens, values, atoms, and streams that count and fail.
+//! Tests of the crates that know nothing of a module: choices, mail, quotas, ties, tokens, values, atoms, and streams that count
+//! and fail.
 #![tactic(auto)]
 
 #[cfg(test)]
@@ -13,5 +14,7 @@ mod mail;
 mod quota;
 #[cfg(test)]
 mod streams;
+#[cfg(test)]
+mod ties;
 #[cfg(test)]
 mod values;
