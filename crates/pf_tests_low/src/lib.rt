@@ -1,4 +1,4 @@
-//! Tests of the crates that know nothing of a module: channels, choices, mail, quotas, tokens, values, atoms, and
+//! Tests of the crates that know nothing of a module: channels, choices, mail, quotas, ties, tokens, values, atoms, and
 //! streams that count and fail.
 #![tactic(auto)]
 
@@ -16,5 +16,7 @@ mod mail;
 mod quota;
 #[cfg(test)]
 mod streams;
+#[cfg(test)]
+mod ties;
 #[cfg(test)]
 mod values;

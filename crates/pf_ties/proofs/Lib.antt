@@ -1,0 +1,7 @@
+pub mod Places
+pub mod Sets
+pub mod Maps
+pub mod LookUps
+pub mod Naming
+pub mod Kept
+pub mod Followed

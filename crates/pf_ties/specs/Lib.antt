@@ -1,0 +1,6 @@
+pub mod Sorted
+pub mod Names
+pub mod Ties
+pub mod Fates
+pub mod Refusals
+pub mod Laws

@@ -1,0 +1,94 @@
+//! Names of processes.
+
+ghost use Rattle.std.specs.Prelude.{◌≡◌, [], false, None, OnErr, OnOk};
+ghost use Rattle.pf_model.specs.Maps.{got, put, without};
+ghost use Rattle.pf_model.specs.Actions.{is_named};
+ghost use Rattle.pf_model.specs.Ends.{without_name};
+
+use crate::map::Map;
+use pf_terms::{AtomId, NoMemory};
+use std::alloc::Global;
+use std::marker::Model;
+
+/// The process of each name in use. Contracts see it by the name's number.
+#[derive(Drop)]
+pub(crate) struct Names {
+    by_name: Map,
+    by_process: Map,
+}
+
+impl Model for Names {
+    ghost use Rattle.std.specs.Prelude.{ℕ, List};
+    ghost use Rattle.pf_ties.specs.Names.{AreInverse};
+
+    ghost Value = { List (ℕ × ℕ) };
+
+    ghost view = { λ n. n.by_name };
+
+    ghost invariant = { λ n. AreInverse n.by_name n.by_process };
+}
+
+impl Names {
+    pub(crate) fn new(alloc: Global) -> Names
+        ensures { result ≡ [] }
+    {
+        Names {
+            by_name: Map::new(alloc),
+            by_process: Map::new(alloc),
+        }
+    }
+
+    pub(crate) fn get(&self, name: AtomId) -> Option<u32>
+        ensures { result ≡ got name.0 self.now }
+    {
+        self.by_name.get(u64::from(name.0))
+    }
+
+    /// Whether a process has a name.
+    pub(crate) fn is_named(&self, pid: u32) -> bool
+        ensures { result ≡ is_named pid self.now }
+    {
+        self.by_process.get(u64::from(pid)).is_some()
+    }
+
+    /// Gives a process a name.
+    pub(crate) fn insert(&mut self, name: AtomId, pid: u32) -> Result<(), NoMemory>
+        requires new { got name.0 self.old ≡ None }
+        requires unnamed { is_named pid self.old ≡ false }
+        ensures named { OnOk result (self.new ≡ put name.0 pid self.old) }
+        ensures refused { OnErr result (self.new ≡ self.old) }
+    {
+        let key = u64::from(name.0);
+        self.by_name.insert(key, pid)?;
+        match self.by_process.insert(u64::from(pid), name.0) {
+            Ok(()) => Ok(()),
+            Err(refused) => {
+                self.by_name.remove(key);
+                Err(refused)
+            }
+        }
+    }
+
+    /// Takes a name out, and gives its process.
+    pub(crate) fn remove(&mut self, name: AtomId) -> Option<u32>
+        ensures was { result ≡ got name.0 self.old }
+        ensures removed { self.new ≡ without name.0 self.old }
+    {
+        match self.by_name.remove(u64::from(name.0)) {
+            None => None,
+            Some(pid) => {
+                self.by_process.remove(u64::from(pid));
+                Some(pid)
+            }
+        }
+    }
+
+    /// Takes the name of a process out, if it has one.
+    pub(crate) fn remove_of(&mut self, pid: u32)
+        ensures { self.new ≡ without_name pid self.old }
+    {
+        if let Some(name) = self.by_process.remove(u64::from(pid)) {
+            self.by_name.remove(u64::from(name));
+        }
+    }
+}
