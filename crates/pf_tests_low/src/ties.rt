@@ -114,25 +114,13 @@ impl World {
         Ok(self.ties.on_down(to, reference))
     }
 
-    /// What becomes of an exit signal, in a word.
-    fn on_exit(
-        &mut self,
-        from: u32,
-        to: u32,
-        by_link: bool,
-        reason: AtomId,
-    ) -> Result<&'static str, Fail> {
+    /// What becomes of an exit signal.
+    fn on_exit(&mut self, from: u32, to: u32, by_link: bool, reason: AtomId) -> Result<Met, Fail> {
         self.needs(to)?;
         let fate = self
             .ties
             .on_exit_signal(from, to, by_link, Term::Atom(reason));
-        Ok(match fate {
-            Fate::Drop => "drop",
-            Fate::Message => "message",
-            Fate::End(end) if equal(&end, &Term::Atom(reason)) => "end",
-            Fate::End(end) if equal(&end, &Term::Atom(AtomId::KILLED)) => "killed",
-            Fate::End(_) => "another end",
-        })
+        Ok(told_by(&fate, &Term::Atom(reason)))
     }
 
     /// The signals that go out at the end of a process: of each its receiver, and of a down its reference.
@@ -161,6 +149,34 @@ impl World {
             Ok(()) => Ok(true),
             Err(OrNoMemory::Fault(BadArgument)) => Ok(false),
             Err(OrNoMemory::NoMemory) => Err(Fail::from("no memory")),
+        }
+    }
+}
+
+/// What became of a signal.
+#[derive(Clone, Copy, Debug, PartialEq, Eq)]
+enum Met {
+    Dropped,
+    Placed,
+    /// The receiver ends with the reason of the signal.
+    Ended,
+    Killed,
+    EndedElse,
+}
+
+/// What this fate makes of a signal with this reason.
+fn told_by(fate: &Fate, reason: &Term) -> Met {
+    match fate {
+        Fate::Drop => Met::Dropped,
+        Fate::Message => Met::Placed,
+        Fate::End(end) => {
+            if equal(end, reason) {
+                Met::Ended
+            } else if equal(end, &Term::Atom(AtomId::KILLED)) {
+                Met::Killed
+            } else {
+                Met::EndedElse
+            }
         }
     }
 }
@@ -267,21 +283,21 @@ fn references_are_active_until_given_up(rt: HostRuntime) -> Result<(), Fail> {
 fn exit_signals_meet_their_fates(rt: HostRuntime) -> Result<(), Fail> {
     let mut world = World::new(rt.alloc(), 2)?;
     for (from, by_link, reason, fate, trapped) in [
-        (0, false, CRASH, "end", "message"),
-        (0, false, AtomId::NORMAL, "drop", "message"),
-        (1, false, AtomId::NORMAL, "end", "message"),
-        (0, false, AtomId::KILL, "killed", "killed"),
-        (0, true, CRASH, "end", "message"),
-        (0, true, AtomId::NORMAL, "drop", "message"),
-        (1, true, AtomId::NORMAL, "end", "message"),
-        (0, true, AtomId::KILL, "end", "message"),
+        (0, false, CRASH, Met::Ended, Met::Placed),
+        (0, false, AtomId::NORMAL, Met::Dropped, Met::Placed),
+        (1, false, AtomId::NORMAL, Met::Ended, Met::Placed),
+        (0, false, AtomId::KILL, Met::Killed, Met::Killed),
+        (0, true, CRASH, Met::Ended, Met::Placed),
+        (0, true, AtomId::NORMAL, Met::Dropped, Met::Placed),
+        (1, true, AtomId::NORMAL, Met::Ended, Met::Placed),
+        (0, true, AtomId::KILL, Met::Ended, Met::Placed),
     ] {
         for (traps, wanted) in [(false, fate), (true, trapped)] {
             world.set_flag(1, traps)?;
             world.on_link(from, 1)?;
             assert_eq!(rt; world.on_exit(from, 1, by_link, reason)?, wanted);
             assert_eq!(rt; world.unlink(1, from)?, !by_link);
-            let unlinked = if by_link { "drop" } else { wanted };
+            let unlinked = if by_link { Met::Dropped } else { wanted };
             assert_eq!(rt; world.on_exit(from, 1, by_link, reason)?, unlinked);
         }
     }
