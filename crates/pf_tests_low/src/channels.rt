@@ -20,13 +20,7 @@ fn opened(alloc: Global, senders: usize) -> Result<Channels, Fail> {
 }
 
 /// Sends the message `n`, and says whether there is such a sender.
-fn post(
-    alloc: Global,
-    channels: &mut Channels,
-    from: u32,
-    to: u32,
-    n: i64,
-) -> Result<bool, Fail> {
+fn post(alloc: Global, channels: &mut Channels, from: u32, to: u32, n: i64) -> Result<bool, Fail> {
     if (from as usize) < channels.senders() {
         channels.send(alloc, from, to, Signal::Message(Term::Int(n)))?;
         return Ok(true);
@@ -158,14 +152,20 @@ fn many_pairs_fill_and_empty(rt: HostRuntime) -> Result<(), Fail> {
     assert_eq!(rt; (channels.senders(), channels.len()), (256, 10_240));
     let all = heads(rt.alloc(), &channels)?;
     assert_eq!(rt; (all.get(0), all.get(41)), (Some(&(0, 0)), Some(&(1, 1))));
-    assert_eq!(rt; (all.get(5_000), all.get(10_239)), (Some(&(125, 0)), Some(&(255, 39))));
+    assert_eq!(rt;
+        (all.get(5_000), all.get(10_239)),
+        (Some(&(125, 0)), Some(&(255, 39)))
+    );
     for (from, to) in all {
         let wanted = number_of(from, to);
         assert_eq!(rt; next(&mut channels, from, to), Some(wanted));
     }
     assert_eq!(rt; (channels.senders(), channels.len()), (256, 0));
     assert!(rt; post(rt.alloc(), &mut channels, 255, 3, 9)?);
-    assert_eq!(rt; heads(rt.alloc(), &channels)?.as_slice(), [(255, 3)].as_slice());
+    assert_eq!(rt;
+        heads(rt.alloc(), &channels)?.as_slice(),
+        [(255, 3)].as_slice()
+    );
     Ok(())
 }
 
