@@ -1,6 +1,6 @@
 #!/bin/sh
-# Times a step of the machine, in the build that LLVM makes: a loop by tail calls from 30,000 and a sum to 10,000, each up to a
-# limit of steps or its end. It prints a table for docs/SPEED.md, and fails where a step costs over 40 ns, or under the highest
+# Times a step of the machine, in the build that LLVM makes: a loop by tail calls from 30,000, a sum to 10,000 and the 18th Fibonacci
+# number, each up to a limit of steps or its end. It prints a table for docs/SPEED.md, and fails where a step costs over 40 ns, or under the highest
 # limit over 1.3 times as much as under the lowest.
 set -eu
 lines=$(sh "$(dirname "$0")/program.sh" machine)

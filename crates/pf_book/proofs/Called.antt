@@ -3,13 +3,13 @@ use Rattle.std.proofs.Common.{◌≡◌, [], ◌∷◌, ◌++◌, refl, sym, ap,
 use Rattle.pf_quota.specs.declared.usage.Usage.{Usage}
 use Rattle.pf_quota.specs.declared.charges.Charge.TheVariants as charge
 use Rattle.pf_quota.specs.Usage.{usage_of, charged}
-use Rattle.pf_single.specs.Desk.{Profile, Desk, Call, Reply, called, answered, after_call, with_entry, held_by, calls_in}
-use Rattle.pf_single.specs.History.{IsLegalDesk}
+use Rattle.pf_desks.specs.Desk.{Profile, Desk, Call, Reply, called, answered, after_call, with_entry, held_by, calls_in}
+use Rattle.pf_desks.specs.History.{IsLegalDesk}
 use Rattle.pf_book.specs.Profile.{ForRight}
 use Rattle.pf_book.specs.declared.plan.Addition.{Addition}
 use Rattle.pf_book.specs.declared.plan.Addition.TheVariants as addition
 use Rattle.pf_book.specs.Plans.{with_addition, used_by}
-use Rattle.pf_single.proofs.Histories.{desk_more}
+use Rattle.pf_desks.proofs.Histories.{desk_more}
 use Rattle.pf_book.proofs.Sums.{calls_more, used_more}
 
 same_history : (d : Desk) (a : Addition) → (with_addition d a).history ≡ d.history

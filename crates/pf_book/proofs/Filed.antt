@@ -4,9 +4,9 @@ use Rattle.std.specs.Prelude.{if◌then◌else◌, option_and_then, slice_get, s
 use Rattle.pf_quota.specs.declared.charges.Held.{Held}
 use Rattle.pf_quota.specs.declared.charges.Held.TheVariants as held
 use Rattle.pf_quota.specs.Usage.{usage_of}
-use Rattle.pf_single.specs.Meaning.{Report}
-use Rattle.pf_single.specs.Desk.{Profile, Stored, Job, State, queued, running, done, Trial, Desk, claimed, filed, numbered, is_queued_state, is_queued, is_running}
-use Rattle.pf_single.specs.Desk.{set_trial, with_state, after_claim, after_file, file_step, once, worker_step, held_by, calls_in}
+use Rattle.pf_model.specs.Meaning.{Report}
+use Rattle.pf_desks.specs.Desk.{Profile, Stored, Job, State, queued, running, done, Trial, Desk, claimed, filed, numbered, is_queued_state, is_queued, is_running}
+use Rattle.pf_desks.specs.Desk.{set_trial, with_state, after_claim, after_file, file_step, once, worker_step, held_by, calls_in}
 use Rattle.pf_book.specs.Queued.{job_in_state, job_of_trial, job_at}
 use Rattle.pf_book.proofs.Sums.{calls_claimed, calls_filed}
 

@@ -5,9 +5,9 @@ use Rattle.std.specs.Map.{lookup, set_value}
 use Rattle.std.proofs.lemmas.Map.Steps.{set_value_same}
 use Rattle.indexmap.specs.IndexMap.{insert_entry}
 use Rattle.pf_fault.specs.declared.memory.NoMemory.{NoMemory}
-use Rattle.pf_single.specs.Desk.{Profile, Desk, no_desk, Call, numbered, is_queued, reply_to, after_call, after_claim, file_step, once, worker_step}
-use Rattle.pf_single.specs.History.{IsLegalDesk}
-use Rattle.pf_single.specs.World.{World, replied, work_done, not_now, desk_at, put_desk, worked}
+use Rattle.pf_desks.specs.Desk.{Profile, Desk, no_desk, Call, numbered, is_queued, reply_to, after_call, after_claim, file_step, once, worker_step}
+use Rattle.pf_desks.specs.History.{IsLegalDesk}
+use Rattle.pf_desks.specs.World.{World, replied, work_done, not_now, desk_at, put_desk, worked}
 use Rattle.pf_book.specs.Profile.{ForRight}
 use Rattle.pf_book.specs.Answers.{DeskAnswers, DeskWorks, Answers, Works}
 use Rattle.pf_book.specs.declared.reply.Reply.{Reply}

@@ -8,8 +8,8 @@ use Rattle.pf_quota.specs.declared.charges.Held.{Held}
 use Rattle.pf_quota.specs.declared.charges.Held.TheVariants as held
 use Rattle.pf_quota.specs.declared.charges.Charge.TheVariants as charge
 use Rattle.pf_quota.specs.Usage.{usage_of, charged, module_count, byte_count, trial_count, step_count}
-use Rattle.pf_single.specs.Desk as desk
-use Rattle.pf_single.specs.Desk.{Stored, Trial, Job, State, Desk, Entry, Call, Reply, called, claimed, filed, calls_in, held_by}
+use Rattle.pf_desks.specs.Desk as desk
+use Rattle.pf_desks.specs.Desk.{Stored, Trial, Job, State, Desk, Entry, Call, Reply, called, claimed, filed, calls_in, held_by}
 use Rattle.pf_book.specs.declared.plan.Addition.{Addition}
 use Rattle.pf_book.specs.declared.plan.Addition.TheVariants as addition
 use Rattle.pf_book.specs.Plans.{with_addition, used_by}

@@ -1,9 +1,9 @@
 -- What calls and a worker's work are answered with.
 use Rattle.std.specs.Prelude.{◌≡◌, ℕ, Bool, true, false, Some, Result, Ok, Err, if◌then◌else◌}
 use Rattle.pf_fault.specs.declared.memory.NoMemory.{NoMemory}
-use Rattle.pf_single.specs.Desk as desk
-use Rattle.pf_single.specs.Desk.{numbered, reply_to, after_call, is_queued, once, worker_step}
-use Rattle.pf_single.specs.World.{World, Answer, replied, work_done, not_now, desk_at, step, client, worker}
+use Rattle.pf_desks.specs.Desk as desk
+use Rattle.pf_desks.specs.Desk.{numbered, reply_to, after_call, is_queued, once, worker_step}
+use Rattle.pf_desks.specs.World.{World, Answer, replied, work_done, not_now, desk_at, step, client, worker}
 use Rattle.pf_book.specs.declared.reply.Reply.{Reply}
 use Rattle.pf_book.specs.Profile.{ForRight}
 use Rattle.pf_book.specs.View.{reply_seen}

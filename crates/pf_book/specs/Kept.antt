@@ -1,8 +1,8 @@
 -- What the fields of a desk stand for, and what is true of them.
 use Rattle.std.specs.Prelude.{◌≡◌, map}
 use Rattle.pf_quota.specs.Usage.{usage_of}
-use Rattle.pf_single.specs.Desk.{Desk, held_by, calls_in}
-use Rattle.pf_single.specs.History.{IsLegalDesk}
+use Rattle.pf_desks.specs.Desk.{Desk, held_by, calls_in}
+use Rattle.pf_desks.specs.History.{IsLegalDesk}
 use Rattle.pf_book.specs.Profile.{ForRight}
 use Rattle.pf_book.specs.View.{entry_seen}
 use Rattle.pf_book.specs.declared.desk.Desk.TheInside.{Inside}

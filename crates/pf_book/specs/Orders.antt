@@ -3,7 +3,7 @@ use Rattle.std.specs.Prelude.{◌≡◌, List, Result, Err}
 use Rattle.pf_fault.specs.declared.code.Code.{Code}
 use Rattle.pf_fault.specs.declared.fault.OrNoMemory.{OrNoMemory}
 use Rattle.pf_fault.specs.declared.fault.OrNoMemory.TheVariants.{NoMemory, Fault}
-use Rattle.pf_single.specs.Desk.{Stored, Job, job_of, numbered}
+use Rattle.pf_desks.specs.Desk.{Stored, Job, job_of, numbered}
 use Rattle.pf_book.specs.declared.call.Order.{Order}
 use Rattle.pf_book.specs.declared.refusal.Refusal.{Refusal}
 use Rattle.pf_book.specs.View.{code_of}

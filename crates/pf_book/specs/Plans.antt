@@ -3,7 +3,7 @@ use Rattle.std.specs.Prelude.{◌≡◌, ◌^◌, ◌≤◌, max, [], ◌∷◌,
 use Rattle.pf_quota.specs.declared.usage.Usage.{Usage}
 use Rattle.pf_quota.specs.declared.charges.Charge.TheVariants as charge
 use Rattle.pf_quota.specs.Usage.{charged}
-use Rattle.pf_single.specs.Desk as desk
+use Rattle.pf_desks.specs.Desk as desk
 use Rattle.pf_book.specs.declared.plan.Addition.{Addition}
 use Rattle.pf_book.specs.declared.plan.Addition.TheVariants as addition
 use Rattle.pf_book.specs.declared.plan.Plan.{Plan}

@@ -1,18 +1,18 @@
 -- Profiles that are right: they read sources as the language does, and jobs mean to them what they mean in it.
 use Rattle.std.specs.Prelude.{◌≡◌, ℕ, List}
 use Rattle.pf_check.specs.Reads.{Outcome, accepted, refused, Reads}
-use Rattle.pf_single.specs.Meaning.{Report, Means}
-use Rattle.pf_single.specs.Desk.{Reading, readable, faulty, Job, Profile}
+use Rattle.pf_model.specs.Meaning.{Report, Means}
+use Rattle.pf_desks.specs.Desk.{Reading, readable, faulty, Job, job_meant, Profile}
 
--- what desks see of an outcome: a module without its name, or the number of a refusal without its place
+-- what desks see of an outcome: a module, or the code of a refusal without its place
 abbrev pub reading_from : Outcome → Reading
-reading_from (accepted name atoms functions) = readable atoms functions
+reading_from (accepted name atoms functions) = readable (record { name = name; atoms = atoms; functions = functions })
 reading_from (refused code place) = faulty code
 
--- however a source is read, the profile reads it so; whatever a job's module means, is what the job means
+-- however a source is read, the profile reads it so; whatever a job means in the language, it means to the profile
 pub record IsRight (p : Profile) : Type 0 where
   pub reads : (bytes : List ℕ) (o : Outcome) → Reads bytes o → p.reading bytes ≡ reading_from o
-  pub means : (j : Job) (r : Report) → Means j.stored.functions j.root j.limit r → p.meaning j ≡ r
+  pub means : (j : Job) (r : Report) → Means (job_meant j) r → p.meaning j ≡ r
 
 -- it holds for each profile that is right
 abbrev pub ForRight : (Profile → Type 0) → Type 0

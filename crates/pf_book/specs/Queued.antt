@@ -1,6 +1,6 @@
 -- The jobs that wait for a worker.
 use Rattle.std.specs.Prelude.{ℕ, List, Option, Some, None}
-use Rattle.pf_single.specs.Desk.{Job, State, queued, Trial, numbered}
+use Rattle.pf_desks.specs.Desk.{Job, State, queued, Trial, numbered}
 
 abbrev pub job_in_state : Job → State → Option Job
 job_in_state j queued = Some j

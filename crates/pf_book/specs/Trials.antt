@@ -1,6 +1,6 @@
 -- Whose atoms reports speak of.
 use Rattle.std.specs.Prelude.{◌≡◌, ℕ, List, IfSome}
-use Rattle.pf_single.specs.Desk.{Trial, numbered}
+use Rattle.pf_desks.specs.Desk.{Trial, numbered}
 use Rattle.pf_book.specs.declared.trial.State.{State}
 use Rattle.pf_book.specs.declared.trial.State.TheVariants.{Queued, Done}
 
@@ -11,4 +11,4 @@ SpeaksOf atoms (Done filed) = filed.0 ≡ atoms
 
 -- the trial of a ticket, where there is one, is of a module with these atoms
 abbrev pub AtomsAt : List Trial → ℕ → List (List ℕ) → Type 0
-AtomsAt ts t atoms = IfSome (numbered ts t) (λ x. atoms ≡ x.job.stored.atoms)
+AtomsAt ts t atoms = IfSome (numbered ts t) (λ x. atoms ≡ x.job.stored.code.atoms)

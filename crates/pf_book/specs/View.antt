@@ -1,7 +1,7 @@
 -- What the code's calls, replies and notes stand for.
 use Rattle.pf_fault.specs.declared.code.Code.{Code}
 use Rattle.pf_fault.specs.declared.code.Code.TheVariants as code
-use Rattle.pf_single.specs.Desk as desk
+use Rattle.pf_desks.specs.Desk as desk
 use Rattle.pf_book.specs.declared.call.Order.{Order}
 use Rattle.pf_book.specs.declared.call.Call.{Call}
 use Rattle.pf_book.specs.declared.call.Call.TheVariants as call

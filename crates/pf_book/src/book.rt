@@ -1,9 +1,9 @@
 //! The desks of all projects.
 
 ghost use Rattle.std.specs.Prelude.{◌≡◌, [], length};
-ghost use Rattle.pf_single.specs.Desk as desk;
-ghost use Rattle.pf_single.specs.History.{IsLegalDesk};
-ghost use Rattle.pf_single.specs.World.{desk_at};
+ghost use Rattle.pf_desks.specs.Desk as desk;
+ghost use Rattle.pf_desks.specs.History.{IsLegalDesk};
+ghost use Rattle.pf_desks.specs.World.{desk_at};
 ghost use Rattle.pf_book.specs.Answers.{Answers, Works};
 ghost use Rattle.pf_book.specs.Profile.{ForRight};
 ghost use Rattle.pf_book.specs.View.{call_seen, order_seen};
@@ -27,8 +27,8 @@ pub struct Book {
 }
 
 impl Model for Book {
-    ghost use Rattle.pf_single.specs.World.{World};
-    ghost use Rattle.pf_single.specs.DeskCode.{coded_world};
+    ghost use Rattle.pf_desks.specs.World.{World};
+    ghost use Rattle.pf_desks.specs.DeskCode.{coded_world};
 
     ghost Value = { World };
 

@@ -2,9 +2,9 @@
 
 ghost use Rattle.std.specs.Prelude.{◌≡◌, IfOk, MatchResult, length};
 ghost use Rattle.std.specs.Option.{option_copied};
-ghost use Rattle.pf_single.specs.Desk as desk;
-ghost use Rattle.pf_single.specs.Desk.{no_desk, fetched};
-ghost use Rattle.pf_single.specs.History.{IsLegalDesk};
+ghost use Rattle.pf_desks.specs.Desk as desk;
+ghost use Rattle.pf_desks.specs.Desk.{no_desk, fetched};
+ghost use Rattle.pf_desks.specs.History.{IsLegalDesk};
 ghost use Rattle.pf_book.specs.Profile.{ForRight};
 ghost use Rattle.pf_book.specs.View.{call_seen, order_seen, code_of};
 ghost use Rattle.pf_book.specs.Answers.{DeskAnswers, DeskWorks};
@@ -39,8 +39,8 @@ pub(crate) struct Desk {
 }
 
 impl Model for Desk {
-    ghost use Rattle.pf_single.specs.Desk as desk;
-    ghost use Rattle.pf_single.specs.DeskCode.{coded_desk};
+    ghost use Rattle.pf_desks.specs.Desk as desk;
+    ghost use Rattle.pf_desks.specs.DeskCode.{coded_desk};
 
     ghost Value = { desk.Desk };
 

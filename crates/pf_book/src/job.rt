@@ -1,16 +1,17 @@
 //! A run that was ordered.
 
 ghost use Rattle.std.specs.Prelude.{◌≡◌, Ok, IfOk, MatchResult};
-ghost use Rattle.pf_single.specs.Meaning.{Means};
-ghost use Rattle.pf_single.specs.Reports.{report_of};
+ghost use Rattle.pf_model.specs.Meaning.{Means};
+ghost use Rattle.pf_model.specs.Reports.{report_of};
+ghost use Rattle.pf_desks.specs.Desk.{job_meant};
 ghost use Rattle.pf_book.specs.Orders.{job_asked, IsRefusedJob};
 
 use crate::call::Order;
 use crate::numbers::numbered;
 use crate::refusal::Refusal;
 use pf_fault::OrNoMemory;
-use pf_single::limits::is_in_range;
-use pf_single::report::Report;
+use pf_model::limits::is_in_range;
+use pf_model::report::Report;
 use pf_stepper::run_one;
 use pf_store::Stored;
 use pf_syntax::{FunctionId, Module};
@@ -31,8 +32,8 @@ pub(crate) struct Job {
 }
 
 impl Model for Job {
-    ghost use Rattle.pf_single.specs.Desk as desk;
-    ghost use Rattle.pf_single.specs.DeskCode.{coded_job};
+    ghost use Rattle.pf_desks.specs.Desk as desk;
+    ghost use Rattle.pf_desks.specs.DeskCode.{coded_job};
 
     ghost Value = { desk.Job };
 
@@ -71,7 +72,7 @@ impl Job {
     }
 
     pub fn module(&self) -> &Arc<Module>
-        ensures { result.now.value.atoms ≡ self.now.stored.atoms }
+        ensures { result.now.value.atoms ≡ self.now.stored.code.atoms }
     {
         self.stored.module()
     }
@@ -84,8 +85,7 @@ impl Job {
 
     /// The report of the run.
     pub fn run(&self, alloc: Global) -> Result<Report, NoMemory>
-        ensures { IfOk result (λ r.
-            Means self.now.stored.functions self.now.root self.now.limit (report_of r)) }
+        ensures { IfOk result (λ r. Means (job_meant self.now) (report_of r)) }
     {
         run_one(alloc, self.stored.module(), self.root, self.order.limit)
     }

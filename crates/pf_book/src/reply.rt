@@ -1,11 +1,11 @@
 //! What a client is told.
 
 ghost use Rattle.std.specs.Prelude.{◌≡◌, IfOk};
-ghost use Rattle.pf_single.specs.Reports.{report_of};
+ghost use Rattle.pf_model.specs.Reports.{report_of};
 
 use crate::refusal::Refusal;
+use pf_model::report::Report;
 use pf_quota::Usage;
-use pf_single::report::Report;
 use pf_syntax::Module;
 use pf_terms::{AtomTable, NoMemory};
 use std::alloc::Global;
@@ -29,9 +29,10 @@ impl Model for FiledReport {
     ghost use Rattle.std.specs.Prelude.{List, ℕ};
     ghost use Rattle.std.specs.Arc.{arc_value};
     ghost use Rattle.std.specs.Coded.{coded×};
-    ghost use Rattle.pf_single.specs.Meaning as meaning;
-    ghost use Rattle.pf_single.specs.DeskCode.{coded_names, coded_report};
-    ghost use Rattle.pf_single.specs.Reports.{report_of};
+    ghost use Rattle.pf_model.specs.Meaning as meaning;
+    ghost use Rattle.pf_desks.specs.DeskCode.{coded_names};
+    ghost use Rattle.pf_desks.specs.ReportCode.{coded_report};
+    ghost use Rattle.pf_model.specs.Reports.{report_of};
 
     ghost Value = { List (List ℕ) × meaning.Report };
 

@@ -2,7 +2,7 @@
 
 ghost use Rattle.std.specs.Prelude.{◌≡◌, MatchResult};
 ghost use Rattle.std.specs.Option.{option_copied};
-ghost use Rattle.pf_single.specs.Desk as desk;
+ghost use Rattle.pf_desks.specs.Desk as desk;
 ghost use Rattle.pf_book.specs.View.{code_of};
 ghost use Rattle.pf_book.specs.Queued.{queued_job};
 
@@ -27,8 +27,8 @@ pub(crate) struct Trial {
 }
 
 impl Model for Trial {
-    ghost use Rattle.pf_single.specs.Desk as desk;
-    ghost use Rattle.pf_single.specs.DeskCode.{coded_trial};
+    ghost use Rattle.pf_desks.specs.Desk as desk;
+    ghost use Rattle.pf_desks.specs.DeskCode.{coded_trial};
 
     ghost Value = { desk.Trial };
 
@@ -39,7 +39,7 @@ impl Model for Trial {
 
     ghost view = { λ t. record { job = t.job; state = state_seen t.state } };
 
-    ghost invariant = { λ t. SpeaksOf t.job.stored.atoms t.state };
+    ghost invariant = { λ t. SpeaksOf t.job.stored.code.atoms t.state };
 }
 
 impl Trial {
@@ -65,7 +65,7 @@ impl Trial {
 
     /// Files its report, which speaks of the atoms of its module.
     pub fn file(&mut self, report: FiledReport)
-        requires { report.0 ≡ self.old.job.stored.atoms }
+        requires { report.0 ≡ self.old.job.stored.code.atoms }
         ensures { self.new ≡ record { job = self.old.job; state = desk.done report.1 } }
     {
         self.state = State::Done(report);
@@ -74,8 +74,8 @@ impl Trial {
     /// Its report, where it is filed.
     pub fn report(&self) -> Result<&FiledReport, Refusal>
         ensures { MatchResult result
-            (λ r. desk.report_in self.now.job.stored.atoms self.now.state ≡ desk.report r.now.0 r.now.1)
-            (λ e. desk.report_in self.now.job.stored.atoms self.now.state ≡ desk.refused (code_of e)) }
+            (λ r. desk.report_in self.now.job.stored.code.atoms self.now.state ≡ desk.report r.now.0 r.now.1)
+            (λ e. desk.report_in self.now.job.stored.code.atoms self.now.state ≡ desk.refused (code_of e)) }
     {
         match &self.state {
             State::Queued => Err(Refusal::NotDone),

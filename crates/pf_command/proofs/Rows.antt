@@ -6,12 +6,14 @@ use Rattle.pf_fault.specs.declared.code.Code.{Code}
 use Rattle.pf_fault.specs.declared.code.Code.TheVariants as table
 use Rattle.pf_terms.specs.Atoms.{name_of}
 use Rattle.pf_syntax.specs.Module.{Checked}
-use Rattle.pf_single.specs.Meaning.{Means, Report}
+use Rattle.pf_model.specs.Meaning.{Means, Report}
 use Rattle.pf_syntax.specs.Root.{root_of}
-use Rattle.pf_single.specs.Text.{line, report_text, returns_holds}
+use Rattle.pf_model.specs.Code.{code_of}
+use Rattle.pf_model.specs.TermText.{line}
+use Rattle.pf_model.specs.Text.{report_text}
 use Rattle.pf_check.specs.Reads.{Reads, refused, accepted_as}
 use Rattle.pf_command.specs.Words.{Request}
-use Rattle.pf_command.specs.Answers.{Answers, may_be_asked, run_status, source_refused, no_root, out_of_bounds, reported}
+use Rattle.pf_command.specs.Answers.{Answers, may_be_asked, job_asked, run_status, source_refused, no_root, out_of_bounds, reported}
 
 pub row_refused : (r : Request) (bytes text : List ℕ) (status : ℕ) (code : Code) (place : ℕ) → Reads bytes (refused code place)
     → text ≡ line (refusal_text code place) → status ≡ 2 → Answers r bytes text status
@@ -26,6 +28,6 @@ pub row_out_of_bounds : (r : Request) (m : Checked) (bytes text : List ℕ) (sta
 row_out_of_bounds r m bytes text status i reads root out e s = rw (e, s) (out_of_bounds m.name m.atoms m.functions i reads root out)
 
 pub row_reported : (r : Request) (m : Checked) (bytes text : List ℕ) (i : ℕ) (report : Report) (status : ℕ) → Reads bytes (accepted_as m)
-    → root_of r.root m.atoms m.functions ≡ Some i → may_be_asked r ≡ true → Means m.functions i r.limit report
-    → text ≡ report_text (name_of m.atoms) report → status ≡ run_status (returns_holds report.outcome) → Answers r bytes text status
+    → root_of r.root m.atoms m.functions ≡ Some i → may_be_asked r ≡ true → Means (job_asked r (code_of m) i) report
+    → text ≡ report_text (name_of m.atoms) report → status ≡ run_status report.verdict → Answers r bytes text status
 row_reported r m bytes text i report status reads root within means e s = rw (e, s) (reported m.name m.atoms m.functions i report reads root within means)

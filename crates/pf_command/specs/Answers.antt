@@ -1,5 +1,5 @@
 -- What a source is answered with under a request: the text that goes out and the status.
-use Rattle.std.specs.Prelude.{◌≡◌, ◌+◌, ℕ, Bool, true, false, if◌then◌else◌, List, length, take, Option, None, Some, IfSome}
+use Rattle.std.specs.Prelude.{◌≡◌, ◌+◌, ℕ, Bool, true, false, List, length, take, Option, None, Some, IfSome}
 use Rattle.std.specs.Io.KnownBytes.{Appends}
 use Rattle.pf_fault.specs.Codes.{code_text, refusal_text}
 use Rattle.pf_fault.specs.declared.code.Code.{Code}
@@ -12,9 +12,12 @@ use Rattle.pf_terms.specs.declared.stream.StreamFault.{StreamFault}
 use Rattle.pf_terms.specs.declared.stream.StreamFault.TheVariants.{Read, Write}
 use Rattle.pf_syntax.specs.Tree.{Program}
 use Rattle.pf_syntax.specs.Root.{root_of}
-use Rattle.pf_single.specs.Limits.{is_in_range}
-use Rattle.pf_single.specs.Meaning.{Means, Report}
-use Rattle.pf_single.specs.Text.{line, report_text, returns_holds}
+use Rattle.pf_model.specs.Limits.{is_in_range}
+use Rattle.pf_model.specs.Code.{Code as Module}
+use Rattle.pf_model.specs.Meaning as model
+use Rattle.pf_model.specs.Meaning.{Means, Report, returning}
+use Rattle.pf_model.specs.TermText.{line}
+use Rattle.pf_model.specs.Text.{report_text}
 use Rattle.pf_check.specs.Reads.{Reads, accepted, refused}
 use Rattle.pf_command.specs.Words.{Request}
 use Rattle.pf_command.specs.declared.answer.Answer.{Answer}
@@ -24,9 +27,15 @@ use Rattle.pf_command.specs.declared.source.TheConstants.{MOST_BYTES}
 abbrev pub may_be_asked : Request → Bool
 may_be_asked r = is_in_range r.limit (length r.schedule)
 
+-- the run that is asked for, of a module from the function of this number: by the schedule, within the limit, whether it returns
+abbrev pub job_asked : Request → Module → (root : ℕ) → model.Job
+job_asked r m root = returning m root (model.schedule r.schedule) r.limit
+
 -- the status of a run: 0 where its property holds, else 1
-abbrev pub run_status : Bool → ℕ
-run_status holds = if holds then 0 else 1
+abbrev pub run_status : Option Bool → ℕ
+run_status (Some true) = 0
+run_status (Some false) = 1
+run_status None = 1
 
 -- Answers request bytes text status: a source of these bytes is answered with this text and this status
 pub data Answers (r : Request) (bytes : List ℕ) : List ℕ → ℕ → Type 0 where
@@ -38,10 +47,11 @@ pub data Answers (r : Request) (bytes : List ℕ) : List ℕ → ℕ → Type 0 
   -- the limit or the schedule is out of bounds
   out_of_bounds : (name : ℕ) (atoms : List (List ℕ)) (functions : Program) (i : ℕ) → Reads bytes (accepted name atoms functions)
       → root_of r.root atoms functions ≡ Some i → may_be_asked r ≡ false → Answers r bytes (line (code_text table.OutOfRange)) 2
-  -- the report of the module's meaning from the call of the root
+  -- the report that the run means
   reported : (name : ℕ) (atoms : List (List ℕ)) (functions : Program) (i : ℕ) (report : Report) → Reads bytes (accepted name atoms functions)
-      → root_of r.root atoms functions ≡ Some i → may_be_asked r ≡ true → Means functions i r.limit report
-      → Answers r bytes (report_text (name_of atoms) report) (run_status (returns_holds report.outcome))
+      → root_of r.root atoms functions ≡ Some i → may_be_asked r ≡ true
+      → Means (job_asked r (record { name = name; atoms = atoms; functions = functions }) i) report
+      → Answers r bytes (report_text (name_of atoms) report) (run_status report.verdict)
 
 -- the answer is these words on a line of their own, with the status of what is refused
 abbrev pub Refuses : Answer → List ℕ → Type 0

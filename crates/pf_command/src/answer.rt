@@ -3,9 +3,8 @@
 ghost use Rattle.std.specs.Prelude.{◌≡◌, length, ℕ, List, IfOk, Some, true};
 ghost use Rattle.pf_fault.specs.Codes.{code_text, refusal_text};
 ghost use Rattle.pf_syntax.specs.Root.{root_of};
-ghost use Rattle.pf_single.specs.Limits.{is_in_range};
-ghost use Rattle.pf_single.specs.Text.{returns_holds};
-ghost use Rattle.pf_single.specs.Reports.{outcome_of};
+ghost use Rattle.pf_model.specs.Limits.{is_in_range};
+ghost use Rattle.pf_model.specs.Quiet.{CodeIsQuiet};
 ghost use Rattle.pf_check.specs.Reads.{Reads, accepted_as};
 ghost use Rattle.pf_command.specs.Words.{request};
 ghost use Rattle.pf_command.specs.Answers.{Answers, Refuses, run_status};
@@ -13,11 +12,10 @@ ghost use Rattle.pf_command.specs.Answers.{Answers, Refuses, run_status};
 use crate::words::RunWords;
 use pf_check::read;
 use pf_fault::{Code, NoMemory, OrNoMemory, Refusal};
-use pf_single::limits::is_in_range;
-use pf_single::report::Outcome;
+use pf_model::limits::is_in_range;
 use pf_stepper::run_one;
 use pf_syntax::{FunctionId, Module};
-use pf_text::{put, put_byte, put_report, returns_holds};
+use pf_text::{put, put_byte, put_report};
 use std::alloc::Global;
 use std::sync::Arc;
 
@@ -60,14 +58,17 @@ fn refused_at(alloc: Global, refusal: Refusal) -> Result<Answer, NoMemory>
     refused(alloc, &words)
 }
 
-/// The status of a run: 0 where the root returned, else 1.
-fn run_status(outcome: &Outcome) -> u8
-    ensures { result ≡ run_status (returns_holds (outcome_of outcome.now)) }
+/// The status of a run by the verdict of its property: 0 where that holds, else 1.
+fn run_status(verdict: Option<bool>) -> u8
+    ensures { result ≡ run_status verdict }
 {
-    if returns_holds(outcome) { 0 } else { 1 }
+    match verdict {
+        Some(true) => 0,
+        _ => 1,
+    }
 }
 
-/// The report of a run from the root.
+/// The report of a run from the root, of a module that asks the system for nothing.
 fn report_run(
     alloc: Global,
     words: &RunWords,
@@ -75,6 +76,7 @@ fn report_run(
     root: FunctionId,
 ) -> Result<Answer, NoMemory>
     requires root { root_of words.now.root.now shared.now.value.atoms shared.now.value.functions ≡ Some root.0 }
+    requires quiet { CodeIsQuiet shared.now.value.functions }
     requires within { is_in_range words.now.limit (length words.now.schedule.items) ≡ true }
     ensures { IfOk result (λ a. (bytes : List ℕ)
         → Reads bytes (accepted_as shared.now.value) → Answers (request words.now) bytes a.text.items a.status) }
@@ -82,12 +84,13 @@ fn report_run(
     let report = run_one(alloc, shared, root, words.limit)?;
     let mut text = Vec::new(alloc);
     put_report(alloc, &mut text, shared.atoms(), &report)?;
-    let status = run_status(&report.outcome);
+    let status = run_status(report.verdict);
     Ok(Answer { text, status })
 }
 
 /// The answer to a source that was read.
 fn answer_module(alloc: Global, words: &RunWords, shared: &Arc<Module>) -> Result<Answer, NoMemory>
+    requires quiet { CodeIsQuiet shared.now.value.functions }
     ensures { IfOk result (λ a. (bytes : List ℕ)
         → Reads bytes (accepted_as shared.now.value) → Answers (request words.now) bytes a.text.items a.status) }
 {

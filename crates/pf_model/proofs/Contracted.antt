@@ -13,8 +13,8 @@ use Rattle.pf_syntax.specs.Tree.{Builtin}
 use Rattle.pf_ops.specs.Operations.{on_one, on_two, head_of, tail_of, list_length, element_of, tuple_length}
 use Rattle.pf_ops.specs.Guards.{holds, truth_of}
 use Rattle.pf_ops.specs.Reasons.{no_match, no_case}
-use Rattle.pf_single.specs.Fit.{Scope, fit, fit_all}
-use Rattle.pf_single.specs.Substitution.{sub, sub_patterns, sub_guard}
+use Rattle.pf_patterns.specs.Fit.{Scope, fit, fit_all}
+use Rattle.pf_patterns.specs.Substitution.{sub, sub_patterns, sub_guard}
 use Rattle.pf_model.specs.Code.{Code, name_in}
 use Rattle.pf_model.specs.Contraction.{Change, Becomes, Raises, Exits, Asks, Awaits, worked_out, opened, or_later, picked, picked_by_all, body_or_raise, entered, fits_or, matches_left, matched, bound, decided, computed_or_undefined, called, as_value, as_values, add_value, with_both, contract}
 use Rattle.pf_model.specs.Closed.{binds, all_bind, PatternsAreClosed, trees_in, HasArity, builtin_arity, IsClosed, ClausesAreClosed, FunctionClauseIsClosed, CodeIsClosed}
@@ -45,7 +45,7 @@ values_count (tree t ts) vs e = by (as_value t) (as_values ts) (values_count ts)
     by (Some v) (Some ws) h d = let k = h ws refl in let q : more v ws ≡ vs = cc in let l = ap count q in omega arith
 
 -- what holds of all functions holds of the one of a number
-of_number : {X : Type 0} (P : X → Type 0) (xs : List X) (i : ℕ) (x : X) → All P xs → slice_get xs i ≡ Some x → P x
+pub of_number : {X : Type 0} (P : X → Type 0) (xs : List X) (i : ℕ) (x : X) → All P xs → slice_get xs i ≡ Some x → P x
 of_number P xs i x h e = subst P (get_or_from_slice_get xs i x x e) (All-get_or P xs i x (slice_get_within xs i x e) h)
 
 module _ (m : Code) (own : ℕ) where

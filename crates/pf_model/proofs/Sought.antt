@@ -12,8 +12,8 @@ use Rattle.pf_ops.specs.Reasons.{no_case}
 use Rattle.pf_model.specs.Code.{Code, name_in}
 use Rattle.pf_model.specs.Contraction as c
 use Rattle.pf_model.specs.Contraction.{Change, Raises, Asks, Awaits, contract, as_values, as_value, add_value, worked_out, decided, entered, called, matched, bound, picked, body_or_raise}
-use Rattle.pf_model.specs.Place.{Frame, element_of, first_of, tail_of, left_of, right_of, negation, and_also_of, or_else_of, argument_of, builtin_argument_of, match_of, bind_of, case_of, receiver_of, message_of, after_values, around, Place, Move, returns, moved, Moves, at_value, at_place}
-use Rattle.pf_model.specs.Evaluation.{Sought, valued, placed, part, and_last, literals, sought, sought_in, move_of}
+use Rattle.pf_model.specs.Place.{Frame, element_of, first_of, tail_of, left_of, right_of, negation, and_also_of, or_else_of, argument_of, builtin_argument_of, match_of, bind_of, case_of, receiver_of, message_of, after_values, literals, around, Place, Move, returns, moved, Moves, at_value, at_place}
+use Rattle.pf_model.specs.Evaluation.{Sought, valued, placed, part, and_last, sought, sought_in, move_of}
 use Rattle.pf_model.proofs.Places.{one_place, fill_no_value}
 
 module _ (m : Code) (own : ℕ) where

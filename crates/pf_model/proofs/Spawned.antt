@@ -9,7 +9,8 @@ use Rattle.pf_syntax.specs.Tree.{Function, Program}
 use Rattle.pf_syntax.specs.Module.{is_named, first_named}
 use Rattle.pf_syntax.specs.Root.{exported_of, exported_at}
 use Rattle.pf_model.specs.Code.{Code, exported_as}
-use Rattle.pf_model.specs.Actions.{literals, begun, start_of}
+use Rattle.pf_model.specs.Place.{literals}
+use Rattle.pf_model.specs.Actions.{begun, start_of}
 use Rattle.pf_model.specs.Closed.{trees_in, HasArity, AllAreClosed, StateIsClosed}
 
 literals_count : (vs : Values) → trees_in (literals vs) ≡ count vs

@@ -5,9 +5,9 @@ use Rattle.std.proofs.lemmas.List.{length-append}
 use Rattle.pf_terms.specs.Value.{Value, Values}
 use Rattle.pf_syntax.specs.Pattern.{Pattern, Patterns, any, new, slot, known, tuple_of, cons_of, never, no_patterns, pattern}
 use Rattle.pf_syntax.specs.Tree.{Tree, Trees, Clauses, Guard, lit, var, tuple, cons, op, neg, and_also, or_else, call, builtin, match, bind, case, if_expression, receive, send, no_trees, tree, no_clauses, clause, no_alternatives, alternative, Program}
-use Rattle.pf_single.specs.Fit.{Scope, Fits, FitsAll, fit, fit_all}
-use Rattle.pf_single.specs.Substitution.{sub, sub_trees, sub_clauses, sub_guard, sub_pattern, sub_patterns, value_or_var, known_or_slot}
-use Rattle.pf_single.proofs.FitLaws.{fits_from_fit, all_from_fit}
+use Rattle.pf_patterns.specs.Fit.{Scope, Fits, FitsAll, fit, fit_all}
+use Rattle.pf_patterns.specs.Substitution.{sub, sub_trees, sub_clauses, sub_guard, sub_pattern, sub_patterns, value_or_var, known_or_slot}
+use Rattle.pf_patterns.proofs.FitLaws.{fits_from_fit, all_from_fit}
 use Rattle.pf_model.specs.Closed.{binds, all_bind, PatternIsClosed, PatternsAreClosed, trees_in, IsClosed, AllAreClosed, ClausesAreClosed, GuardIsClosed}
 
 -- ---- fit gives as many values as the pattern binds

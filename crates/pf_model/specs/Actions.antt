@@ -1,15 +1,15 @@
 -- Actions: what the system does for a process that asks. Names act at once; all else between processes is a signal.
 use Rattle.std.specs.Prelude.{ℕ, suc, Bool, true, false, ◌&&◌, ◌||◌, not, ◌==◌, nat_lt, if◌then◌else◌, List, [], ◌∷◌, ◌++◌, Option, Some, None, is_some, Result, Ok, Err, length}
-use Rattle.pf_terms.specs.Value.{Value, Values, none, more, count, atom, pid, ref, list, same}
+use Rattle.pf_terms.specs.Value.{Value, Values, count, atom, pid, ref, list, same}
 use Rattle.pf_terms.specs.Fixed.{true_atom, undefined, process, trap_exit, badarg, system_limit, undef}
-use Rattle.pf_syntax.specs.Tree.{Trees, lit, call, no_trees, tree}
+use Rattle.pf_syntax.specs.Tree.{call}
 use Rattle.pf_ops.specs.Operations.{truth}
 use Rattle.pf_ops.specs.Guards.{truth_of}
 use Rattle.pf_ops.specs.Reasons.{ending_reason}
 use Rattle.pf_model.specs.Maps.{got, put, without, has, with_number, without_number}
 use Rattle.pf_model.specs.Code.{Code, exported_as}
 use Rattle.pf_model.specs.Contraction.{Act, send, spawn, link, unlink, monitor, demonitor, exit_other, set_flag, register, unregister, whereis, make_ref}
-use Rattle.pf_model.specs.Place.{State, running, ending}
+use Rattle.pf_model.specs.Place.{literals, State, running, ending}
 use Rattle.pf_model.specs.Channels as signal
 use Rattle.pf_model.specs.Channels.{Signal}
 use Rattle.pf_model.specs.Configuration.{Core, Left, leaving, fresh, of, with_process, is_alive}
@@ -62,10 +62,6 @@ receiver c (atom n) = got n c.names
 receiver c v = None
 
 -- ---- `spawn`
-
-abbrev pub literals : Values → Trees
-literals none = no_trees
-literals (more v vs) = tree (lit v) (literals vs)
 
 -- a process begins as the call of its function; one whose function isn't exported is about to end
 abbrev pub begun : Option ℕ → Values → State

@@ -2,7 +2,7 @@
 use Rattle.std.specs.Prelude.{ℕ, List, Option}
 use Rattle.pf_terms.specs.Atoms.{name_of}
 use Rattle.pf_syntax.specs.Tree.{Program}
-use Rattle.pf_syntax.specs.Module.{first_named}
+use Rattle.pf_syntax.specs.Module.{Checked, first_named}
 use Rattle.pf_syntax.specs.Root.{exported_at}
 
 -- a module: its name, by its number among its atoms, the names of its atoms, and its functions, each of which it exports or not
@@ -18,3 +18,7 @@ name_in m = name_of m.atoms
 -- the number of the exported function of this name and so many arguments
 abbrev pub exported_as : Code → (name arity : ℕ) → Option ℕ
 exported_as m name arity = exported_at m.functions (first_named name arity m.functions)
+
+-- the code of a checked module
+abbrev pub code_of : Checked → Code
+code_of c = record { name = c.name; atoms = c.atoms; functions = c.functions }

@@ -12,8 +12,8 @@ use Rattle.pf_ops.specs.Arithmetic.{negated}
 use Rattle.pf_ops.specs.Operations.{limited, operated, consed, computed}
 use Rattle.pf_ops.specs.Guards.{holds, truth_of}
 use Rattle.pf_ops.specs.Reasons.{tagged, no_match, no_case}
-use Rattle.pf_single.specs.Fit.{Scope, fit, fit_all}
-use Rattle.pf_single.specs.Substitution.{sub, sub_patterns, sub_guard}
+use Rattle.pf_patterns.specs.Fit.{Scope, fit, fit_all}
+use Rattle.pf_patterns.specs.Substitution.{sub, sub_patterns, sub_guard}
 use Rattle.pf_model.specs.Code.{Code, name_in}
 
 -- what a process asks the system for, with the values of its operands

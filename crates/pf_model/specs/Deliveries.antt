@@ -7,7 +7,7 @@ use Rattle.pf_model.specs.Maps.{got, put, without, has, with_number, without_num
 use Rattle.pf_model.specs.Place.{State, running, waiting, ending, ended, failed}
 use Rattle.pf_model.specs.Channels.{Signal, message, link, unlink, monitor, demonitor, down, exit}
 use Rattle.pf_model.specs.Configuration.{Process, Core, Left, leaving, of, with_process, is_alive}
-use Rattle.pf_model.specs.Labels.{Label, delivers, Suffix, placed, no_process, dropped, as_message, ending_with}
+use Rattle.pf_model.specs.Labels.{Label, delivers, Suffix, took_effect, no_process, dropped, as_message, ending_with}
 use Rattle.pf_model.specs.Ends.{ended_by}
 
 -- what one step of an actor does
@@ -56,7 +56,7 @@ at_ended c a s = drops c s
 abbrev pub down_at : Core → (from to : ℕ) → (reference : ℕ) → Value → Option ℕ → Deed
 down_at c a b r reason None = drops c (down r reason)
 down_at c a b r reason (Some p) =
-    changes c b (with_message (record (of c b) { active = without r (of c b).active }) (down_message r a reason)) (down r reason) placed
+    changes c b (with_message (record (of c b) { active = without r (of c b).active }) (down_message r a reason)) (down r reason) took_effect
 
 -- an exit signal that isn't dropped for lack of a link
 abbrev pub exit_at : Core → (from to : ℕ) → (by_link : Bool) → Value → Deed
@@ -75,11 +75,11 @@ exit_by_link_at c a b r =
 
 -- a signal from a at b, which lives
 abbrev pub at_living : Core → (from to : ℕ) → Signal → Deed
-at_living c a b (message v) = changes c b (with_message (of c b) v) (message v) placed
-at_living c a b link = changes c b (record (of c b) { links = with_number a (of c b).links }) link placed
-at_living c a b unlink = changes c b (record (of c b) { links = without_number a (of c b).links }) unlink placed
-at_living c a b (monitor r) = changes c b (record (of c b) { watchers = put r a (of c b).watchers }) (monitor r) placed
-at_living c a b (demonitor r) = changes c b (record (of c b) { watchers = without r (of c b).watchers }) (demonitor r) placed
+at_living c a b (message v) = changes c b (with_message (of c b) v) (message v) took_effect
+at_living c a b link = changes c b (record (of c b) { links = with_number a (of c b).links }) link took_effect
+at_living c a b unlink = changes c b (record (of c b) { links = without_number a (of c b).links }) unlink took_effect
+at_living c a b (monitor r) = changes c b (record (of c b) { watchers = put r a (of c b).watchers }) (monitor r) took_effect
+at_living c a b (demonitor r) = changes c b (record (of c b) { watchers = without r (of c b).watchers }) (demonitor r) took_effect
 at_living c a b (down r reason) = down_at c a b r reason (got r (of c b).active)
 at_living c a b (exit true r) = exit_by_link_at c a b r
 at_living c a b (exit false r) = exit_at c a b false r

@@ -11,7 +11,7 @@ use Rattle.pf_ops.specs.Reasons.{no_case}
 use Rattle.pf_model.specs.Code.{Code, name_in}
 use Rattle.pf_model.specs.Contraction as c
 use Rattle.pf_model.specs.Contraction.{Change, Raises, Asks, Awaits, worked_out, picked, body_or_raise, entered, matched, bound, decided, called}
-use Rattle.pf_model.specs.Place.{Frame, element_of, first_of, tail_of, left_of, right_of, negation, and_also_of, or_else_of, argument_of, builtin_argument_of, match_of, bind_of, case_of, receiver_of, message_of, after_values, State, running, waiting, ending, ended, failed, returned, Move, goes_on, asks, awaits, returns, moved}
+use Rattle.pf_model.specs.Place.{Frame, element_of, first_of, tail_of, left_of, right_of, negation, and_also_of, or_else_of, argument_of, builtin_argument_of, match_of, bind_of, case_of, receiver_of, message_of, literals, State, running, waiting, ending, ended, failed, returned, Move, goes_on, asks, awaits, returns, moved}
 use Rattle.pf_model.specs.Channels.{Signal, Channels, taken}
 use Rattle.pf_model.specs.Configuration.{Core, Configuration, leaving, of, with_state}
 use Rattle.pf_model.specs.Labels as label
@@ -38,9 +38,6 @@ part f (placed fs r x) go = placed (f ∷ fs) r x
 abbrev pub and_last : Values → Value → Values
 and_last none v = more v none
 and_last (more w vs) v = more w (and_last vs v)
-
-abbrev pub literals : Values → Trees
-literals vs = after_values vs no_trees
 
 abbrev mutual
   pub sought : Code → ℕ → Tree → Sought

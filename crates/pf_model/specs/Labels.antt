@@ -5,7 +5,7 @@ use Rattle.pf_model.specs.Channels.{Signal}
 
 -- what came of a delivery
 pub data Suffix : Type 0 where
-  placed : Suffix
+  took_effect : Suffix
   -- it is answered that there is no such process
   no_process : Suffix
   dropped : Suffix

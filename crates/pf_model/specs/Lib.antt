@@ -13,7 +13,11 @@ pub mod Turns
 pub mod Runs
 pub mod Properties
 pub mod Meaning
+pub mod Limits
+pub mod Reports
+pub mod Quiet
 pub mod Shrinking
+pub mod TermText
 pub mod Text
 pub mod Closed
 pub mod Laws

@@ -28,6 +28,10 @@ pub record Job : Type 0 where
   pub property : Property
   pub runs : ℕ
 
+-- a run that is asked for whether it returns
+abbrev pub returning : Code → (root : ℕ) → Choices → (limit : ℕ) → Job
+returning m root cs n = record { code = m; root = root; choices = cs; limit = n; property = outcome.returns; runs = zero }
+
 -- a transition as a trace shows it
 pub record Event : Type 0 where
   pub choice : ℕ

@@ -3,7 +3,7 @@
 use Rattle.std.specs.Prelude.{◌≡◌, ℕ, List, [], ◌∷◌, Some}
 use Rattle.pf_terms.specs.Value.{Value, Values, none, more}
 use Rattle.pf_syntax.specs.Pattern.{Patterns}
-use Rattle.pf_syntax.specs.Tree.{Operator, Builtin, Tree, Trees, Clauses, lit, tuple, cons, op, neg, and_also, or_else, call, builtin, match, bind, case, send, tree}
+use Rattle.pf_syntax.specs.Tree.{Operator, Builtin, Tree, Trees, Clauses, lit, tuple, cons, op, neg, and_also, or_else, call, builtin, match, bind, case, send, no_trees, tree}
 use Rattle.pf_ops.specs.Reasons.{ending_reason}
 use Rattle.pf_model.specs.Code.{Code}
 use Rattle.pf_model.specs.Contraction.{Act, Change, Becomes, Raises, Exits, Asks, Awaits, contract}
@@ -32,6 +32,10 @@ pub data Frame : Type 0 where
 abbrev pub after_values : Values → Trees → Trees
 after_values none ts = ts
 after_values (more v vs) ts = tree (lit v) (after_values vs ts)
+
+-- values as trees
+abbrev pub literals : Values → Trees
+literals vs = after_values vs no_trees
 
 -- the tree of a frame with this in its hole
 abbrev pub around : Frame → Tree → Tree

@@ -3,7 +3,7 @@ use Rattle.std.specs.Prelude.{ℕ, Bool, true, false, not, ◌||◌, List, [], �
 use Rattle.pf_terms.specs.Value.{Value, same}
 use Rattle.pf_terms.specs.Fixed.{true_atom, normal}
 use Rattle.pf_syntax.specs.Pattern.{Pattern}
-use Rattle.pf_single.specs.Fit.{fit}
+use Rattle.pf_patterns.specs.Fit.{fit}
 use Rattle.pf_model.specs.Labels.{Label, sends, ends, delivers, ending_with}
 
 -- how a run ended

@@ -2,10 +2,10 @@
 use Rattle.std.specs.Prelude.{ℕ, Bool, true, false, List, [], ◌∷◌, ◌++◌, Option, Some, None, flat_map, codes}
 use Rattle.std.specs.Fmt.{decimal}
 use Rattle.pf_ops.specs.Operations.{truth}
-use Rattle.pf_single.specs.Text.{value_text, atom_text, pid_text, line}
+use Rattle.pf_model.specs.TermText.{value_text, atom_text, pid_text, line}
 use Rattle.pf_model.specs.Channels.{Signal, message, link, unlink, monitor, demonitor, down, exit}
 use Rattle.pf_model.specs.Labels as label
-use Rattle.pf_model.specs.Labels.{Label, Suffix, placed, no_process, dropped, as_message, ending_with}
+use Rattle.pf_model.specs.Labels.{Label, Suffix, took_effect, no_process, dropped, as_message, ending_with}
 use Rattle.pf_model.specs.Runs.{Actor, process, channel}
 use Rattle.pf_model.specs.Properties.{Outcome, finished, ended, deadlock, limit, memory}
 use Rattle.pf_model.specs.Meaning.{Event, Report}
@@ -25,7 +25,7 @@ kind_text (exit by_link r) = codes "exit"
 
 -- `name` tells the names of atoms
 abbrev pub suffix_text : (ℕ → List ℕ) → Suffix → List ℕ
-suffix_text name placed = []
+suffix_text name took_effect = []
 suffix_text name no_process = codes " noproc"
 suffix_text name dropped = codes " dropped"
 suffix_text name as_message = codes " message"

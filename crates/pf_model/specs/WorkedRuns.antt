@@ -6,7 +6,7 @@ use Rattle.pf_fault.specs.Codes.{code_text}
 use Rattle.pf_fault.specs.declared.code.Code.TheVariants as refusal
 use Rattle.pf_terms.specs.Value.{atom}
 use Rattle.pf_syntax.specs.Pattern.{known}
-use Rattle.pf_single.specs.Text.{line}
+use Rattle.pf_model.specs.TermText.{line}
 use Rattle.pf_model.specs.Code.{Code, name_in}
 use Rattle.pf_model.specs.Properties.{Property, returns, returns_true, no_deadlock, within_limit, never}
 use Rattle.pf_model.specs.Meaning.{Job, Choices, schedule}

@@ -2,8 +2,11 @@
 
 ghost use Rattle.pf_model.specs.Laws.{OnePlace, OneMeaning, EvaluationIsMeaning, Replay, PairOrder, ShrinkingIsRight};
 ghost use Rattle.pf_model.specs.Closed.{ClosedStatesStayClosed};
+ghost use Rattle.pf_model.specs.Quiet.{QuietStaysQuiet};
 ghost use Rattle.pf_model.specs.Receive.{ReceiveIsRelation};
 ghost use Rattle.pf_model.specs.WorkedRuns.{WorkedRuns};
+
+pub use pf_patterns::laws::fit_is_a_relation;
 
 /// The function of `receive` selects as the relation says which message is taken.
 pub fn receive_is_a_relation()
@@ -51,4 +54,9 @@ pub fn worked_runs()
 /// call its function, and no built-in function has another number of arguments.
 pub fn closed_states()
     ensures { ClosedStatesStayClosed }
+{}
+
+/// A quiet process of quiet code stays quiet, whatever it does: it asks and waits for nothing.
+pub fn quiet_stays_quiet()
+    ensures { QuietStaysQuiet }
 {}

@@ -3,6 +3,7 @@
 
 pub mod laws;
 pub mod limits;
+pub mod report;
 mod signal;
 
 pub use signal::Signal;

@@ -3,3 +3,4 @@ pub mod Reasons
 pub mod Results
 pub mod Operations
 pub mod Guards
+pub mod Surroundings

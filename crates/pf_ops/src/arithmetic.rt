@@ -1,76 +1,68 @@
 //! Operators on integers of 64 bits (Erlang Reference Manual, "Arithmetic Expressions").
 
-ghost use Rattle.std.specs.Prelude.{◌≡◌};
+ghost use Rattle.std.specs.Prelude.{◌≡◌, ℕ, List, int_div, int_rem};
+ghost use Rattle.pf_terms.specs.Value.{int};
 ghost use Rattle.pf_terms.specs.Term.{value_of};
 ghost use Rattle.pf_syntax.specs.Operators.{operator_of};
-ghost use Rattle.pf_syntax.specs.Tree.{quotient as quotient_operator, remainder as remainder_operator};
 ghost use Rattle.pf_ops.specs.Arithmetic as spec;
-ghost use Rattle.pf_ops.specs.Results.{result_of};
+ghost use Rattle.pf_ops.specs.Operations.{divided, operated};
+ghost use Rattle.pf_ops.specs.Results.{answer_of, result_of};
 
+use crate::answer::{Answer, truth};
 use pf_syntax::Operator;
 use pf_terms::{AtomId, Term};
 
-/// An operator on two values; `Err` has the reason that it raises.
-pub fn applied(operator: Operator, a: &Term, b: &Term) -> Result<i64, AtomId>
-    ensures { result_of result ≡ spec.applied (operator_of operator) (value_of a.now) (value_of b.now) }
-{
-    match operator {
-        Operator::Plus
-        | Operator::Minus
-        | Operator::Times
-        | Operator::Quotient
-        | Operator::Remainder => match (a, b) {
-            (Term::Int(x), Term::Int(y)) => on_integers(operator, *x, *y),
-            _ => Err(AtomId::BADARITH),
-        },
-        _ => Err(AtomId::UNDEF),
-    }
-}
-
-fn on_integers(operator: Operator, x: i64, y: i64) -> Result<i64, AtomId>
-    ensures { result_of result ≡ spec.on_integers (operator_of operator) x y }
+/// An operator on two integers. It takes no memory.
+pub fn on_integers(operator: Operator, x: i64, y: i64) -> Answer
+    ensures { (name : ℕ → List ℕ) → answer_of result ≡ operated name (operator_of operator) (int x) (int y) }
 {
     match operator {
         Operator::Plus => match x.checked_add(y) {
-            Some(n) => Ok(n),
+            Some(n) => Ok(Term::Int(n)),
             None => Err(AtomId::SYSTEM_LIMIT),
         },
         Operator::Minus => match x.checked_sub(y) {
-            Some(n) => Ok(n),
+            Some(n) => Ok(Term::Int(n)),
             None => Err(AtomId::SYSTEM_LIMIT),
         },
         Operator::Times => match x.checked_mul(y) {
-            Some(n) => Ok(n),
+            Some(n) => Ok(Term::Int(n)),
             None => Err(AtomId::SYSTEM_LIMIT),
         },
         Operator::Quotient => quotient(x, y),
         Operator::Remainder => remainder(x, y),
-        _ => Err(AtomId::UNDEF),
+        Operator::Append => Err(AtomId::BADARG),
+        Operator::Equal => Ok(truth(x == y)),
+        Operator::Unequal => Ok(truth(x != y)),
+        Operator::Less => Ok(truth(x < y)),
+        Operator::AtMost => Ok(truth(x <= y)),
+        Operator::Greater => Ok(truth(x > y)),
+        Operator::AtLeast => Ok(truth(x >= y)),
     }
 }
 
-fn quotient(x: i64, y: i64) -> Result<i64, AtomId>
-    ensures { result_of result ≡ spec.on_integers quotient_operator x y }
+fn quotient(x: i64, y: i64) -> Answer
+    ensures { answer_of result ≡ divided int_div x y }
 {
     if y == 0 {
         return Err(AtomId::BADARITH);
     }
     match x.checked_div(y) {
-        Some(n) => Ok(n),
+        Some(n) => Ok(Term::Int(n)),
         None => Err(AtomId::SYSTEM_LIMIT),
     }
 }
 
 /// The least integer over -1 leaves 0, though its quotient passes 64 bits.
-fn remainder(x: i64, y: i64) -> Result<i64, AtomId>
-    ensures { result_of result ≡ spec.on_integers remainder_operator x y }
+fn remainder(x: i64, y: i64) -> Answer
+    ensures { answer_of result ≡ divided int_rem x y }
 {
     if y == 0 {
         Err(AtomId::BADARITH)
     } else if y == -1 {
-        Ok(0)
+        Ok(Term::Int(0))
     } else {
-        Ok(x % y)
+        Ok(Term::Int(x % y))
     }
 }
 

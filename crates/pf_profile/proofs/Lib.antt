@@ -1,4 +1,1 @@
 pub mod Right
-pub mod Bindings
-pub mod Closing
-pub mod Closed

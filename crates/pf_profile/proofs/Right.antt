@@ -1,17 +1,16 @@
 -- The profile of the language is right.
 use Rattle.std.proofs.Common.{◌≡◌, ℕ, List, sym, ap}
-use Rattle.pf_fault.specs.declared.code.Code.{Code}
 use Rattle.pf_check.specs.Reads.{Outcome, accepted, refused, Reads, SameOutcome}
 use Rattle.pf_check.proofs.AnyOutcome.{any_outcome}
 use Rattle.pf_check.proofs.Same.{same_outcome}
-use Rattle.pf_single.specs.Meaning.{Means, Report}
-use Rattle.pf_single.specs.Desk.{faulty, Job}
-use Rattle.pf_single.proofs.Meanings.{one_meaning}
+use Rattle.pf_model.specs.Meaning.{Means, Report}
+use Rattle.pf_desks.specs.Desk.{readable, faulty, Job, job_meant}
+use Rattle.pf_model.proofs.Meanings.{one_meaning}
 use Rattle.pf_book.specs.Profile.{reading_from, IsRight}
 use Rattle.pf_profile.specs.Profile.{profile}
 
 same_reading : (o p : Outcome) → SameOutcome o p → reading_from o ≡ reading_from p
-same_reading (accepted n a f) (accepted m b g) h = let same_atoms = h.1 in let same_functions = h.2 in cc
+same_reading (accepted n a f) (accepted m b g) h = λ i. readable (record { name = h.0 i; atoms = h.1 i; functions = h.2 i })
 same_reading (accepted n a f) (refused m y) h = absurd h
 same_reading (refused n x) (accepted m b g) h = absurd h
 same_reading (refused n x) (refused m y) h = ap faulty h.0
@@ -20,9 +19,9 @@ reading_is : (bytes : List ℕ) (o : Outcome) → Reads bytes o → profile.read
 unfolding profile
 reading_is bytes o h = let any = any_outcome bytes in same_reading any.0 o (same_outcome bytes any.0 o any.1 h)
 
-meaning_is : (j : Job) (r : Report) → Means j.stored.functions j.root j.limit r → profile.meaning j ≡ r
+meaning_is : (j : Job) (r : Report) → Means (job_meant j) r → profile.meaning j ≡ r
 unfolding profile
-meaning_is j r h = sym ((one_meaning j.stored.functions j.root j.limit).2 r h)
+meaning_is j r h = sym ((one_meaning (job_meant j)).2 r h)
 
 pub right : IsRight profile
 right = record { reads = reading_is; means = meaning_is }

@@ -4,5 +4,5 @@
 mod laws;
 mod steps;
 
-pub use laws::{profile_is_right, read_modules_are_closed};
+pub use laws::profile_is_right;
 pub use steps::run_steps;

@@ -1,12 +1,13 @@
-pub mod Substituted
-pub mod FitFrom
 pub mod Parts
 pub mod Slots
 pub mod Focused
 pub mod Follows
 pub mod Given
 pub mod Passed
-pub mod Matched
 pub mod Selected
+pub mod Matched
 pub mod Entered
-pub mod RunSoFar
+pub mod Outer
+pub mod Scans
+pub mod TurnOfRoot
+pub mod Crossing

@@ -1,24 +1,37 @@
 -- What the fields of a machine stand for, and what is true of them.
-use Rattle.std.specs.Prelude.{Option, Some, None}
 use Rattle.pf_syntax.specs.Module.{Checked}
-use Rattle.pf_single.specs.Place.{Process}
-use Rattle.pf_stepper.specs.MachineView.{MachineView}
-use Rattle.pf_stepper.specs.Advanced.{stack_process, IsSound}
-use Rattle.pf_stepper.specs.declared.frame.Focus.{Focus}
+use Rattle.pf_model.specs.Code.{code_of}
+use Rattle.pf_model.specs.Place.{Move, goes_on, asks, awaits, returns}
+use Rattle.pf_stepper.specs.View.{holes_of}
+use Rattle.pf_stepper.specs.MachineView.{MachineView, spent, goes, asking, over}
+use Rattle.pf_stepper.specs.MachineView as view
+use Rattle.pf_stepper.specs.Advanced.{stack_process, IsSound, IsHolding}
 use Rattle.pf_stepper.specs.declared.stack.Stack.{Stack}
+use Rattle.pf_stepper.specs.declared.machine.Standing.{Standing}
+use Rattle.pf_stepper.specs.declared.machine.Standing.TheVariants as s
 use Rattle.pf_stepper.specs.declared.machine.Machine.TheInside.{Inside}
 
--- the process, unless memory ran out
-abbrev pub process_in : Checked → Stack → Option Focus → Option Process
-process_in m s None = None
-process_in m s (Some x) = Some (stack_process m s x)
+-- a process that goes on by itself stands in its state
+abbrev pub standing_by : Move → view.Standing
+standing_by (goes_on s) = goes s
+standing_by (asks fs a) = asking fs
+standing_by (awaits fs ks) = over
+standing_by (returns v) = over
+
+abbrev pub standing_in : Checked → Stack → Standing → view.Standing
+standing_in m stack (s.Goes x) = standing_by (stack_process m stack x)
+standing_in m stack s.Asking = asking (holes_of m.tables stack.env.items stack.operands.items stack.frames.items)
+standing_in m stack s.Over = over
+standing_in m stack s.Spent = spent
 
 abbrev pub machine_view_of : Inside → MachineView
-machine_view_of a = record { own = a.own; program = a.module.value.functions; process = process_in a.module.value a.stack a.focus }
+machine_view_of a = record { own = a.own; code = code_of a.module.value; standing = standing_in a.module.value a.stack a.standing }
 
-abbrev pub SoundIn : Stack → Option Focus → Type 0
-SoundIn s None = Unit {0}
-SoundIn s (Some x) = IsSound s x
+abbrev pub SoundIn : Stack → Standing → Type 0
+SoundIn stack (s.Goes x) = IsSound stack x
+SoundIn stack s.Asking = IsHolding stack
+SoundIn stack s.Over = Unit {0}
+SoundIn stack s.Spent = Unit {0}
 
 abbrev pub IsKept : Inside → Type 0
-IsKept a = SoundIn a.stack a.focus
+IsKept a = SoundIn a.stack a.standing

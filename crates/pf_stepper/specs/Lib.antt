@@ -1,10 +1,15 @@
 pub mod Lookups
-pub mod Fitted
+pub mod Acts
+pub mod Pairs
+pub mod Selected
 pub mod View
 pub mod Sound
 pub mod MicroSteps
 pub mod Advanced
 pub mod MachineView
+pub mod Codes
 pub mod Inner
 pub mod Moves
+pub mod Settled
+pub mod Turns
 pub mod Runs

@@ -1,26 +1,60 @@
--- What a call of a machine does.
-use Rattle.std.specs.Prelude.{◌≡◌, Option, Some, Ok, Err}
+-- What a call of a machine does, with the mailbox at which it may stand.
+use Rattle.std.specs.Prelude.{◌≡◌, ℕ, List, Some, None, Ok, Err}
+use Rattle.pf_terms.specs.Value.{Value}
 use Rattle.pf_terms.specs.Term.{value_of}
-use Rattle.pf_syntax.specs.Tree.{Tree, lit}
-use Rattle.pf_single.specs.Place.{Process, Running, Ending, Steps}
-use Rattle.pf_stepper.specs.MachineView.{MachineView}
+use Rattle.pf_syntax.specs.Tree.{Tree, Clauses, lit}
+use Rattle.pf_model.specs.Code.{Code}
+use Rattle.pf_model.specs.Place.{Frame, fill, State, running, ending, goes_on, asks, awaits}
+use Rattle.pf_model.specs.Receive.{selected}
+use Rattle.pf_stepper.specs.Acts.{act_of}
+use Rattle.pf_stepper.specs.MachineView.{Standing, goes, asking, over}
+use Rattle.pf_stepper.specs.MicroSteps.{Contracts}
+use Rattle.pf_stepper.specs.declared.act.Act.{Act}
 use Rattle.pf_stepper.specs.declared.machine.Move.{Move}
 use Rattle.pf_stepper.specs.declared.machine.Move.TheVariants as v
 
--- the machine with this process
-abbrev pub with_process : MachineView → Option Process → MachineView
-with_process s p = record { own = s.own; program = s.program; process = p }
+-- one step by itself, which leaves the mailbox
+pub record Stepped (m : Code) (own : ℕ) (s : State) (mail : List Value) (after : Standing) (mail' : List Value) : Type 0 where
+  pub next : State
+  pub step : Contracts m own (goes_on s) (goes_on next)
+  pub stands : after ≡ goes next
+  pub kept : mail' ≡ mail
 
--- the process made one step
-pub record Stepped (s s' : MachineView) : Type 0 where
-  pub tree : Tree
-  pub process : Process
-  pub was : s.process ≡ Some (Running tree)
-  pub step : Steps s.program tree process
-  pub left : s' ≡ with_process s (Some process)
+-- an action that it asks for, and whose answer it waits for
+pub record AskedFor (m : Code) (own : ℕ) (s : State) (mail : List Value) (act : Act) (after : Standing) (mail' : List Value) : Type 0 where
+  pub frames : List Frame
+  pub step : Contracts m own (goes_on s) (asks frames (act_of act))
+  pub stands : after ≡ asking frames
+  pub kept : mail' ≡ mail
 
--- one step; or the end, at which the machine stays
-abbrev pub Moved : MachineView → Move → MachineView → Type 0
-Moved s v.Pure s' = Stepped s s'
-Moved s (v.End (Ok t)) s' = (s.process ≡ Some (Running (lit (value_of t)))) × (s' ≡ s)
-Moved s (v.End (Err r)) s' = (s.process ≡ Some (Ending (value_of r))) × (s' ≡ s)
+-- a message that a `receive` takes: the process goes on in the body of its clause, and the other messages stay
+pub record TookOne (m : Code) (own : ℕ) (s : State) (mail : List Value) (message : Value) (after : Standing) (mail' : List Value) : Type 0 where
+  pub frames : List Frame
+  pub clauses : Clauses
+  pub body : Tree
+  pub step : Contracts m own (goes_on s) (awaits frames clauses)
+  pub taken : selected m own clauses mail ≡ Some (record { body = body; message = message; others = mail' })
+  pub stands : after ≡ goes (running (fill frames body))
+
+-- a `receive` that no message fits, at which it stays
+pub record WaitsOn (m : Code) (own : ℕ) (s : State) (mail : List Value) (after : Standing) (mail' : List Value) : Type 0 where
+  pub frames : List Frame
+  pub clauses : Clauses
+  pub step : Contracts m own (goes_on s) (awaits frames clauses)
+  pub none : selected m own clauses mail ≡ None
+  pub stands : after ≡ goes s
+  pub kept : mail' ≡ mail
+
+-- the end, which leaves the mailbox: it returned a value, or was about to end with a reason
+pub record EndedSo (s : State) (mail : List Value) (last : State) (after : Standing) (mail' : List Value) : Type 0 where
+  pub was : s ≡ last
+  pub stands : after ≡ over
+  pub kept : mail' ≡ mail
+
+abbrev pub Moved : Code → ℕ → State → List Value → Move → Standing → List Value → Type 0
+Moved m own s mail v.Pure after mail' = Stepped m own s mail after mail'
+Moved m own s mail (v.Action act) after mail' = AskedFor m own s mail act after mail'
+Moved m own s mail (v.Take t) after mail' = TookOne m own s mail (value_of t) after mail'
+Moved m own s mail v.Wait after mail' = WaitsOn m own s mail after mail'
+Moved m own s mail (v.End (Ok t)) after mail' = EndedSo s mail (running (lit (value_of t))) after mail'
+Moved m own s mail (v.End (Err r)) after mail' = EndedSo s mail (ending (value_of r)) after mail'

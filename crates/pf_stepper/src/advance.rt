@@ -1,60 +1,100 @@
-//! Micro-steps until the process made a step or is at its end.
+//! Micro-steps until the process made its steps, asks for something or is at its end.
 
 ghost use Rattle.std.specs.Prelude.{IfOk};
 ghost use Rattle.pf_stepper.specs.MicroSteps.{IsMicroStep};
-ghost use Rattle.pf_stepper.specs.Advanced.{Advanced, IsSound};
+ghost use Rattle.pf_stepper.specs.Advanced.{Advanced, IsSound, RanFrom, stack_process};
 
+use crate::act::Act;
 use crate::frame::{Focus, MicroStep};
 use crate::stack::Stack;
-use pf_syntax::Module;
+use pf_ops::ending_reason;
+use pf_syntax::{Module, NodeId};
 use pf_terms::{NoMemory, Term};
 use std::alloc::Global;
 
-/// A contraction was made, the process returned this value, or it ends by this raise.
+/// A contraction was made; or the process asks for an action, stands at the `receive` of a node, returned a value, or is
+/// about to end with a reason.
 #[derive(Drop)]
 pub(crate) enum Advance {
     Changed(Focus),
+    Asks(Act),
+    Awaits(NodeId),
     Returned(Term),
-    Failed(Term),
+    Ended(Term),
 }
 
 impl Stack {
     /// One micro-step.
+    #[inline(always)]
     fn micro_step(
         &mut self,
         alloc: Global,
         code: &Module,
+        own: u32,
         focus: Focus,
     ) -> Result<MicroStep, NoMemory>
         requires { IsSound self.old focus }
-        ensures { IfOk result (λ t. IsMicroStep code.now self.old focus self.new t) }
+        ensures { IfOk result (λ t. IsMicroStep code.now own self.old focus self.new t) }
     {
         match focus {
-            Focus::Eval(part) => self.evaluate(alloc, code, part),
-            Focus::Value(value) => self.give(alloc, code, value),
-            Focus::Enter(function, count) => self.enter(code, function, count),
+            Focus::Eval(part) => self.evaluate(alloc, code, own, part),
+            Focus::Value(value) => self.give(alloc, code, own, value),
+            Focus::Enter(callee, count) => self.enter(alloc, code, own, callee, count),
             Focus::Raised(reason) => Ok(MicroStep::Failed(reason)),
+            Focus::Exited(reason) => Ok(MicroStep::Exits(reason)),
         }
     }
 
-    /// One contraction, or the end.
-    pub(crate) fn advance(
+    /// One contraction, or what stops the process.
+    #[inline(always)]
+    fn advance(
         &mut self,
         alloc: Global,
         code: &Module,
+        own: u32,
         first: Focus,
     ) -> Result<Advance, NoMemory>
         requires { IsSound self.old first }
-        ensures { IfOk result (λ r. Advanced code.now self.old first self.new r) }
+        ensures { IfOk result (λ r. Advanced code.now own self.old first self.new r) }
     {
         let mut focus = first;
         loop {
-            match self.micro_step(alloc, code, focus)? {
+            match self.micro_step(alloc, code, own, focus)? {
                 MicroStep::Same(next) => focus = next,
                 MicroStep::Changed(next) => return Ok(Advance::Changed(next)),
+                MicroStep::Asks(act) => return Ok(Advance::Asks(act)),
+                MicroStep::Awaits(id) => return Ok(Advance::Awaits(id)),
                 MicroStep::Returned(value) => return Ok(Advance::Returned(value)),
-                MicroStep::Failed(reason) => return Ok(Advance::Failed(reason)),
+                MicroStep::Failed(raised) => {
+                    return Ok(Advance::Ended(ending_reason(alloc, &raised)?));
+                }
+                MicroStep::Exits(reason) => return Ok(Advance::Ended(reason)),
             }
         }
+    }
+
+    /// So many contractions, or those up to what stops the process; and the steps that it made with it.
+    pub(crate) fn run(
+        &mut self,
+        alloc: Global,
+        code: &Module,
+        own: u32,
+        first: Focus,
+        left: u32,
+    ) -> Result<(Advance, u32), NoMemory>
+        requires { IsSound self.old first }
+        ensures { IfOk result (λ r.
+            RanFrom code.now own left (stack_process code.now self.old first) self.new r.0 r.1) }
+    {
+        let mut focus = first;
+        let mut used = 0;
+        while used < left {
+            used += 1;
+            match self.advance(alloc, code, own, focus)? {
+                Advance::Changed(next) => focus = next,
+                stop => return Ok((stop, used)),
+            }
+        }
+        Ok((Advance::Changed(focus), used))
     }
 }

@@ -1,28 +1,30 @@
 //! What each kind of frame does with the value that it waited for. The frame has been taken off the stack.
 
 ghost use Rattle.std.specs.Prelude.{◌≡◌, IfOk};
-ghost use Rattle.pf_single.specs.Contraction.{change_of_result};
-ghost use Rattle.pf_ops.specs.Results.{result_of};
-ghost use Rattle.pf_stepper.specs.MicroSteps.{Gave, Holds, IsOutcome};
+ghost use Rattle.pf_terms.specs.Term.{value_of};
+ghost use Rattle.pf_ops.specs.Reasons.{no_case};
+ghost use Rattle.pf_stepper.specs.MicroSteps.{Gave, Holds, IsChosen};
 ghost use Rattle.pf_stepper.specs.declared.frame.Kind.TheVariants as kind;
 
 use crate::clauses::choose;
-use crate::fitting::fit;
-use crate::frame::{Focus, Frame, Kind, MicroStep};
+use crate::frame::{Binary, Callee, Focus, Frame, Kind, MicroStep};
 use crate::lookups::{arguments, clauses, operation, patterns, rest};
+use crate::outcomes::{integer_outcome, pair_up};
 use crate::stack::Stack;
-use pf_ops::{applied, negated, tagged};
-use pf_syntax::{FunctionId, Module, NodeId, Operator};
+use pf_ops::{negated, tagged, truth_of};
+use pf_patterns::bind;
+use pf_syntax::{Module, NodeId, Part};
 use pf_terms::{AtomId, NoMemory, Term};
 use std::alloc::Global;
 
-/// What an operator came to.
-fn outcome(answer: Result<i64, AtomId>) -> Focus
-    ensures { IsOutcome (change_of_result (result_of answer)) result }
+/// The body of the clause that was chosen for the value of a `case`, or the raise where there is none.
+#[inline(always)]
+pub(crate) fn chosen(alloc: Global, value: &Term, body: Option<Part>) -> Result<Focus, NoMemory>
+    ensures { IfOk result (λ x. IsChosen body (no_case (value_of value.now)) x) }
 {
-    match answer {
-        Ok(n) => Focus::Value(Term::Int(n)),
-        Err(reason) => Focus::Raised(Term::Atom(reason)),
+    match body {
+        Some(body) => Ok(Focus::Eval(body)),
+        None => Ok(Focus::Raised(tagged(alloc, AtomId::CASE_CLAUSE, value)?)),
     }
 }
 
@@ -31,22 +33,24 @@ impl Stack {
     #[inline(always)]
     pub(crate) fn left_done(
         &mut self,
+        alloc: Global,
         code: &Module,
+        own: u32,
         frame: Frame,
         id: NodeId,
         value: Term,
     ) -> Result<MicroStep, NoMemory>
         requires kind { frame.kind ≡ kind.BinaryLeft id }
         requires sound { Holds self.old frame }
-        ensures { IfOk result (λ t. Gave code.now self.old frame value self.new t) }
+        ensures { IfOk result (λ t. Gave code.now own self.old frame value self.new t) }
     {
         self.resume(frame);
-        let (operator, right) = operation(code, id);
-        match self.immediate(code, right)? {
-            Some(other) => Ok(MicroStep::Changed(outcome(applied(operator, &value, &other)))),
+        let (binary, right) = operation(code, id);
+        match self.operand(code, right)? {
+            Some(other) => pair_up(alloc, code, binary, value, other),
             None => {
                 self.operands.push(value)?;
-                self.wait(Kind::BinaryRight(operator))?;
+                self.wait(Kind::BinaryRight(binary))?;
                 Ok(MicroStep::Same(Focus::Eval(right)))
             }
         }
@@ -55,17 +59,19 @@ impl Stack {
     /// Both operands.
     pub(crate) fn right_done(
         &mut self,
+        alloc: Global,
         code: &Module,
+        own: u32,
         frame: Frame,
-        operator: Operator,
+        binary: Binary,
         value: Term,
     ) -> Result<MicroStep, NoMemory>
-        requires kind { frame.kind ≡ kind.BinaryRight operator }
+        requires kind { frame.kind ≡ kind.BinaryRight binary }
         requires sound { Holds self.old frame }
-        ensures { IfOk result (λ t. Gave code.now self.old frame value self.new t) }
+        ensures { IfOk result (λ t. Gave code.now own self.old frame value self.new t) }
     {
         match self.operands.pop() {
-            Some(left) => Ok(MicroStep::Changed(outcome(applied(operator, &left, &value)))),
+            Some(left) => pair_up(alloc, code, binary, left, value),
             None => Ok(MicroStep::Changed(Focus::Raised(Term::Atom(AtomId::UNDEF)))),
         }
     }
@@ -73,53 +79,89 @@ impl Stack {
     /// A right operand, after a left one that stands in a slot.
     pub(crate) fn right_after_slot(
         &mut self,
+        alloc: Global,
         code: &Module,
+        own: u32,
         frame: Frame,
-        operator: Operator,
+        binary: Binary,
         place: u32,
         value: Term,
     ) -> Result<MicroStep, NoMemory>
-        requires kind { frame.kind ≡ kind.BinaryAfterSlot operator place }
+        requires kind { frame.kind ≡ kind.BinaryAfterSlot binary place }
         requires sound { Holds self.old frame }
-        ensures { IfOk result (λ t. Gave code.now self.old frame value self.new t) }
+        ensures { IfOk result (λ t. Gave code.now own self.old frame value self.new t) }
     {
         self.resume(frame);
         let left = self.slot_or_nil(place)?;
-        Ok(MicroStep::Changed(outcome(applied(operator, &left, &value))))
+        pair_up(alloc, code, binary, left, value)
     }
 
     /// The operand of a minus.
     pub(crate) fn negate(
         &mut self,
         code: &Module,
+        own: u32,
         frame: Frame,
         value: Term,
     ) -> Result<MicroStep, NoMemory>
         requires kind { frame.kind ≡ kind.Negation }
         requires sound { Holds self.old frame }
-        ensures { IfOk result (λ t. Gave code.now self.old frame value self.new t) }
+        ensures { IfOk result (λ t. Gave code.now own self.old frame value self.new t) }
     {
-        Ok(MicroStep::Changed(outcome(negated(&value))))
+        Ok(MicroStep::Changed(integer_outcome(negated(&value))))
+    }
+
+    /// The left side of `andalso` or `orelse`, which `decides` decides: itself, or else the right side.
+    pub(crate) fn shortcut(
+        &mut self,
+        alloc: Global,
+        code: &Module,
+        own: u32,
+        frame: Frame,
+        decides: bool,
+        id: NodeId,
+        value: Term,
+    ) -> Result<MicroStep, NoMemory>
+        requires kind { frame.kind ≡ kind.Shortcut decides id }
+        requires sound { Holds self.old frame }
+        ensures { IfOk result (λ t. Gave code.now own self.old frame value self.new t) }
+    {
+        self.resume(frame);
+        match truth_of(&value) {
+            Some(truth) => {
+                if truth == decides {
+                    Ok(MicroStep::Changed(Focus::Value(value)))
+                } else {
+                    let (_, right) = operation(code, id);
+                    Ok(MicroStep::Changed(Focus::Eval(right)))
+                }
+            }
+            None => {
+                let reason = tagged(alloc, AtomId::BADARG, &value)?;
+                Ok(MicroStep::Changed(Focus::Raised(reason)))
+            }
+        }
     }
 
     /// An argument: the others are next.
     pub(crate) fn argument_done(
         &mut self,
         code: &Module,
+        own: u32,
         frame: Frame,
-        function: FunctionId,
+        callee: Callee,
         id: NodeId,
         done: u32,
         value: Term,
     ) -> Result<MicroStep, NoMemory>
-        requires kind { frame.kind ≡ kind.Argument function id done }
+        requires kind { frame.kind ≡ kind.Argument callee id done }
         requires sound { Holds self.old frame }
-        ensures { IfOk result (λ t. Gave code.now self.old frame value self.new t) }
+        ensures { IfOk result (λ t. Gave code.now own self.old frame value self.new t) }
     {
         self.resume(frame);
         self.operands.push(value)?;
         let count = done as usize + 1;
-        self.pass(code, function, id, arguments(code, id), count)
+        self.pass(code, own, callee, id, arguments(code, id), count)
     }
 
     /// The value of a match at the end of a body: its next pattern.
@@ -127,6 +169,7 @@ impl Stack {
         &mut self,
         alloc: Global,
         code: &Module,
+        own: u32,
         frame: Frame,
         id: NodeId,
         done: usize,
@@ -134,14 +177,14 @@ impl Stack {
     ) -> Result<MicroStep, NoMemory>
         requires kind { frame.kind ≡ kind.Match id done }
         requires sound { Holds self.old frame }
-        ensures { IfOk result (λ t. Gave code.now self.old frame value self.new t) }
+        ensures { IfOk result (λ t. Gave code.now own self.old frame value self.new t) }
     {
         let patterns = patterns(code, id);
         match patterns.get(done) {
             None => Ok(MicroStep::Changed(Focus::Value(value))),
             Some(pattern) => {
                 self.resume(frame);
-                if !fit(code, *pattern, &value, &mut self.env, frame.base)? {
+                if !bind(code, *pattern, &value, &mut self.env, frame.base)? {
                     let reason = tagged(alloc, AtomId::BADMATCH, &value)?;
                     return Ok(MicroStep::Changed(Focus::Raised(reason)));
                 }
@@ -160,6 +203,7 @@ impl Stack {
         &mut self,
         alloc: Global,
         code: &Module,
+        own: u32,
         frame: Frame,
         id: NodeId,
         done: usize,
@@ -167,13 +211,13 @@ impl Stack {
     ) -> Result<MicroStep, NoMemory>
         requires kind { frame.kind ≡ kind.Bind id done }
         requires sound { Holds self.old frame }
-        ensures { IfOk result (λ t. Gave code.now self.old frame value self.new t) }
+        ensures { IfOk result (λ t. Gave code.now own self.old frame value self.new t) }
     {
         self.resume(frame);
         match patterns(code, id).get(done) {
             None => Ok(MicroStep::Changed(Focus::Eval(rest(code, id)))),
             Some(pattern) => {
-                if !fit(code, *pattern, &value, &mut self.env, frame.base)? {
+                if !bind(code, *pattern, &value, &mut self.env, frame.base)? {
                     let reason = tagged(alloc, AtomId::BADMATCH, &value)?;
                     return Ok(MicroStep::Changed(Focus::Raised(reason)));
                 }
@@ -189,17 +233,18 @@ impl Stack {
         &mut self,
         alloc: Global,
         code: &Module,
+        own: u32,
         frame: Frame,
         id: NodeId,
         value: Term,
     ) -> Result<MicroStep, NoMemory>
         requires kind { frame.kind ≡ kind.Case id }
         requires sound { Holds self.old frame }
-        ensures { IfOk result (λ t. Gave code.now self.old frame value self.new t) }
+        ensures { IfOk result (λ t. Gave code.now own self.old frame value self.new t) }
     {
         self.resume(frame);
         let clauses = clauses(code, id);
-        let focus = choose(alloc, code, clauses, &value, &mut self.env, frame.base)?;
-        Ok(MicroStep::Changed(focus))
+        let body = choose(alloc, code, clauses, &value, &mut self.env, frame.base, own)?;
+        Ok(MicroStep::Changed(chosen(alloc, &value, body)?))
     }
 }

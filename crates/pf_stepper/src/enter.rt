@@ -3,23 +3,52 @@
 ghost use Rattle.std.specs.Prelude.{IfOk};
 ghost use Rattle.pf_stepper.specs.Sound.{Stacked};
 ghost use Rattle.pf_stepper.specs.MicroSteps.{IsMicroStep};
+ghost use Rattle.pf_stepper.specs.declared.frame.Callee.TheVariants as callee;
 
+use crate::calls::call_builtin;
 use crate::clauses::first_clause;
-use crate::frame::{Focus, MicroStep};
+use crate::frame::{Callee, Focus, MicroStep};
+use crate::outcomes::outcome;
 use crate::stack::Stack;
-use pf_syntax::{FunctionId, Module};
+use pf_ops::tuple;
+use pf_syntax::{Builtin, FunctionId, Module};
 use pf_terms::{AtomId, NoMemory, Term};
+use std::alloc::Global;
 
 impl Stack {
-    /// A call of the last operands. The slots that no frame needs go: a call at the end of a body keeps none.
+    /// A call of the last operands, or the tuple of them.
+    #[inline(always)]
     pub(crate) fn enter(
         &mut self,
+        alloc: Global,
         code: &Module,
+        own: u32,
+        callee: Callee,
+        count: usize,
+    ) -> Result<MicroStep, NoMemory>
+        requires { Stacked self.old.env.items self.old.operands.items self.old.frames.items count }
+        ensures { IfOk result (λ t. IsMicroStep code.now own self.old (Focus.Enter callee count) self.new t) }
+    {
+        match callee {
+            Callee::Function(function) => self.call(alloc, code, own, function, count),
+            Callee::Builtin(builtin) => self.builtin(code, own, builtin, count),
+            Callee::Tuple => self.build(alloc, code, own, count),
+        }
+    }
+
+    /// A call of an own function. The slots that no frame needs go: a call at the end of a body keeps none.
+    #[inline(always)]
+    fn call(
+        &mut self,
+        alloc: Global,
+        code: &Module,
+        own: u32,
         function: FunctionId,
         count: usize,
     ) -> Result<MicroStep, NoMemory>
         requires { Stacked self.old.env.items self.old.operands.items self.old.frames.items count }
-        ensures { IfOk result (λ t. IsMicroStep code.now self.old (Focus.Enter function count) self.new t) }
+        ensures { IfOk result (λ t.
+            IsMicroStep code.now own self.old (Focus.Enter (callee.Function function) count) self.new t) }
     {
         match code.function(function) {
             None => Ok(MicroStep::Changed(Focus::Raised(Term::Atom(AtomId::UNDEF)))),
@@ -28,11 +57,53 @@ impl Stack {
                 self.env.truncate(end);
                 self.base = end;
                 let from = self.operands.len() - count;
+                let values = &self.operands[from..];
                 let clauses = found.clauses.as_slice();
-                let focus = first_clause(code, clauses, &self.operands[from..], &mut self.env)?;
+                let body = first_clause(alloc, code, clauses, values, &mut self.env, own)?;
                 self.operands.truncate(from);
-                Ok(MicroStep::Changed(focus))
+                match body {
+                    Some(body) => Ok(MicroStep::Changed(Focus::Eval(body))),
+                    None => Ok(MicroStep::Changed(Focus::Raised(Term::Atom(
+                        AtomId::FUNCTION_CLAUSE,
+                    )))),
+                }
             }
         }
+    }
+
+    /// A call of a built-in function.
+    #[inline(never)]
+    fn builtin(
+        &mut self,
+        code: &Module,
+        own: u32,
+        builtin: Builtin,
+        count: usize,
+    ) -> Result<MicroStep, NoMemory>
+        requires { Stacked self.old.env.items self.old.operands.items self.old.frames.items count }
+        ensures { IfOk result (λ t.
+            IsMicroStep code.now own self.old (Focus.Enter (callee.Builtin builtin) count) self.new t) }
+    {
+        let from = self.operands.len() - count;
+        let done = call_builtin(own, builtin, &self.operands[from..])?;
+        self.operands.truncate(from);
+        Ok(done)
+    }
+
+    /// The tuple of the last operands.
+    #[inline(never)]
+    fn build(
+        &mut self,
+        alloc: Global,
+        code: &Module,
+        own: u32,
+        count: usize,
+    ) -> Result<MicroStep, NoMemory>
+        requires { Stacked self.old.env.items self.old.operands.items self.old.frames.items count }
+        ensures { IfOk result (λ t. IsMicroStep code.now own self.old (Focus.Enter callee.Tuple count) self.new t) }
+    {
+        let from = self.operands.len() - count;
+        let elements = self.operands.split_off(from)?;
+        Ok(MicroStep::Changed(outcome(tuple(alloc, elements)?)))
     }
 }

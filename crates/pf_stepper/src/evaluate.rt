@@ -1,19 +1,22 @@
 //! The micro-step of an expression: its value, or its first part in a frame.
 
 ghost use Rattle.std.specs.Prelude.{◌≡◌, IfOk, IfSome};
-ghost use Rattle.pf_syntax.specs.declared.node.Node.TheVariants as does;
 ghost use Rattle.pf_syntax.specs.declared.node.Part.TheVariants.{Node as names};
 ghost use Rattle.pf_syntax.specs.Module.{tree_at};
-ghost use Rattle.pf_syntax.specs.Over.{clauses_over, tree_over};
-ghost use Rattle.pf_stepper.specs.Lookups.{clauses_in, left_place, IsLeftInScope};
+ghost use Rattle.pf_syntax.specs.Tree.{if_expression};
+ghost use Rattle.pf_syntax.specs.Over.{clauses_over, part_over, tree_over};
+ghost use Rattle.pf_stepper.specs.Lookups.{clauses_in, left_place, paired, pairing_of, IsLeftInScope};
 ghost use Rattle.pf_stepper.specs.declared.frame.Kind.TheVariants as kind;
-ghost use Rattle.pf_stepper.specs.View.{activation, keeps};
+ghost use Rattle.pf_patterns.specs.Slots.{activation};
+ghost use Rattle.pf_stepper.specs.View.{keeps};
 ghost use Rattle.pf_stepper.specs.MicroSteps.{CanEvaluate, Descended, IsMicroStep};
 
 use crate::clauses::choose;
-use crate::frame::{Focus, Kind, MicroStep};
-use crate::stack::{Stack, slot};
-use pf_syntax::{Clause, Module, Node, NodeId, Operator, Part};
+use crate::continuations::chosen;
+use crate::frame::{Binary, Callee, Focus, Kind, MicroStep};
+use crate::stack::Stack;
+use pf_patterns::slot;
+use pf_syntax::{Clause, Module, Node, NodeId, Part};
 use pf_terms::{AtomId, List, NoMemory, Term};
 use std::alloc::Global;
 
@@ -23,63 +26,103 @@ impl Stack {
         &mut self,
         alloc: Global,
         code: &Module,
+        own: u32,
         part: Part,
     ) -> Result<MicroStep, NoMemory>
         requires { CanEvaluate self.old }
-        ensures { IfOk result (λ t. IsMicroStep code.now self.old (Focus.Eval part) self.new t) }
+        ensures { IfOk result (λ t. IsMicroStep code.now own self.old (Focus.Eval part) self.new t) }
     {
-        match self.immediate(code, part)? {
+        match self.operand(code, part)? {
             Some(value) => Ok(MicroStep::Same(Focus::Value(value))),
             None => match part {
-                Part::Node(id) => self.visit(alloc, code, id),
+                Part::Node(id) => self.visit(alloc, code, own, id),
                 _ => Ok(MicroStep::Changed(Focus::Raised(Term::Atom(AtomId::UNDEF)))),
             },
         }
     }
 
     /// The node of a number; `[]` where there is none.
-    fn visit(&mut self, alloc: Global, code: &Module, id: NodeId) -> Result<MicroStep, NoMemory>
+    fn visit(
+        &mut self,
+        alloc: Global,
+        code: &Module,
+        own: u32,
+        id: NodeId,
+    ) -> Result<MicroStep, NoMemory>
         requires { CanEvaluate self.old }
-        ensures { IfOk result (λ t. IsMicroStep code.now self.old (Focus.Eval (names id)) self.new t) }
+        ensures { IfOk result (λ t. IsMicroStep code.now own self.old (Focus.Eval (names id)) self.new t) }
     {
         match code.node(id) {
             None => Ok(MicroStep::Same(Focus::Value(Term::List(List::Nil)))),
-            Some(node) => self.visit_node(alloc, code, id, node),
+            Some(node) => self.visit_node(alloc, code, own, id, node),
         }
     }
 
-    /// A node: its first part in a frame. A form that has no meaning yet raises.
+    /// A node: its first part in a frame.
     #[inline(always)]
     fn visit_node(
         &mut self,
         alloc: Global,
         code: &Module,
+        own: u32,
         id: NodeId,
         node: &Node,
     ) -> Result<MicroStep, NoMemory>
         requires sound { CanEvaluate self.old }
         requires found { tree_over code.now.tables node.now ≡ tree_at code.now.tables id.0 }
-        ensures { IfOk result (λ t. IsMicroStep code.now self.old (Focus.Eval (names id)) self.new t) }
+        ensures { IfOk result (λ t. IsMicroStep code.now own self.old (Focus.Eval (names id)) self.new t) }
     {
         match node {
             Node::Binary(operator, left, right) => {
-                self.operation(alloc, code, id, *operator, *left, *right)
+                let binary = Binary::Operator(*operator);
+                self.operation(alloc, code, own, id, binary, *left, *right)
             }
-            Node::Negate(part) => self.descend(alloc, code, Kind::Negation, *part),
+            Node::Cons(left, right) => {
+                self.operation(alloc, code, own, id, Binary::Cons, *left, *right)
+            }
+            Node::Send(left, right) => {
+                self.operation(alloc, code, own, id, Binary::Send, *left, *right)
+            }
+            Node::Negate(part) => self.descend(alloc, code, own, Kind::Negation, *part),
+            Node::AndAlso(left, _) => {
+                self.descend(alloc, code, own, Kind::Shortcut(false, id), *left)
+            }
+            Node::OrElse(left, _) => {
+                self.descend(alloc, code, own, Kind::Shortcut(true, id), *left)
+            }
             Node::Call(function, arguments) => {
-                self.pass(code, *function, id, arguments.as_slice(), 0)
+                self.pass(
+                    code,
+                    own,
+                    Callee::Function(*function),
+                    id,
+                    arguments.as_slice(),
+                    0,
+                )
             }
-            Node::Match(_, part) => self.descend(alloc, code, Kind::Match(id, 0), *part),
-            Node::Bind(_, part, _) => self.descend(alloc, code, Kind::Bind(id, 0), *part),
-            Node::Case(part, clauses) => self.case(alloc, code, id, *part, clauses.as_slice()),
-            Node::Tuple(_)
-            | Node::Cons(_, _)
-            | Node::AndAlso(_, _)
-            | Node::OrElse(_, _)
-            | Node::Builtin(_, _)
-            | Node::If(_)
-            | Node::Receive(_)
-            | Node::Send(_, _) => Ok(MicroStep::Changed(Focus::Raised(Term::Atom(AtomId::UNDEF)))),
+            Node::Builtin(builtin, arguments) => {
+                self.pass(
+                    code,
+                    own,
+                    Callee::Builtin(*builtin),
+                    id,
+                    arguments.as_slice(),
+                    0,
+                )
+            }
+            Node::Tuple(elements) => self.pass(
+                code,
+                own,
+                Callee::Tuple,
+                id,
+                elements.as_slice(),
+                0,
+            ),
+            Node::Match(_, part) => self.descend(alloc, code, own, Kind::Match(id, 0), *part),
+            Node::Bind(_, part, _) => self.descend(alloc, code, own, Kind::Bind(id, 0), *part),
+            Node::Case(part, clauses) => self.case(alloc, code, own, id, *part, clauses.as_slice()),
+            Node::If(clauses) => self.if_node(alloc, code, own, id, clauses.as_slice()),
+            Node::Receive(_) => Ok(MicroStep::Awaits(id)),
         }
     }
 
@@ -103,28 +146,59 @@ impl Stack {
         }
     }
 
-    /// The operands of the operator at a node. Where the left one stays in its slot, the right one goes first.
+    /// The operands at a node that takes two. Where the left one stays in its slot, the right one goes first.
     #[inline(always)]
     fn operation(
         &mut self,
         alloc: Global,
         code: &Module,
+        own: u32,
         id: NodeId,
-        operator: Operator,
+        binary: Binary,
         left: Part,
         right: Part,
     ) -> Result<MicroStep, NoMemory>
         requires sound { CanEvaluate self.old }
-        requires found { tree_over code.now.tables (does.Binary operator left right)
-            ≡ tree_at code.now.tables id.0 }
-        ensures { IfOk result (λ t. IsMicroStep code.now self.old (Focus.Eval (names id)) self.new t) }
+        requires found { paired (pairing_of binary) (part_over code.now.tables left)
+            (part_over code.now.tables right) ≡ tree_at code.now.tables id.0 }
+        ensures { IfOk result (λ t. IsMicroStep code.now own self.old (Focus.Eval (names id)) self.new t) }
     {
         match self.left_in_scope(left, right) {
             Some(place) => {
-                self.wait(Kind::BinaryAfterSlot(operator, place))?;
+                self.wait(Kind::BinaryAfterSlot(binary, place))?;
                 Ok(MicroStep::Same(Focus::Eval(right)))
             }
-            None => self.descend(alloc, code, Kind::BinaryLeft(id), left),
+            None => self.descend(alloc, code, own, Kind::BinaryLeft(id), left),
+        }
+    }
+
+    /// An `if`: the body of its first clause whose guard holds.
+    #[inline(never)]
+    fn if_node(
+        &mut self,
+        alloc: Global,
+        code: &Module,
+        own: u32,
+        id: NodeId,
+        clauses: &[Clause],
+    ) -> Result<MicroStep, NoMemory>
+        requires sound { CanEvaluate self.old }
+        requires found { if_expression (clauses_over code.now.tables clauses.now)
+            ≡ tree_at code.now.tables id.0 }
+        ensures { IfOk result (λ t. IsMicroStep code.now own self.old (Focus.Eval (names id)) self.new t) }
+    {
+        let nothing = Term::List(List::Nil);
+        match choose(
+            alloc,
+            code,
+            clauses,
+            &nothing,
+            &mut self.env,
+            self.base,
+            own,
+        )? {
+            Some(body) => Ok(MicroStep::Changed(Focus::Eval(body))),
+            None => Ok(MicroStep::Changed(Focus::Raised(Term::Atom(AtomId::IF_CLAUSE)))),
         }
     }
 
@@ -135,6 +209,7 @@ impl Stack {
         &mut self,
         alloc: Global,
         code: &Module,
+        own: u32,
         id: NodeId,
         part: Part,
         clauses: &[Clause],
@@ -142,12 +217,12 @@ impl Stack {
         requires sound { CanEvaluate self.old }
         requires clauses { clauses_over code.now.tables clauses.now
             ≡ clauses_in (tree_at code.now.tables id.0) }
-        ensures { IfOk result (λ t. Descended code.now self.old (kind.Case id) part self.new t) }
+        ensures { IfOk result (λ t. Descended code.now own self.old (kind.Case id) part self.new t) }
     {
-        match self.immediate(code, part)? {
+        match self.operand(code, part)? {
             Some(value) => {
-                let focus = choose(alloc, code, clauses, &value, &mut self.env, self.base)?;
-                Ok(MicroStep::Changed(focus))
+                let body = choose(alloc, code, clauses, &value, &mut self.env, self.base, own)?;
+                Ok(MicroStep::Changed(chosen(alloc, &value, body)?))
             }
             None => {
                 self.wait(Kind::Case(id))?;
@@ -162,17 +237,18 @@ impl Stack {
         &mut self,
         alloc: Global,
         code: &Module,
+        own: u32,
         kind: Kind,
         part: Part,
     ) -> Result<MicroStep, NoMemory>
         requires sound { CanEvaluate self.old }
         requires keeps { keeps kind ≡ 0 }
-        ensures { IfOk result (λ t. Descended code.now self.old kind part self.new t) }
+        ensures { IfOk result (λ t. Descended code.now own self.old kind part self.new t) }
     {
-        match self.immediate(code, part)? {
+        match self.operand(code, part)? {
             Some(value) => {
                 let frame = self.frame(kind);
-                self.fill(alloc, code, frame, value)
+                self.fill(alloc, code, own, frame, value)
             }
             None => {
                 self.wait(kind)?;

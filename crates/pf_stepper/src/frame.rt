@@ -1,20 +1,42 @@
 //! What a machine's stack of frames holds, and what stands in the innermost frame.
 
-use pf_syntax::{FunctionId, NodeId, Operator, Part};
+use crate::act::Act;
+use pf_syntax::{Builtin, FunctionId, NodeId, Operator, Part};
 use pf_terms::Term;
+
+/// What takes two operands.
+#[derive(Clone, Copy)]
+pub(crate) enum Binary {
+    Operator(Operator),
+    /// A first element and a list.
+    Cons,
+    /// `!`.
+    Send,
+}
+
+/// What takes arguments.
+#[derive(Clone, Copy)]
+pub(crate) enum Callee {
+    Function(FunctionId),
+    Builtin(Builtin),
+    /// A tuple of its elements.
+    Tuple,
+}
 
 /// What waits for a value. A number beside a node counts the arguments or the patterns that are done.
 #[derive(Clone, Copy)]
 pub(crate) enum Kind {
-    /// The left operand of the operator at the node, before the right one.
+    /// The left operand at the node, before the right one.
     BinaryLeft(NodeId),
     /// A right operand, after the left one.
-    BinaryRight(Operator),
+    BinaryRight(Binary),
     /// A right operand, where the left one is the variable at this place in the activation.
-    BinaryAfterSlot(Operator, u32),
+    BinaryAfterSlot(Binary, u32),
     Negation,
-    /// An argument of the call at the node.
-    Argument(FunctionId, NodeId, u32),
+    /// The left side of the `andalso` at the node, or of the `orelse`, which `true` decides.
+    Shortcut(bool, NodeId),
+    /// An argument of the call at the node, or an element of its tuple.
+    Argument(Callee, NodeId, u32),
     /// The value of the match at the node.
     Match(NodeId, usize),
     /// The same before a comma and the rest of the body.
@@ -38,18 +60,26 @@ pub(crate) enum Focus {
     Eval(Part),
     Value(Term),
     /// A call whose arguments are the last operands, so many.
-    Enter(FunctionId, usize),
+    Enter(Callee, usize),
     /// A raise of this reason.
     Raised(Term),
+    /// An exit with this reason.
+    Exited(Term),
 }
 
-/// What a micro-step does: nothing that the process shows, a contraction, or the end.
+/// What a micro-step does: nothing that the process shows, a contraction, or what stops it.
 #[derive(Drop)]
 pub(crate) enum MicroStep {
     Same(Focus),
     Changed(Focus),
+    /// The process asks for this action.
+    Asks(Act),
+    /// The process stands at the `receive` of this node.
+    Awaits(NodeId),
     /// The process returned this value.
     Returned(Term),
     /// The process ends by this raise.
     Failed(Term),
+    /// The process ends by an exit with this reason.
+    Exits(Term),
 }

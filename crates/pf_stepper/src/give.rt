@@ -17,14 +17,15 @@ impl Stack {
         &mut self,
         alloc: Global,
         code: &Module,
+        own: u32,
         value: Term,
     ) -> Result<MicroStep, NoMemory>
         requires { Stacked self.old.env.items self.old.operands.items self.old.frames.items 0 }
-        ensures { IfOk result (λ t. IsMicroStep code.now self.old (finished value) self.new t) }
+        ensures { IfOk result (λ t. IsMicroStep code.now own self.old (finished value) self.new t) }
     {
         match self.frames.pop() {
             None => Ok(MicroStep::Returned(value)),
-            Some(frame) => self.fill(alloc, code, frame, value),
+            Some(frame) => self.fill(alloc, code, own, frame, value),
         }
     }
 
@@ -34,25 +35,29 @@ impl Stack {
         &mut self,
         alloc: Global,
         code: &Module,
+        own: u32,
         frame: Frame,
         value: Term,
     ) -> Result<MicroStep, NoMemory>
         requires { Holds self.old frame }
-        ensures { IfOk result (λ t. Gave code.now self.old frame value self.new t) }
+        ensures { IfOk result (λ t. Gave code.now own self.old frame value self.new t) }
     {
         match frame.kind {
-            Kind::BinaryLeft(id) => self.left_done(code, frame, id, value),
-            Kind::BinaryRight(operator) => self.right_done(code, frame, operator, value),
-            Kind::BinaryAfterSlot(operator, place) => {
-                self.right_after_slot(code, frame, operator, place, value)
+            Kind::BinaryLeft(id) => self.left_done(alloc, code, own, frame, id, value),
+            Kind::BinaryRight(binary) => self.right_done(alloc, code, own, frame, binary, value),
+            Kind::BinaryAfterSlot(binary, place) => {
+                self.right_after_slot(alloc, code, own, frame, binary, place, value)
             }
-            Kind::Negation => self.negate(code, frame, value),
-            Kind::Argument(function, id, done) => {
-                self.argument_done(code, frame, function, id, done, value)
+            Kind::Negation => self.negate(code, own, frame, value),
+            Kind::Shortcut(decides, id) => self.shortcut(
+                alloc, code, own, frame, decides, id, value,
+            ),
+            Kind::Argument(callee, id, done) => {
+                self.argument_done(code, own, frame, callee, id, done, value)
             }
-            Kind::Match(id, done) => self.match_one(alloc, code, frame, id, done, value),
-            Kind::Bind(id, done) => self.bind_one(alloc, code, frame, id, done, value),
-            Kind::Case(id) => self.select(alloc, code, frame, id, value),
+            Kind::Match(id, done) => self.match_one(alloc, code, own, frame, id, done, value),
+            Kind::Bind(id, done) => self.bind_one(alloc, code, own, frame, id, done, value),
+            Kind::Case(id) => self.select(alloc, code, own, frame, id, value),
         }
     }
 }

@@ -1,19 +1,25 @@
-//! A machine of one stack of slots for the forms of one process, and the run of one process by it.
+//! A machine of one stack of slots for every form of the language, and the run of one process by it.
 #![tactic(auto)]
 
+mod act;
 mod advance;
+mod calls;
 mod clauses;
 mod continuations;
 mod enter;
 mod evaluate;
-mod fitting;
 mod frame;
 mod give;
+mod inbox;
 mod lookups;
 mod machine;
+mod outcomes;
 mod pass;
 mod run;
 mod stack;
 
+pub use act::Act;
+pub use clauses::choose;
+pub use inbox::{Inbox, PlainInbox};
 pub use machine::{Machine, Move};
 pub use run::run_one;

@@ -1,54 +1,36 @@
-//! What a machine reads of its module.
+//! What a frame finds at the node that it names.
 
-ghost use Rattle.std.specs.Prelude.{◌≡◌, IfOk};
-ghost use Rattle.pf_terms.specs.Value.{same};
-ghost use Rattle.pf_terms.specs.Term.{value_of};
-ghost use Rattle.pf_syntax.specs.Module.{literal_at, tree_at};
-ghost use Rattle.pf_syntax.specs.Over.{clauses_over, guard_over, part_over, parts_over, patterns_at};
-ghost use Rattle.pf_syntax.specs.Operators.{operator_of};
-ghost use Rattle.pf_single.specs.Contraction as spec;
-ghost use Rattle.pf_stepper.specs.Lookups.{arguments_in, clauses_in, operator_in, patterns_in, rest_in, right_in};
+ghost use Rattle.std.specs.Prelude.{◌≡◌};
+ghost use Rattle.pf_syntax.specs.Module.{tree_at};
+ghost use Rattle.pf_syntax.specs.Over.{clauses_over, part_over, parts_over, patterns_at};
+ghost use Rattle.pf_stepper.specs.Lookups.{arguments_in, clauses_in, pairing_in, pairing_of, patterns_in, rest_in, right_in};
 
-use pf_syntax::{Clause, Guard, LiteralId, Module, Node, NodeId, Operator, Part, PatternId};
-use pf_terms::{List, NoMemory, Term, copy, equal};
+use crate::frame::Binary;
+use pf_syntax::{Clause, Module, Node, NodeId, Operator, Part, PatternId};
 
-/// The literal of this number.
-pub(crate) fn literal(code: &Module, id: LiteralId) -> Result<Term, NoMemory>
-    ensures { IfOk result (λ t. value_of t ≡ literal_at code.now.tables id.0) }
-{
-    match code.literal(id) {
-        Some(literal) => copy(literal),
-        None => Ok(Term::List(List::Nil)),
-    }
-}
-
-/// Whether a value is the literal of this number.
-pub(crate) fn fits_literal(code: &Module, id: LiteralId, value: &Term) -> bool
-    ensures { result ≡ same (literal_at code.now.tables id.0) (value_of value.now) }
-{
-    match code.literal(id) {
-        Some(literal) => equal(literal, value),
-        None => equal(&Term::List(List::Nil), value),
-    }
-}
-
-/// The operator at a node with its right operand, `+` and `[]` where it is none.
-pub(crate) fn operation(code: &Module, id: NodeId) -> (Operator, Part)
-    ensures operator { operator_of result.0 ≡ operator_in (tree_at code.now.tables id.0) }
+/// What takes two operands at a node with its right one; `+` and `[]` where nothing does.
+pub(crate) fn operation(code: &Module, id: NodeId) -> (Binary, Part)
+    ensures binary { pairing_of result.0 ≡ pairing_in (tree_at code.now.tables id.0) }
     ensures right { part_over code.now.tables result.1 ≡ right_in (tree_at code.now.tables id.0) }
 {
     match code.node(id) {
-        Some(Node::Binary(operator, _, right)) => (*operator, *right),
-        _ => (Operator::Plus, Part::Nil),
+        Some(Node::Binary(operator, _, right)) => (Binary::Operator(*operator), *right),
+        Some(Node::Cons(_, right)) => (Binary::Cons, *right),
+        Some(Node::Send(_, right)) => (Binary::Send, *right),
+        Some(Node::AndAlso(_, right)) => (Binary::Operator(Operator::Plus), *right),
+        Some(Node::OrElse(_, right)) => (Binary::Operator(Operator::Plus), *right),
+        _ => (Binary::Operator(Operator::Plus), Part::Nil),
     }
 }
 
-/// The arguments of the call at a node, none where it is no call.
+/// The arguments of the call at a node, or the elements of its tuple; none where it is neither.
 pub(crate) fn arguments(code: &Module, id: NodeId) -> &[Part]
     ensures { parts_over code.now.tables result.now ≡ arguments_in (tree_at code.now.tables id.0) }
 {
     match code.node(id) {
         Some(Node::Call(_, arguments)) => arguments.as_slice(),
+        Some(Node::Builtin(_, arguments)) => arguments.as_slice(),
+        Some(Node::Tuple(elements)) => elements.as_slice(),
         _ => &[],
     }
 }
@@ -74,23 +56,14 @@ pub(crate) fn rest(code: &Module, id: NodeId) -> Part
     }
 }
 
-/// The clauses of the `case` at a node, none where it is no `case`.
+/// The clauses of the `case`, the `if` or the `receive` at a node, none where it has none.
 pub(crate) fn clauses(code: &Module, id: NodeId) -> &[Clause]
     ensures { clauses_over code.now.tables result.now ≡ clauses_in (tree_at code.now.tables id.0) }
 {
     match code.node(id) {
         Some(Node::Case(_, clauses)) => clauses.as_slice(),
+        Some(Node::If(clauses)) => clauses.as_slice(),
+        Some(Node::Receive(clauses)) => clauses.as_slice(),
         _ => &[],
-    }
-}
-
-/// Whether a guard makes no test.
-pub(crate) fn is_open(code: &Module, guard: &Guard) -> bool
-    ensures { result ≡ spec.is_open (guard_over code.now.tables guard.now) }
-{
-    match guard.alternatives.as_slice() {
-        [] => true,
-        [alternative] => alternative.tests.as_slice().is_empty(),
-        _ => false,
     }
 }

@@ -1,22 +1,36 @@
 //! A machine: one process that runs the functions of a module.
 
-ghost use Rattle.std.specs.Prelude.{◌≡◌, IfOk, IsErr, None, OnErr};
+ghost use Rattle.std.specs.Prelude.{◌≡◌, IfOk, IsErr, OnErr};
 ghost use Rattle.pf_terms.specs.Term.{values_of};
-ghost use Rattle.pf_stepper.specs.MachineView.{at_call};
-ghost use Rattle.pf_stepper.specs.Moves.{Moved, with_process};
+ghost use Rattle.pf_model.specs.Code.{code_of};
+ghost use Rattle.pf_stepper.specs.MachineView.{at_call, spent, standing_so};
+ghost use Rattle.pf_stepper.specs.Settled.{AdvanceIsSound, Settled};
+ghost use Rattle.pf_stepper.specs.Turns.{Answered, CanAnswer, CanMove, MovedFrom, RanSo};
 
+use crate::act::Act;
 use crate::advance::Advance;
-use crate::frame::Focus;
+use crate::frame::{Callee, Focus};
+use crate::inbox::Inbox;
+use crate::lookups::clauses;
 use crate::stack::Stack;
-use pf_ops::ending_reason;
-use pf_syntax::{FunctionId, Module};
-use pf_terms::{NoMemory, Term, copy};
+use pf_syntax::{FunctionId, Module, NodeId, Part};
+use pf_terms::{NoMemory, Term};
 use std::alloc::Global;
 use std::marker::Model;
+use std::mem;
 use std::sync::Arc;
 
 /// How many slots, operands and frames a machine has room for from the first.
 const ROOM: usize = 16;
+
+/// How a machine stands: its process goes on, waits for the answer to an action, or has ended; or memory ran out.
+#[derive(Drop)]
+pub(crate) enum Standing {
+    Goes(Focus),
+    Asking,
+    Over,
+    Spent,
+}
 
 /// A process that runs the functions of a module. No step copies code, an environment or a value whole.
 #[derive(Drop)]
@@ -24,11 +38,12 @@ pub struct Machine {
     own: u32,
     module: Arc<Module>,
     stack: Stack,
-    focus: Option<Focus>,
+    standing: Standing,
 }
 
 impl Model for Machine {
-    ghost use Rattle.pf_stepper.specs.MachineView.{MachineView, coded_machine_view};
+    ghost use Rattle.pf_stepper.specs.MachineView.{MachineView};
+    ghost use Rattle.pf_stepper.specs.Codes.{coded_machine_view};
 
     ghost Value = { MachineView };
 
@@ -41,12 +56,73 @@ impl Model for Machine {
     ghost invariant = { IsKept };
 }
 
-/// What a call of a machine did: one step, or nothing, as the process is at its end. It returned a value, or it
-/// ends with a reason.
+/// What a process did: it went on by itself; it asks for an action and waits for its answer; it took this message; it waits at a
+/// `receive` that no message fits; or it ended, with the value that it returned or with a reason.
 #[derive(Drop)]
 pub enum Move {
     Pure,
+    Action(Act),
+    Take(Term),
+    Wait,
     End(Result<Term, Term>),
+}
+
+/// What a machine is left as, and the move that it made.
+#[derive(Drop)]
+pub(crate) struct Stop {
+    pub(crate) standing: Standing,
+    pub(crate) did: Move,
+}
+
+/// What a `receive` does with a mailbox.
+fn receive<I: Inbox>(
+    alloc: Global,
+    inbox: &mut I,
+    code: &Module,
+    own: u32,
+    stack: &mut Stack,
+    id: NodeId,
+) -> Result<Stop, NoMemory>
+    requires { AdvanceIsSound stack.old (Advance.Awaits id) }
+    ensures settled { IfOk result (λ s. Settled code.now own stack.old (Advance.Awaits id)
+        (I.messages inbox.old) stack.new s (I.messages inbox.new)) }
+    ensures refused { OnErr result (I.messages inbox.new ≡ I.messages inbox.old) }
+{
+    let clauses = clauses(code, id);
+    match inbox.select(alloc, code, clauses, &mut stack.env, stack.base, own)? {
+        Some((body, message)) => Ok(Stop {
+            standing: Standing::Goes(Focus::Eval(body)),
+            did: Move::Take(message),
+        }),
+        None => Ok(Stop {
+            standing: Standing::Goes(Focus::Eval(Part::Node(id))),
+            did: Move::Wait,
+        }),
+    }
+}
+
+/// What a machine is left as by what its stack did.
+fn settle<I: Inbox>(
+    alloc: Global,
+    inbox: &mut I,
+    code: &Module,
+    own: u32,
+    stack: &mut Stack,
+    advance: Advance,
+) -> Result<Stop, NoMemory>
+    requires { AdvanceIsSound stack.old advance }
+    ensures settled { IfOk result (λ s. Settled code.now own stack.old advance
+        (I.messages inbox.old) stack.new s (I.messages inbox.new)) }
+    ensures refused { OnErr result (I.messages inbox.new ≡ I.messages inbox.old) }
+{
+    let (standing, did) = match advance {
+        Advance::Changed(next) => (Standing::Goes(next), Move::Pure),
+        Advance::Asks(act) => (Standing::Asking, Move::Action(act)),
+        Advance::Awaits(id) => return receive(alloc, inbox, code, own, stack, id),
+        Advance::Returned(value) => (Standing::Over, Move::End(Ok(value))),
+        Advance::Ended(reason) => (Standing::Over, Move::End(Err(reason))),
+    };
+    Ok(Stop { standing, did })
 }
 
 impl Machine {
@@ -59,7 +135,7 @@ impl Machine {
         args: Vec<Term>,
     ) -> Result<Machine, NoMemory>
         ensures { IfOk result (λ m.
-            m ≡ at_call own module.value.functions function.0 (values_of args.items)) }
+            m ≡ at_call own (code_of «module».value) function.0 (values_of args.items)) }
     {
         let count = args.len();
         let stack = Stack {
@@ -72,7 +148,7 @@ impl Machine {
             own,
             module,
             stack,
-            focus: Some(Focus::Enter(function, count)),
+            standing: Standing::Goes(Focus::Enter(Callee::Function(function), count)),
         })
     }
 
@@ -83,31 +159,68 @@ impl Machine {
         self.own
     }
 
-    /// One step, or the end of the process, at which it stays. Once memory ran out, each call answers so.
-    pub fn advance(&mut self, alloc: Global) -> Result<Move, NoMemory>
-        ensures moved { IfOk result (λ m. Moved self.old m self.new) }
-        ensures spent { OnErr result (self.new ≡ with_process self.old None) }
-        ensures refused { self.old.process ≡ None → IsErr result }
+    /// All steps up to and with the next action, message, wait or end, but no more than `left`; and how many they were.
+    /// Once memory ran out, each call answers so.
+    pub fn run<I: Inbox>(
+        &mut self,
+        alloc: Global,
+        inbox: &mut I,
+        left: u32,
+    ) -> Result<(Move, u32), NoMemory>
+        requires { CanMove self.old.standing }
+        ensures ran { IfOk result (λ r.
+            RanSo left self.old (I.messages inbox.old) r.0 self.new r.1 (I.messages inbox.new)) }
+        ensures spent { OnErr result ((self.new ≡ standing_so self.old spent)
+            × (I.messages inbox.new ≡ I.messages inbox.old)) }
+        ensures refused { self.old.standing ≡ spent → IsErr result }
     {
-        let focus = match self.focus.take() {
-            Some(focus) => focus,
-            None => return Err(NoMemory),
+        let focus = match mem::replace(&mut self.standing, Standing::Spent) {
+            Standing::Goes(focus) => focus,
+            _ => return Err(NoMemory),
         };
-        match self.stack.advance(alloc, &self.module, focus)? {
-            Advance::Changed(next) => {
-                self.focus = Some(next);
-                Ok(Move::Pure)
-            }
-            Advance::Returned(value) => {
-                let given = copy(&value)?;
-                self.focus = Some(Focus::Value(value));
-                Ok(Move::End(Ok(given)))
-            }
-            Advance::Failed(raised) => {
-                let reason = ending_reason(alloc, &raised)?;
-                self.focus = Some(Focus::Raised(raised));
-                Ok(Move::End(Err(reason)))
-            }
-        }
+        let (advance, used) = self.stack.run(alloc, &self.module, self.own, focus, left)?;
+        let stop = settle(
+            alloc,
+            inbox,
+            &self.module,
+            self.own,
+            &mut self.stack,
+            advance,
+        )?;
+        self.standing = stop.standing;
+        Ok((stop.did, used))
+    }
+
+    /// One step: a contraction, an action that is asked for, a message that is taken, a wait, or the end.
+    pub fn advance<I: Inbox>(&mut self, alloc: Global, inbox: &mut I) -> Result<Move, NoMemory>
+        requires { CanMove self.old.standing }
+        ensures moved { IfOk result (λ m.
+            MovedFrom self.old (I.messages inbox.old) m self.new (I.messages inbox.new)) }
+        ensures spent { OnErr result ((self.new ≡ standing_so self.old spent)
+            × (I.messages inbox.new ≡ I.messages inbox.old)) }
+        ensures refused { self.old.standing ≡ spent → IsErr result }
+    {
+        let (did, _used) = self.run(alloc, inbox, 1)?;
+        Ok(did)
+    }
+
+    /// The answer to the action that the process asked for: a value, or the reason that the action raises.
+    pub fn answer(&mut self, answer: Result<Term, Term>)
+        requires { CanAnswer self.old.standing }
+        ensures { Answered self.old answer self.new }
+    {
+        self.standing = match answer {
+            Ok(value) => Standing::Goes(Focus::Value(value)),
+            Err(reason) => Standing::Goes(Focus::Raised(reason)),
+        };
     }
 }
+
+/// What a scheduler will need: machines, and what they did, may go to another thread.
+fn crosses_threads(machine: &Machine, machines: &Vec<Machine>, moves: &Vec<(Move, u32)>) {
+    needs_send(machine);
+    needs_send(machines);
+    needs_send(moves);
+}
+
+fn needs_send<T: Send>(_value: &T) {}

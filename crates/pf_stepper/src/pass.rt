@@ -1,4 +1,4 @@
-//! The arguments of a call.
+//! The arguments of a call, and the elements of a tuple.
 
 ghost use Rattle.std.specs.Prelude.{◌≡◌, ◌≤◌, length, IfOk};
 ghost use Rattle.pf_syntax.specs.Module.{tree_at};
@@ -7,9 +7,9 @@ ghost use Rattle.pf_stepper.specs.Lookups.{arguments_in};
 ghost use Rattle.pf_stepper.specs.Sound.{Stacked};
 ghost use Rattle.pf_stepper.specs.MicroSteps.{Passed};
 
-use crate::frame::{Focus, Kind, MicroStep};
+use crate::frame::{Callee, Focus, Kind, MicroStep};
 use crate::stack::Stack;
-use pf_syntax::{FunctionId, Module, NodeId, Part};
+use pf_syntax::{Module, NodeId, Part};
 use pf_terms::NoMemory;
 
 /// A count of arguments as a frame notes it. It fails at 2^32, which no machine has the room for.
@@ -26,7 +26,8 @@ impl Stack {
     pub(crate) fn pass(
         &mut self,
         code: &Module,
-        function: FunctionId,
+        own: u32,
+        callee: Callee,
         id: NodeId,
         arguments: &[Part],
         from: usize,
@@ -35,21 +36,21 @@ impl Stack {
             ≡ arguments_in (tree_at code.now.tables id.0) }
         requires stacked { Stacked self.old.env.items self.old.operands.items self.old.frames.items from }
         requires inside { self.old.base ≤ length self.old.env.items }
-        ensures { IfOk result (λ t. Passed code.now self.old function id from self.new t) }
+        ensures { IfOk result (λ t. Passed code.now own self.old callee id from self.new t) }
     {
         let mut count = from;
         while count < arguments.len() {
             let argument = arguments[count];
-            match self.immediate(code, argument)? {
+            match self.operand(code, argument)? {
                 Some(value) => self.operands.push(value)?,
                 None => {
                     let done = noted(count)?;
-                    self.wait(Kind::Argument(function, id, done))?;
+                    self.wait(Kind::Argument(callee, id, done))?;
                     return Ok(MicroStep::Same(Focus::Eval(argument)));
                 }
             }
             count += 1;
         }
-        Ok(MicroStep::Same(Focus::Enter(function, count)))
+        Ok(MicroStep::Same(Focus::Enter(callee, count)))
     }
 }

@@ -1,18 +1,16 @@
 //! One stack of slots for all activations, one of finished operands, and the frames over them.
 
-ghost use Rattle.std.specs.Prelude.{◌≡◌, ◌∷◌, [], ◌++◌, drop, length, option_map, slice_get, take, IfOk, OnOk};
+ghost use Rattle.std.specs.Prelude.{◌≡◌, ◌∷◌, [], ◌++◌, length, take, IfOk, OnOk};
 ghost use Rattle.pf_terms.specs.Term.{value_of};
-ghost use Rattle.pf_syntax.specs.Pattern.{slot as variable};
-ghost use Rattle.pf_single.specs.Fit.{fit};
-ghost use Rattle.pf_single.specs.Scopes.{scope_if};
-ghost use Rattle.pf_stepper.specs.Lookups.{IsImmediate, value_at};
-ghost use Rattle.pf_stepper.specs.View.{activation};
+ghost use Rattle.pf_patterns.specs.Operands.{IsOperand};
+ghost use Rattle.pf_patterns.specs.Slots.{activation};
+ghost use Rattle.pf_stepper.specs.Lookups.{value_at};
 ghost use Rattle.pf_stepper.specs.Sound.{frame_for, top_end};
 
 use crate::frame::{Frame, Kind};
-use crate::lookups::literal;
+use pf_patterns::{copied, operand, slot};
 use pf_syntax::{Module, Part};
-use pf_terms::{List, NoMemory, Term, copy, equal};
+use pf_terms::{List, NoMemory, Term};
 
 /// Slots, finished operands, frames, and where the activation begins.
 #[derive(Drop)]
@@ -23,53 +21,14 @@ pub(crate) struct Stack {
     pub(crate) base: usize,
 }
 
-/// The same value. Most are integers, and these need no call.
-#[inline(always)]
-pub(crate) fn copied(value: &Term) -> Result<Term, NoMemory>
-    ensures { IfOk result (λ t. value_of t ≡ value_of value.now) }
-{
-    match value {
-        Term::Int(n) => Ok(Term::Int(*n)),
-        _ => copy(value),
-    }
-}
-
-/// The value of a place in the activation that begins at `base`.
-pub(crate) fn slot(env: &[Term], base: usize, place: u32) -> Option<&Term>
-    ensures { option_map (λ v. value_of v.now) result ≡ slice_get (activation env.now base) place }
-{
-    env.get(base..)?.get(place as usize)
-}
-
-/// Whether a value is that of a place in the activation.
-pub(crate) fn fits_slot(env: &[Term], base: usize, place: u32, value: &Term) -> bool
-    ensures { fit (variable place) (value_of value.now) (activation env.now base)
-        ≡ scope_if result (drop base env.now) }
-{
-    match slot(env, base, place) {
-        Some(known) => equal(known, value),
-        None => false,
-    }
-}
-
 impl Stack {
-    /// The value of an operand that needs no micro-step of its own: of a literal, or of a variable in scope.
+    /// The value of an operand that has one where it stands: a literal, or a variable in scope.
     #[inline(always)]
-    pub(crate) fn immediate(&self, code: &Module, part: Part) -> Result<Option<Term>, NoMemory>
+    pub(crate) fn operand(&self, code: &Module, part: Part) -> Result<Option<Term>, NoMemory>
         ensures { IfOk result (λ o.
-            IsImmediate code.now.tables (activation self.now.env.items self.now.base) part o) }
+            IsOperand code.now.tables (activation self.now.env.items self.now.base) part o) }
     {
-        match part {
-            Part::Slot(place) => match slot(self.env.as_slice(), self.base, place) {
-                Some(value) => Ok(Some(copied(value)?)),
-                None => Ok(None),
-            },
-            Part::Int(n) => Ok(Some(Term::Int(n))),
-            Part::Atom(atom) => Ok(Some(Term::Atom(atom))),
-            Part::Nil => Ok(Some(Term::List(List::Nil))),
-            Part::Literal(id) => Ok(Some(literal(code, id)?)),
-            Part::Node(_) => Ok(None),
-        }
+        operand(code, part, self.env.as_slice(), self.base)
     }
 
     /// The value of a place in the activation, `[]` where there is none.

@@ -2,6 +2,7 @@
 
 ghost use Rattle.std.specs.Prelude.{◌≡◌, length, IfErr, IfOk};
 ghost use Rattle.pf_check.specs.Reads.{IsRefusalOf, Reads, accepted_as};
+ghost use Rattle.pf_model.specs.Code.{code_of};
 ghost use Rattle.pf_store.specs.Sources.{IsReadAs};
 
 use crate::source::Source;
@@ -13,7 +14,7 @@ use std::alloc::Global;
 use std::marker::Model;
 use std::sync::Arc;
 
-/// A module with the source that it was read from. Contracts see the source, the names of the module's atoms and its functions.
+/// A module with the source that it was read from. Contracts see the source and the module's code.
 #[derive(Drop)]
 pub struct Stored {
     source: Source,
@@ -23,15 +24,15 @@ pub struct Stored {
 impl Model for Stored {
     ghost use Rattle.std.specs.Arc.{arc_value};
     ghost use Rattle.pf_check.specs.Reads.{Reads, accepted_as};
-    ghost use Rattle.pf_single.specs.Desk as desk;
-    ghost use Rattle.pf_single.specs.DeskCode.{coded_stored};
+    ghost use Rattle.pf_model.specs.Code.{code_of};
+    ghost use Rattle.pf_desks.specs.Desk as desk;
+    ghost use Rattle.pf_desks.specs.DeskCode.{coded_stored};
 
     ghost Value = { desk.Stored };
 
     ghost coded = { coded_stored };
 
-    ghost view = { λ s. let m = arc_value s.module in
-        record { source = s.source; atoms = m.atoms; functions = m.functions } };
+    ghost view = { λ s. record { source = s.source; code = code_of (arc_value s.module) } };
 
     ghost invariant = { λ s. Reads s.source (accepted_as (arc_value s.module)) };
 }
@@ -60,8 +61,7 @@ impl Stored {
     }
 
     pub fn module(&self) -> &Arc<Module>
-        ensures atoms { result.now.value.atoms ≡ self.now.atoms }
-        ensures functions { result.now.value.functions ≡ self.now.functions }
+        ensures code { code_of result.now.value ≡ self.now.code }
         ensures read { Reads self.now.source (accepted_as result.now.value) }
     {
         &self.module

@@ -10,3 +10,4 @@ pub mod NodeTableGrown
 pub mod Measures
 pub mod Roots
 mod Worked
+pub mod Crossing

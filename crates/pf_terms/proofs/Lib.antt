@@ -6,3 +6,4 @@ pub mod SameValues
 pub mod Total
 pub mod Exact
 pub mod Fronts
+pub mod Crossing

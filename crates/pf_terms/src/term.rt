@@ -330,3 +330,11 @@ impl Elements {
         self.items.as_slice()
     }
 }
+
+/// What a scheduler will need: terms may go to another thread, and be shared by threads.
+fn crosses_threads(terms: &Vec<Term>, shared: &Arc<Vec<Term>>) {
+    needs_send(terms);
+    needs_send(shared);
+}
+
+fn needs_send<T: Send>(_value: &T) {}

@@ -1,7 +1,7 @@
 //! The machine over modules that were read: its steps counted by hand, and that it stays at its end.
 
 use pf_check::read;
-use pf_single::report::Outcome;
+use pf_model::report::Outcome;
 use pf_stepper::{Machine, Move, run_one};
 use pf_syntax::{FunctionId, Module};
 use pf_terms::{NoMemory, Term};

@@ -1,6 +1,7 @@
 //! Texts that go out, and numbers in words that come in.
 #![tactic(auto)]
 
+mod labels;
 mod names;
 mod numbers;
 mod report;
@@ -8,6 +9,6 @@ mod terms;
 mod text;
 
 pub use numbers::{number_of, schedule_of};
-pub use report::{put_report, returns_holds};
+pub use report::put_report;
 pub use terms::put_term;
 pub use text::{put, put_byte, put_number};

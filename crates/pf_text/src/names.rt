@@ -4,7 +4,7 @@ ghost use Rattle.std.specs.Prelude.{◌≡◌, ◌++◌, OnOk, flat_map, is_some
 ghost use Rattle.std.specs.List.{list_all};
 ghost use Rattle.pf_tokens.specs.Bytes.{is_word};
 ghost use Rattle.pf_tokens.specs.TokenKinds.{reserved_of};
-ghost use Rattle.pf_single.specs.Text.{atom_text, is_plain_name, quoted_byte};
+ghost use Rattle.pf_model.specs.TermText.{atom_text, is_plain_name, quoted_byte};
 
 use crate::text::{put, put_byte};
 use pf_terms::NoMemory;

@@ -3,12 +3,14 @@
 ghost use Rattle.std.specs.Prelude.{◌≡◌, ◌++◌, OnOk, codes, flat_map};
 ghost use Rattle.std.specs.Fmt.{decimal};
 ghost use Rattle.pf_terms.specs.Atoms.{name_of};
-ghost use Rattle.pf_single.specs.Reports.{actor_of, event_of, label_of, outcome_of, report_of};
-ghost use Rattle.pf_single.specs.Text.{actor_text, event_text, label_text, line, outcome_text, property_text, report_text, returns_holds};
+ghost use Rattle.pf_model.specs.Reports.{actor_of, event_of, outcome_of, report_of};
+ghost use Rattle.pf_model.specs.Text.{actor_text, event_text, outcome_text, report_text, verdict_text};
+ghost use Rattle.pf_model.specs.TermText.{line, pid_text};
 
+use crate::labels::put_label;
 use crate::terms::{put_pid, put_term};
 use crate::text::{put, put_byte, put_number};
-use pf_single::report::{Actor, Event, Label, Outcome, Report};
+use pf_model::report::{Actor, Event, Outcome, Report};
 use pf_terms::{AtomTable, NoMemory};
 use std::alloc::Global;
 
@@ -17,23 +19,11 @@ fn put_actor(alloc: Global, out: &mut Vec<u8>, actor: Actor) -> Result<(), NoMem
 {
     match actor {
         Actor::Process(pid) => put_pid(alloc, out, pid),
-    }
-}
-
-fn put_label(
-    alloc: Global,
-    out: &mut Vec<u8>,
-    atoms: &AtomTable,
-    label: &Label,
-) -> Result<(), NoMemory>
-    ensures { OnOk result (out.new.items ≡ out.old.items ++ label_text (name_of atoms.now) (label_of label.now)) }
-{
-    match label {
-        Label::Ends(reason) => {
-            put(out, b"end ")?;
-            put_term(alloc, out, atoms, reason)
+        Actor::Channel { from, to } => {
+            put_pid(alloc, out, from)?;
+            put(out, b"->")?;
+            put_pid(alloc, out, to)
         }
-        Label::Cut => put(out, b"cut"),
     }
 }
 
@@ -44,7 +34,8 @@ fn put_event(
     atoms: &AtomTable,
     event: &Event,
 ) -> Result<(), NoMemory>
-    ensures { OnOk result (out.new.items ≡ out.old.items ++ line (event_text (name_of atoms.now) (event_of event.now))) }
+    ensures { OnOk result (out.new.items ≡ out.old.items
+        ++ line (event_text (name_of atoms.now) (event_of event.now))) }
 {
     put_number(alloc, out, u64::from(event.choice))?;
     put(out, b"/")?;
@@ -62,10 +53,23 @@ fn put_events(
     atoms: &AtomTable,
     events: &[Event],
 ) -> Result<(), NoMemory>
-    ensures { OnOk result (out.new.items ≡ out.old.items ++ flat_map (λ e. line (event_text (name_of atoms.now) (event_of e))) events.now) }
+    ensures { OnOk result (out.new.items ≡ out.old.items
+        ++ flat_map (λ e. line (event_text (name_of atoms.now) (event_of e))) events.now) }
 {
     for event in events {
         put_event(alloc, out, atoms, event)?;
+    }
+    Ok(())
+}
+
+/// Puts pids, each after a blank.
+fn put_pids(alloc: Global, out: &mut Vec<u8>, pids: &[u32]) -> Result<(), NoMemory>
+    ensures { OnOk result (out.new.items ≡ out.old.items
+        ++ flat_map (λ p. codes " " ++ pid_text p) pids.now) }
+{
+    for pid in pids {
+        put(out, b" ")?;
+        put_pid(alloc, out, *pid)?;
     }
     Ok(())
 }
@@ -76,7 +80,8 @@ fn put_outcome(
     atoms: &AtomTable,
     outcome: &Outcome,
 ) -> Result<(), NoMemory>
-    ensures { OnOk result (out.new.items ≡ out.old.items ++ line (outcome_text (name_of atoms.now) (outcome_of outcome.now))) }
+    ensures { OnOk result (out.new.items ≡ out.old.items
+        ++ line (outcome_text (name_of atoms.now) (outcome_of outcome.now))) }
 {
     match outcome {
         Outcome::Finished(value) => {
@@ -87,25 +92,23 @@ fn put_outcome(
             put(out, b"ended ")?;
             put_term(alloc, out, atoms, reason)?;
         }
+        Outcome::Deadlock(pids) => {
+            put(out, b"deadlock")?;
+            put_pids(alloc, out, pids)?;
+        }
         Outcome::Limit => put(out, b"limit")?,
+        Outcome::Memory => put(out, b"memory")?,
     }
     put_byte(out, b'\n')
 }
 
-/// Whether the root returned.
-pub fn returns_holds(outcome: &Outcome) -> bool
-    ensures { result ≡ returns_holds (outcome_of outcome.now) }
+fn put_verdict(out: &mut Vec<u8>, verdict: Option<bool>) -> Result<(), NoMemory>
+    ensures { OnOk result (out.new.items ≡ out.old.items ++ line (verdict_text verdict)) }
 {
-    matches!(outcome, Outcome::Finished(_))
-}
-
-fn put_property(out: &mut Vec<u8>, holds: bool) -> Result<(), NoMemory>
-    ensures { OnOk result (out.new.items ≡ out.old.items ++ line (property_text holds)) }
-{
-    if holds {
-        put(out, b"property holds\n")
-    } else {
-        put(out, b"property fails\n")
+    match verdict {
+        Some(true) => put(out, b"property holds\n"),
+        Some(false) => put(out, b"property fails\n"),
+        None => put(out, b"no verdict\n"),
     }
 }
 
@@ -117,17 +120,18 @@ fn put_steps(alloc: Global, out: &mut Vec<u8>, steps: u32) -> Result<(), NoMemor
     put_byte(out, b'\n')
 }
 
-/// Puts the text of a report, which ends with whether the root returned.
+/// Puts the text of a report.
 pub fn put_report(
     alloc: Global,
     out: &mut Vec<u8>,
     atoms: &AtomTable,
     report: &Report,
 ) -> Result<(), NoMemory>
-    ensures { OnOk result (out.new.items ≡ out.old.items ++ report_text (name_of atoms.now) (report_of report.now)) }
+    ensures { OnOk result (out.new.items ≡ out.old.items
+        ++ report_text (name_of atoms.now) (report_of report.now)) }
 {
     put_events(alloc, out, atoms, &report.events)?;
     put_outcome(alloc, out, atoms, &report.outcome)?;
     put_steps(alloc, out, report.steps)?;
-    put_property(out, returns_holds(&report.outcome))
+    put_verdict(out, report.verdict)
 }

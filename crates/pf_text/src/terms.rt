@@ -1,11 +1,11 @@
 //! The text of a term.
 
-ghost use Rattle.std.specs.Prelude.{◌≡◌, ◌++◌, OnOk, codes};
-ghost use Rattle.std.specs.Fmt.{decimal};
+ghost use Rattle.std.specs.Prelude.{◌≡◌, ◌++◌, OnOk};
 ghost use Rattle.pf_terms.specs.Term.{elements_of, value_of, values_of};
 ghost use Rattle.pf_terms.specs.Atoms.{name_of};
-ghost use Rattle.pf_terms.specs.Value.{list, ref, tuple};
-ghost use Rattle.pf_single.specs.Text.{pid_text, rest_text, value_text};
+ghost use Rattle.pf_terms.specs.Value.{list, tuple};
+ghost use Rattle.pf_model.specs.Text.{reference_text};
+ghost use Rattle.pf_model.specs.TermText.{pid_text, rest_text, value_text};
 
 use crate::names::put_atom;
 use crate::text::{put, put_number, put_signed};
@@ -22,8 +22,12 @@ pub(crate) fn put_pid(alloc: Global, out: &mut Vec<u8>, pid: u32) -> Result<(), 
 }
 
 /// Puts a reference, as `#Ref<0>`.
-fn put_reference(alloc: Global, out: &mut Vec<u8>, reference: u64) -> Result<(), NoMemory>
-    ensures { OnOk result (out.new.items ≡ out.old.items ++ (codes "#Ref<" ++ decimal reference ++ codes ">")) }
+pub(crate) fn put_reference(
+    alloc: Global,
+    out: &mut Vec<u8>,
+    reference: u64,
+) -> Result<(), NoMemory>
+    ensures { OnOk result (out.new.items ≡ out.old.items ++ reference_text reference) }
 {
     put(out, b"#Ref<")?;
     put_number(alloc, out, reference)?;

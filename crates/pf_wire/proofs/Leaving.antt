@@ -11,8 +11,8 @@ use Rattle.pf_terms.specs.declared.stream.StreamFault.{StreamFault}
 use Rattle.pf_terms.specs.declared.stream.StreamFault.TheVariants.{Read, Write}
 use Rattle.pf_terms.specs.Streams.{AppendsFront, CountsWrite}
 use Rattle.pf_terms.proofs.Writes.{appends_both}
-use Rattle.pf_single.specs.Desk.{Profile}
-use Rattle.pf_single.specs.World.{World, Step, Answer, AnswersInTurn}
+use Rattle.pf_desks.specs.Desk.{Profile}
+use Rattle.pf_desks.specs.World.{World, Step, Answer, AnswersInTurn}
 use Rattle.pf_book.specs.Profile.{IsRight, ForRight}
 use Rattle.pf_wire.specs.Steps.{AnswersOne, AnswersInPart, AreRead, StepsAnswered, StepsAnsweredInPart, StepsLeaves, WholeAnswered, last_text}
 use Rattle.pf_wire.specs.Turns.{Follows, Turns, Tells, so_far, no_more, TellsUpTo, TellsAll, TellsInPart, TurnsLeave, TakesPiece, PieceLeaves}

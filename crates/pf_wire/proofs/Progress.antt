@@ -2,10 +2,10 @@
 use Rattle.std.proofs.Common.{◌≡◌, ◌≤◌, ◌+◌, ℕ, zero, suc, Bool, true, false, List, [], ◌∷◌, ◌++◌, length, Option, Some, None, refl, sym, ap, ◌∙◌, subst, arith, append_assoc, length-append}
 use Rattle.std.specs.Prelude.{map, take}
 use Rattle.std.proofs.lemmas.List.{append-nil}
-use Rattle.pf_single.specs.Desk.{Profile}
-use Rattle.pf_single.specs.World.{World, Step, Answer, step, answers, told, alone, AnswersStep, AnswersInTurn}
-use Rattle.pf_single.specs.Told.{outcome_text, outcomes_text}
-use Rattle.pf_single.proofs.Isolated.{isolated}
+use Rattle.pf_desks.specs.Desk.{Profile}
+use Rattle.pf_desks.specs.World.{World, Step, Answer, step, answers, told, alone, AnswersStep, AnswersInTurn}
+use Rattle.pf_desks.specs.Told.{outcome_text, outcomes_text}
+use Rattle.pf_desks.proofs.Isolated.{isolated}
 use Rattle.pf_wire.specs.Commands as commands
 use Rattle.pf_wire.specs.Commands.{Commands, command_at}
 use Rattle.pf_wire.specs.Steps.{StepsText, last_text, steps_status}

@@ -1,10 +1,10 @@
 -- What follows a command is shorter than what began with it.
 use Rattle.std.proofs.Common.{◌≡◌, ◌≤◌, ◌==◌, ℕ, Bool, true, false, List, [], ◌∷◌, length, drop, Option, Some, None, sym, ap, arith, length-drop}
 use Rattle.std.specs.Prelude.{◌&&◌, nat_le, take, if◌then◌else◌}
-use Rattle.pf_single.specs.Desk.{submit}
-use Rattle.pf_single.specs.World.{Step, client}
+use Rattle.pf_desks.specs.Desk.{submit}
+use Rattle.pf_desks.specs.World.{Step, client}
 use Rattle.pf_wire.specs.Commands.{Line, with_byte, first_line, Asked, made, submission, asked_by, words_of, after_source, whole_command, command_at}
-use Rattle.pf_single.proofs.Isolated.{pick}
+use Rattle.pf_desks.proofs.Isolated.{pick}
 
 behind_line : (bs : List ℕ) → length (first_line bs).rest ≤ length bs
 behind_line [] = omega arith

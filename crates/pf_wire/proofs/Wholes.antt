@@ -3,8 +3,8 @@ use Rattle.std.proofs.Common.{◌≡◌, ◌≤◌, ◌<◌, ◌==◌, ℕ, Bool
 use Rattle.std.specs.Prelude.{◌&&◌, nat_le, take, if◌then◌else◌}
 use Rattle.std.proofs.lemmas.Bool.{ltb-true, lt-ltb, le-leb}
 use Rattle.std.proofs.lemmas.List.{take-append-le, drop-append-le}
-use Rattle.pf_single.specs.Desk.{submit}
-use Rattle.pf_single.specs.World.{Step, client}
+use Rattle.pf_desks.specs.Desk.{submit}
+use Rattle.pf_desks.specs.World.{Step, client}
 use Rattle.pf_wire.specs.Commands.{Line, with_byte, first_line, Asked, made, submission, asked_by, words_of, after_source, with_source, whole_command, command_at}
 use Rattle.pf_wire.specs.Whole.{size_in, has_source, is_whole}
 

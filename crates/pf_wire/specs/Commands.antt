@@ -3,8 +3,8 @@ use Rattle.std.specs.Prelude.{◌≡◌, ℕ, ◌==◌, Bool, true, false, ◌&&
 use Rattle.std.specs.List.{list_any, slice_split}
 use Rattle.std.specs.Str.{bytes_eq}
 use Rattle.pf_text.specs.Numbers.{number_of, schedule_of}
-use Rattle.pf_single.specs.Desk.{submit, order, fetch, usage, once}
-use Rattle.pf_single.specs.World.{Step, client, worker}
+use Rattle.pf_desks.specs.Desk.{submit, order, fetch, usage, once}
+use Rattle.pf_desks.specs.World.{Step, client, worker}
 
 -- ---- lines and words
 

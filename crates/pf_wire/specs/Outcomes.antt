@@ -1,6 +1,6 @@
 -- What came of a command, and who is told.
 use Rattle.std.specs.Prelude.{Option, Some, None}
-use Rattle.pf_single.specs.World.{Step, client, worker, Answer, replied, work_done, not_now}
+use Rattle.pf_desks.specs.World.{Step, client, worker, Answer, replied, work_done, not_now}
 use Rattle.pf_book.specs.View.{reply_seen}
 use Rattle.pf_wire.specs.declared.outcome.Requester.{Requester}
 use Rattle.pf_wire.specs.declared.outcome.Requester.TheVariants.{Client, Worker}

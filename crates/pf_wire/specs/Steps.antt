@@ -9,10 +9,10 @@ use Rattle.pf_fault.specs.declared.fault.OrNoMemory.TheVariants.{NoMemory, Fault
 use Rattle.pf_terms.specs.declared.stream.StreamFault.{StreamFault}
 use Rattle.pf_terms.specs.declared.stream.StreamFault.TheVariants.{Read, Write}
 use Rattle.pf_terms.specs.Streams.{AppendsFront}
-use Rattle.pf_single.specs.Text.{line}
-use Rattle.pf_single.specs.World.{World, Step, Answer, told, alone, AnswersStep, AnswersInTurn}
-use Rattle.pf_single.specs.Told.{outcome_text, outcomes_text}
-use Rattle.pf_single.specs.Desk.{Profile}
+use Rattle.pf_model.specs.TermText.{line}
+use Rattle.pf_desks.specs.World.{World, Step, Answer, told, alone, AnswersStep, AnswersInTurn}
+use Rattle.pf_desks.specs.Told.{outcome_text, outcomes_text}
+use Rattle.pf_desks.specs.Desk.{Profile}
 use Rattle.pf_book.specs.Profile.{ForRight}
 use Rattle.pf_wire.specs.Commands.{Commands, command_at}
 use Rattle.pf_wire.specs.Whole.{WholeCommands}

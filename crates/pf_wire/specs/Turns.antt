@@ -6,9 +6,9 @@ use Rattle.pf_fault.specs.declared.fault.OrNoMemory.TheVariants.{NoMemory, Fault
 use Rattle.pf_terms.specs.declared.stream.StreamFault.{StreamFault}
 use Rattle.pf_terms.specs.declared.stream.StreamFault.TheVariants.{Read, Write}
 use Rattle.pf_terms.specs.Streams.{AppendsFront}
-use Rattle.pf_single.specs.Desk.{Profile}
-use Rattle.pf_single.specs.World.{World, Step, Answer, AnswersInTurn}
-use Rattle.pf_single.specs.Told.{outcomes_text}
+use Rattle.pf_desks.specs.Desk.{Profile}
+use Rattle.pf_desks.specs.World.{World, Step, Answer, AnswersInTurn}
+use Rattle.pf_desks.specs.Told.{outcomes_text}
 use Rattle.pf_wire.specs.Commands.{Commands}
 use Rattle.pf_wire.specs.Whole.{WholeCommands}
 use Rattle.pf_wire.specs.Steps.{last_text}

@@ -1,6 +1,6 @@
 -- What the code's own lines and commands stand for.
-use Rattle.pf_single.specs.Desk.{once}
-use Rattle.pf_single.specs.World.{Step, client, worker}
+use Rattle.pf_desks.specs.Desk.{once}
+use Rattle.pf_desks.specs.World.{Step, client, worker}
 use Rattle.pf_book.specs.View.{call_seen}
 use Rattle.pf_wire.specs.Commands as commands
 use Rattle.pf_wire.specs.declared.command.Command.{Command}

@@ -1,6 +1,6 @@
 -- Whole commands: those that stay what they are, whatever follows the bytes that were read.
 use Rattle.std.specs.Prelude.{◌≡◌, ℕ, Bool, true, false, ◌&&◌, not, nat_lt, if◌then◌else◌, List, [], ◌∷◌, length, ◌==◌, Option, Some, None}
-use Rattle.pf_single.specs.World.{Step}
+use Rattle.pf_desks.specs.World.{Step}
 use Rattle.pf_wire.specs.Commands.{Asked, submission, asked_by, first_line, words_of, command_at}
 
 -- how many bytes have to follow the line of a submission

@@ -2,8 +2,8 @@
 
 ghost use Rattle.std.specs.Prelude.{◌≡◌, Err, None, Some, true, IfOk};
 ghost use Rattle.std.specs.Option.{option_map};
-ghost use Rattle.pf_single.specs.Desk.{submit};
-ghost use Rattle.pf_single.specs.World.{client};
+ghost use Rattle.pf_desks.specs.Desk.{submit};
+ghost use Rattle.pf_desks.specs.World.{client};
 ghost use Rattle.pf_wire.specs.Commands.{command_at, with_source};
 ghost use Rattle.pf_wire.specs.Faults.{no_command};
 ghost use Rattle.pf_wire.specs.View.{command_seen};

@@ -3,8 +3,8 @@
 ghost use Rattle.std.specs.Prelude.{◌≡◌, ◌==◌, ◌||◌, ◌∷◌, [], ℕ, None, MatchOption, IfOk};
 ghost use Rattle.std.specs.List.{list_any};
 ghost use Rattle.std.specs.Option.{option_map};
-ghost use Rattle.pf_single.specs.Desk.{fetch, usage, once};
-ghost use Rattle.pf_single.specs.World.{client, worker};
+ghost use Rattle.pf_desks.specs.Desk.{fetch, usage, once};
+ghost use Rattle.pf_desks.specs.World.{client, worker};
 ghost use Rattle.pf_wire.specs.Commands.{Asked, made, submission, is_word, of_one, of_two, of_order, asked_by, words_of};
 ghost use Rattle.pf_wire.specs.View.{request_seen};
 

@@ -3,9 +3,9 @@
 ghost use Rattle.std.specs.Prelude.{◌≡◌, ◌++◌, OnOk, codes};
 ghost use Rattle.pf_fault.specs.Codes.{code_text};
 ghost use Rattle.pf_fault.specs.declared.code.Code.TheVariants.{NotNow};
-ghost use Rattle.pf_single.specs.World.{Step, AnswersStep};
-ghost use Rattle.pf_single.specs.Text.{line};
-ghost use Rattle.pf_single.specs.Told.{memory_text, outcome_text};
+ghost use Rattle.pf_desks.specs.World.{Step, AnswersStep};
+ghost use Rattle.pf_model.specs.TermText.{line};
+ghost use Rattle.pf_desks.specs.Told.{memory_text, outcome_text};
 ghost use Rattle.pf_wire.specs.View.{command_seen};
 ghost use Rattle.pf_book.specs.Answers.{Answers};
 ghost use Rattle.pf_book.specs.Profile.{ForRight};

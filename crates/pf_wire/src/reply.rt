@@ -3,14 +3,14 @@
 ghost use Rattle.std.specs.Prelude.{◌≡◌, ◌++◌, OnOk, codes};
 ghost use Rattle.std.specs.Fmt.{decimal};
 ghost use Rattle.pf_fault.specs.Codes.{code_text};
-ghost use Rattle.pf_single.specs.Reports.{report_of};
-ghost use Rattle.pf_single.specs.Told.{lines_of, reply_head, reply_rest, reply_text, usage_text};
+ghost use Rattle.pf_model.specs.Reports.{report_of};
+ghost use Rattle.pf_desks.specs.Told.{lines_of, reply_head, reply_rest, reply_text, usage_text};
 ghost use Rattle.pf_book.specs.View.{reply_seen};
 
 use pf_book::Reply;
 use pf_fault::Code;
+use pf_model::report::Report;
 use pf_quota::Usage;
-use pf_single::report::Report;
 use pf_terms::NoMemory;
 use pf_text::{put, put_byte, put_number, put_report};
 use std::alloc::Global;

@@ -3,8 +3,8 @@
 ghost use Rattle.std.specs.Prelude.{◌≡◌, ◌≤◌, ◌<◌, ◌+◌, ◌^◌, ℕ, List, Option, false, length, IfOk, IfErr, MatchOption, OnOk};
 ghost use Rattle.std.specs.Option.{option_copied};
 ghost use Rattle.std.specs.Io.KnownBytes.{Consumes};
-ghost use Rattle.pf_single.specs.World.{Answer, AnswersStep};
-ghost use Rattle.pf_single.specs.Told.{outcome_text};
+ghost use Rattle.pf_desks.specs.World.{Answer, AnswersStep};
+ghost use Rattle.pf_desks.specs.Told.{outcome_text};
 ghost use Rattle.pf_book.specs.Profile.{ForRight};
 ghost use Rattle.pf_wire.specs.View.{command_seen};
 ghost use Rattle.pf_wire.specs.Steps.{last_text, AnswersOne, StepsAnswered, StepsLeaves};

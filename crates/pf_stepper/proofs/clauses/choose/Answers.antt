@@ -1,35 +1,31 @@
-use Rattle.std.proofs.Common.{◌≡◌, refl, sym, ap, ◌∙◌, subst, length, take, drop, arith}
-use Rattle.std.specs.Prelude.{IfOk}
+use Rattle.std.proofs.Common.{◌≡◌, sym, ap, ◌∙◌, subst, length, take, Some}
 use Rattle.pf_terms.specs.Term.{value_of}
-use Rattle.pf_stepper.specs.MicroSteps.{Chosen}
-use Rattle.pf_stepper.proofs.Selected.{chosen_of, choose_here, choose_past, choose_none, cut_again}
+use Rattle.pf_stepper.specs.MicroSteps.{Picked}
+use Rattle.pf_stepper.proofs.Selected.{picked_of, picks_here, picks_past, guard_fails, cut_again}
 use Rattle.pf_stepper.proofs.clauses.choose.Goals as goal
+use Rattle.pf_stepper.proofs.clauses.choose.Goals.{else-branch-via-then-branch+in_ok-holds+else-branch-2, else-branch-via-else-branch}
 
-pub loop-clause-init : goal.loop-clause-init
-loop-clause-init c = record { same = refl; left = refl }
+pub returns-then-branch-2-clause-picked : goal.returns-then-branch-2-clause-picked
+returns-then-branch-2-clause-picked c =
+    let all = picked_of c.args.code.now c.args.own c.args.base c.args.env.now.items c.args.clauses.now (value_of c.args.value.now) in
+    subst (λ k. Picked c.args.code.now c.args.base k c.bind.new.env.items (Some c.clause-item.result.body) all) c.loop-clause.invariant.same
+    (picks_here c.args.code.now c.args.own _ c.loop-clause.env.items _ c.args.clauses.now c.loop-clause.clause-index c.clause-item.result (value_of c.args.value.now) _ all c.loop-clause-test.true c.clause-item.is
+    c.loop-clause.invariant.left c.in_ok-bind.ensures c.if-branch.true (sym (rw c.as_slice.ensures.value at c.in_ok-holds.ensures) ∙ c.if-branch-2.true))
 
 pub loop-clause-preserved : goal.loop-clause-preserved
 loop-clause-preserved c =
     let s = c.loop-clause.invariant.same in
+    let all = picked_of c.args.code.now c.args.own c.args.base c.args.env.now.items c.args.clauses.now (value_of c.args.value.now) in
     let mid : c.truncate.new.self.items ≡ c.loop-clause.env.items =
-    cut_again _ c.loop-clause.env.items _ _ _ _ c.in_ok-fit.ensures (c.truncate.ensures.items ∙ ap (λ n. take n c.fit.new.env.items) (c.len-end.ensures ∙ c.args.env.now.ok.0 ∙ ap length (sym s))) in
+    cut_again _ c.loop-clause.env.items _ _ _ _ c.in_ok-bind.ensures (c.truncate.ensures.items ∙ ap (λ n. take n c.bind.new.env.items) (c.len-end.ensures ∙ c.args.env.now.ok.0 ∙ ap length (sym s))) in
     record {
       same = mid ∙ s;
-      left = choose_past c.args.code.now _ c.loop-clause.env.items _ c.args.clauses.now c.loop-clause.clause-index c.clause-item.result (value_of c.args.value.now) _ _ c.loop-clause-test.true c.clause-item.is
-          c.loop-clause.invariant.left c.in_ok-fit.ensures _ c.if-branch.false mid;
+      left = elim c.else-branch.branch [
+        | else-branch-via-then-branch+in_ok-holds+else-branch-2 w ↦
+            guard_fails c.args.code.now c.args.own _ c.loop-clause.env.items _ c.args.clauses.now c.loop-clause.clause-index c.clause-item.result (value_of c.args.value.now) _ all c.loop-clause-test.true c.clause-item.is
+            c.loop-clause.invariant.left c.in_ok-bind.ensures _ w.if-branch.true (sym (rw w.as_slice.ensures.value at w.in_ok-holds.ensures) ∙ w.if-branch-2.false) mid
+        | else-branch-via-else-branch w ↦
+            picks_past c.args.code.now c.args.own _ c.loop-clause.env.items _ c.args.clauses.now c.loop-clause.clause-index c.clause-item.result (value_of c.args.value.now) _ all c.loop-clause-test.true c.clause-item.is
+            c.loop-clause.invariant.left c.in_ok-bind.ensures _ w.if-branch.false mid
+      ];
     }
-
-pub returns-then-branch : goal.returns-then-branch
-returns-then-branch c =
-    let all = chosen_of c.args.code.now c.args.base c.args.env.now.items c.args.clauses.now (value_of c.args.value.now) in
-    subst (λ k. Chosen c.args.code.now c.args.base k c.fit.new.env.items c.opened.result all) c.loop-clause.invariant.same
-    (choose_here c.args.code.now _ c.loop-clause.env.items _ c.args.clauses.now c.loop-clause.clause-index c.clause-item.result (value_of c.args.value.now) _ all c.loop-clause-test.true c.clause-item.is
-    c.loop-clause.invariant.left c.in_ok-fit.ensures _ c.if-branch.true c.opened.ensures)
-
-pub returns : goal.returns
-returns c =
-    let all = chosen_of c.args.code.now c.args.base c.args.env.now.items c.args.clauses.now (value_of c.args.value.now) in
-    let end : length c.args.clauses.now ≡ c.loop-clause.clause-index = omega arith in
-    subst (λ k. IfOk c.unfit.result (λ x. Chosen c.args.code.now c.args.base k c.loop-clause.env.items x all)) c.loop-clause.invariant.same
-    (choose_none c.args.code.now _ c.loop-clause.env.items c.args.clauses.now (value_of c.args.value.now) all _
-    (ap (λ n. chosen_of c.args.code.now c.args.base c.loop-clause.env.items (drop n c.args.clauses.now) (value_of c.args.value.now)) end ∙ c.loop-clause.invariant.left) c.unfit.ensures)

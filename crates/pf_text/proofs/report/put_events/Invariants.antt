@@ -1,8 +1,9 @@
 use Rattle.std.proofs.Common.{◌≡◌, ◌++◌, take}
 use Rattle.std.specs.Prelude.{flat_map}
 use Rattle.pf_terms.specs.Atoms.{name_of}
-use Rattle.pf_single.specs.Reports.{event_of}
-use Rattle.pf_single.specs.Text.{line, event_text}
+use Rattle.pf_model.specs.Reports.{event_of}
+use Rattle.pf_model.specs.Text.{event_text}
+use Rattle.pf_model.specs.TermText.{line}
 use Rattle.pf_text.proofs.report.put_events.Given as goal
 
 -- the lines so far have gone out

@@ -2,7 +2,7 @@ use Rattle.std.proofs.Common.{◌≡◌, ◌≤◌, ◌+◌, ◌*◌, ◌++◌, 
 use Rattle.pf_terms.specs.Value.{nodes, nodes_in}
 use Rattle.pf_terms.specs.Term.{value_of, values_of, elements_of}
 use Rattle.pf_terms.specs.Atoms.{name_of}
-use Rattle.pf_single.specs.Text.{rest_text}
+use Rattle.pf_model.specs.TermText.{rest_text}
 use Rattle.pf_text.proofs.terms.+terms.Given as goal
 
 abbrev pub decreases-put_term : goal.decreases-put_term

@@ -1,5 +1,5 @@
 use Rattle.std.proofs.Common.{◌≡◌, true, sym, ap, subst}
-use Rattle.pf_single.specs.World.{Step, desk_at, worked, step, happened}
+use Rattle.pf_desks.specs.World.{Step, desk_at, worked, step, happened}
 use Rattle.pf_book.proofs.Filed.{queued_can}
 use Rattle.pf_wire.specs.View.{command_seen}
 use Rattle.pf_wire.proofs.outcome.perform.Goals as goal

@@ -3,9 +3,9 @@ use Rattle.std.specs.Prelude.{codes}
 use Rattle.std.specs.Fmt.{decimal}
 use Rattle.std.proofs.lemmas.Result.{on_ok_weaker}
 use Rattle.pf_fault.specs.Codes.{no_memory_text}
-use Rattle.pf_single.specs.World.{Step, client, worker}
-use Rattle.pf_single.specs.Text.{line}
-use Rattle.pf_single.specs.Told.{memory_text}
+use Rattle.pf_desks.specs.World.{Step, client, worker}
+use Rattle.pf_model.specs.TermText.{line}
+use Rattle.pf_desks.specs.Told.{memory_text}
 use Rattle.pf_wire.specs.Outcomes.{requester_of}
 use Rattle.pf_wire.specs.declared.outcome.Requester.TheVariants.{Client}
 use Rattle.pf_wire.proofs.outcome.put_memory.Goals as goal

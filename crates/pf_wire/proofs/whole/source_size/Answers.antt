@@ -2,8 +2,8 @@ use Rattle.std.proofs.Common.{◌≡◌, ◌∷◌, ℕ, List, [], Bool, true, f
 use Rattle.std.specs.Prelude.{codes, ◌&&◌, not, if◌then◌else◌}
 use Rattle.std.specs.Str.{bytes_eq}
 use Rattle.pf_text.specs.Numbers.{number_of, schedule_of}
-use Rattle.pf_single.specs.Desk.{fetch, usage, once}
-use Rattle.pf_single.specs.World.{Step, client, worker}
+use Rattle.pf_desks.specs.Desk.{fetch, usage, once}
+use Rattle.pf_desks.specs.World.{Step, client, worker}
 use Rattle.pf_wire.specs.Commands.{Asked, made, with_one, with_two, with_order, of_one, of_two, of_order, asked_by, words_of, is_word}
 use Rattle.pf_wire.specs.Whole.{size_in}
 use Rattle.pf_wire.proofs.whole.source_size.Goals as goal

@@ -1,8 +1,8 @@
 use Rattle.std.proofs.Common.{◌≡◌, nat_eq, Ok, Some, None, sym, ap, ◌∙◌, subst, rules}
 use Rattle.std.specs.Map.{lookup}
 use Rattle.indexmap.specs.IndexMap.{insert_entry}
-use Rattle.pf_single.specs.Desk.{Desk, no_desk}
-use Rattle.pf_single.specs.World.{desk_at, put_desk}
+use Rattle.pf_desks.specs.Desk.{Desk, no_desk}
+use Rattle.pf_desks.specs.World.{desk_at, put_desk}
 use Rattle.pf_book.specs.Answers.{DeskAnswers}
 use Rattle.pf_book.specs.View.{call_seen}
 use Rattle.pf_book.proofs.Placed.{at_some, at_none, put_set, put_same, put_insert, answers, answers_all}

@@ -1,7 +1,7 @@
 use Rattle.std.proofs.Common.{◌≡◌, nat_eq, Some, None, sym, ap, ◌∙◌, rules}
 use Rattle.std.specs.Map.{lookup}
-use Rattle.pf_single.specs.Desk.{no_desk}
-use Rattle.pf_single.specs.World.{desk_at, put_desk}
+use Rattle.pf_desks.specs.Desk.{no_desk}
+use Rattle.pf_desks.specs.World.{desk_at, put_desk}
 use Rattle.pf_book.proofs.Placed.{at_some, at_none, put_set, put_same, works, no_work, none_queued}
 use Rattle.pf_book.proofs.book.Book.once.Goals as goal
 

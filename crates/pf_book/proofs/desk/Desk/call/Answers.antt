@@ -1,7 +1,7 @@
 use Rattle.std.proofs.Common.{rules, ◌≡◌, List, [], ◌∷◌, ◌++◌, map, sym, ap, ◌∙◌, subst}
 use Rattle.std.proofs.lemmas.List.{map_push}
-use Rattle.pf_single.specs.Desk as desk
-use Rattle.pf_single.specs.Desk.{Desk, called, with_entry, answered}
+use Rattle.pf_desks.specs.Desk as desk
+use Rattle.pf_desks.specs.Desk.{Desk, called, with_entry, answered}
 use Rattle.pf_book.specs.Profile.{ForRight}
 use Rattle.pf_book.specs.View.{call_seen, reply_seen, entry_seen}
 use Rattle.pf_quota.specs.declared.charges.Charge.TheVariants as charge

@@ -1,14 +1,14 @@
 use Rattle.std.proofs.Common.{◌≡◌, ℕ, List, [], ◌∷◌, ◌++◌, map, Some, refl, sym, ap, ◌∙◌}
 use Rattle.std.proofs.lemmas.List.{map_push}
-use Rattle.pf_single.specs.Desk.{Desk, Job, Trial, claimed, filed, once, worker_step}
-use Rattle.pf_single.specs.Meaning.{Report, Means}
+use Rattle.pf_desks.specs.Desk.{Desk, Job, job_meant, Trial, claimed, filed, once, worker_step}
+use Rattle.pf_model.specs.Meaning.{Report, Means}
 use Rattle.pf_book.specs.Profile.{ForRight}
 use Rattle.pf_book.specs.View.{entry_seen}
 use Rattle.pf_book.specs.Queued.{job_at}
 use Rattle.pf_book.specs.Kept.{desk_in}
 use Rattle.pf_book.specs.declared.entry.Entry.{Entry}
 use Rattle.pf_book.specs.declared.entry.Entry.TheVariants.{Claimed, Filed}
-use Rattle.pf_single.proofs.Histories.{legal_work}
+use Rattle.pf_desks.proofs.Histories.{legal_work}
 use Rattle.pf_book.proofs.Filed.{once_is, once_sums}
 use Rattle.pf_book.proofs.desk.Desk.once.Goals as goal
 
@@ -21,7 +21,7 @@ noted t es es1 es2 es3 reserved claims files =
     ∙ ap (λ l. l ++ filed t ∷ []) (map_push entry_seen es (Claimed t))
 
 -- what a job is right for, is what the report says
-meant : (j : Job) (r s : Report) → Means j.stored.functions j.root j.limit s → r ≡ s → ForRight (λ p. p.meaning j ≡ r)
+meant : (j : Job) (r s : Report) → Means (job_meant j) s → r ≡ s → ForRight (λ p. p.meaning j ≡ r)
 meant j r s means same p right = right.means j s means ∙ sym same
 
 pub invariant_of-self-2 : goal.invariant_of-self-2

@@ -1,5 +1,5 @@
 use Rattle.std.proofs.Common.{rules, ◌≡◌, ℕ, ◌+◌, List, [], ◌∷◌, ◌++◌, length, refl, ap, ◌∙◌, subst}
-use Rattle.pf_single.specs.Desk as desk
+use Rattle.pf_desks.specs.Desk as desk
 use Rattle.pf_fault.specs.declared.fault.OrNoMemory.TheVariants.{Fault}
 use Rattle.pf_check.specs.Reads.{IsRefusalOf}
 use Rattle.pf_book.specs.declared.refusal.Refusal.TheVariants as refusal
@@ -16,7 +16,7 @@ returns-in_ok-share-in-Ok c =
     let read = c.in-Ok.ensures.read in
     let many : c.len.result ≡ length d.modules = search rules in
     let noted : c.in_ok-share-in-Ok.field-0 ≡ c.args.source = search rules in (
-      (λ p right. ap (λ n. (record d { modules = d.modules ++ s ∷ [] }, desk.number (n + 1))) many ∙ submitted_read p right d c.args.source s read.1.0 read.0 read.1.1),
+      (λ p right. ap (λ n. (record d { modules = d.modules ++ s ∷ [] }, desk.number (n + 1))) many ∙ submitted_read p right d c.args.source s read.0 read.1),
       ap (λ (text : List ℕ). desk.called (desk.submit text) (desk.number (c.len.result + 1))) noted,
     )
 

@@ -1,0 +1,2 @@
+pub mod Isolated
+pub mod Histories

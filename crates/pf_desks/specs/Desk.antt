@@ -1,0 +1,207 @@
+-- Desks: what the farm holds for one project, and what a call of its clients or the work of a worker makes of it.
+use Rattle.std.specs.Prelude.{ℕ, zero, suc, ◌+◌, Bool, true, false, if◌then◌else◌, List, [], ◌∷◌, ◌++◌, length, map, Option, Some, None, option_and_then, Result, Ok, Err, slice_get, slice_set, codes}
+use Rattle.std.specs.Str.{bytes_eq}
+use Rattle.pf_fault.specs.declared.code.Code.{Code}
+use Rattle.pf_fault.specs.declared.code.Code.TheVariants as code
+use Rattle.pf_quota.specs.Usage.{usage_of}
+use Rattle.pf_quota.specs.declared.usage.Usage.{Usage}
+use Rattle.pf_quota.specs.declared.charges.Held.{Held}
+use Rattle.pf_quota.specs.declared.charges.Held.TheVariants as held
+use Rattle.pf_syntax.specs.Root.{root_of}
+use Rattle.pf_model.specs.Code.{Code as Module}
+use Rattle.pf_model.specs.Meaning as model
+use Rattle.pf_model.specs.Meaning.{Report, returning}
+use Rattle.pf_model.specs.Limits.{is_in_range}
+
+-- ---- what a desk holds
+
+-- a module with the source that it was read from
+pub record Stored : Type 0 where
+  pub source : List ℕ
+  pub code : Module
+
+-- a run that was ordered: of a module from one of its functions, by a schedule, within so many steps
+pub record Job : Type 0 where
+  pub stored : Stored
+  pub root : ℕ
+  pub schedule : List ℕ
+  pub limit : ℕ
+
+-- it asks whether the root returns
+abbrev pub job_meant : Job → model.Job
+job_meant j = returning j.stored.code j.root (model.schedule j.schedule) j.limit
+
+pub data State : Type 0 where
+  queued : State
+  running : State
+  done : Report → State
+
+pub record Trial : Type 0 where
+  pub job : Job
+  pub state : State
+
+-- what a client asks for: a module number for a source; a trial of a module from a root with a property, by a schedule and within
+-- a limit; the report of a ticket; what the project uses
+pub data Call : Type 0 where
+  submit : List ℕ → Call
+  order : (n : ℕ) (root property schedule : List ℕ) (limit : ℕ) → Call
+  fetch : ℕ → Call
+  usage : Call
+
+-- what a client is told, a refusal by its code; a report comes with the names of its atoms
+pub data Reply : Type 0 where
+  number : ℕ → Reply
+  ticket : ℕ → Reply
+  report : List (List ℕ) → Report → Reply
+  uses : Usage → Reply
+  refused : Code → Reply
+
+-- what is noted: a call with its reply, and that a worker claimed a trial or filed its report
+pub data Entry : Type 0 where
+  called : Call → Reply → Entry
+  claimed : ℕ → Entry
+  filed : ℕ → Entry
+
+-- module n stands at place n - 1, and so does the trial of ticket n: numbers count from 1 and aren't used again
+pub record Desk : Type 0 where
+  pub modules : List Stored
+  pub trials : List Trial
+  pub history : List Entry
+
+abbrev pub no_desk : Desk
+no_desk = record { modules = []; trials = []; history = [] }
+
+abbrev pub numbered : {T : Type 0} → List T → ℕ → Option T
+numbered xs zero = None
+numbered xs (suc i) = slice_get xs i
+
+-- ---- what a source is read as, and what a job means
+
+pub data Reading : Type 0 where
+  readable : Module → Reading
+  faulty : Code → Reading
+
+-- the profile of the language, as far as desks ask for it
+pub record Profile : Type 0 where
+  pub reading : List ℕ → Reading
+  pub meaning : Job → Report
+
+-- ---- calls
+
+-- the desk with a source as its newest module, where the source is one
+abbrev pub submitted : Desk → List ℕ → Reading → Desk × Reply
+submitted d text (readable m) = (record d { modules = d.modules ++ record { source = text; code = m } ∷ [] }, number (length d.modules + 1))
+submitted d text (faulty c) = (d, refused c)
+
+-- the job of an order, or what it is refused for: first the root, then the property, then the range
+abbrev pub job_from : Stored → Option ℕ → (property schedule : List ℕ) → ℕ → Result Job Code
+job_from m None property schedule limit = Err code.NoRoot
+job_from m (Some root) property schedule limit =
+    if bytes_eq property (codes "returns")
+    then (if is_in_range limit (length schedule)
+    then Ok (record { stored = m; root = root; schedule = schedule; limit = limit })
+    else Err code.OutOfRange)
+    else Err code.NoProperty
+
+-- the module comes before all of these
+abbrev pub job_of : Option Stored → (root property schedule : List ℕ) → ℕ → Result Job Code
+job_of None root property schedule limit = Err code.NoModule
+job_of (Some m) root property schedule limit = job_from m (root_of root m.code.atoms m.code.functions) property schedule limit
+
+-- the desk with a job as its newest trial, which is queued
+abbrev pub ordered : Desk → Result Job Code → Desk × Reply
+ordered d (Ok j) = (record d { trials = d.trials ++ record { job = j; state = queued } ∷ [] }, ticket (length d.trials + 1))
+ordered d (Err e) = (d, refused e)
+
+abbrev pub report_in : List (List ℕ) → State → Reply
+report_in atoms (done r) = report atoms r
+report_in atoms s = refused code.NotDone
+
+abbrev pub fetched : Option Trial → Reply
+fetched None = refused code.NoTrial
+fetched (Some t) = report_in t.job.stored.code.atoms t.state
+
+-- what a desk holds, as far as limits count it
+abbrev pub held_by : Desk → List Held
+held_by d = map (λ m. held.Module (length m.source)) d.modules ++ map (λ t. held.Trial t.job.limit) d.trials
+
+abbrev pub calls_in : List Entry → ℕ
+calls_in [] = 0
+calls_in (called c r ∷ es) = 1 + calls_in es
+calls_in (claimed t ∷ es) = calls_in es
+calls_in (filed t ∷ es) = calls_in es
+
+-- a call's reply, and the desk before the call is noted
+abbrev pub answered : Profile → Desk → Call → Desk × Reply
+answered p d (submit text) = submitted d text (p.reading text)
+answered p d (order n root property schedule limit) = ordered d (job_of (numbered d.modules n) root property schedule limit)
+answered p d (fetch t) = (d, fetched (numbered d.trials t))
+answered p d usage = (d, uses (usage_of (held_by d) (calls_in d.history)))
+
+abbrev pub reply_to : Profile → Desk → Call → Reply
+reply_to p d c = (answered p d c).1
+
+-- the desk with one thing more noted
+abbrev pub with_entry : Desk → Entry → Desk
+with_entry d e = record d { history = d.history ++ e ∷ [] }
+
+-- each call is noted with its reply
+abbrev pub after_call : Profile → Desk → Call → Desk
+after_call p d c = with_entry (answered p d c).0 (called c (reply_to p d c))
+
+-- ---- work
+
+abbrev pub is_queued_state : State → Bool
+is_queued_state queued = true
+is_queued_state running = false
+is_queued_state (done r) = false
+
+abbrev pub is_running_state : State → Bool
+is_running_state queued = false
+is_running_state running = true
+is_running_state (done r) = false
+
+abbrev pub is_queued : Option Trial → Bool
+is_queued None = false
+is_queued (Some t) = is_queued_state t.state
+
+abbrev pub is_running : Option Trial → Bool
+is_running None = false
+is_running (Some t) = is_running_state t.state
+
+abbrev pub set_trial : List Trial → ℕ → Option Trial → (Job → State) → List Trial
+set_trial ts i None f = ts
+set_trial ts i (Some t) f = slice_set ts i (record { job = t.job; state = f t.job })
+
+-- the trials, that of a ticket in the state which this makes of its job
+abbrev pub with_state : List Trial → ℕ → (Job → State) → List Trial
+with_state ts zero f = ts
+with_state ts (suc i) f = set_trial ts i (slice_get ts i) f
+
+-- a claim: what was queued is running
+abbrev pub after_claim : Desk → ℕ → Desk
+after_claim d t = with_entry (record d { trials = with_state d.trials t (λ j. running) }) (claimed t)
+
+-- a file: what was running is done, with what its job means
+abbrev pub after_file : Profile → Desk → ℕ → Desk
+after_file p d t = with_entry (record d { trials = with_state d.trials t (λ j. done (p.meaning j)) }) (filed t)
+
+-- what a worker does at the trial of a ticket: it claims it, it files its report, or it runs it whole, from claim to file
+pub data Work : Type 0 where
+  claim : ℕ → Work
+  file : ℕ → Work
+  once : ℕ → Work
+
+-- only what is queued is claimed
+abbrev pub claim_step : Desk → ℕ → Option Desk
+claim_step d t = if is_queued (numbered d.trials t) then Some (after_claim d t) else None
+
+-- only what is running is filed
+abbrev pub file_step : Profile → Desk → ℕ → Option Desk
+file_step p d t = if is_running (numbered d.trials t) then Some (after_file p d t) else None
+
+-- the desk after a worker's step, where the step can be done
+abbrev pub worker_step : Profile → Desk → Work → Option Desk
+worker_step p d (claim t) = claim_step d t
+worker_step p d (file t) = file_step p d t
+worker_step p d (once t) = option_and_then (λ k. file_step p k t) (claim_step d t)

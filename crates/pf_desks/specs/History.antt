@@ -1,0 +1,18 @@
+-- Legal histories: what a desk noted, replayed on an empty desk, gives its own replies.
+use Rattle.std.specs.Prelude.{◌≡◌, List, [], ◌∷◌, Some}
+use Rattle.pf_desks.specs.Desk.{Profile, Desk, no_desk, Entry, called, claimed, filed, reply_to, after_call, claim, file, worker_step}
+
+-- Follows p d e d': what is noted leads from a desk to the next: a reply is the desk's own, and a worker's step can be done
+abbrev pub Follows : Profile → Desk → Entry → Desk → Type 0
+Follows p d (called c r) d' = (r ≡ reply_to p d c) × (d' ≡ after_call p d c)
+Follows p d (claimed t) d' = worker_step p d (claim t) ≡ Some d'
+Follows p d (filed t) d' = worker_step p d (file t) ≡ Some d'
+
+-- IsLegal p d es d': what is noted leads in turn from a desk to another
+abbrev pub IsLegal : Profile → Desk → List Entry → Desk → Type 0
+IsLegal p d [] d' = d ≡ d'
+IsLegal p d (e ∷ es) d' = (k : Desk) × Follows p d e k × IsLegal p k es d'
+
+-- the desk is what its history makes of an empty one, and the history is legal
+abbrev pub IsLegalDesk : Profile → Desk → Type 0
+IsLegalDesk p d = IsLegal p no_desk d.history d

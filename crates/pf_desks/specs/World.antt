@@ -1,0 +1,115 @@
+-- Worlds: many projects and their workers, and what one project would be told if it were alone.
+use Rattle.std.specs.Prelude.{◌≡◌, ℕ, Bool, true, false, ◌==◌, if◌then◌else◌, List, [], ◌∷◌, ◌++◌, Option, Some, None, unwrap_or}
+use Rattle.pf_desks.specs.Desk.{Profile, Desk, no_desk, Call, Reply, reply_to, after_call, Work, worker_step}
+
+-- a client of a project makes a call, or a worker does something for it
+pub data Step : Type 0 where
+  client : ℕ → Call → Step
+  worker : ℕ → Work → Step
+
+pub data Answer : Type 0 where
+  replied : Reply → Answer
+  work_done : Answer
+  not_now : Answer
+
+-- the desks by project, in the order in which they were opened
+abbrev pub World : Type 0
+World = List (ℕ × Desk)
+
+-- the desk of a project; one that was never opened is empty
+abbrev pub desk_at : ℕ → World → Desk
+desk_at q [] = no_desk
+desk_at q (e ∷ es) = if q == e.0 then e.1 else desk_at q es
+
+-- the world with this desk for a project, all other desks as they were
+abbrev pub put_desk : ℕ → Desk → World → World
+put_desk q d [] = (q, d) ∷ []
+put_desk q d (e ∷ es) = if q == e.0 then (e.0, d) ∷ es else e ∷ put_desk q d es
+
+-- the world with the desk that a worker's step leads to, where the step can be done
+abbrev pub worked : ℕ → World → Option Desk → World × Answer
+worked q w (Some d) = (put_desk q d w, work_done)
+worked q w None = (w, not_now)
+
+-- a call is answered by its project's desk, and a worker's step is done there
+abbrev pub step : Profile → World → Step → World × Answer
+step p w (client q c) = (put_desk q (after_call p (desk_at q w) c) w, replied (reply_to p (desk_at q w) c))
+step p w (worker q k) = worked q w (worker_step p (desk_at q w) k)
+
+abbrev pub answers : Profile → World → List Step → List Answer
+answers p w [] = []
+answers p w (s ∷ ss) = (step p w s).1 ∷ answers p (step p w s).0 ss
+
+-- the answers to some steps, from the world in which no desk is open
+abbrev pub whole : Profile → List Step → List Answer
+whole p ss = answers p [] ss
+
+-- ---- one project among the others
+
+-- the project that a step names
+abbrev pub named : Step → ℕ
+named (client q c) = q
+named (worker q k) = q
+
+abbrev pub happened : Answer → Bool
+happened (replied r) = true
+happened work_done = true
+happened not_now = false
+
+-- a step belongs to the project that it names, but one that was answered `not now` to none
+abbrev pub belongs : ℕ → Step → Answer → Bool
+belongs q s a = if happened a then named s == q else false
+
+abbrev pub replies_in : Answer → List Reply
+replies_in (replied r) = r ∷ []
+replies_in work_done = []
+replies_in not_now = []
+
+-- what a project is told by the answers to some steps
+abbrev pub told : ℕ → List Step → List Answer → List Reply
+told q [] xs = []
+told q (s ∷ ss) [] = []
+told q (s ∷ ss) (a ∷ xs) = (if named s == q then replies_in a else []) ++ told q ss xs
+
+-- the steps that belong to a project
+abbrev pub own_steps : ℕ → List Step → List Answer → List Step
+own_steps q [] xs = []
+own_steps q (s ∷ ss) [] = []
+own_steps q (s ∷ ss) (a ∷ xs) = if belongs q s a then s ∷ own_steps q ss xs else own_steps q ss xs
+
+-- one desk after a step, and the replies that it gives
+abbrev pub desk_after : Profile → Desk → Step → Desk
+desk_after p d (client q c) = after_call p d c
+desk_after p d (worker q k) = unwrap_or (worker_step p d k) d
+
+abbrev pub desk_replies : Profile → Desk → Step → List Reply
+desk_replies p d (client q c) = reply_to p d c ∷ []
+desk_replies p d (worker q k) = []
+
+-- the replies of one desk along some steps, where there is no other desk
+abbrev pub replies_along : Profile → Desk → List Step → List Reply
+replies_along p d [] = []
+replies_along p d (s ∷ ss) = desk_replies p d s ++ replies_along p (desk_after p d s) ss
+
+-- what a project is told where its own steps are all that there is: one empty desk, along the steps of the whole that belong to it
+abbrev pub alone : Profile → ℕ → List Step → List Reply
+alone p q ss = replies_along p no_desk (own_steps q ss (whole p ss))
+
+-- isolation: whatever steps there are, of however many projects and in whatever order, a project is told what it is told alone
+abbrev pub Isolation : Type 0
+Isolation = (p : Profile) (q : ℕ) (ss : List Step) → told q ss (whole p ss) ≡ alone p q ss
+
+-- ---- where growths are refused
+
+-- AnswersStep p w s x w': in a world a step is answered so, and leads to a world. Where a growth was refused it is answered by none, and
+-- changes nothing; it is then one that would have happened
+abbrev pub AnswersStep : Profile → World → Step → Option Answer → World → Type 0
+AnswersStep p w s (Some a) w' = ◌≡◌ {A = World × Answer} (step p w s) (w', a)
+AnswersStep p w s None w' = (happened (step p w s).1 ≡ true) × (w' ≡ w)
+
+-- from a world, some steps are answered in turn
+abbrev pub AnswersInTurn : Profile → World → List Step → List (Option Answer) → Type 0
+AnswersInTurn p w [] [] = Unit {0}
+AnswersInTurn p w [] (x ∷ xs) = ⊥
+AnswersInTurn p w (s ∷ ss) [] = ⊥
+AnswersInTurn p w (s ∷ ss) (x ∷ xs) = (w' : World) × AnswersStep p w s x w' × AnswersInTurn p w' ss xs

@@ -1,0 +1,16 @@
+use denote.Param.Send.{sendable}
+use Rattle.std.proofs.Crossing as heap
+use Rattle.pf_model.proofs.Crossing.{crosses}
+use Rattle.pf_model.proofs.report.crosses_threads.Goals as goal
+
+pub needs_send-requires-send-T : goal.needs_send-requires-send-T
+needs_send-requires-send-T c κs = search (crosses, heap.crosses, sendable) depth 30
+
+pub needs_send-requires-2-send-T : goal.needs_send-requires-2-send-T
+needs_send-requires-2-send-T c κs = search (crosses, heap.crosses, sendable) depth 30
+
+pub needs_send-requires-3-send-T : goal.needs_send-requires-3-send-T
+needs_send-requires-3-send-T c κs = search (crosses, sendable)
+
+pub needs_send-requires-4-send-T : goal.needs_send-requires-4-send-T
+needs_send-requires-4-send-T c κs = search (crosses, heap.crosses, sendable) depth 30

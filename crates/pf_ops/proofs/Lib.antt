@@ -1,0 +1,3 @@
+pub mod Joined
+pub mod Counted
+pub mod Tests

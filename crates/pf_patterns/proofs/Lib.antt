@@ -1,0 +1,5 @@
+pub mod FitLaws
+pub mod FitFrom
+pub mod Substituted
+pub mod Operands
+pub mod Bound

@@ -1,0 +1,9 @@
+pub mod Fit
+pub mod Scopes
+pub mod Substitution
+pub mod Slots
+pub mod Fitted
+pub mod Sizes
+pub mod Operands
+pub mod Bindings
+pub mod Walks

@@ -1,0 +1,153 @@
+//! Whether a value fits a pattern, where nothing is bound and no memory is taken.
+
+ghost use Rattle.std.specs.Prelude.{◌≡◌, is_some};
+ghost use Rattle.pf_terms.specs.Value.{list as listed, same};
+ghost use Rattle.pf_terms.specs.Term.{elements_of, value_of, values_of};
+ghost use Rattle.pf_syntax.specs.Pattern.{slot as variable};
+ghost use Rattle.pf_syntax.specs.Module.{literal_at, pattern_at};
+ghost use Rattle.pf_patterns.specs.Fit as spec;
+ghost use Rattle.pf_patterns.specs.Slots.{activation};
+ghost use Rattle.pf_patterns.specs.Bindings.{seen_value};
+ghost use Rattle.pf_patterns.specs.Walks.{cons_at, part_at, parts_at, scope_at, AllStandAt, AllWalkedAt, StandsAt, WalkedAt};
+
+use crate::finding::find;
+use crate::seen::{Seen, equal_seen};
+use pf_syntax::{LiteralId, Module, PatternId, PatternNode};
+use pf_terms::{List, Term, nodes};
+
+/// A whole pattern and the value that is to fit it, over the values of the variables in scope.
+#[derive(Clone, Copy)]
+pub(crate) struct Walk<'a> {
+    code: &'a Module,
+    scope: &'a [Term],
+    pattern: PatternId,
+    value: &'a Term,
+}
+
+/// Whether a part is the value of a place in scope, where so many variables of the pattern are bound.
+fn fits_place(walk: &Walk, place: u32, value: Seen, bound: usize) -> bool
+    ensures { spec.fit (variable place) (seen_value value.entry) (scope_at walk.now bound)
+        ≡ spec.kept_if result (scope_at walk.now bound) }
+{
+    let place = place as usize;
+    match walk.scope.get(place) {
+        Some(known) => equal_seen(Seen::Whole(known), value),
+        None => {
+            let number = place - walk.scope.len();
+            if number >= bound {
+                return false;
+            }
+            match find(walk.code, walk.pattern, Seen::Whole(walk.value), number) {
+                Ok(known) => equal_seen(known, value),
+                Err(_) => false,
+            }
+        }
+    }
+}
+
+/// Whether a part is the literal of this number.
+fn is_literal(code: &Module, id: LiteralId, value: Seen) -> bool
+    ensures { result ≡ same (literal_at code.now.tables id.0) (seen_value value.entry) }
+{
+    match code.literal(id) {
+        Some(literal) => equal_seen(Seen::Whole(literal), value),
+        None => equal_seen(Seen::Tail(&List::Nil), value),
+    }
+}
+
+/// Whether a part fits, where so many variables of the whole pattern are bound: how many then are.
+#[cycle(walk)]
+fn fits_part(walk: &Walk, part: PatternId, value: Seen, bound: usize) -> Option<usize>
+    requires { StandsAt walk.now bound (part_at walk.now part) (seen_value value) }
+    ensures { WalkedAt walk.now bound (part_at walk.now part) (seen_value value.entry) result }
+{
+    match walk.code.pattern(part) {
+        None => Some(bound),
+        Some(node) => match node {
+            PatternNode::Any => Some(bound),
+            PatternNode::New => Some(bound + 1),
+            PatternNode::Slot(place) => fits_place(walk, *place, value, bound).then_some(bound),
+            PatternNode::Int(n) => {
+                matches!(value, Seen::Whole(Term::Int(other)) if n == other).then_some(bound)
+            }
+            PatternNode::Atom(atom) => {
+                matches!(value, Seen::Whole(Term::Atom(other)) if atom == other).then_some(bound)
+            }
+            PatternNode::Nil => equal_seen(Seen::Tail(&List::Nil), value).then_some(bound),
+            PatternNode::Literal(id) => is_literal(walk.code, *id, value).then_some(bound),
+            PatternNode::Tuple(parts) => match value {
+                Seen::Whole(Term::Tuple(elements)) => {
+                    fits_all(walk, parts.as_slice(), elements.as_slice(), bound)
+                }
+                _ => None,
+            },
+            PatternNode::Cons(head, tail) => match value {
+                Seen::Whole(Term::List(list)) | Seen::Tail(list) => {
+                    fits_cons(walk, *head, *tail, list, bound)
+                }
+                _ => None,
+            },
+            PatternNode::Never => None,
+        },
+    }
+}
+
+/// Whether the first element of a list and what comes after it fit their patterns.
+#[cycle(walk)]
+fn fits_cons(
+    walk: &Walk,
+    head: PatternId,
+    tail: PatternId,
+    list: &List,
+    bound: usize,
+) -> Option<usize>
+    requires { StandsAt walk.now bound (cons_at walk.now head tail) (listed (elements_of list.now)) }
+    ensures { WalkedAt walk.now bound (cons_at walk.now head tail) (listed (elements_of list.now)) result }
+{
+    match list.split() {
+        None => None,
+        Some((first, others)) => {
+            let bound = fits_part(walk, head, Seen::Whole(first), bound)?;
+            fits_part(walk, tail, Seen::Tail(others), bound)
+        }
+    }
+}
+
+/// Whether each value fits its pattern, from left to right.
+#[cycle(walk)]
+fn fits_all(walk: &Walk, parts: &[PatternId], values: &[Term], bound: usize) -> Option<usize>
+    requires { AllStandAt walk.now bound (parts_at walk.now parts.now) (values_of values.now) }
+    ensures { AllWalkedAt walk.now bound (parts_at walk.now parts.now) (values_of values.now) result }
+{
+    match parts {
+        [] => match values {
+            [] => Some(bound),
+            [_, ..] => None,
+        },
+        [part, rest @ ..] => match values {
+            [] => None,
+            [first, others @ ..] => {
+                let bound = fits_part(walk, *part, Seen::Whole(first), bound)?;
+                fits_all(walk, rest, others, bound)
+            }
+        },
+    }
+}
+
+/// Whether a value fits, in the activation that begins at `base`. It takes no memory: what the pattern binds
+/// further left is found again in the value.
+pub fn fits(code: &Module, pattern: PatternId, value: &Term, env: &[Term], base: usize) -> bool
+    ensures { result ≡ is_some
+        (spec.fit (pattern_at code.now.tables pattern.0) (value_of value.now) (activation env.now base)) }
+{
+    // Its contract bounds how many variables can be bound.
+    let _nodes = nodes(value);
+    let scope = env.get(base..).unwrap_or(&[]);
+    let walk = Walk {
+        code,
+        scope,
+        pattern,
+        value,
+    };
+    fits_part(&walk, pattern, Seen::Whole(value), 0).is_some()
+}

@@ -1,0 +1,4 @@
+pub mod Bindings
+pub mod Closing
+pub mod Closed
+pub mod Quiet

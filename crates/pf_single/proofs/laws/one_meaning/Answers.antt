@@ -1,5 +1,0 @@
-use Rattle.pf_single.proofs.Meanings as meanings
-use Rattle.pf_single.proofs.laws.one_meaning.Goals as goal
-
-pub returns : goal.returns
-returns c = meanings.one_meaning

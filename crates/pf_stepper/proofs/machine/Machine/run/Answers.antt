@@ -1,0 +1,17 @@
+use Rattle.std.proofs.Common.{ap, ◌∙◌, ◌≡◌}
+use Rattle.pf_model.specs.Code.{code_of}
+use Rattle.pf_stepper.specs.MachineView.{MachineView}
+use Rattle.pf_stepper.specs.Inner.{standing_in}
+use Rattle.pf_stepper.specs.declared.machine.Standing.{Standing}
+use Rattle.pf_stepper.specs.declared.machine.Standing.TheVariants as stood
+use Rattle.pf_stepper.proofs.Outer.{ran_so}
+use Rattle.pf_stepper.proofs.machine.Machine.run.Goals as goal
+
+pub returns-clause-ran : goal.returns-clause-ran
+returns-clause-ran g c =
+    let i = c.self.inside in
+    let before : Standing → MachineView = λ x. record { own = i.own; code = code_of i.module.value; standing = standing_in i.module.value i.stack x } in
+    let stood_so : before (stood.Goes c.in-Goes.focus) ≡ c.args.self.now = ap before c.in-Goes.ensures.value ∙ c.self.view_is in
+    let ran = rw c.deref.ensures at c.in_ok-advance.ensures in
+    let settled = rw c.deref-2.ensures at c.in_ok-stop.ensures.settled in
+    rw (← stood_so) (ran_so i.module.value i.own c.args.left _ _ c.in_ok-advance.used i.stack c.run.new.self c.settle.new.stack c.in-Goes.focus c.in_ok-advance.advance c.in_ok-stop.stop ran settled)

@@ -1,0 +1,13 @@
+use denote.Param.Send.{sendable}
+use Rattle.std.proofs.Crossing as heap
+use Rattle.pf_stepper.proofs.Crossing.{crosses}
+use Rattle.pf_stepper.proofs.machine.crosses_threads.Goals as goal
+
+pub needs_send-requires-send-T : goal.needs_send-requires-send-T
+needs_send-requires-send-T c κs = search (crosses, sendable)
+
+pub needs_send-requires-2-send-T : goal.needs_send-requires-2-send-T
+needs_send-requires-2-send-T c κs = search (crosses, heap.crosses, sendable) depth 30
+
+pub needs_send-requires-3-send-T : goal.needs_send-requires-3-send-T
+needs_send-requires-3-send-T c κs = search (crosses, heap.crosses, sendable) depth 30

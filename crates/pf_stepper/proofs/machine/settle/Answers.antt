@@ -1,0 +1,14 @@
+use Rattle.pf_stepper.proofs.Outer.{settles_change, settles_ask, settles_return, settles_end}
+use Rattle.pf_stepper.proofs.machine.settle.Goals.{in-Changed, in-Asks, in-Returned, in-Ended}
+use Rattle.pf_stepper.proofs.machine.settle.Goals as goal
+
+pub returns-clause-settled : goal.returns-clause-settled
+returns-clause-settled g c =
+    let code = c.args.code.now in
+    let stack = c.args.stack.now in
+    elim c.match-advance.branch [
+      | in-Changed w ↦ rw (w.in-Changed.is, w.standing-is) (settles_change code c.args.own stack _ _ (rw w.in-Changed.is at c.requires))
+      | in-Asks w ↦ rw (w.in-Asks.is, w.standing-is) (settles_ask code c.args.own stack _ _ (rw w.in-Asks.is at c.requires))
+      | in-Returned w ↦ rw (w.in-Returned.is, w.standing-is) (settles_return code c.args.own stack _ _)
+      | in-Ended w ↦ rw (w.in-Ended.is, w.standing-is) (settles_end code c.args.own stack _ _)
+    ]

@@ -1,0 +1,44 @@
+-- What a machine is left as by what its stack did.
+use Rattle.std.specs.Prelude.{◌≡◌, ℕ, List}
+use Rattle.pf_terms.specs.Value.{Value}
+use Rattle.pf_syntax.specs.Module.{Checked}
+use Rattle.pf_syntax.specs.declared.node.Part.TheVariants as part
+use Rattle.pf_model.specs.Code.{code_of}
+use Rattle.pf_model.specs.Place.{State, goes_on}
+use Rattle.pf_stepper.specs.Advanced.{AdvancedFrom, IsSound, IsHolding, stack_process}
+use Rattle.pf_stepper.specs.Inner.{standing_by, standing_in, SoundIn}
+use Rattle.pf_stepper.specs.Moves.{Moved}
+use Rattle.pf_stepper.specs.declared.frame.Focus.TheVariants as f
+use Rattle.pf_stepper.specs.declared.stack.Stack.{Stack}
+use Rattle.pf_stepper.specs.declared.advance.Advance.{Advance}
+use Rattle.pf_stepper.specs.declared.advance.Advance.TheVariants as a
+use Rattle.pf_stepper.specs.declared.machine.Move.{Move}
+use Rattle.pf_stepper.specs.declared.machine.Move.TheVariants as v
+use Rattle.pf_stepper.specs.declared.machine.Stop.{Stop}
+
+-- the stacks are sound for what they did
+abbrev pub AdvanceIsSound : Stack → Advance → Type 0
+AdvanceIsSound s (a.Changed y) = IsSound s y
+AdvanceIsSound s (a.Asks act) = IsHolding s
+AdvanceIsSound s (a.Awaits n) = IsSound s (f.Eval (part.Node n))
+AdvanceIsSound s (a.Returned v) = Unit {0}
+AdvanceIsSound s (a.Ended r) = Unit {0}
+
+-- a move that is no contraction
+abbrev pub EndsTurn : Move → Type 0
+EndsTurn v.Pure = ⊥
+EndsTurn (v.Action act) = Unit {0}
+EndsTurn (v.Take t) = Unit {0}
+EndsTurn v.Wait = Unit {0}
+EndsTurn (v.End r) = Unit {0}
+
+-- contractions leave the machine where they led, and the mailbox; else it made another move
+abbrev pub TurnGoesOn : Checked → Stack → Advance → List Value → Stack → Stop → List Value → Type 0
+TurnGoesOn m s (a.Changed y) mail s' stop mail' = (stop.did ≡ v.Pure) × (standing_in m s' stop.standing ≡ standing_by (stack_process m s y)) × (mail' ≡ mail)
+TurnGoesOn m s r mail s' stop mail' = EndsTurn stop.did
+
+-- whatever state led to what the stack did, from there the machine made this move, and it stands so
+pub record Settled (m : Checked) (own : ℕ) (s : Stack) (r : Advance) (mail : List Value) (s' : Stack) (stop : Stop) (mail' : List Value) : Type 0 where
+  pub sound : SoundIn s' stop.standing
+  pub moved : (x : State) → AdvancedFrom m own (goes_on x) s r → Moved (code_of m) own x mail stop.did (standing_in m s' stop.standing) mail'
+  pub turn : TurnGoesOn m s r mail s' stop mail'

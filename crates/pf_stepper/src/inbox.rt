@@ -1,0 +1,65 @@
+//! Where a process finds its messages.
+
+ghost use Rattle.std.specs.Prelude.{◌≡◌, ◌≤◌, List, length, map, IfOk, MatchOption, OnErr};
+ghost use Rattle.pf_terms.specs.Value.{Value};
+ghost use Rattle.pf_terms.specs.Term.{value_of};
+ghost use Rattle.pf_syntax.specs.Over.{clauses_over};
+ghost use Rattle.pf_stepper.specs.Selected.{TakesMessage, TakesNothing};
+
+use crate::clauses::choose;
+use pf_syntax::{Clause, Module, Part};
+use pf_terms::{NoMemory, Term};
+use std::alloc::Global;
+
+/// The mailbox of a process, as a `receive` uses it (Erlang Reference Manual, "Receive").
+pub trait Inbox {
+    ghost messages: { Self → List Value };
+
+    /// Takes the oldest message that some clause fits with its guard, by the first such clause, in the process of
+    /// this pid: the body of that clause, whose bindings come onto the activation that begins at `base`, and the
+    /// message. The others stay in order.
+    fn select(
+        &mut self,
+        alloc: Global,
+        code: &Module,
+        clauses: &[Clause],
+        env: &mut Vec<Term>,
+        base: usize,
+        own: u32,
+    ) -> Result<Option<(Part, Term)>, NoMemory>
+        requires { base ≤ length env.old.items }
+        ensures selected { IfOk result (λ o. MatchOption o
+            (TakesNothing code.now own base env.old.items env.new.items
+            (clauses_over code.now.tables clauses.now) (messages self.old) (messages self.new))
+            (λ t. TakesMessage code.now own base env.old.items env.new.items
+            (clauses_over code.now.tables clauses.now) (messages self.old) (messages self.new) t.0 t.1)) }
+        ensures refused { OnErr result (messages self.new ≡ messages self.old) };
+}
+
+/// Messages in a vector, the oldest first. A `receive` tests them from the front each time.
+#[derive(Drop)]
+pub struct PlainInbox {
+    pub messages: Vec<Term>,
+}
+
+impl Inbox for PlainInbox {
+    ghost messages = { λ m. map value_of m.messages.items };
+
+    fn select(
+        &mut self,
+        alloc: Global,
+        code: &Module,
+        clauses: &[Clause],
+        env: &mut Vec<Term>,
+        base: usize,
+        own: u32,
+    ) -> Result<Option<(Part, Term)>, NoMemory> {
+        for at in 0..self.messages.len() {
+            if let Some(body) = choose(alloc, code, clauses, &self.messages[at], env, base, own)? {
+                let message = self.messages.remove(at);
+                return Ok(Some((body, message)));
+            }
+        }
+        Ok(None)
+    }
+}

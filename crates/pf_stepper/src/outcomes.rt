@@ -1,0 +1,84 @@
+//! What a contraction comes to.
+
+ghost use Rattle.std.specs.Prelude.{IfOk};
+ghost use Rattle.pf_terms.specs.Atoms.{name_of};
+ghost use Rattle.pf_terms.specs.Term.{value_of};
+ghost use Rattle.pf_syntax.specs.Operators.{operator_of};
+ghost use Rattle.pf_ops.specs.Operations.{operated};
+ghost use Rattle.pf_ops.specs.Results.{answer_of, result_of};
+ghost use Rattle.pf_model.specs.Contraction.{worked_out};
+ghost use Rattle.pf_stepper.specs.Lookups.{pairing_of};
+ghost use Rattle.pf_stepper.specs.Pairs.{pair_change};
+ghost use Rattle.pf_stepper.specs.MicroSteps.{IsDone, IsOutcome};
+
+use crate::act::Act;
+use crate::frame::{Binary, Focus, MicroStep};
+use pf_ops::{apply, cons, on_integers};
+use pf_syntax::{Module, Operator};
+use pf_terms::{AtomId, NoMemory, Term};
+use std::alloc::Global;
+
+/// A value, or a raise.
+#[inline(always)]
+pub(crate) fn outcome(answer: Result<Term, AtomId>) -> Focus
+    ensures { IsOutcome (worked_out (answer_of answer)) result }
+{
+    match answer {
+        Ok(value) => Focus::Value(value),
+        Err(reason) => Focus::Raised(Term::Atom(reason)),
+    }
+}
+
+/// The same of an integer.
+#[inline(always)]
+pub(crate) fn integer_outcome(answer: Result<i64, AtomId>) -> Focus
+    ensures { IsOutcome (worked_out (result_of answer)) result }
+{
+    match answer {
+        Ok(n) => Focus::Value(Term::Int(n)),
+        Err(reason) => Focus::Raised(Term::Atom(reason)),
+    }
+}
+
+/// An operator on operands that are not both integers.
+#[inline(never)]
+fn operate(
+    alloc: Global,
+    code: &Module,
+    operator: Operator,
+    left: &Term,
+    right: &Term,
+) -> Result<Focus, NoMemory>
+    ensures { IfOk result (λ x. IsOutcome (worked_out (operated (name_of code.now.atoms)
+        (operator_of operator) (value_of left.now) (value_of right.now))) x) }
+{
+    Ok(outcome(apply(alloc, operator, left, right, code.atoms())?))
+}
+
+/// What two operands come to.
+#[inline(always)]
+pub(crate) fn pair_up(
+    alloc: Global,
+    code: &Module,
+    binary: Binary,
+    left: Term,
+    right: Term,
+) -> Result<MicroStep, NoMemory>
+    ensures { IfOk result (λ r. IsDone (pair_change (name_of code.now.atoms) (pairing_of binary)
+        (value_of left) (value_of right)) r) }
+{
+    match binary {
+        Binary::Operator(operator) => {
+            let focus = match (&left, &right) {
+                (Term::Int(x), Term::Int(y)) => outcome(on_integers(operator, *x, *y)),
+                _ => operate(alloc, code, operator, &left, &right)?,
+            };
+            Ok(MicroStep::Changed(focus))
+        }
+        Binary::Cons => Ok(MicroStep::Changed(outcome(cons(alloc, left, right)?))),
+        Binary::Send => Ok(MicroStep::Asks(Act::Send {
+            to: left,
+            message: right,
+        })),
+    }
+}
