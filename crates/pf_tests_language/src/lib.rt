@@ -2,6 +2,12 @@
 #![tactic(auto)]
 
 #[cfg(test)]
+mod by_hand;
+#[cfg(test)]
+mod drive;
+#[cfg(test)]
+mod ends;
+#[cfg(test)]
 mod forms;
 #[cfg(test)]
 mod machine;

@@ -1,8 +1,8 @@
-//! The machine over modules that were read: its steps counted by hand, and that it stays at its end.
+//! The machine over modules that were read: its steps counted by hand, to a limit and to the end.
 
+use crate::drive::{ended, goes_on, no_mail};
 use pf_check::read;
-use pf_model::report::Outcome;
-use pf_stepper::{Machine, Move, run_one};
+use pf_stepper::{Machine, Move};
 use pf_syntax::{FunctionId, Module};
 use pf_terms::{NoMemory, Term};
 use std::alloc::Global;
@@ -26,10 +26,12 @@ fn ran(
     root: FunctionId,
     limit: u32,
 ) -> Result<(Option<i64>, u32), NoMemory> {
-    let report = run_one(alloc, module, root, limit.max(1))?;
-    match report.outcome {
-        Outcome::Finished(Term::Int(n)) => Ok((Some(n), report.steps)),
-        _ => Ok((None, report.steps)),
+    let shared = Arc::try_clone(module)?;
+    let mut machine = Machine::new(alloc, 0, shared, root, Vec::new(alloc))?;
+    let (did, used) = machine.run(alloc, &mut no_mail(alloc), limit)?;
+    match did {
+        Move::End(Ok(Term::Int(n))) => Ok((Some(n), used)),
+        _ => Ok((None, used)),
     }
 }
 
@@ -43,24 +45,33 @@ fn counts_each_contraction_and_the_end(rt: HostRuntime) -> Result<(), Fail> {
     Ok(())
 }
 
-/// The integer that the machine ended with, where this step was its end.
-fn end_at(alloc: Global, machine: &mut Machine) -> Result<Option<i64>, NoMemory> {
-    match machine.advance(alloc)? {
-        Move::End(Ok(Term::Int(n))) => Ok(Some(n)),
-        _ => Ok(None),
-    }
-}
-
+// The call, the difference and the sum are a step each, and the end is the fourth.
 #[test]
-fn stays_at_its_end(rt: HostRuntime) -> Result<(), Fail> {
+fn goes_on_from_where_it_stopped(rt: HostRuntime) -> Result<(), Fail> {
     let alloc = rt.alloc();
     let module = module_of(alloc, SUMS)?;
     let mut args = Vec::new(alloc);
     args.push(Term::Int(5))?;
     let mut machine = Machine::new(alloc, 4, module, FunctionId(1), args)?;
     assert_eq!(rt; machine.own(), 4);
-    for end in [None, None, None, Some(9), Some(9)] {
-        assert_eq!(rt; end_at(alloc, &mut machine)?, end);
-    }
+    let mut inbox = no_mail(alloc);
+    goes_on(alloc, &mut machine, &mut inbox, 1)?;
+    goes_on(alloc, &mut machine, &mut inbox, 2)?;
+    let (end, used) = ended(alloc, &mut machine, &mut inbox)?;
+    assert!(rt; matches!(end, Ok(Term::Int(9))));
+    assert_eq!(rt; used, 1);
+    Ok(())
+}
+
+/// The move of one step.
+fn step(alloc: Global, module: Arc<Module>) -> Result<Move, NoMemory> {
+    let mut machine = Machine::new(alloc, 0, module, FunctionId(0), Vec::new(alloc))?;
+    machine.advance(alloc, &mut no_mail(alloc))
+}
+
+#[test]
+fn one_step_is_no_end(rt: HostRuntime) -> Result<(), Fail> {
+    let module = module_of(rt.alloc(), SUMS)?;
+    assert!(rt; matches!(step(rt.alloc(), module)?, Move::Pure));
     Ok(())
 }
