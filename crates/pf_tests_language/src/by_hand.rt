@@ -47,8 +47,8 @@ fn no_guard(alloc: Global) -> Guard
 
 /// Adds `main() -> BODY.`.
 fn add_main(alloc: Global, module: &mut Module, body: Part) -> Result<(), NoMemory>
-    requires { PartStands module.old.tables body }
-    ensures { OnOk result (module.new.tables ≡ module.old.tables) }
+    requires { PartStands «module».old.tables body }
+    ensures { OnOk result («module».new.tables ≡ «module».old.tables) }
 {
     let clause = FunctionClause {
         parameters: Vec::new(alloc),
@@ -66,7 +66,7 @@ fn add_main(alloc: Global, module: &mut Module, body: Part) -> Result<(), NoMemo
 
 /// A process at `main() -> E.`, where E is a node over no other node.
 fn main_node(alloc: Global, module: Module, node: Node) -> Result<Machine, NoMemory>
-    requires { PartsStand module.tables node }
+    requires { PartsStand «module».tables node }
     ensures { IfOk result (λ m. CanMove m.standing) }
 {
     let mut module = module;
@@ -122,8 +122,8 @@ fn constant(alloc: Global, pattern: PatternId, body: AtomId) -> Result<FunctionC
 
 /// `f(N) when hd(N); N > 2 -> f(N - 3)`, the clause of a function of number 1.
 fn guarded(alloc: Global, module: &mut Module) -> Result<FunctionClause, NoMemory>
-    ensures stands { IfOk result (λ c. FunctionClauseStands module.new.tables c) }
-    ensures kept { length module.old.tables.patterns ≤ length module.new.tables.patterns }
+    ensures stands { IfOk result (λ c. FunctionClauseStands «module».new.tables c) }
+    ensures kept { length «module».old.tables.patterns ≤ length «module».new.tables.patterns }
 {
     let new = module.add_pattern(PatternNode::New)?;
     let head = module.add_node(Node::Builtin(Builtin::Hd, vec![in alloc; Part::Slot(0)]?))?;
