@@ -43,9 +43,10 @@ pub(crate) fn goes_on(
 {
     let (did, _used) = machine.run(alloc, inbox, steps)?;
     match did {
-        Move::Pure => Ok(()),
-        _ => Err(Fail::from("the process doesn't go on by itself")),
+        Move::Pure => {}
+        _ => return Err(Fail::from("the process doesn't go on by itself")),
     }
+    Ok(())
 }
 
 /// The next action that it asks for, and the steps with the asking.
@@ -99,9 +100,10 @@ pub(crate) fn waits(
 {
     let (did, _used) = machine.run(alloc, inbox, ENOUGH)?;
     match did {
-        Move::Wait => Ok(()),
-        _ => Err(Fail::from("the process doesn't wait")),
+        Move::Wait => {}
+        _ => return Err(Fail::from("the process doesn't wait")),
     }
+    Ok(())
 }
 
 /// The value that it returns or the reason that it ends with, and the steps with the end.
