@@ -12,7 +12,7 @@ cp "$top/bench/$1/crates" "$room/crates.txt"
 for crate in $(sed 's/^bench://' "$top/bench/$1/crates"); do
   [ -d "$top/crates/$crate" ] || continue
   sed -n "/^$crate\( [^:]*\)\{0,1\}:/p" "$top/crates.txt" >> "$room/crates.txt"
-  cp -r "$top/crates/$crate" "$room/crates/$crate"
+  cp -a "$top/crates/$crate" "$room/crates/$crate"
 done
 cd "$room/crates/bench"
 rt run > "$room/build.log" 2>&1 || { tail -n 30 "$room/build.log" >&2; exit 1; }

@@ -3,8 +3,10 @@ pub mod Slots
 pub mod Focused
 pub mod Follows
 pub mod Given
+pub mod AtOnce
 pub mod Passed
 pub mod Selected
+pub mod Plain
 pub mod Matched
 pub mod Entered
 pub mod Outer

@@ -34,6 +34,7 @@ use Rattle.pf_stepper.specs.Inner.{standing_by, standing_in, SoundIn}
 use Rattle.pf_stepper.specs.Moves.{Stepped, AskedFor, TookOne, EndedSo, Moved}
 use Rattle.pf_stepper.specs.Settled.{AdvanceIsSound, EndsTurn, Settled}
 use Rattle.pf_stepper.specs.Turns.{AllSteps, StepsAndMove, Ran, CanAnswer, answered_in, MovedFrom, RanSo}
+use Rattle.std.specs.Global.{Box}
 use Rattle.pf_stepper.specs.declared.act.Act.{Act as CodeAct}
 use Rattle.pf_stepper.specs.declared.frame.Callee.TheVariants as callee
 use Rattle.pf_stepper.specs.declared.frame.Frame.{Frame}
@@ -156,8 +157,8 @@ module _ (m : Checked) (own : ℕ) (s : Stack) (mail : List Value) where
       let q = process_goes m.tables s.env.items s.operands.items s.base s.frames.items y in
       record { next = q.0; step = subst (Contracts (code_of m) own (goes_on x)) q.1 h.0; stands = ap standing_by q.1; kept = refl }
 
-  left_by_ask : (act : CodeAct) (x : State) → AdvancedFrom m own (goes_on x) s (a.Asks act)
-      → AskedFor (code_of m) own x mail act (asking (holes_of m.tables s.env.items s.operands.items s.frames.items)) mail
+  left_by_ask : (act : Box CodeAct) (x : State) → AdvancedFrom m own (goes_on x) s (a.Asks act)
+      → AskedFor (code_of m) own x mail act.value (asking (holes_of m.tables s.env.items s.operands.items s.frames.items)) mail
   left_by_ask act x h = record { frames = holes_of m.tables s.env.items s.operands.items s.frames.items; step = h.0; stands = refl; kept = refl }
 
   left_by_end : (x last : State) → goes_on x ≡ goes_on last → EndedSo x mail last over mail
@@ -166,8 +167,12 @@ module _ (m : Checked) (own : ℕ) (s : Stack) (mail : List Value) where
   pub settles_change : (y : Focus) → IsSound s y → Settled m own s (a.Changed y) mail s (record { standing = stood.Goes y; did = v.Pure }) mail
   settles_change y h = record { sound = h; moved = λ x k. left_by_change y x k; turn = (refl, refl, refl) }
 
-  pub settles_ask : (act : CodeAct) → IsHolding s → Settled m own s (a.Asks act) mail s (record { standing = stood.Asking; did = v.Action act }) mail
-  settles_ask act h = record { sound = h; moved = λ x k. left_by_ask act x k; turn = tt }
+  pub settles_ask : (act : Box CodeAct) (taken : CodeAct) → taken ≡ act.value → IsHolding s
+      → Settled m own s (a.Asks act) mail s (record { standing = stood.Asking; did = v.Action taken }) mail
+  settles_ask act taken e h =
+      let whole : Settled m own s (a.Asks act) mail s (record { standing = stood.Asking; did = v.Action act.value }) mail =
+      record { sound = h; moved = λ x k. left_by_ask act x k; turn = tt } in
+      subst (λ t. Settled m own s (a.Asks act) mail s (record { standing = stood.Asking; did = v.Action t }) mail) (sym e) whole
 
   pub settles_return : (r : Term) → Settled m own s (a.Returned r) mail s (record { standing = stood.Over; did = v.End (Ok r) }) mail
   settles_return r = record { sound = tt; moved = λ x k. left_by_end x (running (lit (value_of r))) k; turn = tt }

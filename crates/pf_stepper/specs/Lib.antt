@@ -1,6 +1,7 @@
 pub mod Lookups
 pub mod Acts
 pub mod Pairs
+pub mod Plain
 pub mod Selected
 pub mod View
 pub mod Sound

@@ -17,7 +17,7 @@ use std::alloc::Global;
 #[derive(Drop)]
 pub(crate) enum Advance {
     Changed(Focus),
-    Asks(Act),
+    Asks(Box<Act>),
     Awaits(NodeId),
     Returned(Term),
     Ended(Term),
@@ -74,6 +74,7 @@ impl Stack {
     }
 
     /// So many contractions, or those up to what stops the process; and the steps that it made with it.
+    #[inline(never)]
     pub(crate) fn run(
         &mut self,
         alloc: Global,

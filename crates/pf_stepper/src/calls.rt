@@ -15,6 +15,7 @@ use crate::outcomes::outcome;
 use pf_ops::compute;
 use pf_syntax::Builtin;
 use pf_terms::{AtomId, NoMemory, Term, copy};
+use std::alloc::Global;
 
 /// The action that a call with one argument asks for.
 fn act_of_one(builtin: Builtin, value: &Term) -> Result<Option<Act>, NoMemory>
@@ -119,6 +120,7 @@ fn call_alone(own: u32, builtin: Builtin, arguments: &[Term]) -> Result<Focus, N
 /// A call of a built-in function, in the process of this pid.
 #[inline(never)]
 pub(crate) fn call_builtin(
+    alloc: Global,
     own: u32,
     builtin: Builtin,
     arguments: &[Term],
@@ -126,7 +128,7 @@ pub(crate) fn call_builtin(
     ensures { IfOk result (λ r. IsDone (called own (builtin_of builtin) (values_of arguments.now)) r) }
 {
     match act_of_call(builtin, arguments)? {
-        Some(act) => Ok(MicroStep::Asks(act)),
+        Some(act) => Ok(MicroStep::Asks(Box::new(alloc, act)?)),
         None => Ok(MicroStep::Changed(call_alone(own, builtin, arguments)?)),
     }
 }

@@ -97,6 +97,7 @@ impl Stack {
     }
 
     /// The operand of a minus.
+    #[inline(never)]
     pub(crate) fn negate(
         &mut self,
         code: &Module,
@@ -112,6 +113,7 @@ impl Stack {
     }
 
     /// The left side of `andalso` or `orelse`, which `decides` decides: itself, or else the right side.
+    #[inline(never)]
     pub(crate) fn shortcut(
         &mut self,
         alloc: Global,
@@ -165,6 +167,7 @@ impl Stack {
     }
 
     /// The value of a match at the end of a body: its next pattern.
+    #[inline(never)]
     pub(crate) fn match_one(
         &mut self,
         alloc: Global,
@@ -199,6 +202,7 @@ impl Stack {
     }
 
     /// The value of a match before a comma: its next pattern, or the rest of the body.
+    #[inline(never)]
     pub(crate) fn bind_one(
         &mut self,
         alloc: Global,

@@ -6,10 +6,10 @@ ghost use Rattle.pf_stepper.specs.MicroSteps.{IsMicroStep};
 ghost use Rattle.pf_stepper.specs.declared.frame.Callee.TheVariants as callee;
 
 use crate::calls::call_builtin;
-use crate::clauses::first_clause;
+use crate::clauses::{first_clause, plain};
 use crate::frame::{Callee, Focus, MicroStep};
 use crate::outcomes::outcome;
-use crate::stack::Stack;
+use crate::stack::{Stack, cut};
 use pf_ops::tuple;
 use pf_syntax::{Builtin, FunctionId, Module};
 use pf_terms::{AtomId, NoMemory, Term};
@@ -31,7 +31,7 @@ impl Stack {
     {
         match callee {
             Callee::Function(function) => self.call(alloc, code, own, function, count),
-            Callee::Builtin(builtin) => self.builtin(code, own, builtin, count),
+            Callee::Builtin(builtin) => self.builtin(alloc, code, own, builtin, count),
             Callee::Tuple => self.build(alloc, code, own, count),
         }
     }
@@ -54,13 +54,17 @@ impl Stack {
             None => Ok(MicroStep::Changed(Focus::Raised(Term::Atom(AtomId::UNDEF)))),
             Some(found) => {
                 let end = self.top();
-                self.env.truncate(end);
+                cut(&mut self.env, end);
                 self.base = end;
                 let from = self.operands.len() - count;
-                let values = &self.operands[from..];
                 let clauses = found.clauses.as_slice();
+                if let Some(body) = plain(code, clauses, count) {
+                    self.move_operands(from)?;
+                    return Ok(MicroStep::Changed(Focus::Eval(body)));
+                }
+                let values = &self.operands[from..];
                 let body = first_clause(alloc, code, clauses, values, &mut self.env, own)?;
-                self.operands.truncate(from);
+                cut(&mut self.operands, from);
                 match body {
                     Some(body) => Ok(MicroStep::Changed(Focus::Eval(body))),
                     None => Ok(MicroStep::Changed(Focus::Raised(Term::Atom(
@@ -75,6 +79,7 @@ impl Stack {
     #[inline(never)]
     fn builtin(
         &mut self,
+        alloc: Global,
         code: &Module,
         own: u32,
         builtin: Builtin,
@@ -85,7 +90,7 @@ impl Stack {
             IsMicroStep code.now own self.old (Focus.Enter (callee.Builtin builtin) count) self.new t) }
     {
         let from = self.operands.len() - count;
-        let done = call_builtin(own, builtin, &self.operands[from..])?;
+        let done = call_builtin(alloc, own, builtin, &self.operands[from..])?;
         self.operands.truncate(from);
         Ok(done)
     }

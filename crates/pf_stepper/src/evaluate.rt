@@ -6,6 +6,7 @@ ghost use Rattle.pf_syntax.specs.Module.{tree_at};
 ghost use Rattle.pf_syntax.specs.Tree.{if_expression};
 ghost use Rattle.pf_syntax.specs.Over.{clauses_over, part_over, tree_over};
 ghost use Rattle.pf_stepper.specs.Lookups.{clauses_in, left_place, paired, pairing_of, IsLeftInScope};
+ghost use Rattle.pf_stepper.specs.declared.frame.Binary.TheVariants as binary;
 ghost use Rattle.pf_stepper.specs.declared.frame.Kind.TheVariants as kind;
 ghost use Rattle.pf_patterns.specs.Slots.{activation};
 ghost use Rattle.pf_stepper.specs.View.{keeps};
@@ -14,14 +15,17 @@ ghost use Rattle.pf_stepper.specs.MicroSteps.{CanEvaluate, Descended, IsMicroSte
 use crate::clauses::choose;
 use crate::continuations::chosen;
 use crate::frame::{Binary, Callee, Focus, Kind, MicroStep};
+use crate::outcomes::outcome;
 use crate::stack::Stack;
+use pf_ops::on_integers;
 use pf_patterns::slot;
-use pf_syntax::{Clause, Module, Node, NodeId, Part};
+use pf_syntax::{Clause, Module, Node, NodeId, Operator, Part};
 use pf_terms::{AtomId, List, NoMemory, Term};
 use std::alloc::Global;
 
 impl Stack {
     /// An operand. A variable that is not in scope raises.
+    #[inline(always)]
     pub(crate) fn evaluate(
         &mut self,
         alloc: Global,
@@ -42,6 +46,7 @@ impl Stack {
     }
 
     /// The node of a number; `[]` where there is none.
+    #[inline(always)]
     fn visit(
         &mut self,
         alloc: Global,
@@ -74,8 +79,7 @@ impl Stack {
     {
         match node {
             Node::Binary(operator, left, right) => {
-                let binary = Binary::Operator(*operator);
-                self.operation(alloc, code, own, id, binary, *left, *right)
+                self.operator(alloc, code, own, id, *operator, *left, *right)
             }
             Node::Cons(left, right) => {
                 self.operation(alloc, code, own, id, Binary::Cons, *left, *right)
@@ -83,12 +87,12 @@ impl Stack {
             Node::Send(left, right) => {
                 self.operation(alloc, code, own, id, Binary::Send, *left, *right)
             }
-            Node::Negate(part) => self.descend(alloc, code, own, Kind::Negation, *part),
+            Node::Negate(part) => self.descend_apart(alloc, code, own, Kind::Negation, *part),
             Node::AndAlso(left, _) => {
-                self.descend(alloc, code, own, Kind::Shortcut(false, id), *left)
+                self.descend_apart(alloc, code, own, Kind::Shortcut(false, id), *left)
             }
             Node::OrElse(left, _) => {
-                self.descend(alloc, code, own, Kind::Shortcut(true, id), *left)
+                self.descend_apart(alloc, code, own, Kind::Shortcut(true, id), *left)
             }
             Node::Call(function, arguments) => {
                 self.pass(
@@ -101,7 +105,7 @@ impl Stack {
                 )
             }
             Node::Builtin(builtin, arguments) => {
-                self.pass(
+                self.pass_apart(
                     code,
                     own,
                     Callee::Builtin(*builtin),
@@ -110,7 +114,7 @@ impl Stack {
                     0,
                 )
             }
-            Node::Tuple(elements) => self.pass(
+            Node::Tuple(elements) => self.pass_apart(
                 code,
                 own,
                 Callee::Tuple,
@@ -118,11 +122,48 @@ impl Stack {
                 elements.as_slice(),
                 0,
             ),
-            Node::Match(_, part) => self.descend(alloc, code, own, Kind::Match(id, 0), *part),
-            Node::Bind(_, part, _) => self.descend(alloc, code, own, Kind::Bind(id, 0), *part),
+            Node::Match(_, part) => self.descend_apart(alloc, code, own, Kind::Match(id, 0), *part),
+            Node::Bind(_, part, _) => self.descend_apart(
+                alloc,
+                code,
+                own,
+                Kind::Bind(id, 0),
+                *part,
+            ),
             Node::Case(part, clauses) => self.case(alloc, code, own, id, *part, clauses.as_slice()),
             Node::If(clauses) => self.if_node(alloc, code, own, id, clauses.as_slice()),
             Node::Receive(_) => Ok(MicroStep::Awaits(id)),
+        }
+    }
+
+    /// An operator: at once where its operands are integers where they stand.
+    #[inline(always)]
+    fn operator(
+        &mut self,
+        alloc: Global,
+        code: &Module,
+        own: u32,
+        id: NodeId,
+        operator: Operator,
+        left: Part,
+        right: Part,
+    ) -> Result<MicroStep, NoMemory>
+        requires sound { CanEvaluate self.old }
+        requires found { paired (pairing_of (binary.Operator operator)) (part_over code.now.tables left)
+            (part_over code.now.tables right) ≡ tree_at code.now.tables id.0 }
+        ensures { IfOk result (λ t. IsMicroStep code.now own self.old (Focus.Eval (names id)) self.new t) }
+    {
+        match (self.integer(left), self.integer(right)) {
+            (Some(x), Some(y)) => Ok(MicroStep::Changed(outcome(on_integers(operator, x, y)))),
+            _ => self.operation(
+                alloc,
+                code,
+                own,
+                id,
+                Binary::Operator(operator),
+                left,
+                right,
+            ),
         }
     }
 
@@ -229,6 +270,23 @@ impl Stack {
                 Ok(MicroStep::Same(Focus::Eval(part)))
             }
         }
+    }
+
+    /// The first part of a node that is rare in code: out of line, so that the others stay small.
+    #[inline(never)]
+    fn descend_apart(
+        &mut self,
+        alloc: Global,
+        code: &Module,
+        own: u32,
+        kind: Kind,
+        part: Part,
+    ) -> Result<MicroStep, NoMemory>
+        requires sound { CanEvaluate self.old }
+        requires keeps { keeps kind ≡ 0 }
+        ensures { IfOk result (λ t. Descended code.now own self.old kind part self.new t) }
+    {
+        self.descend(alloc, code, own, kind, part)
     }
 
     /// The first part of a node, in the frame that waits for it: its value at once, or a micro-step of its own.

@@ -72,8 +72,8 @@ pub(crate) enum Focus {
 pub(crate) enum MicroStep {
     Same(Focus),
     Changed(Focus),
-    /// The process asks for this action.
-    Asks(Act),
+    /// The process asks for this action, which stands in a box: so the others stay small.
+    Asks(Box<Act>),
     /// The process stands at the `receive` of this node.
     Awaits(NodeId),
     /// The process returned this value.

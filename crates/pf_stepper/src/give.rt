@@ -13,6 +13,7 @@ use std::alloc::Global;
 
 impl Stack {
     /// A value for the innermost frame. Where there is none, the process returned it.
+    #[inline(always)]
     pub(crate) fn give(
         &mut self,
         alloc: Global,

@@ -117,7 +117,7 @@ fn settle<I: Inbox>(
 {
     let (standing, did) = match advance {
         Advance::Changed(next) => (Standing::Goes(next), Move::Pure),
-        Advance::Asks(act) => (Standing::Asking, Move::Action(act)),
+        Advance::Asks(act) => (Standing::Asking, Move::Action(Box::into_inner(act))),
         Advance::Awaits(id) => return receive(alloc, inbox, code, own, stack, id),
         Advance::Returned(value) => (Standing::Over, Move::End(Ok(value))),
         Advance::Ended(reason) => (Standing::Over, Move::End(Err(reason))),

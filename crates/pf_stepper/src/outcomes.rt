@@ -76,9 +76,12 @@ pub(crate) fn pair_up(
             Ok(MicroStep::Changed(focus))
         }
         Binary::Cons => Ok(MicroStep::Changed(outcome(cons(alloc, left, right)?))),
-        Binary::Send => Ok(MicroStep::Asks(Act::Send {
-            to: left,
-            message: right,
-        })),
+        Binary::Send => {
+            let act = Act::Send {
+                to: left,
+                message: right,
+            };
+            Ok(MicroStep::Asks(Box::new(alloc, act)?))
+        }
     }
 }

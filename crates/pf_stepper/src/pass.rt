@@ -20,6 +20,26 @@ fn noted(count: usize) -> Result<u32, NoMemory>
 }
 
 impl Stack {
+    /// The arguments of a call that is rare in code: out of line, so that the others stay small.
+    #[inline(never)]
+    pub(crate) fn pass_apart(
+        &mut self,
+        code: &Module,
+        own: u32,
+        callee: Callee,
+        id: NodeId,
+        arguments: &[Part],
+        from: usize,
+    ) -> Result<MicroStep, NoMemory>
+        requires node { parts_over code.now.tables arguments.now
+            ≡ arguments_in (tree_at code.now.tables id.0) }
+        requires stacked { Stacked self.old.env.items self.old.operands.items self.old.frames.items from }
+        requires inside { self.old.base ≤ length self.old.env.items }
+        ensures { IfOk result (λ t. Passed code.now own self.old callee id from self.new t) }
+    {
+        self.pass(code, own, callee, id, arguments, from)
+    }
+
     /// The arguments of a call after the first `from`: those that need no micro-step of their own, and then the
     /// first that does, or the call.
     #[inline(always)]

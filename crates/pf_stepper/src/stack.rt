@@ -1,7 +1,9 @@
 //! One stack of slots for all activations, one of finished operands, and the frames over them.
 
-ghost use Rattle.std.specs.Prelude.{◌≡◌, ◌∷◌, [], ◌++◌, length, take, IfOk, OnOk};
+ghost use Rattle.std.specs.Prelude.{◌≡◌, ◌≤◌, ◌∷◌, [], ◌++◌, drop, length, take, IfOk, IfSome, OnOk, Some};
 ghost use Rattle.pf_terms.specs.Term.{value_of};
+ghost use Rattle.pf_terms.specs.declared.term.Term.TheVariants as term;
+ghost use Rattle.pf_syntax.specs.Module.{Tables};
 ghost use Rattle.pf_patterns.specs.Operands.{IsOperand};
 ghost use Rattle.pf_patterns.specs.Slots.{activation};
 ghost use Rattle.pf_stepper.specs.Lookups.{value_at};
@@ -11,6 +13,7 @@ use crate::frame::{Frame, Kind};
 use pf_patterns::{copied, operand, slot};
 use pf_syntax::{Module, Part};
 use pf_terms::{List, NoMemory, Term};
+use std::mem;
 
 /// Slots, finished operands, frames, and where the activation begins.
 #[derive(Drop)]
@@ -21,6 +24,16 @@ pub(crate) struct Stack {
     pub(crate) base: usize,
 }
 
+/// Takes off what comes after the first so many.
+#[inline(always)]
+pub(crate) fn cut(values: &mut Vec<Term>, end: usize)
+    ensures { values.new.items ≡ take end values.old.items }
+{
+    while end < values.len() {
+        values.pop();
+    }
+}
+
 impl Stack {
     /// The value of an operand that has one where it stands: a literal, or a variable in scope.
     #[inline(always)]
@@ -29,6 +42,22 @@ impl Stack {
             IsOperand code.now.tables (activation self.now.env.items self.now.base) part o) }
     {
         operand(code, part, self.env.as_slice(), self.base)
+    }
+
+    /// The integer that an operand is where it stands.
+    #[inline(always)]
+    pub(crate) fn integer(&self, part: Part) -> Option<i64>
+        ensures { (tables : Tables) → IfSome result (λ n.
+            IsOperand tables (activation self.now.env.items self.now.base) part (Some (term.Int n))) }
+    {
+        match part {
+            Part::Int(n) => Some(n),
+            Part::Slot(place) => match slot(self.env.as_slice(), self.base, place) {
+                Some(Term::Int(n)) => Some(*n),
+                _ => None,
+            },
+            _ => None,
+        }
     }
 
     /// The value of a place in the activation, `[]` where there is none.
@@ -69,6 +98,24 @@ impl Stack {
         Ok(())
     }
 
+    /// The operands after the first so many become the newest slots.
+    #[inline(always)]
+    pub(crate) fn move_operands(&mut self, from: usize) -> Result<(), NoMemory>
+        requires { from ≤ length self.old.operands.items }
+        ensures env { OnOk result (self.new.env.items
+            ≡ self.old.env.items ++ drop from self.old.operands.items) }
+        ensures operands { OnOk result (self.new.operands.items ≡ take from self.old.operands.items) }
+        ensures frames { self.new.frames ≡ self.old.frames }
+        ensures base { self.new.base ≡ self.old.base }
+    {
+        for at in from..self.operands.len() {
+            let value = mem::replace(&mut self.operands[at], Term::Int(0));
+            self.env.push(value)?;
+        }
+        cut(&mut self.operands, from);
+        Ok(())
+    }
+
     /// Back in the activation of a frame: the slots that came after those that it needs go.
     #[inline(always)]
     pub(crate) fn resume(&mut self, frame: Frame)
@@ -77,7 +124,7 @@ impl Stack {
         ensures frames { self.new.frames ≡ self.old.frames }
         ensures base { self.new.base ≡ frame.base }
     {
-        self.env.truncate(frame.end);
+        cut(&mut self.env, frame.end);
         self.base = frame.base;
     }
 

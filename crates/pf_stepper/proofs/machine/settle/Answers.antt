@@ -8,7 +8,7 @@ returns-clause-settled g c =
     let stack = c.args.stack.now in
     elim c.match-advance.branch [
       | in-Changed w ↦ rw (w.in-Changed.is, w.standing-is) (settles_change code c.args.own stack _ _ (rw w.in-Changed.is at c.requires))
-      | in-Asks w ↦ rw (w.in-Asks.is, w.standing-is) (settles_ask code c.args.own stack _ _ (rw w.in-Asks.is at c.requires))
+      | in-Asks w ↦ rw (w.in-Asks.is, w.standing-is) (settles_ask code c.args.own stack _ _ _ w.into_inner.ensures (rw w.in-Asks.is at c.requires))
       | in-Returned w ↦ rw (w.in-Returned.is, w.standing-is) (settles_return code c.args.own stack _ _)
       | in-Ended w ↦ rw (w.in-Ended.is, w.standing-is) (settles_end code c.args.own stack _ _)
     ]
