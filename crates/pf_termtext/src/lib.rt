@@ -1,0 +1,15 @@
+//! The printed text of a value, written and read.
+#![tactic(auto)]
+
+mod bytes;
+mod fault;
+mod laws;
+mod name;
+mod number;
+mod print;
+mod read;
+
+pub use fault::NoTerm;
+pub use laws::no_text_of_two;
+pub use print::print;
+pub use read::read;
