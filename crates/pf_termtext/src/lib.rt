@@ -6,10 +6,10 @@ mod fault;
 mod laws;
 mod name;
 mod number;
-mod print;
-mod read;
+mod printing;
+mod reading;
 
 pub use fault::NoTerm;
 pub use laws::no_text_of_two;
-pub use print::print;
-pub use read::read;
+pub use printing::print;
+pub use reading::read;
