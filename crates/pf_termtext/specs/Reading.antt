@@ -1,6 +1,6 @@
 -- The value at the front of a text, read from left to right.
 use Rattle.std.specs.Prelude.{◌≡◌, ℕ, zero, suc, ◌^◌, ℤ, pos, negsuc, Bool, true, false, ◌==◌, ◌&&◌, ◌||◌, not, nat_lt, nat_le, if◌then◌else◌, List, [], ◌∷◌, take, drop, Option, Some, None, option_map, option_and_then, Result, Ok, Err}
-use Rattle.std.specs.List.{position, prefix_len}
+use Rattle.std.specs.List.{prefix_len}
 use Rattle.std.specs.Str.{bytes_eq}
 use Rattle.pf_fault.specs.declared.fault.OrNoMemory.{OrNoMemory}
 use Rattle.pf_fault.specs.declared.fault.OrNoMemory.TheVariants.{NoMemory, Fault}
@@ -60,9 +60,10 @@ integer_of minus digits = if is_numeral digits then signed minus (decimal digits
 abbrev pub integer_at : Bool → List ℕ → Front Value
 integer_at minus text = before (behind_word text) int (integer_of minus (word text))
 
--- the atom of this name
+-- the atom of this name, which is the first that has it
 abbrev pub atom_of : List (List ℕ) → List ℕ → Option ℕ
-atom_of names name = position (bytes_eq name) names
+atom_of [] name = None
+atom_of (n ∷ names) name = if bytes_eq name n then Some 0 else option_map suc (atom_of names name)
 
 -- the atom whose name stands at the front as it is
 abbrev pub plain_at : List (List ℕ) → List ℕ → Front Value
