@@ -145,12 +145,20 @@ elements_by items close text None = items text >>= λ p. option_map (λ rest. (p
 abbrev pub elements_at : (List ℕ → Front Value) → Elements
 elements_at read close text = elements_by (items_at read MOST_NODES) close text (behind close text)
 
+-- the tuple whose elements stand at the front, behind its brace
+abbrev pub tuple_at : Elements → List ℕ → Front Value
+tuple_at items text = items 125 text >>= λ p. before p.1 (λ v. v) (bounded (tuple (elements p.0)))
+
+-- the list whose elements stand at the front, behind its bracket
+abbrev pub list_at : Elements → List ℕ → Front Value
+list_at items text = items 93 text >>= λ p. before p.1 (λ v. v) (bounded (list (elements p.0)))
+
 -- the value that begins with such a byte
 abbrev pub value_by : Elements → List (List ℕ) → List ℕ → Front Value
 value_by items names [] = None
 value_by items names (b ∷ text) =
-    if b == 123 then (items 125 text >>= λ p. before p.1 (λ v. v) (bounded (tuple (elements p.0))))
-    else (if b == 91 then (items 93 text >>= λ p. before p.1 (λ v. v) (bounded (list (elements p.0))))
+    if b == 123 then tuple_at items text
+    else (if b == 91 then list_at items text
     else (if b == single_quote then quoted_at names text
     else (if b == 45 then integer_at true text
     else (if is_digit b then integer_at false (b ∷ text)

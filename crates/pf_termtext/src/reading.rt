@@ -3,7 +3,7 @@
 ghost use Rattle.std.specs.Prelude.{◌≡◌, ℕ, Err, IfOk, map};
 ghost use Rattle.pf_terms.specs.Term.{value_of, values_of};
 ghost use Rattle.pf_terms.specs.Value.{Value, list, tuple};
-ghost use Rattle.pf_termtext.specs.Reading.{Gives, bounded, elements_at, items_at, value_at, value_of_text};
+ghost use Rattle.pf_termtext.specs.Reading.{Gives, bounded, elements_at, items_at, list_at, tuple_at, value_at, value_of_text};
 ghost use Rattle.pf_termtext.specs.Texts.{IsTextOf, no_term};
 
 use crate::bytes::behind;
@@ -81,6 +81,34 @@ fn read_elements<'a>(
     }
 }
 
+/// Reads the tuple whose elements stand at the front, behind its brace.
+#[cycle(reads)]
+fn read_tuple<'a>(
+    alloc: Global,
+    text: &'a [u8],
+    atoms: &AtomTable,
+    room: u32,
+) -> Result<(Term, &'a [u8]), Fault>
+    ensures { Gives (λ p. (value_of p.0, p.1.now)) result (tuple_at (elements_at (value_at atoms.now room)) text.now) }
+{
+    let (items, rest) = read_elements(alloc, text, atoms, room, b'}')?;
+    Ok((bounded_tuple(alloc, items)?, rest))
+}
+
+/// Reads the list whose elements stand at the front, behind its bracket.
+#[cycle(reads)]
+fn read_list<'a>(
+    alloc: Global,
+    text: &'a [u8],
+    atoms: &AtomTable,
+    room: u32,
+) -> Result<(Term, &'a [u8]), Fault>
+    ensures { Gives (λ p. (value_of p.0, p.1.now)) result (list_at (elements_at (value_at atoms.now room)) text.now) }
+{
+    let (items, rest) = read_elements(alloc, text, atoms, room, b']')?;
+    Ok((bounded_list(alloc, items)?, rest))
+}
+
 /// Reads the value at the front, at most so deep.
 #[cycle(reads)]
 fn read_value<'a>(
@@ -94,19 +122,15 @@ fn read_value<'a>(
     if room == 0 {
         return Err(no_term());
     }
-    match text {
-        [] => Err(no_term()),
-        [b'{', behind @ ..] => {
-            let (items, rest) = read_elements(alloc, behind, atoms, room - 1, b'}')?;
-            Ok((bounded_tuple(alloc, items)?, rest))
-        }
-        [b'[', behind @ ..] => {
-            let (items, rest) = read_elements(alloc, behind, atoms, room - 1, b']')?;
-            Ok((bounded_list(alloc, items)?, rest))
-        }
-        [b'\'', behind @ ..] => read_quoted(alloc, behind, atoms),
-        [b'-', behind @ ..] => read_integer(true, behind),
-        [first, ..] if is_digit(*first) => read_integer(false, text),
+    let Some((first, behind)) = text.split_first() else {
+        return Err(no_term());
+    };
+    match *first {
+        b'{' => read_tuple(alloc, behind, atoms, room - 1),
+        b'[' => read_list(alloc, behind, atoms, room - 1),
+        b'\'' => read_quoted(alloc, behind, atoms),
+        b'-' => read_integer(true, behind),
+        digit if is_digit(digit) => read_integer(false, text),
         _ => read_plain(text, atoms),
     }
 }

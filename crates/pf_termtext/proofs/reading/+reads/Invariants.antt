@@ -6,13 +6,19 @@ use Rattle.pf_termtext.proofs.Items.{with_items}
 use Rattle.pf_termtext.proofs.reading.+reads.Given as goal
 
 abbrev pub decreases-read_value : goal.decreases-read_value
-decreases-read_value l = 3 * l.room
+decreases-read_value l = 4 * l.room
 
 abbrev pub decreases-read_items : goal.decreases-read_items
-decreases-read_items l = 3 * l.room + 1
+decreases-read_items l = 4 * l.room + 1
 
 abbrev pub decreases-read_elements : goal.decreases-read_elements
-decreases-read_elements l = 3 * l.room + 2
+decreases-read_elements l = 4 * l.room + 2
+
+abbrev pub decreases-read_tuple : goal.decreases-read_tuple
+decreases-read_tuple l = 4 * l.room + 3
+
+abbrev pub decreases-read_list : goal.decreases-read_list
+decreases-read_list l = 4 * l.room + 3
 
 -- the elements so far and those that are read behind them are all
 abbrev pub invariant-read_items-loop : goal.invariant-read_items-loop
