@@ -2,3 +2,5 @@ pub mod Names
 pub mod Written
 pub mod Items
 pub mod Values
+pub mod Numbers
+pub mod Words
