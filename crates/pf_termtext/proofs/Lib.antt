@@ -4,3 +4,4 @@ pub mod Items
 pub mod Values
 pub mod Numbers
 pub mod Words
+pub mod Sound
