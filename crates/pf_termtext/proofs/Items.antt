@@ -15,7 +15,7 @@ one_more front v None = refl
 
 module _ (read : List ℕ → Front Value) (n : ℕ) where
 
-  item_step : (text : List ℕ) (o : Front Value) → read text ≡ o → items_at read (suc n) text ≡ (o >>= λ p. next_items (items_at read n) p.0 p.1 (behind 44 p.1))
+  pub item_step : (text : List ℕ) (o : Front Value) → read text ≡ o → items_at read (suc n) text ≡ (o >>= λ p. next_items (items_at read n) p.0 p.1 (behind 44 p.1))
   unfolding items_at
   item_step text o e = rw e refl
 

@@ -5,3 +5,5 @@ pub mod Values
 pub mod Numbers
 pub mod Words
 pub mod Sound
+pub mod Again
+pub mod Whole

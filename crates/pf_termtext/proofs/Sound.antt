@@ -23,7 +23,7 @@ before_some : {X Y P : Type 0} (rest : List ℕ) (make : X → Y) (o : Option X)
 before_some rest make (Some x) y r e then = let parts = some_pair_parts (make x) y rest r e in then x refl parts.0 parts.1
 before_some rest make None y r e then = absurd cc
 
-behind_some : (b : ℕ) (text rest : List ℕ) → behind b text ≡ Some rest → text ≡ b ∷ rest
+pub behind_some : (b : ℕ) (text rest : List ℕ) → behind b text ≡ Some rest → text ≡ b ∷ rest
 behind_some b [] rest e = absurd cc
 behind_some b (c ∷ text) rest e =
     let parts = cond_some (eqb c b) text rest e in

@@ -1,0 +1,33 @@
+-- A whole text: what is read of it, and of which value it is.
+use Rattle.std.proofs.Common.{◌≡◌, ℕ, List, [], ◌∷◌, ◌++◌, length, true, Option, Some, None, refl, sym, ap, ◌∙◌, arith}
+use Rattle.std.proofs.lemmas.List.{append-nil}
+use Rattle.std.proofs.lemmas.Option.{same_Some, option_and_then_some}
+use Rattle.pf_terms.specs.declared.limits.TheConstants.{MOST_DEPTH}
+use Rattle.pf_terms.specs.Atoms.{name_of}
+use Rattle.pf_terms.specs.Order.{TellsApart}
+use Rattle.pf_terms.specs.Value.{Value}
+use Rattle.pf_termtext.specs.Texts.{IsTextOf, NoTextOfTwo}
+use Rattle.pf_termtext.specs.Reading.{◌>>=◌, alone, value_at, value_of_text}
+use Rattle.pf_termtext.proofs.Sound.{Says, text_of, value_sound}
+use Rattle.pf_termtext.proofs.Again.{value_again}
+
+-- a text is of the value that is read of it
+pub text_of_read : (names : List (List ℕ)) (bytes : List ℕ) (v : Value) → value_of_text names bytes ≡ Some v → IsTextOf names bytes v
+text_of_read names bytes v e = option_and_then_some _ (value_at names MOST_DEPTH bytes) v e (λ p read made. by p.0 p.1 (value_sound names MOST_DEPTH bytes p.0 p.1 read) made)
+  where
+    by : (w : Value) (rest : List ℕ) → Says names bytes w rest → alone w rest ≡ Some v → IsTextOf names bytes v
+    by w [] says made = rw (← same_Some w v made) (record { printed = says.0 ∙ append-nil (text_of names w); readable = says.1; within = says.2 })
+    by w (b ∷ rest) says made = absurd cc
+
+-- what is read of the text of a value is the value
+pub read_of_text : (names : List (List ℕ)) (bytes : List ℕ) (v : Value) → TellsApart (name_of names) (length names) → IsTextOf names bytes v → value_of_text names bytes ≡ Some v
+read_of_text names bytes v apart is =
+    let read : value_at names MOST_DEPTH bytes ≡ Some (v, []) =
+        ap (value_at names MOST_DEPTH) (is.printed ∙ sym (append-nil (text_of names v)))
+        ∙ value_again names apart MOST_DEPTH (omega arith) v (is.readable, is.within.0, is.within.1) [] refl in
+    rw read refl
+
+-- no text is of two values
+pub one_value : NoTextOfTwo
+one_value names bytes v w apart first second =
+    same_Some v w (sym (read_of_text names bytes v apart first) ∙ read_of_text names bytes w apart second)
