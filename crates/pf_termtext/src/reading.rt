@@ -155,7 +155,7 @@ pub fn read(
     atoms: &AtomTable,
 ) -> Result<Term, OrNoMemory<NoTerm>>
     ensures found { IfOk result (λ t. IsTextOf atoms.now bytes.now (value_of t)) }
-    ensures only { IfOk result (λ t. (v : Value) → IsTextOf atoms.now bytes.now v → v ≡ value_of t) }
+    ensures again { (v : Value) → IsTextOf atoms.now bytes.now v → IfOk result (λ t. value_of t ≡ v) }
     ensures refused { result ≡ Err no_term → (v : Value) → ¬ IsTextOf atoms.now bytes.now v }
 {
     // Its contract says that no two names are the same.
