@@ -1,9 +1,9 @@
 -- What is printed of a value is read as it.
-use Rattle.std.proofs.Common.{◌≡◌, inl, inr, ℕ, zero, suc, ◌+◌, ◌≤◌, ◌<◌, ◌^◌, max, pos, negsuc, ℤ, Bool, true, false, cond, eqb, leb, List, [], ◌∷◌, ◌++◌, length, Option, Some, None, refl, sym, ap, subst, ◌∙◌, append_assoc, arith}
-use Rattle.std.specs.Prelude.{option_map, codes, ◌&&◌, ◌||◌, flat_map, not, ◌⊎◌}
+use Rattle.std.proofs.Common.{◌≡◌, inl, inr, ℕ, zero, suc, ◌≤◌, ◌<◌, ◌^◌, pos, negsuc, Bool, true, false, cond, List, [], ◌∷◌, ◌++◌, length, Option, Some, None, refl, sym, ap, ◌∙◌, append_assoc, arith}
+use Rattle.std.specs.Prelude.{option_map, codes, ◌&&◌, flat_map, ◌⊎◌}
 use Rattle.std.specs.List.{list_all}
 use Rattle.std.specs.Fmt as print
-use Rattle.std.proofs.lemmas.Bool.{eqb-true, eq-eqb, le-leb, ne_eqb}
+use Rattle.std.proofs.lemmas.Bool.{eq-eqb, le-leb}
 use Rattle.std.proofs.lemmas.Bool.Decides.{nat_tests}
 use Rattle.std.proofs.lemmas.Fmt.{decimal_nonempty}
 use Rattle.pf_terms.specs.declared.limits.TheConstants.{MOST_DEPTH, MOST_NODES}
@@ -11,12 +11,11 @@ use Rattle.pf_terms.specs.Atoms.{name_of}
 use Rattle.pf_terms.specs.Order.{TellsApart}
 use Rattle.pf_terms.specs.Value.{Value, Values, int, atom, ref, pid, tuple, list, none, more, count, nodes, nodes_in, depth, depth_in, IsWithinLimits}
 use Rattle.pf_tokens.specs.Bytes.{ends, is_digit, is_lower, is_word}
-use Rattle.pf_tokens.specs.TokenKinds.{reserved_of}
 use Rattle.pf_tokens.proofs.Runs.{both}
 use Rattle.pf_tokens.proofs.Classes.{lower_word}
-use Rattle.pf_model.specs.TermText.{is_plain_name, quoted_byte, value_text, values_text, rest_text}
-use Rattle.pf_termtext.specs.Texts.{CanBeRead, AllCanBeRead, Has64Bits}
-use Rattle.pf_termtext.specs.Reading.{Front, ◌>>=◌, behind, before, word, behind_word, integer_of, integer_at, atom_of, plain_at, name_at, quoted_at, elements, bounded, next_items, items_at, elements_by, elements_at, tuple_at, list_at, value_at}
+use Rattle.pf_model.specs.TermText.{is_plain_name, quoted_byte, values_text, rest_text}
+use Rattle.pf_termtext.specs.Texts.{CanBeRead, AllCanBeRead}
+use Rattle.pf_termtext.specs.Reading.{behind, before, word, integer_of, atom_of, elements, bounded, next_items, items_at, elements_by, elements_at, value_at}
 use Rattle.pf_termtext.proofs.Names.{atom_found}
 use Rattle.pf_termtext.proofs.Written.{name_again}
 use Rattle.pf_termtext.proofs.Numbers.{decimal_digits, positive_read, negative_read}
@@ -76,7 +75,6 @@ plain_parts b bs e =
     (inner.0, rw (lower_word b inner.0, inner.1) refl)
 
 module _ (names : List (List ℕ)) (apart : TellsApart (name_of names) (length names)) where
-
   -- the value within these bounds can be read
   abbrev Fits : ℕ → Value → Type 0
   Fits room v = CanBeRead (length names) v × (nodes v ≤ MOST_NODES) × (depth v ≤ room)
@@ -140,7 +138,6 @@ module _ (names : List (List ℕ)) (apart : TellsApart (name_of names) (length n
   closes_none (suc room) close text (inr is) = rw is refl
 
   module _ (room : ℕ) (again : (v : Value) → Fits room v → (rest : List ℕ) → ends is_word rest ≡ true → value_at names room (text_of names v ++ rest) ≡ Some (v, rest)) where
-
     -- one element or several are read up to their end
     items_again : (close : ℕ) (rest : List ℕ) → (close ≡ 125) ⊎ (close ≡ 93) → (vs : Values) (v : Value) (n : ℕ) → count vs < n → Fits room v → AllFit room vs
         → items_at (value_at names room) n (text_of names v ++ (rest_text (name_of names) vs ++ (close ∷ rest))) ≡ Some (v ∷ listed vs, close ∷ rest)
@@ -159,12 +156,12 @@ module _ (names : List (List ℕ)) (apart : TellsApart (name_of names) (length n
     items_again close rest is (more w ws) v zero lt fits all = absurd (omega (arith, lt))
     items_again close rest is (more w ws) v (suc n) lt fits all =
         let later = items_again close rest is ws w n (omega (arith, lt))
-            (all.0.0, omega (arith, all.1), omega (arith, all.2)) (all.0.1, omega (arith, all.1), omega (arith, all.2)) in
+        (all.0.0, omega (arith, all.1), omega (arith, all.2)) (all.0.1, omega (arith, all.1), omega (arith, all.2)) in
         let behind_it : rest_text (name_of names) (more w ws) ++ (close ∷ rest) ≡ 44 ∷ (text_of names w ++ (rest_text (name_of names) ws ++ (close ∷ rest))) =
-            ap (λ t. 44 ∷ t) (append_assoc (text_of names w) (rest_text (name_of names) ws) (close ∷ rest)) in
+        ap (λ t. 44 ∷ t) (append_assoc (text_of names w) (rest_text (name_of names) ws) (close ∷ rest)) in
         ap (λ t. items_at (value_at names room) (suc n) (text_of names v ++ t)) behind_it
         ∙ item_step (value_at names room) n _ (Some (v, 44 ∷ (text_of names w ++ (rest_text (name_of names) ws ++ (close ∷ rest)))))
-            (again v fits (44 ∷ (text_of names w ++ (rest_text (name_of names) ws ++ (close ∷ rest)))) refl)
+        (again v fits (44 ∷ (text_of names w ++ (rest_text (name_of names) ws ++ (close ∷ rest)))) refl)
         ∙ ap (option_map (λ p. (v ∷ p.0, p.1))) later
 
     -- elements are read up to their end

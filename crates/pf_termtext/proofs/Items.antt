@@ -1,5 +1,5 @@
 -- Elements with commas between them, as they are read one by one.
-use Rattle.std.proofs.Common.{◌≡◌, ℕ, zero, suc, List, [], ◌∷◌, ◌++◌, Option, Some, None, refl, sym, ap, ◌∙◌, append_assoc}
+use Rattle.std.proofs.Common.{◌≡◌, ℕ, zero, suc, List, [], ◌∷◌, ◌++◌, Some, None, refl, sym, ap, ◌∙◌, append_assoc}
 use Rattle.std.specs.Prelude.{option_map}
 use Rattle.pf_terms.specs.Value.{Value}
 use Rattle.pf_termtext.specs.Reading.{Front, ◌>>=◌, behind, next_items, items_at}
@@ -14,7 +14,6 @@ one_more front v (Some p) = ap (λ (t : List Value). Some (t, p.1)) (sym (append
 one_more front v None = refl
 
 module _ (read : List ℕ → Front Value) (n : ℕ) where
-
   pub item_step : (text : List ℕ) (o : Front Value) → read text ≡ o → items_at read (suc n) text ≡ (o >>= λ p. next_items (items_at read n) p.0 p.1 (behind 44 p.1))
   unfolding items_at
   item_step text o e = rw e refl

@@ -1,20 +1,20 @@
 -- What is read of a text is printed so.
-use Rattle.std.proofs.Common.{◌≡◌, ℕ, zero, suc, ◌+◌, ◌≤◌, pos, negsuc, ℤ, Bool, true, false, cond, eqb, leb, List, [], ◌∷◌, ◌++◌, length, Option, Some, None, refl, sym, ap, subst, ◌∙◌, append_assoc, arith}
+use Rattle.std.proofs.Common.{◌≡◌, ℕ, zero, suc, Bool, true, false, cond, eqb, leb, List, [], ◌∷◌, ◌++◌, length, Option, Some, None, refl, sym, ap, ◌∙◌, append_assoc, arith}
 use Rattle.std.specs.Prelude.{option_map, codes, ◌&&◌}
 use Rattle.std.proofs.lemmas.Bool.{eqb-true, leb-true}
-use Rattle.std.proofs.lemmas.Option.{same_Some, cond_some, option_and_then_some, some_pair_parts}
+use Rattle.std.proofs.lemmas.Option.{cond_some, option_and_then_some, some_pair_parts}
 use Rattle.pf_terms.specs.declared.limits.TheConstants.{MOST_DEPTH, MOST_NODES}
 use Rattle.pf_terms.specs.Atoms.{name_of}
-use Rattle.pf_terms.specs.Value.{Value, Values, int, atom, ref, pid, tuple, list, none, more, nodes, depth, IsWithinLimits}
+use Rattle.pf_terms.specs.Value.{Value, int, atom, tuple, list, nodes, depth, IsWithinLimits}
 use Rattle.pf_tokens.specs.Bytes.{is_digit}
 use Rattle.pf_tokens.proofs.Runs.{both}
 use Rattle.pf_model.specs.TermText.{is_plain_name, quoted_byte, value_text, values_text, rest_text}
 use Rattle.std.specs.Prelude.{flat_map}
-use Rattle.pf_termtext.specs.Texts.{CanBeRead, AllCanBeRead, Has64Bits}
-use Rattle.pf_termtext.specs.Reading.{Front, ◌>>=◌, behind, before, word, behind_word, integer_of, integer_at, atom_of, plain_at, name_at, quoted_at, elements, bounded, next_items, items_at, elements_by, elements_at, tuple_at, list_at, value_by, value_at}
+use Rattle.pf_termtext.specs.Texts.{CanBeRead, AllCanBeRead}
+use Rattle.pf_termtext.specs.Reading.{Front, behind, before, word, behind_word, integer_of, integer_at, atom_of, plain_at, name_at, quoted_at, elements, bounded, next_items, items_at, elements_by, elements_at, tuple_at, list_at, value_by, value_at}
 use Rattle.pf_termtext.proofs.Names.{atom_stands}
 use Rattle.pf_termtext.proofs.Written.{name_sound}
-use Rattle.pf_termtext.proofs.Numbers.{integer_printed, IsPrintedBy}
+use Rattle.pf_termtext.proofs.Numbers.{integer_printed}
 use Rattle.pf_termtext.proofs.Words.{word_split}
 
 -- what is made of a value, and of which
@@ -55,7 +55,6 @@ abbrev pub SaysElements : List (List ℕ) → List ℕ → List Value → List �
 SaysElements names text vs rest = (text ≡ values_text (name_of names) (elements vs) ++ rest) × AllCanBeRead (length names) (elements vs)
 
 module _ (names : List (List ℕ)) where
-
   integer_sound : (text : List ℕ) (v : Value) (rest : List ℕ) → integer_at false text ≡ Some (v, rest) → Says names text v rest
   integer_sound text v rest e =
       before_some (behind_word text) int (integer_of false (word text)) v rest e (λ z read made behind_it.
@@ -97,7 +96,6 @@ module _ (names : List (List ℕ)) where
           (ap (λ t. 39 ∷ t) (written ∙ sym (append_assoc (flat_map quoted_byte p.0) (39 ∷ []) p.1))) made
 
   module _ (read : List ℕ → Front Value) (sound : (text : List ℕ) (v : Value) (rest : List ℕ) → read text ≡ Some (v, rest) → Says names text v rest) where
-
     -- one element is read before others
     one_more : (text : List ℕ) (v : Value) (next : List ℕ) (vs : List Value) (rest : List ℕ) → Says names text v (44 ∷ next) → SaysItems names next vs rest → SaysItems names text (v ∷ vs) rest
     one_more text v next [] rest one others = absurd others
@@ -171,7 +169,7 @@ module _ (names : List (List ℕ)) where
       where
         by : (p q r s t : Bool) → eqb b 123 ≡ p → eqb b 91 ≡ q → eqb b 39 ≡ r → eqb b 45 ≡ s
             → cond p (tuple_at (elements_at read) text) (cond q (list_at (elements_at read) text) (cond r (quoted_at names text)
-                (cond s (integer_at true text) (cond t (integer_at false (b ∷ text)) (plain_at names (b ∷ text)))))) ≡ Some (v, rest)
+            (cond s (integer_at true text) (cond t (integer_at false (b ∷ text)) (plain_at names (b ∷ text)))))) ≡ Some (v, rest)
             → Says names (b ∷ text) v rest
         by true q r s t is_p is_q is_r is_s made = rw (eqb-true b 123 is_p) (tuple_sound text v rest made)
         by false true r s t is_p is_q is_r is_s made = rw (eqb-true b 91 is_q) (list_sound text v rest made)

@@ -1,5 +1,5 @@
 -- What is read at the front of a text, by its first byte.
-use Rattle.std.proofs.Common.{◌≡◌, ◌≢◌, ℕ, zero, suc, Bool, true, false, eqb, List, [], ◌∷◌, length, Option, Some, None, Result, Ok, Err, refl, sym, ap, ◌∙◌, arith}
+use Rattle.std.proofs.Common.{◌≡◌, ◌≢◌, ℕ, zero, suc, true, false, eqb, List, [], ◌∷◌, length, Option, Some, None, refl, ap, ◌∙◌, arith}
 use Rattle.std.specs.Prelude.{map}
 use Rattle.std.proofs.lemmas.Bool.Decides.{nat_tests}
 use Rattle.pf_fault.specs.declared.fault.OrNoMemory.{OrNoMemory}
@@ -9,7 +9,7 @@ use Rattle.pf_terms.specs.Term.{value_of, values_of}
 use Rattle.pf_terms.specs.Value.{Value, tuple, list, more}
 use Rattle.pf_tokens.specs.Bytes.{is_digit}
 use Rattle.pf_termtext.specs.declared.fault.NoTerm.{NoTerm}
-use Rattle.pf_termtext.specs.Reading.{Front, Fails, ◌>>=◌, before, bounded, elements, elements_at, tuple_at, list_at, quoted_at, integer_at, plain_at, value_by, value_at}
+use Rattle.pf_termtext.specs.Reading.{Front, Fails, before, bounded, elements, elements_at, tuple_at, list_at, quoted_at, integer_at, plain_at, value_by, value_at}
 
 -- a fault of a part is a fault of the whole
 pub fails_as : {X Y : Type 0} (e : OrNoMemory NoTerm) (a : Option X) (b : Option Y) → (a ≡ None → b ≡ None) → Fails e a → Fails e b
@@ -32,14 +32,12 @@ unfolding value_at
 value_step names room less text is = rw is refl
 
 module _ (names : List (List ℕ)) (room less : ℕ) (is : room ≡ suc less) where
-
   -- nothing is read of nothing
   pub value_of_nothing : (text : List ℕ) → length text ≡ 0 → value_at names room text ≡ None
   value_of_nothing [] empty = value_step names room less [] is
   value_of_nothing (b ∷ text) empty = absurd (omega (arith, empty))
 
   module _ (text : List ℕ) (b : ℕ) (rest : List ℕ) (begins : text ≡ b ∷ rest) where
-
     pub at_brace : b ≡ 123 → value_at names room text ≡ tuple_at (elements_at (value_at names less)) rest
     at_brace byte = value_step names room less text is ∙ rw (begins, byte) refl
 

@@ -1,5 +1,5 @@
 -- A whole text: what is read of it, and of which value it is.
-use Rattle.std.proofs.Common.{◌≡◌, ℕ, List, [], ◌∷◌, ◌++◌, length, true, Option, Some, None, Result, Ok, Err, refl, sym, ap, ◌∙◌, arith}
+use Rattle.std.proofs.Common.{◌≡◌, ℕ, List, [], ◌∷◌, length, Some, None, Result, Ok, Err, refl, sym, ap, ◌∙◌, arith}
 use Rattle.std.specs.Prelude.{IfOk}
 use Rattle.std.proofs.lemmas.List.{append-nil}
 use Rattle.std.proofs.lemmas.Option.{same_Some, option_and_then_some}
@@ -13,7 +13,7 @@ use Rattle.pf_terms.specs.Value.{Value}
 use Rattle.pf_terms.specs.declared.term.Term.{Term}
 use Rattle.pf_termtext.specs.declared.fault.NoTerm.{NoTerm}
 use Rattle.pf_termtext.specs.Texts.{IsTextOf, NoTextOfTwo, no_term}
-use Rattle.pf_termtext.specs.Reading.{Gives, ◌>>=◌, alone, value_at, value_of_text}
+use Rattle.pf_termtext.specs.Reading.{Gives, alone, value_at, value_of_text}
 use Rattle.pf_termtext.proofs.Sound.{Says, text_of, value_sound}
 use Rattle.pf_termtext.proofs.Again.{value_again}
 
@@ -29,8 +29,8 @@ text_of_read names bytes v e = option_and_then_some _ (value_at names MOST_DEPTH
 pub read_of_text : (names : List (List ℕ)) (bytes : List ℕ) (v : Value) → TellsApart (name_of names) (length names) → IsTextOf names bytes v → value_of_text names bytes ≡ Some v
 read_of_text names bytes v apart is =
     let read : value_at names MOST_DEPTH bytes ≡ Some (v, []) =
-        ap (value_at names MOST_DEPTH) (is.printed ∙ sym (append-nil (text_of names v)))
-        ∙ value_again names apart MOST_DEPTH (omega arith) v (is.readable, is.within.0, is.within.1) [] refl in
+    ap (value_at names MOST_DEPTH) (is.printed ∙ sym (append-nil (text_of names v)))
+    ∙ value_again names apart MOST_DEPTH (omega arith) v (is.readable, is.within.0, is.within.1) [] refl in
     rw read refl
 
 -- no text is of two values

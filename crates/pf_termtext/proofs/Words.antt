@@ -1,5 +1,5 @@
 -- The bytes of words at the front of a text.
-use Rattle.std.proofs.Common.{◌≡◌, ℕ, Bool, true, List, [], ◌∷◌, ◌++◌, length, take, drop, refl, sym, ap, ◌∙◌}
+use Rattle.std.proofs.Common.{◌≡◌, ℕ, true, List, [], ◌∷◌, ◌++◌, length, take, drop, refl, sym, ap, ◌∙◌}
 use Rattle.std.specs.List.{list_all, prefix_len}
 use Rattle.std.proofs.lemmas.List.{take-append-drop}
 use Rattle.pf_tokens.specs.Bytes.{ends, is_word}
@@ -11,7 +11,6 @@ pub word_split : (text : List ℕ) → text ≡ word text ++ behind_word text
 word_split text = sym (take-append-drop (prefix_len is_word text) text)
 
 module _ (name rest : List ℕ) (words : list_all is_word name ≡ true) (whole : ends is_word rest ≡ true) where
-
   run : prefix_len is_word (name ++ rest) ≡ length name
   run = prefix_len-run is_word name rest (record { each = words; whole = whole })
 

@@ -149,11 +149,7 @@ fn read_whole(alloc: Global, bytes: &[u8], atoms: &AtomTable) -> Result<Term, Fa
 
 /// The term of which the bytes are printed. Nothing else may stand in them, no blank either. Where there is no such
 /// term, or only one with a process, a reference or an atom that the table lacks, the text is refused.
-pub fn read(
-    alloc: Global,
-    bytes: &[u8],
-    atoms: &AtomTable,
-) -> Result<Term, OrNoMemory<NoTerm>>
+pub fn read(alloc: Global, bytes: &[u8], atoms: &AtomTable) -> Result<Term, OrNoMemory<NoTerm>>
     ensures found { IfOk result (λ t. IsTextOf atoms.now bytes.now (value_of t)) }
     ensures again { (v : Value) → IsTextOf atoms.now bytes.now v → IfOk result (λ t. value_of t ≡ v) }
     ensures refused { result ≡ Err no_term → (v : Value) → ¬ IsTextOf atoms.now bytes.now v }

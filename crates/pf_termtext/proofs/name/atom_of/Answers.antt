@@ -1,4 +1,4 @@
-use Rattle.std.proofs.Common.{◌≡◌, sym, Some, None, ap, ◌∙◌, Option, rules, ℕ, List}
+use Rattle.std.proofs.Common.{◌≡◌, sym, Some, None, Option}
 use Rattle.std.specs.Prelude.{option_map, IfSome, IfNone, slice_get, false}
 use Rattle.std.specs.List.{list_any}
 use Rattle.std.specs.Str.{bytes_eq}

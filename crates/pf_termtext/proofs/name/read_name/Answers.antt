@@ -1,6 +1,4 @@
-use Rattle.std.proofs.Common.{rules, arith, ◌∙◌, sym, ap}
-use Rattle.pf_termtext.proofs.Written.{name_more, name_ends, name_fails, written_shorter, with_front}
-use Rattle.pf_termtext.specs.Reading.{name_at}
+use Rattle.pf_termtext.proofs.Written.{name_more, name_ends, name_fails}
 use Rattle.pf_termtext.proofs.name.read_name.Goals as goal
 
 pub loop-byte-preserved : goal.loop-byte-preserved

@@ -1,5 +1,4 @@
 use Rattle.std.proofs.Common.{◌+◌, arith}
-use Rattle.pf_tokens.specs.TokenKinds.{decimal}
 use Rattle.pf_tokens.proofs.Numerals.{decimal_more, decimal_front}
 use Rattle.pf_termtext.proofs.number.magnitude.Goals as goal
 

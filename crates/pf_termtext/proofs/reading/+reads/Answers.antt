@@ -1,10 +1,10 @@
-use Rattle.std.proofs.Common.{◌≡◌, ◌≢◌, ◌+◌, ◌-◌, ◌∷◌, ◌++◌, [], zero, suc, map, Some, None, arith, sym, ap, ◌∙◌, rules}
+use Rattle.std.proofs.Common.{◌≡◌, ◌≢◌, ◌+◌, ◌-◌, ◌∷◌, [], zero, suc, map, Some, arith, sym, ap, ◌∙◌, rules}
 use Rattle.std.proofs.lemmas.Result.{err_from_is_err_and}
 use Rattle.std.proofs.lemmas.List.{map-append}
-use Rattle.pf_terms.specs.Term.{value_of, values_of}
+use Rattle.pf_terms.specs.Term.{value_of}
 use Rattle.pf_terms.specs.Value.{tuple, list}
 use Rattle.pf_terms.specs.declared.limits.TheConstants.{MOST_NODES}
-use Rattle.pf_termtext.specs.Reading.{before, bounded, elements, value_at, items_at, elements_at}
+use Rattle.pf_termtext.specs.Reading.{before, bounded, value_at, elements_at}
 use Rattle.pf_termtext.proofs.Items.{items_more, items_end, items_fail, items_full}
 use Rattle.pf_termtext.proofs.Values.{fails_as, elements-map, value_nowhere, value_of_nothing, at_brace, at_bracket, at_quote, at_minus, at_digit, at_other, tuple_by, list_by}
 use Rattle.pf_termtext.proofs.reading.+reads.Goals as goal
