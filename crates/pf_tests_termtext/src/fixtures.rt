@@ -66,25 +66,22 @@ pub fn print_failing(alloc: Global, term: &Term, atoms: &AtomTable, failing: u64
     print_by::<Brand>(alloc, term, atoms, failing, Blank::new(1))
 }
 
-/// A table with atoms of each writing.
+/// Enters a name. A test has few of them.
+fn enter(alloc: Global, atoms: &mut AtomTable, name: &[u8]) -> Result<(), Fail> {
+    if atoms.len() < 1_000 {
+        atoms.enter(alloc, name)?;
+    }
+    Ok(())
+}
+
+/// Atoms of each writing, with a `;` behind each but the last. One is empty.
+const NAMES: &str = "a;b;;A;case;maybe;odd name;9a;it's\n\ta\\b;x\"y;n;a@Z_9;é";
+
+/// The table of these atoms.
 pub fn table(alloc: Global) -> Result<AtomTable, Fail> {
     let mut atoms = AtomTable::new(alloc)?;
-    for name in [
-        b"a".as_slice(),
-        b"b",
-        b"",
-        b"A",
-        b"case",
-        b"maybe",
-        b"odd name",
-        b"9a",
-        b"it's\n\ta\\b",
-        b"x\"y",
-        b"n",
-        b"a@Z_9",
-        b"\xc3\xa9\x00",
-    ] {
-        atoms.enter(alloc, name)?;
+    for name in NAMES.as_bytes().split(|byte| *byte == b';') {
+        enter(alloc, &mut atoms, name)?;
     }
     Ok(atoms)
 }

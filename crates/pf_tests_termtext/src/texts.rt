@@ -7,105 +7,98 @@ use pf_termtext::{NoTerm, read};
 use std::alloc::Global;
 use std::test::Fail;
 
-/// What is printed of values.
-const PRINTED: [&[u8]; 25] = [
-    b"{a,[1,-2]}",
-    b"0",
-    b"7",
-    b"-1",
-    b"10",
-    b"9223372036854775807",
-    b"-9223372036854775808",
-    b"a",
-    b"maybe",
-    b"a@Z_9",
-    b"true",
-    b"'EXIT'",
-    b"''",
-    b"'A'",
-    b"'case'",
-    b"'odd name'",
-    b"'9a'",
-    b"'it\\'s\\n\\ta\\\\b'",
-    b"'x\"y'",
-    b"'\xc3\xa9\x00'",
-    b"[]",
-    b"{}",
-    b"[[],{},[[]]]",
-    b"{a,{b,[a,'A'],{}},-3}",
-    b"[97,98]",
-];
+/// What is printed of values, a text a line.
+const PRINTED: &str = r#"{a,[1,-2]}
+0
+7
+-1
+10
+9223372036854775807
+-9223372036854775808
+a
+maybe
+a@Z_9
+true
+'EXIT'
+''
+'A'
+'case'
+'odd name'
+'9a'
+'it\'s\n\ta\\b'
+'x"y'
+'é'
+[]
+{}
+[[],{},[[]]]
+{a,{b,[a,'A'],{}},-3}
+[97,98]"#;
 
-/// What is printed of no value, or only of one with a process, a reference or an atom that the table lacks.
-const REFUSED: [&[u8]; 61] = [
-    b"<0>",
-    b"#Ref<0>",
-    b"{a,<0>}",
-    b"[#Ref<3>]",
-    b"",
-    b" ",
-    b" 1",
-    b"1 ",
-    b"1\n",
-    b"[1, 2]",
-    b"a % b",
-    b"-0",
-    b"007",
-    b"00",
-    b"-01",
-    b"+1",
-    b"--1",
-    b"-",
-    b"- 1",
-    b"-a",
-    b"9223372036854775808",
-    b"-9223372036854775809",
-    b"99999999999999999999999999",
-    b"-99999999999999999999999999",
-    b"1_0",
-    b"1a",
-    b"1.5",
-    b"$a",
-    b"\"ab\"",
-    b"'a'",
-    b"'maybe'",
-    b"case",
-    b"c",
-    b"'C'",
-    b"A",
-    b"_",
-    b"?MODULE",
-    b"'odd\\sname'",
-    b"'x\\\"y'",
-    b"'it's\\n\\ta\\\\b'",
-    b"'it\\'s\n\\ta\\\\b'",
-    b"'it\\'s\\n\ta\\\\b'",
-    b"'A",
-    b"'",
-    b"'A\\",
-    b"'A\\'",
-    b"'\\A'",
-    b"{",
-    b"[",
-    b"}",
-    b"]",
-    b"{a",
-    b"{a]",
-    b"[a}",
-    b"{,a}",
-    b"{a,}",
-    b"[a,,b]",
-    b"[1,2]3",
-    b"{}{}",
-    b"a.",
-    b"[a|b]",
-];
+/// What is printed of no value, or only of one with a process, a reference or an atom that the table lacks. The
+/// first line is empty.
+const REFUSED: &str = r#"
+<0>
+#Ref<0>
+{a,<0>}
+[#Ref<3>]
+ 1
+1 
+[1, 2]
+a % b
+-0
+007
+00
+-01
++1
+--1
+-
+- 1
+-a
+9223372036854775808
+-9223372036854775809
+99999999999999999999999999
+-99999999999999999999999999
+1_0
+1a
+1.5
+$a
+"ab"
+'a'
+'maybe'
+case
+c
+'C'
+A
+_
+?MODULE
+'odd\sname'
+'x\"y'
+'it's\n\ta\\b'
+'A
+'
+'A\
+'A\'
+'\A'
+{
+[
+}
+]
+{a
+{a]
+[a}
+{,a}
+{a,}
+[a,,b]
+[1,2]3
+{}{}
+[a|b]
+a."#;
 
 #[test]
 fn printed_texts_are_read_and_printed_again(rt: HostRuntime) -> Result<(), Fail> {
     let alloc = rt.alloc();
     let atoms = table(alloc)?;
-    for text in PRINTED {
+    for text in PRINTED.as_bytes().split(|byte| *byte == b'\n') {
         let term = read(alloc, text, &atoms)?;
         let printed = print_failing(alloc, &term, &atoms, 0);
         assert_eq!(rt; printed.out.as_slice(), text);
@@ -118,7 +111,15 @@ fn printed_texts_are_read_and_printed_again(rt: HostRuntime) -> Result<(), Fail>
 fn other_texts_are_refused(rt: HostRuntime) -> Result<(), Fail> {
     let alloc = rt.alloc();
     let atoms = table(alloc)?;
-    for text in REFUSED {
+    for text in REFUSED.as_bytes().split(|byte| *byte == b'\n') {
+        assert!(rt; is_refused(alloc, text, &atoms));
+    }
+    // A line end stands in quotes as an escape alone.
+    for text in [
+        b"1\n".as_slice(),
+        b"'it\\'s\n\\ta\\\\b'",
+        b"'it\\'s\\n\ta\\\\b'",
+    ] {
         assert!(rt; is_refused(alloc, text, &atoms));
     }
     let code = format!(in alloc; "{}", NoTerm)?;
