@@ -1,6 +1,6 @@
 //! The term of a text.
 
-ghost use Rattle.std.specs.Prelude.{◌≡◌, ℕ, Err, IfOk, map};
+ghost use Rattle.std.specs.Prelude.{◌≡◌, Err, IfOk, map};
 ghost use Rattle.pf_terms.specs.Term.{value_of, values_of};
 ghost use Rattle.pf_terms.specs.Value.{Value, list, tuple};
 ghost use Rattle.pf_termtext.specs.Reading.{Gives, bounded, elements_at, items_at, list_at, tuple_at, value_at, value_of_text};
@@ -37,7 +37,7 @@ fn bounded_list(alloc: Global, items: Vec<Term>) -> Result<Term, Fault>
     }
 }
 
-/// Reads one element or several with commas between them. A value within the limits has fewer of them than nodes.
+/// Reads one element or several with commas between them. A value within the limits has fewer elements than nodes.
 #[cycle(reads)]
 fn read_items<'a>(
     alloc: Global,
@@ -45,7 +45,8 @@ fn read_items<'a>(
     atoms: &AtomTable,
     room: u32,
 ) -> Result<(Vec<Term>, &'a [u8]), Fault>
-    ensures { Gives (λ p. (map value_of p.0.items, p.1.now)) result (items_at (value_at atoms.now room) MOST_NODES text.now) }
+    ensures { Gives (λ p. (map value_of p.0.items, p.1.now)) result
+        (items_at (value_at atoms.now room) MOST_NODES text.now) }
 {
     let mut items = Vec::new(alloc);
     let mut rest = text;
@@ -69,7 +70,8 @@ fn read_elements<'a>(
     room: u32,
     end: u8,
 ) -> Result<(Vec<Term>, &'a [u8]), Fault>
-    ensures { Gives (λ p. (map value_of p.0.items, p.1.now)) result (elements_at (value_at atoms.now room) end text.now) }
+    ensures { Gives (λ p. (map value_of p.0.items, p.1.now)) result
+        (elements_at (value_at atoms.now room) end text.now) }
 {
     if let Some(rest) = behind(text, end) {
         return Ok((Vec::new(alloc), rest));
@@ -89,7 +91,8 @@ fn read_tuple<'a>(
     atoms: &AtomTable,
     room: u32,
 ) -> Result<(Term, &'a [u8]), Fault>
-    ensures { Gives (λ p. (value_of p.0, p.1.now)) result (tuple_at (elements_at (value_at atoms.now room)) text.now) }
+    ensures { Gives (λ p. (value_of p.0, p.1.now)) result
+        (tuple_at (elements_at (value_at atoms.now room)) text.now) }
 {
     let (items, rest) = read_elements(alloc, text, atoms, room, b'}')?;
     Ok((bounded_tuple(alloc, items)?, rest))
@@ -103,7 +106,8 @@ fn read_list<'a>(
     atoms: &AtomTable,
     room: u32,
 ) -> Result<(Term, &'a [u8]), Fault>
-    ensures { Gives (λ p. (value_of p.0, p.1.now)) result (list_at (elements_at (value_at atoms.now room)) text.now) }
+    ensures { Gives (λ p. (value_of p.0, p.1.now)) result
+        (list_at (elements_at (value_at atoms.now room)) text.now) }
 {
     let (items, rest) = read_elements(alloc, text, atoms, room, b']')?;
     Ok((bounded_list(alloc, items)?, rest))
