@@ -12,7 +12,7 @@ use Rattle.pf_terms.specs.Term.{value_of}
 use Rattle.pf_terms.specs.Value.{Value}
 use Rattle.pf_terms.specs.declared.term.Term.{Term}
 use Rattle.pf_termtext.specs.declared.fault.NoTerm.{NoTerm}
-use Rattle.pf_termtext.specs.Texts.{IsTextOf, NoTextOfTwo, no_term}
+use Rattle.pf_termtext.specs.Texts.{IsTextOf, NoTextOfTwo, PrintedIsReadBack, no_term}
 use Rattle.pf_termtext.specs.Reading.{Gives, alone, value_at, value_of_text}
 use Rattle.pf_termtext.proofs.Sound.{Says, text_of, value_sound}
 use Rattle.pf_termtext.proofs.Again.{value_again}
@@ -37,6 +37,12 @@ read_of_text names bytes v apart is =
 pub one_value : NoTextOfTwo
 one_value names bytes v w apart first second =
     same_Some v w (sym (read_of_text names bytes v apart first) ∙ read_of_text names bytes w apart second)
+
+-- what is printed is of the value alone
+pub read_back : PrintedIsReadBack
+read_back names v apart readable within =
+    let is : IsTextOf names (text_of names v) v = record { printed = refl; readable = readable; within = within } in
+    (is, λ w other. one_value names (text_of names v) w v apart other is)
 
 -- what the code reads, where reading gives it
 pub found_by : (names : List (List ℕ)) (bytes : List ℕ) (r : Result Term (OrNoMemory NoTerm)) → Gives value_of r (value_of_text names bytes) → IfOk r (λ t. IsTextOf names bytes (value_of t))

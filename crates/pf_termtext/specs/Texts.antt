@@ -39,6 +39,13 @@ NoTextOfTwo =
     (names : List (List ℕ)) (bytes : List ℕ) (v w : Value) → TellsApart (name_of names) (length names)
     → IsTextOf names bytes v → IsTextOf names bytes w → v ≡ w
 
+-- what is printed of a value that can be read, within the limits, is of this value and of no other
+abbrev pub PrintedIsReadBack : Type 0
+PrintedIsReadBack =
+    (names : List (List ℕ)) (v : Value) → TellsApart (name_of names) (length names)
+    → CanBeRead (length names) v → IsWithinLimits v
+    → let bytes = value_text (name_of names) v in IsTextOf names bytes v × ((w : Value) → IsTextOf names bytes w → w ≡ v)
+
 -- the text is refused
 abbrev pub no_term : OrNoMemory NoTerm
 no_term = Fault (record {})

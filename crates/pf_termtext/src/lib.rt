@@ -10,6 +10,6 @@ mod printing;
 mod reading;
 
 pub use fault::NoTerm;
-pub use laws::no_text_of_two;
+pub use laws::{no_text_of_two, printed_is_read_back};
 pub use printing::print;
 pub use reading::read;
