@@ -23,7 +23,7 @@ fn are_word(bytes: &[u8]) -> bool
 }
 
 /// Whether a name is written as it is, and else in quotes.
-fn is_plain_name(name: &[u8]) -> bool
+pub fn is_plain_name(name: &[u8]) -> bool
     ensures { result ≡ is_plain_name name.now }
 {
     let Some((first, others)) = name.split_first() else {

@@ -16,7 +16,7 @@ fn are_digits(text: &[u8]) -> bool
 }
 
 /// Whether a text is a number without a zero before other digits.
-fn is_numeral(text: &[u8]) -> bool
+pub fn is_numeral(text: &[u8]) -> bool
     ensures { result ≡ is_numeral text.now }
 {
     match text {

@@ -1,0 +1,179 @@
+-- The value at the front of a text, read from left to right.
+use Rattle.std.specs.Prelude.{◌≡◌, ℕ, zero, suc, ◌^◌, ℤ, pos, negsuc, Bool, true, false, ◌==◌, ◌&&◌, ◌||◌, not, nat_lt, nat_le, if◌then◌else◌, List, [], ◌∷◌, take, drop, Option, Some, None, option_map, option_and_then, Result, Ok, Err}
+use Rattle.std.specs.List.{prefix_len}
+use Rattle.std.specs.Str.{bytes_eq}
+use Rattle.pf_fault.specs.declared.fault.OrNoMemory.{OrNoMemory}
+use Rattle.pf_fault.specs.declared.fault.OrNoMemory.TheVariants.{NoMemory, Fault}
+use Rattle.pf_terms.specs.declared.limits.TheConstants.{MOST_DEPTH, MOST_NODES}
+use Rattle.pf_terms.specs.Value.{Value, Values, int, atom, tuple, list, none, more, nodes, depth}
+use Rattle.pf_tokens.specs.Bytes.{is_digit, is_word, single_quote, backslash}
+use Rattle.pf_tokens.specs.TokenKinds.{decimal}
+use Rattle.pf_model.specs.TermText.{is_plain_name}
+use Rattle.pf_text.specs.Numbers.{is_numeral}
+use Rattle.pf_termtext.specs.declared.fault.NoTerm.{NoTerm}
+
+-- what stands at the front of a text, and the bytes behind it
+abbrev pub Front : Type 0 → Type 0
+Front X = Option (X × List ℕ)
+
+infixl 10 ◌>>=◌
+abbrev pub ◌>>=◌ : {A B : Type 0} → Option A → (A → Option B) → Option B
+o >>= f = option_and_then f o
+
+-- out of memory says nothing of the text, and a fault says that nothing is read
+abbrev pub Fails : {Y : Type 0} → OrNoMemory NoTerm → Option Y → Type 0
+Fails NoMemory read = Unit {0}
+Fails (Fault e) read = read ≡ None
+
+-- a result, seen by a view, is what is read, unless memory ran out
+abbrev pub Gives : {X Y : Type 0} → (X → Y) → Result X (OrNoMemory NoTerm) → Option Y → Type 0
+Gives view (Ok x) read = read ≡ Some (view x)
+Gives view (Err e) read = Fails e read
+
+-- the bytes behind this byte, where it stands at the front
+abbrev pub behind : ℕ → List ℕ → Option (List ℕ)
+behind b [] = None
+behind b (c ∷ text) = if c == b then Some text else None
+
+-- what is made of a value, before the same bytes
+abbrev pub before : {X Y : Type 0} → List ℕ → (X → Y) → Option X → Front Y
+before rest make x = option_map (λ y. (make y, rest)) x
+
+-- a name or digits go on as long as bytes of words do
+abbrev pub word : List ℕ → List ℕ
+word text = take (prefix_len is_word text) text
+
+abbrev pub behind_word : List ℕ → List ℕ
+behind_word text = drop (prefix_len is_word text) text
+
+-- an integer has 64 bits, and zero has no sign
+abbrev pub signed : Bool → ℕ → Option ℤ
+signed false n = if nat_lt n (2 ^ 63) then Some (pos n) else None
+signed true zero = None
+signed true (suc n) = if nat_lt n (2 ^ 63) then Some (negsuc n) else None
+
+-- the integer that digits are, with a minus sign or without
+abbrev pub integer_of : Bool → List ℕ → Option ℤ
+integer_of minus digits = if is_numeral digits then signed minus (decimal digits) else None
+
+-- the integer whose digits stand at the front
+abbrev pub integer_at : Bool → List ℕ → Front Value
+integer_at minus text = before (behind_word text) int (integer_of minus (word text))
+
+-- the atom of this name, which is the first that has it
+abbrev pub atom_of : List (List ℕ) → List ℕ → Option ℕ
+atom_of [] name = None
+atom_of (n ∷ names) name = if bytes_eq name n then Some 0 else option_map suc (atom_of names name)
+
+-- the atom whose name stands at the front as it is
+abbrev pub plain_at : List (List ℕ) → List ℕ → Front Value
+plain_at names text =
+    if is_plain_name (word text) then before (behind_word text) atom (atom_of names (word text)) else None
+
+-- the byte that a letter stands for behind `\`
+abbrev pub escaped : ℕ → Option ℕ
+escaped letter =
+    if letter == 110 then Some 10
+    else (if letter == 116 then Some 9
+    else (if letter == backslash || letter == single_quote then Some letter
+    else None))
+
+-- a byte that stands for itself in quotes: neither the quote nor one that is escaped
+abbrev pub stands_alone : ℕ → Bool
+stands_alone b = not (b == single_quote || b == backslash || b == 10 || b == 9)
+
+-- the byte that is written behind `\`
+abbrev pub escaped_at : List ℕ → Front ℕ
+escaped_at [] = None
+escaped_at (letter ∷ text) = option_map (λ b. (b, text)) (escaped letter)
+
+-- the byte that is written at the front, in quotes
+abbrev pub written_at : List ℕ → Front ℕ
+written_at [] = None
+written_at (b ∷ text) =
+    if b == backslash then escaped_at text
+    else (if stands_alone b then Some (b, text) else None)
+
+-- a byte in front of what is read
+abbrev pub put_byte : ℕ → Front (List ℕ) → Front (List ℕ)
+put_byte b read = option_map (λ p. (b ∷ p.0, p.1)) read
+
+-- the name that is written up to the closing quote; its first byte may stand behind `\`
+unfoldable pub name_at : Bool → List ℕ → Front (List ℕ)
+name_at is_escaped [] = None
+name_at true (b ∷ text) = escaped b >>= λ c. put_byte c (name_at false text)
+name_at false (b ∷ text) =
+    if b == single_quote then Some ([], text)
+    else (if b == backslash then name_at true text
+    else (if stands_alone b then put_byte b (name_at false text)
+    else None))
+
+-- the atom whose name stands in quotes at the front, the first of which is read; a plain name has none
+abbrev pub quoted_at : List (List ℕ) → List ℕ → Front Value
+quoted_at names text =
+    name_at false text >>= λ p. if is_plain_name p.0 then None else before p.1 atom (atom_of names p.0)
+
+-- the values in turn as elements
+abbrev pub elements : List Value → Values
+elements [] = none
+elements (v ∷ vs) = more v (elements vs)
+
+-- the value, where it is within the limits
+abbrev pub bounded : Value → Option Value
+bounded v = if nat_le (nodes v) MOST_NODES && nat_le (depth v) MOST_DEPTH then Some v else None
+
+-- how the elements at the front are read
+abbrev pub Elements : Type 0
+Elements = ℕ → List ℕ → Front (List Value)
+
+-- behind an element stands a comma and the next one, or they end there
+abbrev pub next_items : (List ℕ → Front (List Value)) → Value → List ℕ → Option (List ℕ) → Front (List Value)
+next_items others v rest None = Some (v ∷ [], rest)
+next_items others v rest (Some text) = option_map (λ p. (v ∷ p.0, p.1)) (others text)
+
+-- one element or several with commas between them, at most so many
+unfoldable pub items_at : (List ℕ → Front Value) → ℕ → List ℕ → Front (List Value)
+items_at read zero text = None
+items_at read (suc n) text = read text >>= λ p. next_items (items_at read n) p.0 p.1 (behind 44 p.1)
+
+-- no elements, where their end stands at once, or some before their end
+abbrev pub elements_by : (List ℕ → Front (List Value)) → ℕ → List ℕ → Option (List ℕ) → Front (List Value)
+elements_by items close text (Some rest) = Some ([], rest)
+elements_by items close text None = items text >>= λ p. option_map (λ rest. (p.0, rest)) (behind close p.1)
+
+-- the elements up to their end
+abbrev pub elements_at : (List ℕ → Front Value) → Elements
+elements_at read close text = elements_by (items_at read MOST_NODES) close text (behind close text)
+
+-- the tuple whose elements stand at the front, behind its brace
+abbrev pub tuple_at : Elements → List ℕ → Front Value
+tuple_at items text = items 125 text >>= λ p. before p.1 (λ v. v) (bounded (tuple (elements p.0)))
+
+-- the list whose elements stand at the front, behind its bracket
+abbrev pub list_at : Elements → List ℕ → Front Value
+list_at items text = items 93 text >>= λ p. before p.1 (λ v. v) (bounded (list (elements p.0)))
+
+-- the value that begins with such a byte
+abbrev pub value_by : Elements → List (List ℕ) → List ℕ → Front Value
+value_by items names [] = None
+value_by items names (b ∷ text) =
+    if b == 123 then tuple_at items text
+    else (if b == 91 then list_at items text
+    else (if b == single_quote then quoted_at names text
+    else (if b == 45 then integer_at true text
+    else (if is_digit b then integer_at false (b ∷ text)
+    else plain_at names (b ∷ text)))))
+
+-- the value at the front of a text, at most so deep
+unfoldable pub value_at : List (List ℕ) → ℕ → List ℕ → Front Value
+value_at names zero text = None
+value_at names (suc room) text = value_by (elements_at (value_at names room)) names text
+
+-- the value, where nothing stands behind it
+abbrev pub alone : Value → List ℕ → Option Value
+alone v [] = Some v
+alone v (b ∷ rest) = None
+
+-- the value whose text this is
+abbrev pub value_of_text : List (List ℕ) → List ℕ → Option Value
+value_of_text names text = value_at names MOST_DEPTH text >>= λ p. alone p.0 p.1

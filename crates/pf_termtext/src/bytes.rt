@@ -1,0 +1,34 @@
+//! The bytes at the front of a text.
+
+ghost use Rattle.std.specs.Prelude.{◌≡◌, ◌≤◌, length, option_map};
+ghost use Rattle.std.specs.List.{prefix_len};
+ghost use Rattle.pf_tokens.specs.Bytes.{is_word};
+ghost use Rattle.pf_termtext.specs.Reading.{behind, behind_word, word};
+
+use pf_tokens::is_word;
+
+/// The bytes behind this one, where it stands at the front.
+pub fn behind(text: &[u8], byte: u8) -> Option<&[u8]>
+    ensures { option_map (λ rest. rest.now) result ≡ behind byte text.now }
+{
+    match text {
+        [first, rest @ ..] if *first == byte => Some(rest),
+        _ => None,
+    }
+}
+
+/// How many bytes of words stand at the front.
+fn word_length(text: &[u8]) -> usize
+    ensures length { result ≡ prefix_len is_word text.now }
+    ensures within { result ≤ length text.now }
+{
+    text.iter().take_while(|byte| is_word(**byte)).count()
+}
+
+/// The bytes of words at the front, and the bytes behind them.
+pub fn split_word(text: &[u8]) -> (&[u8], &[u8])
+    ensures word { result.0.now ≡ word text.now }
+    ensures rest { result.1.now ≡ behind_word text.now }
+{
+    text.split_at(word_length(text))
+}

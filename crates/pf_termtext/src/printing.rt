@@ -1,0 +1,35 @@
+//! What is printed of a term.
+
+ghost use Rattle.std.specs.Prelude.{◌≡◌, IfErr, OnOk};
+ghost use Rattle.std.specs.Io.KnownBytes.{Appends};
+ghost use Rattle.pf_terms.specs.Atoms.{name_of};
+ghost use Rattle.pf_terms.specs.Term.{value_of};
+ghost use Rattle.pf_model.specs.TermText.{value_text};
+ghost use Rattle.pf_termtext.specs.Streams.{Leaves};
+
+use pf_fault::OrNoMemory;
+use pf_terms::{AtomTable, Counted, StreamFault, Term};
+use pf_text::put_term;
+use std::alloc::Global;
+use std::io::Write;
+use std::sync::ledger::Ledger;
+
+/// Writes the text of a term. Where a write fails, a beginning of it went out.
+pub fn print<W: Write, L: Ledger>(
+    alloc: Global,
+    term: &Term,
+    atoms: &AtomTable,
+    writer: &mut Counted<W, L>,
+) -> Result<(), OrNoMemory<StreamFault>>
+    ensures written { OnOk result (Appends (W.contents writer.old.inner) (W.contents writer.new.inner)
+        (value_text (name_of atoms.now) (value_of term.now))) }
+    ensures kept { OnOk result (writer.new.failures.total ≡ writer.old.failures.total) }
+    ensures fault { IfErr result (λ e. Leaves e (value_text (name_of atoms.now) (value_of term.now))
+        (W.contents writer.old.inner) (W.contents writer.new.inner)
+        writer.old.failures.total writer.new.failures.total) }
+{
+    let mut text = Vec::new(alloc);
+    put_term(alloc, &mut text, atoms, term)?;
+    writer.put(&text)?;
+    Ok(())
+}
