@@ -1,0 +1,27 @@
+//! What a mailbox does with the message at the mark of its list.
+
+ghost use Rattle.std.specs.Prelude.{◌≡◌, length, remove, slice_get, MatchOption, Some};
+ghost use Rattle.pf_nodes.specs.Mail.{mail};
+
+use pf_nodes::{MailList, Pool};
+use pf_terms::{NoMemory, Term};
+
+/// Takes out the message at the mark, if there is one. The mark keeps its position.
+pub(crate) fn take_marked(list: &mut MailList<Term>, pool: &mut Pool<Term>) -> Option<Term>
+    ensures { MatchOption result ((list.new ≡ list.old) × (list.old.mark ≡ length list.old.items))
+        (λ t. (slice_get list.old.items list.old.mark ≡ Some t)
+        × (list.new ≡ mail (remove list.old.items list.old.mark) list.old.mark)) }
+{
+    let Ok(Some(spot)) = list.find_from_mark(|_message| -> Result<bool, NoMemory> { Ok(true) })
+    else {
+        return None;
+    };
+    Some(list.unlink(pool, spot))
+}
+
+/// Moves the mark to the end.
+pub(crate) fn mark_end(list: &mut MailList<Term>)
+    ensures { list.new ≡ mail list.old.items (length list.old.items) }
+{
+    let _none = list.find_from_mark(|_message| -> Result<bool, NoMemory> { Ok(false) });
+}
