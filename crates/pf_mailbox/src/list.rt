@@ -12,11 +12,11 @@ pub(crate) fn take_marked(list: &mut MailList<Term>, pool: &mut Pool<Term>) -> O
         (λ t. (slice_get list.old.items list.old.mark ≡ Some t)
         × (list.new ≡ mail (remove list.old.items list.old.mark) list.old.mark)) }
 {
-    let Ok(Some(spot)) = list.find_from_mark(|_message| -> Result<bool, NoMemory> { Ok(true) })
-    else {
-        return None;
-    };
-    Some(list.unlink(pool, spot))
+    match list.find_from_mark(|_message| -> Result<bool, NoMemory> { Ok(true) }) {
+        Ok(Some(spot)) => Some(list.unlink(pool, spot)),
+        Ok(None) => None,
+        Err(NoMemory) => None,
+    }
 }
 
 /// Moves the mark to the end.

@@ -1,6 +1,6 @@
 //! The messages of a process, and how far the `receive` at which it waits has tested them.
 
-ghost use Rattle.std.specs.Prelude.{◌≡◌, ◌-◌, ◌^◌, ◌<◌, ◌≤◌, length, take, drop};
+ghost use Rattle.std.specs.Prelude.{◌≡◌, ◌-◌, ◌^◌, ◌<◌, ◌≤◌, ◌==◌, length, drop};
 ghost use Rattle.std.specs.Prelude.{IfOk, IsOk, MatchOption, OnErr, OnOk};
 ghost use Rattle.pf_terms.specs.Term.{value_of};
 ghost use Rattle.pf_syntax.specs.Over.{clauses_over};
@@ -12,7 +12,6 @@ ghost use Rattle.pf_mailbox.specs.Tests.{FitsNoneBefore, awaited, risen, tested}
 use crate::list::take_marked;
 use crate::search::search;
 use pf_nodes::{MailList, Pool};
-use pf_stepper::choose;
 use pf_syntax::{Clause, Module, Part};
 use pf_terms::{NoMemory, Term};
 use std::alloc::Global;
@@ -36,6 +35,13 @@ impl Model for Mailbox {
     ghost use Rattle.pf_mailbox.specs.Inner.{seen};
 
     ghost view = { λ m. seen m.list m.tests };
+}
+
+/// A count with so many tests more.
+fn counted(tests: u64, more: usize) -> u64
+    ensures { result ≡ risen tests more }
+{
+    tests.saturating_add(more as u64)
 }
 
 impl Mailbox {
@@ -129,22 +135,15 @@ impl Mailbox {
     {
         let start = self.list.mark();
         let picked = search(&mut self.list, alloc, code, clauses, env, base, own);
-        self.count(self.list.mark() - start);
+        self.tests = counted(self.tests, self.list.mark() - start);
         let Some(body) = picked? else {
             return Ok(None);
         };
         let Some(message) = take_marked(&mut self.list, pool) else {
             unreachable!();
         };
-        self.count(1);
+        self.tests = counted(self.tests, 1);
         self.list.reset_mark();
         Ok(Some((body, message)))
-    }
-
-    /// Counts so many tests.
-    fn count(&mut self, tests: usize)
-        ensures { self.new ≡ record self.old { tests = risen self.old.tests tests } }
-    {
-        self.tests = self.tests.saturating_add(tests as u64);
     }
 }

@@ -2,7 +2,7 @@
 
 ghost use Rattle.std.specs.Prelude.{◌≡◌, ◌<◌, ◌≤◌, length, false, IfOk, Ok, slice_get, Some};
 ghost use Rattle.pf_terms.specs.Term.{value_of};
-ghost use Rattle.pf_mailbox.specs.Searches.{Found, Looked, NeverPicks, Passes, Sought};
+ghost use Rattle.pf_mailbox.specs.Searches.{AllEqual, Found, Looked, NeverPicks, Passes, Sought};
 ghost use Rattle.pf_mailbox.specs.Tests.{awaited};
 
 use pf_nodes::MailList;
