@@ -6,14 +6,18 @@ ghost use Rattle.pf_nodes.specs.Mail.{mail};
 use pf_nodes::{MailList, Pool};
 use pf_terms::{NoMemory, Term};
 
-/// Takes out the message at the mark, if there is one. The mark keeps its position.
+/// Takes out the message at the mark, if there is one, and moves the mark to the front.
 pub(crate) fn take_marked(list: &mut MailList<Term>, pool: &mut Pool<Term>) -> Option<Term>
     ensures { MatchOption result ((list.new ≡ list.old) × (list.old.mark ≡ length list.old.items))
         (λ t. (slice_get list.old.items list.old.mark ≡ Some t)
-        × (list.new ≡ mail (remove list.old.items list.old.mark) list.old.mark)) }
+        × (list.new ≡ mail (remove list.old.items list.old.mark) 0)) }
 {
     match list.find_from_mark(|_message| -> Result<bool, NoMemory> { Ok(true) }) {
-        Ok(Some(spot)) => Some(list.unlink(pool, spot)),
+        Ok(Some(spot)) => {
+            let message = list.unlink(pool, spot);
+            list.reset_mark();
+            Some(message)
+        }
         Ok(None) => None,
         Err(NoMemory) => None,
     }

@@ -143,7 +143,6 @@ impl Mailbox {
             unreachable!();
         };
         self.tests = counted(self.tests, 1);
-        self.list.reset_mark();
         Ok(Some((body, message)))
     }
 }

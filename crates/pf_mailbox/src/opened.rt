@@ -29,6 +29,7 @@ impl Inbox for Opened<'_> {
         own: u32,
     ) -> Result<Option<(Part, Term)>, NoMemory> {
         self.mailbox.reset_mark();
-        self.mailbox.select(self.pool, alloc, code, clauses, env, base, own)
+        self.mailbox
+            .select(self.pool, alloc, code, clauses, env, base, own)
     }
 }

@@ -75,3 +75,12 @@ impl Mailbox {
         Ok(Mailbox { list, tests })
     }
 }
+
+/// What a run that is parked needs: mailboxes, packed or not, and the pool of their nodes may go to another thread.
+fn crosses_threads(mailboxes: &Vec<Mailbox>, packed: &Vec<PackedMail>, pool: &Pool<Term>) {
+    needs_send(mailboxes);
+    needs_send(packed);
+    needs_send(pool);
+}
+
+fn needs_send<T: Send>(_value: &T) {}

@@ -13,13 +13,7 @@ use pf_terms::{NoMemory, Term, copy, equal};
 use std::alloc::Global;
 
 /// Whether a message fits the pattern of some clause, whatever the guards.
-fn may_pick(
-    code: &Module,
-    clauses: &[Clause],
-    message: &Term,
-    env: &[Term],
-    base: usize,
-) -> bool
+fn may_pick(code: &Module, clauses: &[Clause], message: &Term, env: &[Term], base: usize) -> bool
     ensures { result ≡ false → NeverPicks code.now (awaited code.now base env.now clauses.now)
         (value_of message.now) }
 {
@@ -74,7 +68,9 @@ fn pass(list: &mut MailList<Term>, message: &Term)
     ensures moved { list.old.mark < list.new.mark }
     ensures equal { AllEqual (value_of message.now) list.old list.new.mark }
 {
-    let _other = list.find_from_mark(|other| -> Result<bool, NoMemory> { Ok(!equal(other, message)) });
+    let _other = list.find_from_mark(|other| -> Result<bool, NoMemory> {
+        Ok(!equal(other, message))
+    });
 }
 
 /// Moves the mark to the first message that some clause picks, and answers the body of that clause, whose bindings come

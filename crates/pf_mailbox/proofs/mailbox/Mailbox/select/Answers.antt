@@ -44,8 +44,8 @@ returns-clause-selected c =
     let before = rw (← c.self.view_is) at c.requires.before in let s = c.search-picked in let t = c.in-Some-take_marked in
     rw (← c.self.view_is)
     (takes c.args.code.now c.args.own c.args.base c.args.env.now.items c.args.clauses.now c.self.inside.list s.new.list s.ensures.items before s.ensures.passed
-    s.new.env.items c.in-Some.body (rw c.in-Some.is at c.in_ok-body.ensures.sought) t.message t.ensures.0 c.reset_mark.new.self.items
-    (ap (λ l. l.items) c.reset_mark.ensures ∙ ap (λ l. l.items) t.ensures.1))
+    s.new.env.items c.in-Some.body (rw c.in-Some.is at c.in_ok-body.ensures.sought) t.message t.ensures.0 c.take_marked.new.list.items
+    (ap (λ l. l.items) t.ensures.1))
 
 pub returns-clause-tests : goal.returns-clause-tests
 returns-clause-tests c =
