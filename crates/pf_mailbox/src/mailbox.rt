@@ -92,13 +92,20 @@ impl Mailbox {
     }
 
     /// Places a message behind the others. It takes a spare node of the pool, and asks for memory only where the
-    /// pool has none.
+    /// pool has none. What was true of the messages before the mark stays so.
     pub fn deliver(&mut self, pool: &mut Pool<Term>, message: Term) -> Result<(), NoMemory>
         ensures delivered { OnOk result (self.new ≡ delivered (value_of message) self.old) }
         ensures refused { OnErr result ((self.new ≡ self.old) × (pool.new ≡ pool.old)) }
+        ensures before { (m : _) (own : _) (ks : _) → FitsNoneBefore m own ks self.old
+            → FitsNoneBefore m own ks self.new }
         ensures spare { 0 < pool.old → length self.old.messages < 2 ^ 64 - 1 → IsOk result }
     {
-        self.list.push_back(pool, message).map_err(|_back| NoMemory)
+        // Its contract says that the mark is within the messages.
+        let _mark = self.list.mark();
+        match self.list.push_back(pool, message) {
+            Ok(()) => Ok(()),
+            Err(_back) => Err(NoMemory),
+        }
     }
 
     /// Takes the oldest message that some clause fits with its guard, by the first such clause, in the process of this

@@ -11,6 +11,7 @@ use std::alloc::Global;
 
 /// A mailbox and the pool to which the nodes of taken messages go. As an inbox it tests from the front, since an inbox isn't told
 /// whether the process comes to this `receive` or was woken at it.
+#[derive(Drop)]
 pub struct Opened<'a> {
     pub mailbox: &'a mut Mailbox,
     pub pool: &'a mut Pool<Term>,
