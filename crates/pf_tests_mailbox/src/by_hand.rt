@@ -41,6 +41,15 @@ fn takes_now(
     Ok(try_once(alloc, mailbox, pool, wanted)?.is_some())
 }
 
+/// Places an atom in the mailbox.
+fn place(mailbox: &mut Mailbox, pool: &mut Pool<Term>, atom: AtomId) -> Result<(), Fail>
+    ensures { (m : _) (own : _) (ks : _) → FitsNoneBefore m own ks mailbox.old
+        → FitsNoneBefore m own ks mailbox.new }
+{
+    mailbox.deliver(pool, Term::Atom(atom))?;
+    Ok(())
+}
+
 /// What a `receive` takes at last.
 fn take_at_last(
     alloc: Global,
@@ -54,7 +63,7 @@ fn take_at_last(
         if takes_now(alloc, mailbox, pool, wanted)? {
             return Err(Fail::from("it takes a message too soon"));
         }
-        mailbox.deliver(pool, Term::Atom(*atom))?;
+        place(mailbox, pool, *atom)?;
     }
     Ok(try_once(alloc, mailbox, pool, wanted)?)
 }
@@ -80,13 +89,9 @@ fn goes_well(
     Ok(took(&taken, visit.takes, visit.body) && counts == (visit.left, 0, visit.tests))
 }
 
-fn deliver_all(
-    mailbox: &mut Mailbox,
-    pool: &mut Pool<Term>,
-    atoms: &[AtomId],
-) -> Result<(), Fail> {
+fn deliver_all(mailbox: &mut Mailbox, pool: &mut Pool<Term>, atoms: &[AtomId]) -> Result<(), Fail> {
     for atom in atoms {
-        mailbox.deliver(pool, Term::Atom(*atom))?;
+        place(mailbox, pool, *atom)?;
     }
     Ok(())
 }

@@ -56,11 +56,7 @@ pub(crate) fn of_atoms(alloc: Global, first: AtomId, second: AtomId) -> Result<R
 pub(crate) fn of_large(alloc: Global) -> Result<Receive, NoMemory> {
     let mut module = empty(alloc)?;
     let pattern = module.add_pattern(PatternNode::New)?;
-    let test = module.add_node(Node::Binary(
-        Operator::Greater,
-        Part::Slot(0),
-        Part::Int(2),
-    ))?;
+    let test = module.add_node(Node::Binary(Operator::Greater, Part::Slot(0), Part::Int(2)))?;
     let alternative = Alternative {
         tests: vec![in alloc; Part::Node(test)]?,
     };
