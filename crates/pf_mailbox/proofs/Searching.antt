@@ -1,6 +1,6 @@
 -- A search goes on past the messages that no clause picks.
-use Rattle.std.proofs.Common.{◌≡◌, ℕ, ◌+◌, ◌-◌, ◌<◌, ◌≤◌, Bool, true, false, List, [], ◌∷◌, ◌++◌, length, refl, sym, ap, ◌∙◌, subst, Some, None, inl, inr, arith}
-use Rattle.std.specs.Prelude.{slice_get, get_or, Option, Result, Ok, Err, is_some, not}
+use Rattle.std.proofs.Common.{◌≡◌, ℕ, ◌-◌, ◌<◌, ◌≤◌, Bool, true, false, List, [], ◌∷◌, ◌++◌, length, refl, sym, ap, ◌∙◌, subst, Some, None, inl, inr, arith}
+use Rattle.std.specs.Prelude.{slice_get, Option, Result, Ok, Err, is_some, not}
 use Rattle.std.proofs.lemmas.Bool.{cases_lt}
 use Rattle.std.proofs.lemmas.Option.{slice_get_within, slice_get_cases}
 use Rattle.std.specs.Fn.{FnReturnsAt, Shared}
@@ -12,8 +12,6 @@ use Rattle.pf_terms.specs.declared.term.Term.{Term}
 use Rattle.pf_terms.proofs.SameValues.{same_true, same_itself}
 use Rattle.pf_syntax.specs.Tree.{Clauses}
 use Rattle.pf_syntax.specs.Module.{Checked}
-use Rattle.pf_model.specs.Code.{code_of}
-use Rattle.pf_model.specs.Contraction.{picked}
 use Rattle.pf_nodes.specs.Find.{PassesRefused, EndsAs}
 use Rattle.pf_nodes.specs.Mail.{Mail, mail}
 use Rattle.pf_nodes.specs.declared.mail.Spot.{Spot}

@@ -1,4 +1,4 @@
-use Rattle.std.proofs.Common.{rules, ◌≡◌, sym, ap, ◌∙◌, length, remove, slice_get, Some, None}
+use Rattle.std.proofs.Common.{rules, ◌≡◌, sym, ap, ◌∙◌, length, remove, slice_get}
 use Rattle.pf_nodes.specs.Mail.{mail}
 use Rattle.pf_mailbox.proofs.Searching.{same_mail, stays_ok}
 use Rattle.pf_mailbox.proofs.list.take_marked.Goals as goal

@@ -1,5 +1,4 @@
-use Rattle.std.proofs.Common.{◌≡◌, [], ◌++◌, refl, sym, ap, ◌∙◌, false}
-use Rattle.std.specs.Prelude.{List, ◌∷◌}
+use Rattle.std.proofs.Common.{[], refl, sym, ◌∙◌, false}
 use Rattle.pf_terms.specs.Term.{value_of}
 use Rattle.pf_syntax.specs.Module.{pattern_at}
 use Rattle.pf_patterns.specs.Fit.{fit}

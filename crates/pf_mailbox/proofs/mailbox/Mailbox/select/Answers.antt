@@ -1,4 +1,4 @@
-use Rattle.std.proofs.Common.{◌≡◌, ◌-◌, ◌+◌, ◌∙◌, sym, ap, remove, arith}
+use Rattle.std.proofs.Common.{◌≡◌, ◌-◌, ◌∙◌, sym, ap, arith}
 use Rattle.std.proofs.lemmas.Option.{slice_get_within}
 use Rattle.pf_mailbox.specs.Tests.{risen}
 use Rattle.pf_mailbox.proofs.Selecting.{all_tested, nothing, risen_more, still, takes, tested_to}
