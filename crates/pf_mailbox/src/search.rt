@@ -52,7 +52,8 @@ fn candidate(
     base: usize,
 ) -> Result<Option<Term>, NoMemory>
     ensures items { list.new.items ≡ list.old.items }
-    ensures passed { (own : _) → Passes code.now own (awaited code.now base env.now clauses.now) list.old list.new.mark }
+    ensures passed { (own : _) → Passes code.now own
+        (awaited code.now base env.now clauses.now) list.old list.new.mark }
     ensures found { IfOk result (Found list.new) }
 {
     match list.find_from_mark(|message| look(code, clauses, message, env, base)) {
@@ -86,8 +87,10 @@ pub(crate) fn search(
 ) -> Result<Option<Part>, NoMemory>
     requires { base ≤ length env.old.items }
     ensures items { list.new.items ≡ list.old.items }
-    ensures passed { Passes code.now own (awaited code.now base env.old.items clauses.now) list.old list.new.mark }
-    ensures sought { IfOk result (Sought code.now own base env.old.items clauses.now env.new.items list.new) }
+    ensures passed { Passes code.now own
+        (awaited code.now base env.old.items clauses.now) list.old list.new.mark }
+    ensures sought { IfOk result
+        (Sought code.now own base env.old.items clauses.now env.new.items list.new) }
 {
     while let Some(message) = candidate(list, code, clauses, env.as_slice(), base)? {
         if let Some(body) = choose(alloc, code, clauses, &message, env, base, own)? {
