@@ -1,0 +1,4 @@
+pub mod MailView
+pub mod Tests
+pub mod Searches
+pub mod Inner

@@ -1,0 +1,12 @@
+//! The mailbox of a process over the mail list: a selective receive tests each message at most once.
+#![tactic(auto)]
+
+mod list;
+mod mailbox;
+mod opened;
+mod packed;
+mod search;
+
+pub use mailbox::Mailbox;
+pub use opened::Opened;
+pub use packed::PackedMail;

@@ -1,0 +1,159 @@
+//! Places messages in a mailbox, takes some, packs and unpacks it, and says in two lines what it took and kept. Where a growth is
+//! refused it says `NoMemory` and ends with status 2, once it has seen that what refused it is as it was; else it ends with status 3.
+#![tactic(auto)]
+
+use pf_fault::OrNoMemory;
+use pf_mailbox::Mailbox;
+use pf_nodes::Pool;
+use pf_syntax::{Clause, Guard, Module, Part, PatternNode};
+use pf_terms::{AtomId, AtomTable, NoMemory, Term, TooLarge, tuple_of};
+use std::alloc::Global;
+use std::io;
+use std::process::ExitCode;
+
+/// Why a run of calls did not end.
+#[derive(Clone, Copy, PartialEq, Eq)]
+enum Answer {
+    Refused,
+    /// A refused call changed its value.
+    Changed,
+}
+
+impl From<NoMemory> for Answer {
+    fn from(_refused: NoMemory) -> Answer {
+        Answer::Refused
+    }
+}
+
+impl From<OrNoMemory<TooLarge>> for Answer {
+    fn from(fault: OrNoMemory<TooLarge>) -> Answer {
+        match fault {
+            OrNoMemory::NoMemory => Answer::Refused,
+            OrNoMemory::Fault(TooLarge) => Answer::Changed,
+        }
+    }
+}
+
+/// `receive {exit, X} -> X end`, in a module of its own.
+#[derive(Drop)]
+struct Receive {
+    module: Module,
+    clauses: Vec<Clause>,
+}
+
+fn receive_pair(alloc: Global) -> Result<Receive, Answer> {
+    let mut module = Module::new(alloc, AtomId::UNDEFINED, AtomTable::new(alloc)?);
+    let first = module.add_pattern(PatternNode::Atom(AtomId::EXIT))?;
+    let second = module.add_pattern(PatternNode::New)?;
+    let Ok(parts) = vec![in alloc; first, second] else {
+        return Err(Answer::Refused);
+    };
+    let pattern = module.add_pattern(PatternNode::Tuple(parts))?;
+    let clause = Clause {
+        pattern,
+        guard: Guard {
+            alternatives: Vec::new(alloc),
+        },
+        body: Part::Slot(0),
+    };
+    let Ok(clauses) = vec![in alloc; clause] else {
+        return Err(Answer::Refused);
+    };
+    Ok(Receive { module, clauses })
+}
+
+/// `{exit, NUMBER}`.
+fn pair(alloc: Global, number: i64) -> Result<Term, Answer> {
+    let Ok(items) = vec![in alloc; Term::Atom(AtomId::EXIT), Term::Int(number)] else {
+        return Err(Answer::Refused);
+    };
+    Ok(tuple_of(alloc, items)?)
+}
+
+/// Places a message, and looks at the mailbox where that is refused.
+fn deliver(mailbox: &mut Mailbox, pool: &mut Pool<Term>, message: Term) -> Result<(), Answer> {
+    let before = (mailbox.len(), mailbox.mark(), mailbox.tests(), pool.len());
+    match mailbox.deliver(pool, message) {
+        Ok(()) => Ok(()),
+        Err(NoMemory) => {
+            if (mailbox.len(), mailbox.mark(), mailbox.tests(), pool.len()) == before {
+                Err(Answer::Refused)
+            } else {
+                Err(Answer::Changed)
+            }
+        }
+    }
+}
+
+/// Takes a pair, if there is one, and looks at the mailbox where that is refused.
+fn take(
+    alloc: Global,
+    mailbox: &mut Mailbox,
+    pool: &mut Pool<Term>,
+    wanted: &Receive,
+) -> Result<bool, Answer> {
+    let before = (mailbox.len(), pool.len());
+    mailbox.reset_mark();
+    let mut bound = Vec::new(alloc);
+    let Receive { module, clauses } = wanted;
+    match mailbox.select(pool, alloc, module, clauses.as_slice(), &mut bound, 0, 0) {
+        Ok(taken) => Ok(taken.is_some()),
+        Err(NoMemory) => {
+            if (mailbox.len(), pool.len()) == before {
+                Err(Answer::Refused)
+            } else {
+                Err(Answer::Changed)
+            }
+        }
+    }
+}
+
+/// An atom and a pair, four times.
+fn filled(alloc: Global, pool: &mut Pool<Term>) -> Result<Mailbox, Answer> {
+    let mut mailbox = Mailbox::new(alloc);
+    for number in 0..4i64 {
+        deliver(&mut mailbox, pool, Term::Atom(AtomId::KILL))?;
+        deliver(&mut mailbox, pool, pair(alloc, number)?)?;
+    }
+    Ok(mailbox)
+}
+
+/// The mailbox over nodes of another pool.
+fn moved(alloc: Global, mailbox: Mailbox, pool: &mut Pool<Term>) -> Result<Mailbox, Answer> {
+    let packed = mailbox.pack(pool, alloc)?;
+    let mut other = Pool::new(alloc);
+    Ok(Mailbox::unpack(&mut other, alloc, packed)?)
+}
+
+/// How many pairs were taken, and how many messages are left.
+fn counts(alloc: Global) -> Result<(u32, usize), Answer> {
+    let mut pool = Pool::new(alloc);
+    let mailbox = filled(alloc, &mut pool)?;
+    let mut mailbox = moved(alloc, mailbox, &mut pool)?;
+    let wanted = receive_pair(alloc)?;
+    let mut pairs = 0u32;
+    for _ in 0..6u8 {
+        if take(alloc, &mut mailbox, &mut pool, &wanted)? {
+            pairs = pairs.wrapping_add(1);
+        }
+    }
+    Ok((pairs, mailbox.len()))
+}
+
+fn main(rt: HostRuntime) -> io::Result<ExitCode> {
+    match counts(rt.alloc()) {
+        Ok((pairs, left)) => {
+            println!(rt; "took {pairs} pairs")?;
+            println!(rt; "kept {left} messages")?;
+            Ok(ExitCode::SUCCESS)
+        }
+        Err(Answer::Refused) => {
+            println!(rt; "NoMemory")?;
+            Ok(ExitCode::from(2))
+        }
+        Err(Answer::Changed) => {
+            println!(rt; "changed")?;
+            Ok(ExitCode::from(3))
+        }
+    }
+}

@@ -1,0 +1,93 @@
+//! A machine that takes messages from an opened mailbox.
+
+ghost use Rattle.std.specs.Prelude.{◌≡◌, ◌≤◌, [], IfOk, length, OnOk};
+ghost use Rattle.pf_syntax.specs.Within.{PartStands};
+ghost use Rattle.pf_stepper.specs.Turns.{CanMove};
+
+use crate::receives::{A, C};
+use pf_mailbox::{Mailbox, Opened};
+use pf_nodes::Pool;
+use pf_stepper::{Machine, Move};
+use pf_syntax::{
+    Clause, Function, FunctionClause, FunctionId, Guard, Module, Node, Part, PatternNode,
+};
+use pf_terms::{AtomId, AtomTable, NoMemory, Term};
+use std::alloc::Global;
+use std::sync::Arc;
+use std::test::Fail;
+
+/// A module in which nothing stands yet.
+fn empty(alloc: Global) -> Result<Module, NoMemory>
+    ensures { IfOk result (λ m. m.tables ≡ record { literals = []; patterns = []; trees = [] }) }
+{
+    Ok(Module::new(alloc, AtomId::UNDEFINED, AtomTable::new(alloc)?))
+}
+
+/// The guard of a clause with no `when`.
+fn no_guard(alloc: Global) -> Guard
+    ensures { result.alternatives.items ≡ [] }
+{
+    Guard {
+        alternatives: Vec::new(alloc),
+    }
+}
+
+/// Adds `main() -> BODY.`.
+fn add_main(alloc: Global, module: &mut Module, body: Part) -> Result<(), NoMemory>
+    requires { PartStands «module».old.tables body }
+{
+    let clause = FunctionClause {
+        parameters: Vec::new(alloc),
+        guard: no_guard(alloc),
+        body,
+    };
+    module.add_function(Function {
+        name: AtomId::UNDEFINED,
+        arity: 0,
+        exported: true,
+        clauses: vec![in alloc; clause]?,
+    })?;
+    Ok(())
+}
+
+/// `main() -> receive a -> 2 end.`.
+fn receiver(alloc: Global) -> Result<Machine, NoMemory>
+    ensures { IfOk result (λ m. CanMove m.standing) }
+{
+    let mut module = empty(alloc)?;
+    let pattern = module.add_pattern(PatternNode::Atom(A))?;
+    let clause = Clause {
+        pattern,
+        guard: no_guard(alloc),
+        body: Part::Int(2),
+    };
+    let top = module.add_node(Node::Receive(vec![in alloc; clause]?))?;
+    add_main(alloc, &mut module, Part::Node(top))?;
+    let shared = Arc::new(alloc, module)?;
+    Machine::new(alloc, 0, shared, FunctionId(0), Vec::new(alloc))
+}
+
+/// What a process that waits for a does first with this message, and how many messages are left.
+fn does(alloc: Global, message: AtomId) -> Result<(Move, usize), Fail> {
+    let mut pool = Pool::new(alloc);
+    let mut mailbox = Mailbox::new(alloc);
+    mailbox.deliver(&mut pool, Term::Atom(message))?;
+    let mut machine = receiver(alloc)?;
+    let mut inbox = Opened {
+        mailbox: &mut mailbox,
+        pool: &mut pool,
+    };
+    let (did, _used) = machine.run(alloc, &mut inbox, 100)?;
+    Ok((did, mailbox.len()))
+}
+
+#[test]
+fn a_machine_takes_from_an_opened_mailbox(rt: HostRuntime) -> Result<(), Fail> {
+    let (did, left) = does(rt.alloc(), A)?;
+    assert!(rt; matches!(did, Move::Take(Term::Atom(A))));
+    assert_eq!(rt; left, 0);
+    let (did, left) = does(rt.alloc(), C)?;
+    assert!(rt; matches!(did, Move::Wait));
+    assert_eq!(rt; left, 1);
+    Ok(())
+}

@@ -1,0 +1,125 @@
+//! Clauses of a few `receive`s, made by hand, and one `receive` of such clauses.
+
+ghost use Rattle.std.specs.Prelude.{◌≡◌, []};
+ghost use Rattle.pf_model.specs.Code.{code_of};
+ghost use Rattle.pf_mailbox.specs.Tests.{FitsNoneBefore, awaited};
+
+use pf_mailbox::Mailbox;
+use pf_nodes::Pool;
+use pf_syntax::{Alternative, Clause, Guard, Module, Node, Operator, Part, PatternId, PatternNode};
+use pf_terms::{AtomId, AtomTable, NoMemory, Term};
+use std::alloc::Global;
+
+// The first atoms after the fixed ones.
+pub(crate) const A: AtomId = AtomId(20);
+
+pub(crate) const B: AtomId = AtomId(21);
+
+pub(crate) const C: AtomId = AtomId(22);
+
+pub(crate) const D: AtomId = AtomId(23);
+
+/// A `receive` in a module of its own.
+#[derive(Drop)]
+pub(crate) struct Receive {
+    pub(crate) module: Module,
+    pub(crate) clauses: Vec<Clause>,
+}
+
+fn empty(alloc: Global) -> Result<Module, NoMemory> {
+    Ok(Module::new(alloc, AtomId::UNDEFINED, AtomTable::new(alloc)?))
+}
+
+/// A clause with no `when`.
+fn plain(alloc: Global, pattern: PatternId, body: Part) -> Clause {
+    Clause {
+        pattern,
+        guard: Guard {
+            alternatives: Vec::new(alloc),
+        },
+        body,
+    }
+}
+
+/// `receive FIRST -> 1; SECOND -> 2 end`, of two atoms.
+pub(crate) fn of_atoms(alloc: Global, first: AtomId, second: AtomId) -> Result<Receive, NoMemory> {
+    let mut module = empty(alloc)?;
+    let one = module.add_pattern(PatternNode::Atom(first))?;
+    let two = module.add_pattern(PatternNode::Atom(second))?;
+    let one = plain(alloc, one, Part::Int(1));
+    let two = plain(alloc, two, Part::Int(2));
+    let clauses = vec![in alloc; one, two]?;
+    Ok(Receive { module, clauses })
+}
+
+/// `receive N when N > 2 -> N end`.
+pub(crate) fn of_large(alloc: Global) -> Result<Receive, NoMemory> {
+    let mut module = empty(alloc)?;
+    let pattern = module.add_pattern(PatternNode::New)?;
+    let test = module.add_node(Node::Binary(Operator::Greater, Part::Slot(0), Part::Int(2)))?;
+    let alternative = Alternative {
+        tests: vec![in alloc; Part::Node(test)]?,
+    };
+    let clause = Clause {
+        pattern,
+        guard: Guard {
+            alternatives: vec![in alloc; alternative]?,
+        },
+        body: Part::Slot(0),
+    };
+    Ok(Receive {
+        module,
+        clauses: vec![in alloc; clause]?,
+    })
+}
+
+/// `receive {a, X} -> X end`.
+pub(crate) fn of_pairs(alloc: Global) -> Result<Receive, NoMemory> {
+    let mut module = empty(alloc)?;
+    let first = module.add_pattern(PatternNode::Atom(A))?;
+    let second = module.add_pattern(PatternNode::New)?;
+    let pattern = module.add_pattern(PatternNode::Tuple(vec![in alloc; first, second]?))?;
+    let clauses = vec![in alloc; plain(alloc, pattern, Part::Slot(0))]?;
+    Ok(Receive { module, clauses })
+}
+
+/// `receive M -> M end`.
+pub(crate) fn of_all(alloc: Global) -> Result<Receive, NoMemory> {
+    let mut module = empty(alloc)?;
+    let pattern = module.add_pattern(PatternNode::New)?;
+    let clauses = vec![in alloc; plain(alloc, pattern, Part::Slot(0))]?;
+    Ok(Receive { module, clauses })
+}
+
+/// What a `receive` took: the body of its clause, the message, and what is bound.
+#[derive(Drop)]
+pub(crate) struct Taken {
+    pub(crate) body: Part,
+    pub(crate) message: Term,
+    pub(crate) bound: Vec<Term>,
+}
+
+/// One try of a `receive` that knows no variable.
+pub(crate) fn try_once(
+    alloc: Global,
+    mailbox: &mut Mailbox,
+    pool: &mut Pool<Term>,
+    receive: &Receive,
+) -> Result<Option<Taken>, NoMemory>
+    requires { FitsNoneBefore (code_of receive.now.«module») 0
+        (awaited receive.now.«module» 0 [] receive.now.clauses.items) mailbox.old }
+    ensures { FitsNoneBefore (code_of receive.now.«module») 0
+        (awaited receive.now.«module» 0 [] receive.now.clauses.items) mailbox.new }
+{
+    let mut bound = Vec::new(alloc);
+    let Receive { module, clauses } = receive;
+    let taken = mailbox.select(pool, alloc, module, clauses.as_slice(), &mut bound, 0, 0)?;
+    match taken {
+        Some((body, message)) => Ok(Some(Taken {
+            body,
+            message,
+            bound,
+        })),
+        None => Ok(None),
+    }
+}
