@@ -1,6 +1,6 @@
 #!/bin/sh
-# Refuses each growth of two built programs in turn, until a run meets no refusal: of `pf_refused`, and of `pulsefarm run` on its
-# stored run. Each run has to end with the whole text and status 0, or with `NoMemory` alone on a line and status 2; a growth that
+# Refuses each growth of three built programs in turn, until a run meets no refusal: of `pf_refused`, of `pf_refused_mailbox`, and
+# of `pulsefarm run` on its stored run. Each run has to end with the whole text and status 0, or with `NoMemory` alone on a line and status 2; a growth that
 # is refused before `main` has begun may end the program with a message on standard error and status 1 or 2. Anything else, a
 # signal or a hang fails. Each run of the program itself, refused or not, has to give back each block that it asked for.
 #
@@ -113,6 +113,8 @@ most_within() {
 
 built pf_refused
 all_refused pf_refused ended_well
+built pf_refused_mailbox
+all_refused pf_refused_mailbox ended_well
 built pulsefarm
 all_refused pulsefarm ended_well
 some_commands

@@ -15,6 +15,7 @@ use crate::lookups::clauses;
 use crate::stack::Stack;
 use pf_syntax::{FunctionId, Module, NodeId, Part};
 use pf_terms::{NoMemory, Term};
+use smallvec::SmallVec;
 use std::alloc::Global;
 use std::marker::Model;
 use std::mem;
@@ -132,7 +133,7 @@ impl Machine {
         own: u32,
         module: Arc<Module>,
         function: FunctionId,
-        args: Vec<Term>,
+        args: SmallVec<Term, 4>,
     ) -> Result<Machine, NoMemory>
         ensures { IfOk result (λ m.
             m ≡ at_call own (code_of «module».value) function.0 (values_of args.items)) }
@@ -140,7 +141,7 @@ impl Machine {
         let count = args.len();
         let stack = Stack {
             env: Vec::with_capacity(alloc, ROOM)?,
-            operands: args,
+            operands: args.into_vec()?,
             frames: Vec::with_capacity(alloc, ROOM)?,
             base: 0,
         };

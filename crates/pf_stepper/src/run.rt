@@ -12,6 +12,7 @@ use crate::machine::{Machine, Move};
 use pf_model::report::{Actor, Event, Label, Outcome, Report};
 use pf_syntax::{FunctionId, Module};
 use pf_terms::{AtomId, NoMemory, Term, copy};
+use smallvec::SmallVec;
 use std::alloc::Global;
 use std::sync::Arc;
 
@@ -29,7 +30,7 @@ fn turn(alloc: Global, module: &Arc<Module>, root: FunctionId, left: u32) -> Res
     ensures { IfOk result (λ r. IsTurn (code_of «module».now.value) root.0 left r) }
 {
     let shared = Arc::try_clone(module)?;
-    let mut machine = Machine::new(alloc, 0, shared, root, Vec::new(alloc))?;
+    let mut machine = Machine::new(alloc, 0, shared, root, SmallVec::new(alloc))?;
     let mut inbox = PlainInbox {
         messages: Vec::new(alloc),
     };

@@ -52,6 +52,13 @@ pub struct Elements {
     depth: u32,
 }
 
+/// `[]`, which fills the places of a list of arguments that holds none yet.
+impl Default for Term {
+    fn default() -> Term {
+        Term::List(List::Nil)
+    }
+}
+
 impl Drop for List {
     #[cycle(drops)]
     fn drop(mut self) {

@@ -6,6 +6,7 @@ ghost use Rattle.pf_stepper.specs.Turns.{CanAnswer, CanMove};
 use pf_stepper::{Act, Machine, Move, PlainInbox};
 use pf_syntax::{FunctionId, Module};
 use pf_terms::{NoMemory, Term};
+use smallvec::SmallVec;
 use std::alloc::Global;
 use std::sync::Arc;
 use std::test::Fail;
@@ -28,7 +29,7 @@ pub(crate) fn started(alloc: Global, module: Module) -> Result<Machine, NoMemory
     ensures { IfOk result (λ m. CanMove m.standing) }
 {
     let shared = Arc::new(alloc, module)?;
-    Machine::new(alloc, OWN, shared, FunctionId(0), Vec::new(alloc))
+    Machine::new(alloc, OWN, shared, FunctionId(0), SmallVec::new(alloc))
 }
 
 /// It goes on by itself for so many steps.

@@ -5,6 +5,7 @@ use pf_check::read;
 use pf_stepper::{Machine, Move};
 use pf_syntax::{FunctionId, Module};
 use pf_terms::{NoMemory, Term};
+use smallvec::SmallVec;
 use std::alloc::Global;
 use std::sync::Arc;
 use std::test::Fail;
@@ -27,7 +28,7 @@ fn ran(
     limit: u32,
 ) -> Result<(Option<i64>, u32), NoMemory> {
     let shared = Arc::try_clone(module)?;
-    let mut machine = Machine::new(alloc, 0, shared, root, Vec::new(alloc))?;
+    let mut machine = Machine::new(alloc, 0, shared, root, SmallVec::new(alloc))?;
     let (did, used) = machine.run(alloc, &mut no_mail(alloc), limit)?;
     match did {
         Move::End(Ok(Term::Int(n))) => Ok((Some(n), used)),
@@ -50,7 +51,7 @@ fn counts_each_contraction_and_the_end(rt: HostRuntime) -> Result<(), Fail> {
 fn goes_on_from_where_it_stopped(rt: HostRuntime) -> Result<(), Fail> {
     let alloc = rt.alloc();
     let module = module_of(alloc, SUMS)?;
-    let mut args = Vec::new(alloc);
+    let mut args = SmallVec::new(alloc);
     args.push(Term::Int(5))?;
     let mut machine = Machine::new(alloc, 4, module, FunctionId(1), args)?;
     assert_eq!(rt; machine.own(), 4);
@@ -65,7 +66,7 @@ fn goes_on_from_where_it_stopped(rt: HostRuntime) -> Result<(), Fail> {
 
 /// The move of one step.
 fn step(alloc: Global, module: Arc<Module>) -> Result<Move, NoMemory> {
-    let mut machine = Machine::new(alloc, 0, module, FunctionId(0), Vec::new(alloc))?;
+    let mut machine = Machine::new(alloc, 0, module, FunctionId(0), SmallVec::new(alloc))?;
     machine.advance(alloc, &mut no_mail(alloc))
 }
 

@@ -12,6 +12,7 @@ use pf_syntax::{
     Clause, Function, FunctionClause, FunctionId, Guard, Module, Node, Part, PatternNode,
 };
 use pf_terms::{AtomId, AtomTable, NoMemory, Term};
+use smallvec::SmallVec;
 use std::alloc::Global;
 use std::sync::Arc;
 use std::test::Fail;
@@ -64,7 +65,7 @@ fn receiver(alloc: Global) -> Result<Machine, NoMemory>
     let top = module.add_node(Node::Receive(vec![in alloc; clause]?))?;
     add_main(alloc, &mut module, Part::Node(top))?;
     let shared = Arc::new(alloc, module)?;
-    Machine::new(alloc, 0, shared, FunctionId(0), Vec::new(alloc))
+    Machine::new(alloc, 0, shared, FunctionId(0), SmallVec::new(alloc))
 }
 
 /// What a process that waits for a does first with this message, and how many messages are left.
