@@ -51,7 +51,7 @@ fn counts_each_contraction_and_the_end(rt: HostRuntime) -> Result<(), Fail> {
 fn goes_on_from_where_it_stopped(rt: HostRuntime) -> Result<(), Fail> {
     let alloc = rt.alloc();
     let module = module_of(alloc, SUMS)?;
-    let mut args = SmallVec::new(alloc);
+    let mut args: SmallVec<Term, 4> = SmallVec::new(alloc);
     args.push(Term::Int(5))?;
     let mut machine = Machine::new(alloc, 4, module, FunctionId(1), args)?;
     assert_eq!(rt; machine.own(), 4);
