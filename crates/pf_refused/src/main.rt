@@ -1,10 +1,13 @@
-//! Makes values, names of atoms and a mail list, and says so in two lines. Where a growth is refused it says `NoMemory` and
-//! ends with status 2, once it has seen that what refused it is as it was; else it ends with status 3. The script under
-//! tests/refused runs it with each growth refused in turn.
+//! Makes values, names of atoms and a mail list, runs a process by a machine, and says so in three lines. Where a growth is
+//! refused it says `NoMemory` and ends with status 2, once it has seen that what refused it is as it was, or for a machine
+//! that it answers so again; else it ends with status 3. The script under tests/refused runs it with each growth refused in
+//! turn.
 #![tactic(auto)]
 
+mod machine;
 mod mail;
 
+use crate::machine::Came;
 use pf_fault::OrNoMemory;
 use pf_terms::{AtomId, AtomTable, List, NoMemory, Term, TooLarge, copy, list_of, nodes, tuple_of};
 use std::alloc::Global;
@@ -19,10 +22,11 @@ enum Answer {
     Changed,
 }
 
-/// What the calls made: nodes of a value, and spare nodes of a pool.
+/// What the calls made: nodes of a value, spare nodes of a pool, and what came out of a machine's run.
 struct Nodes {
     nodes: u32,
     spare: usize,
+    came: Came,
 }
 
 impl From<NoMemory> for Answer {
@@ -83,14 +87,21 @@ fn all_nodes(alloc: Global) -> Result<Nodes, Answer> {
     Ok(Nodes {
         nodes: make(alloc)?,
         spare: mail::spare_after(alloc)?,
+        came: machine::ran(alloc)?,
     })
 }
 
 fn main(rt: HostRuntime) -> io::Result<ExitCode> {
     match all_nodes(rt.alloc()) {
-        Ok(Nodes { nodes, spare }) => {
+        Ok(Nodes { nodes, spare, came }) => {
+            let Came {
+                sent,
+                taken,
+                reason,
+            } = came;
             println!(rt; "made {nodes} nodes")?;
             println!(rt; "kept {spare} nodes")?;
+            println!(rt; "sent {sent} nodes, took {taken}, ended with {reason}")?;
             Ok(ExitCode::SUCCESS)
         }
         Err(Answer::Refused) => {

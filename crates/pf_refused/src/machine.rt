@@ -1,0 +1,248 @@
+//! A module made by hand, and a run of it by a machine that is called for a few steps at a time:
+//!
+//! ```text
+//! main() -> case {self(), down({0, 20})} of
+//!     {P, [H | T]} -> P ! T, receive {'DOWN', M} -> normal = {H, T ++ M} end
+//! end.
+//! down({X, X}) -> [];
+//! down({X, N}) -> [N | down({X, N - 1})].
+//! ```
+
+ghost use Rattle.std.specs.Prelude.{◌≡◌, ◌<◌, length, true, IfOk};
+ghost use Rattle.pf_syntax.specs.Within.{ClauseStands, FunctionClauseStands, PartStands, PatternStands};
+ghost use Rattle.pf_stepper.specs.Turns.{CanMove};
+
+use crate::{Answer, pair};
+use pf_stepper::{Act, Machine, Move, PlainInbox};
+use pf_syntax::{
+    Builtin, Clause, Function, FunctionClause, FunctionId, Guard, Module, Node, NodeId, Operator,
+    Part, PatternId, PatternNode,
+};
+use pf_terms::{AtomId, AtomTable, List, NoMemory, Term, nodes};
+use smallvec::SmallVec;
+use std::alloc::Global;
+use std::sync::Arc;
+
+/// The pid of the process.
+const OWN: u32 = 4;
+
+/// How many steps a call of the machine takes at most.
+const FEW: u32 = 3;
+
+/// More calls than the run takes.
+const CALLS: u32 = 1000;
+
+/// The nodes of what came out of the run: of the message that was sent, of the one that was taken, and of the reason
+/// that the process ended with.
+#[derive(Clone, Copy)]
+pub struct Came {
+    pub sent: u32,
+    pub taken: u32,
+    pub reason: u32,
+}
+
+/// A clause of a `case` or a `receive` without a guard, of what stands in the module.
+fn branch(alloc: Global, within: &Module, pattern: PatternId, body: NodeId) -> Clause
+    requires pattern { PatternStands within.now.tables pattern }
+    requires body { body.0 < length within.now.tables.trees }
+    ensures { ClauseStands within.now.tables result }
+{
+    let alternatives = Vec::new(alloc);
+    Clause {
+        pattern,
+        guard: Guard { alternatives },
+        body: Part::Node(body),
+    }
+}
+
+/// A clause of a function of one parameter without a guard, of what stands in the module.
+fn clause(
+    alloc: Global,
+    within: &Module,
+    pattern: PatternId,
+    body: Part,
+) -> Result<FunctionClause, NoMemory>
+    requires pattern { PatternStands within.now.tables pattern }
+    requires body { PartStands within.now.tables body }
+    ensures { IfOk result (λ c. FunctionClauseStands within.now.tables c) }
+{
+    let alternatives = Vec::new(alloc);
+    Ok(FunctionClause {
+        parameters: vec![in alloc; pattern]?,
+        guard: Guard { alternatives },
+        body,
+    })
+}
+
+/// `receive {'DOWN', M} -> normal = {H, T ++ M} end`, where H and T stand at 1 and 2.
+fn receive(alloc: Global, module: &mut Module) -> Result<NodeId, NoMemory>
+    ensures { IfOk result (λ n. n.0 < length «module».new.tables.trees) }
+{
+    let down = module.add_pattern(PatternNode::Atom(AtomId::DOWN))?;
+    let new = module.add_pattern(PatternNode::New)?;
+    let message = module.add_pattern(PatternNode::Tuple(vec![in alloc; down, new]?))?;
+    let normal = module.add_pattern(PatternNode::Atom(AtomId::NORMAL))?;
+    let joined = Node::Binary(Operator::Append, Part::Slot(2), Part::Slot(3));
+    let joined = module.add_node(joined)?;
+    let both = vec![in alloc; Part::Slot(1), Part::Node(joined)]?;
+    let both = module.add_node(Node::Tuple(both))?;
+    let failing = Node::Match(vec![in alloc; normal]?, Part::Node(both));
+    let failing = module.add_node(failing)?;
+    let clause = branch(alloc, module, message, failing);
+    module.add_node(Node::Receive(vec![in alloc; clause]?))
+}
+
+/// Adds the function without parameters, of this body.
+fn add_root(alloc: Global, module: &mut Module, body: NodeId) -> Result<(), NoMemory>
+    requires { body.0 < length «module».old.tables.trees }
+{
+    let alternatives = Vec::new(alloc);
+    let clause = FunctionClause {
+        parameters: Vec::new(alloc),
+        guard: Guard { alternatives },
+        body: Part::Node(body),
+    };
+    module.add_function(Function {
+        name: AtomId::NORMAL,
+        arity: 0,
+        exported: true,
+        clauses: vec![in alloc; clause]?,
+    })?;
+    Ok(())
+}
+
+/// `main`, the function of number 0.
+fn add_main(alloc: Global, module: &mut Module) -> Result<(), NoMemory> {
+    let receive = receive(alloc, module)?;
+    let send = module.add_node(Node::Send(Part::Slot(0), Part::Slot(2)))?;
+    let rest = Node::Bind(Vec::new(alloc), Part::Node(send), Part::Node(receive));
+    let rest = module.add_node(rest)?;
+    let new = module.add_pattern(PatternNode::New)?;
+    let list = module.add_pattern(PatternNode::Cons(new, new))?;
+    let pair = module.add_pattern(PatternNode::Tuple(vec![in alloc; new, list]?))?;
+    let from = vec![in alloc; Part::Int(0), Part::Int(20)]?;
+    let from = module.add_node(Node::Tuple(from))?;
+    let call = Node::Call(FunctionId(1), vec![in alloc; Part::Node(from)]?);
+    let call = module.add_node(call)?;
+    let own = module.add_node(Node::Builtin(Builtin::SelfPid, Vec::new(alloc)))?;
+    let both = vec![in alloc; Part::Node(own), Part::Node(call)]?;
+    let both = module.add_node(Node::Tuple(both))?;
+    let clauses = vec![in alloc; branch(alloc, module, pair, rest)]?;
+    let body = module.add_node(Node::Case(Part::Node(both), clauses))?;
+    add_root(alloc, module, body)
+}
+
+/// `down`, the function of number 1. Its first clause binds X before it fails.
+fn add_down(alloc: Global, module: &mut Module) -> Result<(), NoMemory> {
+    let new = module.add_pattern(PatternNode::New)?;
+    let same = module.add_pattern(PatternNode::Slot(0))?;
+    let twice = module.add_pattern(PatternNode::Tuple(vec![in alloc; new, same]?))?;
+    let pair = module.add_pattern(PatternNode::Tuple(vec![in alloc; new, new]?))?;
+    let less = Node::Binary(Operator::Minus, Part::Slot(1), Part::Int(1));
+    let less = module.add_node(less)?;
+    let next = vec![in alloc; Part::Slot(0), Part::Node(less)]?;
+    let next = module.add_node(Node::Tuple(next))?;
+    let again = Node::Call(FunctionId(1), vec![in alloc; Part::Node(next)]?);
+    let again = module.add_node(again)?;
+    let list = module.add_node(Node::Cons(Part::Slot(1), Part::Node(again)))?;
+    let first = clause(alloc, module, twice, Part::Nil)?;
+    let second = clause(alloc, module, pair, Part::Node(list))?;
+    module.add_function(Function {
+        name: AtomId::DOWN,
+        arity: 1,
+        exported: false,
+        clauses: vec![in alloc; first, second]?,
+    })?;
+    Ok(())
+}
+
+/// A process at the call of `main`.
+fn started(alloc: Global) -> Result<Machine, NoMemory>
+    ensures { IfOk result (λ m. CanMove m.standing) }
+{
+    let mut module = Module::new(alloc, AtomId::UNDEFINED, AtomTable::new(alloc)?);
+    add_main(alloc, &mut module)?;
+    add_down(alloc, &mut module)?;
+    let shared = Arc::new(alloc, module)?;
+    Machine::new(alloc, OWN, shared, FunctionId(0), SmallVec::new(alloc))
+}
+
+/// The messages `kill` and `{'DOWN', [7]}`.
+fn mail(alloc: Global) -> Result<PlainInbox, Answer> {
+    let list = List::cons(alloc, Term::Int(7), List::Nil)?;
+    let down = pair(alloc, Term::Atom(AtomId::DOWN), Term::List(list))?;
+    let Ok(messages) = vec![in alloc; Term::Atom(AtomId::KILL), down] else {
+        return Err(Answer::Refused);
+    };
+    Ok(PlainInbox { messages })
+}
+
+/// Looks at a machine that was refused, and at its inbox, which held so many messages.
+fn looked_at(alloc: Global, machine: &mut Machine, inbox: &mut PlainInbox, held: usize) -> Answer
+    requires { CanMove machine.old.standing }
+{
+    let kept = inbox.messages.len() == held;
+    match machine.run(alloc, inbox, FEW) {
+        Err(NoMemory) if kept && inbox.messages.len() == held => Answer::Refused,
+        _ => Answer::Changed,
+    }
+}
+
+/// The message that the process sends to itself.
+fn sent(act: Act) -> Result<Term, Answer> {
+    match act {
+        Act::Send {
+            to: Term::Pid(OWN),
+            message,
+        } => Ok(message),
+        _ => Err(Answer::Changed),
+    }
+}
+
+/// One call of the machine, with the answer to what it asks for. The result says whether the process goes on.
+fn goes_on(
+    alloc: Global,
+    machine: &mut Machine,
+    inbox: &mut PlainInbox,
+    came: &mut Came,
+) -> Result<bool, Answer>
+    requires { CanMove machine.old.standing }
+    ensures { IfOk result (λ goes. goes ≡ true → CanMove machine.new.standing) }
+{
+    let held = inbox.messages.len();
+    let Ok((did, _used)) = machine.run(alloc, inbox, FEW) else {
+        return Err(looked_at(alloc, machine, inbox, held));
+    };
+    match did {
+        Move::Pure => {}
+        Move::Action(act) => {
+            let message = sent(act)?;
+            came.sent = nodes(&message);
+            machine.answer(Ok(message));
+        }
+        Move::Take(message) => came.taken = nodes(&message),
+        Move::End(Err(reason)) => {
+            came.reason = nodes(&reason);
+            return Ok(false);
+        }
+        _ => return Err(Answer::Changed),
+    }
+    Ok(true)
+}
+
+/// Runs the process to its end.
+pub fn ran(alloc: Global) -> Result<Came, Answer> {
+    let mut machine = started(alloc)?;
+    let mut inbox = mail(alloc)?;
+    let mut came = Came {
+        sent: 0,
+        taken: 0,
+        reason: 0,
+    };
+    for _ in 0..CALLS {
+        if !goes_on(alloc, &mut machine, &mut inbox, &mut came)? {
+            return Ok(came);
+        }
+    }
+    Err(Answer::Changed)
+}
