@@ -1,8 +1,11 @@
 //! A module made by hand, and a run of it by a machine that is called for a few steps at a time:
 //!
 //! ```text
-//! main() -> case {self(), down({0, 20})} of
-//!     {P, [H | T]} -> P ! T, receive {'DOWN', M} -> normal = {H, T ++ M} end
+//! main() -> receive
+//!     {'DOWN', {A0, .., A4}, {A5, .., A9}, {A10, .., A14}, {A15, .., A19}} ->
+//!         case {self(), down({0, 20})} of
+//!             {P, [H | T]} -> P ! T, normal = {A0, T ++ [H]}
+//!         end
 //! end.
 //! down({X, X}) -> [];
 //! down({X, N}) -> [N | down({X, N - 1})].
@@ -12,13 +15,13 @@ ghost use Rattle.std.specs.Prelude.{◌≡◌, ◌<◌, length, true, IfOk};
 ghost use Rattle.pf_syntax.specs.Within.{ClauseStands, FunctionClauseStands, PartStands, PatternStands};
 ghost use Rattle.pf_stepper.specs.Turns.{CanMove};
 
-use crate::{Answer, pair};
+use crate::Answer;
 use pf_stepper::{Act, Machine, Move, PlainInbox};
 use pf_syntax::{
     Builtin, Clause, Function, FunctionClause, FunctionId, Guard, Module, Node, NodeId, Operator,
     Part, PatternId, PatternNode,
 };
-use pf_terms::{AtomId, AtomTable, List, NoMemory, Term, nodes};
+use pf_terms::{AtomId, AtomTable, NoMemory, Term, copy, nodes, tuple_of};
 use smallvec::SmallVec;
 use std::alloc::Global;
 use std::sync::Arc;
@@ -74,22 +77,39 @@ fn clause(
     })
 }
 
-/// `receive {'DOWN', M} -> normal = {H, T ++ M} end`, where H and T stand at 1 and 2.
-fn receive(alloc: Global, module: &mut Module) -> Result<NodeId, NoMemory>
+/// `P ! T, normal = {A0, T ++ [H]}`, with P, H and T behind the 20 variables of the message.
+fn after_case(alloc: Global, module: &mut Module) -> Result<NodeId, NoMemory>
     ensures { IfOk result (λ n. n.0 < length «module».new.tables.trees) }
 {
-    let down = module.add_pattern(PatternNode::Atom(AtomId::DOWN))?;
-    let new = module.add_pattern(PatternNode::New)?;
-    let message = module.add_pattern(PatternNode::Tuple(vec![in alloc; down, new]?))?;
     let normal = module.add_pattern(PatternNode::Atom(AtomId::NORMAL))?;
-    let joined = Node::Binary(Operator::Append, Part::Slot(2), Part::Slot(3));
+    let send = module.add_node(Node::Send(Part::Slot(20), Part::Slot(22)))?;
+    let last = module.add_node(Node::Cons(Part::Slot(21), Part::Nil))?;
+    let joined = Node::Binary(Operator::Append, Part::Slot(22), Part::Node(last));
     let joined = module.add_node(joined)?;
-    let both = vec![in alloc; Part::Slot(1), Part::Node(joined)]?;
+    let both = vec![in alloc; Part::Slot(0), Part::Node(joined)]?;
     let both = module.add_node(Node::Tuple(both))?;
     let failing = Node::Match(vec![in alloc; normal]?, Part::Node(both));
     let failing = module.add_node(failing)?;
-    let clause = branch(alloc, module, message, failing);
-    module.add_node(Node::Receive(vec![in alloc; clause]?))
+    module.add_node(Node::Bind(Vec::new(alloc), Part::Node(send), Part::Node(failing)))
+}
+
+/// The `case` of `main`, which calls `down`.
+fn add_case(alloc: Global, module: &mut Module) -> Result<NodeId, NoMemory>
+    ensures { IfOk result (λ n. n.0 < length «module».new.tables.trees) }
+{
+    let rest = after_case(alloc, module)?;
+    let new = module.add_pattern(PatternNode::New)?;
+    let list = module.add_pattern(PatternNode::Cons(new, new))?;
+    let pair = module.add_pattern(PatternNode::Tuple(vec![in alloc; new, list]?))?;
+    let from = vec![in alloc; Part::Int(0), Part::Int(20)]?;
+    let from = module.add_node(Node::Tuple(from))?;
+    let call = Node::Call(FunctionId(1), vec![in alloc; Part::Node(from)]?);
+    let call = module.add_node(call)?;
+    let own = module.add_node(Node::Builtin(Builtin::SelfPid, Vec::new(alloc)))?;
+    let both = vec![in alloc; Part::Node(own), Part::Node(call)]?;
+    let both = module.add_node(Node::Tuple(both))?;
+    let clauses = vec![in alloc; branch(alloc, module, pair, rest)]?;
+    module.add_node(Node::Case(Part::Node(both), clauses))
 }
 
 /// Adds the function without parameters, of this body.
@@ -111,25 +131,18 @@ fn add_root(alloc: Global, module: &mut Module, body: NodeId) -> Result<(), NoMe
     Ok(())
 }
 
-/// `main`, the function of number 0.
+/// `main`, the function of number 0. The message binds more variables than a machine has room for from the first.
 fn add_main(alloc: Global, module: &mut Module) -> Result<(), NoMemory> {
-    let receive = receive(alloc, module)?;
-    let send = module.add_node(Node::Send(Part::Slot(0), Part::Slot(2)))?;
-    let rest = Node::Bind(Vec::new(alloc), Part::Node(send), Part::Node(receive));
-    let rest = module.add_node(rest)?;
+    let body = add_case(alloc, module)?;
+    let down = module.add_pattern(PatternNode::Atom(AtomId::DOWN))?;
     let new = module.add_pattern(PatternNode::New)?;
-    let list = module.add_pattern(PatternNode::Cons(new, new))?;
-    let pair = module.add_pattern(PatternNode::Tuple(vec![in alloc; new, list]?))?;
-    let from = vec![in alloc; Part::Int(0), Part::Int(20)]?;
-    let from = module.add_node(Node::Tuple(from))?;
-    let call = Node::Call(FunctionId(1), vec![in alloc; Part::Node(from)]?);
-    let call = module.add_node(call)?;
-    let own = module.add_node(Node::Builtin(Builtin::SelfPid, Vec::new(alloc)))?;
-    let both = vec![in alloc; Part::Node(own), Part::Node(call)]?;
-    let both = module.add_node(Node::Tuple(both))?;
-    let clauses = vec![in alloc; branch(alloc, module, pair, rest)]?;
-    let body = module.add_node(Node::Case(Part::Node(both), clauses))?;
-    add_root(alloc, module, body)
+    let five = PatternNode::Tuple(vec![in alloc; new, new, new, new, new]?);
+    let five = module.add_pattern(five)?;
+    let message = PatternNode::Tuple(vec![in alloc; down, five, five, five, five]?);
+    let message = module.add_pattern(message)?;
+    let clauses = vec![in alloc; branch(alloc, module, message, body)]?;
+    let receive = module.add_node(Node::Receive(clauses))?;
+    add_root(alloc, module, receive)
 }
 
 /// `down`, the function of number 1. Its first clause binds X before it fails.
@@ -167,10 +180,29 @@ fn started(alloc: Global) -> Result<Machine, NoMemory>
     Machine::new(alloc, OWN, shared, FunctionId(0), SmallVec::new(alloc))
 }
 
-/// The messages `kill` and `{'DOWN', [7]}`.
+/// The tuple of five times 7.
+fn five(alloc: Global) -> Result<Term, Answer> {
+    let Ok(items) = vec![in alloc;
+        Term::Int(7),
+        Term::Int(7),
+        Term::Int(7),
+        Term::Int(7),
+        Term::Int(7),
+    ] else {
+        return Err(Answer::Refused);
+    };
+    Ok(tuple_of(alloc, items)?)
+}
+
+/// The message `kill`, and the one that `main` takes.
 fn mail(alloc: Global) -> Result<PlainInbox, Answer> {
-    let list = List::cons(alloc, Term::Int(7), List::Nil)?;
-    let down = pair(alloc, Term::Atom(AtomId::DOWN), Term::List(list))?;
+    let down = Term::Atom(AtomId::DOWN);
+    let (first, second) = (five(alloc)?, five(alloc)?);
+    let (third, fourth) = (copy(&first)?, copy(&second)?);
+    let Ok(items) = vec![in alloc; down, first, second, third, fourth] else {
+        return Err(Answer::Refused);
+    };
+    let down = tuple_of(alloc, items)?;
     let Ok(messages) = vec![in alloc; Term::Atom(AtomId::KILL), down] else {
         return Err(Answer::Refused);
     };
