@@ -1,6 +1,6 @@
 #!/bin/sh
 # Runs the program at its edges: files and their names, words, streams that are closed, full or end, a client on a pipe
-# that waits for each reply, the deepest sources on half of the stack that the program takes, and long inputs.
+# that waits for each reply, the deepest sources on 1 MiB of stack, a quarter of what the program takes, and long inputs.
 #
 # Usage: run.sh [BINARY]; the program is that of the crate `pulsefarm` where none is named.
 set -u
@@ -229,21 +229,20 @@ nest() {
   } | head -c 65536 > in
 }
 
-# Runs the words from $2 on, on `in`, where the system gives $1 KiB of stack, and a thread gets half of what is asked for.
+# Runs the words from $2 on, on `in`, where the system gives $1 KiB of stack, and a thread gets a quarter of what is asked for.
 run_on() {
   (
     ulimit -s "$1"
     shift
-    STACK_TOLD=stack LD_PRELOAD=./halve.so exec timeout 60 "$program" "$@"
+    STACK_TOLD=stack LD_PRELOAD=./lessen.so exec timeout 60 "$program" "$@"
   ) < in > out 2> err
   status=$?
 }
 
 # The deepest source that is read, and deeper ones that are refused: where the system gives enough stack, and where the
-# program takes a thread with a stack of its own, of which it gets half here.
+# program takes a thread with a stack of its own, of which it gets 1 MiB here.
 # shellcheck disable=SC2086
 deep_sources() {
-  cc -O2 -shared -fPIC -o halve.so "$edges/halve.c" -ldl || exit 1
   for kilobytes in 128 4095 4096; do
     rm -f stack
     nest 255
@@ -263,6 +262,46 @@ deep_sources() {
       *) check "a thread on $kilobytes KiB" test "$told" = 4194304 ;;
     esac
   done
+}
+
+# Checks, on 1 MiB of stack, a body that nests $1 and $4 around $3, $2 times: it is read, and with one level more it is refused at $7.
+# $5 and $6 stand before and behind the nesting.
+deepest() {
+  for more in 0 1; do
+    {
+      printf -- '-module(m).\n-export([main/0]).\nmain() -> %s' "$5"
+      repeated "$1" $(($2 + more))
+      printf %s "$3"
+      repeated "$4" $(($2 + more))
+      printf '%s.\n' "$6"
+    } > in
+    run_on 128 check
+    if [ $more = 0 ]; then ended "$2 times $1" 0 'ok\n' ''; else ended "$(($2 + 1)) times $1" 2 "E5 at $7\n" ''; fi
+  done
+}
+
+# A leaf is 1 deep, each level adds 1, also around patterns and guards, and 256 is the most. The body begins at byte 41.
+deepest_of_each_form() {
+  deepest '(' 255 1 ')' '' '' 41
+  deepest '{' 255 1 '}' '' '' 41
+  deepest '[' 255 1 ']' '' '' 41
+  deepest '[1|' 255 1 ']' '' '' 41
+  deepest 'hd(' 255 1 ')' '' '' 41
+  deepest '-(' 127 1 ')' '' '' 41
+  deepest '1 ++ ' 255 1 '' '' '' 41
+  deepest '' 255 1 ' + 1' '' '' 41
+  deepest '1 + (' 127 1 ')' '' '' 41
+  deepest '1 < (' 127 1 ')' '' '' 41
+  deepest 'true andalso ' 255 1 '' '' '' 41
+  deepest 'true orelse ' 255 1 '' '' '' 41
+  deepest 'A = ' 255 1 '' '' '' 41
+  deepest 'case 1 of 1 -> ' 255 1 ' end' '' '' 41
+  deepest 'case ' 255 1 ' of 1 -> 1 end' '' '' 41
+  deepest 'if true -> ' 255 1 ' end' '' '' 41
+  deepest '{' 254 1 '}' 'case 1 of ' ' -> 1 end' 41
+  deepest '[' 254 1 ']' 'case 1 of ' ' -> 1 end' 41
+  deepest '[1|' 254 1 ']' 'case 1 of ' ' -> 1 end' 41
+  deepest '(' 254 true ')' 'if ' ' -> 1 end' 41
 }
 
 # Memory goes by the longest command, and no byte past 67,108,864 leaves the input.
@@ -289,7 +328,9 @@ files_that_are_not_read
 words
 streams
 client_that_waits
+cc -O2 -shared -fPIC -o lessen.so "$edges/lessen.c" -ldl || exit 1
 deep_sources
+deepest_of_each_form
 long_inputs
 cd /
 tell_counts

@@ -15,14 +15,16 @@ use indexmap::IndexMap;
 use pf_store::{Source, Store};
 use pf_terms::NoMemory;
 use std::alloc::Global;
+use std::hash::RandomState;
 use std::marker::Model;
 
 /// The desks of all projects, each opened by the first call of its project, and the store of what was submitted, from which desks
 /// share the modules of equal sources. Contracts see the desks by project, in the order in which they were opened; that modules are
-/// shared isn't seen. No call of one project reads or changes the desk of another.
+/// shared isn't seen. No call of one project reads or changes the desk of another. Random keys keep a look-up from being slow for
+/// projects or sources that are chosen to be; no reply depends on them.
 #[derive(Drop)]
 pub struct Book {
-    desks: IndexMap<u32, Desk>,
+    desks: IndexMap<u32, Desk, RandomState>,
     store: Store,
 }
 
@@ -38,12 +40,13 @@ impl Model for Book {
 }
 
 impl Book {
-    pub fn new(alloc: Global) -> Book
+    /// A book with no desk yet, which hashes with these keys.
+    pub fn new(alloc: Global, keys: RandomState) -> Book
         ensures { result ≡ [] }
     {
         Book {
-            desks: IndexMap::new(alloc),
-            store: Store::new(alloc),
+            desks: IndexMap::with_hasher(alloc, keys),
+            store: Store::new(alloc, keys),
         }
     }
 

@@ -1,23 +1,24 @@
 -- Every source is read in some way.
-use Rattle.std.proofs.Common.{◌≡◌, ◌⊎◌, inl, inr, ℕ, zero, suc, ◌<◌, List, [], ◌∷◌, ◌++◌, Option, Some, None, Ok, Err, Contains, flat_map, length, refl, sym, ap, ◌∙◌, subst, arith}
+use Rattle.std.proofs.Common.{◌≡◌, ◌⊎◌, inl, inr, ℕ, zero, suc, ◌<◌, List, [], ◌∷◌, Option, Some, None, Ok, Err, Contains, length, refl, sym, ap, ◌∙◌, subst, arith}
 use Rattle.pf_tokens.specs.TokenKinds.{Placed}
 use Rattle.pf_tokens.specs.Rules.{HasTokens}
 use Rattle.pf_tokens.specs.Scan.{Read, tokens}
 use Rattle.pf_tokens.proofs.Texts.{Tells, tokens_tell}
 use Rattle.pf_syntax.specs.Module.{Checked, empty}
 use Rattle.pf_numbered.specs.NumberedTokens.{NumberedToken, atoms_of, numbered}
-use Rattle.pf_reader.specs.Grammar.{HasHead, DerivesTree}
+use Rattle.pf_grammar.specs.Grammar.{HasHead, DerivesTree}
 use Rattle.pf_syntax.specs.WrittenModule.{Tree}
-use Rattle.pf_reader.specs.Parse.{begins, tree}
-use Rattle.pf_reader.proofs.Whole.{begins_sound, begins_complete, tree_sound, tree_complete}
+use Rattle.pf_grammar.specs.Parse.{begins, tree}
+use Rattle.pf_grammar.proofs.Whole.{begins_sound, begins_complete, tree_sound, tree_complete}
 use Rattle.pf_fault.specs.Codes.{rank_of}
 use Rattle.pf_fault.specs.declared.code.Code.TheVariants.{NoHead, NotGrammar}
 use Rattle.pf_fault.specs.declared.refusal.Refusal.{Refusal}
-use Rattle.pf_rules.specs.Static.{faults_of, export_fault, defined_faults, head_faults, names_of, NotAfter, IsFirst}
+use Rattle.pf_rules.specs.Static.{faults_of, names_of, NotAfter, IsFirst}
 use Rattle.pf_rules.specs.Checks.{IsModule}
 use Rattle.pf_check.specs.Reads.{Outcome, refused, Reads, token_fault, no_head, no_tree, static, checked, accepted_as}
 use Rattle.pf_check.proofs.Derived.{tree_formed}
-use Rattle.pf_lower.proofs.Exists.{right_empty, some_functions}
+use Rattle.pf_check.proofs.NoFaults.{none_in_clauses}
+use Rattle.pf_lower.proofs.Exists.{some_functions}
 
 -- ---- the first fault
 
@@ -95,9 +96,7 @@ some_first f (g ∷ gs) = sooner_of f g gs (some_first g gs)
 
 some_module : (atoms : List (List ℕ)) (m : Tree) (ts : List NumberedToken) → DerivesTree atoms m ts → faults_of atoms m ≡ [] → (c : Checked) × IsModule atoms m c
 some_module atoms m ts d none =
-    let in_names = flat_map (export_fault m.functions) m.exports ++ defined_faults atoms [] m.functions in
-    let in_heads = right_empty in_names (flat_map (flat_map (head_faults (names_of m.functions))) m.functions) none in
-    let made = some_functions (names_of m.functions) m.exports m.functions (tree_formed atoms m ts d) in_heads in
+    let made = some_functions (names_of atoms m.functions) m.exports m.functions (tree_formed atoms m ts d) (none_in_clauses atoms m none) in
     (record (empty m.name atoms) { functions = made.0 }, record { name = refl; atoms_are = refl; functions = made.1 })
 
 -- ---- the outcome

@@ -1,106 +1,195 @@
--- What the grammar derives is formed: matches stand in bodies alone, and bodies and functions aren't empty.
-use Rattle.std.proofs.Common.{◌≡◌, ℕ, ◌-◌, ◌<◌, ◌≤◌, Bool, true, false, List, [], ◌∷◌, refl, sym, subst, arith, IsTrue}
+-- What the grammar derives is formed: matches stand in bodies alone, bodies, guards and functions aren't empty, and a string is within
+-- the limits of a value.
+use Rattle.std.proofs.Common.{◌≡◌, inl, inr, ℕ, ◌<◌, ◌≤◌, Bool, true, false, List, [], ◌∷◌, length, refl, sym, subst, arith, IsTrue}
 use Rattle.std.proofs.lemmas.List.Elements.{All-nil, All-cons}
-use Rattle.pf_syntax.specs.Tree.{Operator, times, quotient, remainder}
+use Rattle.pf_terms.specs.Value.{IsWithinLimits, nodes_in, depth_in}
+use Rattle.pf_syntax.specs.Tree.{plus, minus, times, quotient, remainder, append, equal, unequal, less, at_most, greater, at_least}
 use Rattle.pf_syntax.specs.WrittenPattern as s
 use Rattle.pf_syntax.specs.WrittenPattern.{WrittenPattern, WrittenPatterns, no_written_patterns, written_pattern}
 use Rattle.pf_syntax.specs.WrittenExpression as p
-use Rattle.pf_syntax.specs.WrittenExpression.{WrittenExpression, WrittenExpressions, Condition, Branches, no_written_expressions, written_expression, no_branches, branch}
+use Rattle.pf_syntax.specs.WrittenExpression.{WrittenExpression, WrittenExpressions, Condition, Branches, no_written_expressions, written_expression, no_tests, tests, no_branches, branch}
 use Rattle.pf_syntax.specs.Source.{Head}
+use Rattle.pf_syntax.specs.Naming.{characters, string}
+use Rattle.pf_numbered.specs.declared.limits.TheConstants.{MOST_TEXT_CHARACTERS}
 use Rattle.pf_numbered.specs.NumberedTokens.{NumberedToken}
-use Rattle.pf_reader.specs.Grammar.{Names, level_of, element, DerivesWrittenPattern, DerivesWrittenPatterns, Derives, DerivesAll, DerivesBody, DerivesBranches, DerivesHead, DerivesFunction, DerivesFunctions, DerivesTree}
+use Rattle.pf_grammar.specs.Grammar.{Names, Infix, operator, and_also, or_else, send, Grouping, leftwards, rightwards, alone, binding_of, left_in, right_in, level_of, left_level, right_level, top, element, Guarded, FrontIs}
+use Rattle.pf_grammar.specs.Grammar.{DerivesWrittenPattern, DerivesWrittenPatterns, Derives, DerivesAll, DerivesBody, DerivesGuard, DerivesBranches, DerivesHead, DerivesHeads, DerivesFunction, DerivesFunctions, DerivesTree}
 use Rattle.pf_syntax.specs.WrittenModule.{unguarded, Tree}
 use Rattle.pf_rules.specs.Formed.{WrittenPatternFormed, WrittenPatternsFormed, WrittenExpressionFormed, WrittenExpressionsFormed, ConditionFormed, BranchesFormed, HasFirst, HasAlternative, HeadFormed, FunctionFormed, AreFormed}
 
+-- ---- strings
+
+-- each character is a node, and none is deep
+as_many_nodes : (cs : List ℕ) → nodes_in (characters cs) ≡ length cs
+as_many_nodes [] = refl
+as_many_nodes (c ∷ cs) = let e = as_many_nodes cs in omega (arith, e)
+
+flat : (cs : List ℕ) → depth_in (characters cs) ≤ 1
+flat [] = omega arith
+flat (c ∷ cs) = let e = flat cs in omega (arith, e)
+
+text_within : (cs : List ℕ) → length cs ≤ MOST_TEXT_CHARACTERS → IsWithinLimits (string cs)
+text_within cs h = let many = as_many_nodes cs in let deep = flat cs in (omega (arith, h, many), omega (arith, deep))
+
+-- ---- levels
+
+-- no infix is as loose as a match
+tight : (i : Infix) → level_of i < element
+tight (operator plus) = omega arith
+tight (operator minus) = omega arith
+tight (operator times) = omega arith
+tight (operator quotient) = omega arith
+tight (operator remainder) = omega arith
+tight (operator append) = omega arith
+tight (operator equal) = omega arith
+tight (operator unequal) = omega arith
+tight (operator less) = omega arith
+tight (operator at_most) = omega arith
+tight (operator greater) = omega arith
+tight (operator at_least) = omega arith
+tight and_also = omega arith
+tight or_else = omega arith
+tight send = omega arith
+
+left_most : (g : Grouping) (level : ℕ) → left_in g level ≤ level
+left_most leftwards level = omega arith
+left_most rightwards level = omega arith
+left_most alone level = omega arith
+
+right_most : (g : Grouping) (level : ℕ) → right_in g level ≤ level
+right_most leftwards level = omega arith
+right_most rightwards level = omega arith
+right_most alone level = omega arith
+
+left_tight : (i : Infix) → element ≤ left_level i → IsTrue false
+left_tight i h = let most = left_most (binding_of i).grouping (level_of i) in let k = tight i in absurd (omega (arith, h, most, k))
+
+right_tight : (i : Infix) → element ≤ right_level i → IsTrue false
+right_tight i h = let most = right_most (binding_of i).grouping (level_of i) in let k = tight i in absurd (omega (arith, h, most, k))
+
+-- no whole expression is a match
+whole_tight : element ≤ top → IsTrue false
+whole_tight h = absurd (omega (arith, h))
+
+zero_tight : element ≤ 0 → IsTrue false
+zero_tight h = absurd (omega (arith, h))
+
 module _ (n : Names) where
-  written_pattern_formed : (q : WrittenPattern) (ts : List NumberedToken) → DerivesWrittenPattern n q ts → WrittenPatternFormed q
-  written_pattern_formed (s.integer z) ts h = tt
-  written_pattern_formed (s.atom a) ts h = tt
-  written_pattern_formed (s.variable x at) ts h = tt
-  written_pattern_formed s.anything ts h = tt
-  written_pattern_formed (s.text cs) ts h = absurd h
-  written_pattern_formed (s.tuple qs) ts h = absurd h
-  written_pattern_formed (s.list qs) ts h = absurd h
-  written_pattern_formed (s.list_on qs q) ts h = absurd h
+  -- ---- patterns
 
-  written_patterns_formed : (qs : WrittenPatterns) (ts : List NumberedToken) → DerivesWrittenPatterns n qs ts → WrittenPatternsFormed qs
-  written_patterns_formed no_written_patterns ts h = tt
-  written_patterns_formed (written_pattern q no_written_patterns) ts h = (written_pattern_formed q ts h, tt)
-  written_patterns_formed (written_pattern q (written_pattern r qs)) ts h = (written_pattern_formed q h.0 h.5, written_patterns_formed (written_pattern r qs) h.2 h.6)
+  mutual
+    written_pattern_formed : (q : WrittenPattern) (ts : List NumberedToken) → DerivesWrittenPattern n q ts → WrittenPatternFormed q
+    written_pattern_formed (s.integer z) ts h = tt
+    written_pattern_formed (s.atom a) ts h = tt
+    written_pattern_formed (s.variable x at) ts h = tt
+    written_pattern_formed s.anything ts h = tt
+    written_pattern_formed (s.text cs) ts h = text_within cs h.0
+    written_pattern_formed (s.tuple qs) ts h = written_patterns_formed qs h.4.0 h.4.4
+    written_pattern_formed (s.list qs) ts h = written_patterns_formed qs h.4.0 h.4.4
+    written_pattern_formed (s.list_on qs q) ts h =
+        let parts = h.1.4.4 in (written_patterns_formed qs parts.0 parts.5, written_pattern_formed q parts.2 parts.6)
 
-  -- no operator is as loose as a match
-  tight : (o : Operator) → level_of o < element
-  tight times = omega arith
-  tight quotient = omega arith
-  tight remainder = omega arith
-  tight _ = omega arith
+    written_patterns_formed : (qs : WrittenPatterns) (ts : List NumberedToken) → DerivesWrittenPatterns n qs ts → WrittenPatternsFormed qs
+    written_patterns_formed no_written_patterns ts h = tt
+    written_patterns_formed (written_pattern q no_written_patterns) ts h = (written_pattern_formed q ts h, tt)
+    written_patterns_formed (written_pattern q (written_pattern r qs)) ts h = (written_pattern_formed q h.0 h.5, written_patterns_formed (written_pattern r qs) h.2 h.6)
 
-  tighter : (o : Operator) (m : Bool) → element ≤ level_of o → IsTrue m
-  tighter o m h = let k = tight o in absurd (omega (arith, h, k))
+  -- ---- expressions
 
-  tighter_still : (o : Operator) (m : Bool) → element ≤ level_of o - 1 → IsTrue m
-  tighter_still o m h = let k = tight o in absurd (omega (arith, h, k))
+  -- a guard that has an alternative, and is formed
+  abbrev IsGuard : Condition → Type 0
+  IsGuard c = HasAlternative c × ConditionFormed c
 
-  unguarded_formed : (c : Condition) → c ≡ unguarded → HasAlternative c × ConditionFormed c
-  unguarded_formed c e = subst (λ d. HasAlternative d × ConditionFormed d) (sym e) (tt, (tt, tt))
+  unguarded_formed : (c : Condition) → c ≡ unguarded → IsGuard c
+  unguarded_formed c e = subst IsGuard (sym e) (tt, (tt, tt))
+
+  -- what stands before the arrow of a clause, once its guard is formed
+  guarded_formed : (c : Condition) (ts : List NumberedToken) → ((us : List NumberedToken) → DerivesGuard n c us → IsGuard c) → Guarded c (DerivesGuard n c) ts → IsGuard c
+  guarded_formed c ts guard (inl h) = unguarded_formed c h.0
+  guarded_formed c ts guard (inr h) = guard h.1 h.4
+
+  front_formed : (choice : Bool) (q : WrittenPattern) (c : Condition) (ts : List NumberedToken) → ((us : List NumberedToken) → DerivesGuard n c us → IsGuard c)
+      → FrontIs choice q c (DerivesWrittenPattern n q) (DerivesGuard n c) ts → WrittenPatternFormed q × IsGuard c
+  front_formed false q c ts guard h = (written_pattern_formed q h.0 h.3, guarded_formed c h.1 guard h.4)
+  front_formed true q c ts guard h = (subst WrittenPatternFormed (sym h.0) tt, guard ts h.1)
 
   mutual
     -- at a level below that of a match there is none
-    written_expression_formed : (m : Bool) (e : WrittenExpression) (level : ℕ) (ts : List NumberedToken) → (element ≤ level → IsTrue m) → Derives n e level ts → WrittenExpressionFormed m e
-    written_expression_formed m (p.integer z) level ts k h = tt
-    written_expression_formed m (p.atom a) level ts k h = tt
-    written_expression_formed m (p.text cs) level ts k h = absurd h
-    written_expression_formed m (p.variable x at) level ts k h = tt
-    written_expression_formed m (p.anonymous at) level ts k h = tt
-    written_expression_formed m (p.parentheses a) level ts k h = written_expression_formed false a 3 h.4.0 (λ i. absurd (omega (arith, i))) h.4.4
-    written_expression_formed m (p.tuple es) level ts k h = absurd h
-    written_expression_formed m (p.list es) level ts k h = absurd h
-    written_expression_formed m (p.list_on es e) level ts k h = absurd h
-    written_expression_formed m (p.call f at es) level ts k h = all_formed es h.5.4.0 h.5.4.4
-    written_expression_formed m (p.binary o a b) level ts k h =
-        (written_expression_formed false a (level_of o) h.1.0 (tighter o false) h.1.5, written_expression_formed false b (level_of o - 1) h.1.2 (tighter_still o false) h.1.6)
-    written_expression_formed m (p.negate a) level ts k h = written_expression_formed false a 0 h.1.1 (λ i. absurd (omega (arith, i))) h.1.4
-    written_expression_formed m (p.and_also a b) level ts k h = absurd h
-    written_expression_formed m (p.or_else a b) level ts k h = absurd h
-    written_expression_formed m (p.send a b) level ts k h = absurd h
-    written_expression_formed m (p.match q a) level ts k h = (k h.0, written_pattern_formed q h.1.0 h.1.5, written_expression_formed true a element h.1.2 (λ _. refl) h.1.6)
-    written_expression_formed m (p.case a bs) level ts k h =
-        (written_expression_formed false a 3 h.4.4.0 (λ i. absurd (omega (arith, i))) h.4.4.5, branches_formed bs h.4.4.2 h.4.4.6)
-    written_expression_formed m (p.if_expression bs) level ts k h = absurd h
-    written_expression_formed m (p.receive bs) level ts k h = absurd h
+    written_expression_formed : (m g : Bool) (e : WrittenExpression) (level : ℕ) (ts : List NumberedToken) → (element ≤ level → IsTrue m) → Derives n g e level ts → WrittenExpressionFormed m e
+    written_expression_formed m g (p.integer z) level ts k h = tt
+    written_expression_formed m g (p.atom a) level ts k h = tt
+    written_expression_formed m g (p.text cs) level ts k h = text_within cs h.0
+    written_expression_formed m g (p.variable x at) level ts k h = tt
+    written_expression_formed m g (p.anonymous at) level ts k h = tt
+    written_expression_formed m g (p.parentheses a) level ts k h = written_expression_formed false g a top h.4.0 whole_tight h.4.4
+    written_expression_formed m g (p.tuple es) level ts k h = all_formed g es h.4.0 h.4.4
+    written_expression_formed m g (p.list es) level ts k h = all_formed g es h.4.0 h.4.4
+    written_expression_formed m g (p.list_on es e) level ts k h =
+        let parts = h.1.4.4 in (all_formed g es parts.0 parts.5, written_expression_formed false g e top parts.2 whole_tight parts.6)
+    written_expression_formed m g (p.call f at es) level ts k h = all_formed g es h.6.4.0 h.6.4.4
+    written_expression_formed m g (p.binary o a b) level ts k h =
+        let i = operator o in
+        (written_expression_formed false g a (left_level i) h.2.0 (left_tight i) h.2.5, written_expression_formed false g b (right_level i) h.2.2 (right_tight i) h.2.6)
+    written_expression_formed m g (p.negate a) level ts k h = written_expression_formed false g a 0 h.1.1 zero_tight h.1.4
+    written_expression_formed m g (p.and_also a b) level ts k h =
+        (written_expression_formed false g a 5 h.2.0 (left_tight and_also) h.2.5, written_expression_formed false g b 6 h.2.2 (right_tight and_also) h.2.6)
+    written_expression_formed m g (p.or_else a b) level ts k h =
+        (written_expression_formed false g a 6 h.2.0 (left_tight or_else) h.2.5, written_expression_formed false g b 7 h.2.2 (right_tight or_else) h.2.6)
+    written_expression_formed m g (p.send a b) level ts k h =
+        (written_expression_formed false g a 7 h.2.0 (left_tight send) h.2.5, written_expression_formed false g b 8 h.2.2 (right_tight send) h.2.6)
+    written_expression_formed m g (p.match q a) level ts k h =
+        (k h.0, written_pattern_formed q h.1.0 h.1.5, written_expression_formed true g a element h.1.2 (λ _. refl) h.1.6)
+    written_expression_formed m g (p.case a bs) level ts k h =
+        let parts = h.1.4.4 in (written_expression_formed false g a top parts.0 whole_tight parts.5, branches_formed false bs parts.2 parts.6)
+    written_expression_formed m g (p.if_expression bs) level ts k h = branches_formed true bs h.1.4.0 h.1.4.4
+    written_expression_formed m g (p.receive bs) level ts k h = branches_formed false bs h.1.4.0 h.1.4.4
 
-    all_formed : (es : WrittenExpressions) (ts : List NumberedToken) → DerivesAll n es ts → WrittenExpressionsFormed false es
-    all_formed no_written_expressions ts h = tt
-    all_formed (written_expression e no_written_expressions) ts h = (written_expression_formed false e 3 ts (λ i. absurd (omega (arith, i))) h, tt)
-    all_formed (written_expression e (written_expression f es)) ts h = (written_expression_formed false e 3 h.0 (λ i. absurd (omega (arith, i))) h.5, all_formed (written_expression f es) h.2 h.6)
+    all_formed : (g : Bool) (es : WrittenExpressions) (ts : List NumberedToken) → DerivesAll n g es ts → WrittenExpressionsFormed false es
+    all_formed g no_written_expressions ts h = tt
+    all_formed g (written_expression e no_written_expressions) ts h = (written_expression_formed false g e top ts whole_tight h, tt)
+    all_formed g (written_expression e (written_expression f es)) ts h =
+        (written_expression_formed false g e top h.0 whole_tight h.5, all_formed g (written_expression f es) h.2 h.6)
 
     body_formed : (es : WrittenExpressions) (ts : List NumberedToken) → DerivesBody n es ts → HasFirst es × WrittenExpressionsFormed true es
     body_formed no_written_expressions ts h = absurd h
-    body_formed (written_expression e no_written_expressions) ts h = (tt, (written_expression_formed true e element ts (λ _. refl) h, tt))
-    body_formed (written_expression e (written_expression f es)) ts h = (tt, (written_expression_formed true e element h.0 (λ _. refl) h.5, (body_formed (written_expression f es) h.2 h.6).1))
+    body_formed (written_expression e no_written_expressions) ts h = (tt, (written_expression_formed true false e element ts (λ _. refl) h, tt))
+    body_formed (written_expression e (written_expression f es)) ts h =
+        (tt, (written_expression_formed true false e element h.0 (λ _. refl) h.5, (body_formed (written_expression f es) h.2 h.6).1))
 
-    branches_formed : (bs : Branches) (ts : List NumberedToken) → DerivesBranches n bs ts → BranchesFormed bs
-    branches_formed no_branches ts h = absurd h
-    branches_formed (branch q c es no_branches) ts h =
-        let guard = unguarded_formed c h.0 in
-        let body = body_formed es h.1.2 h.1.6 in
-        (written_pattern_formed q h.1.0 h.1.5, guard.0, guard.1, body.0, body.1, tt)
-    branches_formed (branch q c es (branch r d fs bs)) ts h =
-        let one = h.1.5 in
-        let guard = unguarded_formed c h.0 in
+    guard_formed : (c : Condition) (ts : List NumberedToken) → DerivesGuard n c ts → IsGuard c
+    guard_formed no_tests ts h = absurd h
+    guard_formed (tests es no_tests) ts h = (tt, (all_formed true es ts h.1, tt))
+    guard_formed (tests es (tests fs c)) ts h =
+        let parts = h.1 in (tt, (all_formed true es parts.0 parts.5, (guard_formed (tests fs c) parts.2 parts.6).1))
+
+    branches_formed : (choice : Bool) (bs : Branches) (ts : List NumberedToken) → DerivesBranches n choice bs ts → BranchesFormed bs
+    branches_formed choice no_branches ts h = absurd h
+    branches_formed choice (branch q c es no_branches) ts h =
+        let front = front_formed choice q c h.0 (λ us d. guard_formed c us d) h.5 in
+        let body = body_formed es h.2 h.6 in
+        (front.0, front.1.0, front.1.1, body.0, body.1, tt)
+    branches_formed choice (branch q c es (branch r d fs bs)) ts h =
+        let one = h.5 in
+        let front = front_formed choice q c one.0 (λ us d. guard_formed c us d) one.5 in
         let body = body_formed es one.2 one.6 in
-        (written_pattern_formed q one.0 one.5, guard.0, guard.1, body.0, body.1, branches_formed (branch r d fs bs) h.1.2 h.1.6)
+        (front.0, front.1.0, front.1.1, body.0, body.1, branches_formed choice (branch r d fs bs) h.2 h.6)
+
+  -- ---- functions
 
   head_formed : (h : Head) (ts : List NumberedToken) → DerivesHead n h ts → HeadFormed h
   head_formed h ts d =
-      let guard = unguarded_formed h.condition d.condition_is in
+      let front = d.parts.5 in
+      let guard = guarded_formed h.condition front.1 (λ us k. guard_formed h.condition us k) front.4 in
       let body = body_formed h.body d.parts.2 d.parts.6 in
-      (written_patterns_formed h.parameters d.parts.5.4.0 d.parts.5.4.4, guard.0, guard.1, body.0, body.1)
+      (written_patterns_formed h.parameters front.3.4.0 front.3.4.4, guard.0, guard.1, body.0, body.1)
+
+  heads_formed : (hs : List Head) (ts : List NumberedToken) → DerivesHeads n hs ts → FunctionFormed hs
+  heads_formed [] ts d = absurd d
+  heads_formed (h ∷ []) ts d = All-cons HeadFormed h [] (head_formed h ts d) (All-nil HeadFormed)
+  heads_formed (h ∷ i ∷ hs) ts d = All-cons HeadFormed h (i ∷ hs) (head_formed h d.0 d.5) (heads_formed (i ∷ hs) d.2 d.6)
 
   function_formed : (hs : List Head) (ts : List NumberedToken) → DerivesFunction n hs ts → FunctionFormed hs
-  function_formed [] ts d = absurd d
-  function_formed (h ∷ []) ts d = All-cons HeadFormed h [] (head_formed h d.0 d.4) (All-nil HeadFormed)
-  function_formed (h ∷ i ∷ hs) ts d = absurd d
+  function_formed hs ts d = heads_formed hs d.0 d.4
 
   functions_formed : (fs : List (List Head)) (ts : List NumberedToken) → DerivesFunctions n fs ts → AreFormed fs
   functions_formed [] ts d = All-nil FunctionFormed

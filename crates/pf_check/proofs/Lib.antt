@@ -2,6 +2,8 @@ pub mod Once
 pub mod Unique
 pub mod Same
 pub mod Derived
+pub mod NoFaults
+pub mod Apart
 pub mod AnyOutcome
 pub mod Outcomes
 pub mod Within

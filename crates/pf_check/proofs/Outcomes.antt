@@ -10,7 +10,7 @@ use Rattle.pf_tokens.specs.TokenKinds.{Placed}
 use Rattle.pf_tokens.specs.Rules.{HasTokens, IsFaultOf}
 use Rattle.pf_syntax.specs.Module.{Checked}
 use Rattle.pf_numbered.specs.NumberedTokens.{atoms_of, numbered}
-use Rattle.pf_reader.specs.Grammar.{DerivesTree}
+use Rattle.pf_grammar.specs.Grammar.{DerivesTree}
 use Rattle.pf_syntax.specs.WrittenModule.{Tree}
 use Rattle.pf_reader.specs.Outcome.{IsRefused, IsTreeFault}
 use Rattle.pf_rules.specs.Static.{faults_of}

@@ -1,5 +1,5 @@
 -- A source is read in one way.
-use Rattle.std.proofs.Common.{◌≡◌, inl, inr, ℕ, Bool, List, [], ◌∷◌, length, Ok, Err, Option, None, Some, refl, sym, ap, ap₂, ◌∙◌, subst, arith}
+use Rattle.std.proofs.Common.{◌≡◌, inl, inr, ℕ, Bool, List, [], ◌∷◌, length, Ok, Err, refl, sym, ap, ap₂, ◌∙◌, subst, arith}
 use Rattle.pf_fault.specs.Codes.{rank_of}
 use Rattle.pf_fault.specs.declared.code.Code.{Code}
 use Rattle.pf_fault.specs.declared.code.Code.TheVariants.{NoHead, NotGrammar}
@@ -9,18 +9,19 @@ use Rattle.pf_tokens.specs.TokenKinds.{Placed}
 use Rattle.pf_tokens.specs.Rules.{HasTokens, HasFault}
 use Rattle.pf_tokens.specs.Scan.{Read}
 use Rattle.pf_tokens.proofs.Texts.{tokens_again, tokens_fail}
-use Rattle.pf_syntax.specs.Tree.{Builtin, Function, FunctionClause}
+use Rattle.pf_syntax.specs.Tree.{Function, FunctionClause}
 use Rattle.pf_syntax.specs.Module.{Checked}
 use Rattle.pf_syntax.specs.Source.{Export, Head}
-use Rattle.pf_syntax.specs.Naming.{HeadIs}
+use Rattle.pf_syntax.specs.Naming.{Names, HeadIs}
 use Rattle.pf_numbered.specs.NumberedTokens.{atoms_of, numbered}
-use Rattle.pf_reader.specs.Grammar.{HasHead, DerivesTree}
+use Rattle.pf_grammar.specs.Grammar.{HasHead, DerivesTree}
 use Rattle.pf_syntax.specs.WrittenModule.{Tree}
-use Rattle.pf_reader.proofs.Whole.{one_tree}
+use Rattle.pf_grammar.proofs.Whole.{one_tree}
 use Rattle.pf_rules.specs.Static.{faults_of, names_of, NotAfter, IsFirst}
 use Rattle.pf_rules.specs.Checks.{Pairwise, FunctionIs, IsModule}
 use Rattle.pf_check.specs.Reads.{Outcome, refused, Reads, token_fault, no_head, no_tree, static, checked, SameOutcome, accepted_as}
-use Rattle.pf_check.proofs.Unique.{one_head}
+use Rattle.pf_check.proofs.Apart.{apart}
+use Rattle.pf_check.proofs.Unique.{Apart, one_head}
 
 -- ---- tokens
 
@@ -79,22 +80,21 @@ same_parts : (a a2 k k2 : ℕ) (e e2 : Bool) (cs cs2 : List FunctionClause) → 
     → ◌≡◌ {A = Function} (record { name = a; arity = k; exported = e; clauses = cs }) (record { name = a2; arity = k2; exported = e2; clauses = cs2 })
 same_parts a a2 k k2 e e2 cs cs2 h1 h2 h3 h4 = cc
 
-no_builtin : (b : Builtin) → ◌≡◌ {A = Option Builtin} None (Some b) → ⊥
-no_builtin b e = cc
-
-one_function : (fs : List (List Head)) (exports : List Export) (hs : List Head) (f g : Function)
-    → FunctionIs (names_of fs) exports hs f → FunctionIs (names_of fs) exports hs g → f ≡ g
-one_function fs exports [] f g a b = absurd a
-one_function fs exports (h ∷ hs) f g a b =
+one_function : (n : Names) → Apart n → (exports : List Export) (hs : List Head) (f g : Function) → FunctionIs n exports hs f → FunctionIs n exports hs g → f ≡ g
+one_function n apart exports [] f g a b = absurd a
+one_function n apart exports (h ∷ hs) f g a b =
     same_parts f.name g.name f.arity g.arity f.exported g.exported f.clauses g.clauses (a.0 ∙ sym b.0) (a.1 ∙ sym b.1) (a.2 ∙ sym b.2)
-    (one_each (HeadIs (names_of fs)) (one_head (names_of fs) (λ f k i b own built_in. no_builtin b built_in)) (h ∷ hs) f.clauses g.clauses a.3 b.3)
+    (one_each (HeadIs n) (one_head n apart) (h ∷ hs) f.clauses g.clauses a.3 b.3)
 
-one_module : (atoms : List (List ℕ)) (m : Tree) (c d : Checked) → IsModule atoms m c → IsModule atoms m d → SameOutcome (accepted_as c) (accepted_as d)
-one_module atoms m c d a b = (
-  a.name ∙ sym b.name,
-  a.atoms_are ∙ sym b.atoms_are,
-  one_each (FunctionIs (names_of m.functions) m.exports) (one_function m.functions m.exports) m.functions c.functions d.functions a.functions b.functions,
-)
+-- without a fault no call is both of an own function and of a built-in one
+one_module : (atoms : List (List ℕ)) (m : Tree) (c d : Checked) → faults_of atoms m ≡ [] → IsModule atoms m c → IsModule atoms m d
+    → SameOutcome (accepted_as c) (accepted_as d)
+one_module atoms m c d none a b =
+    let n = names_of atoms m.functions in (
+      a.name ∙ sym b.name,
+      a.atoms_are ∙ sym b.atoms_are,
+      one_each (FunctionIs n m.exports) (one_function n (apart atoms m none) m.exports) m.functions c.functions d.functions a.functions b.functions,
+    )
 
 -- ---- outcomes
 
@@ -168,7 +168,7 @@ module _ (bytes : List ℕ) where
       checked_only c none is _ (static us o g k d other) =
           absurd (none_first (faults_of (atoms_of ts) m) g none (told_here (λ atoms tree. IsFirst (faults_of atoms tree) g) us o k d other))
       checked_only c none is _ (checked us o b k d none_too is_too) =
-          one_module (atoms_of ts) m c b is (told_here (λ atoms tree. IsModule atoms tree b) us o k d is_too)
+          one_module (atoms_of ts) m c b none is (told_here (λ atoms tree. IsModule atoms tree b) us o k d is_too)
 
   pub same_outcome : (o p : Outcome) → Reads bytes o → Reads bytes p → SameOutcome o p
   same_outcome _ p (token_fault f at h) r = fault_only f at h p r

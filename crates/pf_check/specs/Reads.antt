@@ -10,7 +10,7 @@ use Rattle.pf_tokens.specs.Rules.{HasTokens, HasFault}
 use Rattle.pf_syntax.specs.Tree.{Program}
 use Rattle.pf_syntax.specs.Module.{Checked}
 use Rattle.pf_numbered.specs.NumberedTokens.{atoms_of, numbered}
-use Rattle.pf_reader.specs.Grammar.{HasHead, DerivesTree}
+use Rattle.pf_grammar.specs.Grammar.{HasHead, DerivesTree}
 use Rattle.pf_syntax.specs.WrittenModule.{Tree}
 use Rattle.pf_numbered.specs.Places.{IsPlaceOf}
 use Rattle.pf_rules.specs.Static.{faults_of, IsFirst}

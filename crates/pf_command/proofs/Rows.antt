@@ -1,6 +1,6 @@
 -- The rows of answers, for texts and statuses that are equal to theirs.
-use Rattle.std.proofs.Common.{◌≡◌, ℕ, List}
-use Rattle.std.specs.Prelude.{None, Some, true, false}
+use Rattle.std.proofs.Common.{◌≡◌, ◌++◌, ℕ, Bool, List}
+use Rattle.std.specs.Prelude.{None, Some, true, false, codes}
 use Rattle.pf_fault.specs.Codes.{code_text, refusal_text}
 use Rattle.pf_fault.specs.declared.code.Code.{Code}
 use Rattle.pf_fault.specs.declared.code.Code.TheVariants as table
@@ -14,6 +14,7 @@ use Rattle.pf_model.specs.Text.{report_text}
 use Rattle.pf_check.specs.Reads.{Reads, refused, accepted_as}
 use Rattle.pf_command.specs.Words.{Request}
 use Rattle.pf_command.specs.Answers.{Answers, may_be_asked, job_asked, run_status, source_refused, no_root, out_of_bounds, reported}
+use Rattle.pf_command.specs.Checks.{Checks, explained, is_module, is_refused}
 
 pub row_refused : (r : Request) (bytes text : List ℕ) (status : ℕ) (code : Code) (place : ℕ) → Reads bytes (refused code place)
     → text ≡ line (refusal_text code place) → status ≡ 2 → Answers r bytes text status
@@ -31,3 +32,11 @@ pub row_reported : (r : Request) (m : Checked) (bytes text : List ℕ) (i : ℕ)
     → root_of r.root m.atoms m.functions ≡ Some i → may_be_asked r ≡ true → Means (job_asked r (code_of m) i) report
     → text ≡ report_text (name_of m.atoms) report → status ≡ run_status report.verdict → Answers r bytes text status
 row_reported r m bytes text i report status reads root within means e s = rw (e, s) (reported m.name m.atoms m.functions i report reads root within means)
+
+pub row_module : (explain : Bool) (m : Checked) (bytes text : List ℕ) (status : ℕ) → Reads bytes (accepted_as m)
+    → text ≡ line (codes "ok") → status ≡ 0 → Checks explain bytes text status
+row_module explain m bytes text status reads e s = rw (e, s) (is_module m.name m.atoms m.functions reads)
+
+pub row_check_refused : (explain : Bool) (bytes text : List ℕ) (status : ℕ) (code : Code) (place : ℕ) → Reads bytes (refused code place)
+    → text ≡ line (refusal_text code place) ++ explained explain bytes code place → status ≡ 2 → Checks explain bytes text status
+row_check_refused explain bytes text status code place reads e s = rw (e, s) (is_refused code place reads)

@@ -61,17 +61,17 @@ Refuses a words = (a.text.items ≡ line words) × (a.status ≡ 2)
 abbrev pub AreRead : Option (List ℕ) → List ℕ → Type 0
 AreRead r0 bytes = IfSome r0 (λ input. bytes ≡ take MOST_BYTES input)
 
--- what was read is answered with the text that went out and the status
-abbrev pub Answered : Request → (read_old written_old written_new : Option (List ℕ)) → ℕ → Type 0
-Answered r r0 w0 w1 status = (bytes : List ℕ) × (text : List ℕ) × AreRead r0 bytes × Answers r bytes text status × Appends w0 w1 text
+-- what was read is answered with the text that went out and the status; P says which texts and statuses answer which bytes
+abbrev pub Answered : (P : (bytes text : List ℕ) → ℕ → Type 0) → (read_old written_old written_new : Option (List ℕ)) → ℕ → Type 0
+Answered P r0 w0 w1 status = (bytes : List ℕ) × (text : List ℕ) × AreRead r0 bytes × P bytes text status × Appends w0 w1 text
 
 -- a beginning of the text of an answer went out
-abbrev pub AnsweredInPart : Request → (read_old written_old written_new : Option (List ℕ)) → Type 0
-AnsweredInPart r r0 w0 w1 =
-    (bytes : List ℕ) × (text : List ℕ) × (status : ℕ) × AreRead r0 bytes × Answers r bytes text status × AppendsFront w0 w1 text
+abbrev pub AnsweredInPart : (P : (bytes text : List ℕ) → ℕ → Type 0) → (read_old written_old written_new : Option (List ℕ)) → Type 0
+AnsweredInPart P r0 w0 w1 =
+    (bytes : List ℕ) × (text : List ℕ) × (status : ℕ) × AreRead r0 bytes × P bytes text status × AppendsFront w0 w1 text
 
 -- what a fault leaves: which stream failed once more, and what went out
-abbrev pub Leaves : OrNoMemory StreamFault → Request → (read_old written_old written_new : Option (List ℕ)) → (reads_old reads_new writes_old writes_new : ℕ) → Type 0
-Leaves NoMemory r r0 w0 w1 m0 m1 n0 n1 = (m1 ≡ m0) × (n1 ≡ n0) × (w1 ≡ w0)
-Leaves (Fault (Read e)) r r0 w0 w1 m0 m1 n0 n1 = (m1 ≡ m0 + 1) × (n1 ≡ n0) × (w1 ≡ w0)
-Leaves (Fault (Write e)) r r0 w0 w1 m0 m1 n0 n1 = (m1 ≡ m0) × (n1 ≡ n0 + 1) × AnsweredInPart r r0 w0 w1
+abbrev pub Leaves : OrNoMemory StreamFault → (P : (bytes text : List ℕ) → ℕ → Type 0) → (read_old written_old written_new : Option (List ℕ)) → (reads_old reads_new writes_old writes_new : ℕ) → Type 0
+Leaves NoMemory P r0 w0 w1 m0 m1 n0 n1 = (m1 ≡ m0) × (n1 ≡ n0) × (w1 ≡ w0)
+Leaves (Fault (Read e)) P r0 w0 w1 m0 m1 n0 n1 = (m1 ≡ m0 + 1) × (n1 ≡ n0) × (w1 ≡ w0)
+Leaves (Fault (Write e)) P r0 w0 w1 m0 m1 n0 n1 = (m1 ≡ m0) × (n1 ≡ n0 + 1) × AnsweredInPart P r0 w0 w1

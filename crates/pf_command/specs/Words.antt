@@ -3,12 +3,13 @@ use Rattle.std.specs.Prelude.{◌≡◌, ◌⊎◌, ℕ, List, [], ◌∷◌, Op
 use Rattle.std.specs.List.{list_any}
 use Rattle.std.specs.Str.{bytes_eq}
 use Rattle.clap.specs.Words.{IsAmong, App, Shape, Rule, Row, Text, new_app, new_rule, with_rule, with_subcommand, Kinds, first_of, subcommand_of, fault_of}
+use Rattle.clap.specs.declared.builder.action.ArgAction.TheVariants.{SetTrue}
 use Rattle.clap.specs.declared.error.kind.ErrorKind.{ErrorKind}
 use Rattle.clap.specs.declared.error.kind.ErrorKind.TheVariants as kind
 use Rattle.pf_text.specs.Numbers.{number_of, schedule_of}
 use Rattle.pf_command.specs.declared.words.RunWords.{RunWords}
 use Rattle.pf_command.specs.declared.words.Words.{Words}
-use Rattle.pf_command.specs.declared.words.Words.TheVariants.{Run, Steps}
+use Rattle.pf_command.specs.declared.words.Words.TheVariants.{Run, Check, Steps}
 
 -- ---- the words that are taken
 
@@ -20,10 +21,18 @@ file_rule = record (new_rule (codes "file")) { value_names = 1 }
 abbrev pub option_rule : Text → Rule
 option_rule name = record (new_rule name) { long = Some name; value_names = 1; required = true }
 
+-- a flag has no value, and may be left out
+abbrev pub flag_rule : Text → Rule
+flag_rule name = record (new_rule name) { long = Some name; action = Some SetTrue }
+
 -- run [FILE] --root F --limit N --schedule L
 abbrev pub run_app : App
 run_app =
     with_rule (with_rule (with_rule (with_rule (new_app (codes "run")) file_rule) (option_rule (codes "root"))) (option_rule (codes "limit"))) (option_rule (codes "schedule"))
+
+-- check [FILE] [--explain]
+abbrev pub check_app : App
+check_app = with_rule (with_rule (new_app (codes "check")) file_rule) (flag_rule (codes "explain"))
 
 -- steps [FILE]
 abbrev pub steps_app : App
@@ -36,7 +45,8 @@ top_shape =
 
 -- the command line
 abbrev pub pulsefarm : App
-pulsefarm = with_subcommand (with_subcommand (record (new_app (codes "pulsefarm")) { top = top_shape }) run_app.top) steps_app.top
+pulsefarm =
+    with_subcommand (with_subcommand (with_subcommand (record (new_app (codes "pulsefarm")) { top = top_shape }) run_app.top) check_app.top) steps_app.top
 
 -- ---- what is asked for
 
@@ -57,16 +67,27 @@ read_values _ _ _ = None
 abbrev pub run_of : List Row → Option Request
 run_of rows = read_values (first_of (codes "root") rows) (first_of (codes "limit") rows) (first_of (codes "schedule") rows)
 
--- a command asks for a run, or for the steps that a file lists
+-- a flag that is given has the value `true`
+abbrev pub is_given : Option Text → Bool
+is_given None = false
+is_given (Some value) = bytes_eq value (codes "true")
+
+-- whether a refusal is to be explained
+abbrev pub explain_of : List Row → Bool
+explain_of rows = is_given (first_of (codes "explain") rows)
+
+-- a command asks for a run, for a check that may explain what it refuses, or for the steps that a file lists
 pub data Wanted : Type 0 where
   run : Request → Wanted
+  check : (explain : Bool) → Wanted
   steps : Wanted
 
 -- what the command of this name asks for by the values of its options
 abbrev pub of_command : Text → List Row → Option Wanted
 of_command name rows =
     if bytes_eq name (codes "run") then option_map run (run_of rows)
-    else (if bytes_eq name (codes "steps") then Some steps else None)
+    else (if bytes_eq name (codes "check") then Some (check (explain_of rows))
+    else (if bytes_eq name (codes "steps") then Some steps else None))
 
 abbrev pub asked : {T : Type 0} → (Text → List Row → Option T) → Option (Text × List Row) → Option T
 asked read None = None
@@ -96,10 +117,12 @@ request w = record { root = w.root.now; limit = w.limit; schedule = w.schedule.i
 -- and what the code's own words stand for
 abbrev pub wanted : Words → Wanted
 wanted (Run w) = run (request w)
+wanted (Check w) = check w.explain
 wanted (Steps w) = steps
 
 abbrev pub named_file : Words → Option Text
 named_file (Run w) = option_map (λ s. s.now) w.file
+named_file (Check w) = option_map (λ s. s.now) w.file
 named_file (Steps w) = option_map (λ s. s.now) w.file
 
 -- ---- words that ask for nothing

@@ -51,7 +51,7 @@ fn refused_by_code(alloc: Global, code: Code) -> Result<Answer, NoMemory>
 }
 
 /// A code with its place, as `E6 at 41`.
-fn refused_at(alloc: Global, refusal: Refusal) -> Result<Answer, NoMemory>
+pub(crate) fn refused_at(alloc: Global, refusal: Refusal) -> Result<Answer, NoMemory>
     ensures { IfOk result (λ a. Refuses a (refusal_text refusal.code refusal.place)) }
 {
     let words = format!(in alloc; "{refusal}")?;

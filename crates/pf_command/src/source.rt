@@ -1,12 +1,14 @@
-//! The work of `run` between a reader and a writer.
+//! The work of `run` and of `check` between a reader and a writer.
 
 ghost use Rattle.std.specs.Prelude.{◌≡◌, ◌≤◌, ℕ, List, length, IfOk, IfErr, OnOk};
 ghost use Rattle.std.specs.Io.KnownBytes.{Consumes};
 ghost use Rattle.pf_command.specs.Words.{request};
-ghost use Rattle.pf_command.specs.Answers.{Answered, Leaves};
+ghost use Rattle.pf_command.specs.Answers.{Answered, Answers, Leaves};
+ghost use Rattle.pf_command.specs.Checks.{Checks};
 
 use crate::answer::answer_source;
-use crate::words::RunWords;
+use crate::check::answer_check;
+use crate::words::{CheckWords, RunWords};
 use pf_fault::OrNoMemory;
 use pf_terms::{Counted, StreamFault};
 use pf_tokens::MOST_SOURCE_BYTES;
@@ -24,13 +26,13 @@ pub fn run_source<R: Read, W: Write, L: Ledger, M: Ledger>(
     words: &RunWords,
     writer: &mut Counted<W, M>,
 ) -> Result<u8, OrNoMemory<StreamFault>>
-    ensures answered { IfOk result (λ status. Answered (request words.now)
+    ensures answered { IfOk result (λ status. Answered (Answers (request words.now))
         (R.remaining reader.old.inner) (W.contents writer.old.inner) (W.contents writer.new.inner) status) }
     ensures counts { OnOk result ((reader.new.failures.total ≡ reader.old.failures.total)
         × (writer.new.failures.total ≡ writer.old.failures.total)) }
     ensures taken { (bytes : List ℕ) × (length bytes ≤ MOST_BYTES)
         × Consumes (R.remaining reader.old.inner) (R.remaining reader.new.inner) bytes }
-    ensures fault { IfErr result (λ e. Leaves e (request words.now)
+    ensures fault { IfErr result (λ e. Leaves e (Answers (request words.now))
         (R.remaining reader.old.inner) (W.contents writer.old.inner) (W.contents writer.new.inner)
         reader.old.failures.total reader.new.failures.total writer.old.failures.total writer.new.failures.total) }
 {
@@ -38,4 +40,27 @@ pub fn run_source<R: Read, W: Write, L: Ledger, M: Ledger>(
     let answer = answer_source(alloc, words, &source)?;
     writer.put(&answer.text)?;
     Ok(answer.status)
+}
+
+/// Checks a source: reads at most one byte more than a source may have, writes `ok` or its refusal, and gives the status.
+pub fn check_source<R: Read, W: Write, L: Ledger, M: Ledger>(
+    alloc: Global,
+    reader: &mut Counted<R, L>,
+    words: &CheckWords,
+    writer: &mut Counted<W, M>,
+) -> Result<u8, OrNoMemory<StreamFault>>
+    ensures answered { IfOk result (λ status. Answered (Checks words.now.explain)
+        (R.remaining reader.old.inner) (W.contents writer.old.inner) (W.contents writer.new.inner) status) }
+    ensures counts { OnOk result ((reader.new.failures.total ≡ reader.old.failures.total)
+        × (writer.new.failures.total ≡ writer.old.failures.total)) }
+    ensures taken { (bytes : List ℕ) × (length bytes ≤ MOST_BYTES)
+        × Consumes (R.remaining reader.old.inner) (R.remaining reader.new.inner) bytes }
+    ensures fault { IfErr result (λ e. Leaves e (Checks words.now.explain)
+        (R.remaining reader.old.inner) (W.contents writer.old.inner) (W.contents writer.new.inner)
+        reader.old.failures.total reader.new.failures.total writer.old.failures.total writer.new.failures.total) }
+{
+    let bytes = reader.take_front(alloc, MOST_BYTES)?;
+    let told = answer_check(alloc, words.explain, &bytes)?;
+    writer.put(&told.text)?;
+    Ok(told.status)
 }

@@ -3,10 +3,10 @@
 ghost use Rattle.std.specs.Prelude.{◌≡◌, ◌⊎◌, IfOk, IfErr, map, true, false, Some, None, codes, option_map};
 ghost use Rattle.clap.specs.Words.{FailsBy, Shape, app_of, fault_of, subcommand_of, subcommand_rows_of, rule_of, new_app, kind_of, first_of, rows_of, found_of};
 ghost use Rattle.clap.specs.declared.builder.command.Command.TheViews.{out-Command};
-ghost use Rattle.pf_command.specs.Words.{IsFaultOf, file_named, file_of, file_rule, named_file, of_command, option_rule, pulsefarm, request, run_app, run_of, status_of_kind, steps_app, top_shape, wanted, wanted_of};
+ghost use Rattle.pf_command.specs.Words.{IsFaultOf, check_app, file_named, file_of, file_rule, flag_rule, is_given, named_file, of_command, option_rule, pulsefarm, request, run_app, run_of, status_of_kind, steps_app, top_shape, wanted, wanted_of};
 
 use clap::error::ErrorKind;
-use clap::{Arg, ArgMatches, Command, Error};
+use clap::{Arg, ArgAction, ArgMatches, Command, Error};
 use pf_text::{number_of, schedule_of};
 use std::alloc::{AllocError, Global};
 
@@ -23,6 +23,15 @@ pub struct RunWords<'a> {
     pub schedule: Vec<u32>,
 }
 
+/// What the words of `check` ask for.
+#[derive(Drop)]
+pub struct CheckWords<'a> {
+    /// The file of the source; the standard input where there is none.
+    pub file: Option<&'a str>,
+    /// Whether a refusal is explained.
+    pub explain: bool,
+}
+
 /// What the words of `steps` ask for.
 #[derive(Drop)]
 pub struct StepsWords<'a> {
@@ -34,6 +43,7 @@ pub struct StepsWords<'a> {
 #[derive(Drop)]
 pub enum Words<'a> {
     Run(RunWords<'a>),
+    Check(CheckWords<'a>),
     Steps(StepsWords<'a>),
 }
 
@@ -44,10 +54,14 @@ impl<'a> Words<'a> {
     {
         match self {
             Words::Run(words) => words.file,
+            Words::Check(words) => words.file,
             Words::Steps(words) => words.file,
         }
     }
 }
+
+const SOURCE_HELP: &str =
+    "File of the module's source, at most 65,536 bytes; `-` is standard input [default: -]";
 
 /// A file that comes without a name before it.
 fn file<'a>(alloc: Global, help: &'a str) -> Arg<'a>
@@ -66,6 +80,17 @@ fn option<'a>(alloc: Global, name: &'a str, value: &'a str, help: &'a str) -> Ar
         .long(name)
         .value_name(value)
         .required(true)
+        .help(help)
+}
+
+/// An option without a value, which may be left out.
+fn flag<'a>(alloc: Global, name: &'a str, help: &'a str) -> Arg<'a>
+    ensures rule { rule_of result ≡ flag_rule name.entry.now }
+    ensures local { result.global ≡ false }
+{
+    Arg::new(alloc, name)
+        .long(name)
+        .action(ArgAction::SetTrue)
         .help(help)
 }
 
@@ -107,14 +132,24 @@ fn run_command<'a>(alloc: Global) -> Result<Command<'a>, AllocError>
     ensures local { IfOk result (λ c. (out-Command c).has_globals ≡ false) }
 {
     let about = "Runs a module of one process and reports each of its turns";
-    let source =
-        "File of the module's source, at most 65,536 bytes; `-` is standard input [default: -]";
     let run = bare(alloc, "run", about)
-        .arg(file(alloc, source))?
+        .arg(file(alloc, SOURCE_HELP))?
         .arg(root(alloc))?
         .arg(limit(alloc))?
         .arg(schedule(alloc))?;
     Ok(run)
+}
+
+fn check_command<'a>(alloc: Global) -> Result<Command<'a>, AllocError>
+    ensures app { IfOk result (λ c. app_of c ≡ check_app) }
+    ensures local { IfOk result (λ c. (out-Command c).has_globals ≡ false) }
+{
+    let about = "Reads a module and tells `ok`, or its first refusal with the place";
+    let explain = "Shows the line of a refusal too, and tells how to mend it";
+    let check = bare(alloc, "check", about)
+        .arg(file(alloc, SOURCE_HELP))?
+        .arg(flag(alloc, "explain", explain))?;
+    Ok(check)
 }
 
 fn steps_command<'a>(alloc: Global) -> Result<Command<'a>, AllocError>
@@ -145,6 +180,7 @@ fn command<'a>(alloc: Global) -> Result<Command<'a>, AllocError>
 {
     let whole = top(alloc)
         .subcommand(run_command(alloc)?)?
+        .subcommand(check_command(alloc)?)?
         .subcommand(steps_command(alloc)?)?;
     Ok(whole)
 }
@@ -161,6 +197,16 @@ fn value<'a>(rows: &ArgMatches<'a>, name: &str) -> Option<&'a str>
     ensures { option_map (λ s. s.now) result ≡ first_of name.now (rows_of (found_of rows.now)) }
 {
     rows.get_str(name)
+}
+
+/// Whether a flag is given.
+fn is_given(rows: &ArgMatches, name: &str) -> bool
+    ensures { result ≡ is_given (first_of name.now (rows_of (found_of rows.now))) }
+{
+    match value(rows, name) {
+        Some(value) => value == "true",
+        None => false,
+    }
 }
 
 /// The file that the words name; `-` is the standard input.
@@ -263,6 +309,14 @@ fn command_words<'a>(alloc: Global, name: &str, rows: &ArgMatches<'a>) -> Result
             Ok(words) => Ok(Words::Run(words)),
             Err(e) => Err(e),
         };
+    }
+    if name == "check" {
+        let checked = named_file(rows);
+        let explain = is_given(rows, "explain");
+        return Ok(Words::Check(CheckWords {
+            file: checked,
+            explain,
+        }));
     }
     if name == "steps" {
         return Ok(Words::Steps(StepsWords {

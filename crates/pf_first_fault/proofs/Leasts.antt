@@ -78,12 +78,21 @@ swapped a b c f h =
 
 -- ---- the faults of a module
 
--- three parts that are found in turn, of which the first two stand the other way round
-pub first_of_all : (d e h : List Refusal) (k l m n : Option Refusal) → k ≡ None → l ≡ earliest k d → m ≡ earliest l e → n ≡ earliest m h → IsLeast (e ++ d ++ h) n
-first_of_all d e h k l m n a b c f =
-    let all : n ≡ earliest None (d ++ e ++ h) =
-    f ∙ ap (λ o. earliest o h) (c ∙ ap (λ o. earliest o e) (b ∙ ap (λ o. earliest o d) a) ∙ sym (fold-append earlier None d e)) ∙ sym (fold-append earlier None (d ++ e) h) in
-    same_least (d ++ e ++ h) (e ++ d ++ h) n (swapped d e h) (swapped e d h) (subst (IsLeast (d ++ e ++ h)) (sym all) (least (d ++ e ++ h)))
+-- the same before a fourth
+swapped_before : (a b c d : List Refusal) (f : Refusal) → Contains (a ++ b ++ c ++ d) f → Contains (b ++ a ++ c ++ d) f
+swapped_before a b c d f h =
+    elim (Contains-append_cases (a ++ b ++ c) d f h) [
+      | inl x ↦ Contains-append_left (b ++ a ++ c) d f (swapped a b c f x)
+      | inr y ↦ Contains-append_right (b ++ a ++ c) d f y
+    ]
+
+-- four parts that are found in turn, of which the first two stand the other way round
+pub first_of_all : (d e u h : List Refusal) (k l m n o : Option Refusal) → k ≡ None → l ≡ earliest k d → m ≡ earliest l e → n ≡ earliest m u → o ≡ earliest n h → IsLeast (e ++ d ++ u ++ h) o
+first_of_all d e u h k l m n o a b c f g =
+    let first : m ≡ earliest None (d ++ e) = c ∙ ap (λ p. earliest p e) (b ∙ ap (λ p. earliest p d) a) ∙ sym (fold-append earlier None d e) in
+    let next : n ≡ earliest None (d ++ e ++ u) = f ∙ ap (λ p. earliest p u) first ∙ sym (fold-append earlier None (d ++ e) u) in
+    let all : o ≡ earliest None (d ++ e ++ u ++ h) = g ∙ ap (λ p. earliest p h) next ∙ sym (fold-append earlier None (d ++ e ++ u) h) in
+    same_least (d ++ e ++ u ++ h) (e ++ d ++ u ++ h) o (swapped_before d e u h) (swapped_before e d u h) (subst (IsLeast (d ++ e ++ u ++ h)) (sym all) (least (d ++ e ++ u ++ h)))
 
 pub told_none : (r : Option Refusal) (fs : List Refusal) → IsLeast fs r → IfNone r (fs ≡ [])
 told_none None fs h = h

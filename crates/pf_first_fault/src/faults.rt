@@ -10,10 +10,12 @@ ghost use Rattle.pf_first_fault.specs.Defines.{Defines};
 ghost use Rattle.pf_rules.specs.Listing.{Lists};
 
 use crate::first::First;
+use crate::names::is_builtin;
+use crate::unlike::note_unlike;
 use crate::variable_states::VariableStates;
 use crate::walk::Walk;
 use pf_fault::{Code, Refusal};
-use pf_rules::{Signatures, is_builtin};
+use pf_rules::Signatures;
 use pf_syntax::{Head, Source, WrittenFunction};
 use pf_terms::{AtomTable, NoMemory};
 use std::alloc::Global;
@@ -30,11 +32,12 @@ pub fn first_fault(
     let mut first = First::new();
     let own = own_functions(alloc, source, atoms, &mut first)?;
     note_exports(source, &own, &mut first);
+    note_unlike(source, &mut first);
     let mut walk = Walk {
         variables: VariableStates::new(alloc),
         first,
     };
-    walk.functions(source, &own)?;
+    walk.functions(source, atoms, &own)?;
     Ok(walk.first.found())
 }
 

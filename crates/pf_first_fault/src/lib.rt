@@ -3,6 +3,8 @@
 
 mod faults;
 mod first;
+mod names;
+mod unlike;
 mod variable_states;
 mod walk;
 

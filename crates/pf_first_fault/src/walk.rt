@@ -12,13 +12,14 @@ mod heads;
 mod patterns;
 
 use crate::first::First;
+use crate::names::is_defined;
 use crate::variable_states::{Status, VariableStates};
 use pf_fault::Code;
 use pf_rules::Signatures;
 use pf_syntax::{
     Branch, Condition, Source, Word, WrittenExpressionId, WrittenExpressionNode, WrittenPatternId,
 };
-use pf_terms::NoMemory;
+use pf_terms::{AtomTable, NoMemory};
 
 /// What is seen at a place of a function's clause, and the first fault up to there.
 #[derive(Drop)]
@@ -33,14 +34,15 @@ impl Walk {
     fn written_expression(
         &mut self,
         source: &Source,
+        atoms: &AtomTable,
         own: &Signatures,
         id: WrittenExpressionId,
     ) -> Result<(), NoMemory>
         requires { Lists own.now source.now.functions }
-        ensures { OnOk result (WrittenExpressionWalked (names_of source.now.functions) self.old self.new (written_expression_at source.now.node_table id.0)) }
+        ensures { OnOk result (WrittenExpressionWalked (names_of atoms.now source.now.functions) self.old self.new (written_expression_at source.now.node_table id.0)) }
     {
         match source.written_expression(id) {
-            Some(node) => self.written_expression_node(source, own, node),
+            Some(node) => self.written_expression_node(source, atoms, own, node),
             None => Ok(()),
         }
     }
@@ -50,42 +52,48 @@ impl Walk {
     fn written_expression_node(
         &mut self,
         source: &Source,
+        atoms: &AtomTable,
         own: &Signatures,
         node: &WrittenExpressionNode,
     ) -> Result<(), NoMemory>
         requires { Lists own.now source.now.functions }
-        ensures { OnOk result (WrittenExpressionWalked (names_of source.now.functions) self.old self.new (written_expression_over source.now.node_table node.now)) }
+        ensures { OnOk result (WrittenExpressionWalked (names_of atoms.now source.now.functions) self.old self.new (written_expression_over source.now.node_table node.now)) }
     {
         match node {
             WrittenExpressionNode::Variable(word) => self.variable(*word),
             WrittenExpressionNode::Anonymous(offset) => self.anonymous(*offset),
             WrittenExpressionNode::Parentheses(part) | WrittenExpressionNode::Negate(part) => {
-                self.written_expression(source, own, *part)?;
+                self.written_expression(source, atoms, own, *part)?;
             }
             WrittenExpressionNode::Tuple(parts) | WrittenExpressionNode::List(parts) => {
-                self.written_expressions(source, own, parts)?;
+                self.written_expressions(source, atoms, own, parts)?;
             }
             WrittenExpressionNode::ListOn(parts, tail) => {
-                self.written_expressions(source, own, parts)?;
-                self.written_expression(source, own, *tail)?;
+                self.written_expressions(source, atoms, own, parts)?;
+                self.written_expression(source, atoms, own, *tail)?;
             }
             WrittenExpressionNode::Call(word, arguments) => {
-                self.call(own, *word, arguments.len());
-                self.written_expressions(source, own, arguments)?;
+                self.call(atoms, own, *word, arguments.len());
+                self.written_expressions(source, atoms, own, arguments)?;
             }
             WrittenExpressionNode::Binary(_, left, right)
             | WrittenExpressionNode::AndAlso(left, right)
             | WrittenExpressionNode::OrElse(left, right)
-            | WrittenExpressionNode::Send(left, right) => self.pair(source, own, *left, *right)?,
+            | WrittenExpressionNode::Send(left, right) => self.pair(
+                source, atoms, own, *left, *right,
+            )?,
             WrittenExpressionNode::Match(written_pattern, value) => self.matching(
                 source,
+                atoms,
                 own,
                 *written_pattern,
                 *value,
             )?,
-            WrittenExpressionNode::Case(part, branches) => self.case(source, own, *part, branches)?,
+            WrittenExpressionNode::Case(part, branches) => self.case(
+                source, atoms, own, *part, branches,
+            )?,
             WrittenExpressionNode::If(branches) | WrittenExpressionNode::Receive(branches) => {
-                self.branches(source, own, branches)?;
+                self.branches(source, atoms, own, branches)?;
             }
             WrittenExpressionNode::Integer(_)
             | WrittenExpressionNode::Atom(_)
@@ -99,15 +107,16 @@ impl Walk {
     fn pair(
         &mut self,
         source: &Source,
+        atoms: &AtomTable,
         own: &Signatures,
         left: WrittenExpressionId,
         right: WrittenExpressionId,
     ) -> Result<(), NoMemory>
         requires { Lists own.now source.now.functions }
-        ensures { OnOk result (PairWalked (names_of source.now.functions) self.old self.new (written_expression_at source.now.node_table left.0) (written_expression_at source.now.node_table right.0)) }
+        ensures { OnOk result (PairWalked (names_of atoms.now source.now.functions) self.old self.new (written_expression_at source.now.node_table left.0) (written_expression_at source.now.node_table right.0)) }
     {
-        self.written_expression(source, own, left)?;
-        self.written_expression(source, own, right)
+        self.written_expression(source, atoms, own, left)?;
+        self.written_expression(source, atoms, own, right)
     }
 
     /// Through a match: its right side, and then its pattern.
@@ -115,14 +124,15 @@ impl Walk {
     fn matching(
         &mut self,
         source: &Source,
+        atoms: &AtomTable,
         own: &Signatures,
         written_pattern: WrittenPatternId,
         value: WrittenExpressionId,
     ) -> Result<(), NoMemory>
         requires { Lists own.now source.now.functions }
-        ensures { OnOk result (WrittenExpressionWalked (names_of source.now.functions) self.old self.new (written.match (written_pattern_at source.now.node_table written_pattern.0) (written_expression_at source.now.node_table value.0))) }
+        ensures { OnOk result (WrittenExpressionWalked (names_of atoms.now source.now.functions) self.old self.new (written.match (written_pattern_at source.now.node_table written_pattern.0) (written_expression_at source.now.node_table value.0))) }
     {
-        self.written_expression(source, own, value)?;
+        self.written_expression(source, atoms, own, value)?;
         self.written_pattern(source, written_pattern)
     }
 
@@ -131,15 +141,16 @@ impl Walk {
     fn case(
         &mut self,
         source: &Source,
+        atoms: &AtomTable,
         own: &Signatures,
         part: WrittenExpressionId,
         branches: &[Branch],
     ) -> Result<(), NoMemory>
         requires { Lists own.now source.now.functions }
-        ensures { OnOk result (WrittenExpressionWalked (names_of source.now.functions) self.old self.new (written.case (written_expression_at source.now.node_table part.0) (branches_over source.now.node_table branches.now))) }
+        ensures { OnOk result (WrittenExpressionWalked (names_of atoms.now source.now.functions) self.old self.new (written.case (written_expression_at source.now.node_table part.0) (branches_over source.now.node_table branches.now))) }
     {
-        self.written_expression(source, own, part)?;
-        self.branches(source, own, branches)
+        self.written_expression(source, atoms, own, part)?;
+        self.branches(source, atoms, own, branches)
     }
 
     /// Through expressions, from left to right.
@@ -147,14 +158,15 @@ impl Walk {
     fn written_expressions(
         &mut self,
         source: &Source,
+        atoms: &AtomTable,
         own: &Signatures,
         parts: &[WrittenExpressionId],
     ) -> Result<(), NoMemory>
         requires { Lists own.now source.now.functions }
-        ensures { OnOk result (WrittenExpressionsWalked (names_of source.now.functions) self.old self.new (written_expressions_at source.now.node_table parts.now)) }
+        ensures { OnOk result (WrittenExpressionsWalked (names_of atoms.now source.now.functions) self.old self.new (written_expressions_at source.now.node_table parts.now)) }
     {
         for part in parts {
-            self.written_expression(source, own, *part)?;
+            self.written_expression(source, atoms, own, *part)?;
         }
         Ok(())
     }
@@ -164,14 +176,15 @@ impl Walk {
     fn condition(
         &mut self,
         source: &Source,
+        atoms: &AtomTable,
         own: &Signatures,
         condition: &Condition,
     ) -> Result<(), NoMemory>
         requires { Lists own.now source.now.functions }
-        ensures { OnOk result (ConditionWalked (names_of source.now.functions) self.old self.new (condition_over source.now.node_table condition.now)) }
+        ensures { OnOk result (ConditionWalked (names_of atoms.now source.now.functions) self.old self.new (condition_over source.now.node_table condition.now)) }
     {
         for alternative in &condition.alternatives {
-            self.tests(source, own, &alternative.tests)?;
+            self.tests(source, atoms, own, &alternative.tests)?;
         }
         Ok(())
     }
@@ -181,14 +194,15 @@ impl Walk {
     fn tests(
         &mut self,
         source: &Source,
+        atoms: &AtomTable,
         own: &Signatures,
         tests: &[WrittenExpressionId],
     ) -> Result<(), NoMemory>
         requires { Lists own.now source.now.functions }
-        ensures { OnOk result (TestsWalked (names_of source.now.functions) self.old self.new (written_expressions_at source.now.node_table tests.now)) }
+        ensures { OnOk result (TestsWalked (names_of atoms.now source.now.functions) self.old self.new (written_expressions_at source.now.node_table tests.now)) }
     {
         let start = self.variables.trail_len();
-        self.written_expressions(source, own, tests)?;
+        self.written_expressions(source, atoms, own, tests)?;
         self.variables.forget(start)?;
         Ok(())
     }
@@ -199,15 +213,16 @@ impl Walk {
     fn branches(
         &mut self,
         source: &Source,
+        atoms: &AtomTable,
         own: &Signatures,
         branches: &[Branch],
     ) -> Result<(), NoMemory>
         requires { Lists own.now source.now.functions }
-        ensures { OnOk result (BranchesWalked (names_of source.now.functions) self.old self.new (branches_over source.now.node_table branches.now)) }
+        ensures { OnOk result (BranchesWalked (names_of atoms.now source.now.functions) self.old self.new (branches_over source.now.node_table branches.now)) }
     {
         let start = self.variables.trail_len();
         for branch in branches {
-            self.branch(source, own, branch)?;
+            self.branch(source, atoms, own, branch)?;
         }
         self.variables.set_since(start, Status::Unsafe)?;
         Ok(())
@@ -215,14 +230,20 @@ impl Walk {
 
     /// Through a clause, whose names become new again but stay in the trail.
     #[cycle(written_expressions)]
-    fn branch(&mut self, source: &Source, own: &Signatures, branch: &Branch) -> Result<(), NoMemory>
+    fn branch(
+        &mut self,
+        source: &Source,
+        atoms: &AtomTable,
+        own: &Signatures,
+        branch: &Branch,
+    ) -> Result<(), NoMemory>
         requires { Lists own.now source.now.functions }
-        ensures { OnOk result (BranchWalked (names_of source.now.functions) self.old self.new (branch_of source.now.node_table branch.now)) }
+        ensures { OnOk result (BranchWalked (names_of atoms.now source.now.functions) self.old self.new (branch_of source.now.node_table branch.now)) }
     {
         let start = self.variables.trail_len();
         self.written_pattern(source, branch.written_pattern)?;
-        self.condition(source, own, &branch.condition)?;
-        self.written_expressions(source, own, &branch.body)?;
+        self.condition(source, atoms, own, &branch.condition)?;
+        self.written_expressions(source, atoms, own, &branch.body)?;
         self.variables.set_since(start, Status::New)?;
         Ok(())
     }
@@ -246,10 +267,10 @@ impl Walk {
     }
 
     /// The name of a call with so many arguments.
-    fn call(&mut self, own: &Signatures, word: Word, arity: usize)
-        ensures { CallWalked own.now self.old self.new word.name.0 word.offset arity }
+    fn call(&mut self, atoms: &AtomTable, own: &Signatures, word: Word, arity: usize)
+        ensures { CallWalked atoms.now own.now self.old self.new word.name.0 word.offset arity }
     {
-        if !own.has(word.name, arity as u64) {
+        if !is_defined(atoms, own, word.name, arity as u64) {
             self.first.note(Code::Undefined, word.offset);
         }
     }

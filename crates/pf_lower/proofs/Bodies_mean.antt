@@ -16,11 +16,11 @@ use Rattle.pf_syntax.specs.Source.{NodeTable, Head, written_pattern_at, written_
 use Rattle.pf_syntax.specs.SourceOver.{written_expressions_at, alternatives_at, condition_over, branches_over, branch_depth}
 use Rattle.pf_syntax.specs.Scope.{Scope, has, after, after_written_pattern}
 use Rattle.pf_syntax.specs.Naming as w
-use Rattle.pf_syntax.specs.Naming.{WrittenExpressionIs, ElementIs, BodyIs, GuardIs, BranchesAre, behind, ending}
+use Rattle.pf_syntax.specs.Naming.{ElementIs, BodyIs, GuardIs, BranchesAre, behind, ending}
 use Rattle.pf_syntax.specs.Module.{Checked, Tables, pattern_at}
 use Rattle.pf_syntax.specs.Over.{part_over, patterns_at, alternatives_over, guard_from, clauses_over}
 use Rattle.pf_syntax.specs.Within.{PatternStands, PartStands, ClauseStands}
-use Rattle.pf_syntax.proofs.Extends.{Extends, patterns_kept, part_kept, parts_kept, guard_kept, all_patterns_stand, part_stands, all_parts_stand, pattern_stands, guard_stands}
+use Rattle.pf_syntax.proofs.Extends.{Extends, patterns_kept, part_kept, guard_kept, all_patterns_stand, part_stands, pattern_stands, guard_stands}
 use Rattle.pf_syntax.specs.declared.node.PatternId.{PatternId}
 use Rattle.pf_syntax.specs.declared.node.Part.{Part}
 use Rattle.pf_syntax.specs.declared.node.Alternative.{Alternative}
@@ -35,9 +35,9 @@ use Rattle.pf_rules.specs.Static.{names_of, written_pattern_faults, written_expr
 use Rattle.pf_rules.specs.Formed.{WrittenExpressionsFormed, ConditionFormed, BranchesFormed, HasFirst, HasAlternative}
 use Rattle.pf_lower.specs.Bound.{bound_by, all_bound_by, bound_after, all_bound_after, IsPlain}
 use Rattle.pf_lower.specs.Grown.{Grown, PartPut}
-use Rattle.pf_lower.specs.Built.{Lowers, WrittenPatternMeans, WrittenExpressionMeans, WrittenExpressionsMean, ElementMeans, BodyMeans, GuardMeans, BranchesMean}
-use Rattle.pf_lower.specs.Bodies.{ElementStands, binds, ElementBuilt, EachElementMeans, BranchMeans}
-use Rattle.pf_lower.proofs.Growing.{grown_on, grown_itself, written_pattern_means_on}
+use Rattle.pf_lower.specs.Built.{Lowers, WrittenPatternBecomes, ElementBecomes, BodyBecomes, WrittenPatternMeans, WrittenExpressionMeans, WrittenExpressionsMean, ElementMeans, BodyMeans, GuardMeans, BranchesMean}
+use Rattle.pf_lower.specs.Bodies.{ElementStands, binds, ElementBuilt, EachElementMeans, BranchGuardBecomes, BranchBodyBecomes, BranchMeans}
+use Rattle.pf_lower.proofs.Growing.{grown_on, grown_itself, becomes_on, written_pattern_means_on, written_expressions_mean_on, guard_means_on}
 use Rattle.pf_lower.proofs.Threads.{Threaded, SoFar}
 use Rattle.pf_lower.proofs.WrittenPatterns_mean.{left_empty, right_empty, written_pattern_bound}
 use Rattle.pf_lower.proofs.WrittenExpressions_mean.{element_bound, plain_formed, plain_bound}
@@ -111,17 +111,16 @@ patterns_behind t [] y = refl
 patterns_behind t (x ∷ ys) y = ap (pattern (pattern_at t x.0)) (patterns_behind t ys y)
 
 module _ (fs : List (List Head)) where
-  pub element_means_on : (t u : Tables) → Extends t u → (names : List ℕ) (e : WrittenExpression) (ys : List PatternId) (x : Part) → ElementMeans fs t names e ys x → ElementMeans fs u names e ys x
+  pub element_means_on : (t u : Checked) → Grown t u → (names : List ℕ) (e : WrittenExpression) (ys : List PatternId) (x : Part) → ElementMeans fs t names e ys x → ElementMeans fs u names e ys x
   element_means_on t u on names e ys x h =
-      let front : patterns_at u ys ≡ patterns_at t ys = patterns_kept t u on ys h.patterns_stand in
-      let value : part_over u x ≡ part_over t x = part_kept t u on x h.stands in
+      let front : patterns_at u.tables ys ≡ patterns_at t.tables ys = patterns_kept t.tables u.tables on.tables ys h.patterns_stand in
+      let value : part_over u.tables x ≡ part_over t.tables x = part_kept t.tables u.tables on.tables x h.stands in
       record {
-        patterns_stand = all_patterns_stand t u on ys h.patterns_stand;
-        stands = part_stands t u on x h.stands;
-        means = λ g b f k.
-            let m = h.means g b f k in
-            subst (λ v. ElementIs (names_of fs) g e (patterns_at u ys) v) (sym value)
-            (subst (λ v. ElementIs (names_of fs) g e v (part_over t x)) (sym front) m);
+        patterns_stand = all_patterns_stand t.tables u.tables on.tables ys h.patterns_stand;
+        stands = part_stands t.tables u.tables on.tables x h.stands;
+        means =
+            becomes_on (λ n v. ElementBecomes n names e (patterns_at u.tables ys) v) fs t u _ _ on value
+            (subst (λ v. ElementBecomes (names_of t.atoms fs) names e v (part_over t.tables x)) (sym front) h.means);
       }
 
   pub plain_lowers : (m0 m1 : Checked) (b names : List ℕ) (e : WrittenExpression) (x : Part) → IsPlain e → Lowers m0 m1 b names (λ t. WrittenExpressionMeans fs t names e x)
@@ -140,7 +139,7 @@ module _ (fs : List (List Head)) where
       → Lowers m0 m1 b1 (bound_after names a) (λ t. ElementMeans fs t names a ys x) → Lowers m1 m2 b2 (bound_by b1 q) (λ t. WrittenPatternMeans fs t b1 q y)
       → Lowers m0 m2 b2 (bound_after names e) (λ t. ElementMeans fs t names e (ys ++ y ∷ []) x)
   match_lowers m0 m1 m2 b1 b2 names q a e ys y x is d r =
-      let inner = element_means_on m1.tables m2.tables r.grown.tables names a ys x d.answer in
+      let inner = element_means_on m1 m2 r.grown names a ys x d.answer in
       subst (λ z. Lowers m0 m2 b2 (bound_after names z) (λ t. ElementMeans fs t names z (ys ++ y ∷ []) x)) (sym is)
       (record {
         grown = grown_on m0 m1 m2 d.grown r.grown;
@@ -149,10 +148,10 @@ module _ (fs : List (List Head)) where
           patterns_stand = All-append (PatternStands m2.tables) ys (y ∷ []) inner.patterns_stand (All-cons (PatternStands m2.tables) y [] r.answer.stands (All-nil (PatternStands m2.tables)));
           stands = inner.stands;
           means = λ g h f k.
-              let here : written_expression_faults (names_of fs) g a ≡ [] = left_empty (written_expression_faults (names_of fs) g a) _ k in
-              let later : written_pattern_faults (after g a) q ≡ [] = right_empty (written_expression_faults (names_of fs) g a) _ k in
-              let seen : (after g a).bound ≡ b1 = element_bound fs g a f.2 here ∙ ap (λ n. bound_after n a) h ∙ sym d.bound_is in
-              subst (λ v. ElementIs (names_of fs) g (p.match q a) v (part_over m2.tables x)) (sym (patterns_behind m2.tables ys y))
+              let here : written_expression_faults (names_of m2.atoms fs) g a ≡ [] = left_empty (written_expression_faults (names_of m2.atoms fs) g a) _ k in
+              let later : written_pattern_faults (after g a) q ≡ [] = right_empty (written_expression_faults (names_of m2.atoms fs) g a) _ k in
+              let seen : (after g a).bound ≡ b1 = element_bound (names_of m2.atoms fs) g a f.2 here ∙ ap (λ n. bound_after n a) h ∙ sym d.bound_is in
+              subst (λ v. ElementIs (names_of m2.atoms fs) g (p.match q a) v (part_over m2.tables x)) (sym (patterns_behind m2.tables ys y))
               (w.match g q a _ _ _ (inner.means g h f.2 here) (r.answer.means (after g a) seen f.1 later));
         };
       })
@@ -161,13 +160,13 @@ module _ (fs : List (List Head)) (b : NodeTable) where
   abbrev pub next_element : List ℕ → WrittenExpressionId → List ℕ
   next_element names id = bound_after names (written_expression_at b id.0)
 
-  abbrev pub EachElement : Tables → List ℕ → WrittenExpressionId → Element → Type 0
+  abbrev pub EachElement : Checked → List ℕ → WrittenExpressionId → Element → Type 0
   EachElement t names id x = ElementBuilt fs t names (written_expression_at b id.0) x
 
-  pub each_element_on : (t u : Tables) → Extends t u → (names : List ℕ) (id : WrittenExpressionId) (x : Element) → EachElement t names id x → EachElement u names id x
+  pub each_element_on : (t u : Checked) → Grown t u → (names : List ℕ) (id : WrittenExpressionId) (x : Element) → EachElement t names id x → EachElement u names id x
   each_element_on t u e names id x h = element_means_on fs t u e names (written_expression_at b id.0) x.patterns.items x.value h
 
-  each_mean : (t : Tables) (names : List ℕ) (ids : List WrittenExpressionId) (xs : List Element) → Threaded next_element (EachElement t) names ids xs → EachElementMeans fs b t names ids xs
+  each_mean : (t : Checked) (names : List ℕ) (ids : List WrittenExpressionId) (xs : List Element) → Threaded next_element (EachElement t) names ids xs → EachElementMeans fs b t names ids xs
   each_mean t names [] [] h = tt
   each_mean t names (id ∷ ids) (x ∷ xs) h = (h.0, each_mean t (next_element names id) ids xs h.1)
   each_mean t names [] (x ∷ xs) h = absurd h
@@ -185,43 +184,43 @@ module _ (fs : List (List Head)) (b : NodeTable) where
       record {
         grown = whole.grown;
         bound_is = whole.bound_is ∙ all_next_element names ids;
-        answer = each_mean m1.tables names ids xs whole.answer;
+        answer = each_mean m1 names ids xs whole.answer;
       }
 
   -- ---- bodies
 
-  pub each_stands : (t : Tables) (names : List ℕ) (ids : List WrittenExpressionId) (xs : List Element) → EachElementMeans fs b t names ids xs → All (ElementStands t) xs
-  each_stands t names [] [] h = All-nil (ElementStands t)
-  each_stands t names (id ∷ ids) (x ∷ xs) h = All-cons (ElementStands t) x xs (h.0.patterns_stand, h.0.stands) (each_stands t (next_element names id) ids xs h.1)
+  pub each_stands : (t : Checked) (names : List ℕ) (ids : List WrittenExpressionId) (xs : List Element) → EachElementMeans fs b t names ids xs → All (ElementStands t.tables) xs
+  each_stands t names [] [] h = All-nil (ElementStands t.tables)
+  each_stands t names (id ∷ ids) (x ∷ xs) h = All-cons (ElementStands t.tables) x xs (h.0.patterns_stand, h.0.stands) (each_stands t (next_element names id) ids xs h.1)
   each_stands t names [] (x ∷ xs) h = absurd h
   each_stands t names (id ∷ ids) [] h = absurd h
 
-  no_elements : (t : Tables) (names : List ℕ) (ids : List WrittenExpressionId) (xs : List Element) → xs ≡ [] → EachElementMeans fs b t names ids xs → HasFirst (written_expressions_at b ids) → ⊥
+  no_elements : (t : Checked) (names : List ℕ) (ids : List WrittenExpressionId) (xs : List Element) → xs ≡ [] → EachElementMeans fs b t names ids xs → HasFirst (written_expressions_at b ids) → ⊥
   no_elements t names [] xs e h f = f
   no_elements t names (id ∷ ids) [] e h f = h
   no_elements t names (id ∷ ids) (x ∷ xs) e h f = cc
 
-  body_is : (t : Tables) (names : List ℕ) (ids : List WrittenExpressionId) (front : List Element) (last : Element) → EachElementMeans fs b t names ids (front ++ last ∷ [])
-      → (g : Scope) → g.bound ≡ names → WrittenExpressionsFormed true (written_expressions_at b ids) → written_expressions_faults (names_of fs) g (written_expressions_at b ids) ≡ []
-      → BodyIs (names_of fs) g (written_expressions_at b ids) (binds t front (ending (patterns_at t last.patterns.items) (part_over t last.value)))
+  body_is : (t : Checked) (names : List ℕ) (ids : List WrittenExpressionId) (front : List Element) (last : Element) → EachElementMeans fs b t names ids (front ++ last ∷ [])
+      → (g : Scope) → g.bound ≡ names → WrittenExpressionsFormed true (written_expressions_at b ids) → written_expressions_faults (names_of t.atoms fs) g (written_expressions_at b ids) ≡ []
+      → BodyIs (names_of t.atoms fs) g (written_expressions_at b ids) (binds t.tables front (ending (patterns_at t.tables last.patterns.items) (part_over t.tables last.value)))
   body_is t names [] [] last h g e f k = absurd h
   body_is t names [] (x ∷ front) last h g e f k = absurd h
   body_is t names (id ∷ []) [] last h g e f k =
-      w.last g (written_expression_at b id.0) _ _ (h.0.means g e f.0 (left_empty (written_expression_faults (names_of fs) g (written_expression_at b id.0)) _ k))
+      w.last g (written_expression_at b id.0) _ _ (h.0.means g e f.0 (left_empty (written_expression_faults (names_of t.atoms fs) g (written_expression_at b id.0)) _ k))
   body_is t names (id ∷ other ∷ ids) [] last h g e f k = absurd h.1
   body_is t names (id ∷ ids) (x ∷ front) last h g e f k =
       let e0 = written_expression_at b id.0 in
-      let here : written_expression_faults (names_of fs) g e0 ≡ [] = left_empty (written_expression_faults (names_of fs) g e0) _ k in
-      let later : written_expressions_faults (names_of fs) (after g e0) (written_expressions_at b ids) ≡ [] = right_empty (written_expression_faults (names_of fs) g e0) _ k in
+      let here : written_expression_faults (names_of t.atoms fs) g e0 ≡ [] = left_empty (written_expression_faults (names_of t.atoms fs) g e0) _ k in
+      let later : written_expressions_faults (names_of t.atoms fs) (after g e0) (written_expressions_at b ids) ≡ [] = right_empty (written_expression_faults (names_of t.atoms fs) g e0) _ k in
       w.before g e0 (written_expressions_at b ids) _ _ _ (h.0.means g e f.0 here)
-      (body_is t (next_element names id) ids front last h.1 (after g e0) (element_bound fs g e0 f.0 here ∙ ap (λ n. bound_after n e0) e) f.1 later)
+      (body_is t (next_element names id) ids front last h.1 (after g e0) (element_bound (names_of t.atoms fs) g e0 f.0 here ∙ ap (λ n. bound_after n e0) e) f.1 later)
 
   pub no_body : (m0 m1 : Checked) (bound wanted names : List ℕ) (ids : List WrittenExpressionId) (xs : List Element) (x : Part) → PartStands m1.tables x → xs ≡ []
       → Lowers m0 m1 bound wanted (λ t. EachElementMeans fs b t names ids xs) → Lowers m0 m1 bound wanted (λ t. BodyMeans fs t names (written_expressions_at b ids) x)
   no_body m0 m1 bound wanted names ids xs x st e d = record {
     grown = d.grown;
     bound_is = d.bound_is;
-    answer = record { stands = st; means = λ g h i f k. absurd (no_elements m1.tables names ids xs e d.answer i) };
+    answer = record { stands = st; means = λ g h i f k. absurd (no_elements m1 names ids xs e d.answer i) };
   }
 
 binds_kept : (t u : Tables) → Extends t u → (es : List Element) (x : Tree) → All (ElementStands t) es → binds u es x ≡ binds t es x
@@ -241,16 +240,17 @@ pub body_done : (fs : List (List Head)) (b : NodeTable) (m0 m1 m2 m3 : Checked) 
     → PartPut m1 m2 (ending (patterns_at m1.tables last.patterns.items) (part_over m1.tables last.value)) end
     → PartPut m2 m3 (binds m2.tables front (part_over m2.tables end)) x → Lowers m0 m3 bound wanted (λ t. BodyMeans fs t names (written_expressions_at b ids) x)
 body_done fs b m0 m1 m2 m3 bound wanted names ids xs front last end x e d put_end put =
-    let each : EachElementMeans fs b m1.tables names ids (front ++ last ∷ []) = subst (EachElementMeans fs b m1.tables names ids) e d.answer in
-    let stand = All-pop (ElementStands m1.tables) xs front (Some last) e (each_stands fs b m1.tables names ids xs d.answer) in
+    let each : EachElementMeans fs b m1 names ids (front ++ last ∷ []) = subst (EachElementMeans fs b m1 names ids) e d.answer in
+    let stand = All-pop (ElementStands m1.tables) xs front (Some last) e (each_stands fs b m1 names ids xs d.answer) in
     let whole : binds m2.tables front (part_over m2.tables end) ≡ binds m1.tables front (ending (patterns_at m1.tables last.patterns.items) (part_over m1.tables last.value)) =
     ap (binds m2.tables front) put_end.is ∙ binds_kept m1.tables m2.tables put_end.grown.tables front _ stand.0 in
+    let on = grown_on m1 m2 m3 put_end.grown put.grown in
     record {
-      grown = grown_on m0 m1 m3 d.grown (grown_on m1 m2 m3 put_end.grown put.grown);
+      grown = grown_on m0 m1 m3 d.grown on;
       bound_is = d.bound_is;
       answer = record {
         stands = put.stands;
-        means = λ g h i f k. subst (BodyIs (names_of fs) g (written_expressions_at b ids)) (sym (put.is ∙ whole)) (body_is fs b m1.tables names ids front last each g h f k);
+        means = becomes_on (λ n y. BodyBecomes n names (written_expressions_at b ids) y) fs m1 m3 _ _ on (put.is ∙ whole) (λ g h i f k. body_is fs b m1 names ids front last each g h f k);
       };
     }
 
@@ -277,39 +277,36 @@ module _ (fs : List (List Head)) (b : NodeTable) where
   abbrev pub next_tests : List ℕ → Tests → List ℕ
   next_tests names g = names
 
-  abbrev pub EachTests : Tables → List ℕ → Tests → Alternative → Type 0
+  abbrev pub EachTests : Checked → List ℕ → Tests → Alternative → Type 0
   EachTests t names g a = WrittenExpressionsMean fs t names (written_expressions_at b g.tests.items) a.tests.items
 
-  pub each_tests_on : (t u : Tables) → Extends t u → (names : List ℕ) (g : Tests) (a : Alternative) → EachTests t names g a → EachTests u names g a
-  each_tests_on t u on names g a h = record {
-    stands = all_parts_stand t u on a.tests.items h.stands;
-    means = λ s e f k. subst (w.WrittenExpressionsAre (names_of fs) s (written_expressions_at b g.tests.items)) (sym (parts_kept t u on a.tests.items h.stands)) (h.means s e f k);
-  }
+  pub each_tests_on : (t u : Checked) → Grown t u → (names : List ℕ) (g : Tests) (a : Alternative) → EachTests t names g a → EachTests u names g a
+  each_tests_on t u on names g a h = written_expressions_mean_on fs t u on names (written_expressions_at b g.tests.items) a.tests.items h
 
   abbrev AlternativeStands : Tables → Alternative → Type 0
   AlternativeStands t a = All (PartStands t) a.tests.items
 
-  alternatives_stand : (t : Tables) (names : List ℕ) (gs : List Tests) (ds : List Alternative) → Threaded next_tests (EachTests t) names gs ds → All (AlternativeStands t) ds
-  alternatives_stand t names [] [] h = All-nil (AlternativeStands t)
-  alternatives_stand t names (g ∷ gs) (d ∷ ds) h = All-cons (AlternativeStands t) d ds h.0.stands (alternatives_stand t names gs ds h.1)
+  alternatives_stand : (t : Checked) (names : List ℕ) (gs : List Tests) (ds : List Alternative) → Threaded next_tests (EachTests t) names gs ds → All (AlternativeStands t.tables) ds
+  alternatives_stand t names [] [] h = All-nil (AlternativeStands t.tables)
+  alternatives_stand t names (g ∷ gs) (d ∷ ds) h = All-cons (AlternativeStands t.tables) d ds h.0.stands (alternatives_stand t names gs ds h.1)
   alternatives_stand t names [] (d ∷ ds) h = absurd h
   alternatives_stand t names (g ∷ gs) [] h = absurd h
 
-  alternatives_mean : (t : Tables) (names : List ℕ) (gs : List Tests) (ds : List Alternative) → Threaded next_tests (EachTests t) names gs ds
-      → (s : Scope) → s.bound ≡ names → ConditionFormed (alternatives_at b gs) → condition_faults (names_of fs) s (alternatives_at b gs) ≡ []
-      → GuardIs (names_of fs) s (alternatives_at b gs) (alternatives_over t ds)
+  alternatives_mean : (t : Checked) (names : List ℕ) (gs : List Tests) (ds : List Alternative) → Threaded next_tests (EachTests t) names gs ds
+      → (s : Scope) → s.bound ≡ names → ConditionFormed (alternatives_at b gs) → condition_faults (names_of t.atoms fs) s (alternatives_at b gs) ≡ []
+      → GuardIs (names_of t.atoms fs) s (alternatives_at b gs) (alternatives_over t.tables ds)
   alternatives_mean t names [] [] h s e f k = w.no_more_tests s
   alternatives_mean t names (g ∷ gs) (d ∷ ds) h s e f k =
       let es = written_expressions_at b g.tests.items in
-      w.or_tests s es (alternatives_at b gs) _ _ (h.0.means s e f.0 (left_empty (written_expressions_faults (names_of fs) s es) _ k))
-      (alternatives_mean t names gs ds h.1 s e f.1 (right_empty (written_expressions_faults (names_of fs) s es) _ k))
+      w.or_tests s es (alternatives_at b gs) _ _ (h.0.means s e f.0 (left_empty (written_expressions_faults (names_of t.atoms fs) s es) _ k))
+      (alternatives_mean t names gs ds h.1 s e f.1 (right_empty (written_expressions_faults (names_of t.atoms fs) s es) _ k))
   alternatives_mean t names [] (d ∷ ds) h s e f k = absurd h
   alternatives_mean t names (g ∷ gs) [] h s e f k = absurd h
 
   -- a guard that has an alternative is that of its list
-  guard_means : (t : Tables) (names : List ℕ) (gs : List Tests) (ds : List Alternative) → Threaded next_tests (EachTests t) names gs ds
+  guard_means : (t : Checked) (names : List ℕ) (gs : List Tests) (ds : List Alternative) → Threaded next_tests (EachTests t) names gs ds
       → (s : Scope) → s.bound ≡ names → HasAlternative (alternatives_at b gs) → ConditionFormed (alternatives_at b gs)
-      → condition_faults (names_of fs) s (alternatives_at b gs) ≡ [] → GuardIs (names_of fs) s (alternatives_at b gs) (guard_from t ds)
+      → condition_faults (names_of t.atoms fs) s (alternatives_at b gs) ≡ [] → GuardIs (names_of t.atoms fs) s (alternatives_at b gs) (guard_from t.tables ds)
   guard_means t names [] ds h s e some f k = absurd some
   guard_means t names (g ∷ gs) (d ∷ ds) h s e some f k = alternatives_mean t names (g ∷ gs) (d ∷ ds) h s e f k
   guard_means t names (g ∷ gs) [] h s e some f k = absurd h
@@ -322,8 +319,8 @@ module _ (fs : List (List Head)) (b : NodeTable) where
     answer = record {
       stands = subst (All (AlternativeStands m.tables)) (sym none) (All-nil (AlternativeStands m.tables));
       means = λ s _ some f k.
-          subst (λ ds. GuardIs (names_of fs) s c (guard_from m.tables ds)) (sym none)
-          (subst (λ x. GuardIs (names_of fs) s x no_guard) (sym e) (w.or_tests s no_written_expressions no_tests no_trees no_alternatives (w.no_more s) (w.no_more_tests s)));
+          subst (λ ds. GuardIs (names_of m.atoms fs) s c (guard_from m.tables ds)) (sym none)
+          (subst (λ x. GuardIs (names_of m.atoms fs) s x no_guard) (sym e) (w.or_tests s no_written_expressions no_tests no_trees no_alternatives (w.no_more s) (w.no_more_tests s)));
     };
   }
 
@@ -339,8 +336,8 @@ module _ (fs : List (List Head)) (b : NodeTable) where
         grown = whole.grown;
         bound_is = whole.bound_is ∙ all_next_tests names gs;
         answer = record {
-          stands = alternatives_stand m1.tables names gs d.alternatives.items whole.answer;
-          means = guard_means m1.tables names gs d.alternatives.items whole.answer;
+          stands = alternatives_stand m1 names gs d.alternatives.items whole.answer;
+          means = guard_means m1 names gs d.alternatives.items whole.answer;
         };
       }
 
@@ -354,19 +351,16 @@ module _ (fs : List (List Head)) (b : NodeTable) where
       → Lowers m0 m3 b4 names (λ t. BranchMeans fs b t names r (record { pattern = y; guard = d; body = x }))
   branch_done m0 m1 m2 m3 b1 b2 b3 b4 names r y d x p1 p2 p3 cut =
       let q = written_pattern_at b r.written_pattern.0 in
-      let on23 = p3.grown.tables in
-      let on13 = (grown_on m1 m2 m3 p2.grown p3.grown).tables in
-      let asked = written_pattern_means_on fs m1.tables m3.tables on13 names q y p1.answer in
+      let asked = written_pattern_means_on fs m1 m3 (grown_on m1 m2 m3 p2.grown p3.grown) names q y p1.answer in
+      let guarded = guard_means_on fs m2 m3 p3.grown b1 (condition_over b r.condition) d p2.answer in
       let at2 : b2 ≡ bound_by names q = p2.bound_is ∙ p1.bound_is in
       record {
         grown = grown_on m0 m1 m3 p1.grown (grown_on m1 m2 m3 p2.grown p3.grown);
         bound_is = cut ∙ ap (take (length names)) (p3.bound_is ∙ ap (λ n. all_bound_after n (written_expressions_at b r.body.items)) at2) ∙ forgotten names q (written_expressions_at b r.body.items);
         answer = record {
-          stands = (asked.stands, guard_stands m2.tables m3.tables on23 d p2.answer.stands, p3.answer.stands);
+          stands = (asked.stands, guarded.stands, p3.answer.stands);
           pattern = asked.means;
-          guard = λ g e here some f k.
-              subst (GuardIs (names_of fs) (after_written_pattern g q) (condition_over b r.condition)) (sym (guard_kept m2.tables m3.tables on23 d p2.answer.stands))
-              (p2.answer.means (after_written_pattern g q) (written_pattern_bound g q here ∙ ap (λ n. bound_by n q) e ∙ sym p1.bound_is) some f k);
+          guard = λ g e here some f k. guarded.means (after_written_pattern g q) (written_pattern_bound g q here ∙ ap (λ n. bound_by n q) e ∙ sym p1.bound_is) some f k;
           body = λ g e here i f k. p3.answer.means (after_written_pattern g q) (written_pattern_bound g q here ∙ ap (λ n. bound_by n q) e ∙ sym at2) i f k;
         };
       }
@@ -374,32 +368,31 @@ module _ (fs : List (List Head)) (b : NodeTable) where
   abbrev pub next_branch : List ℕ → Branch → List ℕ
   next_branch names r = names
 
-  abbrev pub EachBranch : Tables → List ℕ → Branch → Clause → Type 0
+  abbrev pub EachBranch : Checked → List ℕ → Branch → Clause → Type 0
   EachBranch t names r c = BranchMeans fs b t names r c
 
-  pub each_branch_on : (t u : Tables) → Extends t u → (names : List ℕ) (r : Branch) (c : Clause) → EachBranch t names r c → EachBranch u names r c
+  pub each_branch_on : (t u : Checked) → Grown t u → (names : List ℕ) (r : Branch) (c : Clause) → EachBranch t names r c → EachBranch u names r c
   each_branch_on t u on names r c h =
-      let q = written_pattern_at b r.written_pattern.0 in
       record {
-        stands = (pattern_stands t u on c.pattern h.stands.0, guard_stands t u on c.guard h.stands.1, part_stands t u on c.body h.stands.2);
-        pattern = λ g e f k. subst (w.WrittenPatternIs (names_of fs) g q) (sym (on.patterns c.pattern.0 h.stands.0)) (h.pattern g e f k);
-        guard = λ g e here some f k. subst (GuardIs (names_of fs) (after_written_pattern g q) (condition_over b r.condition)) (sym (guard_kept t u on c.guard h.stands.1)) (h.guard g e here some f k);
-        body = λ g e here i f k. subst (BodyIs (names_of fs) (after_written_pattern g q) (written_expressions_at b r.body.items)) (sym (part_kept t u on c.body h.stands.2)) (h.body g e here i f k);
+        stands = (pattern_stands t.tables u.tables on.tables c.pattern h.stands.0, guard_stands t.tables u.tables on.tables c.guard h.stands.1, part_stands t.tables u.tables on.tables c.body h.stands.2);
+        pattern = becomes_on (λ n y. WrittenPatternBecomes n names (written_pattern_at b r.written_pattern.0) y) fs t u _ _ on (on.tables.patterns c.pattern.0 h.stands.0) h.pattern;
+        guard = becomes_on (λ n d. BranchGuardBecomes n b names r d) fs t u _ _ on (guard_kept t.tables u.tables on.tables c.guard h.stands.1) h.guard;
+        body = becomes_on (λ n x. BranchBodyBecomes n b names r x) fs t u _ _ on (part_kept t.tables u.tables on.tables c.body h.stands.2) h.body;
       }
 
-  branches_stand : (t : Tables) (names : List ℕ) (rs : List Branch) (cs : List Clause) → Threaded next_branch (EachBranch t) names rs cs → All (ClauseStands t) cs
-  branches_stand t names [] [] h = All-nil (ClauseStands t)
-  branches_stand t names (r ∷ rs) (c ∷ cs) h = All-cons (ClauseStands t) c cs h.0.stands (branches_stand t names rs cs h.1)
+  branches_stand : (t : Checked) (names : List ℕ) (rs : List Branch) (cs : List Clause) → Threaded next_branch (EachBranch t) names rs cs → All (ClauseStands t.tables) cs
+  branches_stand t names [] [] h = All-nil (ClauseStands t.tables)
+  branches_stand t names (r ∷ rs) (c ∷ cs) h = All-cons (ClauseStands t.tables) c cs h.0.stands (branches_stand t names rs cs h.1)
   branches_stand t names [] (c ∷ cs) h = absurd h
   branches_stand t names (r ∷ rs) [] h = absurd h
 
-  branches_mean : (t : Tables) (names : List ℕ) (rs : List Branch) (cs : List Clause) → Threaded next_branch (EachBranch t) names rs cs
-      → (g : Scope) → g.bound ≡ names → BranchesFormed (branches_over b rs) → branches_faults (names_of fs) g (branches_over b rs) ≡ []
-      → BranchesAre (names_of fs) g (branches_over b rs) (clauses_over t cs)
+  branches_mean : (t : Checked) (names : List ℕ) (rs : List Branch) (cs : List Clause) → Threaded next_branch (EachBranch t) names rs cs
+      → (g : Scope) → g.bound ≡ names → BranchesFormed (branches_over b rs) → branches_faults (names_of t.atoms fs) g (branches_over b rs) ≡ []
+      → BranchesAre (names_of t.atoms fs) g (branches_over b rs) (clauses_over t.tables cs)
   branches_mean t names [] [] h g e f k = w.no_more_branches g
   branches_mean t names (r ∷ rs) (c ∷ cs) h g e f k =
       let q = written_pattern_at b r.written_pattern.0 in
-      let n = names_of fs in
+      let n = names_of t.atoms fs in
       let c1 = condition_over b r.condition in
       let es = written_expressions_at b r.body.items in
       let first : (written_pattern_faults g q ++ condition_faults n (after_written_pattern g q) c1) ++ written_expressions_faults n (after_written_pattern g q) es ≡ [] = left_empty _ (branches_faults n g (branches_over b rs)) k in
@@ -425,8 +418,8 @@ module _ (fs : List (List Head)) (b : NodeTable) where
         grown = whole.grown;
         bound_is = whole.bound_is ∙ all_next_branch names rs;
         answer = record {
-          stands = branches_stand m1.tables names rs cs whole.answer;
-          means = branches_mean m1.tables names rs cs whole.answer;
+          stands = branches_stand m1 names rs cs whole.answer;
+          means = branches_mean m1 names rs cs whole.answer;
         };
       }
 

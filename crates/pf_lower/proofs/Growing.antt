@@ -1,27 +1,25 @@
 -- A module that grows: what was built stays what it is.
-use Rattle.std.proofs.Common.{◌≡◌, ℕ, List, [], refl, sym, ◌∙◌, subst, false}
+use Rattle.std.proofs.Common.{◌≡◌, ℕ, List, refl, sym, ◌∙◌, subst}
 use Rattle.pf_syntax.specs.Source.{Head}
-use Rattle.pf_syntax.specs.WrittenPattern.{WrittenPattern}
-use Rattle.pf_syntax.specs.WrittenExpression.{WrittenExpression}
+use Rattle.pf_syntax.specs.WrittenPattern.{WrittenPattern, WrittenPatterns}
+use Rattle.pf_syntax.specs.WrittenExpression.{WrittenExpression, WrittenExpressions, Condition}
 use Rattle.pf_syntax.specs.Pattern.{Pattern}
 use Rattle.pf_syntax.specs.Tree.{Tree}
-use Rattle.pf_syntax.specs.Naming.{WrittenPatternIs, WrittenExpressionIs}
-use Rattle.pf_syntax.specs.Module.{Checked, Tables}
+use Rattle.pf_syntax.specs.Naming.{Names}
+use Rattle.pf_syntax.specs.Module.{Checked}
 use Rattle.pf_syntax.specs.Over.{with_pattern, with_tree, with_tables}
-use Rattle.pf_syntax.proofs.Extends.{Extends, extends_itself, extends_on, extends_pattern, extends_tree, part_kept, part_stands, pattern_stands}
+use Rattle.pf_syntax.proofs.Extends.{extends_itself, extends_on, extends_pattern, extends_tree, part_kept, part_stands, parts_kept, all_parts_stand, pattern_stands, patterns_kept, all_patterns_stand, guard_kept, guard_stands}
 use Rattle.pf_syntax.specs.declared.node.PatternId.{PatternId}
 use Rattle.pf_syntax.specs.declared.node.PatternNode.{PatternNode}
 use Rattle.pf_syntax.specs.declared.node.Part.{Part}
 use Rattle.pf_syntax.specs.declared.node.Node.{Node}
+use Rattle.pf_syntax.specs.declared.node.Guard.{Guard}
 use Rattle.pf_rules.specs.Static.{names_of}
 use Rattle.pf_lower.specs.Grown.{Grown}
 use Rattle.std.specs.Prelude.{Result, Ok, Err, IfOk}
-use Rattle.pf_syntax.specs.Scope.{Scope}
-use Rattle.pf_rules.specs.Static.{written_pattern_faults, written_expression_faults}
-use Rattle.pf_rules.specs.Formed.{WrittenPatternFormed, WrittenExpressionFormed}
 use Rattle.pf_lower.specs.Bound.{bound_by}
 use Rattle.pf_lower.specs.Grown.{PatternPut, PartPut}
-use Rattle.pf_lower.specs.Built.{Lowers, WrittenPatternMeans, WrittenExpressionMeans}
+use Rattle.pf_lower.specs.Built.{Lowers, WrittenPatternBecomes, WrittenPatternsBecome, WrittenExpressionBecomes, WrittenExpressionsBecome, GuardBecomes, WrittenPatternMeans, WrittenPatternsMean, WrittenExpressionMeans, WrittenExpressionsMean, GuardMeans}
 
 pub grown_itself : (m : Checked) → Grown m m
 grown_itself m = record { name = refl; atoms = refl; functions = refl; tables = extends_itself m.tables }
@@ -40,17 +38,39 @@ grown_pattern m n = record { name = refl; atoms = refl; functions = refl; tables
 pub grown_node : (m : Checked) (n : Node) → Grown m (with_tables m (with_tree m.tables n))
 grown_node m n = record { name = refl; atoms = refl; functions = refl; tables = extends_tree m.tables n }
 
-module _ (fs : List (List Head)) (t u : Tables) (e : Extends t u) (names : List ℕ) where
+-- what something becomes, among the names of the same atoms
+pub becomes_on : {X : Type 0} (B : Names → X → Type 0) (fs : List (List Head)) (t u : Checked) (x y : X) → Grown t u → y ≡ x → B (names_of t.atoms fs) x → B (names_of u.atoms fs) y
+becomes_on B fs t u x y e d h = subst (λ (a : List (List ℕ)). B (names_of a fs) y) (sym e.atoms) (subst (B (names_of t.atoms fs)) (sym d) h)
+
+module _ (fs : List (List Head)) (t u : Checked) (e : Grown t u) (names : List ℕ) where
   pub written_pattern_means_on : (q : WrittenPattern) (y : PatternId) → WrittenPatternMeans fs t names q y → WrittenPatternMeans fs u names q y
   written_pattern_means_on q y h = record {
-    stands = pattern_stands t u e y h.stands;
-    means = λ g b f k. subst (WrittenPatternIs (names_of fs) g q) (sym (e.patterns y.0 h.stands)) (h.means g b f k);
+    stands = pattern_stands t.tables u.tables e.tables y h.stands;
+    means = becomes_on (λ n z. WrittenPatternBecomes n names q z) fs t u _ _ e (e.tables.patterns y.0 h.stands) h.means;
+  }
+
+  pub written_patterns_mean_on : (qs : WrittenPatterns) (ys : List PatternId) → WrittenPatternsMean fs t names qs ys → WrittenPatternsMean fs u names qs ys
+  written_patterns_mean_on qs ys h = record {
+    stands = all_patterns_stand t.tables u.tables e.tables ys h.stands;
+    means = becomes_on (λ n z. WrittenPatternsBecome n names qs z) fs t u _ _ e (patterns_kept t.tables u.tables e.tables ys h.stands) h.means;
   }
 
   pub written_expression_means_on : (x : WrittenExpression) (y : Part) → WrittenExpressionMeans fs t names x y → WrittenExpressionMeans fs u names x y
   written_expression_means_on x y h = record {
-    stands = part_stands t u e y h.stands;
-    means = λ g b f k. subst (WrittenExpressionIs (names_of fs) g x) (sym (part_kept t u e y h.stands)) (h.means g b f k);
+    stands = part_stands t.tables u.tables e.tables y h.stands;
+    means = becomes_on (λ n z. WrittenExpressionBecomes n names x z) fs t u _ _ e (part_kept t.tables u.tables e.tables y h.stands) h.means;
+  }
+
+  pub written_expressions_mean_on : (xs : WrittenExpressions) (ys : List Part) → WrittenExpressionsMean fs t names xs ys → WrittenExpressionsMean fs u names xs ys
+  written_expressions_mean_on xs ys h = record {
+    stands = all_parts_stand t.tables u.tables e.tables ys h.stands;
+    means = becomes_on (λ n z. WrittenExpressionsBecome n names xs z) fs t u _ _ e (parts_kept t.tables u.tables e.tables ys h.stands) h.means;
+  }
+
+  pub guard_means_on : (c : Condition) (d : Guard) → GuardMeans fs t names c d → GuardMeans fs u names c d
+  guard_means_on c d h = record {
+    stands = guard_stands t.tables u.tables e.tables d h.stands;
+    means = becomes_on (λ n z. GuardBecomes n names c z) fs t u _ _ e (guard_kept t.tables u.tables e.tables d h.stands) h.means;
   }
 
 -- what holds of an answer makes something else hold of it
@@ -61,7 +81,7 @@ by_ok (Err e) P Q h w = h
 -- a pattern that was put last is the whole answer
 pub written_pattern_put : (fs : List (List Head)) (m0 m1 m2 : Checked) (b names : List ℕ) (q q' : WrittenPattern) (y : Pattern) (p : PatternId)
     → q' ≡ q → b ≡ bound_by names q' → Grown m0 m1
-    → ((g : Scope) → g.bound ≡ names → WrittenPatternFormed q' → written_pattern_faults g q' ≡ [] → WrittenPatternIs (names_of fs) g q' y)
+    → WrittenPatternBecomes (names_of m1.atoms fs) names q' y
     → PatternPut m1 m2 y p → Lowers m0 m2 b (bound_by names q) (λ t. WrittenPatternMeans fs t names q p)
 written_pattern_put fs m0 m1 m2 b names q q' y p same bound grown means put = subst (λ s. Lowers m0 m2 b (bound_by names s) (λ t. WrittenPatternMeans fs t names s p)) same
     (record {
@@ -69,14 +89,14 @@ written_pattern_put fs m0 m1 m2 b names q q' y p same bound grown means put = su
       bound_is = bound;
       answer = record {
         stands = put.stands;
-        means = λ g e f k. subst (WrittenPatternIs (names_of fs) g q') (sym put.is) (means g e f k);
+        means = becomes_on (λ n z. WrittenPatternBecomes n names q' z) fs m1 m2 _ _ put.grown put.is means;
       };
     })
 
 -- a part that was put last is the whole answer
 pub written_expression_put : (fs : List (List Head)) (m0 m1 m2 : Checked) (b names : List ℕ) (e e' : WrittenExpression) (y : Tree) (x : Part)
     → e' ≡ e → b ≡ names → Grown m0 m1
-    → ((g : Scope) → g.bound ≡ names → WrittenExpressionFormed false e' → written_expression_faults (names_of fs) g e' ≡ [] → WrittenExpressionIs (names_of fs) g e' y)
+    → WrittenExpressionBecomes (names_of m1.atoms fs) names e' y
     → PartPut m1 m2 y x → Lowers m0 m2 b names (λ t. WrittenExpressionMeans fs t names e x)
 written_expression_put fs m0 m1 m2 b names e e' y x same bound grown means put = subst (λ s. Lowers m0 m2 b names (λ t. WrittenExpressionMeans fs t names s x)) same
     (record {
@@ -84,6 +104,6 @@ written_expression_put fs m0 m1 m2 b names e e' y x same bound grown means put =
       bound_is = bound;
       answer = record {
         stands = put.stands;
-        means = λ g h f k. subst (WrittenExpressionIs (names_of fs) g e') (sym put.is) (means g h f k);
+        means = becomes_on (λ n z. WrittenExpressionBecomes n names e' z) fs m1 m2 _ _ put.grown put.is means;
       };
     })

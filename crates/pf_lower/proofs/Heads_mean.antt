@@ -7,12 +7,12 @@ use Rattle.std.proofs.lemmas.List.Elements.{All-nil, All-cons, All-head, All-tai
 use Rattle.pf_syntax.specs.Source.{NodeTable, Head, Export}
 use Rattle.pf_syntax.specs.SourceOver.{written_patterns_at, written_expressions_at, condition_over, head_over}
 use Rattle.pf_syntax.specs.Scope.{no_scope, after_written_patterns}
-use Rattle.pf_syntax.specs.Naming.{WrittenPatternsAre, GuardIs, BodyIs, HeadIs}
+use Rattle.pf_syntax.specs.Naming.{Names, WrittenPatternsAre, GuardIs, BodyIs, HeadIs}
 use Rattle.pf_syntax.specs.Tree.{Function as Made}
-use Rattle.pf_syntax.specs.Module.{Checked, Tables}
+use Rattle.pf_syntax.specs.Module.{Checked}
 use Rattle.pf_syntax.specs.Over.{patterns_at, guard_over, part_over, function_clause_over}
 use Rattle.pf_syntax.specs.Within.{FunctionClauseStands, GuardStands, PartStands}
-use Rattle.pf_syntax.proofs.Extends.{Extends, patterns_kept, all_patterns_stand, guard_kept, guard_stands, part_kept, part_stands}
+use Rattle.pf_syntax.proofs.Extends.{patterns_kept, all_patterns_stand, guard_kept, guard_stands, part_kept, part_stands}
 use Rattle.pf_syntax.specs.declared.node.PatternId.{PatternId}
 use Rattle.pf_syntax.specs.declared.node.Part.{Part}
 use Rattle.pf_syntax.specs.declared.node.Guard.{Guard}
@@ -23,9 +23,10 @@ use Rattle.pf_rules.specs.Static.{names_of, written_patterns_faults, condition_f
 use Rattle.pf_rules.specs.Formed.{HeadFormed, FunctionFormed, AreFormed}
 use Rattle.pf_lower.specs.Bound.{all_bound_by, all_bound_after}
 use Rattle.pf_rules.specs.Checks.{Pairwise, FunctionIs, is_exported}
+use Rattle.pf_lower.specs.Grown.{Grown}
 use Rattle.pf_lower.specs.Built.{Lowers, WrittenPatternsMean, GuardMeans, BodyMeans}
 use Rattle.pf_lower.specs.Heads.{HeadMeans, HeadsMean, FunctionMeans}
-use Rattle.pf_lower.proofs.Growing.{grown_on}
+use Rattle.pf_lower.proofs.Growing.{grown_on, becomes_on, written_patterns_mean_on, guard_means_on}
 use Rattle.pf_lower.proofs.Threads.{Threaded, SoFar}
 use Rattle.pf_lower.proofs.WrittenPatterns_mean.{left_empty, right_empty, written_patterns_bound}
 
@@ -37,24 +38,22 @@ module _ (fs : List (List Head)) (b : NodeTable) where
       → Lowers m2 m3 b3 (all_bound_after b2 (written_expressions_at b h.body.items)) (λ t. BodyMeans fs t b2 (written_expressions_at b h.body.items) x)
       → b4 ≡ [] → Lowers m0 m3 b4 [] (λ t. HeadMeans fs t (head_over b h) c)
   clause_done m0 m1 m2 m3 b1 b2 b3 b4 names h ys d x c none cys cd cx p1 p2 p3 cut =
-      let n = names_of fs in
+      let n = names_of m3.atoms fs in
       let qs = written_patterns_at b h.parameters.items in
       let c1 = condition_over b h.condition in
       let es = written_expressions_at b h.body.items in
       let s = after_written_patterns no_scope qs in
-      let on23 = p3.grown.tables in
-      let on13 = (grown_on m1 m2 m3 p2.grown p3.grown).tables in
+      let on13 = grown_on m1 m2 m3 p2.grown p3.grown in
+      let asked = written_patterns_mean_on fs m1 m3 on13 names qs ys p1.answer in
+      let guarded = guard_means_on fs m2 m3 p3.grown b1 c1 d p2.answer in
       let at2 : b2 ≡ all_bound_by names qs = p2.bound_is ∙ p1.bound_is in
-      let front : patterns_at m3.tables c.parameters.items ≡ patterns_at m1.tables ys = ap (patterns_at m3.tables) cys ∙ patterns_kept m1.tables m3.tables on13 ys p1.answer.stands in
-      let middle : guard_over m3.tables c.guard ≡ guard_over m2.tables d = ap (guard_over m3.tables) cd ∙ guard_kept m2.tables m3.tables on23 d p2.answer.stands in
-      let end : part_over m3.tables c.body ≡ part_over m3.tables x = ap (part_over m3.tables) cx in
       record {
-        grown = grown_on m0 m1 m3 p1.grown (grown_on m1 m2 m3 p2.grown p3.grown);
+        grown = grown_on m0 m1 m3 p1.grown on13;
         bound_is = cut;
         answer = record {
           stands = (
-            subst (λ l. All (λ q. q.0 < length m3.tables.patterns) l) (sym cys) (all_patterns_stand m1.tables m3.tables on13 ys p1.answer.stands),
-            subst (λ g. GuardStands m3.tables g) (sym cd) (guard_stands m2.tables m3.tables on23 d p2.answer.stands),
+            subst (λ l. All (λ q. q.0 < length m3.tables.patterns) l) (sym cys) asked.stands,
+            subst (λ g. GuardStands m3.tables g) (sym cd) guarded.stands,
             subst (λ y. PartStands m3.tables y) (sym cx) p3.answer.stands,
           );
           means = λ f k.
@@ -64,9 +63,9 @@ module _ (fs : List (List Head)) (b : NodeTable) where
               let in_guard : condition_faults n s c1 ≡ [] = right_empty (written_patterns_faults no_scope qs) _ two in
               let seen : s.bound ≡ all_bound_by names qs = written_patterns_bound no_scope qs here ∙ ap (λ l. all_bound_by l qs) (sym none) in
               record {
-                parameters = subst (λ y. WrittenPatternsAre n no_scope qs y) (sym front) (p1.answer.means no_scope (sym none) f.0 here);
-                guard = subst (λ y. GuardIs n s c1 y) (sym middle) (p2.answer.means s (seen ∙ sym p1.bound_is) f.1 f.2 in_guard);
-                body = subst (λ y. BodyIs n s es y) (sym end) (p3.answer.means s (seen ∙ sym at2) f.3 f.4 in_body);
+                parameters = subst (λ l. WrittenPatternsAre n no_scope qs (patterns_at m3.tables l)) (sym cys) (asked.means no_scope (sym none) f.0 here);
+                guard = subst (λ g. GuardIs n s c1 (guard_over m3.tables g)) (sym cd) (guarded.means s (seen ∙ sym p1.bound_is) f.1 f.2 in_guard);
+                body = subst (λ y. BodyIs n s es (part_over m3.tables y)) (sym cx) (p3.answer.means s (seen ∙ sym at2) f.3 f.4 in_body);
               };
         };
       }
@@ -74,28 +73,31 @@ module _ (fs : List (List Head)) (b : NodeTable) where
   abbrev pub next_head : List ℕ → HeadNode → List ℕ
   next_head names h = []
 
-  abbrev pub EachHead : Tables → List ℕ → HeadNode → FunctionClause → Type 0
+  abbrev pub EachHead : Checked → List ℕ → HeadNode → FunctionClause → Type 0
   EachHead t names h c = HeadMeans fs t (head_over b h) c
 
-  pub each_head_on : (t u : Tables) → Extends t u → (names : List ℕ) (h : HeadNode) (c : FunctionClause) → EachHead t names h c → EachHead u names h c
+  pub each_head_on : (t u : Checked) → Grown t u → (names : List ℕ) (h : HeadNode) (c : FunctionClause) → EachHead t names h c → EachHead u names h c
   each_head_on t u on names h c m =
-      let n = names_of fs in
-      let front : patterns_at u c.parameters.items ≡ patterns_at t c.parameters.items = patterns_kept t u on c.parameters.items m.stands.0 in
-      let middle : guard_over u c.guard ≡ guard_over t c.guard = guard_kept t u on c.guard m.stands.1 in
-      let end : part_over u c.body ≡ part_over t c.body = part_kept t u on c.body m.stands.2 in
-      let whole : function_clause_over u c ≡ function_clause_over t c = cc in
+      let front : patterns_at u.tables c.parameters.items ≡ patterns_at t.tables c.parameters.items = patterns_kept t.tables u.tables on.tables c.parameters.items m.stands.0 in
+      let middle : guard_over u.tables c.guard ≡ guard_over t.tables c.guard = guard_kept t.tables u.tables on.tables c.guard m.stands.1 in
+      let end : part_over u.tables c.body ≡ part_over t.tables c.body = part_kept t.tables u.tables on.tables c.body m.stands.2 in
+      let whole : function_clause_over u.tables c ≡ function_clause_over t.tables c = cc in
       record {
-        stands = (all_patterns_stand t u on c.parameters.items m.stands.0, guard_stands t u on c.guard m.stands.1, part_stands t u on c.body m.stands.2);
-        means = λ f k. subst (HeadIs n (head_over b h)) (sym whole) (m.means f k);
+        stands = (
+          all_patterns_stand t.tables u.tables on.tables c.parameters.items m.stands.0,
+          guard_stands t.tables u.tables on.tables c.guard m.stands.1,
+          part_stands t.tables u.tables on.tables c.body m.stands.2,
+        );
+        means = becomes_on (λ n x. HeadFormed (head_over b h) → head_faults n (head_over b h) ≡ [] → HeadIs n (head_over b h) x) fs t u _ _ on whole m.means;
       }
 
-  heads_mean : (t : Tables) (names : List ℕ) (hs : List HeadNode) (cs : List FunctionClause) → Threaded next_head (EachHead t) names hs cs → HeadsMean fs t (map (head_over b) hs) cs
-  heads_mean t names [] [] h = record { stands = All-nil (FunctionClauseStands t); means = λ f k. tt }
+  heads_mean : (t : Checked) (names : List ℕ) (hs : List HeadNode) (cs : List FunctionClause) → Threaded next_head (EachHead t) names hs cs → HeadsMean fs t (map (head_over b) hs) cs
+  heads_mean t names [] [] h = record { stands = All-nil (FunctionClauseStands t.tables); means = λ f k. tt }
   heads_mean t names (x ∷ hs) (c ∷ cs) h =
-      let n = names_of fs in
+      let n = names_of t.atoms fs in
       let rest = heads_mean t [] hs cs h.1 in
       record {
-        stands = All-cons (FunctionClauseStands t) c cs h.0.stands rest.stands;
+        stands = All-cons (FunctionClauseStands t.tables) c cs h.0.stands rest.stands;
         means = λ f k. (
           h.0.means (All-head HeadFormed (head_over b x) (map (head_over b) hs) f) (left_empty (head_faults n (head_over b x)) _ k),
           rest.means (All-tail HeadFormed (head_over b x) (map (head_over b) hs) f) (right_empty (head_faults n (head_over b x)) _ k),
@@ -115,7 +117,7 @@ module _ (fs : List (List Head)) (b : NodeTable) where
       record {
         grown = whole.grown;
         bound_is = whole.bound_is ∙ ap (λ s. fold next_head s hs) none ∙ all_next_head hs;
-        answer = heads_mean m1.tables names hs cs whole.answer;
+        answer = heads_mean m1 names hs cs whole.answer;
       }
 
   -- a function whose first clause is known
@@ -128,7 +130,7 @@ module _ (fs : List (List Head)) (b : NodeTable) where
         grown = d.grown;
         bound_is = d.bound_is;
         answer =
-            let inner : HeadsMean fs m1.tables (h ∷ rest) f.clauses.items = subst (λ l. HeadsMean fs m1.tables l f.clauses.items) is d.answer in
+            let inner : HeadsMean fs m1 (h ∷ rest) f.clauses.items = subst (λ l. HeadsMean fs m1 l f.clauses.items) is d.answer in
             record { stands = inner.stands; means = λ g k. (name, arity, exported, inner.means g k) };
       })
 
@@ -140,25 +142,25 @@ module _ (fs : List (List Head)) (b : NodeTable) where
 -- ---- modules
 
 -- each function so far, where no function breaks a rule
-module _ (fs : List (List Head)) (exports : List Export) where
+module _ (n : Names) (exports : List Export) where
   abbrev pub EachFunction : List (List Head) → List Made → Type 0
   EachFunction [] [] = Unit {0}
-  EachFunction (hs ∷ more) (f ∷ made) = (FunctionFormed hs → flat_map (head_faults (names_of fs)) hs ≡ [] → FunctionIs (names_of fs) exports hs f) × EachFunction more made
+  EachFunction (hs ∷ more) (f ∷ made) = (FunctionFormed hs → flat_map (head_faults n) hs ≡ [] → FunctionIs n exports hs f) × EachFunction more made
   EachFunction _ _ = ⊥
 
   pub one_function_more : (xs : List (List Head)) (made : List Made) (hs : List Head) (f : Made) → EachFunction xs made
-      → (FunctionFormed hs → flat_map (head_faults (names_of fs)) hs ≡ [] → FunctionIs (names_of fs) exports hs f) → EachFunction (xs ++ hs ∷ []) (made ++ f ∷ [])
+      → (FunctionFormed hs → flat_map (head_faults n) hs ≡ [] → FunctionIs n exports hs f) → EachFunction (xs ++ hs ∷ []) (made ++ f ∷ [])
   one_function_more [] [] hs f h r = (r, tt)
   one_function_more (x ∷ xs) (m ∷ made) hs f h r = (h.0, one_function_more xs made hs f h.1 r)
   one_function_more [] (m ∷ made) hs f h r = absurd h
   one_function_more (x ∷ xs) [] hs f h r = absurd h
 
-  pub functions_are : (xs : List (List Head)) (made : List Made) → EachFunction xs made → AreFormed xs → flat_map (flat_map (head_faults (names_of fs))) xs ≡ []
-      → Pairwise (FunctionIs (names_of fs) exports) xs made
+  pub functions_are : (xs : List (List Head)) (made : List Made) → EachFunction xs made → AreFormed xs → flat_map (flat_map (head_faults n)) xs ≡ []
+      → Pairwise (FunctionIs n exports) xs made
   functions_are [] [] h f k = tt
   functions_are (x ∷ xs) (m ∷ made) h f k = (
-    h.0 (All-head FunctionFormed x xs f) (left_empty (flat_map (head_faults (names_of fs)) x) _ k),
-    functions_are xs made h.1 (All-tail FunctionFormed x xs f) (right_empty (flat_map (head_faults (names_of fs)) x) _ k),
+    h.0 (All-head FunctionFormed x xs f) (left_empty (flat_map (head_faults n) x) _ k),
+    functions_are xs made h.1 (All-tail FunctionFormed x xs f) (right_empty (flat_map (head_faults n) x) _ k),
   )
   functions_are [] (m ∷ made) h f k = absurd h
   functions_are (x ∷ xs) [] h f k = absurd h

@@ -3,8 +3,8 @@ use Rattle.std.proofs.Common.{◌≡◌, ℕ, ◌+◌, ◌<◌, List, [], ◌∷
 use Rattle.std.specs.Prelude.{fold}
 use Rattle.std.proofs.lemmas.List.{take_more}
 use Rattle.std.proofs.lemmas.List.Sums.{fold_more}
-use Rattle.pf_syntax.specs.Module.{Checked, Tables}
-use Rattle.pf_syntax.proofs.Extends.{Extends}
+use Rattle.pf_syntax.specs.Module.{Checked}
+use Rattle.pf_lower.specs.Grown.{Grown}
 use Rattle.pf_lower.specs.Built.{Lowers}
 use Rattle.pf_lower.proofs.Growing.{grown_on, grown_itself}
 
@@ -29,22 +29,22 @@ module _ {S X Y : Type 0} (next : S → X → S) where
   threaded_more R s (z ∷ zs) [] x y h r = absurd h
 
 -- what was built for a list so far, and then for one item more
-module _ {X Y : Type 0} (next : List ℕ → X → List ℕ) (R : Tables → List ℕ → X → Y → Type 0) where
+module _ {X Y : Type 0} (next : List ℕ → X → List ℕ) (R : Checked → List ℕ → X → Y → Type 0) where
   abbrev pub SoFar : Checked → Checked → List ℕ → List ℕ → List X → List Y → Type 0
   SoFar m0 m1 s0 s1 xs ys = Lowers m0 m1 s1 (fold next s0 xs) (λ t. Threaded next (R t) s0 xs ys)
 
   pub none_yet : (m : Checked) (s : List ℕ) → SoFar m m s s [] []
   none_yet m s = record { grown = grown_itself m; bound_is = refl; answer = tt }
 
-module _ {X Y : Type 0} (next : List ℕ → X → List ℕ) (R : Tables → List ℕ → X → Y → Type 0)
-    (kept : (t u : Tables) → Extends t u → (s : List ℕ) (x : X) (y : Y) → R t s x y → R u s x y) where
+module _ {X Y : Type 0} (next : List ℕ → X → List ℕ) (R : Checked → List ℕ → X → Y → Type 0)
+    (kept : (t u : Checked) → Grown t u → (s : List ℕ) (x : X) (y : Y) → R t s x y → R u s x y) where
   one_more : (m0 m1 m2 : Checked) (s0 s1 s2 : List ℕ) (xs : List X) (ys : List Y) (x : X) (y : Y)
       → SoFar next R m0 m1 s0 s1 xs ys → Lowers m1 m2 s2 (next s1 x) (λ t. R t s1 x y)
-      → (s2 ≡ next (fold next s0 xs) x) × Threaded next (R m2.tables) s0 (xs ++ x ∷ []) (ys ++ y ∷ [])
+      → (s2 ≡ next (fold next s0 xs) x) × Threaded next (R m2) s0 (xs ++ x ∷ []) (ys ++ y ∷ [])
   one_more m0 m1 m2 s0 s1 s2 xs ys x y h d =
-      let old = threaded_weaker next (R m1.tables) (R m2.tables) (kept m1.tables m2.tables d.grown.tables) s0 xs ys h.answer in
-      let item : R m2.tables (fold next s0 xs) x y = subst (λ s. R m2.tables s x y) h.bound_is d.answer in
-      (d.bound_is ∙ ap (λ s. next s x) h.bound_is, threaded_more next (R m2.tables) s0 xs ys x y old item)
+      let old = threaded_weaker next (R m1) (R m2) (kept m1 m2 d.grown) s0 xs ys h.answer in
+      let item : R m2 (fold next s0 xs) x y = subst (λ s. R m2 s x y) h.bound_is d.answer in
+      (d.bound_is ∙ ap (λ s. next s x) h.bound_is, threaded_more next (R m2) s0 xs ys x y old item)
 
   pub step : (m0 m1 m2 : Checked) (s0 s1 s2 : List ℕ) (xs : List X) (k : ℕ) (ys : List Y) (d : X) (y : Y) → k < length xs
       → SoFar next R m0 m1 s0 s1 (take k xs) ys → Lowers m1 m2 s2 (next s1 (get_or xs k d)) (λ t. R t s1 (get_or xs k d) y)
@@ -54,7 +54,7 @@ module _ {X Y : Type 0} (next : List ℕ → X → List ℕ) (R : Tables → Lis
       record {
         grown = grown_on m0 m1 m2 h.grown lowered.grown;
         bound_is = p.0 ∙ sym (fold_more next s0 xs k d lt);
-        answer = subst (λ zs. Threaded next (R m2.tables) s0 zs (ys ++ y ∷ [])) (sym (take_more xs k d lt)) p.1;
+        answer = subst (λ zs. Threaded next (R m2) s0 zs (ys ++ y ∷ [])) (sym (take_more xs k d lt)) p.1;
       }
 
   pub step_at : (m0 m1 m2 : Checked) (s0 s1 s2 : List ℕ) (xs : List X) (k : ℕ) (ys : List Y) (x : X) (y : Y) → k < length xs → x ≡ get_or xs k x

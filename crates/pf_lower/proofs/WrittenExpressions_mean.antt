@@ -12,21 +12,20 @@ use Rattle.pf_syntax.specs.Source.{NodeTable, Head, written_expression_at}
 use Rattle.pf_syntax.specs.SourceOver.{written_expressions_at}
 use Rattle.pf_syntax.specs.Scope.{Scope, has, is_unsafe, after, after_all}
 use Rattle.pf_syntax.specs.Naming as w
-use Rattle.pf_syntax.specs.Naming.{WrittenExpressionIs, WrittenExpressionsAre, conses, arity_of}
-use Rattle.pf_syntax.specs.Module.{Checked, Tables}
+use Rattle.pf_syntax.specs.Naming.{Names, WrittenExpressionIs, conses, arity_of}
+use Rattle.pf_syntax.specs.Module.{Checked}
 use Rattle.pf_syntax.specs.Over.{part_over, parts_over, clauses_over}
 use Rattle.pf_syntax.specs.Within.{PartStands}
-use Rattle.pf_syntax.proofs.Extends.{Extends, parts_kept}
 use Rattle.pf_syntax.specs.declared.node.Part.{Part}
 use Rattle.pf_syntax.specs.declared.node.Clause.{Clause}
 use Rattle.pf_syntax.specs.declared.written.WrittenExpressionId.{WrittenExpressionId}
-use Rattle.pf_rules.specs.Static.{names_of, own_in, fault_if, is_defined, written_expression_faults, written_expressions_faults, branches_faults}
+use Rattle.pf_rules.specs.Static.{names_of, fault_if, is_defined, written_expression_faults, written_expressions_faults, branches_faults}
 use Rattle.pf_rules.specs.Formed.{WrittenExpressionFormed, WrittenExpressionsFormed}
 use Rattle.pf_lower.specs.Bound.{bound_by, bound_after, IsPlain}
 use Rattle.pf_lower.specs.Grown.{Grown, PartPut}
-use Rattle.pf_lower.specs.Built.{Lowers, WrittenExpressionMeans, WrittenExpressionsMean, BranchesMean}
+use Rattle.pf_lower.specs.Built.{Lowers, WrittenExpressionBecomes, WrittenExpressionMeans, WrittenExpressionsMean, BranchesMean}
 use Rattle.pf_lower.proofs.Exists.{bound_by_tests}
-use Rattle.pf_lower.proofs.Growing.{grown_itself, grown_on, written_expression_put, written_expression_means_on}
+use Rattle.pf_lower.proofs.Growing.{grown_itself, grown_on, written_expression_put, written_expression_means_on, written_expressions_mean_on}
 use Rattle.pf_lower.proofs.Threads.{Threaded, SoFar}
 use Rattle.pf_lower.proofs.WrittenPatterns_mean.{left_empty, right_empty, written_pattern_bound}
 
@@ -100,35 +99,35 @@ plain_bound (p.case a bs) names i = refl
 plain_bound (p.if_expression bs) names i = refl
 plain_bound (p.receive bs) names i = refl
 
-pub element_bound : (fs : List (List Head)) (g : Scope) (e : WrittenExpression) → WrittenExpressionFormed true e → written_expression_faults (names_of fs) g e ≡ [] → (after g e).bound ≡ bound_after g.bound e
-element_bound fs g (p.match q a) f k =
-    written_pattern_bound (after g a) q (right_empty (written_expression_faults (names_of fs) g a) _ k)
-    ∙ ap (λ n. bound_by n q) (element_bound fs g a f.2 (left_empty (written_expression_faults (names_of fs) g a) _ k))
-element_bound fs g (p.integer z) f k = refl
-element_bound fs g (p.atom a) f k = refl
-element_bound fs g (p.text cs) f k = refl
-element_bound fs g (p.variable x at) f k = refl
-element_bound fs g (p.anonymous at) f k = refl
-element_bound fs g (p.parentheses a) f k = kept g (p.parentheses a) f
-element_bound fs g (p.tuple es) f k = kept g (p.tuple es) f
-element_bound fs g (p.list es) f k = kept g (p.list es) f
-element_bound fs g (p.list_on es e) f k = kept g (p.list_on es e) f
-element_bound fs g (p.call x at es) f k = kept g (p.call x at es) f
-element_bound fs g (p.binary o a b) f k = kept g (p.binary o a b) f
-element_bound fs g (p.negate a) f k = kept g (p.negate a) f
-element_bound fs g (p.and_also a b) f k = kept g (p.and_also a b) f
-element_bound fs g (p.or_else a b) f k = kept g (p.or_else a b) f
-element_bound fs g (p.send a b) f k = kept g (p.send a b) f
-element_bound fs g (p.case a bs) f k = kept g (p.case a bs) f
-element_bound fs g (p.if_expression bs) f k = kept g (p.if_expression bs) f
-element_bound fs g (p.receive bs) f k = kept g (p.receive bs) f
+pub element_bound : (n : Names) (g : Scope) (e : WrittenExpression) → WrittenExpressionFormed true e → written_expression_faults n g e ≡ [] → (after g e).bound ≡ bound_after g.bound e
+element_bound n g (p.match q a) f k =
+    written_pattern_bound (after g a) q (right_empty (written_expression_faults n g a) _ k)
+    ∙ ap (λ l. bound_by l q) (element_bound n g a f.2 (left_empty (written_expression_faults n g a) _ k))
+element_bound n g (p.integer z) f k = refl
+element_bound n g (p.atom a) f k = refl
+element_bound n g (p.text cs) f k = refl
+element_bound n g (p.variable x at) f k = refl
+element_bound n g (p.anonymous at) f k = refl
+element_bound n g (p.parentheses a) f k = kept g (p.parentheses a) f
+element_bound n g (p.tuple es) f k = kept g (p.tuple es) f
+element_bound n g (p.list es) f k = kept g (p.list es) f
+element_bound n g (p.list_on es e) f k = kept g (p.list_on es e) f
+element_bound n g (p.call x at es) f k = kept g (p.call x at es) f
+element_bound n g (p.binary o a b) f k = kept g (p.binary o a b) f
+element_bound n g (p.negate a) f k = kept g (p.negate a) f
+element_bound n g (p.and_also a b) f k = kept g (p.and_also a b) f
+element_bound n g (p.or_else a b) f k = kept g (p.or_else a b) f
+element_bound n g (p.send a b) f k = kept g (p.send a b) f
+element_bound n g (p.case a bs) f k = kept g (p.case a bs) f
+element_bound n g (p.if_expression bs) f k = kept g (p.if_expression bs) f
+element_bound n g (p.receive bs) f k = kept g (p.receive bs) f
 
 -- ---- answers
 
 module _ (fs : List (List Head)) where
   -- a part that needs nothing put
   pub written_expression_here : (m : Checked) (names : List ℕ) (e e' : WrittenExpression) (x : Part) → e' ≡ e → PartStands m.tables x
-      → ((g : Scope) → g.bound ≡ names → WrittenExpressionFormed false e' → written_expression_faults (names_of fs) g e' ≡ [] → WrittenExpressionIs (names_of fs) g e' (part_over m.tables x))
+      → WrittenExpressionBecomes (names_of m.atoms fs) names e' (part_over m.tables x)
       → Lowers m m names names (λ t. WrittenExpressionMeans fs t names e x)
   written_expression_here m names e e' x same stands means = subst (λ s. Lowers m m names names (λ t. WrittenExpressionMeans fs t names s x)) same
       (record { grown = grown_itself m; bound_is = refl; answer = record { stands = stands; means = means } })
@@ -137,7 +136,7 @@ module _ (fs : List (List Head)) where
   pub after_lowers : (m0 m1 m2 : Checked) (b1 b2 names : List ℕ) (e e' : WrittenExpression) (x : Part) → Grown m0 m1 → b1 ≡ names → e' ≡ e
       → Lowers m1 m2 b2 b1 (λ t. WrittenExpressionMeans fs t b1 e' x) → Lowers m0 m2 b2 names (λ t. WrittenExpressionMeans fs t names e x)
   after_lowers m0 m1 m2 b1 b2 names e e' x grown same is d = subst (λ s. Lowers m0 m2 b2 names (λ t. WrittenExpressionMeans fs t names s x)) is
-      (record { grown = grown_on m0 m1 m2 grown d.grown; bound_is = d.bound_is ∙ same; answer = subst (λ n. WrittenExpressionMeans fs m2.tables n e' x) same d.answer })
+      (record { grown = grown_on m0 m1 m2 grown d.grown; bound_is = d.bound_is ∙ same; answer = subst (λ n. WrittenExpressionMeans fs m2 n e' x) same d.answer })
 
   pub parentheses_lowers : (m0 m1 : Checked) (b names : List ℕ) (a e : WrittenExpression) (x : Part) → p.parentheses a ≡ e → Lowers m0 m1 b names (λ t. WrittenExpressionMeans fs t names a x)
       → Lowers m0 m1 b names (λ t. WrittenExpressionMeans fs t names e x)
@@ -150,61 +149,61 @@ module _ (fs : List (List Head)) where
   pair_lowers m0 m1 m2 b1 b2 names a b x y d e = record {
     grown = grown_on m0 m1 m2 d.grown e.grown;
     bound_is = e.bound_is ∙ d.bound_is;
-    answer = (written_expression_means_on fs m1.tables m2.tables e.grown.tables names a x d.answer, subst (λ n. WrittenExpressionMeans fs m2.tables n b y) d.bound_is e.answer);
+    answer = (written_expression_means_on fs m1 m2 e.grown names a x d.answer, subst (λ n. WrittenExpressionMeans fs m2 n b y) d.bound_is e.answer);
   }
 
-  pub two_mean : (t : Tables) (names : List ℕ) (a b : WrittenExpression) (x y : Part) → WrittenExpressionMeans fs t names a x × WrittenExpressionMeans fs t names b y
-      → (g : Scope) → g.bound ≡ names → WrittenExpressionFormed false a × WrittenExpressionFormed false b → written_expression_faults (names_of fs) g a ++ written_expression_faults (names_of fs) (after g a) b ≡ []
-      → WrittenExpressionIs (names_of fs) g a (part_over t x) × WrittenExpressionIs (names_of fs) (after g a) b (part_over t y)
+  pub two_mean : (t : Checked) (names : List ℕ) (a b : WrittenExpression) (x y : Part) → WrittenExpressionMeans fs t names a x × WrittenExpressionMeans fs t names b y
+      → (g : Scope) → g.bound ≡ names → WrittenExpressionFormed false a × WrittenExpressionFormed false b → written_expression_faults (names_of t.atoms fs) g a ++ written_expression_faults (names_of t.atoms fs) (after g a) b ≡ []
+      → WrittenExpressionIs (names_of t.atoms fs) g a (part_over t.tables x) × WrittenExpressionIs (names_of t.atoms fs) (after g a) b (part_over t.tables y)
   two_mean t names a b x y h g e f k = (
-    h.0.means g e f.0 (left_empty (written_expression_faults (names_of fs) g a) _ k),
-    h.1.means (after g a) (kept g a f.0 ∙ e) f.1 (right_empty (written_expression_faults (names_of fs) g a) _ k),
+    h.0.means g e f.0 (left_empty (written_expression_faults (names_of t.atoms fs) g a) _ k),
+    h.1.means (after g a) (kept g a f.0 ∙ e) f.1 (right_empty (written_expression_faults (names_of t.atoms fs) g a) _ k),
   )
 
   pub list_on_put : (m0 m1 m2 m3 : Checked) (b1 b2 names : List ℕ) (es : WrittenExpressions) (e e' : WrittenExpression) (xs : List Part) (x y : Part) → p.list_on es e' ≡ e
       → Lowers m0 m1 b1 names (λ t. WrittenExpressionsMean fs t names es xs) → Lowers m1 m2 b2 b1 (λ t. WrittenExpressionMeans fs t b1 e' x)
       → PartPut m2 m3 (conses (parts_over m2.tables xs) (part_over m2.tables x)) y → Lowers m0 m3 b2 names (λ t. WrittenExpressionMeans fs t names e y)
   list_on_put m0 m1 m2 m3 b1 b2 names es e e' xs x y is d r put =
-      let front : parts_over m2.tables xs ≡ parts_over m1.tables xs = parts_kept m1.tables m2.tables r.grown.tables xs d.answer.stands in
-      let whole : conses (parts_over m2.tables xs) (part_over m2.tables x) ≡ conses (parts_over m1.tables xs) (part_over m2.tables x) =
-      ap (λ ys. conses ys (part_over m2.tables x)) front in
+      let front = written_expressions_mean_on fs m1 m2 r.grown names es xs d.answer in
+      let n = names_of m2.atoms fs in
       written_expression_put fs m0 m2 m3 b2 names e (p.list_on es e') _ y is (r.bound_is ∙ d.bound_is) (grown_on m0 m1 m2 d.grown r.grown)
       (λ g h f k.
-      let here : written_expressions_faults (names_of fs) g es ≡ [] = left_empty (written_expressions_faults (names_of fs) g es) _ k in
-      let later : written_expression_faults (names_of fs) (after_all g es) e' ≡ [] = right_empty (written_expressions_faults (names_of fs) g es) _ k in
-      subst (WrittenExpressionIs (names_of fs) g (p.list_on es e')) (sym whole)
-      (w.list_on g es e' _ _ (d.answer.means g h f.0 here) (r.answer.means (after_all g es) (all_kept g es f.0 ∙ h ∙ sym d.bound_is) f.1 later)))
+      let here : written_expressions_faults n g es ≡ [] = left_empty (written_expressions_faults n g es) _ k in
+      let later : written_expression_faults n (after_all g es) e' ≡ [] = right_empty (written_expressions_faults n g es) _ k in
+      w.list_on g es e' _ _ (front.means g h f.0 here) (r.answer.means (after_all g es) (all_kept g es f.0 ∙ h ∙ sym d.bound_is) f.1 later))
       put
 
   pub case_put : (m0 m1 m2 m3 : Checked) (b1 b2 names : List ℕ) (a e : WrittenExpression) (bs : Branches) (x y : Part) (cs : List Clause) → p.case a bs ≡ e
       → Lowers m0 m1 b1 names (λ t. WrittenExpressionMeans fs t names a x) → Lowers m1 m2 b2 b1 (λ t. BranchesMean fs t b1 bs cs)
       → PartPut m2 m3 (tr.case (part_over m2.tables x) (clauses_over m2.tables cs)) y → Lowers m0 m3 b2 names (λ t. WrittenExpressionMeans fs t names e y)
   case_put m0 m1 m2 m3 b1 b2 names a e bs x y cs is d r put =
-      let value = written_expression_means_on fs m1.tables m2.tables r.grown.tables names a x d.answer in
+      let value = written_expression_means_on fs m1 m2 r.grown names a x d.answer in
       written_expression_put fs m0 m2 m3 b2 names e (p.case a bs) _ y is (r.bound_is ∙ d.bound_is) (grown_on m0 m1 m2 d.grown r.grown)
       (λ g h f k.
-      let here : written_expression_faults (names_of fs) g a ≡ [] = left_empty (written_expression_faults (names_of fs) g a) _ k in
-      let later : branches_faults (names_of fs) (after g a) bs ≡ [] = right_empty (written_expression_faults (names_of fs) g a) _ k in
+      let here : written_expression_faults (names_of m2.atoms fs) g a ≡ [] = left_empty (written_expression_faults (names_of m2.atoms fs) g a) _ k in
+      let later : branches_faults (names_of m2.atoms fs) (after g a) bs ≡ [] = right_empty (written_expression_faults (names_of m2.atoms fs) g a) _ k in
       w.case g a bs _ _ (value.means g h f.0 here) (r.answer.means (after g a) (kept g a f.0 ∙ h ∙ sym d.bound_is) f.1 later))
       put
 
 -- ---- variables and calls
 
-pub variable_bound : (fs : List (List Head)) (g : Scope) (names : List ℕ) (x at : ℕ) → g.bound ≡ names → written_expression_faults (names_of fs) g (p.variable x at) ≡ [] → has names x ≡ true
-variable_bound fs g names x at e h = sym (ap (λ n. has n x) e) ∙ bound_by_tests at (is_unsafe g x) (has g.bound x) h
+pub variable_bound : (n : Names) (g : Scope) (names : List ℕ) (x at : ℕ) → g.bound ≡ names → written_expression_faults n g (p.variable x at) ≡ [] → has names x ≡ true
+variable_bound n g names x at e h = sym (ap (λ l. has l x) e) ∙ bound_by_tests at (is_unsafe g x) (has g.bound x) h
 
-pub variable_means : (fs : List (List Head)) (g : Scope) (names : List ℕ) (x at k : ℕ) → g.bound ≡ names → slice_get names k ≡ Some x → WrittenExpressionIs (names_of fs) g (p.variable x at) (var k)
-variable_means fs g names x at k e there = w.variable g x at k (ap (λ n. slice_get n k) e ∙ there)
+pub variable_means : (n : Names) (g : Scope) (names : List ℕ) (x at k : ℕ) → g.bound ≡ names → slice_get names k ≡ Some x → WrittenExpressionIs n g (p.variable x at) (var k)
+variable_means n g names x at k e there = w.variable g x at k (ap (λ l. slice_get l k) e ∙ there)
 
-undefined : (fs : List (List Head)) (f at : ℕ) (n : ℕ) (o : Option ℕ) → o ≡ None → (if is_some o || false then [] else fault_if true Undefined at) ≡ [] → ⊥
-undefined fs f at n None e h = cc
-undefined fs f at n (Some x) e h = cc
+undefined : {A B : Type 0} (at : ℕ) (own : Option A) (built : Option B) → own ≡ None → built ≡ None → (if is_some own || is_some built then [] else fault_if true Undefined at) ≡ [] → ⊥
+undefined at None None e d h = cc
+undefined at None (Some y) e d h = cc
+undefined at (Some x) built e d h = cc
 
-pub call_defined : (fs : List (List Head)) (g : Scope) (f at : ℕ) (es : WrittenExpressions) → own_in fs f (arity_of es) ≡ None → written_expression_faults (names_of fs) g (p.call f at es) ≡ [] → ⊥
-call_defined fs g f at es e h = undefined fs f at (arity_of es) (own_in fs f (arity_of es)) e (left_empty _ (written_expressions_faults (names_of fs) g es) h)
+-- a call without a fault finds a function
+pub call_defined : (n : Names) (g : Scope) (f at : ℕ) (es : WrittenExpressions) → n.own_of f (arity_of es) ≡ None → n.builtin_of f (arity_of es) ≡ None → written_expression_faults n g (p.call f at es) ≡ [] → ⊥
+call_defined n g f at es e d h = undefined at (n.own_of f (arity_of es)) (n.builtin_of f (arity_of es)) e d (left_empty _ (written_expressions_faults n g es) h)
 
-pub call_clean : (fs : List (List Head)) (g : Scope) (f at : ℕ) (es : WrittenExpressions) → written_expression_faults (names_of fs) g (p.call f at es) ≡ [] → written_expressions_faults (names_of fs) g es ≡ []
-call_clean fs g f at es h = right_empty (if is_defined (names_of fs) f (arity_of es) then [] else fault_if true Undefined at) _ h
+pub call_clean : (n : Names) (g : Scope) (f at : ℕ) (es : WrittenExpressions) → written_expression_faults n g (p.call f at es) ≡ [] → written_expressions_faults n g es ≡ []
+call_clean n g f at es h = right_empty (if is_defined n f (arity_of es) then [] else fault_if true Undefined at) _ h
 
 -- ---- several
 
@@ -212,24 +211,24 @@ module _ (fs : List (List Head)) (b : NodeTable) where
   abbrev pub next_written_expression : List ℕ → WrittenExpressionId → List ℕ
   next_written_expression names id = names
 
-  abbrev pub EachWrittenExpression : Tables → List ℕ → WrittenExpressionId → Part → Type 0
+  abbrev pub EachWrittenExpression : Checked → List ℕ → WrittenExpressionId → Part → Type 0
   EachWrittenExpression t names id x = WrittenExpressionMeans fs t names (written_expression_at b id.0) x
 
-  pub each_written_expression_on : (t u : Tables) → Extends t u → (names : List ℕ) (id : WrittenExpressionId) (x : Part) → EachWrittenExpression t names id x → EachWrittenExpression u names id x
+  pub each_written_expression_on : (t u : Checked) → Grown t u → (names : List ℕ) (id : WrittenExpressionId) (x : Part) → EachWrittenExpression t names id x → EachWrittenExpression u names id x
   each_written_expression_on t u e names id x h = written_expression_means_on fs t u e names (written_expression_at b id.0) x h
 
-  written_expressions_mean : (t : Tables) (names : List ℕ) (ids : List WrittenExpressionId) (xs : List Part) → Threaded next_written_expression (EachWrittenExpression t) names ids xs
+  written_expressions_mean : (t : Checked) (names : List ℕ) (ids : List WrittenExpressionId) (xs : List Part) → Threaded next_written_expression (EachWrittenExpression t) names ids xs
       → WrittenExpressionsMean fs t names (written_expressions_at b ids) xs
-  written_expressions_mean t names [] [] h = record { stands = All-nil (PartStands t); means = λ g e f k. w.no_more g }
+  written_expressions_mean t names [] [] h = record { stands = All-nil (PartStands t.tables); means = λ g e f k. w.no_more g }
   written_expressions_mean t names (id ∷ ids) (x ∷ xs) h =
       let e0 = written_expression_at b id.0 in
       let rest = written_expressions_mean t names ids xs h.1 in
       record {
-        stands = All-cons (PartStands t) x xs h.0.stands rest.stands;
+        stands = All-cons (PartStands t.tables) x xs h.0.stands rest.stands;
         means = λ g e f k.
-            let here : written_expression_faults (names_of fs) g e0 ≡ [] = left_empty (written_expression_faults (names_of fs) g e0) _ k in
-            let later : written_expressions_faults (names_of fs) (after g e0) (written_expressions_at b ids) ≡ [] = right_empty (written_expression_faults (names_of fs) g e0) _ k in
-            w.and_more g e0 (written_expressions_at b ids) (part_over t x) _ (h.0.means g e f.0 here) (rest.means (after g e0) (kept g e0 f.0 ∙ e) f.1 later);
+            let here : written_expression_faults (names_of t.atoms fs) g e0 ≡ [] = left_empty (written_expression_faults (names_of t.atoms fs) g e0) _ k in
+            let later : written_expressions_faults (names_of t.atoms fs) (after g e0) (written_expressions_at b ids) ≡ [] = right_empty (written_expression_faults (names_of t.atoms fs) g e0) _ k in
+            w.and_more g e0 (written_expressions_at b ids) (part_over t.tables x) _ (h.0.means g e f.0 here) (rest.means (after g e0) (kept g e0 f.0 ∙ e) f.1 later);
       }
   written_expressions_mean t names [] (x ∷ xs) h = absurd h
   written_expressions_mean t names (id ∷ ids) [] h = absurd h
@@ -245,7 +244,7 @@ module _ (fs : List (List Head)) (b : NodeTable) where
       record {
         grown = whole.grown;
         bound_is = whole.bound_is ∙ all_next_written_expression names ids;
-        answer = written_expressions_mean m1.tables names ids xs whole.answer;
+        answer = written_expressions_mean m1 names ids xs whole.answer;
       }
 
 pub written_expression_shallow : (b : NodeTable) (ids : List WrittenExpressionId) (k : ℕ) (d : WrittenExpressionId) → k < length ids → written_expression_depth (written_expression_at b (get_or ids k d).0) ≤ written_expressions_depth (written_expressions_at b ids)

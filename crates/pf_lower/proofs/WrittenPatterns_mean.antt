@@ -10,8 +10,8 @@ use Rattle.pf_syntax.specs.Source.{NodeTable, Head, written_pattern_at}
 use Rattle.pf_syntax.specs.SourceOver.{written_patterns_at}
 use Rattle.pf_syntax.specs.Scope.{Scope, has, is_unsafe, after_written_pattern, after_written_patterns}
 use Rattle.pf_syntax.specs.Naming as w
-use Rattle.pf_syntax.specs.Naming.{WrittenPatternIs, WrittenPatternsAre, conses_of, empty_list}
-use Rattle.pf_syntax.specs.Module.{Checked, Tables, pattern_at}
+use Rattle.pf_syntax.specs.Naming.{Names, WrittenPatternIs, conses_of, empty_list}
+use Rattle.pf_syntax.specs.Module.{Checked, pattern_at}
 use Rattle.pf_syntax.specs.Over.{patterns_at}
 use Rattle.pf_syntax.specs.Within.{PatternStands}
 use Rattle.pf_syntax.specs.declared.node.PatternId.{PatternId}
@@ -19,11 +19,10 @@ use Rattle.pf_syntax.specs.declared.written.WrittenPatternId.{WrittenPatternId}
 use Rattle.pf_rules.specs.Static.{names_of, fault_if, written_pattern_faults, written_patterns_faults}
 use Rattle.pf_lower.specs.Bound.{bound_by, all_bound_by}
 use Rattle.pf_lower.specs.Built.{Lowers, WrittenPatternMeans, WrittenPatternsMean}
-use Rattle.pf_lower.specs.Grown.{PatternPut}
-use Rattle.pf_syntax.proofs.Extends.{Extends, patterns_kept}
+use Rattle.pf_lower.specs.Grown.{Grown, PatternPut}
 use Rattle.pf_lower.proofs.Exists.{new_by_tests}
 use Rattle.pf_lower.proofs.Threads.{Threaded, SoFar}
-use Rattle.pf_lower.proofs.Growing.{written_pattern_means_on, written_pattern_put, grown_on}
+use Rattle.pf_lower.proofs.Growing.{written_pattern_means_on, written_patterns_mean_on, written_pattern_put, grown_on}
 
 -- two lists of faults are empty where they are so together
 pub left_empty : {X : Type 0} → (xs ys : List X) → xs ++ ys ≡ [] → xs ≡ []
@@ -63,14 +62,14 @@ mutual
 
 -- ---- variables
 
-pub fresh_means : (fs : List (List Head)) (g : Scope) (names : List ℕ) (x at : ℕ) → g.bound ≡ names → has names x ≡ false → written_pattern_faults g (s.variable x at) ≡ []
-    → WrittenPatternIs (names_of fs) g (s.variable x at) new
-fresh_means fs g names x at e absent h =
-    w.fresh g x at (new_by_tests at (is_unsafe g x) (has g.bound x) h (ap (λ n. has n x) e ∙ absent))
+pub fresh_means : (n : Names) (g : Scope) (names : List ℕ) (x at : ℕ) → g.bound ≡ names → has names x ≡ false → written_pattern_faults g (s.variable x at) ≡ []
+    → WrittenPatternIs n g (s.variable x at) new
+fresh_means n g names x at e absent h =
+    w.fresh g x at (new_by_tests at (is_unsafe g x) (has g.bound x) h (ap (λ l. has l x) e ∙ absent))
 
-pub known_means : (fs : List (List Head)) (g : Scope) (names : List ℕ) (x at k : ℕ) → g.bound ≡ names → slice_get names k ≡ Some x
-    → WrittenPatternIs (names_of fs) g (s.variable x at) (slot k)
-known_means fs g names x at k e there = w.bound g x at k (ap (λ n. slice_get n k) e ∙ there)
+pub known_means : (n : Names) (g : Scope) (names : List ℕ) (x at k : ℕ) → g.bound ≡ names → slice_get names k ≡ Some x
+    → WrittenPatternIs n g (s.variable x at) (slot k)
+known_means n g names x at k e there = w.bound g x at k (ap (λ l. slice_get l k) e ∙ there)
 
 -- ---- several
 
@@ -84,28 +83,28 @@ module _ (fs : List (List Head)) (b : NodeTable) where
   abbrev pub next_written_pattern : List ℕ → WrittenPatternId → List ℕ
   next_written_pattern names id = bound_by names (written_pattern_at b id.0)
 
-  abbrev pub EachWrittenPattern : Tables → List ℕ → WrittenPatternId → PatternId → Type 0
+  abbrev pub EachWrittenPattern : Checked → List ℕ → WrittenPatternId → PatternId → Type 0
   EachWrittenPattern t names id y = WrittenPatternMeans fs t names (written_pattern_at b id.0) y
 
-  pub each_written_pattern_on : (t u : Tables) → Extends t u → (names : List ℕ) (id : WrittenPatternId) (y : PatternId) → EachWrittenPattern t names id y → EachWrittenPattern u names id y
+  pub each_written_pattern_on : (t u : Checked) → Grown t u → (names : List ℕ) (id : WrittenPatternId) (y : PatternId) → EachWrittenPattern t names id y → EachWrittenPattern u names id y
   each_written_pattern_on t u e names id y h = written_pattern_means_on fs t u e names (written_pattern_at b id.0) y h
 
   pub all_next_written_pattern : (names : List ℕ) (ids : List WrittenPatternId) → fold next_written_pattern names ids ≡ all_bound_by names (written_patterns_at b ids)
   all_next_written_pattern names [] = refl
   all_next_written_pattern names (id ∷ ids) = all_next_written_pattern (next_written_pattern names id) ids
 
-  pub written_patterns_mean : (t : Tables) (names : List ℕ) (ids : List WrittenPatternId) (ys : List PatternId) → Threaded next_written_pattern (EachWrittenPattern t) names ids ys
+  pub written_patterns_mean : (t : Checked) (names : List ℕ) (ids : List WrittenPatternId) (ys : List PatternId) → Threaded next_written_pattern (EachWrittenPattern t) names ids ys
       → WrittenPatternsMean fs t names (written_patterns_at b ids) ys
-  written_patterns_mean t names [] [] h = record { stands = All-nil (PatternStands t); means = λ g e f k. w.no_more_written_patterns g }
+  written_patterns_mean t names [] [] h = record { stands = All-nil (PatternStands t.tables); means = λ g e f k. w.no_more_written_patterns g }
   written_patterns_mean t names (id ∷ ids) (y ∷ ys) h =
       let q = written_pattern_at b id.0 in
       let rest = written_patterns_mean t (next_written_pattern names id) ids ys h.1 in
       record {
-        stands = All-cons (PatternStands t) y ys h.0.stands rest.stands;
+        stands = All-cons (PatternStands t.tables) y ys h.0.stands rest.stands;
         means = λ g e f k.
             let here : written_pattern_faults g q ≡ [] = left_empty (written_pattern_faults g q) _ k in
             let later : written_patterns_faults (after_written_pattern g q) (written_patterns_at b ids) ≡ [] = right_empty (written_pattern_faults g q) _ k in
-            w.and_written_patterns g q (written_patterns_at b ids) (pattern_at t y.0) _ (h.0.means g e f.0 here)
+            w.and_written_patterns g q (written_patterns_at b ids) (pattern_at t.tables y.0) _ (h.0.means g e f.0 here)
             (rest.means (after_written_pattern g q) (written_pattern_bound g q here ∙ ap (λ n. bound_by n q) e) f.1 later);
       }
   written_patterns_mean t names [] (y ∷ ys) h = absurd h
@@ -120,7 +119,7 @@ module _ (fs : List (List Head)) (b : NodeTable) where
       record {
         grown = whole.grown;
         bound_is = whole.bound_is ∙ all_next_written_pattern names ids;
-        answer = written_patterns_mean m1.tables names ids ys whole.answer;
+        answer = written_patterns_mean m1 names ids ys whole.answer;
       }
 
 -- one pattern is no deeper than several
@@ -141,23 +140,19 @@ module _ (fs : List (List Head)) (m0 m1 m2 m3 : Checked) (names b1 : List ℕ) (
   pub list_written_pattern : (q : WrittenPattern) (nil : PatternId) → s.list qs ≡ q → PatternPut m1 m2 (known empty_list) nil
       → PatternPut m2 m3 (conses_of (patterns_at m2.tables ps) (pattern_at m2.tables nil.0)) p → Lowers m0 m3 b1 (bound_by names q) (λ t. WrittenPatternMeans fs t names q p)
   list_written_pattern q nil same end put =
-      let whole : conses_of (patterns_at m2.tables ps) (pattern_at m2.tables nil.0) ≡ conses_of (patterns_at m1.tables ps) (known empty_list) =
-      ap (conses_of (patterns_at m2.tables ps)) end.is
-      ∙ ap (λ ys. conses_of ys (known empty_list)) (patterns_kept m1.tables m2.tables end.grown.tables ps d.answer.stands) in
+      let whole : conses_of (patterns_at m2.tables ps) (pattern_at m2.tables nil.0) ≡ conses_of (patterns_at m2.tables ps) (known empty_list) = ap (conses_of (patterns_at m2.tables ps)) end.is in
+      let front = written_patterns_mean_on fs m1 m2 end.grown names qs ps d.answer in
       written_pattern_put fs m0 m2 m3 b1 names q (s.list qs) _ p same d.bound_is (grown_on m0 m1 m2 d.grown end.grown)
-      (λ g e f k. subst (WrittenPatternIs (names_of fs) g (s.list qs)) (sym whole) (w.list g qs _ (d.answer.means g e f k))) put
+      (λ g e f k. subst (WrittenPatternIs (names_of m2.atoms fs) g (s.list qs)) (sym whole) (w.list g qs _ (front.means g e f k))) put
 
   pub list_on_written_pattern : (b2 : List ℕ) (q q1 : WrittenPattern) (rest : PatternId) → s.list_on qs q1 ≡ q → Lowers m1 m2 b2 (bound_by b1 q1) (λ t. WrittenPatternMeans fs t b1 q1 rest)
       → PatternPut m2 m3 (conses_of (patterns_at m2.tables ps) (pattern_at m2.tables rest.0)) p → Lowers m0 m3 b2 (bound_by names q) (λ t. WrittenPatternMeans fs t names q p)
   list_on_written_pattern b2 q q1 rest same r put =
-      let front : patterns_at m2.tables ps ≡ patterns_at m1.tables ps = patterns_kept m1.tables m2.tables r.grown.tables ps d.answer.stands in
-      let whole : conses_of (patterns_at m2.tables ps) (pattern_at m2.tables rest.0) ≡ conses_of (patterns_at m1.tables ps) (pattern_at m2.tables rest.0) =
-      ap (λ ys. conses_of ys (pattern_at m2.tables rest.0)) front in
+      let front = written_patterns_mean_on fs m1 m2 r.grown names qs ps d.answer in
       written_pattern_put fs m0 m2 m3 b2 names q (s.list_on qs q1) _ p same (r.bound_is ∙ ap (λ n. bound_by n q1) d.bound_is) (grown_on m0 m1 m2 d.grown r.grown)
       (λ g e f k.
       let here : written_patterns_faults g qs ≡ [] = left_empty (written_patterns_faults g qs) _ k in
       let later : written_pattern_faults (after_written_patterns g qs) q1 ≡ [] = right_empty (written_patterns_faults g qs) _ k in
-      subst (WrittenPatternIs (names_of fs) g (s.list_on qs q1)) (sym whole)
-      (w.list_on g qs q1 _ _ (d.answer.means g e f.0 here)
-      (r.answer.means (after_written_patterns g qs) (written_patterns_bound g qs here ∙ ap (λ n. all_bound_by n qs) e ∙ sym d.bound_is) f.1 later)))
+      w.list_on g qs q1 _ _ (front.means g e f.0 here)
+      (r.answer.means (after_written_patterns g qs) (written_patterns_bound g qs here ∙ ap (λ n. all_bound_by n qs) e ∙ sym d.bound_is) f.1 later))
       put

@@ -3,7 +3,7 @@ use Rattle.std.specs.Prelude.{◌≡◌, ℕ, List, [], flat_map, map, Option, S
 use Rattle.std.specs.List.{All}
 use Rattle.pf_syntax.specs.Source.{Head, Export}
 use Rattle.pf_syntax.specs.Naming.{HeadIs}
-use Rattle.pf_syntax.specs.Module.{Checked, Tables}
+use Rattle.pf_syntax.specs.Module.{Checked}
 use Rattle.pf_syntax.specs.Over.{function_clause_over, function_over}
 use Rattle.pf_syntax.specs.Within.{FunctionClauseStands, FunctionStands}
 use Rattle.pf_syntax.specs.declared.node.FunctionClause.{FunctionClause}
@@ -18,22 +18,22 @@ first_of (Some x) other = Some x
 first_of None other = other
 
 -- a clause of a function
-pub record HeadMeans (fs : List (List Head)) (t : Tables) (h : Head) (c : FunctionClause) : Type 0 where
-  pub stands : FunctionClauseStands t c
-  pub means : HeadFormed h → head_faults (names_of fs) h ≡ [] → HeadIs (names_of fs) h (function_clause_over t c)
+pub record HeadMeans (fs : List (List Head)) (m : Checked) (h : Head) (c : FunctionClause) : Type 0 where
+  pub stands : FunctionClauseStands m.tables c
+  pub means : HeadFormed h → head_faults (names_of m.atoms fs) h ≡ [] → HeadIs (names_of m.atoms fs) h (function_clause_over m.tables c)
 
 -- all clauses of a function
-pub record HeadsMean (fs : List (List Head)) (t : Tables) (hs : List Head) (cs : List FunctionClause) : Type 0 where
-  pub stands : All (FunctionClauseStands t) cs
-  pub means : All HeadFormed hs → flat_map (head_faults (names_of fs)) hs ≡ [] → Pairwise (HeadIs (names_of fs)) hs (map (function_clause_over t) cs)
+pub record HeadsMean (fs : List (List Head)) (m : Checked) (hs : List Head) (cs : List FunctionClause) : Type 0 where
+  pub stands : All (FunctionClauseStands m.tables) cs
+  pub means : All HeadFormed hs → flat_map (head_faults (names_of m.atoms fs)) hs ≡ [] → Pairwise (HeadIs (names_of m.atoms fs)) hs (map (function_clause_over m.tables) cs)
 
 -- a function
-pub record FunctionMeans (fs : List (List Head)) (exports : List Export) (t : Tables) (hs : List Head) (f : Function) : Type 0 where
-  pub stands : FunctionStands t f
-  pub means : FunctionFormed hs → flat_map (head_faults (names_of fs)) hs ≡ [] → FunctionIs (names_of fs) exports hs (function_over t f)
+pub record FunctionMeans (fs : List (List Head)) (exports : List Export) (m : Checked) (hs : List Head) (f : Function) : Type 0 where
+  pub stands : FunctionStands m.tables f
+  pub means : FunctionFormed hs → flat_map (head_faults (names_of m.atoms fs)) hs ≡ [] → FunctionIs (names_of m.atoms fs) exports hs (function_over m.tables f)
 
 -- the functions of a source were added to a module that had none
 pub record FunctionsAdded (fs : List (List Head)) (exports : List Export) (old new : Checked) : Type 0 where
   pub name : new.name ≡ old.name
   pub atoms : new.atoms ≡ old.atoms
-  pub means : AreFormed fs → flat_map (flat_map (head_faults (names_of fs))) fs ≡ [] → Pairwise (FunctionIs (names_of fs) exports) fs new.functions
+  pub means : AreFormed fs → flat_map (flat_map (head_faults (names_of old.atoms fs))) fs ≡ [] → Pairwise (FunctionIs (names_of old.atoms fs) exports) fs new.functions

@@ -17,6 +17,7 @@ use crate::patterns::pattern;
 use crate::places::Places;
 use crate::put::{put_list, put_literal, put_node};
 use crate::strings::string;
+use pf_forms::open_builtin;
 use pf_syntax::{
     Alternative, Branch, Clause, Condition, Guard, Module, Node, Part, Source, Word,
     WrittenExpressionId, WrittenExpressionNode, WrittenPatternId,
@@ -53,7 +54,7 @@ fn text(
     }
 }
 
-/// A call of an own function, whose arguments are these parts.
+/// A call of an own function or of a built-in one, whose arguments are these parts.
 fn call(
     source: &Source,
     functions: &FunctionTable,
@@ -64,12 +65,15 @@ fn call(
     parts: Vec<Part>,
 ) -> Result<Part, NoMemory>
     requires knows { Knows functions.now source.now.functions }
-    requires parts_are { WrittenExpressionsMean source.now.functions module.old.tables places.now (written_expressions_at source.now.node_table ids.now) parts.items }
+    requires parts_are { WrittenExpressionsMean source.now.functions module.old places.now (written_expressions_at source.now.node_table ids.now) parts.items }
     ensures { IfOk result (λ x. Lowers module.old module.new places.now places.now
         (λ t. WrittenExpressionMeans source.now.functions t places.now (written.call word.name.0 word.offset (written_expressions_at source.now.node_table ids.now)) x)) }
 {
-    match functions.find(source, word.name, ids.len()) {
-        Some(function) => put_node(module, Node::Call(function, parts)),
+    if let Some(function) = functions.find(source, word.name, ids.len()) {
+        return put_node(module, Node::Call(function, parts));
+    }
+    match open_builtin(module.atoms().name(word.name), ids.len() as u64) {
+        Some(builtin) => put_node(module, Node::Builtin(builtin, parts)),
         None => Ok(Part::Nil),
     }
 }

@@ -11,6 +11,8 @@ use Rattle.pf_patterns.specs.Substitution.{sub_clauses}
 use Rattle.pf_model.specs.Code.{Code}
 use Rattle.pf_model.specs.Contraction.{picked}
 use Rattle.pf_model.specs.Receive.{FitsNone}
+use Rattle.pf_stepper.specs.MachineView.{MachineView}
+use Rattle.pf_stepper.specs.Readiness.{Receive, IsReadyAhead}
 use Rattle.pf_mailbox.specs.MailView.{MailView}
 
 -- the clauses of a `receive`, in the activation that begins at `base`
@@ -20,6 +22,14 @@ awaited m base env l = sub_clauses (activation env base) (clauses_over m.tables 
 -- no clause picks a message before the mark
 abbrev pub FitsNoneBefore : Code → ℕ → Clauses → MailView → Type 0
 FitsNoneBefore m own ks b = FitsNone m own ks (take b.mark b.messages)
+
+-- the same of a `receive`: the messages that are passed over fit none of its clauses
+abbrev pub IsReadyFor : Receive → MailView → Type 0
+IsReadyFor r b = FitsNoneBefore r.code r.own r.clauses b
+
+-- the same of the `receive` at which a machine stands; where it stands at none, of whatever comes
+abbrev pub IsAheadOf : MachineView → MailView → Type 0
+IsAheadOf s b = IsReadyAhead (λ r. IsReadyFor r b) s
 
 -- none is tested behind the one that is picked
 abbrev pub more_tests : Option Tree → ℕ → ℕ

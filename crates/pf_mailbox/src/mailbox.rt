@@ -7,7 +7,7 @@ ghost use Rattle.pf_syntax.specs.Over.{clauses_over};
 ghost use Rattle.pf_model.specs.Code.{code_of};
 ghost use Rattle.pf_stepper.specs.Selected.{TakesMessage, TakesNothing};
 ghost use Rattle.pf_mailbox.specs.MailView.{delivered, empty, unmarked};
-ghost use Rattle.pf_mailbox.specs.Tests.{FitsNoneBefore, awaited, risen, tested};
+ghost use Rattle.pf_mailbox.specs.Tests.{FitsNoneBefore, IsAheadOf, awaited, risen, tested};
 
 use crate::list::take_marked;
 use crate::search::search;
@@ -47,7 +47,8 @@ fn counted(tests: u64, more: usize) -> u64
 impl Mailbox {
     /// No message.
     pub fn new(alloc: Global) -> Mailbox
-        ensures { result ≡ empty }
+        ensures empty { result ≡ empty }
+        ensures ahead { (s : _) → IsAheadOf s result }
     {
         Mailbox {
             list: MailList::new(alloc),
@@ -86,18 +87,20 @@ impl Mailbox {
 
     /// Moves the mark to the front, as where the process comes to another `receive`.
     pub fn reset_mark(&mut self)
-        ensures { self.new ≡ unmarked self.old }
+        ensures unmarked { self.new ≡ unmarked self.old }
+        ensures ahead { (s : _) → IsAheadOf s self.new }
     {
         self.list.reset_mark();
     }
 
     /// Places a message behind the others. It takes a spare node of the pool, and asks for memory only where the
-    /// pool has none. What was true of the messages before the mark stays so.
+    /// pool has none. What was true of the messages before the mark stays so, and what the mailbox was ready for.
     pub fn deliver(&mut self, pool: &mut Pool<Term>, message: Term) -> Result<(), NoMemory>
         ensures delivered { OnOk result (self.new ≡ delivered (value_of message) self.old) }
         ensures refused { OnErr result ((self.new ≡ self.old) × (pool.new ≡ pool.old)) }
         ensures before { (m : _) (own : _) (ks : _) → FitsNoneBefore m own ks self.old
             → FitsNoneBefore m own ks self.new }
+        ensures ahead { (s : _) → IsAheadOf s self.old → IsAheadOf s self.new }
         ensures spare { 0 < pool.old → length self.old.messages < 2 ^ 64 - 1 → IsOk result }
     {
         // Its contract says that the mark is within the messages.

@@ -8,13 +8,13 @@ use Rattle.pf_tokens.specs.declared.words.Reserved.{Reserved}
 use Rattle.pf_tokens.specs.TokenKinds.{Placed}
 use Rattle.pf_tokens.specs.TokenKinds as written
 
--- what a token is; a string has no rule yet, so its characters aren't told
+-- what a token is
 pub data NumberedKind : Type 0 where
   integer : ℕ → NumberedKind
   atom : ℕ → NumberedKind
   variable : ℕ → NumberedKind
   anonymous : NumberedKind
-  text : NumberedKind
+  text : List ℕ → NumberedKind
   own_module : NumberedKind
   dot : NumberedKind
   mark : Mark → NumberedKind
@@ -55,7 +55,7 @@ kind_in atoms variables (written.integer n) = integer n
 kind_in atoms variables (written.atom name) = atom (number_in atoms name)
 kind_in atoms variables (written.variable name) = variable (number_in variables name)
 kind_in atoms variables written.anonymous = anonymous
-kind_in atoms variables (written.text cs) = text
+kind_in atoms variables (written.text cs) = text cs
 kind_in atoms variables written.own_module = own_module
 kind_in atoms variables written.dot = dot
 kind_in atoms variables (written.mark m) = mark m

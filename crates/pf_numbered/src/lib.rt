@@ -1,13 +1,10 @@
-//! Tokens with numbers for the names in them, and where tokens go wrong that the grammar has no module for.
+//! Tokens with numbers for the names in them.
 #![tactic(auto)]
 
-mod expression;
 mod limits;
 mod number;
 mod numbered_token;
-mod place;
 
-pub use limits::{MOST_NAME_BYTES, MOST_TREE_DEPTH};
+pub use limits::{MOST_NAME_BYTES, MOST_TEXT_CHARACTERS, MOST_TREE_DEPTH};
 pub use number::number_tokens;
 pub use numbered_token::{NumberedKind, NumberedToken};
-pub use place::fault_place;

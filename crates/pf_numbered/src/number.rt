@@ -9,7 +9,7 @@ ghost use Rattle.pf_numbered.specs.Numbering.{StandsForKind};
 
 use crate::numbered_token::{NumberedKind, NumberedToken};
 use pf_fault::NoMemory;
-use pf_terms::{AtomId, AtomTable};
+use pf_terms::{AtomId, AtomNumbers, AtomTable};
 use pf_tokens::{Kind, Token};
 use std::alloc::Global;
 
@@ -17,7 +17,7 @@ use std::alloc::Global;
 const LIMIT: usize = 4_294_967_295;
 
 /// The number of a name, which stays the name's as the table grows. The table has room for one more, before and after.
-fn number_of(alloc: Global, table: &mut AtomTable, name: &[u8]) -> Result<AtomId, NoMemory>
+fn number_of(alloc: Global, table: &mut AtomNumbers, name: &[u8]) -> Result<AtomId, NoMemory>
     requires { length table.old < 2 ^ 32 }
     ensures number { IfOk result (λ a. (more : List (List ℕ)) → number_in (with_names table.new more) name.now ≡ a.0) }
     ensures names { OnOk result (table.new ≡ with_name table.old name.now) }
@@ -31,12 +31,12 @@ fn number_of(alloc: Global, table: &mut AtomTable, name: &[u8]) -> Result<AtomId
 }
 
 /// A kind of token with a number for its name.
-fn number_kind(
+fn number_kind<'a>(
     alloc: Global,
-    atoms: &mut AtomTable,
-    variables: &mut AtomTable,
-    kind: &Kind,
-) -> Result<NumberedKind, NoMemory>
+    atoms: &mut AtomNumbers,
+    variables: &mut AtomNumbers,
+    kind: &'a Kind,
+) -> Result<NumberedKind<'a>, NoMemory>
     requires atoms { length atoms.old < 2 ^ 32 }
     requires variables { length variables.old < 2 ^ 32 }
     ensures kind { IfOk result (λ s. StandsForKind atoms.new variables.new (kind_of kind.now) s) }
@@ -55,7 +55,7 @@ fn number_kind(
             Ok(NumberedKind::Variable(number))
         }
         Kind::Anonymous => Ok(NumberedKind::Anonymous),
-        Kind::Text(_) => Ok(NumberedKind::Text),
+        Kind::Text(text) => Ok(NumberedKind::Text(text)),
         Kind::Module => Ok(NumberedKind::OwnModule),
         Kind::Dot => Ok(NumberedKind::Dot),
         Kind::Mark(mark) => Ok(NumberedKind::Mark(*mark)),
@@ -74,12 +74,12 @@ fn offset_of(start: usize) -> Result<u32, NoMemory>
 }
 
 /// The tokens with numbers for their names, which enter two fresh tables.
-fn number_all(
+fn number_all<'a>(
     alloc: Global,
-    atoms: &mut AtomTable,
-    variables: &mut AtomTable,
-    tokens: &[Token],
-) -> Result<Vec<NumberedToken>, NoMemory>
+    atoms: &mut AtomNumbers,
+    variables: &mut AtomNumbers,
+    tokens: &'a [Token],
+) -> Result<Vec<NumberedToken<'a>>, NoMemory>
     requires atoms { atoms.old ≡ fixed_names }
     requires variables { variables.old ≡ fixed_names }
     ensures atoms { OnOk result (atoms.new ≡ atoms_of (map placed_of tokens.now)) }
@@ -95,28 +95,28 @@ fn number_all(
 }
 
 /// The tokens with numbers for their names. Those of atoms enter a fresh table, and those of variables one that is dropped here.
-fn number_names(
+fn number_names<'a>(
     alloc: Global,
-    atoms: &mut AtomTable,
-    tokens: &[Token],
-) -> Result<Vec<NumberedToken>, NoMemory>
+    atoms: &mut AtomNumbers,
+    tokens: &'a [Token],
+) -> Result<Vec<NumberedToken<'a>>, NoMemory>
     requires { atoms.old ≡ fixed_names }
     ensures atoms { OnOk result (atoms.new ≡ atoms_of (map placed_of tokens.now)) }
     ensures token_list { IfOk result (λ found. token_list found.items ≡ numbered (map placed_of tokens.now)) }
 {
-    let mut variables = AtomTable::new(alloc)?;
+    let mut variables = AtomNumbers::new(alloc)?;
     number_all(alloc, atoms, &mut variables, tokens)
 }
 
 /// The atoms of the tokens, and the tokens with numbers for their names.
-pub fn number_tokens(
+pub fn number_tokens<'a>(
     alloc: Global,
-    tokens: &[Token],
-) -> Result<(AtomTable, Vec<NumberedToken>), NoMemory>
+    tokens: &'a [Token],
+) -> Result<(AtomTable, Vec<NumberedToken<'a>>), NoMemory>
     ensures atoms { IfOk result (λ x. x.0 ≡ atoms_of (map placed_of tokens.now)) }
     ensures token_list { IfOk result (λ x. token_list x.1.items ≡ numbered (map placed_of tokens.now)) }
 {
-    let mut atoms = AtomTable::new(alloc)?;
+    let mut atoms = AtomNumbers::new(alloc)?;
     let found = number_names(alloc, &mut atoms, tokens)?;
-    Ok((atoms, found))
+    Ok((atoms.into_table(), found))
 }

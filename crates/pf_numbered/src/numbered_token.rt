@@ -3,14 +3,14 @@
 use pf_terms::AtomId;
 use pf_tokens::{Integer, Mark, Reserved};
 
-/// What a token is; a string has no rule yet, so its characters aren't kept.
+/// What a token is. The characters of a string stay where the token has them.
 #[derive(Clone, Copy, Debug, PartialEq, Eq)]
-pub enum NumberedKind {
+pub enum NumberedKind<'a> {
     Integer(Integer),
     Atom(AtomId),
     Variable(AtomId),
     Anonymous,
-    Text,
+    Text(&'a [u8]),
     OwnModule,
     Dot,
     Mark(Mark),
@@ -19,7 +19,7 @@ pub enum NumberedKind {
 
 /// A token, and the offset of its first byte.
 #[derive(Clone, Copy, Debug)]
-pub struct NumberedToken {
-    pub kind: NumberedKind,
+pub struct NumberedToken<'a> {
+    pub kind: NumberedKind<'a>,
     pub at: u32,
 }

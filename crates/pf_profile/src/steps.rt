@@ -9,13 +9,15 @@ use pf_fault::OrNoMemory;
 use pf_terms::{Counted, StreamFault};
 use pf_wire::MOST_BYTES;
 use std::alloc::Global;
+use std::hash::RandomState;
 use std::io::{Read, Write};
 use std::sync::ledger::Ledger;
 
 /// Reads at most 64 MiB, piece by piece, answers each command before it waits for more, and gives the status: 2 where a
-/// line is no command, behind which nothing is done, and else 0.
+/// line is no command, behind which nothing is done, and else 0. The book hashes with these keys, which no answer depends on.
 pub fn run_steps<R: Read, W: Write, L: Ledger, M: Ledger>(
     alloc: Global,
+    keys: RandomState,
     reader: &mut Counted<R, L>,
     writer: &mut Counted<W, M>,
 ) -> Result<u8, OrNoMemory<StreamFault>>
@@ -31,5 +33,5 @@ pub fn run_steps<R: Read, W: Write, L: Ledger, M: Ledger>(
         reader.old.failures.total reader.new.failures.total
         writer.old.failures.total writer.new.failures.total) }
 {
-    pf_wire::run_steps(alloc, reader, writer)
+    pf_wire::run_steps(alloc, keys, reader, writer)
 }

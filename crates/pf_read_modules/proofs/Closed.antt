@@ -1,27 +1,31 @@
 -- Each module that is read is closed.
-use Rattle.std.proofs.Common.{◌≡◌, ℕ, zero, suc, true, List, [], ◌∷◌, Option, Some, None, refl, sym, ap, ◌∙◌, subst, arith, option_map}
-use Rattle.std.specs.Prelude.{slice_get, position}
+use Rattle.std.proofs.Common.{◌≡◌, ℕ, zero, suc, Bool, true, false, ◌==◌, List, [], ◌∷◌, Option, Some, None, flat_map, refl, sym, ap, ◌∙◌, subst, arith, option_map}
+use Rattle.std.specs.Prelude.{◌&&◌, if◌then◌else◌, slice_get, position}
 use Rattle.std.specs.Str.{bytes_eq}
 use Rattle.std.specs.List.{All}
+use Rattle.std.proofs.lemmas.Bool.{eqb-true}
 use Rattle.std.proofs.lemmas.Grind.{common_steps}
 use Rattle.std.proofs.lemmas.List.Elements.{All-nil, All-cons}
 use Rattle.std.proofs.lemmas.List.Quantifiers.{position-Some}
 use Rattle.std.proofs.lemmas.Option.{slice_get-get_or}
-use Rattle.pf_numbered.specs.NumberedTokens.{NumberedToken}
+use Rattle.pf_fault.specs.declared.code.Code.TheVariants.{HeadsDiffer}
+use Rattle.pf_terms.specs.Atoms.{name_of}
 use Rattle.pf_syntax.specs.Tree.{Function, FunctionClause, Program}
 use Rattle.pf_syntax.specs.Module.{Checked}
 use Rattle.pf_syntax.specs.Root.{root_of, root_at}
 use Rattle.pf_syntax.specs.Source.{Head}
-use Rattle.pf_syntax.specs.Naming.{HeadIs}
+use Rattle.pf_syntax.specs.Naming.{Names, HeadIs}
 use Rattle.pf_syntax.specs.WrittenModule.{Tree}
-use Rattle.pf_reader.specs.Grammar.{Names, DerivesFunction, DerivesFunctions, DerivesTree}
-use Rattle.pf_rules.specs.Static.{parameters_of, is_named, own_in, names_of}
+use Rattle.pf_rules.specs.Static.{fault_if, parameters_of, is_named, own_in, unlike_fault, unlike_faults, names_of, faults_of}
 use Rattle.pf_rules.specs.Checks.{Pairwise, FunctionIs, IsModule}
 use Rattle.pf_check.specs.Reads.{Outcome, accepted, refused, Reads, token_fault, no_head, no_tree, static, checked}
 use Rattle.pf_model.specs.Closed.{HasArity, FunctionClauseIsClosed, CodeIsClosed}
 use Rattle.pf_model.proofs.Spawned.{exported_has}
 use Rattle.pf_model.proofs.Closed.{closed_states_stay_closed}
 use Rattle.pf_read_modules.specs.ReadModules.{ReadModulesAreClosed}
+use Rattle.pf_lower.proofs.Exists.{left_empty, right_empty}
+use Rattle.pf_check.proofs.NoFaults.{none_unlike}
+use Rattle.pf_read_modules.proofs.Builtins.{open_takes}
 use Rattle.pf_read_modules.proofs.Closing.{StandRight, head_closes}
 
 -- what stands at a place of a list has its like at the same place of the other
@@ -32,65 +36,81 @@ like R (a ∷ xs) [] i x h e = absurd h
 like R (a ∷ xs) (b ∷ ys) zero x h e = let d : a ≡ x = cc in (b, refl, subst (λ z. R z b) d h.0)
 like R (a ∷ xs) (b ∷ ys) (suc i) x h e = like R xs ys i x h.1 e
 
+-- ---- the clauses of a function take as many arguments as its first
+
+abbrev AsMany : Head → Head → Type 0
+AsMany h x = parameters_of x.parameters ≡ parameters_of h.parameters
+
+as_many : (h x : Head) → unlike_fault h x ≡ [] → AsMany h x
+as_many h x = by (x.name == h.name) (parameters_of x.parameters == parameters_of h.parameters) refl
+  where
+    by : (a b : Bool) → (parameters_of x.parameters == parameters_of h.parameters) ≡ b → (if a && b then [] else fault_if true HeadsDiffer x.offset) ≡ []
+        → AsMany h x
+    by true true e d = eqb-true (parameters_of x.parameters) (parameters_of h.parameters) e
+    by true false e d = cc
+    by false b e d = cc
+
+others_as_many : (h : Head) (hs : List Head) → flat_map (unlike_fault h) hs ≡ [] → All (AsMany h) hs
+others_as_many h [] d = All-nil (AsMany h)
+others_as_many h (x ∷ hs) d =
+    All-cons (AsMany h) x hs (as_many h x (left_empty (unlike_fault h x) (flat_map (unlike_fault h) hs) d))
+    (others_as_many h hs (right_empty (unlike_fault h x) (flat_map (unlike_fault h) hs) d))
+
+same_parameters : (h : Head) (hs : List Head) → unlike_faults (h ∷ hs) ≡ [] → All (AsMany h) (h ∷ hs)
+same_parameters h hs d = All-cons (AsMany h) h hs refl (others_as_many h hs d)
+
 -- a function that is named so has so many parameters
-module _ (m : Tree) (fs : Program) (all : Pairwise (FunctionIs (names_of m.functions) m.exports) m.functions fs) where
-  named_takes : (f k : ℕ) (hs : List Head) (g : Function) → is_named f k hs ≡ true → FunctionIs (names_of m.functions) m.exports hs g
-      → g.arity ≡ k
+module _ (atoms : List (List ℕ)) (m : Tree) (fs : Program) (all : Pairwise (FunctionIs (names_of atoms m.functions) m.exports) m.functions fs) where
+  abbrev names : Names
+  names = names_of atoms m.functions
+
+  named_takes : (f k : ℕ) (hs : List Head) (g : Function) → is_named f k hs ≡ true → FunctionIs names m.exports hs g → g.arity ≡ k
   named_takes f k [] g e h = absurd h
   named_takes f k (x ∷ hs) g e h = let d = h.1 in grind (arith, common_steps)
 
   own_has : (f k i : ℕ) → own_in m.functions f k ≡ Some i → HasArity fs i k
   own_has f k i e =
       let p = position-Some (is_named f k) m.functions i [] e in
-      let r = like (FunctionIs (names_of m.functions) m.exports) m.functions fs i _ all (slice_get-get_or m.functions i [] p.0) in
+      let r = like (FunctionIs names m.exports) m.functions fs i _ all (slice_get-get_or m.functions i [] p.0) in
       ap (option_map (λ g. g.arity)) r.1 ∙ ap (λ j. Some j) (named_takes f k _ r.0 p.1 r.2)
 
-  stand_right : StandRight fs (names_of m.functions)
-  stand_right = record { own = own_has; built_in = λ f k b e. absurd (cc) }
+  stand_right : StandRight fs names
+  stand_right = record { own = own_has; built_in = λ f k b e. open_takes (name_of atoms f) k b e }
 
   -- ---- functions
 
-  -- the clauses of a function take as many arguments as its first
-  same_parameters : (n : Names) (h : Head) (hs : List Head) (ts : List NumberedToken) → DerivesFunction n (h ∷ hs) ts
-      → All (λ x. parameters_of x.parameters ≡ parameters_of h.parameters) (h ∷ hs)
-  same_parameters n h [] ts d =
-      All-cons (λ x. parameters_of x.parameters ≡ parameters_of h.parameters) h [] refl (All-nil (λ x. parameters_of x.parameters ≡ parameters_of h.parameters))
-  same_parameters n h (x ∷ hs) ts d = absurd d
-
-  clauses_closed : (k : ℕ) (hs : List Head) (cs : List FunctionClause) → Pairwise (HeadIs (names_of m.functions)) hs cs
+  clauses_closed : (k : ℕ) (hs : List Head) (cs : List FunctionClause) → Pairwise (HeadIs names) hs cs
       → All (λ x. parameters_of x.parameters ≡ k) hs → All (FunctionClauseIsClosed fs k) cs
   clauses_closed k [] [] h d = All-nil (FunctionClauseIsClosed fs k)
   clauses_closed k [] (c ∷ cs) h d = absurd h
   clauses_closed k (x ∷ hs) [] h d = absurd h
   clauses_closed k (x ∷ hs) (c ∷ cs) h d =
       All-cons (FunctionClauseIsClosed fs k) c cs
-      (subst (λ j. FunctionClauseIsClosed fs j c) (d zero x (omega arith)) (head_closes fs (names_of m.functions) stand_right x c h.0))
+      (subst (λ j. FunctionClauseIsClosed fs j c) (d zero x (omega arith)) (head_closes fs names stand_right x c h.0))
       (clauses_closed k hs cs h.1 (λ i y l. d (suc i) y (omega arith)))
 
   abbrev IsClosedFunction : Function → Type 0
   IsClosedFunction g = All (FunctionClauseIsClosed fs g.arity) g.clauses
 
-  function_closed : (n : Names) (hs : List Head) (g : Function) (ts : List NumberedToken) → FunctionIs (names_of m.functions) m.exports hs g
-      → DerivesFunction n hs ts → IsClosedFunction g
-  function_closed n [] g ts h d = absurd h
-  function_closed n (x ∷ hs) g ts h d =
+  function_closed : (hs : List Head) (g : Function) → FunctionIs names m.exports hs g → unlike_faults hs ≡ [] → IsClosedFunction g
+  function_closed [] g h d = absurd h
+  function_closed (x ∷ hs) g h d =
       subst (λ k. All (FunctionClauseIsClosed fs k) g.clauses) (sym h.1)
-      (clauses_closed (parameters_of x.parameters) (x ∷ hs) g.clauses h.3 (same_parameters n x hs ts d))
+      (clauses_closed (parameters_of x.parameters) (x ∷ hs) g.clauses h.3 (same_parameters x hs d))
 
-  functions_closed : (n : Names) (us : List (List Head)) (gs : List Function) (ts : List NumberedToken)
-      → Pairwise (FunctionIs (names_of m.functions) m.exports) us gs → DerivesFunctions n us ts → All IsClosedFunction gs
-  functions_closed n [] [] ts h d = All-nil IsClosedFunction
-  functions_closed n [] (g ∷ gs) ts h d = absurd h
-  functions_closed n (u ∷ us) [] ts h d = absurd h
-  functions_closed n (u ∷ us) (g ∷ gs) ts h d =
-      All-cons IsClosedFunction g gs (function_closed n u g d.0 h.0 d.3) (functions_closed n us gs d.1 h.1 d.4)
+  functions_closed : (us : List (List Head)) (gs : List Function) → Pairwise (FunctionIs names m.exports) us gs
+      → flat_map unlike_faults us ≡ [] → All IsClosedFunction gs
+  functions_closed [] [] h d = All-nil IsClosedFunction
+  functions_closed [] (g ∷ gs) h d = absurd h
+  functions_closed (u ∷ us) [] h d = absurd h
+  functions_closed (u ∷ us) (g ∷ gs) h d =
+      All-cons IsClosedFunction g gs (function_closed u g h.0 (left_empty (unlike_faults u) (flat_map unlike_faults us) d))
+      (functions_closed us gs h.1 (right_empty (unlike_faults u) (flat_map unlike_faults us) d))
 
 -- ---- modules
 
-module_closed : (atoms : List (List ℕ)) (m : Tree) (c : Checked) (ts : List NumberedToken) → DerivesTree atoms m ts → IsModule atoms m c
-    → CodeIsClosed c.functions
-module_closed atoms m c ts d h =
-    functions_closed m c.functions h.functions (record { atoms = atoms; own = m.name }) m.functions c.functions d.parts.1 h.functions d.parts.4
+module_closed : (atoms : List (List ℕ)) (m : Tree) (c : Checked) → faults_of atoms m ≡ [] → IsModule atoms m c → CodeIsClosed c.functions
+module_closed atoms m c none h = functions_closed atoms m c.functions h.functions m.functions c.functions h.functions (none_unlike atoms m none)
 
 abbrev OutcomeIsClosed : Outcome → Type 0
 OutcomeIsClosed (accepted name atoms functions) = CodeIsClosed functions
@@ -101,7 +121,7 @@ read_is_closed bytes _ (token_fault code at h) = tt
 read_is_closed bytes _ (no_head ts h k) = tt
 read_is_closed bytes _ (no_tree ts at h k l i) = tt
 read_is_closed bytes _ (static ts m f h d i) = tt
-read_is_closed bytes _ (checked ts m c h d f i) = module_closed _ m c _ d i
+read_is_closed bytes _ (checked ts m c h d f i) = module_closed _ m c f i
 
 root_has : (word : List ℕ) (atoms : List (List ℕ)) (functions : Program) (root : ℕ) → root_of word atoms functions ≡ Some root
     → HasArity functions root 0

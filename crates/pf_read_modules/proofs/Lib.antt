@@ -1,4 +1,5 @@
 pub mod Bindings
 pub mod Closing
+pub mod Builtins
 pub mod Closed
 pub mod Quiet

@@ -7,7 +7,7 @@ use Rattle.pf_fault.specs.declared.fault.OrNoMemory.TheVariants.{NoMemory, Fault
 use Rattle.pf_reader.specs.declared.fault.Syntax.{Syntax}
 use Rattle.pf_reader.specs.Given.{Fails, with_front}
 use Rattle.pf_numbered.specs.NumberedTokens.{NumberedKind, NumberedToken}
-use Rattle.pf_reader.specs.Parse.{◌>>=◌, Parse, items, after}
+use Rattle.pf_grammar.specs.Parse.{◌>>=◌, Parse, items, after}
 
 -- a fault of a part is a fault of the whole
 pub fails_as : {X Y : Type 0} (e : OrNoMemory Syntax) (a : Option X) (b : Option Y) → (a ≡ None → b ≡ None) → Fails e a → Fails e b

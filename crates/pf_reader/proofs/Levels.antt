@@ -1,104 +1,83 @@
 -- One step of each level of the reader.
-use Rattle.std.proofs.Common.{◌≡◌, ℕ, zero, suc, ◌-◌, ◌+◌, ◌<◌, List, true, Some, None, refl, ap, ◌∙◌, arith, length}
-use Rattle.pf_tokens.specs.declared.marks.Mark.TheVariants as marks
-use Rattle.pf_tokens.specs.declared.words.Reserved.TheVariants as words
-use Rattle.pf_syntax.specs.Tree.{Operator}
+use Rattle.std.proofs.Common.{◌≡◌, ℕ, zero, suc, ◌-◌, ◌<◌, List, Bool, false, true, Some, None, refl, sym, ap, ◌∙◌, arith, length}
 use Rattle.pf_syntax.specs.WrittenPattern.{WrittenPattern}
 use Rattle.pf_syntax.specs.WrittenExpression as p
-use Rattle.pf_syntax.specs.WrittenExpression.{WrittenExpression, WrittenExpressions, Branches}
-use Rattle.pf_numbered.specs.NumberedTokens.{NumberedToken, mark, reserved}
-use Rattle.pf_reader.specs.Grammar.{Names}
-use Rattle.pf_reader.specs.Parse.{Parse, Clause, after, operator, within, more_step, more, unary, levels, prim, level_at, expr, element, element_step, match_ahead, items, clause, branches_of, case_of}
+use Rattle.pf_syntax.specs.WrittenExpression.{WrittenExpression}
+use Rattle.pf_numbered.specs.NumberedTokens.{NumberedToken}
+use Rattle.pf_grammar.specs.Grammar.{Infix, Names, level_of, right_level, top}
+use Rattle.pf_grammar.specs.Parse.{Parse, infix_ahead, joined, within, more_step, more, unary, level_with, prim, expr, element, element_step, match_ahead, pattern}
 
--- ---- operators
+-- ---- infixes
 
-module _ (level : ℕ) (operand : Parse WrittenExpression) (limit : ℕ) where
-  pub more_stops : (n : ℕ) (left : WrittenExpression) (ts : List NumberedToken) → operator level ts ≡ None → more level operand limit n left ts ≡ Some (left, ts)
+module _ (deeper : ℕ → Parse WrittenExpression) (guard : Bool) (limit level : ℕ) where
+  pub more_stops : (n floor : ℕ) (left : WrittenExpression) (ts : List NumberedToken) → infix_ahead guard floor level ts ≡ None → more deeper guard limit level n floor left ts ≡ Some (left, ts)
   unfolding more
-  more_stops zero left ts e = refl
-  more_stops (suc n) left ts e = ap (more_step operand limit (more level operand limit n) left ts) e
+  more_stops zero floor left ts e = refl
+  more_stops (suc n) floor left ts e = ap (more_step deeper limit (more deeper guard limit level n) left ts) e
 
-  pub more_out : (n : ℕ) (left : WrittenExpression) (ts : List NumberedToken) → n ≡ 0 → more level operand limit n left ts ≡ Some (left, ts)
+  pub more_out : (n floor : ℕ) (left : WrittenExpression) (ts : List NumberedToken) → n ≡ 0 → more deeper guard limit level n floor left ts ≡ Some (left, ts)
   unfolding more
-  more_out n left ts k = rw k refl
+  more_out n floor left ts k = rw k refl
 
-  -- the left operand is seen anew where its source has grown
-  pub more_goes : (n m : ℕ) (left again : WrittenExpression) (ts next rest last : List NumberedToken) (o : Operator) (right x : WrittenExpression) → again ≡ left → n ≡ suc m → operator level ts ≡ Some (o, next)
-      → operand next ≡ Some (right, rest) → within limit (p.binary o again right) rest ≡ Some (x, last) → more level operand limit n left ts ≡ more level operand limit m x last
-  unfolding more
-  more_goes n m left again ts next rest last o right x same k e f w = let v = rw same at w in rw (k, e, f, v) refl
+  -- a turn; the left operand is seen anew where its source has grown
+  module _ (n m floor above : ℕ) (left again node : WrittenExpression) (ts next : List NumberedToken) (i : Infix) (same : again ≡ left) (k : n ≡ suc m) (e : infix_ahead guard floor level ts ≡ Some (i, next)) (up : above ≡ right_level i) where
+    pub more_fails : deeper above next ≡ None → more deeper guard limit level n floor left ts ≡ None
+    unfolding more
+    more_fails f = let d = rw up at f in rw (k, e, d) refl
 
-  pub more_fails : (n m : ℕ) (left : WrittenExpression) (ts next : List NumberedToken) (o : Operator) → n ≡ suc m → operator level ts ≡ Some (o, next) → operand next ≡ None → more level operand limit n left ts ≡ None
-  unfolding more
-  more_fails n m left ts next o k e f = rw (k, e, f) refl
+    module _ (rest : List NumberedToken) (right : WrittenExpression) (f : deeper above next ≡ Some (right, rest)) (j : node ≡ joined i again right) where
+      pub more_goes : (last : List NumberedToken) (x : WrittenExpression) (new_floor : ℕ) → within limit node rest ≡ Some (x, last) → new_floor ≡ level_of i
+          → more deeper guard limit level n floor left ts ≡ more deeper guard limit level m new_floor x last
+      unfolding more
+      more_goes last x new_floor w l =
+          let d = rw up at f in
+          let v = rw (j, same) at w in
+          rw (k, e, d, v, l) refl
 
-  pub more_deep : (n m : ℕ) (left again : WrittenExpression) (ts next rest : List NumberedToken) (o : Operator) (right : WrittenExpression) → again ≡ left → n ≡ suc m → operator level ts ≡ Some (o, next)
-      → operand next ≡ Some (right, rest) → within limit (p.binary o again right) rest ≡ None → more level operand limit n left ts ≡ None
-  unfolding more
-  more_deep n m left again ts next rest o right same k e f w = let v = rw same at w in rw (k, e, f, v) refl
+      pub more_deep : within limit node rest ≡ None → more deeper guard limit level n floor left ts ≡ None
+      unfolding more
+      more_deep w =
+          let d = rw up at f in
+          let v = rw (j, same) at w in
+          rw (k, e, d, v) refl
 
-module _ (n : Names) (limit : ℕ) where
-  pub levels_more : (level lower turns : ℕ) (ts rest : List NumberedToken) (left : WrittenExpression) → level ≡ suc lower → turns ≡ length rest → level_at n limit lower ts ≡ Some (left, rest)
-      → level_at n limit level ts ≡ more (level + 1) (level_at n limit lower) limit turns left rest
-  unfolding levels
-  levels_more level lower turns ts rest left k l e =
-      let up : suc lower + 1 ≡ suc (suc lower) = omega arith in
-      rw (k, up, e, l) refl
+-- ---- expressions
 
-  pub levels_fail : (level lower : ℕ) (ts : List NumberedToken) → level ≡ suc lower → level_at n limit lower ts ≡ None → level_at n limit level ts ≡ None
-  unfolding levels
-  levels_fail level lower ts k e = rw (k, e) refl
+module _ (n : Names) (guard : Bool) where
+  pub expr_zero : (limit level : ℕ) (ts : List NumberedToken) → limit ≡ 0 → expr n guard limit level ts ≡ None
+  unfolding expr
+  expr_zero limit level ts k = rw k refl
 
-  levels_zero : (level : ℕ) (ts : List NumberedToken) → level ≡ 0 → level_at n limit level ts ≡ unary (prim n limit) limit ts
-  unfolding levels
-  levels_zero level ts k = rw k refl
+  expr_is : (limit level : ℕ) (ts : List NumberedToken) → 0 < limit → expr n guard limit level ts ≡ level_with (prim n guard limit) (expr n guard (limit - 1)) guard limit level ts
+  unfolding expr
+  expr_is zero level ts lt = absurd (omega arith)
+  expr_is (suc d) level ts lt = let e : suc d - 1 ≡ d = omega arith in rw e refl
 
-  -- ---- a minus
+  pub expr_fails : (limit level : ℕ) (ts : List NumberedToken) → 0 < limit → unary (prim n guard limit) limit ts ≡ None → expr n guard limit level ts ≡ None
+  expr_fails limit level ts lt e = expr_is limit level ts lt ∙ rw e refl
 
-  pub unary_plain : (level : ℕ) (ts : List NumberedToken) → level ≡ 0 → after (mark marks.Minus) ts ≡ None → level_at n limit level ts ≡ prim n limit ts
-  unary_plain level ts k a = levels_zero level ts k ∙ rw a refl
+  pub expr_more : (limit level turns : ℕ) (ts rest : List NumberedToken) (left : WrittenExpression) → 0 < limit → turns ≡ length rest → unary (prim n guard limit) limit ts ≡ Some (left, rest)
+      → expr n guard limit level ts ≡ more (expr n guard (limit - 1)) guard limit level turns 1 left rest
+  expr_more limit level turns ts rest left lt l e = expr_is limit level ts lt ∙ rw (e, l) refl
 
-  pub unary_fails : (level : ℕ) (ts next : List NumberedToken) → level ≡ 0 → after (mark marks.Minus) ts ≡ Some next → prim n limit next ≡ None → level_at n limit level ts ≡ None
-  unary_fails level ts next k a e = levels_zero level ts k ∙ rw (a, e) refl
-
-  pub unary_minus : (level : ℕ) (ts next rest : List NumberedToken) (e : WrittenExpression) → level ≡ 0 → after (mark marks.Minus) ts ≡ Some next → prim n limit next ≡ Some (e, rest)
-      → level_at n limit level ts ≡ within limit (p.negate e) rest
-  unary_minus level ts next rest e k a f = levels_zero level ts k ∙ rw (a, f) refl
-
--- ---- expressions and elements
-
-pub expr_zero : (n : Names) (limit : ℕ) (ts : List NumberedToken) → limit ≡ 0 → expr n limit ts ≡ None
-unfolding expr
-expr_zero n limit ts k = rw k refl
-
-pub expr_is : (n : Names) (limit : ℕ) (ts : List NumberedToken) → 0 < limit → expr n limit ts ≡ level_at n limit 2 ts
-unfolding expr
-expr_is n zero ts lt = absurd (omega arith)
-expr_is n (suc d) ts lt = let e : suc d - 1 ≡ d = omega arith in rw e refl
+-- ---- elements
 
 pub element_zero : (n : Names) (limit : ℕ) (ts : List NumberedToken) → limit ≡ 0 → element n limit ts ≡ None
 unfolding element
 element_zero n limit ts k = rw k refl
 
-element_is : (n : Names) (limit : ℕ) (ts : List NumberedToken) → 0 < limit → element n limit ts ≡ element_step (expr n limit) (element n (limit - 1)) limit ts (match_ahead n ts)
+element_is : (n : Names) (limit : ℕ) (ts : List NumberedToken) → 0 < limit → element n limit ts ≡ element_step (expr n false limit top) (element n (limit - 1)) limit ts (match_ahead (pattern n (limit - 1)) ts)
 unfolding element expr
 element_is n zero ts lt = absurd (omega arith)
 element_is n (suc d) ts lt = let e : suc d - 1 ≡ d = omega arith in rw e refl
 
-pub element_plain : (n : Names) (limit : ℕ) (ts : List NumberedToken) → 0 < limit → match_ahead n ts ≡ None → element n limit ts ≡ expr n limit ts
+pub element_plain : (n : Names) (limit : ℕ) (ts : List NumberedToken) → 0 < limit → match_ahead (pattern n (limit - 1)) ts ≡ None → element n limit ts ≡ expr n false limit top ts
 element_plain n limit ts lt m = element_is n limit ts lt ∙ rw m refl
 
-pub element_fails : (n : Names) (limit : ℕ) (ts next : List NumberedToken) (q : WrittenPattern) → 0 < limit → match_ahead n ts ≡ Some (q, next) → element n (limit - 1) next ≡ None → element n limit ts ≡ None
+pub element_fails : (n : Names) (limit : ℕ) (ts next : List NumberedToken) (q : WrittenPattern) → 0 < limit → match_ahead (pattern n (limit - 1)) ts ≡ Some (q, next) → element n (limit - 1) next ≡ None → element n limit ts ≡ None
 element_fails n limit ts next q lt m e = element_is n limit ts lt ∙ rw (m, e) refl
 
 -- the pattern is seen anew where its source has grown
-pub element_match : (n : Names) (limit : ℕ) (ts next rest : List NumberedToken) (q again : WrittenPattern) (e : WrittenExpression) → again ≡ q → 0 < limit → match_ahead n ts ≡ Some (q, next) → element n (limit - 1) next ≡ Some (e, rest)
+pub element_match : (n : Names) (limit : ℕ) (ts next rest : List NumberedToken) (q again : WrittenPattern) (e : WrittenExpression) → again ≡ q → 0 < limit → match_ahead (pattern n (limit - 1)) ts ≡ Some (q, next) → element n (limit - 1) next ≡ Some (e, rest)
     → element n limit ts ≡ within limit (p.match again e) rest
 element_match n limit ts next rest q again e same lt m f = element_is n limit ts lt ∙ rw (m, f, same) refl
-
--- ---- `case`
-
-pub case_is : (n : Names) (inner item : Parse WrittenExpression) (ts r1 r2 r3 r4 : List NumberedToken) (e again : WrittenExpression) (cs : List Clause) (bs : Branches) → again ≡ e → bs ≡ branches_of cs → inner ts ≡ Some (e, r1)
-    → after (reserved words.Of) r1 ≡ Some r2 → items (mark marks.Semicolon) (clause n item) (length r2) r2 ≡ Some (cs, r3) → after (reserved words.End) r3 ≡ Some r4
-    → case_of n inner item true ts ≡ Some (p.case again bs, r4)
-case_is n inner item ts r1 r2 r3 r4 e again cs bs same row f g h k = rw (f, g, h, k, same, row) refl

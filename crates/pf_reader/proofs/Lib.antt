@@ -1,15 +1,8 @@
-pub mod Single
-pub mod Lists
-pub mod Patterns
-pub mod Groups
-pub mod Sound
-pub mod Stops
-pub mod Complete
-pub mod Forms
-pub mod Whole
 pub mod Growth
 pub mod Items
 pub mod Kept
 pub mod Levels
+pub mod Parts
+pub mod Patterns
 pub mod Turns
 pub mod Head

@@ -1,107 +1,96 @@
--- Patterns: what is read derives what it took, and each pattern is read whatever follows.
-use Rattle.std.proofs.Common.{◌≡◌, ◌⊎◌, ℕ, ◌≤◌, List, [], ◌∷◌, ◌++◌, Bool, true, false, Option, Some, None, refl, ap, ◌∙◌, arith, inl, inr}
-use Rattle.std.specs.Prelude.{ℤ, pos, neg_ℤ, nat_eq}
+-- Patterns, a step at a time.
+use Rattle.std.proofs.Common.{◌≡◌, ℕ, zero, suc, ◌-◌, ◌<◌, List, [], ◌∷◌, Bool, true, false, Option, Some, None, refl, sym, ap, ◌∙◌, arith, length}
+use Rattle.std.specs.Prelude.{if◌then◌else◌, nat_le, not, option_map, pos}
+use Rattle.std.specs.Option.{is_some}
+use Rattle.pf_terms.specs.Atoms.{name_of}
+use Rattle.pf_tokens.specs.declared.marks.Mark.{Mark}
 use Rattle.pf_tokens.specs.declared.marks.Mark.TheVariants as marks
 use Rattle.pf_syntax.specs.WrittenPattern as s
-use Rattle.pf_syntax.specs.WrittenPattern.{WrittenPattern, WrittenPatterns, no_written_patterns, written_pattern, written_pattern_depth, written_patterns_depth}
+use Rattle.pf_syntax.specs.WrittenPattern.{WrittenPattern, WrittenPatterns}
+use Rattle.pf_numbered.specs.declared.limits.TheConstants.{MOST_NAME_BYTES}
+use Rattle.pf_numbered.specs.declared.numbered_token.NumberedKind.{NumberedKind as CodeNumberedKind}
+use Rattle.pf_numbered.specs.declared.numbered_token.NumberedKind.TheVariants as kinds
+use Rattle.pf_numbered.specs.View.{kind_of}
 use Rattle.pf_numbered.specs.NumberedTokens.{NumberedKind, integer, atom, variable, anonymous, text, own_module, dot, mark, reserved, NumberedToken}
-use Rattle.pf_reader.specs.Grammar.{Names, IsAtom, IsOne, Behind, DerivesWrittenPattern, DerivesWrittenPatterns}
-use Rattle.pf_reader.specs.Parse.{mark_code, atom_in, number, written_patterns_of, atom_written_pattern, negative, written_pattern_kind, pattern}
-use Rattle.pf_reader.proofs.Single.{bind_some, same_mark, atom_in_some, atom_in_is, atom_no_mark, number_some}
-use Rattle.pf_reader.proofs.Lists.{Took, SoundFor, took_is, Separated, Opens}
+use Rattle.pf_grammar.specs.Grammar.{Names}
+use Rattle.pf_grammar.specs.Parse.{Parse, after, atom_written_pattern, is_short, items, list_written_pattern, marked_written_pattern, match_ahead, pattern, pattern_with, until, written_pattern_kind, written_patterns_of}
 
--- ---- what is read
+pub pattern_zero : (n : Names) (limit : ℕ) (ts : List NumberedToken) → limit ≡ 0 → pattern n limit ts ≡ None
+unfolding pattern
+pattern_zero n limit ts k = rw k refl
 
-atom_written_pattern_sound : (n : Names) (t : NumberedToken) (ts : List NumberedToken) (o : Option ℕ) → ((a : ℕ) → o ≡ Some a → IsAtom n a t) → (x : WrittenPattern × List NumberedToken) → atom_written_pattern o ts ≡ Some x → Took (DerivesWrittenPattern n x.0) (t ∷ ts) x.1
-atom_written_pattern_sound n t ts None h x e = absurd cc
-atom_written_pattern_sound n t ts (Some a) h x e = took_is (DerivesWrittenPattern n) (t ∷ ts) (s.atom a, ts) x e (record { front = t ∷ []; parts = refl; holds = (t, h a refl, refl) })
+pub pattern_is : (n : Names) (limit : ℕ) (ts : List NumberedToken) → 0 < limit → pattern n limit ts ≡ pattern_with n (pattern n (limit - 1)) ts
+unfolding pattern
+pattern_is n zero ts lt = absurd (omega arith)
+pattern_is n (suc d) ts lt = let e : suc d - 1 ≡ d = omega arith in rw e refl
 
-negative_sound : (n : Names) (t : NumberedToken) (ts : List NumberedToken) (b : Bool) → (b ≡ true → t.kind ≡ mark marks.Minus) → (x : WrittenPattern × List NumberedToken) → negative b ts ≡ Some x → Took (DerivesWrittenPattern n x.0) (t ∷ ts) x.1
-negative_sound n t ts false h x e = absurd cc
-negative_sound n t ts true h x e =
-    let b = bind_some (number ts) (λ k. Some (s.integer (neg_ℤ (pos k.0)), k.1)) x e in
-    let k = number_some ts b.0 b.1 in
-    took_is (DerivesWrittenPattern n) (t ∷ ts) (s.integer (neg_ℤ (pos b.0.0)), b.0.1) x b.2
-    (record { front = t ∷ k.0 ∷ []; parts = ap (λ (l : List NumberedToken). t ∷ l) k.2; holds = (b.0.0, inr (refl, (t, k.0 ∷ [], h refl, refl, (k.0, k.1, refl)))) })
+-- ---- lists
 
-written_pattern_kind_sound : (n : Names) (t : NumberedToken) (ts : List NumberedToken) (kind : NumberedKind) → t.kind ≡ kind → (x : WrittenPattern × List NumberedToken) → written_pattern_kind n kind t.at ts ≡ Some x → Took (DerivesWrittenPattern n x.0) (t ∷ ts) x.1
-written_pattern_kind_sound n t ts (integer k) h x e = took_is (DerivesWrittenPattern n) (t ∷ ts) (s.integer (pos k), ts) x e (record { front = t ∷ []; parts = refl; holds = (k, inl (refl, (t, h, refl))) })
-written_pattern_kind_sound n t ts (variable y) h x e = took_is (DerivesWrittenPattern n) (t ∷ ts) (s.variable y t.at, ts) x e (record { front = t ∷ []; parts = refl; holds = (t, h, refl, refl) })
-written_pattern_kind_sound n t ts anonymous h x e = took_is (DerivesWrittenPattern n) (t ∷ ts) (s.anything, ts) x e (record { front = t ∷ []; parts = refl; holds = (t, h, refl) })
-written_pattern_kind_sound n t ts (mark m) h x e = negative_sound n t ts (nat_eq (mark_code m) (mark_code marks.Minus)) (λ f. h ∙ ap mark (same_mark m marks.Minus f)) x e
-written_pattern_kind_sound n t ts (atom a) h x e = atom_written_pattern_sound n t ts (atom_in n (atom a)) (λ b f. atom_in_some n (atom a) t b h f) x e
-written_pattern_kind_sound n t ts own_module h x e = atom_written_pattern_sound n t ts (atom_in n own_module) (λ b f. atom_in_some n own_module t b h f) x e
-written_pattern_kind_sound n t ts text h x e = absurd cc
-written_pattern_kind_sound n t ts dot h x e = absurd cc
-written_pattern_kind_sound n t ts (reserved r) h x e = absurd cc
+module _ (inner : Parse WrittenPattern) (ts r1 r2 : List NumberedToken) (qs : List WrittenPattern) (all : WrittenPatterns) (row : all ≡ written_patterns_of qs)
+    (none : after (mark marks.CloseBracket) ts ≡ None) (read : items (mark marks.Comma) inner (length ts) ts ≡ Some (qs, r1)) where
+  pub pattern_list : after (mark marks.Bar) r1 ≡ None → after (mark marks.CloseBracket) r1 ≡ Some r2 → list_written_pattern inner ts ≡ Some (s.list all, r2)
+  pattern_list b c = rw (none, read, b, c, row) refl
 
-pub pattern_sound : (n : Names) → SoundFor (pattern n) (DerivesWrittenPattern n)
-pattern_sound n [] x e = absurd cc
-pattern_sound n (t ∷ ts) x e = written_pattern_kind_sound n t ts t.kind refl x e
+  pub pattern_list_on : (r3 r4 : List NumberedToken) (q : WrittenPattern) → after (mark marks.Bar) r1 ≡ Some r2 → inner r2 ≡ Some (q, r3) → after (mark marks.CloseBracket) r3 ≡ Some r4
+      → list_written_pattern inner ts ≡ Some (s.list_on all q, r4)
+  pattern_list_on r3 r4 q b i c = rw (none, read, b, i, c, row) refl
 
--- ---- what derives
+pub pattern_tuple : (inner : Parse WrittenPattern) (first : Mark) (ts rest : List NumberedToken) (qs : List WrittenPattern) (all : WrittenPatterns) → first ≡ marks.OpenBrace → all ≡ written_patterns_of qs → until (mark marks.CloseBrace) inner ts ≡ Some (qs, rest)
+    → marked_written_pattern inner first ts ≡ Some (s.tuple all, rest)
+pattern_tuple inner first ts rest qs all f row read = rw (f, read, row) refl
 
-pub pattern_atom : (n : Names) (a : ℕ) (t : NumberedToken) (ts : List NumberedToken) → IsAtom n a t → pattern n (t ∷ ts) ≡ Some (s.atom a, ts)
-pattern_atom n a t ts (inl h) = let e = h.0 in let i = atom_in_is n a t (inl h) in let j : atom_in n (atom a) ≡ Some a = rw e at i in rw (e, j) refl
-pattern_atom n a t ts (inr h) = let e = h.0 in let own = h.1 in rw (e, own) refl
+-- ---- no match begins
 
-integer_complete : (n : Names) (z : ℤ) (front rest : List NumberedToken) (k : ℕ) → ((z ≡ pos k) × IsOne (integer k) front) ⊎ ((z ≡ neg_ℤ (pos k)) × Behind (mark marks.Minus) (IsOne (integer k)) front) → pattern n (front ++ rest) ≡ Some (s.integer z, rest)
-integer_complete n z front rest k (inl h) = let e = h.0 in let i = h.1 in let kind = i.1 in let w = i.2 in rw (w, kind, e) refl
-integer_complete n z front rest k (inr h) =
-    let e = h.0 in
-    let b = h.1 in
-    let minus = b.2 in
-    let w = b.3 in
-    let i = b.4 in
-    let kind = i.1 in
-    let v = i.2 in
-    rw (w, v, minus, kind, e) refl
+-- what a pattern before `=` is, where what is read first is known
+abbrev follows : Option (WrittenPattern × List NumberedToken) → Option (WrittenPattern × List NumberedToken)
+follows o = match_ahead (λ ts. o) []
 
-pub pattern_complete : (n : Names) (q : WrittenPattern) (front rest : List NumberedToken) → DerivesWrittenPattern n q front → pattern n (front ++ rest) ≡ Some (q, rest)
-pattern_complete n (s.integer z) front rest h = integer_complete n z front rest h.0 h.1
-pattern_complete n (s.atom a) front rest h = let w = h.2 in rw w (pattern_atom n a h.0 rest h.1)
-pattern_complete n (s.variable x at) front rest h = let e = h.1 in let place = h.2 in let w = h.3 in rw (w, e, place) refl
-pattern_complete n s.anything front rest h = let e = h.1 in let w = h.2 in rw (w, e) refl
-pattern_complete n _ front rest h = absurd h
+-- no `=` stands behind a pattern of one token
+module _ (ts : List NumberedToken) (e : after (mark marks.Match) ts ≡ None) where
+  of_one : (q : WrittenPattern) → follows (Some (q, ts)) ≡ None
+  of_one q = rw e refl
 
-integer_opens : (z : ℤ) (front : List NumberedToken) (k : ℕ) → ((z ≡ pos k) × IsOne (integer k) front) ⊎ ((z ≡ neg_ℤ (pos k)) × Behind (mark marks.Minus) (IsOne (integer k)) front) → Opens (mark marks.CloseParenthesis) front
-integer_opens z front k (inl h) = let i = h.1 in let e = i.1 in record { first = i.0; others = []; whole = i.2; differs = rw e refl }
-integer_opens z front k (inr h) = let b = h.1 in let e = b.2 in record { first = b.0; others = b.1; whole = b.3; differs = rw e refl }
+  of_text : (q : WrittenPattern) (b : Bool) → follows (if b then Some (q, ts) else None) ≡ None
+  of_text q true = of_one q
+  of_text q false = refl
 
-pub written_pattern_opens : (n : Names) (q : WrittenPattern) (front : List NumberedToken) → DerivesWrittenPattern n q front → Opens (mark marks.CloseParenthesis) front
-written_pattern_opens n (s.integer z) front h = integer_opens z front h.0 h.1
-written_pattern_opens n (s.atom a) front h = record { first = h.0; others = []; whole = h.2; differs = atom_no_mark n a h.0 marks.CloseParenthesis h.1 }
-written_pattern_opens n (s.variable x at) front h = let e = h.1 in record { first = h.0; others = []; whole = h.3; differs = rw e refl }
-written_pattern_opens n s.anything front h = let e = h.1 in record { first = h.0; others = []; whole = h.2; differs = rw e refl }
-written_pattern_opens n _ front h = absurd h
+  of_atom : (a : ℕ) (b : Bool) → follows (atom_written_pattern (if b then Some a else None) ts) ≡ None
+  of_atom a true = of_one (s.atom a)
+  of_atom a false = refl
 
-pub written_pattern_shallow : (n : Names) (q : WrittenPattern) (front : List NumberedToken) → DerivesWrittenPattern n q front → written_pattern_depth q ≤ 1
-written_pattern_shallow n (s.integer z) front h = omega arith
-written_pattern_shallow n (s.atom a) front h = omega arith
-written_pattern_shallow n (s.variable x at) front h = omega arith
-written_pattern_shallow n s.anything front h = omega arith
-written_pattern_shallow n _ front h = absurd h
+  of_kind : (n : Names) (inner : Parse WrittenPattern) (k : NumberedKind) (at : ℕ) → ((m : Mark) → k ≡ mark m → ⊥) → follows (written_pattern_kind n inner k at ts) ≡ None
+  of_kind n inner (integer k) at h = of_one (s.integer (pos k))
+  of_kind n inner (atom a) at h = of_atom a (nat_le (length (name_of n.atoms a)) MOST_NAME_BYTES)
+  of_kind n inner (variable x) at h = of_one (s.variable x at)
+  of_kind n inner anonymous at h = of_one s.anything
+  of_kind n inner (text cs) at h = of_text (s.text cs) (is_short cs)
+  of_kind n inner own_module at h = of_one (s.atom n.own)
+  of_kind n inner dot at h = refl
+  of_kind n inner (mark m) at h = absurd (h m refl)
+  of_kind n inner (reserved r) at h = refl
 
--- ---- patterns with commas
+  pub no_match : (n : Names) (limit : ℕ) (t : NumberedToken) → ((m : Mark) → t.kind ≡ mark m → ⊥) → match_ahead (pattern n limit) (t ∷ ts) ≡ None
+  unfolding pattern
+  no_match n zero t h = refl
+  no_match n (suc d) t h = of_kind n (pattern n d) t.kind t.at h
 
-pub written_pattern_list : WrittenPatterns → List WrittenPattern
-written_pattern_list no_written_patterns = []
-written_pattern_list (written_pattern q qs) = q ∷ written_pattern_list qs
+pub no_match_in_none : (n : Names) (limit : ℕ) → match_ahead (pattern n limit) [] ≡ None
+unfolding pattern
+no_match_in_none n zero = refl
+no_match_in_none n (suc d) = refl
 
-pub written_patterns_back : (qs : WrittenPatterns) → written_patterns_of (written_pattern_list qs) ≡ qs
-unfolding written_pattern_list
-written_patterns_back no_written_patterns = refl
-written_patterns_back (written_pattern q qs) = ap (written_pattern q) (written_patterns_back qs)
+pub not_mark : (k : CodeNumberedKind) → ((x : Mark) → k ≡ kinds.Mark x → ⊥) → (m : Mark) → kind_of k ≡ mark m → ⊥
+not_mark (kinds.Mark x) h m e = h x refl
+not_mark (kinds.Integer v) h m e = absurd (cc)
+not_mark (kinds.Atom a) h m e = absurd (cc)
+not_mark (kinds.Variable x) h m e = absurd (cc)
+not_mark kinds.Anonymous h m e = absurd (cc)
+not_mark (kinds.Text cs) h m e = absurd (cc)
+not_mark kinds.OwnModule h m e = absurd (cc)
+not_mark kinds.Dot h m e = absurd (cc)
+not_mark (kinds.Reserved r) h m e = absurd (cc)
 
-pub written_patterns_from : (n : Names) (qs : List WrittenPattern) (ts : List NumberedToken) → Separated (mark marks.Comma) (DerivesWrittenPattern n) qs ts → DerivesWrittenPatterns n (written_patterns_of qs) ts × (written_patterns_depth (written_patterns_of qs) ≤ 1)
-written_patterns_from n [] ts h = (h, omega arith)
-written_patterns_from n (q ∷ []) ts h = (h, omega (arith, written_pattern_shallow n q ts h))
-written_patterns_from n (q ∷ r ∷ qs) ts h =
-    let more = written_patterns_from n (r ∷ qs) h.2 h.6 in
-    ((h.0, h.1, h.2, h.3, h.4, h.5, more.0), omega (arith, written_pattern_shallow n q h.0 h.5, more.1))
-
-pub written_patterns_to : (n : Names) (qs : WrittenPatterns) (ts : List NumberedToken) → DerivesWrittenPatterns n qs ts → Separated (mark marks.Comma) (DerivesWrittenPattern n) (written_pattern_list qs) ts
-unfolding written_pattern_list
-written_patterns_to n no_written_patterns ts h = h
-written_patterns_to n (written_pattern q no_written_patterns) ts h = h
-written_patterns_to n (written_pattern q (written_pattern r qs)) ts h = (h.0, h.1, h.2, h.3, h.4, h.5, written_patterns_to n (written_pattern r qs) h.2 h.6)
+-- what is none as the code sees it
+pub is_none_is : {X Y : Type 0} (f : X → Y) (o : Option X) (a : Option Y) (r : Bool) → option_map f o ≡ a → is_some o ≡ not r → r ≡ true → a ≡ None
+is_none_is f None a r e s h = sym e
+is_none_is f (Some x) a r e s h = absurd (cc)

@@ -1,10 +1,11 @@
 -- How what the code answers stands to what reading gives.
 use Rattle.std.specs.Prelude.{◌≡◌, Option, Some, None, Result, Ok, Err}
 use Rattle.std.specs.Prelude.{List, map, ◌++◌}
-use Rattle.pf_syntax.specs.SourceOver.{condition_over, BranchStands}
+use Rattle.std.specs.List.{All}
+use Rattle.pf_syntax.specs.SourceOver.{condition_over, ConditionStands, WrittenExpressionStands, WrittenPatternStands}
 use Rattle.pf_syntax.specs.declared.written.Branch.{Branch}
-use Rattle.pf_reader.specs.Grammar.{unguarded}
-use Rattle.pf_reader.specs.Parse.{◌>>=◌, Clause}
+use Rattle.pf_syntax.specs.declared.written.Tests.{Tests}
+use Rattle.pf_grammar.specs.Parse.{◌>>=◌, Clause, Front}
 use Rattle.pf_syntax.proofs.NodeTableExtends.{GoesOn}
 use Rattle.pf_syntax.specs.WrittenPattern.{WrittenPattern}
 use Rattle.pf_syntax.specs.WrittenExpression.{WrittenExpression}
@@ -12,7 +13,8 @@ use Rattle.pf_syntax.specs.Source.{NodeTable, Written, written_pattern_at, writt
 use Rattle.pf_syntax.specs.declared.written.WrittenPatternId.{WrittenPatternId}
 use Rattle.pf_syntax.specs.declared.written.WrittenExpressionId.{WrittenExpressionId}
 use Rattle.pf_numbered.specs.NumberedTokens.{NumberedToken}
-use Rattle.pf_numbered.specs.View.{token_list}
+use Rattle.pf_reader.specs.View.{tokens_in}
+use Rattle.pf_reader.specs.declared.part.FrontPart.{FrontPart}
 use Rattle.pf_reader.specs.declared.part.Part.{Part}
 use Rattle.pf_reader.specs.declared.part.WrittenPatternPart.{WrittenPatternPart}
 use Rattle.pf_fault.specs.declared.fault.OrNoMemory.{OrNoMemory}
@@ -47,21 +49,31 @@ written_pattern_of b q = written_pattern_at b q.0
 
 -- an expression that was read, and the tokens after it
 abbrev pub seen : NodeTable → Part → WrittenExpression × List NumberedToken
-seen b p = (written_expression_at b p.written_expression.0, token_list p.rest.now)
+seen b p = (written_expression_at b p.written_expression.0, tokens_in p.rest)
 
 -- a pattern that was read, and the tokens after it
 abbrev pub seen_written_pattern : NodeTable → WrittenPatternPart → WrittenPattern × List NumberedToken
-seen_written_pattern b p = (written_pattern_at b p.written_pattern.0, token_list p.rest.now)
+seen_written_pattern b p = (written_pattern_at b p.written_pattern.0, tokens_in p.rest)
 
--- ---- clauses
+-- ---- guards and clauses
 
--- a clause of a `case`, over its parts; it has no guard
+-- the tests of an alternative of a guard
+abbrev pub tests_seen : NodeTable → Tests → List WrittenExpression
+tests_seen b g = map (written_expression_of b) g.tests.items
+
+abbrev pub TestsStand : NodeTable → Tests → Type 0
+TestsStand b g = All (WrittenExpressionStands b) g.tests.items
+
+-- what stands before the arrow of a clause, and the tokens after it
+abbrev pub front_seen : NodeTable → FrontPart → Front × List NumberedToken
+front_seen b f = ((written_pattern_at b f.written_pattern.0, condition_over b f.condition), tokens_in f.rest)
+
+abbrev pub FrontStands : NodeTable → FrontPart → Type 0
+FrontStands b f = WrittenPatternStands b f.written_pattern × ConditionStands b f.condition
+
+-- a clause, over its parts
 abbrev pub clause_of : NodeTable → Branch → Clause
-clause_of b c = (written_pattern_at b c.written_pattern.0, map (written_expression_of b) c.body.items)
-
--- the parts of a clause are in the table of nodes, and it has no guard
-abbrev pub ClauseStands : NodeTable → Branch → Type 0
-ClauseStands b c = BranchStands b c × (condition_over b c.condition ≡ unguarded)
+clause_of b c = ((written_pattern_at b c.written_pattern.0, condition_over b c.condition), map (written_expression_of b) c.body.items)
 
 -- ---- what stands before what is read
 

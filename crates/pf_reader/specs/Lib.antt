@@ -1,5 +1,3 @@
-pub mod Grammar
-pub mod Parse
 pub mod ListItems
 pub mod View
 pub mod Given

@@ -8,7 +8,7 @@ use Rattle.pf_fault.specs.declared.refusal.Refusal.{Refusal}
 use Rattle.pf_reader.specs.declared.read.ReadModule.{ReadModule}
 use Rattle.pf_numbered.specs.NumberedTokens.{NumberedToken}
 use Rattle.pf_numbered.specs.Places.{IsPlaceOf}
-use Rattle.pf_reader.specs.Grammar.{tree_of, DerivesTree, HasHead, Tree}
+use Rattle.pf_grammar.specs.Grammar.{tree_of, DerivesTree, HasHead, Tree}
 
 -- the outcome is this module, unless memory ran out
 abbrev pub IsReadAs : Tree → Result ReadModule (OrNoMemory Refusal) → Type 0

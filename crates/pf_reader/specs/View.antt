@@ -1,6 +1,13 @@
--- What the names that the code passes on stand for.
+-- What the names and the tokens that the code passes on stand for.
+use Rattle.std.specs.Prelude.{List}
 use Rattle.pf_reader.specs.declared.token.Context.{Context}
-use Rattle.pf_reader.specs.Grammar.{Names}
+use Rattle.pf_reader.specs.declared.token.Tokens.{Tokens}
+use Rattle.pf_grammar.specs.Grammar.{Names}
+use Rattle.pf_numbered.specs.NumberedTokens.{NumberedToken}
+use Rattle.pf_numbered.specs.View.{token_list}
 
 abbrev pub names_of : Context → Names
 names_of c = record { atoms = c.atoms.now; own = c.own.0 }
+
+abbrev pub tokens_in : Tokens → List NumberedToken
+tokens_in ts = token_list ts.list.now

@@ -4,26 +4,25 @@ ghost use Rattle.std.specs.Prelude.{◌≡◌, ◌++◌, length, map, OnOk};
 ghost use Rattle.pf_syntax.specs.SourceOver.{export_of};
 ghost use Rattle.pf_tokens.specs.declared.marks.Mark.TheVariants.{CloseBracket, Comma};
 ghost use Rattle.pf_numbered.specs.NumberedTokens.{mark};
-ghost use Rattle.pf_reader.specs.Parse.{entry, export, exports, items, until};
-ghost use Rattle.pf_numbered.specs.View.{token_list};
-ghost use Rattle.pf_reader.specs.View.{names_of};
+ghost use Rattle.pf_grammar.specs.Parse.{entry, export, exports, items, until};
+ghost use Rattle.pf_reader.specs.View.{names_of, tokens_in};
 ghost use Rattle.pf_reader.specs.Given.{with_front, Gives};
 
 use crate::fault::{ReadFault, Syntax};
-use crate::token::{Context, behind, read_name, read_number, skip, skip_word};
+use crate::token::{Context, Tokens, behind, read_name, read_number, skip, skip_word};
 use pf_fault::OrNoMemory;
-use pf_numbered::{NumberedKind, NumberedToken};
+use pf_numbered::NumberedKind;
 use pf_syntax::{Export, Source};
 use pf_terms::NoMemory;
 use pf_tokens::Mark;
 use std::alloc::Global;
 
 /// An entry: a name, a slash and a number of arguments.
-fn read_entry<'a>(
+fn read_entry<'a, 't>(
     context: Context,
-    tokens: &'a [NumberedToken],
-) -> Result<(Export, &'a [NumberedToken]), ReadFault>
-    ensures { Gives (λ x. (export_of x.0, token_list x.1.now)) result (entry (names_of context.entry) (token_list tokens.now)) }
+    tokens: Tokens<'a, 't>,
+) -> Result<(Export, Tokens<'a, 't>), ReadFault>
+    ensures { Gives (λ x. (export_of x.0, tokens_in x.1)) result (entry (names_of context.entry) (tokens_in tokens.entry)) }
 {
     let (word, rest) = read_name(context, tokens)?;
     let rest = behind(rest, NumberedKind::Mark(Mark::Slash))?;
@@ -40,16 +39,16 @@ fn read_entry<'a>(
 }
 
 /// Entries with commas between them.
-fn read_entries<'a>(
+fn read_entries<'a, 't>(
     alloc: Global,
     context: Context,
-    tokens: &'a [NumberedToken],
-) -> Result<(Vec<Export>, &'a [NumberedToken]), ReadFault>
-    ensures { Gives (λ x. (map export_of x.0.items, token_list x.1.now)) result (items (mark Comma) (entry (names_of context.entry)) (length (token_list tokens.now)) (token_list tokens.now)) }
+    tokens: Tokens<'a, 't>,
+) -> Result<(Vec<Export>, Tokens<'a, 't>), ReadFault>
+    ensures { Gives (λ x. (map export_of x.0.items, tokens_in x.1)) result (items (mark Comma) (entry (names_of context.entry)) (length (tokens_in tokens.entry)) (tokens_in tokens.entry)) }
 {
     let mut found = Vec::new(alloc);
     let mut rest = tokens;
-    for _ in 0..tokens.len() {
+    for _ in 0..tokens.list.len() {
         let (entry, behind_it) = read_entry(context, rest)?;
         found.push(entry)?;
         let Some(after) = skip(behind_it, NumberedKind::Mark(Mark::Comma)) else {
@@ -61,12 +60,12 @@ fn read_entries<'a>(
 }
 
 /// Entries with commas between them, or none, before a closing bracket.
-fn read_entry_list<'a>(
+fn read_entry_list<'a, 't>(
     alloc: Global,
     context: Context,
-    tokens: &'a [NumberedToken],
-) -> Result<(Vec<Export>, &'a [NumberedToken]), ReadFault>
-    ensures { Gives (λ x. (map export_of x.0.items, token_list x.1.now)) result (until (mark CloseBracket) (entry (names_of context.entry)) (token_list tokens.now)) }
+    tokens: Tokens<'a, 't>,
+) -> Result<(Vec<Export>, Tokens<'a, 't>), ReadFault>
+    ensures { Gives (λ x. (map export_of x.0.items, tokens_in x.1)) result (until (mark CloseBracket) (entry (names_of context.entry)) (tokens_in tokens.entry)) }
 {
     if let Some(rest) = skip(tokens, NumberedKind::Mark(Mark::CloseBracket)) {
         return Ok((Vec::new(alloc), rest));
@@ -77,12 +76,12 @@ fn read_entry_list<'a>(
 }
 
 /// What stands behind the minus of an export form: its entries.
-fn read_export<'a>(
+fn read_export<'a, 't>(
     alloc: Global,
     context: Context,
-    tokens: &'a [NumberedToken],
-) -> Result<(Vec<Export>, &'a [NumberedToken]), ReadFault>
-    ensures { Gives (λ x. (map export_of x.0.items, token_list x.1.now)) result (export (names_of context.entry) (token_list tokens.now)) }
+    tokens: Tokens<'a, 't>,
+) -> Result<(Vec<Export>, Tokens<'a, 't>), ReadFault>
+    ensures { Gives (λ x. (map export_of x.0.items, tokens_in x.1)) result (export (names_of context.entry) (tokens_in tokens.entry)) }
 {
     let Some(rest) = skip_word(context.atoms, b"export", tokens) else {
         return Err(OrNoMemory::Fault(Syntax));
@@ -108,18 +107,18 @@ fn add_exports(source: &mut Source, entries: &[Export]) -> Result<(), NoMemory>
 }
 
 /// Export forms as long as there are some, whose entries go into the source.
-pub(crate) fn read_exports<'a>(
+pub(crate) fn read_exports<'a, 't>(
     alloc: Global,
     context: Context,
     source: &mut Source,
-    tokens: &'a [NumberedToken],
-) -> Result<&'a [NumberedToken], ReadFault>
-    ensures given { Gives (λ rest. (source.new.exports, token_list rest.now)) result (with_front source.old.exports (exports (names_of context.entry) (length (token_list tokens.now)) (token_list tokens.now))) }
+    tokens: Tokens<'a, 't>,
+) -> Result<Tokens<'a, 't>, ReadFault>
+    ensures given { Gives (λ rest. (source.new.exports, tokens_in rest)) result (with_front source.old.exports (exports (names_of context.entry) (length (tokens_in tokens.entry)) (tokens_in tokens.entry))) }
     ensures name { source.new.name ≡ source.old.name }
     ensures functions { source.new.functions ≡ source.old.functions }
 {
     let mut rest = tokens;
-    for _ in 0..tokens.len() {
+    for _ in 0..tokens.list.len() {
         let Some(form) = skip(rest, NumberedKind::Mark(Mark::Minus)) else {
             return Ok(rest);
         };

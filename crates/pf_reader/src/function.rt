@@ -1,65 +1,89 @@
 //! Functions.
 
-ghost use Rattle.std.specs.Prelude.{◌≡◌, length, IfOk};
+ghost use Rattle.std.specs.Prelude.{◌≡◌, length, map, IfOk};
+ghost use Rattle.std.specs.List.{All};
+ghost use Rattle.pf_tokens.specs.declared.marks.Mark.TheVariants.{Semicolon};
+ghost use Rattle.pf_numbered.specs.NumberedTokens.{mark};
 ghost use Rattle.pf_syntax.specs.SourceOver.{head_over, heads_over, HeadStands, HeadsStand};
-ghost use Rattle.pf_reader.specs.Parse.{function, functions, head};
-ghost use Rattle.pf_numbered.specs.View.{token_list};
-ghost use Rattle.pf_reader.specs.View.{names_of};
+ghost use Rattle.pf_grammar.specs.Parse.{function, functions, head, items};
+ghost use Rattle.pf_reader.specs.View.{names_of, tokens_in};
 ghost use Rattle.pf_reader.specs.Given.{with_first, Gives, Grown};
 
 use crate::fault::{ReadFault, Syntax};
-use crate::token::{Context, behind, read_name};
-use crate::written_expression::{read_body, unguarded};
+use crate::token::{Context, Tokens, behind, read_name, skip};
+use crate::written_expression::{read_body, read_when};
 use crate::written_pattern::read_written_patterns;
 use pf_fault::OrNoMemory;
-use pf_numbered::{MOST_TREE_DEPTH, NumberedKind, NumberedToken};
+use pf_numbered::{MOST_TREE_DEPTH, NumberedKind};
 use pf_syntax::{Head, Source, WrittenFunction};
 use pf_tokens::Mark;
 use std::alloc::Global;
 
 /// A clause of a function.
-fn read_head<'a>(
+fn read_head<'a, 't>(
     alloc: Global,
     context: Context,
     source: &mut Source,
-    tokens: &'a [NumberedToken],
-) -> Result<(Head, &'a [NumberedToken]), ReadFault>
+    tokens: Tokens<'a, 't>,
+) -> Result<(Head, Tokens<'a, 't>), ReadFault>
     ensures grown { Grown source.old source.new }
     ensures stands { IfOk result (λ x. HeadStands source.new.node_table x.0) }
-    ensures given { Gives (λ x. (head_over source.new.node_table x.0, token_list x.1.now)) result (head (names_of context.entry) (token_list tokens.now)) }
+    ensures given { Gives (λ x. (head_over source.new.node_table x.0, tokens_in x.1)) result (head (names_of context.entry) (tokens_in tokens.entry)) }
 {
+    let limit = MOST_TREE_DEPTH;
+    let last = Mark::CloseParenthesis;
     let (word, rest) = read_name(context, tokens)?;
     let rest = behind(rest, NumberedKind::Mark(Mark::OpenParenthesis))?;
-    let (parameters, rest) = read_written_patterns(alloc, context, source, rest)?;
+    let (parameters, rest) = read_written_patterns(alloc, context, source, limit, last, rest)?;
+    let (condition, rest) = read_when(alloc, context, source, limit, rest)?;
     let rest = behind(rest, NumberedKind::Mark(Mark::Arrow))?;
-    let (body, rest) = read_body(alloc, context, source, MOST_TREE_DEPTH, rest)?;
-    let condition = unguarded(alloc)?;
-    Ok((
-        Head {
-            word,
-            parameters,
-            condition,
-            body,
-        },
-        rest,
-    ))
+    let (body, rest) = read_body(alloc, context, source, limit, rest)?;
+    let head = Head {
+        word,
+        parameters,
+        condition,
+        body,
+    };
+    Ok((head, rest))
 }
 
-/// A function: one clause and a dot.
-fn read_function<'a>(
+/// Clauses of a function, with semicolons between them.
+fn read_heads<'a, 't>(
     alloc: Global,
     context: Context,
     source: &mut Source,
-    tokens: &'a [NumberedToken],
-) -> Result<(WrittenFunction, &'a [NumberedToken]), ReadFault>
+    tokens: Tokens<'a, 't>,
+) -> Result<(Vec<Head>, Tokens<'a, 't>), ReadFault>
+    ensures grown { Grown source.old source.new }
+    ensures stands { IfOk result (λ x. All (HeadStands source.new.node_table) x.0.items) }
+    ensures given { Gives (λ x. (map (head_over source.new.node_table) x.0.items, tokens_in x.1)) result (items (mark Semicolon) (head (names_of context.entry)) (length (tokens_in tokens.entry)) (tokens_in tokens.entry)) }
+{
+    let mut found = Vec::new(alloc);
+    let mut rest = tokens;
+    for _ in 0..tokens.list.len() {
+        let (head, behind_it) = read_head(alloc, context, source, rest)?;
+        found.push(head)?;
+        let Some(after) = skip(behind_it, NumberedKind::Mark(Mark::Semicolon)) else {
+            return Ok((found, behind_it));
+        };
+        rest = after;
+    }
+    Err(OrNoMemory::Fault(Syntax))
+}
+
+/// A function: clauses and a dot.
+fn read_function<'a, 't>(
+    alloc: Global,
+    context: Context,
+    source: &mut Source,
+    tokens: Tokens<'a, 't>,
+) -> Result<(WrittenFunction, Tokens<'a, 't>), ReadFault>
     ensures grown { Grown source.old source.new }
     ensures stands { IfOk result (λ x. HeadsStand source.new.node_table x.0) }
-    ensures given { Gives (λ x. (heads_over source.new.node_table x.0, token_list x.1.now)) result (function (names_of context.entry) (token_list tokens.now)) }
+    ensures given { Gives (λ x. (heads_over source.new.node_table x.0, tokens_in x.1)) result (function (names_of context.entry) (tokens_in tokens.entry)) }
 {
-    let (head, rest) = read_head(alloc, context, source, tokens)?;
+    let (heads, rest) = read_heads(alloc, context, source, tokens)?;
     let rest = behind(rest, NumberedKind::Dot)?;
-    let mut heads = Vec::new(alloc);
-    heads.push(head)?;
     Ok((WrittenFunction { heads }, rest))
 }
 
@@ -68,22 +92,22 @@ pub(crate) fn read_functions(
     alloc: Global,
     context: Context,
     source: &mut Source,
-    tokens: &[NumberedToken],
+    tokens: Tokens,
 ) -> Result<(), ReadFault>
-    ensures given { Gives (λ _. source.new.functions) result (with_first source.old.functions (functions (names_of context.entry) (length (token_list tokens.now)) (token_list tokens.now))) }
+    ensures given { Gives (λ _. source.new.functions) result (with_first source.old.functions (functions (names_of context.entry) (length (tokens_in tokens.entry)) (tokens_in tokens.entry))) }
     ensures name { source.new.name ≡ source.old.name }
     ensures exports { source.new.exports ≡ source.old.exports }
 {
     let mut rest = tokens;
-    for _ in 0..tokens.len() {
-        if rest.is_empty() {
+    for _ in 0..tokens.list.len() {
+        if rest.list.is_empty() {
             return Ok(());
         }
         let (function, after) = read_function(alloc, context, source, rest)?;
         source.add_function(function)?;
         rest = after;
     }
-    if rest.is_empty() {
+    if rest.list.is_empty() {
         Ok(())
     } else {
         Err(OrNoMemory::Fault(Syntax))

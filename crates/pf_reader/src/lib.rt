@@ -1,13 +1,12 @@
 //! Reads the tokens of a source into the module that is written there.
 //!
-//! There are rules for the forms of one process: functions of one clause, integers, atoms, variables, parentheses, calls,
-//! sums, products, matches and `case`. `specs/Grammar.antt` has them as relations between a tree and its tokens.
+//! `Grammar.antt` of `pf_grammar` has the rules as relations between a tree and its tokens, and `Parse.antt` what reading from
+//! left to right gives. Each function here gives what the one of `Parse` gives, unless memory runs out.
 #![tactic(auto)]
 
 mod export;
 mod fault;
 mod function;
-mod laws;
 mod operator;
 mod part;
 mod read;
@@ -15,5 +14,4 @@ mod token;
 mod written_expression;
 mod written_pattern;
 
-pub use laws::{one_tree, reading_is_complete, reading_is_sound};
 pub use read::{ReadModule, read_tree};

@@ -1,47 +1,46 @@
-//! Operators.
+//! Infixes: the one that stands first, and the node of one and its operands.
 
 ghost use Rattle.std.specs.Prelude.{◌≡◌, option_map};
-ghost use Rattle.pf_syntax.specs.Operators.{operator_of};
-ghost use Rattle.pf_reader.specs.Grammar.{level_of, op_of};
-ghost use Rattle.pf_reader.specs.Parse.{operator};
-ghost use Rattle.pf_numbered.specs.View.{kind_of, token_list};
+ghost use Rattle.pf_grammar.specs.Parse.{infix_ahead, joined};
+ghost use Rattle.pf_grammar.specs.View.{infix_seen};
+ghost use Rattle.pf_syntax.specs.Source.{written_expression_at, NodeTable};
+ghost use Rattle.pf_syntax.specs.SourceOver.{written_expression_over, WrittenExpressionPartsStand, WrittenExpressionStands};
+ghost use Rattle.pf_reader.specs.View.{tokens_in};
 
-use pf_numbered::{NumberedKind, NumberedToken};
-use pf_syntax::Operator;
-use pf_tokens::{Mark, Reserved};
+use crate::token::Tokens;
+use pf_grammar::{Infix, infix_of};
+use pf_syntax::{WrittenExpressionId, WrittenExpressionNode};
 
-/// The operator that a kind of token is.
-fn operator_of(kind: NumberedKind) -> Option<Operator>
-    ensures { option_map operator_of result ≡ op_of (kind_of kind) }
+/// The node of an infix and its operands.
+pub(crate) fn joined(
+    joint: Infix,
+    left: WrittenExpressionId,
+    right: WrittenExpressionId,
+) -> WrittenExpressionNode
+    ensures meaning { (b : NodeTable) → written_expression_over b result ≡ joined (infix_seen joint) (written_expression_at b left.0) (written_expression_at b right.0) }
+    ensures stands { (b : NodeTable) → WrittenExpressionStands b left → WrittenExpressionStands b right → WrittenExpressionPartsStand b result }
 {
-    match kind {
-        NumberedKind::Mark(Mark::Plus) => Some(Operator::Plus),
-        NumberedKind::Mark(Mark::Minus) => Some(Operator::Minus),
-        NumberedKind::Mark(Mark::Times) => Some(Operator::Times),
-        NumberedKind::Reserved(Reserved::Div) => Some(Operator::Quotient),
-        NumberedKind::Reserved(Reserved::Rem) => Some(Operator::Remainder),
-        _ => None,
+    match joint {
+        Infix::Operator(operator) => WrittenExpressionNode::Binary(operator, left, right),
+        Infix::AndAlso => WrittenExpressionNode::AndAlso(left, right),
+        Infix::OrElse => WrittenExpressionNode::OrElse(left, right),
+        Infix::Send => WrittenExpressionNode::Send(left, right),
     }
 }
 
-/// How tightly an operator binds: 2 is a product, 3 a sum.
-fn level_of(operator: Operator) -> u32
-    ensures { result ≡ level_of (operator_of operator) }
+/// The infix that stands first, where it fits, and what follows it.
+pub(crate) fn infix_ahead<'a, 't>(
+    guard: bool,
+    floor: u32,
+    level: u32,
+    tokens: Tokens<'a, 't>,
+) -> Option<(Infix, Tokens<'a, 't>)>
+    ensures { option_map (λ x. (infix_seen x.0, tokens_in x.1)) result ≡ infix_ahead guard floor level (tokens_in tokens.entry) }
 {
-    match operator {
-        Operator::Times | Operator::Quotient | Operator::Remainder => 2,
-        _ => 3,
-    }
-}
-
-/// The operator of the level, where one stands first, and what follows it.
-pub(crate) fn operator(level: u32, tokens: &[NumberedToken]) -> Option<(Operator, &[NumberedToken])>
-    ensures { option_map (λ o. (operator_of o.0, token_list o.1.now)) result ≡ operator level (token_list tokens.now) }
-{
-    let (first, rest) = tokens.split_first()?;
-    let operator = operator_of(first.kind)?;
-    if level_of(operator) == level {
-        Some((operator, rest))
+    let (first, rest) = tokens.first()?;
+    let infix = infix_of(first.kind)?;
+    if infix.fits(guard, floor, level) {
+        Some((infix, rest))
     } else {
         None
     }

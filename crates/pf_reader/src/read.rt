@@ -3,18 +3,20 @@
 ghost use Rattle.std.specs.Prelude.{◌≡◌, map, option_map, IfErr, IfOk, None};
 ghost use Rattle.pf_tokens.specs.TokenKinds.{placed_of};
 ghost use Rattle.pf_numbered.specs.NumberedTokens.{atoms_of, numbered};
-ghost use Rattle.pf_reader.specs.Grammar.{tree_of, DerivesTree, Tree};
-ghost use Rattle.pf_reader.specs.Parse.{any_atom, begins, tree};
+ghost use Rattle.pf_grammar.specs.Grammar.{tree_of, DerivesTree, Tree};
+ghost use Rattle.pf_grammar.specs.Parse.{any_atom, begins, tree};
 ghost use Rattle.pf_numbered.specs.View.{token_list};
+ghost use Rattle.pf_reader.specs.View.{tokens_in};
 ghost use Rattle.pf_reader.specs.Given.{Gives};
 ghost use Rattle.pf_reader.specs.Outcome.{IsReadAs, IsTreeFault};
 
 use crate::export::read_exports;
 use crate::fault::{ReadFault, Syntax};
 use crate::function::read_functions;
-use crate::token::{Context, skip, skip_word};
+use crate::token::{Context, Tokens, skip, skip_word};
 use pf_fault::{Code, NoMemory, OrNoMemory, Refusal};
-use pf_numbered::{MOST_NAME_BYTES, NumberedKind, NumberedToken, fault_place, number_tokens};
+use pf_numbered::{MOST_NAME_BYTES, NumberedKind, NumberedToken, number_tokens};
+use pf_places::fault_place;
 use pf_syntax::Source;
 use pf_terms::{AtomId, AtomTable};
 use pf_tokens::{Mark, Token};
@@ -28,10 +30,10 @@ pub struct ReadModule {
 }
 
 /// The atom that stands first, whose name may have any length, and what follows it.
-fn any_atom(tokens: &[NumberedToken]) -> Option<(AtomId, &[NumberedToken])>
-    ensures { option_map (λ x. (x.0.0, token_list x.1.now)) result ≡ any_atom (token_list tokens.now) }
+fn any_atom<'a, 't>(tokens: Tokens<'a, 't>) -> Option<(AtomId, Tokens<'a, 't>)>
+    ensures { option_map (λ x. (x.0.0, tokens_in x.1)) result ≡ any_atom (tokens_in tokens.entry) }
 {
-    let (first, rest) = tokens.split_first()?;
+    let (first, rest) = tokens.first()?;
     match first.kind {
         NumberedKind::Atom(atom) => Some((atom, rest)),
         _ => None,
@@ -39,11 +41,8 @@ fn any_atom(tokens: &[NumberedToken]) -> Option<(AtomId, &[NumberedToken])>
 }
 
 /// The module's name, where the first form stands first, and what follows that.
-fn first_form<'a>(
-    atoms: &AtomTable,
-    tokens: &'a [NumberedToken],
-) -> Option<(AtomId, &'a [NumberedToken])>
-    ensures { option_map (λ x. (x.0.0, token_list x.1.now)) result ≡ begins atoms.now (token_list tokens.now) }
+fn first_form<'a, 't>(atoms: &AtomTable, tokens: Tokens<'a, 't>) -> Option<(AtomId, Tokens<'a, 't>)>
+    ensures { option_map (λ x. (x.0.0, tokens_in x.1)) result ≡ begins atoms.now (tokens_in tokens.entry) }
 {
     let rest = skip(tokens, NumberedKind::Mark(Mark::Minus))?;
     let rest = skip_word(atoms, b"module", rest)?;
@@ -62,7 +61,7 @@ fn read_module(
 ) -> Result<Source, ReadFault>
     ensures { Gives tree_of result (tree atoms.now (token_list tokens.now)) }
 {
-    let Some((own, rest)) = first_form(atoms, tokens) else {
+    let Some((own, rest)) = first_form(atoms, Tokens { list: tokens }) else {
         return Err(OrNoMemory::Fault(Syntax));
     };
     let context = Context { atoms, own };
@@ -85,10 +84,10 @@ fn tree_fault(
     requires { tree atoms.now (token_list tokens.now) ≡ None }
     ensures { IsTreeFault atoms.now (token_list tokens.now) end result }
 {
-    if first_form(atoms, tokens).is_none() {
+    let Some((own, _)) = first_form(atoms, Tokens { list: tokens }) else {
         return OrNoMemory::refusal(Code::NoHead, 0);
-    }
-    match fault_place(alloc, atoms, tokens, end) {
+    };
+    match fault_place(alloc, atoms, own, tokens, end) {
         Ok(place) => OrNoMemory::refusal(Code::NotGrammar, place),
         Err(NoMemory) => OrNoMemory::NoMemory,
     }

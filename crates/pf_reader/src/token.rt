@@ -1,13 +1,15 @@
 //! Single tokens: what follows a kind of token, and the name, the number or the word that a token is.
 
-ghost use Rattle.std.specs.Prelude.{◌≡◌, option_map};
-ghost use Rattle.pf_reader.specs.Parse.{after, atom_in, is, is_word, named, number, word};
-ghost use Rattle.pf_numbered.specs.View.{kind_of, token_list};
-ghost use Rattle.pf_reader.specs.View.{names_of};
+ghost use Rattle.std.specs.Prelude.{◌≡◌, [], ◌∷◌, option_map, MatchOption};
+ghost use Rattle.pf_grammar.specs.Grammar.{call_stands};
+ghost use Rattle.pf_grammar.specs.Parse.{after, atom_in, is, is_word, named, number, word};
+ghost use Rattle.pf_numbered.specs.View.{kind_of, numbered_token_of};
+ghost use Rattle.pf_reader.specs.View.{names_of, tokens_in};
 ghost use Rattle.pf_reader.specs.Given.{Gives};
 
 use crate::fault::{ReadFault, Syntax};
 use pf_fault::OrNoMemory;
+use pf_forms::{Form, builtin_named, may_stand};
 use pf_numbered::{MOST_NAME_BYTES, NumberedKind, NumberedToken};
 use pf_syntax::Word;
 use pf_terms::{AtomId, AtomTable};
@@ -20,9 +22,25 @@ pub(crate) struct Context<'a> {
     pub own: AtomId,
 }
 
+/// Tokens that are left to read.
+#[derive(Clone, Copy)]
+pub(crate) struct Tokens<'a, 't> {
+    pub list: &'a [NumberedToken<'t>],
+}
+
+impl<'a, 't> Tokens<'a, 't> {
+    /// The first token, and what follows it.
+    pub(crate) fn first(self) -> Option<(NumberedToken<'t>, Tokens<'a, 't>)>
+        ensures { MatchOption result (tokens_in self.entry ≡ []) (λ x. tokens_in self.entry ≡ numbered_token_of x.0 ∷ tokens_in x.1) }
+    {
+        let (first, list) = self.list.split_first()?;
+        Some((*first, Tokens { list }))
+    }
+}
+
 /// The first kind of token, a mark, a reserved word or the dot, is the second.
 fn is_kind(wanted: NumberedKind, kind: NumberedKind) -> bool
-    ensures { result ≡ is (kind_of wanted) (kind_of kind) }
+    ensures { result ≡ is (kind_of wanted.entry) (kind_of kind.entry) }
 {
     match wanted {
         NumberedKind::Mark(mark) => match kind {
@@ -42,21 +60,23 @@ fn is_kind(wanted: NumberedKind, kind: NumberedKind) -> bool
 }
 
 /// What follows the kind of token, where it stands first.
-pub(crate) fn skip(tokens: &[NumberedToken], wanted: NumberedKind) -> Option<&[NumberedToken]>
-    ensures { option_map (λ rest. token_list rest.now) result ≡ after (kind_of wanted) (token_list tokens.now) }
+pub(crate) fn skip<'a, 't>(tokens: Tokens<'a, 't>, wanted: NumberedKind) -> Option<Tokens<'a, 't>>
+    ensures { option_map (λ rest. tokens_in rest) result ≡ after (kind_of wanted.entry) (tokens_in tokens.entry) }
 {
-    match tokens {
-        [first, rest @ ..] if is_kind(wanted, first.kind) => Some(rest),
-        _ => None,
+    let (first, rest) = tokens.first()?;
+    if is_kind(wanted, first.kind) {
+        Some(rest)
+    } else {
+        None
     }
 }
 
 /// What follows the kind of token, which must stand first.
-pub(crate) fn behind(
-    tokens: &[NumberedToken],
+pub(crate) fn behind<'a, 't>(
+    tokens: Tokens<'a, 't>,
     wanted: NumberedKind,
-) -> Result<&[NumberedToken], ReadFault>
-    ensures { Gives (λ rest. token_list rest.now) result (after (kind_of wanted) (token_list tokens.now)) }
+) -> Result<Tokens<'a, 't>, ReadFault>
+    ensures { Gives (λ rest. tokens_in rest) result (after (kind_of wanted.entry) (tokens_in tokens.entry)) }
 {
     match skip(tokens, wanted) {
         Some(rest) => Ok(rest),
@@ -67,7 +87,7 @@ pub(crate) fn behind(
 impl Context<'_> {
     /// The atom that a kind of token is.
     pub(crate) fn atom(self, kind: NumberedKind) -> Option<AtomId>
-        ensures { option_map (λ a. a.0) result ≡ atom_in (names_of self.entry) (kind_of kind) }
+        ensures { option_map (λ a. a.0) result ≡ atom_in (names_of self.entry) (kind_of kind.entry) }
     {
         match kind {
             NumberedKind::Atom(atom) => {
@@ -81,16 +101,29 @@ impl Context<'_> {
             _ => None,
         }
     }
+
+    /// Whether a call of this name with so many arguments may stand, in a guard where the flag says so.
+    pub(crate) fn call_stands(self, guard: bool, name: AtomId, arity: usize) -> bool
+        ensures { result ≡ call_stands (names_of self.entry) guard name.0 arity }
+    {
+        if !guard {
+            return true;
+        }
+        match builtin_named(self.atoms.name(name), arity as u64) {
+            Some(builtin) => may_stand(true, Form::Calling(builtin)),
+            None => false,
+        }
+    }
 }
 
 /// A name with its place, which must stand first, and what follows it.
-pub(crate) fn read_name<'a>(
+pub(crate) fn read_name<'a, 't>(
     context: Context,
-    tokens: &'a [NumberedToken],
-) -> Result<(Word, &'a [NumberedToken]), ReadFault>
-    ensures { Gives (λ x. ((x.0.name.0, x.0.offset), token_list x.1.now)) result (named (names_of context.entry) (token_list tokens.now)) }
+    tokens: Tokens<'a, 't>,
+) -> Result<(Word, Tokens<'a, 't>), ReadFault>
+    ensures { Gives (λ x. ((x.0.name.0, x.0.offset), tokens_in x.1)) result (named (names_of context.entry) (tokens_in tokens.entry)) }
 {
-    let Some((first, rest)) = tokens.split_first() else {
+    let Some((first, rest)) = tokens.first() else {
         return Err(OrNoMemory::Fault(Syntax));
     };
     match context.atom(first.kind) {
@@ -106,10 +139,10 @@ pub(crate) fn read_name<'a>(
 }
 
 /// The integer that stands first, and what follows it.
-pub(crate) fn read_number(tokens: &[NumberedToken]) -> Option<(Integer, &[NumberedToken])>
-    ensures { option_map (λ x. (x.0.value, token_list x.1.now)) result ≡ number (token_list tokens.now) }
+pub(crate) fn read_number<'a, 't>(tokens: Tokens<'a, 't>) -> Option<(Integer, Tokens<'a, 't>)>
+    ensures { option_map (λ x. (x.0.value, tokens_in x.1)) result ≡ number (tokens_in tokens.entry) }
 {
-    let (first, rest) = tokens.split_first()?;
+    let (first, rest) = tokens.first()?;
     match first.kind {
         NumberedKind::Integer(n) => Some((n, rest)),
         _ => None,
@@ -118,7 +151,7 @@ pub(crate) fn read_number(tokens: &[NumberedToken]) -> Option<(Integer, &[Number
 
 /// Whether the kind of token is an atom of these bytes.
 fn is_word(atoms: &AtomTable, bytes: &[u8], kind: NumberedKind) -> bool
-    ensures { result ≡ is_word atoms.now bytes.now (kind_of kind) }
+    ensures { result ≡ is_word atoms.now bytes.now (kind_of kind.entry) }
 {
     match kind {
         NumberedKind::Atom(atom) => atoms.name(atom) == bytes,
@@ -127,15 +160,17 @@ fn is_word(atoms: &AtomTable, bytes: &[u8], kind: NumberedKind) -> bool
 }
 
 /// What follows an atom of these bytes, where one stands first.
-pub(crate) fn skip_word<'a>(
+pub(crate) fn skip_word<'a, 't>(
     atoms: &AtomTable,
     bytes: &[u8],
-    tokens: &'a [NumberedToken],
-) -> Option<&'a [NumberedToken]>
-    ensures { option_map (λ rest. token_list rest.now) result ≡ word atoms.now bytes.now (token_list tokens.now) }
+    tokens: Tokens<'a, 't>,
+) -> Option<Tokens<'a, 't>>
+    ensures { option_map (λ rest. tokens_in rest) result ≡ word atoms.now bytes.now (tokens_in tokens.entry) }
 {
-    match tokens {
-        [first, rest @ ..] if is_word(atoms, bytes, first.kind) => Some(rest),
-        _ => None,
+    let (first, rest) = tokens.first()?;
+    if is_word(atoms, bytes, first.kind) {
+        Some(rest)
+    } else {
+        None
     }
 }

@@ -1,33 +1,37 @@
 //! Expressions. Each call below takes the depth that an expression may still have, which bounds the recursion too.
 
-ghost use Rattle.std.specs.Prelude.{◌≡◌, ◌<◌, ◌≤◌, length, IfErr, IfOk, map, true};
+ghost use Rattle.std.specs.Prelude.{◌≡◌, ◌<◌, length, IfErr, IfOk, map, false, true};
 ghost use Rattle.std.specs.List.{All};
 ghost use Rattle.pf_syntax.specs.Source.{NodeTable};
-ghost use Rattle.pf_syntax.specs.SourceOver.{condition_over, ConditionStands, WrittenExpressionStands};
-ghost use Rattle.pf_tokens.specs.declared.marks.Mark.TheVariants.{Comma, CloseParenthesis, Semicolon};
+ghost use Rattle.pf_syntax.specs.SourceOver.{branches_over, condition_over, BranchStands, ConditionStands, WrittenExpressionStands};
+ghost use Rattle.pf_tokens.specs.declared.marks.Mark.TheVariants.{Comma, OpenParenthesis, Semicolon};
 ghost use Rattle.pf_numbered.specs.NumberedTokens.{mark};
-ghost use Rattle.pf_reader.specs.Grammar.{unguarded};
+ghost use Rattle.pf_grammar.specs.Grammar.{top, unguarded};
 ghost use Rattle.pf_reader.specs.ListItems.{item_at};
-ghost use Rattle.pf_reader.specs.Parse.{body, case_of, clause, element, expr, items, level_at, prim, until};
-ghost use Rattle.pf_numbered.specs.View.{token_list};
-ghost use Rattle.pf_reader.specs.View.{names_of};
-ghost use Rattle.pf_reader.specs.Given.{clause_of, written_expression_of, seen, ClauseStands, Gives, Grown};
+ghost use Rattle.pf_grammar.specs.Parse.{after, body, branches, call_step, case_of, clause, element, expr, front, guard, items, list, marked, prim, readers, unary, until, when, worded};
+ghost use Rattle.pf_reader.specs.View.{names_of, tokens_in};
+ghost use Rattle.pf_reader.specs.Given.{clause_of, front_seen, seen, written_expression_of, FrontStands, Gives, Grown};
 
 use crate::fault::{ReadFault, Syntax};
-use crate::operator::operator;
-use crate::part::{Part, put, put_within};
-use crate::token::{Context, behind, skip};
+use crate::operator::{infix_ahead, joined};
+use crate::part::{FrontPart, Part, put, put_text, put_within, put_written_pattern};
+use crate::token::{Context, Tokens, behind, skip};
 use crate::written_pattern::{read_match_ahead, read_written_pattern};
 use pf_fault::{NoMemory, OrNoMemory};
-use pf_numbered::{NumberedKind, NumberedToken};
+use pf_forms::{Form, may_stand};
+use pf_numbered::NumberedKind;
 use pf_syntax::{
     Branch, Condition, Source, Tests, Word, WrittenExpressionId, WrittenExpressionNode,
+    WrittenPatternNode,
 };
 use pf_tokens::{Mark, Reserved};
 use std::alloc::Global;
 
+/// The level of a whole expression.
+const TOP: u32 = 8;
+
 /// No guard: one alternative with no test.
-pub(crate) fn unguarded(alloc: Global) -> Result<Condition, NoMemory>
+fn unguarded(alloc: Global) -> Result<Condition, NoMemory>
     ensures meaning { IfOk result (λ g. (b : NodeTable) → condition_over b g ≡ unguarded) }
     ensures stands { IfOk result (λ g. (b : NodeTable) → ConditionStands b g) }
 {
@@ -38,21 +42,22 @@ pub(crate) fn unguarded(alloc: Global) -> Result<Condition, NoMemory>
     Ok(Condition { alternatives })
 }
 
-/// A part that no operator opens.
+/// A part that no infix opens.
 #[cycle(written_expression)]
-fn read_prim<'a>(
+fn read_prim<'a, 't>(
     alloc: Global,
     context: Context,
     source: &mut Source,
+    guard: bool,
     limit: u32,
-    tokens: &'a [NumberedToken],
-) -> Result<Part<'a>, ReadFault>
+    tokens: Tokens<'a, 't>,
+) -> Result<Part<'a, 't>, ReadFault>
     requires { 0 < limit }
     ensures grown { Grown source.old source.new }
     ensures stands { IfOk result (λ x. WrittenExpressionStands source.new.node_table x.written_expression) }
-    ensures given { Gives (seen source.new.node_table) result (prim (names_of context.entry) limit (token_list tokens.now)) }
+    ensures given { Gives (seen source.new.node_table) result (prim (names_of context.entry) guard limit (tokens_in tokens.entry)) }
 {
-    let Some((first, rest)) = tokens.split_first() else {
+    let Some((first, rest)) = tokens.first() else {
         return Err(OrNoMemory::Fault(Syntax));
     };
     let offset = first.at;
@@ -63,116 +68,206 @@ fn read_prim<'a>(
             WrittenExpressionNode::Integer(n.value as i64),
             rest,
         ),
+        NumberedKind::Text(text) => put_text(alloc, source, text, rest),
         NumberedKind::Variable(name) => put(
             source,
             WrittenExpressionNode::Variable(Word { name, offset }),
             rest,
         ),
         NumberedKind::Anonymous => put(source, WrittenExpressionNode::Anonymous(offset), rest),
-        NumberedKind::Mark(Mark::OpenParenthesis) => {
-            let part = read_expr(alloc, context, source, inner, rest)?;
-            let rest = behind(part.rest, NumberedKind::Mark(Mark::CloseParenthesis))?;
-            put(
-                source,
-                WrittenExpressionNode::Parentheses(part.written_expression),
-                rest,
-            )
+        NumberedKind::Mark(mark) => read_marked(alloc, context, source, guard, inner, mark, rest),
+        NumberedKind::Reserved(word) => {
+            read_worded(alloc, context, source, guard, inner, word, rest)
         }
-        NumberedKind::Reserved(Reserved::Case) => read_case(alloc, context, source, inner, rest),
         kind => match context.atom(kind) {
             None => Err(OrNoMemory::Fault(Syntax)),
-            Some(name) => match skip(rest, NumberedKind::Mark(Mark::OpenParenthesis)) {
-                None => put(source, WrittenExpressionNode::Atom(name), rest),
-                Some(rest) => {
-                    let word = Word { name, offset };
-                    let (arguments, rest) = read_arguments(alloc, context, source, inner, rest)?;
-                    put(source, WrittenExpressionNode::Call(word, arguments), rest)
-                }
-            },
+            Some(name) => {
+                let word = Word { name, offset };
+                read_named(alloc, context, source, guard, inner, word, rest)
+            }
         },
     }
 }
 
-/// An expression of a level: 0 is a part behind a minus or not, 1 a product, 2 a sum.
+/// An atom, or a call where an opening parenthesis stands behind its name.
 #[cycle(written_expression)]
-fn read_level<'a>(
+fn read_named<'a, 't>(
     alloc: Global,
     context: Context,
     source: &mut Source,
-    level: u32,
+    guard: bool,
     limit: u32,
-    tokens: &'a [NumberedToken],
-) -> Result<Part<'a>, ReadFault>
-    requires some { 0 < limit }
-    requires known { level ≤ 2 }
+    word: Word,
+    tokens: Tokens<'a, 't>,
+) -> Result<Part<'a, 't>, ReadFault>
     ensures grown { Grown source.old source.new }
     ensures stands { IfOk result (λ x. WrittenExpressionStands source.new.node_table x.written_expression) }
-    ensures given { Gives (seen source.new.node_table) result (level_at (names_of context.entry) limit level (token_list tokens.now)) }
+    ensures given { Gives (seen source.new.node_table) result (call_step (names_of context.entry) guard (expr (names_of context.entry) guard limit top) word.name.0 word.offset (tokens_in tokens.entry) (after (mark OpenParenthesis) (tokens_in tokens.entry))) }
 {
-    if level == 0 {
-        return match skip(tokens, NumberedKind::Mark(Mark::Minus)) {
-            None => read_prim(alloc, context, source, limit, tokens),
-            Some(rest) => {
-                let part = read_prim(alloc, context, source, limit, rest)?;
-                let negation = WrittenExpressionNode::Negate(part.written_expression);
-                put_within(source, limit, negation, part.rest)
-            }
-        };
+    let Some(rest) = skip(tokens, NumberedKind::Mark(Mark::OpenParenthesis)) else {
+        return put(source, WrittenExpressionNode::Atom(word.name), tokens);
+    };
+    let item = Item::Expression(guard);
+    let last = Mark::CloseParenthesis;
+    let (arguments, rest) = read_until(alloc, context, source, item, limit, last, rest)?;
+    if !context.call_stands(guard, word.name, arguments.len()) {
+        return Err(OrNoMemory::Fault(Syntax));
     }
-    let mut left = read_level(alloc, context, source, level - 1, limit, tokens)?;
-    let turns = left.rest.len();
+    put(source, WrittenExpressionNode::Call(word, arguments), rest)
+}
+
+/// What stands behind the mark that a part begins with.
+#[cycle(written_expression)]
+fn read_marked<'a, 't>(
+    alloc: Global,
+    context: Context,
+    source: &mut Source,
+    guard: bool,
+    limit: u32,
+    first: Mark,
+    tokens: Tokens<'a, 't>,
+) -> Result<Part<'a, 't>, ReadFault>
+    ensures grown { Grown source.old source.new }
+    ensures stands { IfOk result (λ x. WrittenExpressionStands source.new.node_table x.written_expression) }
+    ensures given { Gives (seen source.new.node_table) result (marked (expr (names_of context.entry) guard limit top) first (tokens_in tokens.entry)) }
+{
+    match first {
+        Mark::OpenParenthesis => {
+            let part = read_level(alloc, context, source, guard, limit, TOP, tokens)?;
+            let rest = behind(part.rest, NumberedKind::Mark(Mark::CloseParenthesis))?;
+            let node = WrittenExpressionNode::Parentheses(part.written_expression);
+            put(source, node, rest)
+        }
+        Mark::OpenBrace => {
+            let item = Item::Expression(guard);
+            let last = Mark::CloseBrace;
+            let (parts, rest) = read_until(alloc, context, source, item, limit, last, tokens)?;
+            put(source, WrittenExpressionNode::Tuple(parts), rest)
+        }
+        Mark::OpenBracket => read_list(alloc, context, source, guard, limit, tokens),
+        _ => Err(OrNoMemory::Fault(Syntax)),
+    }
+}
+
+/// What stands behind an opening bracket: elements, and a tail behind a bar or none.
+#[cycle(written_expression)]
+fn read_list<'a, 't>(
+    alloc: Global,
+    context: Context,
+    source: &mut Source,
+    guard: bool,
+    limit: u32,
+    tokens: Tokens<'a, 't>,
+) -> Result<Part<'a, 't>, ReadFault>
+    ensures grown { Grown source.old source.new }
+    ensures stands { IfOk result (λ x. WrittenExpressionStands source.new.node_table x.written_expression) }
+    ensures given { Gives (seen source.new.node_table) result (list (expr (names_of context.entry) guard limit top) (tokens_in tokens.entry)) }
+{
+    if let Some(rest) = skip(tokens, NumberedKind::Mark(Mark::CloseBracket)) {
+        return put(source, WrittenExpressionNode::List(Vec::new(alloc)), rest);
+    }
+    let item = Item::Expression(guard);
+    let (parts, rest) = read_items(alloc, context, source, item, limit, tokens)?;
+    match skip(rest, NumberedKind::Mark(Mark::Bar)) {
+        None => {
+            let rest = behind(rest, NumberedKind::Mark(Mark::CloseBracket))?;
+            put(source, WrittenExpressionNode::List(parts), rest)
+        }
+        Some(rest) => {
+            let tail = read_level(alloc, context, source, guard, limit, TOP, rest)?;
+            let rest = behind(tail.rest, NumberedKind::Mark(Mark::CloseBracket))?;
+            let node = WrittenExpressionNode::ListOn(parts, tail.written_expression);
+            put(source, node, rest)
+        }
+    }
+}
+
+/// A part, behind a minus or not.
+#[cycle(written_expression)]
+fn read_unary<'a, 't>(
+    alloc: Global,
+    context: Context,
+    source: &mut Source,
+    guard: bool,
+    limit: u32,
+    tokens: Tokens<'a, 't>,
+) -> Result<Part<'a, 't>, ReadFault>
+    requires { 0 < limit }
+    ensures grown { Grown source.old source.new }
+    ensures stands { IfOk result (λ x. WrittenExpressionStands source.new.node_table x.written_expression) }
+    ensures given { Gives (seen source.new.node_table) result (unary (prim (names_of context.entry) guard limit) limit (tokens_in tokens.entry)) }
+{
+    match skip(tokens, NumberedKind::Mark(Mark::Minus)) {
+        None => read_prim(alloc, context, source, guard, limit, tokens),
+        Some(rest) => {
+            let part = read_prim(alloc, context, source, guard, limit, rest)?;
+            let negation = WrittenExpressionNode::Negate(part.written_expression);
+            put_within(source, limit, negation, part.rest)
+        }
+    }
+}
+
+/// An expression of at most this level, in a guard where the flag says so.
+#[cycle(written_expression)]
+fn read_level<'a, 't>(
+    alloc: Global,
+    context: Context,
+    source: &mut Source,
+    guard: bool,
+    limit: u32,
+    level: u32,
+    tokens: Tokens<'a, 't>,
+) -> Result<Part<'a, 't>, ReadFault>
+    ensures grown { Grown source.old source.new }
+    ensures stands { IfOk result (λ x. WrittenExpressionStands source.new.node_table x.written_expression) }
+    ensures given { Gives (seen source.new.node_table) result (expr (names_of context.entry) guard limit level (tokens_in tokens.entry)) }
+{
+    if limit == 0 {
+        return Err(OrNoMemory::Fault(Syntax));
+    }
+    let mut left = read_unary(alloc, context, source, guard, limit, tokens)?;
+    let mut floor = 1;
+    let turns = left.rest.list.len();
     for _ in 0..turns {
-        let Some((operator, after)) = operator(level + 1, left.rest) else {
+        let Some((infix, after)) = infix_ahead(guard, floor, level, left.rest) else {
             return Ok(left);
         };
-        let right = read_level(alloc, context, source, level - 1, limit, after)?;
-        let node = WrittenExpressionNode::Binary(
-            operator,
-            left.written_expression,
-            right.written_expression,
-        );
+        let above = infix.right_level();
+        let right = read_level(alloc, context, source, guard, limit - 1, above, after)?;
+        let node = joined(infix, left.written_expression, right.written_expression);
         left = put_within(source, limit, node, right.rest)?;
+        floor = infix.level();
     }
     Ok(left)
 }
 
-/// An expression.
-#[cycle(written_expression)]
-fn read_expr<'a>(
-    alloc: Global,
-    context: Context,
-    source: &mut Source,
-    limit: u32,
-    tokens: &'a [NumberedToken],
-) -> Result<Part<'a>, ReadFault>
-    ensures grown { Grown source.old source.new }
-    ensures stands { IfOk result (λ x. WrittenExpressionStands source.new.node_table x.written_expression) }
-    ensures given { Gives (seen source.new.node_table) result (expr (names_of context.entry) limit (token_list tokens.now)) }
-{
-    if limit == 0 {
-        return Err(OrNoMemory::Fault(Syntax));
-    }
-    read_level(alloc, context, source, 2, limit, tokens)
+/// What stands between commas.
+#[derive(Clone, Copy)]
+enum Item {
+    /// An expression, which is no match, in a guard where the flag says so.
+    Expression(bool),
+    /// An element of a body, which may be a match.
+    Element,
 }
 
 /// An element of a body: an expression, or a match.
 #[cycle(written_expression)]
-fn read_element<'a>(
+fn read_element<'a, 't>(
     alloc: Global,
     context: Context,
     source: &mut Source,
     limit: u32,
-    tokens: &'a [NumberedToken],
-) -> Result<Part<'a>, ReadFault>
+    tokens: Tokens<'a, 't>,
+) -> Result<Part<'a, 't>, ReadFault>
     ensures grown { Grown source.old source.new }
     ensures stands { IfOk result (λ x. WrittenExpressionStands source.new.node_table x.written_expression) }
-    ensures given { Gives (seen source.new.node_table) result (element (names_of context.entry) limit (token_list tokens.now)) }
+    ensures given { Gives (seen source.new.node_table) result (element (names_of context.entry) limit (tokens_in tokens.entry)) }
 {
     if limit == 0 {
         return Err(OrNoMemory::Fault(Syntax));
     }
-    match read_match_ahead(context, source, tokens)? {
-        None => read_expr(alloc, context, source, limit, tokens),
+    match read_match_ahead(alloc, context, source, limit - 1, tokens)? {
+        None => read_level(alloc, context, source, false, limit, TOP, tokens),
         Some(ahead) => {
             let part = read_element(alloc, context, source, limit - 1, ahead.rest)?;
             let node = WrittenExpressionNode::Match(ahead.written_pattern, part.written_expression);
@@ -181,52 +276,43 @@ fn read_element<'a>(
     }
 }
 
-/// What stands between commas.
-#[derive(Clone, Copy)]
-enum Item {
-    /// An expression, which is no match.
-    Expression,
-    /// An element of a body, which may be a match.
-    Element,
-}
-
 /// An expression, or an element of a body.
 #[cycle(written_expression)]
-fn read_item<'a>(
+fn read_item<'a, 't>(
     alloc: Global,
     context: Context,
     source: &mut Source,
     item: Item,
     limit: u32,
-    tokens: &'a [NumberedToken],
-) -> Result<Part<'a>, ReadFault>
+    tokens: Tokens<'a, 't>,
+) -> Result<Part<'a, 't>, ReadFault>
     ensures grown { Grown source.old source.new }
     ensures stands { IfOk result (λ x. WrittenExpressionStands source.new.node_table x.written_expression) }
-    ensures given { Gives (seen source.new.node_table) result (item_at (names_of context.entry) item limit (token_list tokens.now)) }
+    ensures given { Gives (seen source.new.node_table) result (item_at (names_of context.entry) item limit (tokens_in tokens.entry)) }
 {
     match item {
-        Item::Expression => read_expr(alloc, context, source, limit, tokens),
+        Item::Expression(guard) => read_level(alloc, context, source, guard, limit, TOP, tokens),
         Item::Element => read_element(alloc, context, source, limit, tokens),
     }
 }
 
 /// Expressions, or elements of a body, with commas between them.
 #[cycle(written_expression)]
-fn read_items<'a>(
+fn read_items<'a, 't>(
     alloc: Global,
     context: Context,
     source: &mut Source,
     item: Item,
     limit: u32,
-    tokens: &'a [NumberedToken],
-) -> Result<(Vec<WrittenExpressionId>, &'a [NumberedToken]), ReadFault>
+    tokens: Tokens<'a, 't>,
+) -> Result<(Vec<WrittenExpressionId>, Tokens<'a, 't>), ReadFault>
     ensures grown { Grown source.old source.new }
     ensures stands { IfOk result (λ x. All (WrittenExpressionStands source.new.node_table) x.0.items) }
-    ensures given { Gives (λ x. (map (written_expression_of source.new.node_table) x.0.items, token_list x.1.now)) result (items (mark Comma) (item_at (names_of context.entry) item limit) (length (token_list tokens.now)) (token_list tokens.now)) }
+    ensures given { Gives (λ x. (map (written_expression_of source.new.node_table) x.0.items, tokens_in x.1)) result (items (mark Comma) (item_at (names_of context.entry) item limit) (length (tokens_in tokens.entry)) (tokens_in tokens.entry)) }
 {
     let mut found = Vec::new(alloc);
     let mut rest = tokens;
-    for _ in 0..tokens.len() {
+    for _ in 0..tokens.list.len() {
         let part = read_item(alloc, context, source, item, limit, rest)?;
         found.push(part.written_expression)?;
         let Some(after) = skip(part.rest, NumberedKind::Mark(Mark::Comma)) else {
@@ -237,88 +323,171 @@ fn read_items<'a>(
     Err(OrNoMemory::Fault(Syntax))
 }
 
-/// Expressions with commas between them, or none, before a closing parenthesis.
+/// Expressions with commas between them, or none, before this mark.
 #[cycle(written_expression)]
-fn read_arguments<'a>(
+fn read_until<'a, 't>(
     alloc: Global,
     context: Context,
     source: &mut Source,
+    item: Item,
     limit: u32,
-    tokens: &'a [NumberedToken],
-) -> Result<(Vec<WrittenExpressionId>, &'a [NumberedToken]), ReadFault>
+    last: Mark,
+    tokens: Tokens<'a, 't>,
+) -> Result<(Vec<WrittenExpressionId>, Tokens<'a, 't>), ReadFault>
     ensures grown { Grown source.old source.new }
     ensures stands { IfOk result (λ x. All (WrittenExpressionStands source.new.node_table) x.0.items) }
-    ensures given { Gives (λ x. (map (written_expression_of source.new.node_table) x.0.items, token_list x.1.now)) result (until (mark CloseParenthesis) (expr (names_of context.entry) limit) (token_list tokens.now)) }
+    ensures given { Gives (λ x. (map (written_expression_of source.new.node_table) x.0.items, tokens_in x.1)) result (until (mark last) (item_at (names_of context.entry) item limit) (tokens_in tokens.entry)) }
 {
-    if let Some(rest) = skip(tokens, NumberedKind::Mark(Mark::CloseParenthesis)) {
+    if let Some(rest) = skip(tokens, NumberedKind::Mark(last)) {
         return Ok((Vec::new(alloc), rest));
     }
-    let (arguments, rest) = read_items(alloc, context, source, Item::Expression, limit, tokens)?;
-    let rest = behind(rest, NumberedKind::Mark(Mark::CloseParenthesis))?;
-    Ok((arguments, rest))
+    let (parts, rest) = read_items(alloc, context, source, item, limit, tokens)?;
+    let rest = behind(rest, NumberedKind::Mark(last))?;
+    Ok((parts, rest))
 }
 
 /// A body: elements with commas between them.
-#[cycle(written_expression)]
-pub(crate) fn read_body<'a>(
+pub(crate) fn read_body<'a, 't>(
     alloc: Global,
     context: Context,
     source: &mut Source,
     limit: u32,
-    tokens: &'a [NumberedToken],
-) -> Result<(Vec<WrittenExpressionId>, &'a [NumberedToken]), ReadFault>
+    tokens: Tokens<'a, 't>,
+) -> Result<(Vec<WrittenExpressionId>, Tokens<'a, 't>), ReadFault>
     ensures grown { Grown source.old source.new }
     ensures stands { IfOk result (λ x. All (WrittenExpressionStands source.new.node_table) x.0.items) }
-    ensures given { Gives (λ x. (map (written_expression_of source.new.node_table) x.0.items, token_list x.1.now)) result (body (element (names_of context.entry) limit) (token_list tokens.now)) }
+    ensures given { Gives (λ x. (map (written_expression_of source.new.node_table) x.0.items, tokens_in x.1)) result (body (element (names_of context.entry) limit) (tokens_in tokens.entry)) }
 {
     read_items(alloc, context, source, Item::Element, limit, tokens)
 }
 
-/// A clause of a `case`: a pattern, an arrow and a body.
+/// A guard: alternatives with semicolons between them, each tests with commas between them.
 #[cycle(written_expression)]
-fn read_clause<'a>(
+fn read_guard<'a, 't>(
     alloc: Global,
     context: Context,
     source: &mut Source,
     limit: u32,
-    tokens: &'a [NumberedToken],
-) -> Result<(Branch, &'a [NumberedToken]), ReadFault>
+    tokens: Tokens<'a, 't>,
+) -> Result<(Condition, Tokens<'a, 't>), ReadFault>
     ensures grown { Grown source.old source.new }
-    ensures stands { IfOk result (λ x. ClauseStands source.new.node_table x.0) }
-    ensures given { Gives (λ x. (clause_of source.new.node_table x.0, token_list x.1.now)) result (clause (names_of context.entry) (element (names_of context.entry) limit) (token_list tokens.now)) }
+    ensures stands { IfOk result (λ x. ConditionStands source.new.node_table x.0) }
+    ensures given { Gives (λ x. (condition_over source.new.node_table x.0, tokens_in x.1)) result (guard (expr (names_of context.entry) true limit top) (tokens_in tokens.entry)) }
 {
-    let part = read_written_pattern(context, source, tokens)?;
-    let written_pattern = part.written_pattern;
-    let rest = behind(part.rest, NumberedKind::Mark(Mark::Arrow))?;
-    let (body, rest) = read_body(alloc, context, source, limit, rest)?;
-    let condition = unguarded(alloc)?;
-    Ok((
-        Branch {
+    let mut alternatives = Vec::new(alloc);
+    let mut rest = tokens;
+    for _ in 0..tokens.list.len() {
+        let item = Item::Expression(true);
+        let (tests, behind_it) = read_items(alloc, context, source, item, limit, rest)?;
+        alternatives.push(Tests { tests })?;
+        let Some(after) = skip(behind_it, NumberedKind::Mark(Mark::Semicolon)) else {
+            return Ok((Condition { alternatives }, behind_it));
+        };
+        rest = after;
+    }
+    Err(OrNoMemory::Fault(Syntax))
+}
+
+/// A guard behind `when`, or none.
+#[cycle(written_expression)]
+pub(crate) fn read_when<'a, 't>(
+    alloc: Global,
+    context: Context,
+    source: &mut Source,
+    limit: u32,
+    tokens: Tokens<'a, 't>,
+) -> Result<(Condition, Tokens<'a, 't>), ReadFault>
+    ensures grown { Grown source.old source.new }
+    ensures stands { IfOk result (λ x. ConditionStands source.new.node_table x.0) }
+    ensures given { Gives (λ x. (condition_over source.new.node_table x.0, tokens_in x.1)) result (when (expr (names_of context.entry) true limit top) (tokens_in tokens.entry)) }
+{
+    match skip(tokens, NumberedKind::Reserved(Reserved::When)) {
+        None => {
+            let condition = unguarded(alloc)?;
+            Ok((condition, tokens))
+        }
+        Some(rest) => read_guard(alloc, context, source, limit, rest),
+    }
+}
+
+/// What stands before the arrow of a clause: in an `if`, where the flag says so, a guard alone.
+#[cycle(written_expression)]
+fn read_front<'a, 't>(
+    alloc: Global,
+    context: Context,
+    source: &mut Source,
+    choice: bool,
+    limit: u32,
+    tokens: Tokens<'a, 't>,
+) -> Result<FrontPart<'a, 't>, ReadFault>
+    ensures grown { Grown source.old source.new }
+    ensures stands { IfOk result (λ x. FrontStands source.new.node_table x) }
+    ensures given { Gives (front_seen source.new.node_table) result (front (readers (names_of context.entry) limit) choice (tokens_in tokens.entry)) }
+{
+    if choice {
+        let part = put_written_pattern(source, WrittenPatternNode::Anything, tokens)?;
+        let (condition, rest) = read_guard(alloc, context, source, limit, tokens)?;
+        let written_pattern = part.written_pattern;
+        Ok(FrontPart {
             written_pattern,
             condition,
-            body,
-        },
-        rest,
-    ))
+            rest,
+        })
+    } else {
+        let part = read_written_pattern(alloc, context, source, limit, tokens)?;
+        let (condition, rest) = read_when(alloc, context, source, limit, part.rest)?;
+        let written_pattern = part.written_pattern;
+        Ok(FrontPart {
+            written_pattern,
+            condition,
+            rest,
+        })
+    }
+}
+
+/// A clause: its front, an arrow and a body.
+#[cycle(written_expression)]
+fn read_clause<'a, 't>(
+    alloc: Global,
+    context: Context,
+    source: &mut Source,
+    choice: bool,
+    limit: u32,
+    tokens: Tokens<'a, 't>,
+) -> Result<(Branch, Tokens<'a, 't>), ReadFault>
+    ensures grown { Grown source.old source.new }
+    ensures stands { IfOk result (λ x. BranchStands source.new.node_table x.0) }
+    ensures given { Gives (λ x. (clause_of source.new.node_table x.0, tokens_in x.1)) result (clause (readers (names_of context.entry) limit) choice (tokens_in tokens.entry)) }
+{
+    let front = read_front(alloc, context, source, choice, limit, tokens)?;
+    let rest = behind(front.rest, NumberedKind::Mark(Mark::Arrow))?;
+    let (body, rest) = read_items(alloc, context, source, Item::Element, limit, rest)?;
+    let branch = Branch {
+        written_pattern: front.written_pattern,
+        condition: front.condition,
+        body,
+    };
+    Ok((branch, rest))
 }
 
 /// Clauses with semicolons between them.
 #[cycle(written_expression)]
-fn read_clauses<'a>(
+fn read_clauses<'a, 't>(
     alloc: Global,
     context: Context,
     source: &mut Source,
+    choice: bool,
     limit: u32,
-    tokens: &'a [NumberedToken],
-) -> Result<(Vec<Branch>, &'a [NumberedToken]), ReadFault>
+    tokens: Tokens<'a, 't>,
+) -> Result<(Vec<Branch>, Tokens<'a, 't>), ReadFault>
     ensures grown { Grown source.old source.new }
-    ensures stands { IfOk result (λ x. All (ClauseStands source.new.node_table) x.0.items) }
-    ensures given { Gives (λ x. (map (clause_of source.new.node_table) x.0.items, token_list x.1.now)) result (items (mark Semicolon) (clause (names_of context.entry) (element (names_of context.entry) limit)) (length (token_list tokens.now)) (token_list tokens.now)) }
+    ensures stands { IfOk result (λ x. All (BranchStands source.new.node_table) x.0.items) }
+    ensures given { Gives (λ x. (map (clause_of source.new.node_table) x.0.items, tokens_in x.1)) result (items (mark Semicolon) (clause (readers (names_of context.entry) limit) choice) (length (tokens_in tokens.entry)) (tokens_in tokens.entry)) }
 {
     let mut found = Vec::new(alloc);
     let mut rest = tokens;
-    for _ in 0..tokens.len() {
-        let (branch, behind_it) = read_clause(alloc, context, source, limit, rest)?;
+    for _ in 0..tokens.list.len() {
+        let (branch, behind_it) = read_clause(alloc, context, source, choice, limit, rest)?;
         found.push(branch)?;
         let Some(after) = skip(behind_it, NumberedKind::Mark(Mark::Semicolon)) else {
             return Ok((found, behind_it));
@@ -328,26 +497,73 @@ fn read_clauses<'a>(
     Err(OrNoMemory::Fault(Syntax))
 }
 
-/// What stands behind `case`.
+/// Clauses up to `end`, which is read too.
 #[cycle(written_expression)]
-fn read_case<'a>(
+fn read_branches<'a, 't>(
     alloc: Global,
     context: Context,
     source: &mut Source,
+    choice: bool,
     limit: u32,
-    tokens: &'a [NumberedToken],
-) -> Result<Part<'a>, ReadFault>
+    tokens: Tokens<'a, 't>,
+) -> Result<(Vec<Branch>, Tokens<'a, 't>), ReadFault>
+    ensures grown { Grown source.old source.new }
+    ensures stands { IfOk result (λ x. All (BranchStands source.new.node_table) x.0.items) }
+    ensures given { Gives (λ x. (branches_over source.new.node_table x.0.items, tokens_in x.1)) result (branches (readers (names_of context.entry) limit) choice (tokens_in tokens.entry)) }
+{
+    let (found, rest) = read_clauses(alloc, context, source, choice, limit, tokens)?;
+    let rest = behind(rest, NumberedKind::Reserved(Reserved::End))?;
+    Ok((found, rest))
+}
+
+/// What stands behind `case`.
+#[cycle(written_expression)]
+fn read_case<'a, 't>(
+    alloc: Global,
+    context: Context,
+    source: &mut Source,
+    guard: bool,
+    limit: u32,
+    tokens: Tokens<'a, 't>,
+) -> Result<Part<'a, 't>, ReadFault>
     ensures grown { Grown source.old source.new }
     ensures stands { IfOk result (λ x. WrittenExpressionStands source.new.node_table x.written_expression) }
-    ensures given { Gives (seen source.new.node_table) result (case_of (names_of context.entry) (expr (names_of context.entry) limit) (element (names_of context.entry) limit) true (token_list tokens.now)) }
+    ensures given { Gives (seen source.new.node_table) result (case_of (readers (names_of context.entry) limit) (expr (names_of context.entry) guard limit top) (tokens_in tokens.entry)) }
 {
-    let subject = read_expr(alloc, context, source, limit, tokens)?;
+    let subject = read_level(alloc, context, source, guard, limit, TOP, tokens)?;
     let rest = behind(subject.rest, NumberedKind::Reserved(Reserved::Of))?;
-    let (branches, rest) = read_clauses(alloc, context, source, limit, rest)?;
-    let rest = behind(rest, NumberedKind::Reserved(Reserved::End))?;
-    put(
-        source,
-        WrittenExpressionNode::Case(subject.written_expression, branches),
-        rest,
-    )
+    let (found, rest) = read_branches(alloc, context, source, false, limit, rest)?;
+    let node = WrittenExpressionNode::Case(subject.written_expression, found);
+    put(source, node, rest)
+}
+
+/// What stands behind the reserved word that a part begins with.
+#[cycle(written_expression)]
+fn read_worded<'a, 't>(
+    alloc: Global,
+    context: Context,
+    source: &mut Source,
+    guard: bool,
+    limit: u32,
+    first: Reserved,
+    tokens: Tokens<'a, 't>,
+) -> Result<Part<'a, 't>, ReadFault>
+    ensures grown { Grown source.old source.new }
+    ensures stands { IfOk result (λ x. WrittenExpressionStands source.new.node_table x.written_expression) }
+    ensures given { Gives (seen source.new.node_table) result (worded (readers (names_of context.entry) limit) guard (expr (names_of context.entry) guard limit top) first (tokens_in tokens.entry)) }
+{
+    match first {
+        Reserved::Case if may_stand(guard, Form::Deciding) => {
+            read_case(alloc, context, source, guard, limit, tokens)
+        }
+        Reserved::If if may_stand(guard, Form::Choosing) => {
+            let (found, rest) = read_branches(alloc, context, source, true, limit, tokens)?;
+            put(source, WrittenExpressionNode::If(found), rest)
+        }
+        Reserved::Receive if may_stand(guard, Form::Receiving) => {
+            let (found, rest) = read_branches(alloc, context, source, false, limit, tokens)?;
+            put(source, WrittenExpressionNode::Receive(found), rest)
+        }
+        _ => Err(OrNoMemory::Fault(Syntax)),
+    }
 }

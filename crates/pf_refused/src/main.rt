@@ -1,11 +1,13 @@
-//! Makes values, names of atoms and a mail list, runs a process by a machine, and says so in three lines. Where a growth is
-//! refused it says `NoMemory` and ends with status 2, once it has seen that what refused it is as it was, or for a machine
+//! Makes values, names of atoms and a mail list, runs a process by a machine, sends signals, ties processes, and says so in five
+//! lines. Where a growth is refused it says `NoMemory` and ends with status 2, once it has seen that what refused it is as it was, or for a machine
 //! that it answers so again; else it ends with status 3. The script under tests/refused runs it with each growth refused in
 //! turn.
 #![tactic(auto)]
 
+mod channels;
 mod machine;
 mod mail;
+mod ties;
 
 use crate::machine::Came;
 use pf_fault::OrNoMemory;
@@ -22,11 +24,14 @@ enum Answer {
     Changed,
 }
 
-/// What the calls made: nodes of a value, spare nodes of a pool, and what came out of a machine's run.
-struct Nodes {
+/// What the calls made: nodes of a value, spare nodes of a pool, what came out of a machine's run, signals that were delivered,
+/// and signals that told of an end.
+struct Made {
     nodes: u32,
     spare: usize,
     came: Came,
+    delivered: u32,
+    told: usize,
 }
 
 impl From<NoMemory> for Answer {
@@ -83,17 +88,26 @@ fn make(alloc: Global) -> Result<u32, Answer> {
     Ok(nodes(&Term::List(longer)))
 }
 
-fn all_nodes(alloc: Global) -> Result<Nodes, Answer> {
-    Ok(Nodes {
+fn made_all(alloc: Global) -> Result<Made, Answer> {
+    Ok(Made {
         nodes: make(alloc)?,
         spare: mail::spare_after(alloc)?,
         came: machine::ran(alloc)?,
+        delivered: channels::delivered(alloc)?,
+        told: ties::told(alloc)?,
     })
 }
 
 fn main(rt: HostRuntime) -> io::Result<ExitCode> {
-    match all_nodes(rt.alloc()) {
-        Ok(Nodes { nodes, spare, came }) => {
+    match made_all(rt.alloc()) {
+        Ok(made) => {
+            let Made {
+                nodes,
+                spare,
+                came,
+                delivered,
+                told,
+            } = made;
             let Came {
                 sent,
                 taken,
@@ -102,6 +116,8 @@ fn main(rt: HostRuntime) -> io::Result<ExitCode> {
             println!(rt; "made {nodes} nodes")?;
             println!(rt; "kept {spare} nodes")?;
             println!(rt; "sent {sent} nodes, took {taken}, ended with {reason}")?;
+            println!(rt; "delivered {delivered} signals")?;
+            println!(rt; "told {told} of an end")?;
             Ok(ExitCode::SUCCESS)
         }
         Err(Answer::Refused) => {

@@ -29,4 +29,4 @@ FunctionIs n exports (h ∷ hs) f =
 pub record IsModule (atoms : List (List ℕ)) (m : Tree) (c : Checked) : Type 0 where
   pub name : c.name ≡ m.name
   pub atoms_are : c.atoms ≡ atoms
-  pub functions : Pairwise (FunctionIs (names_of m.functions) m.exports) m.functions c.functions
+  pub functions : Pairwise (FunctionIs (names_of atoms m.functions) m.exports) m.functions c.functions

@@ -1,10 +1,8 @@
 -- The static rules: all faults of a module, each a code and a place.
-use Rattle.std.specs.Prelude.{◌≡◌, ◌⊎◌, ℕ, suc, ◌<◌, ◌≤◌, Bool, true, false, ◌==◌, ◌&&◌, ◌||◌, is_some, if◌then◌else◌, List, [], ◌∷◌, ◌++◌, flat_map, position, Contains, Option, None, codes}
-use Rattle.std.specs.List.{list_any}
-use Rattle.std.specs.Str.{bytes_eq}
+use Rattle.std.specs.Prelude.{◌≡◌, ◌⊎◌, ℕ, suc, ◌<◌, ◌≤◌, Bool, true, false, ◌==◌, ◌&&◌, ◌||◌, is_some, if◌then◌else◌, List, [], ◌∷◌, ◌++◌, flat_map, position, Contains, Option}
 use Rattle.pf_fault.specs.Codes.{rank_of}
 use Rattle.pf_fault.specs.declared.code.Code.{Code}
-use Rattle.pf_fault.specs.declared.code.Code.TheVariants.{Unbound, Unsafe, Undefined, DefinedTwice, ExportOfNothing}
+use Rattle.pf_fault.specs.declared.code.Code.TheVariants.{Unbound, Unsafe, Undefined, DefinedTwice, ExportOfNothing, HeadsDiffer}
 use Rattle.pf_fault.specs.declared.refusal.Refusal.{Refusal}
 use Rattle.pf_terms.specs.Atoms.{name_of}
 use Rattle.pf_syntax.specs.WrittenPattern as s
@@ -14,6 +12,7 @@ use Rattle.pf_syntax.specs.WrittenExpression.{WrittenExpression, WrittenExpressi
 use Rattle.pf_syntax.specs.Source.{Export, Head}
 use Rattle.pf_syntax.specs.Scope.{Scope, no_scope, is_unsafe, is_new, after_written_pattern, after_written_patterns, after, after_all}
 use Rattle.pf_syntax.specs.Naming.{Names, arity_of}
+use Rattle.pf_forms.specs.Forms.{builtin_named, open_builtin}
 use Rattle.pf_syntax.specs.WrittenModule.{Tree}
 
 -- the fault, where the test says so
@@ -36,21 +35,13 @@ is_named f arity (h ∷ hs) = (h.name == f) && (parameters_of h.parameters == ar
 abbrev pub own_in : List (List Head) → ℕ → ℕ → Option ℕ
 own_in fs f arity = position (is_named f arity) fs
 
--- the names of a module: atoms keep their numbers, and no built-in function can be called yet
-abbrev pub names_of : List (List Head) → Names
-names_of fs = record { atom_of = λ a. a; own_of = own_in fs; builtin_of = λ f arity. None }
+-- the names of a module with these atoms: atoms keep their numbers, and a call finds an own function, or a built-in one that is open
+abbrev pub names_of : List (List ℕ) → List (List Head) → Names
+names_of atoms fs = record { atom_of = λ a. a; own_of = own_in fs; builtin_of = λ f arity. open_builtin (name_of atoms f) arity }
 
--- the built-in functions of the language, each with its number of arguments
-abbrev pub builtins : List (List ℕ × ℕ)
-builtins =
-    (codes "self", 0) ∷ (codes "hd", 1) ∷ (codes "tl", 1) ∷ (codes "length", 1) ∷ (codes "element", 2) ∷ (codes "tuple_size", 1)
-    ∷ (codes "is_integer", 1) ∷ (codes "is_atom", 1) ∷ (codes "is_tuple", 1) ∷ (codes "is_list", 1) ∷ (codes "is_pid", 1) ∷ (codes "is_reference", 1)
-    ∷ (codes "exit", 1) ∷ (codes "spawn", 3) ∷ (codes "spawn_link", 3) ∷ (codes "link", 1) ∷ (codes "unlink", 1) ∷ (codes "monitor", 2)
-    ∷ (codes "demonitor", 1) ∷ (codes "exit", 2) ∷ (codes "process_flag", 2) ∷ (codes "register", 2) ∷ (codes "unregister", 1)
-    ∷ (codes "whereis", 1) ∷ (codes "make_ref", 0) ∷ []
-
+-- whether a built-in function has this name and number of arguments, open or not
 abbrev pub is_builtin : List (List ℕ) → ℕ → ℕ → Bool
-is_builtin atoms f arity = list_any (λ b. bytes_eq b.0 (name_of atoms f) && (b.1 == arity)) builtins
+is_builtin atoms f arity = is_some (builtin_named (name_of atoms f) arity)
 
 -- ---- patterns: an unsafe variable
 
@@ -128,6 +119,17 @@ defined_faults atoms earlier ((h ∷ hs) ∷ fs) =
     fault_if (is_some (own_in earlier h.name (parameters_of h.parameters)) || is_builtin atoms h.name (parameters_of h.parameters)) DefinedTwice h.offset
     ++ defined_faults atoms (earlier ++ (h ∷ hs) ∷ []) fs
 
+-- a clause whose name or number of arguments isn't that of the function's first
+abbrev pub is_alike : Head → Head → Bool
+is_alike h k = (k.name == h.name) && (parameters_of k.parameters == parameters_of h.parameters)
+
+abbrev pub unlike_fault : Head → Head → List Refusal
+unlike_fault h k = if is_alike h k then [] else fault_if true HeadsDiffer k.offset
+
+abbrev pub unlike_faults : List Head → List Refusal
+unlike_faults [] = []
+unlike_faults (h ∷ hs) = flat_map (unlike_fault h) hs
+
 -- an export of no function
 abbrev pub export_fault : List (List Head) → Export → List Refusal
 export_fault fs e = if is_some (own_in fs e.name e.arity) then [] else fault_if true ExportOfNothing e.offset
@@ -137,7 +139,8 @@ abbrev pub faults_of : List (List ℕ) → Tree → List Refusal
 faults_of atoms m =
     flat_map (export_fault m.functions) m.exports
     ++ defined_faults atoms [] m.functions
-    ++ flat_map (flat_map (head_faults (names_of m.functions))) m.functions
+    ++ flat_map unlike_faults m.functions
+    ++ flat_map (flat_map (head_faults (names_of atoms m.functions))) m.functions
 
 -- ---- the first fault
 

@@ -3,21 +3,22 @@
 ghost use Rattle.std.specs.Prelude.{◌≡◌, ℕ, false, ◌||◌, ◌==◌, ◌&&◌, not, IfOk, OnOk};
 ghost use Rattle.pf_rules.specs.Listing.{lists};
 
-use indexmap::IndexSet;
 use pf_terms::{AtomId, NoMemory};
 use std::alloc::Global;
+use std::collections::BTreeSet;
 
 /// The name of a function, by its number, and how many arguments it takes.
-#[derive(Clone, Copy, Debug, PartialEq, Eq, Hash)]
+#[derive(Clone, Copy, Debug, PartialEq, Eq, PartialOrd, Ord)]
 struct Signature {
     name: u32,
     arity: u64,
 }
 
-/// A set of names with numbers of arguments, for the functions that a module defines and for those that it exports.
+/// A set of names with numbers of arguments, for the functions that a module defines and for those that it exports. It is kept in an
+/// order, so that no choice of numbers makes a look-up slow.
 #[derive(Drop)]
 pub struct Signatures {
-    signatures: IndexSet<Signature>,
+    signatures: BTreeSet<Signature>,
 }
 
 impl Signatures {
@@ -26,7 +27,7 @@ impl Signatures {
         ensures { (f arity : ℕ) → lists result f arity ≡ false }
     {
         Signatures {
-            signatures: IndexSet::new(alloc),
+            signatures: BTreeSet::new(alloc),
         }
     }
 
@@ -45,7 +46,7 @@ impl Signatures {
         ensures fresh { IfOk result (λ fresh. fresh ≡ not (lists self.old name.0 arity)) }
         ensures added { OnOk result ((f a : ℕ) → lists self.new f a ≡ (lists self.old f a || ((name.0 == f) && (arity == a)))) }
     {
-        let (_, fresh) = self.signatures.insert_full(Signature {
+        let fresh = self.signatures.insert(Signature {
             name: name.0,
             arity,
         })?;

@@ -10,6 +10,7 @@ pub mod Plain
 pub mod Matched
 pub mod Entered
 pub mod Outer
+pub mod Ready
 pub mod Scans
 pub mod TurnOfRoot
 pub mod Crossing

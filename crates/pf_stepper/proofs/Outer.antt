@@ -253,7 +253,7 @@ contracts_goes m own (awaits fs ks) d h = absurd h
 contracts_goes m own (returns w) d h = absurd h
 
 module _ (m : Checked) (own left : ℕ) where
-  advanced_goes : (p : Move) (s : Stack) (r : Advance) → AdvancedFrom m own p s r → (x : State) × (p ≡ goes_on x)
+  pub advanced_goes : (p : Move) (s : Stack) (r : Advance) → AdvancedFrom m own p s r → (x : State) × (p ≡ goes_on x)
   advanced_goes p s (a.Changed y) h = contracts_goes (code_of m) own p _ h.0
   advanced_goes p s (a.Asks act) h = contracts_goes (code_of m) own p _ h.0
   advanced_goes p s (a.Awaits n) h = contracts_goes (code_of m) own p _ h.0

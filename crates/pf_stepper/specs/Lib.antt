@@ -8,6 +8,7 @@ pub mod Sound
 pub mod MicroSteps
 pub mod Advanced
 pub mod MachineView
+pub mod Readiness
 pub mod Codes
 pub mod Inner
 pub mod Moves

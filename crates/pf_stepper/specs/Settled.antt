@@ -5,13 +5,17 @@ use Rattle.pf_syntax.specs.Module.{Checked}
 use Rattle.pf_syntax.specs.declared.node.Part.TheVariants as part
 use Rattle.pf_model.specs.Code.{code_of}
 use Rattle.pf_model.specs.Place.{State, goes_on}
+use Rattle.pf_model.specs.Place.{Move as Next}
 use Rattle.pf_stepper.specs.Advanced.{AdvancedFrom, IsSound, IsHolding, stack_process}
 use Rattle.pf_stepper.specs.Inner.{standing_by, standing_in, SoundIn}
+use Rattle.pf_stepper.specs.MachineView.{MachineView}
 use Rattle.pf_stepper.specs.Moves.{Moved}
+use Rattle.pf_stepper.specs.Readiness.{Receive, IsReadyAhead}
 use Rattle.pf_stepper.specs.declared.frame.Focus.TheVariants as f
 use Rattle.pf_stepper.specs.declared.stack.Stack.{Stack}
 use Rattle.pf_stepper.specs.declared.advance.Advance.{Advance}
 use Rattle.pf_stepper.specs.declared.advance.Advance.TheVariants as a
+use Rattle.pf_stepper.specs.declared.machine.Standing.{Standing}
 use Rattle.pf_stepper.specs.declared.machine.Move.{Move}
 use Rattle.pf_stepper.specs.declared.machine.Move.TheVariants as v
 use Rattle.pf_stepper.specs.declared.machine.Stop.{Stop}
@@ -23,6 +27,23 @@ AdvanceIsSound s (a.Asks act) = IsHolding s
 AdvanceIsSound s (a.Awaits n) = IsSound s (f.Eval (part.Node n))
 AdvanceIsSound s (a.Returned v) = Unit {0}
 AdvanceIsSound s (a.Ended r) = Unit {0}
+
+-- ---- the inbox
+
+-- a machine of this process
+abbrev pub going : Checked → ℕ → Next → MachineView
+going m own p = record { own = own; code = code_of m; standing = standing_by p }
+
+-- ready for what a machine that is left so comes to next
+abbrev pub IsReadyAfter : (Receive → Type 0) → Checked → ℕ → Stack → Standing → Type 0
+IsReadyAfter ready m own s x = IsReadyAhead ready (record { own = own; code = code_of m; standing = standing_in m s x })
+
+-- ready for what comes after the contractions; or for what came to the last move
+abbrev pub IsReadyToSettle : (Receive → Type 0) → Checked → ℕ → Stack → Advance → Type 0
+IsReadyToSettle ready m own s (a.Changed y) = IsReadyAhead ready (going m own (stack_process m s y))
+IsReadyToSettle ready m own s r = (x : State) × AdvancedFrom m own (goes_on x) s r × IsReadyAhead ready (going m own (goes_on x))
+
+-- ---- the machine
 
 -- a move that is no contraction
 abbrev pub EndsTurn : Move → Type 0

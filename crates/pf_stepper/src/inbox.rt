@@ -1,9 +1,10 @@
 //! Where a process finds its messages.
 
-ghost use Rattle.std.specs.Prelude.{◌≡◌, ◌≤◌, List, length, map, IfOk, MatchOption, OnErr};
+ghost use Rattle.std.specs.Prelude.{◌≡◌, ◌≤◌, List, length, map, IfOk, IfSome, MatchOption, OnErr};
 ghost use Rattle.pf_terms.specs.Value.{Value};
 ghost use Rattle.pf_terms.specs.Term.{value_of};
 ghost use Rattle.pf_syntax.specs.Over.{clauses_over};
+ghost use Rattle.pf_stepper.specs.Readiness.{IsReadyForAll, Receive, receive_in};
 ghost use Rattle.pf_stepper.specs.Selected.{TakesMessage, TakesNothing};
 
 use crate::clauses::choose;
@@ -15,9 +16,13 @@ use std::alloc::Global;
 pub trait Inbox {
     ghost messages: { Self → List Value };
 
+    /// The messages that this inbox passes over fit no clause of this `receive`.
+    ghost IsReady: { Self → Receive → Type 0 };
+
     /// Takes the oldest message that some clause fits with its guard, by the first such clause, in the process of
     /// this pid: the body of that clause, whose bindings come onto the activation that begins at `base`, and the
-    /// message. The others stay in order.
+    /// message. The others stay in order. The inbox is ready for this `receive`, and stays so; where a message is
+    /// taken it is ready for whatever comes.
     fn select(
         &mut self,
         alloc: Global,
@@ -27,12 +32,15 @@ pub trait Inbox {
         base: usize,
         own: u32,
     ) -> Result<Option<(Part, Term)>, NoMemory>
-        requires { base ≤ length env.old.items }
+        requires slots { base ≤ length env.old.items }
+        requires ready { IsReady self.old (receive_in code.now own base env.old.items clauses.now) }
         ensures selected { IfOk result (λ o. MatchOption o
             (TakesNothing code.now own base env.old.items env.new.items
             (clauses_over code.now.tables clauses.now) (messages self.old) (messages self.new))
             (λ t. TakesMessage code.now own base env.old.items env.new.items
             (clauses_over code.now.tables clauses.now) (messages self.old) (messages self.new) t.0 t.1)) }
+        ensures still { IsReady self.new (receive_in code.now own base env.old.items clauses.now) }
+        ensures anew { IfOk result (λ o. IfSome o (λ _. IsReadyForAll (IsReady self.new))) }
         ensures refused { OnErr result (messages self.new ≡ messages self.old) };
 }
 
@@ -44,6 +52,8 @@ pub struct PlainInbox {
 
 impl Inbox for PlainInbox {
     ghost messages = { λ m. map value_of m.messages.items };
+
+    ghost IsReady = { λ _ _. Unit {0} };
 
     fn select(
         &mut self,

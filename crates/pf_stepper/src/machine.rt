@@ -4,7 +4,8 @@ ghost use Rattle.std.specs.Prelude.{◌≡◌, IfOk, IsErr, OnErr};
 ghost use Rattle.pf_terms.specs.Term.{values_of};
 ghost use Rattle.pf_model.specs.Code.{code_of};
 ghost use Rattle.pf_stepper.specs.MachineView.{at_call, spent, standing_so};
-ghost use Rattle.pf_stepper.specs.Settled.{AdvanceIsSound, Settled};
+ghost use Rattle.pf_stepper.specs.Readiness.{IsReadyAhead};
+ghost use Rattle.pf_stepper.specs.Settled.{AdvanceIsSound, IsReadyAfter, IsReadyToSettle, Settled};
 ghost use Rattle.pf_stepper.specs.Turns.{Answered, CanAnswer, CanMove, MovedFrom, RanSo};
 
 use crate::act::Act;
@@ -84,9 +85,11 @@ fn receive<I: Inbox>(
     stack: &mut Stack,
     id: NodeId,
 ) -> Result<Stop, NoMemory>
-    requires { AdvanceIsSound stack.old (Advance.Awaits id) }
+    requires sound { AdvanceIsSound stack.old (Advance.Awaits id) }
+    requires ready { IsReadyToSettle (I.IsReady inbox.old) code.now own stack.old (Advance.Awaits id) }
     ensures settled { IfOk result (λ s. Settled code.now own stack.old (Advance.Awaits id)
         (I.messages inbox.old) stack.new s (I.messages inbox.new)) }
+    ensures ready { IfOk result (λ s. IsReadyAfter (I.IsReady inbox.new) code.now own stack.new s.standing) }
     ensures refused { OnErr result (I.messages inbox.new ≡ I.messages inbox.old) }
 {
     let clauses = clauses(code, id);
@@ -111,9 +114,11 @@ fn settle<I: Inbox>(
     stack: &mut Stack,
     advance: Advance,
 ) -> Result<Stop, NoMemory>
-    requires { AdvanceIsSound stack.old advance }
+    requires sound { AdvanceIsSound stack.old advance }
+    requires ready { IsReadyToSettle (I.IsReady inbox.old) code.now own stack.old advance }
     ensures settled { IfOk result (λ s. Settled code.now own stack.old advance
         (I.messages inbox.old) stack.new s (I.messages inbox.new)) }
+    ensures ready { IfOk result (λ s. IsReadyAfter (I.IsReady inbox.new) code.now own stack.new s.standing) }
     ensures refused { OnErr result (I.messages inbox.new ≡ I.messages inbox.old) }
 {
     let (standing, did) = match advance {
@@ -161,18 +166,21 @@ impl Machine {
     }
 
     /// All steps up to and with the next action, message, wait or end, but no more than `left`; and how many they were.
-    /// Once memory ran out, each call answers so.
+    /// The inbox is ready for the `receive` at which the machine stands, and else for whatever comes; and it is so again
+    /// afterwards. Once memory ran out, each call answers so.
     pub fn run<I: Inbox>(
         &mut self,
         alloc: Global,
         inbox: &mut I,
         left: u32,
     ) -> Result<(Move, u32), NoMemory>
-        requires { CanMove self.old.standing }
+        requires stands { CanMove self.old.standing }
+        requires ready { IsReadyAhead (I.IsReady inbox.old) self.old }
         ensures ran { IfOk result (λ r.
             RanSo left self.old (I.messages inbox.old) r.0 self.new r.1 (I.messages inbox.new)) }
         ensures spent { OnErr result ((self.new ≡ standing_so self.old spent)
             × (I.messages inbox.new ≡ I.messages inbox.old)) }
+        ensures ready { IsReadyAhead (I.IsReady inbox.new) self.new }
         ensures refused { self.old.standing ≡ spent → IsErr result }
     {
         let focus = match mem::replace(&mut self.standing, Standing::Spent) {
@@ -192,13 +200,16 @@ impl Machine {
         Ok((stop.did, used))
     }
 
-    /// One step: a contraction, an action that is asked for, a message that is taken, a wait, or the end.
+    /// One step: a contraction, an action that is asked for, a message that is taken, a wait, or the end. The inbox is
+    /// ready as for `run`.
     pub fn advance<I: Inbox>(&mut self, alloc: Global, inbox: &mut I) -> Result<Move, NoMemory>
-        requires { CanMove self.old.standing }
+        requires stands { CanMove self.old.standing }
+        requires ready { IsReadyAhead (I.IsReady inbox.old) self.old }
         ensures moved { IfOk result (λ m.
             MovedFrom self.old (I.messages inbox.old) m self.new (I.messages inbox.new)) }
         ensures spent { OnErr result ((self.new ≡ standing_so self.old spent)
             × (I.messages inbox.new ≡ I.messages inbox.old)) }
+        ensures ready { IsReadyAhead (I.IsReady inbox.new) self.new }
         ensures refused { self.old.standing ≡ spent → IsErr result }
     {
         let (did, _used) = self.run(alloc, inbox, 1)?;

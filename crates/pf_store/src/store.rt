@@ -13,13 +13,15 @@ use pf_fault::{OrNoMemory, Refusal};
 use pf_syntax::Module;
 use pf_terms::NoMemory;
 use std::alloc::Global;
+use std::hash::RandomState;
 use std::marker::Model;
 use std::sync::Arc;
 
-/// The modules that were read, each under its source. Contracts see the sources, each once, in the order in which they came.
+/// The modules that were read, each under its source. Contracts see the sources, each once, in the order in which they came. Random keys
+/// keep a look-up from being slow for sources that are chosen to be; what is found doesn't depend on them.
 #[derive(Drop)]
 pub struct Store {
-    modules: IndexMap<Source, Arc<Module>>,
+    modules: IndexMap<Source, Arc<Module>, RandomState>,
 }
 
 impl Model for Store {
@@ -39,12 +41,12 @@ impl Model for Store {
 }
 
 impl Store {
-    /// A store with no module yet.
-    pub fn new(alloc: Global) -> Store
+    /// A store with no module yet, which hashes with these keys.
+    pub fn new(alloc: Global, keys: RandomState) -> Store
         ensures { result ≡ [] }
     {
         Store {
-            modules: IndexMap::new(alloc),
+            modules: IndexMap::with_hasher(alloc, keys),
         }
     }
 

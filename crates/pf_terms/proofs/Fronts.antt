@@ -1,5 +1,5 @@
 -- A list of names that begins with fixed ones.
-use Rattle.std.proofs.Common.{◌≡◌, ℕ, zero, suc, ◌+◌, ◌-◌, ◌<◌, ◌≤◌, List, [], ◌∷◌, ◌++◌, length, Bool, true, false, Some, refl, sym, ap, ◌∙◌, arith, inl, inr, append_assoc, length-append}
+use Rattle.std.proofs.Common.{◌≡◌, ℕ, zero, suc, ◌+◌, ◌-◌, ◌<◌, ◌≤◌, ◌^◌, List, [], ◌∷◌, ◌++◌, length, Bool, true, false, Some, refl, sym, ap, ◌∙◌, arith, inl, inr, append_assoc, length-append}
 use Rattle.std.specs.Prelude.{slice_get, if◌then◌else◌, ◌||◌, ◌⊎◌}
 use Rattle.std.specs.List.{list_any}
 use Rattle.std.specs.Str.{bytes_eq}
@@ -11,8 +11,9 @@ use Rattle.std.specs.Set.{distinct_count}
 use Rattle.std.proofs.lemmas.Cmp.{nat_list_eq_equiv}
 use Rattle.std.proofs.lemmas.Map.Made.{IsDistinct-from_count}
 use Rattle.pf_terms.proofs.Names.{tells_apart}
-use Rattle.pf_terms.specs.Atoms.{with_name, name_of}
+use Rattle.pf_terms.specs.Atoms.{with_name, name_of, fixed_names}
 use Rattle.pf_terms.specs.Order.{TellsApart}
+use Rattle.pf_terms.specs.Numbers.{HasNumbers}
 
 -- what stands in front stands there in the whole
 pub get-front : {X : Type 0} (fs xs : List X) (i : ℕ) (x : X) → slice_get fs i ≡ Some x → slice_get (fs ++ xs) i ≡ Some x
@@ -82,3 +83,13 @@ module _ (fs xs : List (List ℕ)) where
   tells_apart-both f x none i j h k e =
       let long = length-append fs xs in
       both f x none i j (omega arith) (omega arith) e (cases_lt i (length fs)) (cases_lt j (length fs))
+
+pub fixed_numbers : HasNumbers fixed_names
+fixed_numbers = record { room = omega arith; distinct = apart_by_count fixed_names refl }
+
+-- one more name, which none of the names is
+pub one_more : (names : List (List ℕ)) (name : List ℕ) → HasNumbers names → length names < 2 ^ 32 → list_any (bytes_eq name) names ≡ false → HasNumbers (names ++ name ∷ [])
+one_more names name h room none =
+    let alone : TellsApart (name_of (name ∷ [])) 1 = λ i j h k e. omega arith in
+    let other : list_any (λ x. list_any (bytes_eq x) names) (name ∷ []) ≡ false = ap (λ b. b || false) none in
+    record { room = omega (arith, length-append names (name ∷ [])); distinct = tells_apart-both names (name ∷ []) h.distinct alone other }

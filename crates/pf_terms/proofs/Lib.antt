@@ -7,3 +7,5 @@ pub mod Total
 pub mod Exact
 pub mod Fronts
 pub mod Crossing
+pub mod Cuts
+pub mod ByName

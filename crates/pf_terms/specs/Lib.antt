@@ -7,3 +7,5 @@ pub mod Atoms
 pub mod Fixed
 pub mod Streams
 pub mod Faults
+pub mod Packed
+pub mod Numbers

@@ -1,12 +1,12 @@
 //! The names of the atoms of a module, each by its number.
 
-ghost use Rattle.std.specs.Prelude.{◌≡◌, ◌<◌, ◌^◌, length, map, position, IfOk, IfSome, IfNone, OnErr, OnOk, slice_get, Some, false};
+ghost use Rattle.std.specs.Prelude.{◌≡◌, ◌<◌, ◌^◌, length, map, position, IfOk, IfSome, IfNone, OnErr, OnOk, slice_get, Some, false, ◌++◌, ◌∷◌, []};
 ghost use Rattle.std.specs.List.{list_any};
 ghost use Rattle.std.specs.Str.{bytes_eq};
 ghost use Rattle.pf_terms.specs.Atoms.{fixed_names, name_of, with_name};
 ghost use Rattle.pf_terms.specs.Order.{TellsApart};
 
-use indexmap::IndexSet;
+use crate::packed::PackedNames;
 use pf_fault::NoMemory;
 use std::alloc::Global;
 use std::marker::Model;
@@ -85,21 +85,19 @@ const FIXED: [&str; 20] = [
 /// of a module in the order in which they were entered. Only the latter are stored.
 #[derive(Drop)]
 pub struct AtomTable {
-    entered: IndexSet<Vec<u8>>,
+    entered: PackedNames,
 }
 
 impl Model for AtomTable {
-    ghost use Rattle.std.specs.Prelude.{List, ℕ, length, map, false, ◌≡◌, ◌++◌, ◌+◌, ◌≤◌, ◌^◌};
-    ghost use Rattle.std.specs.List.{list_any};
-    ghost use Rattle.std.specs.Str.{bytes_eq};
+    ghost use Rattle.std.specs.Prelude.{List, ℕ, ◌++◌};
     ghost use Rattle.pf_terms.specs.Atoms.{fixed_names};
+    ghost use Rattle.pf_terms.specs.Numbers.{HasNumbers};
 
     ghost Value = { List (List ℕ) };
 
-    ghost view = { λ a. fixed_names ++ map (λ name. name.items) a.entered.keys };
+    ghost view = { λ a. fixed_names ++ a.entered };
 
-    ghost invariant = { λ a. (length fixed_names + length a.entered.keys ≤ 2 ^ 32)
-        × (list_any (λ name. list_any (bytes_eq name.items) fixed_names) a.entered.keys ≡ false) };
+    ghost invariant = { λ a. HasNumbers (fixed_names ++ a.entered) };
 }
 
 /// The name at an index, as bytes.
@@ -132,7 +130,7 @@ impl AtomTable {
         ensures { IfOk result (λ t. t ≡ fixed_names) }
     {
         Ok(AtomTable {
-            entered: IndexSet::new(alloc),
+            entered: PackedNames::new(alloc),
         })
     }
 
@@ -145,10 +143,7 @@ impl AtomTable {
         if number < FIXED.len() {
             return name_at(&FIXED, number);
         }
-        match entered.get_index(number - FIXED.len()) {
-            Some(name) => name.as_slice(),
-            None => &[],
-        }
+        entered.name(number - FIXED.len())
     }
 
     /// How many names there are. No two of them are the same.
@@ -168,12 +163,34 @@ impl AtomTable {
         if let Some(atom) = find_fixed(name) {
             return Some(atom);
         }
-        let index = entered.get_index_of(name)?;
+        let index = entered.find(name)?;
         Some(AtomId((FIXED.len() + index) as u32))
     }
 
-    /// The atom of this name, which is entered last where it is new.
-    pub fn enter(&mut self, alloc: Global, name: &[u8]) -> Result<AtomId, NoMemory>
+    /// The fixed atom of this name, where there is one.
+    pub(crate) fn find_fixed(&self, name: &[u8]) -> Option<AtomId>
+        ensures found { IfSome result (λ a. slice_get self.now a.0 ≡ Some name.now) }
+        ensures absent { IfNone result (list_any (bytes_eq name.now) fixed_names ≡ false) }
+    {
+        let _entered = &self.entered;
+        find_fixed(name)
+    }
+
+    /// Adds a name that the table lacks behind the others.
+    pub(crate) fn add(&mut self, name: &[u8]) -> Result<AtomId, NoMemory>
+        requires room { length self.old < 2 ^ 32 }
+        requires new { list_any (bytes_eq name.now) self.old ≡ false }
+        ensures number { IfOk result (λ a. a.0 ≡ length self.old) }
+        ensures names { OnOk result (self.new ≡ self.old ++ name.now ∷ []) }
+        ensures err { OnErr result (self.new ≡ self.old) }
+    {
+        let number = self.len() as u32;
+        self.entered.push(name)?;
+        Ok(AtomId(number))
+    }
+
+    /// The atom of this name, which is entered last where it is new. It looks at each name before.
+    pub fn enter(&mut self, _alloc: Global, name: &[u8]) -> Result<AtomId, NoMemory>
         requires { length self.old < 2 ^ 32 }
         ensures entered { IfOk result (λ a. slice_get self.new a.0 ≡ Some name.now) }
         ensures names { OnOk result (self.new ≡ with_name self.old name.now) }
@@ -182,11 +199,10 @@ impl AtomTable {
         if let Some(atom) = self.find(name) {
             return Ok(atom);
         }
-        let (index, _) = self.entered.insert_full(Vec::from_slice(alloc, name)?)?;
-        Ok(AtomId((FIXED.len() + index) as u32))
+        self.add(name)
     }
 
-    /// Gives back the room that its set has beyond what stands in it. It changes nothing else, and can't fail.
+    /// Gives back the room that its names have beyond what stands in it. It changes nothing else, and can't fail.
     pub fn shrink_to_fit(&mut self)
         ensures { self.new ≡ self.old }
     {

@@ -1,6 +1,7 @@
 //! Values of a run, their order, the names of atoms, and readers and writers that count their failed calls.
 #![tactic(auto)]
 
+mod atom_numbers;
 mod atoms;
 mod build;
 mod counted;
@@ -8,10 +9,12 @@ mod fail_at;
 mod laws;
 mod limits;
 mod ordering;
+mod packed;
 mod sameness;
 mod stream;
 mod term;
 
+pub use atom_numbers::AtomNumbers;
 pub use atoms::{AtomId, AtomTable};
 pub use build::{TooLarge, list_of, tuple_of};
 pub use counted::Counted;

@@ -3,6 +3,7 @@
 ghost use Rattle.std.specs.Prelude.{◌≡◌, ◌≤◌, [], IfOk, length, OnOk};
 ghost use Rattle.pf_syntax.specs.Within.{PartStands};
 ghost use Rattle.pf_stepper.specs.Turns.{CanMove};
+ghost use Rattle.pf_mailbox.specs.Tests.{IsAheadOf};
 
 use crate::receives::{A, C};
 use pf_mailbox::{Mailbox, Opened};
@@ -70,16 +71,14 @@ fn receiver(alloc: Global) -> Result<Machine, NoMemory>
 
 /// What a process that waits for a does first with this message, and how many messages are left.
 fn does(alloc: Global, message: AtomId) -> Result<(Move, usize), Fail> {
-    let mut pool = Pool::new(alloc);
-    let mut mailbox = Mailbox::new(alloc);
-    mailbox.deliver(&mut pool, Term::Atom(message))?;
-    let mut machine = receiver(alloc)?;
     let mut inbox = Opened {
-        mailbox: &mut mailbox,
-        pool: &mut pool,
+        mailbox: Mailbox::new(alloc),
+        pool: Pool::new(alloc),
     };
+    inbox.mailbox.deliver(&mut inbox.pool, Term::Atom(message))?;
+    let mut machine = receiver(alloc)?;
     let (did, _used) = machine.run(alloc, &mut inbox, 100)?;
-    Ok((did, mailbox.len()))
+    Ok((did, inbox.mailbox.len()))
 }
 
 #[test]
@@ -90,5 +89,54 @@ fn a_machine_takes_from_an_opened_mailbox(rt: HostRuntime) -> Result<(), Fail> {
     let (did, left) = does(rt.alloc(), C)?;
     assert!(rt; matches!(did, Move::Wait));
     assert_eq!(rt; left, 1);
+    Ok(())
+}
+
+/// A message comes, and wakes the process: what it does.
+fn woken(
+    alloc: Global,
+    machine: &mut Machine,
+    inbox: &mut Opened,
+    message: AtomId,
+) -> Result<Move, Fail>
+    requires stands { CanMove machine.old.standing }
+    requires ready { IsAheadOf machine.old inbox.old.mailbox }
+    ensures waits { IfOk result (λ did. did ≡ Move.Wait → CanMove machine.new.standing) }
+    ensures ready { IsAheadOf machine.new inbox.new.mailbox }
+{
+    inbox.mailbox.deliver(&mut inbox.pool, Term::Atom(message))?;
+    let (did, _used) = machine.run(alloc, inbox, 100)?;
+    Ok(did)
+}
+
+/// The process is woken by c, for which it doesn't wait: how many tests there were in all.
+fn waits_on(alloc: Global, machine: &mut Machine, inbox: &mut Opened) -> Result<u64, Fail>
+    requires stands { CanMove machine.old.standing }
+    requires ready { IsAheadOf machine.old inbox.old.mailbox }
+    ensures stands { OnOk result (CanMove machine.new.standing) }
+    ensures ready { IsAheadOf machine.new inbox.new.mailbox }
+{
+    match woken(alloc, machine, inbox, C)? {
+        Move::Wait => Ok(inbox.mailbox.tests()),
+        _ => Err(Fail::from("the process doesn't wait")),
+    }
+}
+
+#[test]
+fn a_woken_machine_tests_what_is_new(rt: HostRuntime) -> Result<(), Fail> {
+    let alloc = rt.alloc();
+    let mut inbox = Opened {
+        mailbox: Mailbox::new(alloc),
+        pool: Pool::new(alloc),
+    };
+    let mut machine = receiver(alloc)?;
+    let first = waits_on(alloc, &mut machine, &mut inbox)?;
+    let second = waits_on(alloc, &mut machine, &mut inbox)?;
+    let third = waits_on(alloc, &mut machine, &mut inbox)?;
+    assert_eq!(rt; (first, second, third), (1, 2, 3));
+    let did = woken(alloc, &mut machine, &mut inbox, A)?;
+    assert!(rt; matches!(did, Move::Take(Term::Atom(A))));
+    assert_eq!(rt; inbox.mailbox.tests(), 4);
+    assert_eq!(rt; inbox.mailbox.len(), 3);
     Ok(())
 }

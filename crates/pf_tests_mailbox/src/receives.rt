@@ -2,10 +2,12 @@
 
 ghost use Rattle.std.specs.Prelude.{◌≡◌, []};
 ghost use Rattle.pf_model.specs.Code.{code_of};
+ghost use Rattle.pf_stepper.specs.Readiness.{receive_in};
 ghost use Rattle.pf_mailbox.specs.Tests.{FitsNoneBefore, awaited};
 
 use pf_mailbox::Mailbox;
 use pf_nodes::Pool;
+use pf_stepper::Inbox;
 use pf_syntax::{Alternative, Clause, Guard, Module, Node, Operator, Part, PatternId, PatternNode};
 use pf_terms::{AtomId, AtomTable, NoMemory, Term};
 use std::alloc::Global;
@@ -99,7 +101,7 @@ pub(crate) struct Taken {
     pub(crate) bound: Vec<Term>,
 }
 
-/// One try of a `receive` that knows no variable.
+/// One try of a `receive` that knows no variable, at a mailbox.
 pub(crate) fn try_once(
     alloc: Global,
     mailbox: &mut Mailbox,
@@ -115,6 +117,27 @@ pub(crate) fn try_once(
     let Receive { module, clauses } = receive;
     let taken = mailbox.select(pool, alloc, module, clauses.as_slice(), &mut bound, 0, 0)?;
     match taken {
+        Some((body, message)) => Ok(Some(Taken {
+            body,
+            message,
+            bound,
+        })),
+        None => Ok(None),
+    }
+}
+
+/// The same at any inbox.
+pub(crate) fn try_inbox<I: Inbox>(
+    alloc: Global,
+    inbox: &mut I,
+    receive: &Receive,
+) -> Result<Option<Taken>, NoMemory>
+    requires { I.IsReady inbox.old (receive_in receive.now.«module» 0 0 [] receive.now.clauses.items) }
+    ensures { I.IsReady inbox.new (receive_in receive.now.«module» 0 0 [] receive.now.clauses.items) }
+{
+    let mut bound = Vec::new(alloc);
+    let Receive { module, clauses } = receive;
+    match inbox.select(alloc, module, clauses.as_slice(), &mut bound, 0, 0)? {
         Some((body, message)) => Ok(Some(Taken {
             body,
             message,

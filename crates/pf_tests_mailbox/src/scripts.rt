@@ -1,35 +1,45 @@
-//! A mailbox beside messages in a plain vector, along generated scripts: both answer alike.
+//! An opened mailbox beside messages in a plain vector, along generated scripts: both answer alike, and the mailbox tests each
+//! message once within one `receive`.
 
 ghost use Rattle.std.specs.Prelude.{◌≡◌, []};
-ghost use Rattle.pf_model.specs.Code.{code_of};
-ghost use Rattle.pf_mailbox.specs.Tests.{FitsNoneBefore, awaited};
+ghost use Rattle.pf_stepper.specs.Readiness.{receive_in};
+ghost use Rattle.pf_mailbox.specs.MailView.{unmarked};
+ghost use Rattle.pf_mailbox.specs.Tests.{FitsNoneBefore, IsReadyFor};
 
-use crate::receives::{A, B, C, D, Receive, Taken, of_all, of_atoms, of_large, of_pairs, try_once};
+use crate::receives::{
+    A, B, C, D, Receive, Taken, of_all, of_atoms, of_large, of_pairs, try_inbox,
+};
 use pf_choice::Choices;
-use pf_mailbox::Mailbox;
+use pf_mailbox::{Mailbox, Opened};
 use pf_nodes::Pool;
-use pf_stepper::{Inbox, PlainInbox};
-use pf_terms::{NoMemory, Term, equal, tuple_of};
+use pf_stepper::PlainInbox;
+use pf_terms::{NoMemory, Term, copy, equal, tuple_of};
 use rand_pcg::Lcg64Xsh32;
 use std::alloc::Global;
 use std::test::Fail;
 
-/// The mailbox and its fake, which are to answer alike.
+/// The mailbox and its fake, which are to answer alike; and of the fake, how many messages the `receive` at which the process
+/// waits has seen, and how many tests are due in all, of each message once within one `receive`.
 #[derive(Drop)]
 struct Both {
-    mailbox: Mailbox,
-    pool: Pool<Term>,
+    opened: Opened,
     plain: PlainInbox,
+    seen: usize,
+    tests: u64,
 }
 
 impl Both {
     fn new(alloc: Global) -> Both {
         Both {
-            mailbox: Mailbox::new(alloc),
-            pool: Pool::new(alloc),
+            opened: Opened {
+                mailbox: Mailbox::new(alloc),
+                pool: Pool::new(alloc),
+            },
             plain: PlainInbox {
                 messages: Vec::new(alloc),
             },
+            seen: 0,
+            tests: 0,
         }
     }
 }
@@ -61,32 +71,38 @@ fn some_receive(alloc: Global, number: usize) -> Result<Receive, NoMemory> {
 
 /// Places the same message in both.
 fn deliver(alloc: Global, both: &mut Both, number: usize) -> Result<(), Fail>
-    ensures { (m : _) (own : _) (ks : _) → FitsNoneBefore m own ks both.old.mailbox
-        → FitsNoneBefore m own ks both.new.mailbox }
+    ensures { (m : _) (own : _) (ks : _) → FitsNoneBefore m own ks both.old.opened.mailbox
+        → FitsNoneBefore m own ks both.new.opened.mailbox }
 {
     let first = message(alloc, number)?;
     let second = message(alloc, number)?;
-    both.mailbox.deliver(&mut both.pool, first)?;
+    both.opened.mailbox.deliver(&mut both.opened.pool, first)?;
     both.plain.messages.push(second)?;
     Ok(())
 }
 
-/// What the fake answers to a `receive`.
-fn plain_receive(
-    alloc: Global,
-    plain: &mut PlainInbox,
-    receive: &Receive,
-) -> Result<Option<Taken>, NoMemory> {
-    let mut bound = Vec::new(alloc);
-    let Receive { module, clauses } = receive;
-    match plain.select(alloc, module, clauses.as_slice(), &mut bound, 0, 0)? {
-        Some((body, message)) => Ok(Some(Taken {
-            body,
-            message,
-            bound,
-        })),
-        None => Ok(None),
+/// The messages of the fake.
+fn copies(alloc: Global, plain: &PlainInbox) -> Result<Vec<Term>, NoMemory> {
+    let mut messages = Vec::new(alloc);
+    for message in &plain.messages {
+        messages.push(copy(message)?)?;
     }
+    Ok(messages)
+}
+
+/// How many of these messages a `receive` tests that has seen so many: those behind them, up to and with the one that it
+/// takes, or all.
+fn due(messages: &[Term], taken: &Option<Taken>, seen: usize) -> usize {
+    let mut end = 0usize;
+    for message in messages {
+        end = end.saturating_add(1);
+        if let Some(taken) = taken {
+            if equal(message, &taken.message) {
+                break;
+            }
+        }
+    }
+    end.saturating_sub(seen)
 }
 
 fn are_equal(first: &[Term], second: &[Term]) -> bool {
@@ -107,17 +123,32 @@ fn are_alike(first: &Option<Taken>, second: &Option<Taken>) -> bool {
 
 /// One try of both: whether they took a message.
 fn try_both(alloc: Global, both: &mut Both, wanted: &Receive) -> Result<bool, Fail>
-    requires { FitsNoneBefore (code_of wanted.now.«module») 0
-        (awaited wanted.now.«module» 0 [] wanted.now.clauses.items) both.old.mailbox }
-    ensures { FitsNoneBefore (code_of wanted.now.«module») 0
-        (awaited wanted.now.«module» 0 [] wanted.now.clauses.items) both.new.mailbox }
+    requires { IsReadyFor (receive_in wanted.now.«module» 0 0 [] wanted.now.clauses.items)
+        both.old.opened.mailbox }
+    ensures { IsReadyFor (receive_in wanted.now.«module» 0 0 [] wanted.now.clauses.items)
+        both.new.opened.mailbox }
 {
-    let real = try_once(alloc, &mut both.mailbox, &mut both.pool, wanted)?;
-    let fake = plain_receive(alloc, &mut both.plain, wanted)?;
-    if !are_alike(&real, &fake) || both.mailbox.len() != both.plain.messages.len() {
+    let messages = copies(alloc, &both.plain)?;
+    let real = try_inbox(alloc, &mut both.opened, wanted)?;
+    let fake = try_inbox(alloc, &mut both.plain, wanted)?;
+    let more = due(messages.as_slice(), &fake, both.seen);
+    both.tests = both.tests.wrapping_add(more as u64);
+    both.seen = messages.len();
+    if !are_alike(&real, &fake) || both.opened.mailbox.len() != both.plain.messages.len() {
         return Err(Fail::from("the mailbox and its fake differ"));
     }
+    if both.opened.mailbox.tests() != both.tests {
+        return Err(Fail::from("a message is tested twice, or not at all"));
+    }
     Ok(real.is_some())
+}
+
+/// The process comes to another `receive`.
+fn comes_to_another(both: &mut Both)
+    ensures { both.new.opened.mailbox ≡ unmarked both.old.opened.mailbox }
+{
+    both.opened.mailbox.reset_mark();
+    both.seen = 0;
 }
 
 /// A `receive` that is woken by each of three more messages until it takes one.
@@ -127,7 +158,7 @@ fn receive_woken(
     choices: &mut Choices<Lcg64Xsh32>,
     wanted: &Receive,
 ) -> Result<(), Fail> {
-    both.mailbox.reset_mark();
+    comes_to_another(both);
     for _ in 0..4u8 {
         if try_both(alloc, both, wanted)? {
             return Ok(());
@@ -140,16 +171,19 @@ fn receive_woken(
 /// Packs the mailbox and unpacks it.
 fn pack_and_unpack(alloc: Global, both: Both) -> Result<Both, Fail> {
     let Both {
-        mailbox,
-        mut pool,
+        opened,
         plain,
+        seen,
+        tests,
     } = both;
+    let Opened { mailbox, mut pool } = opened;
     let packed = mailbox.pack(&mut pool, alloc)?;
     let mailbox = Mailbox::unpack(&mut pool, alloc, packed)?;
     Ok(Both {
-        mailbox,
-        pool,
+        opened: Opened { mailbox, pool },
         plain,
+        seen,
+        tests,
     })
 }
 
@@ -168,14 +202,14 @@ fn follow(alloc: Global, seed: u64) -> Result<u64, Fail> {
         }
     }
     let all = of_all(alloc)?;
-    for _ in 0..both.mailbox.len() {
-        both.mailbox.reset_mark();
+    for _ in 0..both.opened.mailbox.len() {
+        comes_to_another(&mut both);
         try_both(alloc, &mut both, &all)?;
     }
-    if !both.mailbox.is_empty() {
+    if !both.opened.mailbox.is_empty() {
         return Err(Fail::from("the mailbox is not emptied"));
     }
-    Ok(both.mailbox.tests())
+    Ok(both.opened.mailbox.tests())
 }
 
 #[test]

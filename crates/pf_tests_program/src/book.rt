@@ -4,6 +4,7 @@ use pf_book::{Book, Order, Reply, Word};
 use pf_store::Source;
 use pf_terms::NoMemory;
 use std::alloc::Global;
+use std::hash::RandomState;
 use std::test::Fail;
 
 const SUM: &str = "-module(m). -export([main/0]). main() -> 1 + 2 * 3.";
@@ -82,7 +83,7 @@ fn told_then(alloc: Global, book: &mut Book, project: u32) -> Result<String, Fai
 #[test]
 fn projects_are_told_their_own(rt: HostRuntime) -> Result<(), Fail> {
     let alloc = rt.alloc();
-    let mut book = Book::new(alloc);
+    let mut book = Book::new(alloc, RandomState::new(&rt)?);
     let first = "0 0 0 0 0, refused B1, module 1, ticket 1, refused B5";
     for project in [0u32, 7, 4294967295] {
         let told = told_first(alloc, &mut book, project)?;
@@ -109,7 +110,7 @@ fn told_in_round(alloc: Global, book: &mut Book, number: u64) -> Result<String, 
 #[test]
 fn many_modules_and_trials_of_one_project(rt: HostRuntime) -> Result<(), Fail> {
     let alloc = rt.alloc();
-    let mut book = Book::new(alloc);
+    let mut book = Book::new(alloc, RandomState::new(&rt)?);
     for number in 1..100u64 {
         let told = told_in_round(alloc, &mut book, number)?;
         let want = format!(in alloc; "module {number}, ticket {number}, true, 4 steps")?;

@@ -1,6 +1,8 @@
 //! Whole inputs of commands: what is left where a call of a reader or a writer fails.
 
 use crate::pipes::{Ended, Failing, carry_out};
+use std::hash::RandomState;
+use std::test::Fail;
 
 /// Two projects with one module, an order of each, and one trial that is run.
 const TWO: &str = "submit 1 52\n-module(m).\n-export([main/0]).\nmain() -> 1 + 2 * 3.\n\n\
@@ -14,10 +16,16 @@ p1 report 4\n0/1 <0> end normal\nfinished 7\nsteps 4\nproperty holds\n\
 p2 refused B5\np2 refused B3\nw0 not now N2\n";
 
 #[test]
-fn a_reader_that_fails_leaves_what_it_gave_before(rt: HostRuntime) {
+fn a_reader_that_fails_leaves_what_it_gave_before(rt: HostRuntime) -> Result<(), Fail> {
+    let keys = RandomState::new(&rt)?;
     let mut failed = 0u64;
     for k in 1..1000u64 {
-        let work = carry_out(rt.alloc(), TWO.as_bytes(), Failing { read: k, write: 0 });
+        let work = carry_out(
+            rt.alloc(),
+            keys,
+            TWO.as_bytes(),
+            Failing { read: k, write: 0 },
+        );
         match work.ended {
             Ended::NotRead => {
                 let text = if k == 1 { "" } else { TWO_TEXT };
@@ -33,13 +41,20 @@ fn a_reader_that_fails_leaves_what_it_gave_before(rt: HostRuntime) {
     }
     // One call gives all commands, and one their end.
     assert_eq!(rt; failed, 2);
+    Ok(())
 }
 
 #[test]
-fn a_writer_that_fails_leaves_a_beginning(rt: HostRuntime) {
+fn a_writer_that_fails_leaves_a_beginning(rt: HostRuntime) -> Result<(), Fail> {
+    let keys = RandomState::new(&rt)?;
     let mut failed = 0u64;
     for k in 1..1000u64 {
-        let work = carry_out(rt.alloc(), TWO.as_bytes(), Failing { read: 0, write: k });
+        let work = carry_out(
+            rt.alloc(),
+            keys,
+            TWO.as_bytes(),
+            Failing { read: 0, write: k },
+        );
         match work.ended {
             Ended::NotWritten => {
                 assert!(rt; TWO_TEXT.as_bytes().starts_with(&work.out), "call {k}");
@@ -54,4 +69,5 @@ fn a_writer_that_fails_leaves_a_beginning(rt: HostRuntime) {
     }
     // All answers go out together, by 7 bytes a call.
     assert_eq!(rt; failed as usize, TWO_TEXT.len().div_ceil(7));
+    Ok(())
 }

@@ -6,6 +6,7 @@ use pf_fault::OrNoMemory;
 use pf_terms::{Counted, FailAt, StreamFault};
 use pf_wire::run_steps;
 use std::alloc::{AllocError, Global};
+use std::hash::RandomState;
 use std::io;
 use std::io::{ErrorKind, Read, Write};
 use std::marker::Brand;
@@ -59,6 +60,7 @@ struct Told {
 
 fn tell_by<L: Ledger, M: Ledger>(
     alloc: Global,
+    keys: RandomState,
     input: &[u8],
     size: usize,
     failing: u64,
@@ -79,14 +81,22 @@ fn tell_by<L: Ledger, M: Ledger>(
     };
     let mut reader = Counted::<FailAt<Bites<'_>>, L>::new(FailAt::new(bites, failing), reads);
     let mut writer = Counted::<Tally, M>::new(tally, writes);
-    let answer = run_steps(alloc, &mut reader, &mut writer);
+    let answer = run_steps(alloc, keys, &mut reader, &mut writer);
     let Counted { inner: tally, .. } = writer;
     Told { answer, tally }
 }
 
 /// Carries out commands that come in pieces of this size, where call `failing` of the reader fails; none does where it is 0.
-fn tell(alloc: Global, input: &[u8], size: usize, failing: u64) -> Told {
-    tell_by::<Brand, Brand>(alloc, input, size, failing, Blank::new(1), Blank::new(1))
+fn tell(alloc: Global, keys: RandomState, input: &[u8], size: usize, failing: u64) -> Told {
+    tell_by::<Brand, Brand>(
+        alloc,
+        keys,
+        input,
+        size,
+        failing,
+        Blank::new(1),
+        Blank::new(1),
+    )
 }
 
 /// Commands and what each is answered, the last of which has no line end.
@@ -127,9 +137,10 @@ fn until(alloc: Global, read: usize) -> Result<(Vec<u8>, Vec<u8>), AllocError> {
 #[test]
 fn pieces_of_any_size_get_the_same_text(rt: HostRuntime) -> Result<(), Fail> {
     let alloc = rt.alloc();
+    let keys = RandomState::new(&rt)?;
     let (input, text) = until(alloc, usize::MAX)?;
     for size in 1..=input.len() {
-        let told = tell(alloc, &input, size, 0);
+        let told = tell(alloc, keys, &input, size, 0);
         assert!(rt; matches!(&told.answer, Ok(0)), "{size} bytes at once");
         assert_eq!(rt;
             told.tally.taken.as_slice(),
@@ -143,11 +154,12 @@ fn pieces_of_any_size_get_the_same_text(rt: HostRuntime) -> Result<(), Fail> {
 #[test]
 fn a_reader_that_fails_leaves_what_was_answered(rt: HostRuntime) -> Result<(), Fail> {
     let alloc = rt.alloc();
+    let keys = RandomState::new(&rt)?;
     let (input, _) = until(alloc, 0)?;
     for read in 0..=input.len() {
         // What stands at the end is a command only once the input has ended.
         let (_, text) = until(alloc, read.min(input.len().saturating_sub(1)))?;
-        let told = tell(alloc, &input, 1, (read as u64).saturating_add(1));
+        let told = tell(alloc, keys, &input, 1, (read as u64).saturating_add(1));
         assert!(rt;
             matches!(&told.answer, Err(OrNoMemory::Fault(StreamFault::Read(_)))),
             "{read} bytes"
@@ -164,13 +176,14 @@ fn a_reader_that_fails_leaves_what_was_answered(rt: HostRuntime) -> Result<(), F
 #[test]
 fn one_write_answers_many_lines(rt: HostRuntime) -> Result<(), Fail> {
     let alloc = rt.alloc();
+    let keys = RandomState::new(&rt)?;
     let mut input = Vec::new(alloc);
     let mut text = Vec::new(alloc);
     for _ in 0..1_000 {
         input.extend_from_slice(b"once 7 1\n")?;
         text.extend_from_slice(b"w0 not now N2\n")?;
     }
-    let told = tell(alloc, &input, usize::MAX, 0);
+    let told = tell(alloc, keys, &input, usize::MAX, 0);
     assert_eq!(rt; told.tally.taken.as_slice(), text.as_slice());
     assert_eq!(rt; told.tally.calls, 1);
     Ok(())
@@ -179,6 +192,7 @@ fn one_write_answers_many_lines(rt: HostRuntime) -> Result<(), Fail> {
 #[test]
 fn long_lines_and_many_replies_go_out_whole(rt: HostRuntime) -> Result<(), Fail> {
     let alloc = rt.alloc();
+    let keys = RandomState::new(&rt)?;
     let mut input = Vec::new(alloc);
     let mut text = Vec::new(alloc);
     for _ in 0..20_000 {
@@ -190,7 +204,7 @@ fn long_lines_and_many_replies_go_out_whole(rt: HostRuntime) -> Result<(), Fail>
     input.extend_from_slice(b"\nusage 7\nusages")?;
     text.extend_from_slice(b"p7 refused E11\np7 usage 0 0 0 0 1\ncommand 20003 refused C1\n")?;
     for size in [100, 4_096, 65_536, 1_000_000] {
-        let told = tell(alloc, &input, size, 0);
+        let told = tell(alloc, keys, &input, size, 0);
         assert!(rt; matches!(&told.answer, Ok(2)), "{size} bytes at once");
         assert!(rt; told.tally.taken == text, "{size} bytes at once");
     }

@@ -7,6 +7,7 @@ use pf_fault::OrNoMemory;
 use pf_terms::{Counted, FailAt, StreamFault};
 use pf_wire::run_steps;
 use std::alloc::Global;
+use std::hash::RandomState;
 use std::io;
 use std::io::{ErrorKind, Write};
 use std::marker::Brand;
@@ -104,6 +105,7 @@ pub fn run(alloc: Global, input: &[u8], failing: Failing) -> Worked {
 
 fn carry_out_by<L: Ledger, M: Ledger>(
     alloc: Global,
+    keys: RandomState,
     input: &[u8],
     failing: Failing,
     reads: Blank,
@@ -121,7 +123,7 @@ fn carry_out_by<L: Ledger, M: Ledger>(
     };
     let mut reader = Counted::<FailAt<&[u8]>, L>::new(FailAt::new(input, failing.read), reads);
     let mut writer = Counted::<FailAt<Narrow>, M>::new(FailAt::new(narrow, failing.write), writes);
-    let ended = end_of(run_steps(alloc, &mut reader, &mut writer));
+    let ended = end_of(run_steps(alloc, keys, &mut reader, &mut writer));
     let Counted { inner, .. } = writer;
     let FailAt { inner: narrow, .. } = inner;
     let Narrow { taken: out } = narrow;
@@ -129,6 +131,6 @@ fn carry_out_by<L: Ledger, M: Ledger>(
 }
 
 /// Makes the commands of an input in memory, with calls that fail.
-pub fn carry_out(alloc: Global, input: &[u8], failing: Failing) -> Worked {
-    carry_out_by::<Brand, Brand>(alloc, input, failing, Blank::new(1), Blank::new(1))
+pub fn carry_out(alloc: Global, keys: RandomState, input: &[u8], failing: Failing) -> Worked {
+    carry_out_by::<Brand, Brand>(alloc, keys, input, failing, Blank::new(1), Blank::new(1))
 }

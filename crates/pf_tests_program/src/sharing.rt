@@ -3,6 +3,7 @@
 use pf_fault::OrNoMemory;
 use pf_store::{Source, Store, Stored};
 use std::alloc::Global;
+use std::hash::RandomState;
 use std::sync::Arc;
 use std::test::Fail;
 
@@ -32,7 +33,7 @@ fn refusal_of(alloc: Global, store: &mut Store, text: &str) -> Result<String, Fa
 #[test]
 fn same_bytes_share_their_module(rt: HostRuntime) -> Result<(), Fail> {
     let alloc = rt.alloc();
-    let mut store = Store::new(alloc);
+    let mut store = Store::new(alloc, RandomState::new(&rt)?);
     let first = take(alloc, &mut store, SUM)?;
     let other = take(alloc, &mut store, "-module(m).")?;
     let second = take(alloc, &mut store, SUM)?;
@@ -47,7 +48,7 @@ fn same_bytes_share_their_module(rt: HostRuntime) -> Result<(), Fail> {
 #[test]
 fn sources_are_kept_as_they_are(rt: HostRuntime) -> Result<(), Fail> {
     let alloc = rt.alloc();
-    let mut store = Store::new(alloc);
+    let mut store = Store::new(alloc, RandomState::new(&rt)?);
     let stored = take(alloc, &mut store, SUM)?;
     assert_eq!(rt; stored.source().bytes(), SUM.as_bytes());
     assert_eq!(rt; stored.size(), SUM.len());
@@ -59,7 +60,7 @@ fn sources_are_kept_as_they_are(rt: HostRuntime) -> Result<(), Fail> {
 #[test]
 fn many_sources_are_kept(rt: HostRuntime) -> Result<(), Fail> {
     let alloc = rt.alloc();
-    let mut store = Store::new(alloc);
+    let mut store = Store::new(alloc, RandomState::new(&rt)?);
     for round in 1..3usize {
         for number in 0..300u32 {
             let text = format!(in alloc; "-module(m). f() -> {number}.")?;

@@ -95,7 +95,7 @@ fn values_of_words(rt: HostRuntime) {
                     assert_eq!(rt; run.limit, 0);
                     assert_eq!(rt; run.schedule.as_slice(), numbers);
                 }
-                Words::Steps(_) => assert!(rt; false, "{schedule}"),
+                Words::Check(_) | Words::Steps(_) => assert!(rt; false, "{schedule}"),
             },
             Err(_) => assert!(rt; false, "{schedule}"),
         }
@@ -113,6 +113,29 @@ fn files_of_steps(rt: HostRuntime) {
     for (words, file) in cases {
         match read_words(rt.alloc(), words) {
             Ok(Words::Steps(asked)) => assert_eq!(rt; asked.file, file),
+            _ => assert!(rt; false),
+        }
+    }
+}
+
+#[test]
+fn words_of_check(rt: HostRuntime) {
+    let cases: [(&[&str], Option<&str>, bool); 4] = [
+        (&["pulsefarm", "check"], None, false),
+        (&["pulsefarm", "check", "a.erl"], Some("a.erl"), false),
+        (&["pulsefarm", "check", "-", "--explain"], None, true),
+        (
+            &["pulsefarm", "check", "--explain", "a.erl"],
+            Some("a.erl"),
+            true,
+        ),
+    ];
+    for (words, file, explain) in cases {
+        match read_words(rt.alloc(), words) {
+            Ok(Words::Check(asked)) => {
+                assert_eq!(rt; asked.file, file);
+                assert_eq!(rt; asked.explain, explain);
+            }
             _ => assert!(rt; false),
         }
     }

@@ -329,3 +329,10 @@ impl Ties {
         Ok(signals)
     }
 }
+
+/// What a run that is parked needs: its ties may go to another thread.
+fn crosses_threads(ties: &Ties) {
+    needs_send(ties);
+}
+
+fn needs_send<T: Send>(_value: &T) {}

@@ -21,6 +21,7 @@ use pf_fault::{Code, NoMemory, OrNoMemory};
 use pf_terms::{Counted, StreamFault};
 use pf_text::{put, put_byte, put_number};
 use std::alloc::Global;
+use std::hash::RandomState;
 use std::io::{Read, Write};
 use std::sync::ledger::Ledger;
 
@@ -137,9 +138,10 @@ fn answer_due<'a, W: Write, M: Ledger>(
 }
 
 /// Reads at most 64 MiB, piece by piece, answers each command before it waits for more, and gives the status: 2 where a
-/// line is no command, behind which nothing is done, and else 0.
+/// line is no command, behind which nothing is done, and else 0. The book hashes with these keys, which no answer depends on.
 pub fn run_steps<R: Read, W: Write, L: Ledger, M: Ledger>(
     alloc: Global,
+    keys: RandomState,
     reader: &mut Counted<R, L>,
     writer: &mut Counted<W, M>,
 ) -> Result<u8, OrNoMemory<StreamFault>>
@@ -158,7 +160,7 @@ pub fn run_steps<R: Read, W: Write, L: Ledger, M: Ledger>(
     let mut room = vec![in alloc; 0u8; ROOM]?;
     let piece = room.as_mut_slice();
     let mut input = Input::new(alloc);
-    let mut book = Book::new(alloc);
+    let mut book = Book::new(alloc, keys);
     let mut number: u64 = 1;
     let mut is_over = false;
     while !is_over {

@@ -11,16 +11,18 @@ use crate::given::{Word, given_words, is_text};
 use crate::shown::{Shown, without_tip};
 use crate::stack::{STACK_BYTES, first_thread_has_stack};
 use clap::error::ErrorKind;
-use pf_command::{Words, read_words, run_source, status_of_kind};
+use pf_command::{Words, check_source, read_words, run_source, status_of_kind};
 use pf_fault::{NoMemory, OrNoMemory};
 use pf_profile::run_steps;
 use pf_terms::{Counted, StreamFault};
 use std::alloc::{AllocError, AllocGlobal};
 use std::env::Env;
 use std::fs::{self, Files};
+use std::hash::RandomState;
 use std::io::{self, Read, Write};
 use std::marker::Brand;
 use std::process::ExitCode;
+use std::random::RandomSource;
 use std::sync::ledger::{Blank, Ledger};
 use std::thread::Builder;
 
@@ -33,9 +35,25 @@ const NOT_WANTED: u8 = 128 + 13;
 /// What the work of a command ends with: a status, or what stopped it.
 type Answered = Result<u8, OrNoMemory<StreamFault>>;
 
+/// Answers commands. The keys of its tables are random, so that no choice of projects or sources makes it slow.
+fn answer_steps<R: Read, W: Write, L: Ledger, M: Ledger>(
+    rt: &(impl AllocGlobal + RandomSource),
+    reader: &mut Counted<R, L>,
+    writer: &mut Counted<W, M>,
+) -> Answered {
+    match RandomState::new(rt) {
+        Ok(keys) => run_steps(rt.alloc(), keys, reader, writer),
+        Err(_) => {
+            let reason = "the system gives no random numbers";
+            let error = io::Error::new(io::ErrorKind::Other, reason);
+            Err(OrNoMemory::Fault(StreamFault::Read(error)))
+        }
+    }
+}
+
 /// Does what is asked for between a reader and a writer.
 fn answer_by<R: Read + Drop, W: Write + Drop, L: Ledger, M: Ledger>(
-    rt: &impl AllocGlobal,
+    rt: &(impl AllocGlobal + RandomSource),
     asked: &Words,
     reader: R,
     writer: W,
@@ -54,12 +72,13 @@ fn answer_by<R: Read + Drop, W: Write + Drop, L: Ledger, M: Ledger>(
     let mut writer = Counted::<W, M>::new(writer, writes);
     match asked {
         Words::Run(words) => run_source(alloc, &mut reader, words, &mut writer),
-        Words::Steps(_) => run_steps(alloc, &mut reader, &mut writer),
+        Words::Check(words) => check_source(alloc, &mut reader, words, &mut writer),
+        Words::Steps(_) => answer_steps(rt, &mut reader, &mut writer),
     }
 }
 
 fn answer<R: Read + Drop, W: Write + Drop>(
-    rt: &impl AllocGlobal,
+    rt: &(impl AllocGlobal + RandomSource),
     asked: &Words,
     reader: R,
     writer: W,
@@ -134,7 +153,7 @@ fn end(rt: &(impl Print + Eprint), asked: &Words, file: Option<&str>, answered: 
             failed(rt, file, &fault)
         }
         Err(_) => match asked {
-            Words::Run(_) => no_memory(rt),
+            Words::Run(_) | Words::Check(_) => no_memory(rt),
             Words::Steps(_) => no_more_memory(rt),
         },
     }
@@ -150,7 +169,7 @@ fn open<R: Files>(rt: &R, given: &[Word], name: &str) -> io::Result<R::File> {
 }
 
 /// Does what the words ask for.
-fn obey<R: Files + Print + Eprint + AllocGlobal, I: Read + Drop>(
+fn obey<R: Files + Print + Eprint + AllocGlobal + RandomSource, I: Read + Drop>(
     rt: &R,
     given: &[Word],
     asked: &Words,
@@ -168,7 +187,7 @@ fn obey<R: Files + Print + Eprint + AllocGlobal, I: Read + Drop>(
 }
 
 /// Reads the words and does what they ask for.
-fn try_work<R: Env + Files + Print + Eprint + AllocGlobal, I: Read + Drop>(
+fn try_work<R: Env + Files + Print + Eprint + AllocGlobal + RandomSource, I: Read + Drop>(
     rt: &R,
     stdin: I,
 ) -> Result<u8, AllocError> {
@@ -186,7 +205,10 @@ fn try_work<R: Env + Files + Print + Eprint + AllocGlobal, I: Read + Drop>(
 }
 
 /// Does all work; what it gives is the status.
-fn work<R: Env + Files + Print + Eprint + AllocGlobal, I: Read + Drop>(rt: &R, stdin: I) -> u8 {
+fn work<R: Env + Files + Print + Eprint + AllocGlobal + RandomSource, I: Read + Drop>(
+    rt: &R,
+    stdin: I,
+) -> u8 {
     match try_work(rt, stdin) {
         Ok(status) => status,
         Err(AllocError) => no_memory(rt),

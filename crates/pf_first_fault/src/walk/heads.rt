@@ -9,40 +9,57 @@ ghost use Rattle.pf_first_fault.specs.Walking.{BeginsAnew};
 use crate::walk::Walk;
 use pf_rules::Signatures;
 use pf_syntax::{Head, Source};
-use pf_terms::NoMemory;
+use pf_terms::{AtomTable, NoMemory};
 
 impl Walk {
     /// Through the functions of a module.
-    pub(crate) fn functions(&mut self, source: &Source, own: &Signatures) -> Result<(), NoMemory>
+    pub(crate) fn functions(
+        &mut self,
+        source: &Source,
+        atoms: &AtomTable,
+        own: &Signatures,
+    ) -> Result<(), NoMemory>
         requires { Lists own.now source.now.functions }
-        ensures { OnOk result (BeginsAnew self.old self.new (flat_map (flat_map (head_faults (names_of source.now.functions))) source.now.functions)) }
+        ensures { OnOk result (BeginsAnew self.old self.new (flat_map (flat_map (head_faults (names_of atoms.now source.now.functions))) source.now.functions)) }
     {
         for function in source.functions() {
-            self.heads(source, own, &function.heads)?;
+            self.heads(source, atoms, own, &function.heads)?;
         }
         Ok(())
     }
 
     /// Through the clauses of a function.
-    fn heads(&mut self, source: &Source, own: &Signatures, heads: &[Head]) -> Result<(), NoMemory>
+    fn heads(
+        &mut self,
+        source: &Source,
+        atoms: &AtomTable,
+        own: &Signatures,
+        heads: &[Head],
+    ) -> Result<(), NoMemory>
         requires { Lists own.now source.now.functions }
-        ensures { OnOk result (BeginsAnew self.old self.new (flat_map (head_faults (names_of source.now.functions)) (map (head_over source.now.node_table) heads.now))) }
+        ensures { OnOk result (BeginsAnew self.old self.new (flat_map (head_faults (names_of atoms.now source.now.functions)) (map (head_over source.now.node_table) heads.now))) }
     {
         for head in heads {
-            self.head(source, own, head)?;
+            self.head(source, atoms, own, head)?;
         }
         Ok(())
     }
 
     /// Through a clause, behind which no variable is known again.
-    fn head(&mut self, source: &Source, own: &Signatures, head: &Head) -> Result<(), NoMemory>
+    fn head(
+        &mut self,
+        source: &Source,
+        atoms: &AtomTable,
+        own: &Signatures,
+        head: &Head,
+    ) -> Result<(), NoMemory>
         requires { Lists own.now source.now.functions }
-        ensures { OnOk result (BeginsAnew self.old self.new (head_faults (names_of source.now.functions) (head_over source.now.node_table head.now))) }
+        ensures { OnOk result (BeginsAnew self.old self.new (head_faults (names_of atoms.now source.now.functions) (head_over source.now.node_table head.now))) }
     {
         let start = self.variables.trail_len();
         self.written_patterns(source, &head.parameters)?;
-        self.condition(source, own, &head.condition)?;
-        self.written_expressions(source, own, &head.body)?;
+        self.condition(source, atoms, own, &head.condition)?;
+        self.written_expressions(source, atoms, own, &head.body)?;
         self.variables.forget(start)?;
         Ok(())
     }

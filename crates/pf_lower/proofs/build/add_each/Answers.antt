@@ -1,7 +1,11 @@
-use Rattle.std.proofs.Common.{◌+◌, ◌≤◌, ◌++◌, ◌∷◌, [], length, take, sym, ap, ◌∙◌, subst, arith}
+use Rattle.std.proofs.Common.{◌≡◌, ℕ, List, ◌+◌, ◌≤◌, ◌++◌, ◌∷◌, [], length, take, sym, ap, ◌∙◌, subst, arith}
 use Rattle.std.proofs.lemmas.List.{take_all}
 use Rattle.pf_syntax.specs.SourceOver.{heads_over}
 use Rattle.pf_syntax.specs.Over.{function_over}
+use Rattle.std.specs.Prelude.{flat_map}
+use Rattle.pf_rules.specs.Static.{names_of, head_faults}
+use Rattle.pf_rules.specs.Formed.{FunctionFormed}
+use Rattle.pf_rules.specs.Checks.{FunctionIs}
 use Rattle.pf_lower.proofs.Knows_more.{next_function, length_mapped}
 use Rattle.pf_lower.proofs.Heads_mean.{EachFunction, one_function_more, functions_are}
 use Rattle.pf_lower.proofs.build.add_each.Goals as goal
@@ -12,18 +16,21 @@ loop-written-preserved c =
     let b = c.args.source.now.node_table in
     let fs = c.args.source.now.functions in
     let es = c.args.source.now.exports in
+    let n = names_of c.args.module.now.atoms fs in
     let d = c.in_ok-one.ensures in
     let added = c.in_ok-add_function.ensures.added in
     let k = c.loop-written.written-index in
     let made = function_over c.function.new.module.tables c.in_ok-one.one in
-    let longer = one_function_more fs es (take k fs) c.loop-written.module.functions (heads_over b c.written-item.result) made i.functions d.answer.means in
+    let hs = heads_over b c.written-item.result in
+    let means = subst (λ (a : List (List ℕ)). FunctionFormed hs → flat_map (head_faults (names_of a fs)) hs ≡ [] → FunctionIs (names_of a fs) es hs made) (d.grown.atoms ∙ i.atoms) d.answer.means in
+    let longer = one_function_more n es (take k fs) c.loop-written.module.functions hs made i.functions means in
     record {
       name = ap (λ m. m.name) added ∙ d.grown.name ∙ i.name;
       atoms = ap (λ m. m.atoms) added ∙ d.grown.atoms ∙ i.atoms;
       unbound = d.bound_is;
       functions =
-          subst (EachFunction fs es (take (k + 1) fs)) (sym (ap (λ m. m.functions) added ∙ ap (λ l. l ++ made ∷ []) d.grown.functions))
-          (subst (λ l. EachFunction fs es l (c.loop-written.module.functions ++ made ∷ [])) (sym (next_function b c.functions-written-items.result.now fs k c.written-item.result c.functions-written-items.ensures (omega arith) c.written-item.is)) longer);
+          subst (EachFunction n es (take (k + 1) fs)) (sym (ap (λ m. m.functions) added ∙ ap (λ l. l ++ made ∷ []) d.grown.functions))
+          (subst (λ l. EachFunction n es l (c.loop-written.module.functions ++ made ∷ [])) (sym (next_function b c.functions-written-items.result.now fs k c.written-item.result c.functions-written-items.ensures (omega arith) c.written-item.is)) longer);
     }
 
 pub returns : goal.returns
@@ -32,6 +39,7 @@ returns c =
     let b = c.args.source.now.node_table in
     let fs = c.args.source.now.functions in
     let es = c.args.source.now.exports in
+    let n = names_of c.args.module.now.atoms fs in
     let long : length fs ≤ c.loop-written.written-index = omega (arith, ap length c.functions-written-items.ensures, length_mapped (heads_over b) c.functions-written-items.result.now) in
-    let each : EachFunction fs es fs c.loop-written.module.functions = subst (λ l. EachFunction fs es l c.loop-written.module.functions) (take_all c.loop-written.written-index fs long) i.functions in
-    record { name = i.name; atoms = i.atoms; means = functions_are fs es fs c.loop-written.module.functions each }
+    let each : EachFunction n es fs c.loop-written.module.functions = subst (λ l. EachFunction n es l c.loop-written.module.functions) (take_all c.loop-written.written-index fs long) i.functions in
+    record { name = i.name; atoms = i.atoms; means = functions_are n es fs c.loop-written.module.functions each }

@@ -1,4 +1,5 @@
 use Rattle.std.proofs.Common.{◌≡◌, take, []}
+use Rattle.pf_rules.specs.Static.{names_of}
 use Rattle.pf_lower.proofs.Heads_mean.{EachFunction}
 use Rattle.pf_lower.proofs.build.add_each.Given as goal
 
@@ -7,5 +8,5 @@ invariant-loop-written l = record {
   name : l.module.name ≡ l.initial.module.name;
   atoms : l.module.atoms ≡ l.initial.module.atoms;
   unbound : l.places ≡ [];
-  functions : EachFunction l.source.functions l.source.exports (take l.written-index l.source.functions) l.module.functions;
+  functions : EachFunction (names_of l.initial.module.atoms l.source.functions) l.source.exports (take l.written-index l.source.functions) l.module.functions;
 }

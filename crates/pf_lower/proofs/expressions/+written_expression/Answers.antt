@@ -29,7 +29,7 @@ pub expression-returns-in-Integer : goal.expression-returns-in-Integer
 expression-returns-in-Integer t c =
     let same : to_z w64 (of_z w64 c.in-Integer.n) ≡ c.in-Integer.n = search rules in
     written_expression_here c.args.source.now.functions c.args.module.now c.args.places.now _ _ (part.Int _) (ap (written_expression_over c.args.source.now.node_table) (sym c.in-Integer.is) ∙ c.in-Some.ensures.found) tt
-    (λ g h f k. subst (λ z. WrittenExpressionIs (names_of c.args.source.now.functions) g (p.integer c.in-Integer.n) (lit (int z))) (sym same) (w.integer g c.in-Integer.n))
+    (λ g h f k. subst (λ z. WrittenExpressionIs (names_of c.args.module.now.atoms c.args.source.now.functions) g (p.integer c.in-Integer.n) (lit (int z))) (sym same) (w.integer g c.in-Integer.n))
 
 pub expression-returns-in-Atom : goal.expression-returns-in-Atom
 expression-returns-in-Atom t c =
@@ -162,15 +162,15 @@ elements-returns t c =
 
 pub body-put_last-requires : goal.body-put_last-requires
 body-put_last-requires t c =
-    let u = c.elements.new.module.tables in
-    (All-pop (ElementStands u) c.in_ok-front.front.items c.pop.new.self.items (Some c.in-Some.last) c.in-Some.ensures.items
+    let u = c.elements.new.module in
+    (All-pop (ElementStands u.tables) c.in_ok-front.front.items c.pop.new.self.items (Some c.in-Some.last) c.in-Some.ensures.items
     (each_stands c.args.source.now.functions c.args.source.now.node_table u c.args.places.now c.args.ids.now c.in_ok-front.front.items c.in_ok-front.ensures.answer)).1
 
 pub body-put_binds-requires-clause-elements_stand : goal.body-put_binds-requires-clause-elements_stand
 body-put_binds-requires-clause-elements_stand t c =
-    let u = c.elements.new.module.tables in
-    elements_stand_on u c.put_last.new.module.tables c.in_ok-end-in-Some.ensures.grown.tables c.pop.new.self.items
-    (All-pop (ElementStands u) c.in_ok-front.front.items c.pop.new.self.items (Some c.in-Some.last) c.in-Some.ensures.items
+    let u = c.elements.new.module in
+    elements_stand_on u.tables c.put_last.new.module.tables c.in_ok-end-in-Some.ensures.grown.tables c.pop.new.self.items
+    (All-pop (ElementStands u.tables) c.in_ok-front.front.items c.pop.new.self.items (Some c.in-Some.last) c.in-Some.ensures.items
     (each_stands c.args.source.now.functions c.args.source.now.node_table u c.args.places.now c.args.ids.now c.in_ok-front.front.items c.in_ok-front.ensures.answer)).0
 
 pub body-returns-in-None : goal.body-returns-in-None

@@ -1,9 +1,13 @@
-use Rattle.std.proofs.Common.{refl, ap, ◌∙◌}
+use Rattle.std.proofs.Common.{◌≡◌, ℕ, List, length, Some, None, refl, sym, ap, ◌∙◌}
+use Rattle.pf_terms.specs.Atoms.{name_of}
+use Rattle.pf_forms.specs.Forms.{open_builtin}
+use Rattle.pf_syntax.specs.Operators.{builtin_of}
+use Rattle.pf_syntax.specs.Naming.{arity_of}
 use Rattle.pf_syntax.specs.Naming as w
 use Rattle.pf_syntax.specs.WrittenExpression as p
 use Rattle.pf_syntax.specs.SourceOver.{written_expressions_at}
 use Rattle.pf_syntax.specs.declared.node.Part.TheVariants as part
-use Rattle.pf_rules.specs.Static.{own_in}
+use Rattle.pf_rules.specs.Static.{own_in, names_of}
 use Rattle.pf_lower.proofs.Growing.{by_ok, written_expression_put, grown_itself}
 use Rattle.pf_rules.proofs.Counts.{arity_length}
 use Rattle.pf_lower.proofs.WrittenExpressions_mean.{written_expression_here, call_defined, call_clean}
@@ -13,20 +17,43 @@ pub returns-in-Some : goal.returns-in-Some
 returns-in-Some c =
     let m = c.args.module.now in
     let fs = c.args.source.now.functions in
+    let n = names_of m.atoms fs in
     let es = written_expressions_at c.args.source.now.node_table c.args.ids.now in
     let f = c.args.word.name.0 in
     let at = c.args.word.offset in
     by_ok _ _ _ c.put_node.ensures
     (λ x h. written_expression_put fs m m _ _ c.args.places.now _ (p.call f at es) _ x refl refl (grown_itself m)
     (λ g e i k. w.own g f at c.in-Some.function.0 es _ (ap (own_in fs f) (arity_length c.args.source.now.node_table c.args.ids.now) ∙ c.in-Some.ensures)
-    (c.requires.parts_are.means g e i (call_clean fs g f at es k))) h)
+    (c.requires.parts_are.means g e i (call_clean n g f at es k))) h)
+
+-- what was found by a name and a number is found by others that are the same
+found_by : {X : Type 0} (B : List ℕ → ℕ → X) (name there : List ℕ) (k count : ℕ) (x : X) → name ≡ there → k ≡ count → x ≡ B name count → B there k ≡ x
+found_by B name there k count x e d h = ap (B there) d ∙ ap (λ (l : List ℕ). B l count) (sym e) ∙ sym h
+
+pub returns-in-Some-open_builtin : goal.returns-in-Some-open_builtin
+returns-in-Some-open_builtin c =
+    let m = c.args.module.now in
+    let fs = c.args.source.now.functions in
+    let n = names_of m.atoms fs in
+    let es = written_expressions_at c.args.source.now.node_table c.args.ids.now in
+    let f = c.args.word.name.0 in
+    let at = c.args.word.offset in
+    let named = c.name.ensures ∙ ap (λ (a : List (List ℕ)). name_of a f) c.atoms.ensures in
+    let found = found_by open_builtin c.name.result.now (name_of m.atoms f) (arity_of es) (length c.args.ids.now) (Some (builtin_of c.in-Some-open_builtin.builtin)) named (arity_length c.args.source.now.node_table c.args.ids.now) c.in-Some-open_builtin.ensures in
+    by_ok _ _ _ c.put_node-in-Some-open_builtin.ensures
+    (λ x h. written_expression_put fs m m _ _ c.args.places.now _ (p.call f at es) _ x refl refl (grown_itself m)
+    (λ g e i k. w.builtin g f at (builtin_of c.in-Some-open_builtin.builtin) es _ found (c.requires.parts_are.means g e i (call_clean n g f at es k))) h)
 
 pub returns-in-None : goal.returns-in-None
 returns-in-None c =
     let m = c.args.module.now in
     let fs = c.args.source.now.functions in
+    let n = names_of m.atoms fs in
     let es = written_expressions_at c.args.source.now.node_table c.args.ids.now in
     let f = c.args.word.name.0 in
     let at = c.args.word.offset in
+    let count = arity_length c.args.source.now.node_table c.args.ids.now in
+    let named = c.name.ensures ∙ ap (λ (a : List (List ℕ)). name_of a f) c.atoms.ensures in
+    let found = found_by open_builtin c.name.result.now (name_of m.atoms f) (arity_of es) (length c.args.ids.now) None named count c.in-None.ensures in
     written_expression_here fs m c.args.places.now _ (p.call f at es) part.Nil refl tt
-    (λ g e i k. absurd (call_defined fs g f at es (ap (own_in fs f) (arity_length c.args.source.now.node_table c.args.ids.now) ∙ c.in-None.ensures) k))
+    (λ g e i k. absurd (call_defined n g f at es (ap (own_in fs f) count ∙ c.in_default.ensures) found k))

@@ -10,4 +10,4 @@ returns-in-Some c =
     let x = c.args.word.name.0 in
     let at = c.args.word.offset in
     written_expression_here fs c.args.module.now c.args.places.now _ (p.variable x at) (part.Slot c.in-Some.place) refl tt
-    (λ g e f k. variable_means fs g c.args.places.now x at c.in-Some.place e c.in-Some.ensures)
+    (λ g e f k. variable_means _ g c.args.places.now x at c.in-Some.place e c.in-Some.ensures)

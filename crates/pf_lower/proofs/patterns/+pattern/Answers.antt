@@ -27,7 +27,7 @@ pattern-returns-in-Integer t c =
     by_ok _ _ _ c.put_pattern-in-Integer.ensures
     (λ p h. written_pattern_put c.args.source.now.functions m m _ _ c.args.places.now _ _ _ p (ap (written_pattern_over c.args.source.now.node_table) (sym c.in-Integer.is) ∙ c.in-Some.ensures.found)
     refl (grown_itself m)
-    (λ g e f k. subst (λ z. WrittenPatternIs (names_of c.args.source.now.functions) g (s.integer c.in-Integer.n) (known (int z))) (sym same) (w.integer g c.in-Integer.n)) h)
+    (λ g e f k. subst (λ z. WrittenPatternIs (names_of m.atoms c.args.source.now.functions) g (s.integer c.in-Integer.n) (known (int z))) (sym same) (w.integer g c.in-Integer.n)) h)
 
 pub pattern-returns-in-Atom : goal.pattern-returns-in-Atom
 pattern-returns-in-Atom t c =

@@ -13,7 +13,7 @@ returns-in-Some c =
     let is = rw c.in-Some.is at c.in_ok-made.ensures in
     by_ok _ _ _ c.put_known.ensures
     (λ p h. written_pattern_put c.args.source.now.functions m m _ _ c.args.places.now _ (written.text c.args.codes.now) _ p refl refl (grown_itself m)
-    (λ g e f k. subst (λ v. WrittenPatternIs (names_of c.args.source.now.functions) g (written.text c.args.codes.now) (known v)) (sym is) (w.text g c.args.codes.now)) h)
+    (λ g e f k. subst (λ v. WrittenPatternIs (names_of m.atoms c.args.source.now.functions) g (written.text c.args.codes.now) (known v)) (sym is) (w.text g c.args.codes.now)) h)
 
 pub returns-in-None : goal.returns-in-None
 returns-in-None c =

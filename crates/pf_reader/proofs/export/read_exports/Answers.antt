@@ -5,9 +5,9 @@ use Rattle.std.proofs.lemmas.List.{length-map}
 use Rattle.pf_syntax.specs.SourceOver.{export_of}
 use Rattle.pf_tokens.specs.declared.marks.Mark.TheVariants.{Minus}
 use Rattle.pf_numbered.specs.NumberedTokens.{mark}
-use Rattle.pf_reader.specs.Parse.{after, exports}
-use Rattle.pf_numbered.specs.View.{numbered_token_of, token_list}
-use Rattle.pf_reader.specs.View.{names_of}
+use Rattle.pf_grammar.specs.Parse.{after, exports}
+use Rattle.pf_numbered.specs.View.{numbered_token_of}
+use Rattle.pf_reader.specs.View.{names_of, tokens_in}
 use Rattle.pf_reader.specs.Given.{with_front}
 use Rattle.pf_reader.proofs.Items.{fails_as}
 use Rattle.pf_reader.proofs.Turns.{exports_stop, exports_out, exports_fail, exports_go}
@@ -15,33 +15,33 @@ use Rattle.pf_reader.proofs.export.read_exports.Goals as goal
 
 pub returns-in_default-clause-given : goal.returns-in_default-clause-given
 returns-in_default-clause-given c =
-    let none : after (mark Minus) (token_list c.loop.rest.now) ≡ None = search rules in
+    let none : after (mark Minus) (tokens_in c.loop.rest) ≡ None = search rules in
     exports_stop (names_of c.args.context) _ _ _ _ c.loop.invariant.given none
 
 pub returns-in_err-entries-clause-given : goal.returns-in_err-entries-clause-given
 returns-in_err-entries-clause-given c =
     let p = err_from_is_err_and c.from_residual.result c.from_residual.ensures.1 in
-    let n = length (token_list c.args.tokens.now) in
-    let turn : n - c.loop.counter ≡ suc (n - (c.loop.counter + 1)) = omega (arith, length-map c.args.tokens.now numbered_token_of) in
-    let form : after (mark Minus) (token_list c.loop.rest.now) ≡ Some (token_list c.in-Some.form.now) = search rules in
+    let n = length (tokens_in c.args.tokens) in
+    let turn : n - c.loop.counter ≡ suc (n - (c.loop.counter + 1)) = omega (arith, length-map c.args.tokens.list.now numbered_token_of) in
+    let form : after (mark Minus) (tokens_in c.loop.rest) ≡ Some (tokens_in c.in-Some.form) = search rules in
     rw (p.1, p.2) (fails_as _ _ _ (exports_fail (names_of c.args.context) _ _ _ _ c.loop.invariant.given _ _ turn form) c.in_err-entries.ensures)
 
 pub loop-preserved : goal.loop-preserved
 loop-preserved c =
-    let n = length (token_list c.args.tokens.now) in
-    let turn : n - c.loop.counter ≡ suc (n - (c.loop.counter + 1)) = omega (arith, length-map c.args.tokens.now numbered_token_of) in
-    let form : after (mark Minus) (token_list c.loop.rest.now) ≡ Some (token_list c.in-Some.form.now) = search rules in
+    let n = length (tokens_in c.args.tokens) in
+    let turn : n - c.loop.counter ≡ suc (n - (c.loop.counter + 1)) = omega (arith, length-map c.args.tokens.list.now numbered_token_of) in
+    let form : after (mark Minus) (tokens_in c.loop.rest) ≡ Some (tokens_in c.in-Some.form) = search rules in
     let whole = exports_go (names_of c.args.context) _ _ _ _ c.loop.invariant.given _ _ _ _ turn form c.in_ok-entries.ensures in
     let added : c.add_exports.new.source.exports ≡ c.loop.source.exports ++ map export_of c.in_ok-entries.entries.items =
     c.in_ok-add_exports.ensures.added ∙ ap (λ es. c.loop.source.exports ++ map export_of es) c.deref.ensures.value in
     record {
-      given = whole ∙ ap (λ es. with_front es (exports (names_of c.args.context) (n - (c.loop.counter + 1)) (token_list c.in_ok-entries.after.now))) (sym added);
+      given = whole ∙ ap (λ es. with_front es (exports (names_of c.args.context) (n - (c.loop.counter + 1)) (tokens_in c.in_ok-entries.after))) (sym added);
       name = c.in_ok-add_exports.ensures.name ∙ c.loop.invariant.name;
       functions = c.in_ok-add_exports.ensures.functions ∙ c.loop.invariant.functions;
     }
 
 pub returns-clause-given : goal.returns-clause-given
 returns-clause-given c =
-    let n = length (token_list c.args.tokens.now) in
-    let out : n - c.loop.counter ≡ 0 = omega (arith, length-map c.args.tokens.now numbered_token_of) in
+    let n = length (tokens_in c.args.tokens) in
+    let out : n - c.loop.counter ≡ 0 = omega (arith, length-map c.args.tokens.list.now numbered_token_of) in
     exports_out (names_of c.args.context) _ _ _ _ c.loop.invariant.given out

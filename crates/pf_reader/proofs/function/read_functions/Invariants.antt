@@ -1,15 +1,14 @@
 use Rattle.std.proofs.Common.{◌≡◌, ◌-◌, length}
-use Rattle.pf_reader.specs.Parse.{functions}
-use Rattle.pf_numbered.specs.View.{token_list}
-use Rattle.pf_reader.specs.View.{names_of}
+use Rattle.pf_grammar.specs.Parse.{functions}
+use Rattle.pf_reader.specs.View.{names_of, tokens_in}
 use Rattle.pf_reader.specs.Given.{with_first}
 use Rattle.pf_reader.proofs.function.read_functions.Given as goal
 
 -- the functions so far, and what is left, give what the whole gives
 abbrev pub invariant-loop : goal.invariant-loop
 invariant-loop l = record {
-  given : with_first l.fn.source.functions (functions (names_of l.fn.context) (length (token_list l.tokens)) (token_list l.tokens))
-      ≡ with_first l.source.functions (functions (names_of l.fn.context) (length (token_list l.tokens) - l.counter) (token_list l.rest));
+  given : with_first l.fn.source.functions (functions (names_of l.fn.context) (length (tokens_in l.tokens)) (tokens_in l.tokens))
+      ≡ with_first l.source.functions (functions (names_of l.fn.context) (length (tokens_in l.tokens) - l.counter) (tokens_in l.rest));
   name : l.source.name ≡ l.fn.source.name;
   exports : l.source.exports ≡ l.fn.source.exports;
 }

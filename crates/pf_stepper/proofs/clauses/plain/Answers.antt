@@ -1,4 +1,4 @@
-use Rattle.std.proofs.Common.{rules, ◌≡◌, length, [], ap, ◌∙◌, refl}
+use Rattle.std.proofs.Common.{rules, ◌≡◌, length, ap, ◌∙◌, refl}
 use Rattle.pf_syntax.specs.Over.{patterns_at}
 use Rattle.pf_stepper.specs.Plain.{all_new}
 use Rattle.pf_stepper.proofs.Plain.{none_in, single}

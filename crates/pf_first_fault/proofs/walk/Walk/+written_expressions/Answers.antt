@@ -23,7 +23,7 @@ condition-loop-alternative-init t c = record { underway = underway_first c.args.
 
 pub written_expressions-loop-part-preserved : goal.written_expressions-loop-part-preserved
 written_expressions-loop-part-preserved t c =
-    let n = names_of c.args.source.now.functions in
+    let n = names_of c.args.atoms.now c.args.source.now.functions in
     let node_table = c.args.source.now.node_table in
     let parts = c.args.parts.now in
     let i = c.loop-part.part-index in
@@ -38,12 +38,12 @@ pub written_expressions-returns : goal.written_expressions-returns
 written_expressions-returns t c =
     let node_table = c.args.source.now.node_table in
     let parts = c.args.parts.now in
-    written_expressions_all (names_of c.args.source.now.functions) c.args.self.now c.loop-part.self (written_expressions_at node_table parts) (written_expressions_at node_table (drop c.loop-part.part-index parts))
+    written_expressions_all (names_of c.args.atoms.now c.args.source.now.functions) c.args.self.now c.loop-part.self (written_expressions_at node_table parts) (written_expressions_at node_table (drop c.loop-part.part-index parts))
     (at_drop_all (λ qs. written_expressions_at node_table qs) parts c.loop-part.part-index c.loop-part-test.false) c.loop-part.invariant.underway
 
 pub condition-returns : goal.condition-returns
 condition-returns t c =
-    let n = names_of c.args.source.now.functions in
+    let n = names_of c.args.atoms.now c.args.source.now.functions in
     let node_table = c.args.source.now.node_table in
     let parts = c.deref-alternative-items.result.now in
     let i = c.loop-alternative.alternative-index in
@@ -53,7 +53,7 @@ condition-returns t c =
 
 pub condition-loop-alternative-preserved : goal.condition-loop-alternative-preserved
 condition-loop-alternative-preserved t c =
-    let n = names_of c.args.source.now.functions in
+    let n = names_of c.args.atoms.now c.args.source.now.functions in
     let node_table = c.args.source.now.node_table in
     let parts = c.deref-alternative-items.result.now in
     let i = c.loop-alternative.alternative-index in
@@ -68,7 +68,7 @@ condition-loop-alternative-preserved t c =
 
 pub branches-loop-branch-preserved : goal.branches-loop-branch-preserved
 branches-loop-branch-preserved t c =
-    let n = names_of c.args.source.now.functions in
+    let n = names_of c.args.atoms.now c.args.source.now.functions in
     let node_table = c.args.source.now.node_table in
     let parts = c.args.branches.now in
     let i = c.loop-branch.branch-index in
@@ -86,14 +86,14 @@ branches-returns t c =
     let parts = c.args.branches.now in
     let i = c.loop-branch.branch-index in
     let now = c.loop-branch.self in
-    branches_all (names_of c.args.source.now.functions) c.args.self.now now _ (branches_over node_table parts) (branches_over node_table (drop i parts))
+    branches_all (names_of c.args.atoms.now c.args.source.now.functions) c.args.self.now now _ (branches_over node_table parts) (branches_over node_table (drop i parts))
     (at_drop_all (λ qs. branches_over node_table qs) parts i c.loop-branch-test.false) c.loop-branch.invariant.underway refl
     (λ x. c.in_ok-set_since.ensures.set x ∙ ap (λ (k : ℕ). if has (drop k (trail_of now.variables)) x then Unsafe else status_of now.variables x) c.trail_len-start.ensures)
     c.in_ok-set_since.ensures.trail
 
 pub branch-returns : goal.branch-returns
 branch-returns t c =
-    let n = names_of c.args.source.now.functions in
+    let n = names_of c.args.atoms.now c.args.source.now.functions in
     let node_table = c.args.source.now.node_table in
     let now = c.written_expressions.new.self in
     let body = subst (λ (ids : List WrittenExpressionId). WrittenExpressionsWalked n c.condition.new.self now (written_expressions_at node_table ids)) c.deref.ensures.value c.in_ok-written_expressions.ensures in
@@ -104,7 +104,7 @@ branch-returns t c =
 
 pub tests-returns : goal.tests-returns
 tests-returns t c =
-    let n = names_of c.args.source.now.functions in
+    let n = names_of c.args.atoms.now c.args.source.now.functions in
     let es = written_expressions_at c.args.source.now.node_table c.args.tests.now in
     let now = c.written_expressions.new.self in
     walks_back c.args.self.now now _ (λ g. after_all g es) (λ g. written_expressions_faults n g es) c.in_ok-written_expressions.ensures refl
@@ -113,12 +113,13 @@ tests-returns t c =
 
 pub written_expression_node-returns-in_ok-written_expressions-in-Call : goal.written_expression_node-returns-in_ok-written_expressions-in-Call
 written_expression_node-returns-in_ok-written_expressions-in-Call t c =
+    let atoms = c.args.atoms.now in
     let fs = c.args.source.now.functions in
     let node_table = c.args.source.now.node_table in
     let old = c.args.self.now in
     let new = c.written_expressions-in-Call.new.self in
     let w = c.in-Call.word in
     let ids = c.in-Call.arguments in
-    subst (λ (m : WrittenExpressionNode). WrittenExpressionWalked (names_of fs) old new (written_expression_over node_table m)) (sym c.in-Call.is)
-    (called fs c.args.own.now node_table old c.call.new.self new w.name.0 w.offset c.len.result ids.items c.deref-in-Call.result.now c.requires (omega (arith, ids.ok.0)) c.deref-in-Call.ensures.value c.call.ensures
+    subst (λ (m : WrittenExpressionNode). WrittenExpressionWalked (names_of atoms fs) old new (written_expression_over node_table m)) (sym c.in-Call.is)
+    (called atoms fs c.args.own.now node_table old c.call.new.self new w.name.0 w.offset c.len.result ids.items c.deref-in-Call.result.now c.requires (omega (arith, ids.ok.0)) c.deref-in-Call.ensures.value c.call.ensures
     c.in_ok-written_expressions-in-Call.ensures)

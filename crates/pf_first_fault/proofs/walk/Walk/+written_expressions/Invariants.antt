@@ -40,18 +40,18 @@ decreases-branches l = 8 * branches_depth (branches_over l.source.now.node_table
 -- what was walked and what is left are the whole
 abbrev pub invariant-written_expressions-loop-part : goal.invariant-written_expressions-loop-part
 invariant-written_expressions-loop-part l = record {
-  underway : WrittenExpressionsUnderway (names_of l.source.functions) l.fn.self l.self (written_expressions_at l.source.node_table l.parts) (written_expressions_at l.source.node_table (drop l.part-index l.parts));
+  underway : WrittenExpressionsUnderway (names_of l.atoms l.source.functions) l.fn.self l.self (written_expressions_at l.source.node_table l.parts) (written_expressions_at l.source.node_table (drop l.part-index l.parts));
   shallow : written_expressions_depth (written_expressions_at l.source.node_table (drop l.part-index l.parts)) ≤ written_expressions_depth (written_expressions_at l.source.node_table l.parts);
 }
 
 abbrev pub invariant-condition-loop-alternative : goal.invariant-condition-loop-alternative
 invariant-condition-loop-alternative l = record {
-  underway : ConditionUnderway (names_of l.source.functions) l.fn.self l.self (alternatives_at l.source.node_table l.alternative-items) (alternatives_at l.source.node_table (drop l.alternative-index l.alternative-items));
+  underway : ConditionUnderway (names_of l.atoms l.source.functions) l.fn.self l.self (alternatives_at l.source.node_table l.alternative-items) (alternatives_at l.source.node_table (drop l.alternative-index l.alternative-items));
   shallow : condition_depth (alternatives_at l.source.node_table (drop l.alternative-index l.alternative-items)) ≤ condition_depth (alternatives_at l.source.node_table l.alternative-items);
 }
 
 abbrev pub invariant-branches-loop-branch : goal.invariant-branches-loop-branch
 invariant-branches-loop-branch l = record {
-  underway : BranchesUnderway (names_of l.source.functions) l.fn.self l.self (branches_over l.source.node_table l.branches) (branches_over l.source.node_table (drop l.branch-index l.branches));
+  underway : BranchesUnderway (names_of l.atoms l.source.functions) l.fn.self l.self (branches_over l.source.node_table l.branches) (branches_over l.source.node_table (drop l.branch-index l.branches));
   shallow : branches_depth (branches_over l.source.node_table (drop l.branch-index l.branches)) ≤ branches_depth (branches_over l.source.node_table l.branches);
 }

@@ -13,7 +13,7 @@ use Rattle.pf_first_fault.proofs.walk.Walk.head.Goals as goal
 
 pub returns : goal.returns
 returns c =
-    let n = names_of c.args.source.now.functions in
+    let n = names_of c.args.atoms.now c.args.source.now.functions in
     let node_table = c.args.source.now.node_table in
     let now = c.written_expressions.new.self in
     let front = subst (λ (ids : List WrittenPatternId). WrittenPatternsWalked c.args.self.now c.written_patterns.new.self (written_patterns_at node_table ids)) c.deref.ensures.value c.in_ok-written_patterns.ensures in

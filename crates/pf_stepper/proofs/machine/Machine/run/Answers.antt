@@ -1,10 +1,12 @@
-use Rattle.std.proofs.Common.{ap, ◌∙◌, ◌≡◌}
+use Rattle.std.proofs.Common.{ap, ◌∙◌, ◌≡◌, subst, sym}
 use Rattle.pf_model.specs.Code.{code_of}
 use Rattle.pf_stepper.specs.MachineView.{MachineView}
+use Rattle.pf_stepper.specs.Readiness.{IsReadyAhead}
 use Rattle.pf_stepper.specs.Inner.{standing_in}
 use Rattle.pf_stepper.specs.declared.machine.Standing.{Standing}
 use Rattle.pf_stepper.specs.declared.machine.Standing.TheVariants as stood
 use Rattle.pf_stepper.proofs.Outer.{ran_so}
+use Rattle.pf_stepper.proofs.Ready.{ready_to_settle}
 use Rattle.pf_stepper.proofs.machine.Machine.run.Goals as goal
 
 pub returns-clause-ran : goal.returns-clause-ran
@@ -15,3 +17,13 @@ returns-clause-ran g c =
     let ran = rw c.deref.ensures at c.in_ok-advance.ensures in
     let settled = rw c.deref-2.ensures at c.in_ok-stop.ensures.settled in
     rw (← stood_so) (ran_so i.module.value i.own c.args.left _ _ c.in_ok-advance.used i.stack c.run.new.self c.settle.new.stack c.in-Goes.focus c.in_ok-advance.advance c.in_ok-stop.stop ran settled)
+
+pub settle-requires-clause-ready : goal.settle-requires-clause-ready
+settle-requires-clause-ready g c =
+    let i = c.self.inside in
+    let ready = g.I.Inbox.IsReady c.args.inbox.now in
+    let before : Standing → MachineView = λ x. record { own = i.own; code = code_of i.module.value; standing = standing_in i.module.value i.stack x } in
+    let stood_so : before (stood.Goes c.in-Goes.focus) ≡ c.args.self.now = ap before c.in-Goes.ensures.value ∙ c.self.view_is in
+    let ahead = subst (IsReadyAhead ready) (sym stood_so) c.requires.ready in
+    let ran = rw c.deref.ensures at c.in_ok-advance.ensures in
+    rw c.deref-2.ensures (ready_to_settle ready i.module.value i.own c.args.left _ i.stack c.run.new.self c.in-Goes.focus c.in_ok-advance.advance ahead ran)

@@ -1,0 +1,46 @@
+//! What a source is answered with that is only checked.
+
+ghost use Rattle.std.specs.Prelude.{◌≡◌, ◌++◌, IfOk, codes};
+ghost use Rattle.pf_fault.specs.Codes.{refusal_text};
+ghost use Rattle.pf_model.specs.TermText.{line};
+ghost use Rattle.pf_command.specs.Checks.{Checks, explained};
+
+use crate::answer::{Answer, refused_at};
+use pf_check::read;
+use pf_explain::put_explanation;
+use pf_fault::{NoMemory, OrNoMemory, Refusal};
+use pf_text::put;
+use std::alloc::Global;
+
+/// The answer to a source that is a module.
+fn accepted(alloc: Global) -> Result<Answer, NoMemory>
+    ensures { IfOk result (λ a. (a.text.items ≡ line (codes "ok")) × (a.status ≡ 0)) }
+{
+    let mut text = Vec::new(alloc);
+    put(&mut text, b"ok\n")?;
+    Ok(Answer { text, status: 0 })
+}
+
+/// The answer to a source that is refused, with its explanation where that is asked for.
+fn refuse(alloc: Global, explain: bool, source: &[u8], refusal: Refusal) -> Result<Answer, NoMemory>
+    ensures { IfOk result (λ a. (a.text.items ≡ line (refusal_text refusal.code refusal.place)
+        ++ explained explain source.now refusal.code refusal.place) × (a.status ≡ 2)) }
+{
+    let Answer { mut text, status } = refused_at(alloc, refusal)?;
+    if explain {
+        put_explanation(alloc, &mut text, source, refusal)?;
+    }
+    Ok(Answer { text, status })
+}
+
+/// The answer to a source: `ok` where it is a module, else its first refusal.
+pub fn answer_check(alloc: Global, explain: bool, source: &[u8]) -> Result<Answer, NoMemory>
+    ensures { IfOk result (λ a. Checks explain source.now a.text.items a.status) }
+{
+    let refusal = match read(alloc, source) {
+        Ok(_) => return accepted(alloc),
+        Err(OrNoMemory::NoMemory) => return Err(NoMemory),
+        Err(OrNoMemory::Fault(refusal)) => refusal,
+    };
+    refuse(alloc, explain, source, refusal)
+}

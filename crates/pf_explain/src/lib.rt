@@ -1,0 +1,11 @@
+//! What is wrong with a source that is refused: where, in which line, and how to mend it.
+#![tactic(auto)]
+
+mod explanation;
+mod place;
+mod sentences;
+mod shown;
+
+pub use explanation::put_explanation;
+pub use sentences::sentence;
+pub use shown::MOST_SHOWN;

@@ -1,0 +1,85 @@
+-- The built-in functions by name, and which forms of the language are open.
+use Rattle.std.specs.Prelude.{ℕ, Bool, true, false, ◌==◌, ◌&&◌, List, [], ◌∷◌, Option, Some, None, codes, if◌then◌else◌}
+use Rattle.std.specs.Str.{bytes_eq}
+use Rattle.pf_syntax.specs.Tree.{Builtin, self, hd, tl, length_of, element, tuple_size, is_integer, is_atom, is_tuple, is_list, is_pid, is_reference, exit, spawn, spawn_link, link, unlink, monitor, demonitor, exit_other, process_flag, register, unregister, whereis, make_ref}
+
+-- ---- built-in functions
+
+-- a built-in function, with its name and its number of arguments
+pub record Row : Type 0 where
+  pub name : List ℕ
+  pub arity : ℕ
+  pub builtin : Builtin
+
+abbrev pub row : List ℕ → ℕ → Builtin → Row
+row name arity builtin = record { name = name; arity = arity; builtin = builtin }
+
+abbrev pub builtins : List Row
+builtins =
+    row (codes "self") 0 self ∷ row (codes "hd") 1 hd ∷ row (codes "tl") 1 tl ∷ row (codes "length") 1 length_of
+    ∷ row (codes "element") 2 element ∷ row (codes "tuple_size") 1 tuple_size ∷ row (codes "is_integer") 1 is_integer
+    ∷ row (codes "is_atom") 1 is_atom ∷ row (codes "is_tuple") 1 is_tuple ∷ row (codes "is_list") 1 is_list
+    ∷ row (codes "is_pid") 1 is_pid ∷ row (codes "is_reference") 1 is_reference ∷ row (codes "exit") 1 exit
+    ∷ row (codes "spawn") 3 spawn ∷ row (codes "spawn_link") 3 spawn_link ∷ row (codes "link") 1 link
+    ∷ row (codes "unlink") 1 unlink ∷ row (codes "monitor") 2 monitor ∷ row (codes "demonitor") 1 demonitor
+    ∷ row (codes "exit") 2 exit_other ∷ row (codes "process_flag") 2 process_flag ∷ row (codes "register") 2 register
+    ∷ row (codes "unregister") 1 unregister ∷ row (codes "whereis") 1 whereis ∷ row (codes "make_ref") 0 make_ref ∷ []
+
+-- the first row of this name and number of arguments
+abbrev pub named_in : List ℕ → ℕ → List Row → Option Builtin
+named_in name arity [] = None
+named_in name arity (r ∷ rows) = if bytes_eq r.name name && (r.arity == arity) then Some r.builtin else named_in name arity rows
+
+-- the built-in function of this name and number of arguments
+abbrev pub builtin_named : List ℕ → ℕ → Option Builtin
+builtin_named name arity = named_in name arity builtins
+
+-- the built-in functions that tell something of their arguments, or the own pid, and do no more
+abbrev pub is_pure : Builtin → Bool
+is_pure self = true
+is_pure hd = true
+is_pure tl = true
+is_pure length_of = true
+is_pure element = true
+is_pure tuple_size = true
+is_pure is_integer = true
+is_pure is_atom = true
+is_pure is_tuple = true
+is_pure is_list = true
+is_pure is_pid = true
+is_pure is_reference = true
+is_pure _ = false
+
+-- ---- which forms are open
+
+-- the forms of a body that a guard doesn't hold. A match isn't among them, since it stands in bodies by its level alone
+pub data Form : Type 0 where
+  appending : Form
+  deciding : Form
+  choosing : Form
+  receiving : Form
+  sending : Form
+  calling : Builtin → Form
+
+-- No run has these forms yet, since there is no system of processes: `receive`, `!` and the built-in functions that ask it for
+-- something. The first two have no rule of the grammar, and the last can't be called. All other forms are open
+abbrev pub is_open : Form → Bool
+is_open receiving = false
+is_open sending = false
+is_open (calling exit) = true
+is_open (calling b) = is_pure b
+is_open _ = true
+
+-- a guard, where the flag says that it is one, holds none of these forms but calls of the built-in functions that are pure
+abbrev pub may_stand : Bool → Form → Bool
+may_stand true (calling b) = is_pure b
+may_stand true _ = false
+may_stand false form = is_open form
+
+-- the built-in function of this name and number of arguments that can be called
+abbrev pub only_open : Option Builtin → Option Builtin
+only_open None = None
+only_open (Some b) = if is_open (calling b) then Some b else None
+
+abbrev pub open_builtin : List ℕ → ℕ → Option Builtin
+open_builtin name arity = only_open (builtin_named name arity)

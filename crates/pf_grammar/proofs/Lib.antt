@@ -1,0 +1,12 @@
+pub mod Single
+pub mod Lists
+pub mod Patterns
+pub mod Groups
+pub mod Sound
+pub mod Stops
+pub mod CompleteClauses
+pub mod CompleteParts
+pub mod Complete
+pub mod FormsSound
+pub mod FormsComplete
+pub mod Whole

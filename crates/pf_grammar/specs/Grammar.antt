@@ -1,0 +1,376 @@
+-- The grammar, as relations between a tree and the tokens that it is written with.
+use Rattle.std.specs.Prelude.{◌≡◌, ◌⊎◌, ℕ, ◌-◌, ◌≤◌, Bool, true, false, IsTrue, pos, neg_ℤ, List, [], ◌∷◌, ◌++◌, length, flat_map, Option, Some, None, codes}
+use Rattle.pf_terms.specs.Atoms.{name_of}
+use Rattle.pf_tokens.specs.declared.marks.Mark.TheVariants as marks
+use Rattle.pf_tokens.specs.declared.words.Reserved.TheVariants as words
+use Rattle.pf_syntax.specs.Tree.{Operator, plus, minus, times, quotient, remainder, append, equal, unequal, less, at_most, greater, at_least, Builtin}
+use Rattle.pf_syntax.specs.WrittenPattern as s
+use Rattle.pf_syntax.specs.WrittenPattern.{WrittenPattern, WrittenPatterns, no_written_patterns, written_pattern, written_patterns_depth}
+use Rattle.pf_syntax.specs.WrittenExpression as p
+use Rattle.pf_syntax.specs.WrittenExpression.{WrittenExpression, WrittenExpressions, Condition, Branches, no_written_expressions, written_expression, no_tests, tests, no_branches, branch, written_expressions_depth, condition_depth}
+use Rattle.pf_syntax.specs.Source.{Export, Head}
+use Rattle.pf_syntax.specs.Naming.{arity_of}
+use Rattle.pf_forms.specs.Forms.{builtin_named, appending, deciding, choosing, receiving, sending, calling, may_stand}
+pub use Rattle.pf_syntax.specs.WrittenModule.{Tree, tree_of, unguarded}
+use Rattle.pf_numbered.specs.declared.limits.TheConstants.{MOST_NAME_BYTES, MOST_TREE_DEPTH, MOST_TEXT_CHARACTERS}
+use Rattle.pf_numbered.specs.NumberedTokens.{NumberedKind, integer, atom, variable, anonymous, text, own_module, dot, mark, reserved, NumberedToken}
+
+-- what numbers in tokens stand for: the names of atoms, and the number of the module's own name
+pub record Names : Type 0 where
+  pub atoms : List (List ℕ)
+  pub own : ℕ
+
+-- ---- how tokens stand together
+
+-- the tokens are one, of this kind of token
+abbrev pub IsOne : NumberedKind → List NumberedToken → Type 0
+IsOne s ts = (t : NumberedToken) × (t.kind ≡ s) × (ts ≡ t ∷ [])
+
+-- the tokens are one of this kind of token and a part behind it
+abbrev pub Behind : NumberedKind → (List NumberedToken → Type 0) → List NumberedToken → Type 0
+Behind s P ts = (t : NumberedToken) × (more : List NumberedToken) × (t.kind ≡ s) × (ts ≡ t ∷ more) × P more
+
+-- the tokens are a part and one of this kind of token behind it
+abbrev pub Before : NumberedKind → (List NumberedToken → Type 0) → List NumberedToken → Type 0
+Before s P ts = (front : List NumberedToken) × (t : NumberedToken) × (t.kind ≡ s) × (ts ≡ front ++ t ∷ []) × P front
+
+-- the tokens are two parts
+abbrev pub Together : (List NumberedToken → Type 0) → (List NumberedToken → Type 0) → List NumberedToken → Type 0
+Together P Q ts = (xs : List NumberedToken) × (ys : List NumberedToken) × (ts ≡ xs ++ ys) × P xs × Q ys
+
+-- the tokens are a part, one of this kind of token, and a part
+abbrev pub Apart : NumberedKind → (List NumberedToken → Type 0) → (List NumberedToken → Type 0) → List NumberedToken → Type 0
+Apart s P Q ts = (xs : List NumberedToken) × (t : NumberedToken) × (ys : List NumberedToken) × (t.kind ≡ s) × (ts ≡ xs ++ t ∷ ys) × P xs × Q ys
+
+-- the tokens are a part between two of these kinds of tokens
+abbrev pub Between : NumberedKind → NumberedKind → (List NumberedToken → Type 0) → List NumberedToken → Type 0
+Between first last P ts = Behind first (Before last P) ts
+
+-- ---- names
+
+-- the token is this atom, whose name isn't too long, or `?MODULE`
+abbrev pub IsAtom : Names → ℕ → NumberedToken → Type 0
+IsAtom n a t = ((t.kind ≡ atom a) × (length (name_of n.atoms a) ≤ MOST_NAME_BYTES)) ⊎ ((t.kind ≡ own_module) × (a ≡ n.own))
+
+-- the token is an atom of these bytes
+abbrev pub IsWord : Names → List ℕ → NumberedToken → Type 0
+IsWord n bytes t = (a : ℕ) × (t.kind ≡ atom a) × (name_of n.atoms a ≡ bytes)
+
+-- ---- operators
+
+-- what stands between two operands
+pub data Infix : Type 0 where
+  operator : Operator → Infix
+  and_also : Infix
+  or_else : Infix
+  send : Infix
+
+-- the infix that a token is
+abbrev pub infix_of : NumberedKind → Option Infix
+infix_of (mark marks.Times) = Some (operator times)
+infix_of (reserved words.Div) = Some (operator quotient)
+infix_of (reserved words.Rem) = Some (operator remainder)
+infix_of (mark marks.Plus) = Some (operator plus)
+infix_of (mark marks.Minus) = Some (operator minus)
+infix_of (mark marks.Append) = Some (operator append)
+infix_of (mark marks.Equal) = Some (operator equal)
+infix_of (mark marks.ExactlyEqual) = Some (operator equal)
+infix_of (mark marks.Unequal) = Some (operator unequal)
+infix_of (mark marks.ExactlyUnequal) = Some (operator unequal)
+infix_of (mark marks.Less) = Some (operator less)
+infix_of (mark marks.AtMost) = Some (operator at_most)
+infix_of (mark marks.Greater) = Some (operator greater)
+infix_of (mark marks.AtLeast) = Some (operator at_least)
+infix_of (reserved words.Andalso) = Some and_also
+infix_of (reserved words.Orelse) = Some or_else
+infix_of (mark marks.Send) = Some send
+infix_of _ = None
+
+-- how the infixes of a level group
+pub data Grouping : Type 0 where
+  leftwards : Grouping
+  rightwards : Grouping
+  alone : Grouping
+
+-- how tightly an infix binds, and how it groups. Level 0 is a part that no infix opens, and 1 such a part behind a minus
+pub record Binding : Type 0 where
+  pub level : ℕ
+  pub grouping : Grouping
+
+abbrev pub binds : ℕ → Grouping → Binding
+binds level grouping = record { level = level; grouping = grouping }
+
+abbrev pub binding_of : Infix → Binding
+binding_of (operator times) = binds 2 leftwards
+binding_of (operator quotient) = binds 2 leftwards
+binding_of (operator remainder) = binds 2 leftwards
+binding_of (operator plus) = binds 3 leftwards
+binding_of (operator minus) = binds 3 leftwards
+binding_of (operator append) = binds 4 rightwards
+binding_of (operator equal) = binds 5 alone
+binding_of (operator unequal) = binds 5 alone
+binding_of (operator less) = binds 5 alone
+binding_of (operator at_most) = binds 5 alone
+binding_of (operator greater) = binds 5 alone
+binding_of (operator at_least) = binds 5 alone
+binding_of and_also = binds 6 rightwards
+binding_of or_else = binds 7 rightwards
+binding_of send = binds 8 rightwards
+
+abbrev pub level_of : Infix → ℕ
+level_of i = (binding_of i).level
+
+-- the level of a whole expression
+abbrev pub top : ℕ
+top = 8
+
+-- the level of an element of a body, which alone may be a match
+abbrev pub element : ℕ
+element = 9
+
+-- the greatest level of the left operand, and of the right one: the infix's own on the side to which it groups
+abbrev pub left_in : Grouping → ℕ → ℕ
+left_in leftwards level = level
+left_in _ level = level - 1
+
+abbrev pub right_in : Grouping → ℕ → ℕ
+right_in rightwards level = level
+right_in _ level = level - 1
+
+abbrev pub left_level : Infix → ℕ
+left_level i = left_in (binding_of i).grouping (level_of i)
+
+abbrev pub right_level : Infix → ℕ
+right_level i = right_in (binding_of i).grouping (level_of i)
+
+-- whether the infix may stand, in a guard where the flag says so
+abbrev pub infix_stands : Bool → Infix → Bool
+infix_stands guard (operator append) = may_stand guard appending
+infix_stands guard send = may_stand guard sending
+infix_stands guard _ = true
+
+-- the tokens are two operands with the infix between them
+abbrev pub Operands : (ℕ → List NumberedToken → Type 0) → (ℕ → List NumberedToken → Type 0) → Infix → List NumberedToken → Type 0
+Operands P Q i ts = (xs : List NumberedToken) × (t : NumberedToken) × (ys : List NumberedToken) × (infix_of t.kind ≡ Some i) × (ts ≡ xs ++ t ∷ ys) × P (left_level i) xs × Q (right_level i) ys
+
+-- the same, where the infix may stand and an expression of this level may have it
+abbrev pub Joined : Bool → Infix → ℕ → (ℕ → List NumberedToken → Type 0) → (ℕ → List NumberedToken → Type 0) → List NumberedToken → Type 0
+Joined guard i level P Q ts = (level_of i ≤ level) × IsTrue (infix_stands guard i) × Operands P Q i ts
+
+-- ---- parts that patterns and expressions share
+
+-- the tokens are a string that is within the limits of values
+abbrev pub IsText : List ℕ → List NumberedToken → Type 0
+IsText cs ts = (length cs ≤ MOST_TEXT_CHARACTERS) × IsOne (text cs) ts
+
+abbrev pub Braced : (List NumberedToken → Type 0) → List NumberedToken → Type 0
+Braced = Between (mark marks.OpenBrace) (mark marks.CloseBrace)
+
+abbrev pub Bracketed : (List NumberedToken → Type 0) → List NumberedToken → Type 0
+Bracketed = Between (mark marks.OpenBracket) (mark marks.CloseBracket)
+
+abbrev pub Parenthesized : (List NumberedToken → Type 0) → List NumberedToken → Type 0
+Parenthesized = Between (mark marks.OpenParenthesis) (mark marks.CloseParenthesis)
+
+-- there is one at least
+abbrev pub HasPattern : WrittenPatterns → Type 0
+HasPattern no_written_patterns = ⊥
+HasPattern (written_pattern q qs) = Unit {0}
+
+abbrev pub HasExpression : WrittenExpressions → Type 0
+HasExpression no_written_expressions = ⊥
+HasExpression (written_expression e es) = Unit {0}
+
+-- ---- patterns
+
+abbrev mutual
+  pub DerivesWrittenPattern : Names → WrittenPattern → List NumberedToken → Type 0
+  DerivesWrittenPattern n (s.integer z) ts = (k : ℕ) × (((z ≡ pos k) × IsOne (integer k) ts) ⊎ ((z ≡ neg_ℤ (pos k)) × Behind (mark marks.Minus) (IsOne (integer k)) ts))
+  DerivesWrittenPattern n (s.atom a) ts = (t : NumberedToken) × IsAtom n a t × (ts ≡ t ∷ [])
+  DerivesWrittenPattern n (s.text cs) ts = IsText cs ts
+  DerivesWrittenPattern n (s.variable x at) ts = (t : NumberedToken) × (t.kind ≡ variable x) × (t.at ≡ at) × (ts ≡ t ∷ [])
+  DerivesWrittenPattern n s.anything ts = IsOne anonymous ts
+  DerivesWrittenPattern n (s.tuple qs) ts = Braced (DerivesWrittenPatterns n qs) ts
+  DerivesWrittenPattern n (s.list qs) ts = Bracketed (DerivesWrittenPatterns n qs) ts
+  DerivesWrittenPattern n (s.list_on qs q) ts = HasPattern qs × Bracketed (Apart (mark marks.Bar) (DerivesWrittenPatterns n qs) (DerivesWrittenPattern n q)) ts
+
+  -- patterns with commas between them, or none
+  pub DerivesWrittenPatterns : Names → WrittenPatterns → List NumberedToken → Type 0
+  DerivesWrittenPatterns n no_written_patterns ts = ts ≡ []
+  DerivesWrittenPatterns n (written_pattern q no_written_patterns) ts = DerivesWrittenPattern n q ts
+  DerivesWrittenPatterns n (written_pattern q (written_pattern r qs)) ts =
+      Apart (mark marks.Comma) (DerivesWrittenPattern n q) (DerivesWrittenPatterns n (written_pattern r qs)) ts
+
+-- ---- expressions
+
+-- whether a call of this name with so many arguments may stand: in a guard, of a pure built-in function alone
+abbrev pub named_stands : Option Builtin → Bool
+named_stands None = false
+named_stands (Some b) = may_stand true (calling b)
+
+abbrev pub call_stands : Names → Bool → ℕ → ℕ → Bool
+call_stands n false f arity = true
+call_stands n true f arity = named_stands (builtin_named (name_of n.atoms f) arity)
+
+-- `when` and the guard, or neither
+abbrev pub Guarded : Condition → (List NumberedToken → Type 0) → List NumberedToken → Type 0
+Guarded c G ts = ((c ≡ unguarded) × (ts ≡ [])) ⊎ Behind (reserved words.When) G ts
+
+-- what stands before the arrow of a clause: its pattern, with its guard or none; in an `if`, where the flag says so, its guard alone
+abbrev pub FrontIs : Bool → WrittenPattern → Condition → (List NumberedToken → Type 0) → (List NumberedToken → Type 0) → List NumberedToken → Type 0
+FrontIs false q c P G ts = Together P (Guarded c G) ts
+FrontIs true q c P G ts = (q ≡ s.anything) × G ts
+
+abbrev mutual
+  -- an expression of at most this level, in a guard where the flag says so
+  pub Derives : Names → Bool → WrittenExpression → ℕ → List NumberedToken → Type 0
+  Derives n g (p.integer z) level ts = (k : ℕ) × (z ≡ pos k) × IsOne (integer k) ts
+  Derives n g (p.atom a) level ts = (t : NumberedToken) × IsAtom n a t × (ts ≡ t ∷ [])
+  Derives n g (p.text cs) level ts = IsText cs ts
+  Derives n g (p.variable x at) level ts = (t : NumberedToken) × (t.kind ≡ variable x) × (t.at ≡ at) × (ts ≡ t ∷ [])
+  Derives n g (p.anonymous at) level ts = (t : NumberedToken) × (t.kind ≡ anonymous) × (t.at ≡ at) × (ts ≡ t ∷ [])
+  Derives n g (p.parentheses e) level ts = Parenthesized (Derives n g e top) ts
+  Derives n g (p.tuple es) level ts = Braced (DerivesAll n g es) ts
+  Derives n g (p.list es) level ts = Bracketed (DerivesAll n g es) ts
+  Derives n g (p.list_on es e) level ts = HasExpression es × Bracketed (Apart (mark marks.Bar) (DerivesAll n g es) (Derives n g e top)) ts
+  Derives n g (p.call f at es) level ts =
+      (t : NumberedToken) × (more : List NumberedToken) × IsAtom n f t × (t.at ≡ at) × (ts ≡ t ∷ more)
+      × IsTrue (call_stands n g f (arity_of es)) × Parenthesized (DerivesAll n g es) more
+  Derives n g (p.negate e) level ts = (1 ≤ level) × Behind (mark marks.Minus) (Derives n g e 0) ts
+  Derives n g (p.binary o a b) level ts = Joined g (operator o) level (Derives n g a) (Derives n g b) ts
+  Derives n g (p.and_also a b) level ts = Joined g and_also level (Derives n g a) (Derives n g b) ts
+  Derives n g (p.or_else a b) level ts = Joined g or_else level (Derives n g a) (Derives n g b) ts
+  Derives n g (p.send a b) level ts = Joined g send level (Derives n g a) (Derives n g b) ts
+  Derives n g (p.match q e) level ts = (element ≤ level) × Apart (mark marks.Match) (DerivesWrittenPattern n q) (Derives n g e element) ts
+  Derives n g (p.case e bs) level ts =
+      IsTrue (may_stand g deciding)
+      × Between (reserved words.Case) (reserved words.End) (Apart (reserved words.Of) (Derives n g e top) (DerivesBranches n false bs)) ts
+  Derives n g (p.if_expression bs) level ts =
+      IsTrue (may_stand g choosing) × Between (reserved words.If) (reserved words.End) (DerivesBranches n true bs) ts
+  Derives n g (p.receive bs) level ts =
+      IsTrue (may_stand g receiving) × Between (reserved words.Receive) (reserved words.End) (DerivesBranches n false bs) ts
+
+  -- expressions with commas between them, or none
+  pub DerivesAll : Names → Bool → WrittenExpressions → List NumberedToken → Type 0
+  DerivesAll n g no_written_expressions ts = ts ≡ []
+  DerivesAll n g (written_expression e no_written_expressions) ts = Derives n g e top ts
+  DerivesAll n g (written_expression e (written_expression f es)) ts =
+      Apart (mark marks.Comma) (Derives n g e top) (DerivesAll n g (written_expression f es)) ts
+
+  -- a body: elements with commas between them
+  pub DerivesBody : Names → WrittenExpressions → List NumberedToken → Type 0
+  DerivesBody n no_written_expressions ts = ⊥
+  DerivesBody n (written_expression e no_written_expressions) ts = Derives n false e element ts
+  DerivesBody n (written_expression e (written_expression f es)) ts =
+      Apart (mark marks.Comma) (Derives n false e element) (DerivesBody n (written_expression f es)) ts
+
+  -- a guard: alternatives with semicolons between them, each tests with commas between them
+  pub DerivesGuard : Names → Condition → List NumberedToken → Type 0
+  DerivesGuard n no_tests ts = ⊥
+  DerivesGuard n (tests es no_tests) ts = HasExpression es × DerivesAll n true es ts
+  DerivesGuard n (tests es (tests fs c)) ts = HasExpression es × Apart (mark marks.Semicolon) (DerivesAll n true es) (DerivesGuard n (tests fs c)) ts
+
+  -- clauses with semicolons between them
+  pub DerivesBranches : Names → Bool → Branches → List NumberedToken → Type 0
+  DerivesBranches n choice no_branches ts = ⊥
+  DerivesBranches n choice (branch q c es no_branches) ts = Apart (mark marks.Arrow) (FrontIs choice q c (DerivesWrittenPattern n q) (DerivesGuard n c)) (DerivesBody n es) ts
+  DerivesBranches n choice (branch q c es (branch r d fs bs)) ts =
+      Apart (mark marks.Semicolon) (Apart (mark marks.Arrow) (FrontIs choice q c (DerivesWrittenPattern n q) (DerivesGuard n c)) (DerivesBody n es))
+      (DerivesBranches n choice (branch r d fs bs)) ts
+
+-- ---- functions
+
+-- a clause of a function: its name, patterns between parentheses, a guard or none, an arrow and a body; no pattern, test or element
+-- is too deep
+pub record DerivesHead (n : Names) (h : Head) (ts : List NumberedToken) : Type 0 where
+  pub name : NumberedToken
+  pub more : List NumberedToken
+  pub whole : ts ≡ name ∷ more
+  pub name_is : IsAtom n h.name name
+  pub place_is : name.at ≡ h.offset
+  pub parts : Apart (mark marks.Arrow) (Together (Parenthesized (DerivesWrittenPatterns n h.parameters)) (Guarded h.condition (DerivesGuard n h.condition))) (DerivesBody n h.body) more
+  pub shallow_parameters : written_patterns_depth h.parameters ≤ MOST_TREE_DEPTH
+  pub shallow_condition : condition_depth h.condition ≤ MOST_TREE_DEPTH
+  pub shallow_body : written_expressions_depth h.body ≤ MOST_TREE_DEPTH
+
+-- clauses with semicolons between them
+abbrev pub DerivesHeads : Names → List Head → List NumberedToken → Type 0
+DerivesHeads n [] ts = ⊥
+DerivesHeads n (h ∷ []) ts = DerivesHead n h ts
+DerivesHeads n (h ∷ k ∷ hs) ts = Apart (mark marks.Semicolon) (DerivesHead n h) (DerivesHeads n (k ∷ hs)) ts
+
+-- a function is clauses and a dot
+abbrev pub DerivesFunction : Names → List Head → List NumberedToken → Type 0
+DerivesFunction n hs ts = Before dot (DerivesHeads n hs) ts
+
+-- functions, one behind the other
+abbrev pub DerivesFunctions : Names → List (List Head) → List NumberedToken → Type 0
+DerivesFunctions n [] ts = ts ≡ []
+DerivesFunctions n (f ∷ fs) ts = Together (DerivesFunction n f) (DerivesFunctions n fs) ts
+
+-- ---- exports
+
+-- an entry: a name, a slash and a number of arguments
+pub record DerivesEntry (n : Names) (e : Export) (ts : List NumberedToken) : Type 0 where
+  pub name : NumberedToken
+  pub slash : NumberedToken
+  pub arity : NumberedToken
+  pub whole : ts ≡ name ∷ slash ∷ arity ∷ []
+  pub name_is : IsAtom n e.name name
+  pub place_is : name.at ≡ e.offset
+  pub slash_is : slash.kind ≡ mark marks.Slash
+  pub arity_is : arity.kind ≡ integer e.arity
+
+-- entries with commas between them, or none
+abbrev pub DerivesEntries : Names → List Export → List NumberedToken → Type 0
+DerivesEntries n [] ts = ts ≡ []
+DerivesEntries n (e ∷ []) ts = DerivesEntry n e ts
+DerivesEntries n (e ∷ f ∷ es) ts = Apart (mark marks.Comma) (DerivesEntry n e) (DerivesEntries n (f ∷ es)) ts
+
+-- `-export([ entries ]).`
+pub record DerivesExport (n : Names) (es : List Export) (ts : List NumberedToken) : Type 0 where
+  pub minus : NumberedToken
+  pub word : NumberedToken
+  pub more : List NumberedToken
+  pub last : NumberedToken
+  pub whole : ts ≡ minus ∷ word ∷ (more ++ last ∷ [])
+  pub minus_is : minus.kind ≡ mark marks.Minus
+  pub word_is : IsWord n (codes "export") word
+  pub last_is : last.kind ≡ dot
+  pub entries : Between (mark marks.OpenParenthesis) (mark marks.CloseParenthesis) (Between (mark marks.OpenBracket) (mark marks.CloseBracket) (DerivesEntries n es)) more
+
+-- export forms, one behind the other, each with its entries
+abbrev pub DerivesExports : Names → List (List Export) → List NumberedToken → Type 0
+DerivesExports n [] ts = ts ≡ []
+DerivesExports n (es ∷ forms) ts = Together (DerivesExport n es) (DerivesExports n forms) ts
+
+-- ---- modules
+
+-- the first form, `-module(Atom).`, with what stands behind it
+pub record Begins (atoms : List (List ℕ)) (name : ℕ) (rest ts : List NumberedToken) : Type 0 where
+  pub minus : NumberedToken
+  pub word : NumberedToken
+  pub opens : NumberedToken
+  pub atom_token : NumberedToken
+  pub closes : NumberedToken
+  pub last : NumberedToken
+  pub whole : ts ≡ minus ∷ word ∷ opens ∷ atom_token ∷ closes ∷ last ∷ rest
+  pub minus_is : minus.kind ≡ mark marks.Minus
+  pub word_is : IsWord (record { atoms = atoms; own = name }) (codes "module") word
+  pub opens_is : opens.kind ≡ mark marks.OpenParenthesis
+  pub name_is : atom_token.kind ≡ atom name
+  pub closes_is : closes.kind ≡ mark marks.CloseParenthesis
+  pub last_is : last.kind ≡ dot
+
+-- the tokens begin with a first form
+abbrev pub HasHead : List (List ℕ) → List NumberedToken → Type 0
+HasHead atoms ts = (name : ℕ) × (rest : List NumberedToken) × Begins atoms name rest ts
+
+-- a module is its first form, its exports and its functions; its name isn't too long
+pub record DerivesTree (atoms : List (List ℕ)) (m : Tree) (ts : List NumberedToken) : Type 0 where
+  pub rest : List NumberedToken
+  pub begins : Begins atoms m.name rest ts
+  pub short : length (name_of atoms m.name) ≤ MOST_NAME_BYTES
+  pub forms : List (List Export)
+  pub all_exports : flat_map (λ es. es) forms ≡ m.exports
+  pub parts : Together (DerivesExports (record { atoms = atoms; own = m.name }) forms) (DerivesFunctions (record { atoms = atoms; own = m.name }) m.functions) rest

@@ -1,0 +1,151 @@
+//! Infixes: what stands between two operands (Erlang Reference Manual, "Operator Precedence").
+
+ghost use Rattle.std.specs.Prelude.{◌≡◌, option_map};
+ghost use Rattle.pf_grammar.specs.Grammar.{binding_of, infix_of, infix_stands, left_level, level_of, right_level};
+ghost use Rattle.pf_grammar.specs.Parse.{infix_fits};
+ghost use Rattle.pf_numbered.specs.NumberedTokens as NumberedTokens;
+ghost use Rattle.pf_numbered.specs.View.{kind_of};
+ghost use Rattle.pf_grammar.specs.View.{binding_seen, infix_seen};
+
+use pf_forms::{Form, may_stand};
+use pf_numbered::NumberedKind;
+use pf_syntax::Operator;
+use pf_tokens::{Mark, Reserved};
+
+/// What stands between two operands.
+#[derive(Clone, Copy, Debug, PartialEq, Eq)]
+pub enum Infix {
+    Operator(Operator),
+    AndAlso,
+    OrElse,
+    Send,
+}
+
+/// How the infixes of a level group.
+#[derive(Clone, Copy, Debug, PartialEq, Eq)]
+pub enum Grouping {
+    Leftwards,
+    Rightwards,
+    Alone,
+}
+
+/// How tightly an infix binds, and how it groups.
+#[derive(Clone, Copy, Debug, PartialEq, Eq)]
+pub struct Binding {
+    pub level: u32,
+    pub grouping: Grouping,
+}
+
+/// The infix that a mark is.
+fn mark_infix(mark: Mark) -> Option<Infix>
+    ensures { option_map infix_seen result ≡ infix_of (NumberedTokens.mark mark) }
+{
+    match mark {
+        Mark::Times => Some(Infix::Operator(Operator::Times)),
+        Mark::Plus => Some(Infix::Operator(Operator::Plus)),
+        Mark::Minus => Some(Infix::Operator(Operator::Minus)),
+        Mark::Append => Some(Infix::Operator(Operator::Append)),
+        Mark::Equal | Mark::ExactlyEqual => Some(Infix::Operator(Operator::Equal)),
+        Mark::Unequal | Mark::ExactlyUnequal => Some(Infix::Operator(Operator::Unequal)),
+        Mark::Less => Some(Infix::Operator(Operator::Less)),
+        Mark::AtMost => Some(Infix::Operator(Operator::AtMost)),
+        Mark::Greater => Some(Infix::Operator(Operator::Greater)),
+        Mark::AtLeast => Some(Infix::Operator(Operator::AtLeast)),
+        Mark::Send => Some(Infix::Send),
+        _ => None,
+    }
+}
+
+/// The infix that a kind of token is.
+pub fn infix_of(kind: NumberedKind<'_>) -> Option<Infix>
+    ensures { option_map infix_seen result ≡ infix_of (kind_of kind.entry) }
+{
+    match kind {
+        NumberedKind::Mark(mark) => mark_infix(mark),
+        NumberedKind::Reserved(Reserved::Div) => Some(Infix::Operator(Operator::Quotient)),
+        NumberedKind::Reserved(Reserved::Rem) => Some(Infix::Operator(Operator::Remainder)),
+        NumberedKind::Reserved(Reserved::Andalso) => Some(Infix::AndAlso),
+        NumberedKind::Reserved(Reserved::Orelse) => Some(Infix::OrElse),
+        _ => None,
+    }
+}
+
+/// The binding of this level and grouping.
+fn binds(level: u32, grouping: Grouping) -> Binding
+    ensures level { result.level ≡ level }
+    ensures grouping { result.grouping ≡ grouping }
+{
+    Binding { level, grouping }
+}
+
+impl Infix {
+    /// How tightly it binds, and how it groups. Level 1 is a part behind a minus or not.
+    pub fn binding(self) -> Binding
+        ensures { binding_seen result ≡ binding_of (infix_seen self) }
+    {
+        match self {
+            Infix::Operator(Operator::Times) => binds(2, Grouping::Leftwards),
+            Infix::Operator(Operator::Quotient) => binds(2, Grouping::Leftwards),
+            Infix::Operator(Operator::Remainder) => binds(2, Grouping::Leftwards),
+            Infix::Operator(Operator::Plus) => binds(3, Grouping::Leftwards),
+            Infix::Operator(Operator::Minus) => binds(3, Grouping::Leftwards),
+            Infix::Operator(Operator::Append) => binds(4, Grouping::Rightwards),
+            Infix::Operator(Operator::Equal) => binds(5, Grouping::Alone),
+            Infix::Operator(Operator::Unequal) => binds(5, Grouping::Alone),
+            Infix::Operator(Operator::Less) => binds(5, Grouping::Alone),
+            Infix::Operator(Operator::AtMost) => binds(5, Grouping::Alone),
+            Infix::Operator(Operator::Greater) => binds(5, Grouping::Alone),
+            Infix::Operator(Operator::AtLeast) => binds(5, Grouping::Alone),
+            Infix::AndAlso => binds(6, Grouping::Rightwards),
+            Infix::OrElse => binds(7, Grouping::Rightwards),
+            Infix::Send => binds(8, Grouping::Rightwards),
+        }
+    }
+
+    /// Its level.
+    pub fn level(self) -> u32
+        ensures { result ≡ level_of (infix_seen self) }
+    {
+        self.binding().level
+    }
+
+    /// The greatest level of its left operand.
+    pub fn left_level(self) -> u32
+        ensures { result ≡ left_level (infix_seen self) }
+    {
+        let binding = self.binding();
+        match binding.grouping {
+            Grouping::Leftwards => binding.level,
+            Grouping::Rightwards | Grouping::Alone => binding.level.saturating_sub(1),
+        }
+    }
+
+    /// The greatest level of its right operand.
+    pub fn right_level(self) -> u32
+        ensures { result ≡ right_level (infix_seen self) }
+    {
+        let binding = self.binding();
+        match binding.grouping {
+            Grouping::Rightwards => binding.level,
+            Grouping::Leftwards | Grouping::Alone => binding.level.saturating_sub(1),
+        }
+    }
+
+    /// Whether it may stand, in a guard where the flag says so.
+    pub fn stands(self, guard: bool) -> bool
+        ensures { result ≡ infix_stands guard (infix_seen self) }
+    {
+        match self {
+            Infix::Operator(Operator::Append) => may_stand(guard, Form::Appending),
+            Infix::Send => may_stand(guard, Form::Sending),
+            _ => true,
+        }
+    }
+
+    /// Whether it may stand behind a left operand of the level `floor`, in an expression of this level.
+    pub fn fits(self, guard: bool, floor: u32, level: u32) -> bool
+        ensures { result ≡ infix_fits guard floor level (infix_seen self) }
+    {
+        self.stands(guard) && floor <= self.left_level() && self.level() <= level
+    }
+}

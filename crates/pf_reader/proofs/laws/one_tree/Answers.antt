@@ -1,5 +1,0 @@
-use Rattle.pf_reader.proofs.Whole.{one_tree}
-use Rattle.pf_reader.proofs.laws.one_tree.Goals as goal
-
-pub returns : goal.returns
-returns c = one_tree

@@ -1,5 +1,0 @@
-use Rattle.pf_reader.proofs.Whole.{tree_complete}
-use Rattle.pf_reader.proofs.laws.reading_is_complete.Goals as goal
-
-pub returns : goal.returns
-returns c = tree_complete

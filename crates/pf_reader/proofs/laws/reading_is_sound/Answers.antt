@@ -1,5 +1,0 @@
-use Rattle.pf_reader.proofs.Whole.{tree_sound}
-use Rattle.pf_reader.proofs.laws.reading_is_sound.Goals as goal
-
-pub returns : goal.returns
-returns c = tree_sound

@@ -1,0 +1,46 @@
+-- Whether an inbox is ready for the `receive` that a machine comes to next.
+use Rattle.std.specs.Prelude.{◌≡◌, ℕ, List}
+use Rattle.pf_terms.specs.declared.term.Term.{Term}
+use Rattle.pf_syntax.specs.Tree.{Clauses}
+use Rattle.pf_syntax.specs.Module.{Checked}
+use Rattle.pf_syntax.specs.Over.{clauses_over}
+use Rattle.pf_syntax.specs.declared.node.Clause.{Clause}
+use Rattle.pf_patterns.specs.Slots.{activation}
+use Rattle.pf_patterns.specs.Substitution.{sub_clauses}
+use Rattle.pf_model.specs.Code.{Code, code_of}
+use Rattle.pf_model.specs.Place.{Frame, State, goes_on, awaits}
+use Rattle.pf_stepper.specs.MicroSteps.{Contracts}
+use Rattle.pf_stepper.specs.MachineView.{MachineView, spent, goes}
+
+-- a `receive` to which a process of this pid comes: its clauses, with the values of the variables in scope
+pub record Receive : Type 0 where
+  pub code : Code
+  pub own : ℕ
+  pub clauses : Clauses
+
+abbrev pub receive_of : Code → ℕ → Clauses → Receive
+receive_of m own ks = record { code = m; own = own; clauses = ks }
+
+-- the `receive` of these clauses, in the activation that begins at `base`
+abbrev pub receive_in : Checked → ℕ → ℕ → List Term → List Clause → Receive
+receive_in m own base env l = receive_of (code_of m) own (sub_clauses (activation env base) (clauses_over m.tables l))
+
+-- ready for whatever comes
+abbrev pub IsReadyForAll : (Receive → Type 0) → Type 0
+IsReadyForAll ready = (r : Receive) → ready r
+
+-- the machine stands at a `receive` of these clauses
+pub record StandsAt (s : MachineView) (ks : Clauses) : Type 0 where
+  pub state : State
+  pub frames : List Frame
+  pub stood : s.standing ≡ goes state
+  pub next : Contracts s.code s.own (goes_on state) (awaits frames ks)
+
+-- this may be the next `receive` of a machine that has memory: if it stands at one, it is this
+pub record MayComeTo (s : MachineView) (r : Receive) : Type 0 where
+  pub lives : s.standing ≡ spent → ⊥
+  pub only : (ks : Clauses) → StandsAt s ks → r ≡ receive_of s.code s.own ks
+
+-- ready for the `receive` at which the machine stands; where it stands at none, for whatever comes; once memory ran out, for nothing
+abbrev pub IsReadyAhead : (Receive → Type 0) → MachineView → Type 0
+IsReadyAhead ready s = (r : Receive) → MayComeTo s r → ready r
