@@ -1,7 +1,8 @@
 -- The table of own functions, one function more.
-use Rattle.std.proofs.Common.{◌≡◌, ℕ, zero, suc, ◌+◌, ◌<◌, ◌≤◌, Bool, true, false, cond, List, [], ◌∷◌, ◌++◌, length, take, drop, get_or, Option, Some, None, refl, sym, ap, ◌∙◌, arith}
+use Rattle.std.proofs.Common.{◌≡◌, ℕ, zero, suc, ◌+◌, ◌<◌, ◌≤◌, Bool, true, false, cond, List, [], ◌∷◌, ◌++◌, length, take, drop, get_or, Option, Some, None, refl, sym, ap, ◌∙◌, arith, rules, tests}
 use Rattle.std.specs.Prelude.{position, nat_eq, ◌&&◌, if◌then◌else◌, map, slice_get}
 use Rattle.std.specs.List.{position_from}
+use Rattle.std.specs.Ordering.{is_eq}
 use Rattle.std.proofs.lemmas.List.{take_more}
 use Rattle.std.proofs.lemmas.Iterator.Adapters.{position_from-zero}
 use Rattle.std.proofs.lemmas.Bool.Decides.{nat_tests}
@@ -10,11 +11,15 @@ use Rattle.pf_syntax.specs.SourceOver.{head_over, heads_over}
 use Rattle.pf_syntax.specs.declared.written.Head.{Head as HeadNode}
 use Rattle.pf_syntax.specs.declared.written.WrittenFunction.{WrittenFunction}
 use Rattle.pf_rules.specs.Static.{own_in, is_named}
-use Rattle.pf_lower.specs.Knows.{same_key}
+use Rattle.pf_lower.specs.Knows.{key_order, same_key}
 use Rattle.pf_lower.specs.Heads.{first_of}
 use Rattle.pf_rules.proofs.Counts.{parameters_length}
 
 -- ---- one key entered
+
+-- two keys are equal in the order where they are the same
+pub same_in_order : (a b c d : ℕ) → is_eq (key_order (a, b) (c, d)) ≡ same_key (a, b) (c, d)
+same_in_order a b c d = search (rules, tests)
 
 pub same_is : (a b c d : ℕ) → nat_eq a c && nat_eq b d ≡ true → (a ≡ c) × (b ≡ d)
 same_is a b c d h = (grind (arith, nat_tests), grind (arith, nat_tests))

@@ -1,5 +1,6 @@
 pub mod Kinds
 pub mod Bound
+pub mod Placed
 pub mod Grown
 pub mod Built
 pub mod Bodies

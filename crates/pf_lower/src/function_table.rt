@@ -1,24 +1,25 @@
 //! The functions of a module by name and number of arguments, and those that it exports.
 
 ghost use Rattle.std.specs.Prelude.{◌≡◌, ℕ, if◌then◌else◌, IfOk, MatchOption, None, OnOk, Some};
-ghost use Rattle.indexmap.specs.IndexMap.{get};
+ghost use Rattle.std.specs.BTreeMap.{get};
 ghost use Rattle.pf_rules.specs.Static.{is_named, own_in};
 ghost use Rattle.pf_syntax.specs.Source.{NodeTable};
 ghost use Rattle.pf_syntax.specs.SourceOver.{heads_over};
-ghost use Rattle.pf_lower.specs.Knows.{same_key, Knows};
+ghost use Rattle.pf_lower.specs.Knows.{key_order, same_key, Knows};
 ghost use Rattle.pf_lower.specs.Heads.{first_of};
 ghost use Rattle.pf_rules.specs.Listing.{Exports};
 
-use indexmap::IndexMap;
 use pf_rules::Signatures;
 use pf_syntax::{FunctionId, Source, WrittenFunction};
 use pf_terms::{AtomId, NoMemory};
 use std::alloc::Global;
+use std::collections::BTreeMap;
 
-/// The number of the first function of each name and number of arguments.
+/// The number of the first function of each name and number of arguments. They are kept in an order, so that no choice of names or of
+/// numbers makes a look-up slow.
 #[derive(Drop)]
 pub(crate) struct FunctionTable {
-    numbers: IndexMap<(u32, usize), u32>,
+    numbers: BTreeMap<(u32, usize), u32>,
 }
 
 impl FunctionTable {
@@ -27,7 +28,7 @@ impl FunctionTable {
         ensures { IfOk result (λ table. Knows table source.now.functions) }
     {
         let mut table = FunctionTable {
-            numbers: IndexMap::new(alloc),
+            numbers: BTreeMap::new(alloc),
         };
         for (number, function) in source.functions().iter().enumerate() {
             table.enter_function(function, number)?;
@@ -37,8 +38,9 @@ impl FunctionTable {
 
     /// Notes the number of a function under the name of its first clause.
     fn enter_function(&mut self, function: &WrittenFunction, number: usize) -> Result<(), NoMemory>
-        ensures { OnOk result ((b : NodeTable) (f a : ℕ) → get same_key self.new.numbers (f, a)
-            ≡ first_of (get same_key self.old.numbers (f, a)) (if is_named f a (heads_over b function.now) then Some number else None)) }
+        ensures { OnOk result ((b : NodeTable) (f a : ℕ) → get key_order self.new.numbers (f, a)
+            ≡ first_of (get key_order self.old.numbers (f, a))
+            (if is_named f a (heads_over b function.now) then Some number else None)) }
     {
         match function.heads.first() {
             None => Ok(()),
@@ -48,8 +50,9 @@ impl FunctionTable {
 
     /// Notes the number of a function, where there is none of this name and number of arguments yet.
     fn enter(&mut self, name: AtomId, arity: usize, number: usize) -> Result<(), NoMemory>
-        ensures { OnOk result ((f a : ℕ) → get same_key self.new.numbers (f, a)
-            ≡ first_of (get same_key self.old.numbers (f, a)) (if same_key (name.0, arity) (f, a) then Some number else None)) }
+        ensures { OnOk result ((f a : ℕ) → get key_order self.new.numbers (f, a)
+            ≡ first_of (get key_order self.old.numbers (f, a))
+            (if same_key (name.0, arity) (f, a) then Some number else None)) }
     {
         let key = (name.0, arity);
         if self.numbers.contains_key(&key) {
@@ -65,7 +68,8 @@ impl FunctionTable {
     /// The first function of this name that takes so many arguments.
     pub(crate) fn find(&self, source: &Source, name: AtomId, arity: usize) -> Option<FunctionId>
         requires { Knows self.now source.now.functions }
-        ensures { MatchOption result (own_in source.now.functions name.0 arity ≡ None) (λ f. own_in source.now.functions name.0 arity ≡ Some f.0) }
+        ensures { MatchOption result (own_in source.now.functions name.0 arity ≡ None)
+            (λ f. own_in source.now.functions name.0 arity ≡ Some f.0) }
     {
         let number = self.numbers.get(&(name.0, arity))?;
         Some(FunctionId(*number))

@@ -1,28 +1,43 @@
 //! The places of bound variables: where each name stands among those that are bound, in the order of binding.
 
-ghost use Rattle.std.specs.Prelude.{◌≡◌, [], false, length, take, IfOk, MatchOption, OnOk, slice_get, Some};
+ghost use Rattle.std.specs.Prelude.{◌≡◌, ℕ, ◌-◌, ◌<◌, [], false, length, take, MatchOption, OnOk, slice_get, slice_index, Some};
 ghost use Rattle.pf_syntax.specs.Scope.{has};
 ghost use Rattle.pf_lower.specs.Bound.{with_bound};
 
-use indexmap::IndexSet;
 use pf_terms::{AtomId, NoMemory};
 use std::alloc::Global;
 use std::marker::Model;
 
-/// The names of the bound variables, in the order of binding, each once.
+/// The names of the bound variables, in the order of binding, each once; and for each name, by its number, one more than its place, or 0.
+/// A source numbers its variables one after another, so the list by number is as long as there are variables at most, and no choice of
+/// names makes a look-up slow.
 #[derive(Drop)]
 pub(crate) struct Places {
-    names: IndexSet<u32>,
+    names: Vec<u32>,
+    places: Vec<u32>,
 }
 
 impl Model for Places {
-    ghost use Rattle.std.specs.Prelude.{List, ℕ, length, ◌≤◌, ◌^◌};
+    ghost use Rattle.std.specs.Prelude.{List, ℕ};
+    ghost use Rattle.pf_lower.specs.Placed.{Placed};
 
     ghost Value = { List ℕ };
 
-    ghost view = { λ a. a.names.keys };
+    ghost view = { λ a. a.names.items };
 
-    ghost invariant = { λ a. length a.names.keys ≤ 2 ^ 32 };
+    ghost invariant = { λ a. Placed a.names.items a.places.items };
+}
+
+/// Lengthens a list by zeros, so that it goes past a name. No name's number changes, with or without memory.
+fn reach(places: &mut Vec<u32>, name: AtomId) -> Result<(), NoMemory>
+    ensures past { OnOk result (name.0 < length places.new.items) }
+    ensures same { (x : ℕ) → slice_index places.new.items x ≡ slice_index places.old.items x }
+{
+    let index = name.0 as usize;
+    if index >= places.len() {
+        places.resize(index + 1, 0)?;
+    }
+    Ok(())
 }
 
 impl Places {
@@ -31,7 +46,8 @@ impl Places {
         ensures { result ≡ [] }
     {
         Places {
-            names: IndexSet::new(alloc),
+            names: Vec::new(alloc),
+            places: Vec::new(alloc),
         }
     }
 
@@ -39,18 +55,23 @@ impl Places {
     pub(crate) fn place(&self, name: AtomId) -> Option<u32>
         ensures { MatchOption result (has self.now name.0 ≡ false) (λ k. slice_get self.now k ≡ Some name.0) }
     {
-        let index = self.names.get_index_of(&name.0)?;
-        Some(index as u32)
+        let after = self.places.get(name.0 as usize)?;
+        after.checked_sub(1)
     }
 
     /// Binds a variable that isn't bound, at the next place.
     pub(crate) fn bind(&mut self, name: AtomId) -> Result<(), NoMemory>
         ensures { OnOk result (self.new ≡ with_bound self.old name.0) }
     {
-        if self.names.len() >= u32::MAX as usize {
-            return Err(NoMemory);
+        if self.place(name).is_some() {
+            return Ok(());
         }
-        self.names.insert(name.0)?;
+        let Ok(after) = u32::try_from(self.names.len() + 1) else {
+            return Err(NoMemory);
+        };
+        reach(&mut self.places, name)?;
+        self.names.push(name.0)?;
+        self.places[name.0 as usize] = after;
         Ok(())
     }
 
@@ -61,10 +82,21 @@ impl Places {
         self.names.len()
     }
 
+    /// The variable that was bound last isn't bound any more.
+    fn unbind(&mut self)
+        ensures { self.new ≡ take (length self.old - 1) self.old }
+    {
+        if let Some(name) = self.names.pop() {
+            self.places[name as usize] = 0;
+        }
+    }
+
     /// Only the first so many variables are bound.
     pub(crate) fn truncate(&mut self, len: usize)
         ensures { self.new ≡ take len self.old }
     {
-        self.names.truncate(len);
+        while self.len() > len {
+            self.unbind();
+        }
     }
 }

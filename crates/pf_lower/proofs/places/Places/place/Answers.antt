@@ -1,9 +1,21 @@
-use Rattle.std.proofs.Common.{ap, sym, ◌∙◌}
-use Rattle.std.specs.Prelude.{slice_get}
-use Rattle.pf_lower.proofs.Places_of.{placed}
+use Rattle.std.proofs.Common.{◌≡◌, ◌-◌, ◌≤◌, false, Some, sym, subst, rules}
+use Rattle.std.specs.Prelude.{slice_get, slice_index, MatchOption, SomeIff}
+use Rattle.pf_syntax.specs.Scope.{has}
+use Rattle.pf_lower.proofs.Places_of.{looked, unnoted}
 use Rattle.pf_lower.proofs.places.Places.place.Goals as goal
+
+pub returns-in_err-after : goal.returns-in_err-after
+returns-in_err-after c =
+    let x = c.args.name.0 in
+    let read : slice_index c.self.inside.places.items x ≡ 0 = search rules in
+    let new = unnoted c.self.inside.names.items c.self.inside.places.items x c.self.invariant read in
+    rw c.from_residual.ensures (subst (λ names. has names x ≡ false) c.self.view_is new)
 
 pub returns : goal.returns
 returns c =
-    ap (λ names. slice_get names c.in_ok-index.index) (sym c.self.view_is)
-    ∙ placed c.args.name.0 c.self.inside.names.keys c.in_ok-index.index c.in_ok-index.ensures.index
+    let x = c.args.name.0 in
+    let r = c.checked_sub.result in
+    let read : c.in_ok-after.after.now ≡ slice_index c.self.inside.places.items x = search rules in
+    let less = subst (λ n. SomeIff r (1 ≤ n) (n - 1)) read c.checked_sub.ensures in
+    subst (λ names. MatchOption r (has names x ≡ false) (λ k. slice_get names k ≡ Some x)) c.self.view_is
+    (looked c.self.inside.names.items c.self.inside.places.items x r c.self.invariant less)
