@@ -84,7 +84,8 @@ fn number_all<'a>(
     requires room { length atoms.old < 2 ^ 32 }
     requires variables { variables.old ≡ fixed_names }
     ensures atoms { OnOk result (atoms.new ≡ atoms_after atoms.old (map placed_of tokens.now)) }
-    ensures token_list { IfOk result (λ found. token_list found.items ≡ numbered_after atoms.old (map placed_of tokens.now)) }
+    ensures token_list { IfOk result
+        (λ found. token_list found.items ≡ numbered_after atoms.old (map placed_of tokens.now)) }
 {
     let mut found = Vec::new(alloc);
     for token in tokens {
@@ -103,7 +104,8 @@ fn number_names<'a>(
 ) -> Result<Vec<NumberedToken<'a>>, NoMemory>
     requires { length atoms.old < 2 ^ 32 }
     ensures atoms { OnOk result (atoms.new ≡ atoms_after atoms.old (map placed_of tokens.now)) }
-    ensures token_list { IfOk result (λ found. token_list found.items ≡ numbered_after atoms.old (map placed_of tokens.now)) }
+    ensures token_list { IfOk result
+        (λ found. token_list found.items ≡ numbered_after atoms.old (map placed_of tokens.now)) }
 {
     let mut variables = AtomNumbers::new(alloc)?;
     number_all(alloc, atoms, &mut variables, tokens)
@@ -122,8 +124,8 @@ pub fn number_tokens<'a>(
     Ok((atoms.into_table(), found))
 }
 
-/// The names of a table, entered anew in their order. Each gets the number that it has in the table, which begins with the fixed
-/// atoms and has no name twice; so the two tests of this never give up.
+/// The names of a table, entered anew in their order. Each gets the number that it has there: a table begins with the fixed atoms
+/// and has no name twice, so neither test below ever fails.
 fn numbers_of(alloc: Global, atoms: &AtomTable) -> Result<AtomNumbers, NoMemory>
     ensures same { IfOk result (λ t. t ≡ atoms.now) }
     ensures room { IfOk result (λ t. length t < 2 ^ 32) }
@@ -150,7 +152,8 @@ pub fn number_tokens_after<'a>(
     atoms: &AtomTable,
 ) -> Result<(AtomTable, Vec<NumberedToken<'a>>), NoMemory>
     ensures atoms { IfOk result (λ x. x.0 ≡ atoms_after atoms.now (map placed_of tokens.now)) }
-    ensures token_list { IfOk result (λ x. token_list x.1.items ≡ numbered_after atoms.now (map placed_of tokens.now)) }
+    ensures token_list { IfOk result
+        (λ x. token_list x.1.items ≡ numbered_after atoms.now (map placed_of tokens.now)) }
 {
     let mut numbers = numbers_of(alloc, atoms)?;
     let found = number_names(alloc, &mut numbers, tokens)?;
