@@ -1,6 +1,6 @@
 //! Numbers for the names in tokens.
 
-ghost use Rattle.std.specs.Prelude.{◌≡◌, ◌<◌, ◌^◌, ℕ, length, List, map, IfOk, OnOk, slice_get, Some};
+ghost use Rattle.std.specs.Prelude.{◌≡◌, ◌<◌, ◌^◌, ℕ, length, List, map, IfOk, OnOk};
 ghost use Rattle.pf_terms.specs.Atoms.{fixed_names, with_name, with_names};
 ghost use Rattle.pf_tokens.specs.TokenKinds.{placed_of, kind_of};
 ghost use Rattle.pf_numbered.specs.NumberedTokens.{atom_name, atoms_after, atoms_of, number_in, numbered, numbered_after, variable_name};
@@ -20,7 +20,6 @@ const LIMIT: usize = 4_294_967_295;
 fn number_of(alloc: Global, table: &mut AtomNumbers, name: &[u8]) -> Result<AtomId, NoMemory>
     requires { length table.old < 2 ^ 32 }
     ensures number { IfOk result (λ a. (more : List (List ℕ)) → number_in (with_names table.new more) name.now ≡ a.0) }
-    ensures there { IfOk result (λ a. slice_get table.new a.0 ≡ Some name.now) }
     ensures names { OnOk result (table.new ≡ with_name table.old name.now) }
     ensures room { OnOk result (length table.new < 2 ^ 32) }
 {
@@ -124,21 +123,13 @@ pub fn number_tokens<'a>(
     Ok((atoms.into_table(), found))
 }
 
-/// The names of a table, entered anew in their order. Each gets the number that it has there: a table begins with the fixed atoms
-/// and has no name twice, so neither test below ever fails.
+/// The names of a table, each with the number that it has there. The table has room for one more.
 fn numbers_of(alloc: Global, atoms: &AtomTable) -> Result<AtomNumbers, NoMemory>
     ensures same { IfOk result (λ t. t ≡ atoms.now) }
     ensures room { IfOk result (λ t. length t < 2 ^ 32) }
 {
-    let mut numbers = AtomNumbers::new(alloc)?;
-    for index in 0..atoms.len() {
-        let atom = AtomId(offset_of(index)?);
-        let number = number_of(alloc, &mut numbers, atoms.name(atom))?;
-        if number.0 != atom.0 {
-            return Err(NoMemory);
-        }
-    }
-    if numbers.len() != atoms.len() {
+    let numbers = AtomNumbers::of(alloc, atoms)?;
+    if numbers.len() > LIMIT {
         return Err(NoMemory);
     }
     Ok(numbers)

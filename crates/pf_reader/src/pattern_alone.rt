@@ -82,6 +82,7 @@ pub fn read_pattern(
         return Err(OrNoMemory::Fault(Code::NoProperty));
     }
     let (names, found) = number_tokens_after(alloc, tokens, atoms)?;
+    // The own name is asked for at `?MODULE` alone, which no token is.
     let own = AtomId::TRUE;
     let context = Context { atoms: &names, own };
     match read_alone(alloc, context, &found) {
