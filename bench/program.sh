@@ -1,5 +1,6 @@
 #!/bin/sh
-# Proves and builds the benchmark of this name in a folder of its own, since the gate proves no benchmark, and runs it.
+# Proves and builds the benchmark of this name in a folder of its own, since the gate proves no benchmark, and runs it; where a file is named
+# behind it, the program is left there and isn't run.
 set -eu
 top=$(cd "$(dirname "$0")/.." && pwd)
 room=$(mktemp -d)
@@ -16,4 +17,8 @@ for crate in $(sed 's/^bench://' "$top/bench/$1/crates"); do
 done
 cd "$room/crates/bench"
 rt run > "$room/build.log" 2>&1 || { tail -n 30 "$room/build.log" >&2; exit 1; }
-"$room/crates/bench/out/bench"
+if [ $# -gt 1 ]; then
+  mv "$room/crates/bench/out/bench" "$2"
+else
+  "$room/crates/bench/out/bench"
+fi

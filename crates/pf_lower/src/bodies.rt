@@ -22,7 +22,9 @@ pub(crate) struct Element {
 /// Adds the last element of a body.
 pub(crate) fn put_last(module: &mut Module, element: Element) -> Result<Part, NoMemory>
     requires { ElementStands module.old.tables element }
-    ensures { IfOk result (λ x. PartPut module.old module.new (ending (patterns_at module.old.tables element.patterns.items) (part_over module.old.tables element.value)) x) }
+    ensures { IfOk result (λ x. PartPut module.old module.new
+        (ending (patterns_at module.old.tables element.patterns.items)
+        (part_over module.old.tables element.value)) x) }
 {
     if element.patterns.is_empty() {
         return Ok(element.value);
@@ -38,7 +40,8 @@ pub(crate) fn put_binds(
 ) -> Result<Part, NoMemory>
     requires elements_stand { All (ElementStands module.old.tables) elements.items }
     requires rest_stands { PartStands module.old.tables rest }
-    ensures { IfOk result (λ x. PartPut module.old module.new (binds module.old.tables elements.items (part_over module.old.tables rest)) x) }
+    ensures { IfOk result (λ x. PartPut module.old module.new
+        (binds module.old.tables elements.items (part_over module.old.tables rest)) x) }
 {
     let mut front = elements;
     let mut body = rest;

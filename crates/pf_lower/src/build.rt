@@ -31,7 +31,8 @@ fn clause(
 ) -> Result<FunctionClause, NoMemory>
     requires knows { Knows functions.now source.now.functions }
     requires none_bound { places.old ≡ [] }
-    ensures { IfOk result (λ c. Lowers module.old module.new places.new [] (λ t. HeadMeans source.now.functions t (head_over source.now.node_table head.now) c)) }
+    ensures { IfOk result (λ c. Lowers module.old module.new places.new []
+        (λ t. HeadMeans source.now.functions t (head_over source.now.node_table head.now) c)) }
 {
     let parameters = patterns(alloc, source, places, module, head.parameters.as_slice())?;
     let guard = guard(alloc, source, functions, places, module, &head.condition)?;
@@ -87,7 +88,8 @@ fn function(
     requires exports { Exports exported.now source.now.exports }
     requires none_bound { places.old ≡ [] }
     ensures { IfOk result (λ f. Lowers module.old module.new places.new []
-        (λ t. FunctionMeans source.now.functions source.now.exports t (heads_over source.now.node_table written.now) f)) }
+        (λ t. FunctionMeans source.now.functions source.now.exports t
+        (heads_over source.now.node_table written.now) f)) }
 {
     let clauses = clauses(
         alloc,
@@ -160,7 +162,8 @@ fn add_functions(alloc: Global, source: &Source, module: &mut Module) -> Result<
 
 /// The checked module of a source that has no static fault and is formed as the grammar says; of another it is some module.
 pub fn module_of(alloc: Global, source: &Source, atoms: AtomTable) -> Result<Module, NoMemory>
-    ensures { IfOk result (λ m. faults_of atoms (tree_of source.now) ≡ [] → AreFormed source.now.functions → IsModule atoms (tree_of source.now) m) }
+    ensures { IfOk result (λ m. faults_of atoms (tree_of source.now) ≡ [] → AreFormed source.now.functions
+        → IsModule atoms (tree_of source.now) m) }
 {
     let mut module = Module::new(alloc, source.name(), atoms);
     add_functions(alloc, source, &mut module)?;

@@ -28,7 +28,8 @@ use std::alloc::Global;
 /// A variable: its place. An unbound one is `[]`, which no module without faults has.
 fn variable(source: &Source, places: &Places, module: &Module, word: Word) -> Part
     ensures { Lowers module.now module.now places.now places.now
-        (λ t. WrittenExpressionMeans source.now.functions t places.now (written.variable word.name.0 word.offset) result) }
+        (λ t. WrittenExpressionMeans source.now.functions t places.now
+        (written.variable word.name.0 word.offset) result) }
 {
     match places.place(word.name) {
         Some(place) => Part::Slot(place),
@@ -65,9 +66,11 @@ fn call(
     parts: Vec<Part>,
 ) -> Result<Part, NoMemory>
     requires knows { Knows functions.now source.now.functions }
-    requires parts_are { WrittenExpressionsMean source.now.functions module.old places.now (written_expressions_at source.now.node_table ids.now) parts.items }
+    requires parts_are { WrittenExpressionsMean source.now.functions module.old places.now
+        (written_expressions_at source.now.node_table ids.now) parts.items }
     ensures { IfOk result (λ x. Lowers module.old module.new places.now places.now
-        (λ t. WrittenExpressionMeans source.now.functions t places.now (written.call word.name.0 word.offset (written_expressions_at source.now.node_table ids.now)) x)) }
+        (λ t. WrittenExpressionMeans source.now.functions t places.now
+        (written.call word.name.0 word.offset (written_expressions_at source.now.node_table ids.now)) x)) }
 {
     if let Some(function) = functions.find(source, word.name, ids.len()) {
         return put_node(module, Node::Call(function, parts));
@@ -83,7 +86,9 @@ fn as_match(
     source: &Source,
     id: WrittenExpressionId,
 ) -> Option<(WrittenPatternId, WrittenExpressionId)>
-    ensures some { IfSome result (λ m. written_expression_at source.now.node_table id.0 ≡ written.match (written_pattern_at source.now.node_table m.0.0) (written_expression_at source.now.node_table m.1.0)) }
+    ensures some { IfSome result (λ m. written_expression_at source.now.node_table id.0 ≡ written.match
+        (written_pattern_at source.now.node_table m.0.0)
+        (written_expression_at source.now.node_table m.1.0)) }
     ensures none { IfNone result (IsPlain (written_expression_at source.now.node_table id.0)) }
 {
     match source.written_expression(id) {
@@ -107,7 +112,8 @@ pub(crate) fn expression(
 ) -> Result<Part, NoMemory>
     requires { Knows functions.now source.now.functions }
     ensures { IfOk result (λ x. Lowers module.old module.new places.new places.old
-        (λ t. WrittenExpressionMeans source.now.functions t places.old (written_expression_at source.now.node_table id.0) x)) }
+        (λ t. WrittenExpressionMeans source.now.functions t places.old
+        (written_expression_at source.now.node_table id.0) x)) }
 {
     match source.written_expression(id) {
         None => Ok(Part::Nil),
@@ -163,7 +169,8 @@ fn sequence(
     requires knows { Knows functions.now source.now.functions }
     requires kind { IsSequence node.now }
     ensures { IfOk result (λ x. Lowers module.old module.new places.new places.old
-        (λ t. WrittenExpressionMeans source.now.functions t places.old (written_expression_over source.now.node_table node.now) x)) }
+        (λ t. WrittenExpressionMeans source.now.functions t places.old
+        (written_expression_over source.now.node_table node.now) x)) }
 {
     match node {
         WrittenExpressionNode::Tuple(ids) => {
@@ -208,7 +215,8 @@ fn operation(
     requires knows { Knows functions.now source.now.functions }
     requires kind { IsOperation node.now }
     ensures { IfOk result (λ x. Lowers module.old module.new places.new places.old
-        (λ t. WrittenExpressionMeans source.now.functions t places.old (written_expression_over source.now.node_table node.now) x)) }
+        (λ t. WrittenExpressionMeans source.now.functions t places.old
+        (written_expression_over source.now.node_table node.now) x)) }
 {
     match node {
         WrittenExpressionNode::Negate(a) => {
@@ -248,7 +256,8 @@ fn construct(
     requires knows { Knows functions.now source.now.functions }
     requires kind { IsConstruct node.now }
     ensures { IfOk result (λ x. Lowers module.old module.new places.new places.old
-        (λ t. WrittenExpressionMeans source.now.functions t places.old (written_expression_over source.now.node_table node.now) x)) }
+        (λ t. WrittenExpressionMeans source.now.functions t places.old
+        (written_expression_over source.now.node_table node.now) x)) }
 {
     match node {
         WrittenExpressionNode::Case(a, arms) => {
@@ -281,7 +290,8 @@ fn pair(
 ) -> Result<(Part, Part), NoMemory>
     requires { Knows functions.now source.now.functions }
     ensures { IfOk result (λ x. Lowers module.old module.new places.new places.old
-        (λ t. WrittenExpressionMeans source.now.functions t places.old (written_expression_at source.now.node_table first.0) x.0
+        (λ t. WrittenExpressionMeans source.now.functions t places.old
+        (written_expression_at source.now.node_table first.0) x.0
         × WrittenExpressionMeans source.now.functions t places.old (written_expression_at source.now.node_table second.0) x.1)) }
 {
     let a = expression(alloc, source, functions, places, module, first)?;
@@ -301,7 +311,8 @@ fn expressions(
 ) -> Result<Vec<Part>, NoMemory>
     requires { Knows functions.now source.now.functions }
     ensures { IfOk result (λ xs. Lowers module.old module.new places.new places.old
-        (λ t. WrittenExpressionsMean source.now.functions t places.old (written_expressions_at source.now.node_table ids.now) xs.items)) }
+        (λ t. WrittenExpressionsMean source.now.functions t places.old
+        (written_expressions_at source.now.node_table ids.now) xs.items)) }
 {
     let mut parts = Vec::with_capacity(alloc, ids.len())?;
     for id in ids {
@@ -322,8 +333,10 @@ fn element(
     id: WrittenExpressionId,
 ) -> Result<Element, NoMemory>
     requires { Knows functions.now source.now.functions }
-    ensures { IfOk result (λ x. Lowers module.old module.new places.new (bound_after places.old (written_expression_at source.now.node_table id.0))
-        (λ t. ElementBuilt source.now.functions t places.old (written_expression_at source.now.node_table id.0) x)) }
+    ensures { IfOk result (λ x. Lowers module.old module.new places.new
+        (bound_after places.old (written_expression_at source.now.node_table id.0))
+        (λ t. ElementBuilt source.now.functions t places.old
+        (written_expression_at source.now.node_table id.0) x)) }
 {
     match as_match(source, id) {
         None => {
@@ -357,7 +370,8 @@ fn elements(
     ids: &[WrittenExpressionId],
 ) -> Result<Vec<Element>, NoMemory>
     requires { Knows functions.now source.now.functions }
-    ensures { IfOk result (λ xs. Lowers module.old module.new places.new (all_bound_after places.old (written_expressions_at source.now.node_table ids.now))
+    ensures { IfOk result (λ xs. Lowers module.old module.new places.new
+        (all_bound_after places.old (written_expressions_at source.now.node_table ids.now))
         (λ t. EachElementMeans source.now.functions source.now.node_table t places.old ids.now xs.items)) }
 {
     let mut found = Vec::new(alloc);
@@ -379,8 +393,10 @@ pub(crate) fn body(
     ids: &[WrittenExpressionId],
 ) -> Result<Part, NoMemory>
     requires { Knows functions.now source.now.functions }
-    ensures { IfOk result (λ x. Lowers module.old module.new places.new (all_bound_after places.old (written_expressions_at source.now.node_table ids.now))
-        (λ t. BodyMeans source.now.functions t places.old (written_expressions_at source.now.node_table ids.now) x)) }
+    ensures { IfOk result (λ x. Lowers module.old module.new places.new
+        (all_bound_after places.old (written_expressions_at source.now.node_table ids.now))
+        (λ t. BodyMeans source.now.functions t places.old
+        (written_expressions_at source.now.node_table ids.now) x)) }
 {
     let mut front = elements(alloc, source, functions, places, module, ids)?;
     match front.pop() {
@@ -414,7 +430,8 @@ pub(crate) fn guard(
 ) -> Result<Guard, NoMemory>
     requires { Knows functions.now source.now.functions }
     ensures { IfOk result (λ d. Lowers module.old module.new places.new places.old
-        (λ t. GuardMeans source.now.functions t places.old (condition_over source.now.node_table condition.now) d)) }
+        (λ t. GuardMeans source.now.functions t places.old
+        (condition_over source.now.node_table condition.now) d)) }
 {
     if is_unguarded(condition) {
         let alternatives = Vec::new(alloc);
@@ -480,7 +497,8 @@ fn branches(
 ) -> Result<Vec<Clause>, NoMemory>
     requires { Knows functions.now source.now.functions }
     ensures { IfOk result (λ cs. Lowers module.old module.new places.new places.old
-        (λ t. BranchesMean source.now.functions t places.old (branches_over source.now.node_table arms.now) cs.items)) }
+        (λ t. BranchesMean source.now.functions t places.old
+        (branches_over source.now.node_table arms.now) cs.items)) }
 {
     let mut clauses = Vec::with_capacity(alloc, arms.len())?;
     for arm in arms {

@@ -68,7 +68,8 @@ impl FunctionTable {
     /// The first function of this name that takes so many arguments.
     pub(crate) fn find(&self, source: &Source, name: AtomId, arity: usize) -> Option<FunctionId>
         requires { Knows self.now source.now.functions }
-        ensures { MatchOption result (own_in source.now.functions name.0 arity ≡ None) (λ f. own_in source.now.functions name.0 arity ≡ Some f.0) }
+        ensures { MatchOption result (own_in source.now.functions name.0 arity ≡ None)
+            (λ f. own_in source.now.functions name.0 arity ≡ Some f.0) }
     {
         let number = self.numbers.get(&(name.0, arity))?;
         Some(FunctionId(*number))

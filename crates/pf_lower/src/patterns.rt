@@ -24,7 +24,8 @@ fn variable(
     word: Word,
 ) -> Result<PatternId, NoMemory>
     ensures { IfOk result (λ p. Lowers module.old module.new places.new (with_bound places.old word.name.0)
-        (λ t. WrittenPatternMeans source.now.functions t places.old (written.variable word.name.0 word.offset) p)) }
+        (λ t. WrittenPatternMeans source.now.functions t places.old
+        (written.variable word.name.0 word.offset) p)) }
 {
     match places.place(word.name) {
         Some(place) => put_pattern(module, PatternNode::Slot(place)),
@@ -62,8 +63,10 @@ pub(crate) fn pattern(
     module: &mut Module,
     id: WrittenPatternId,
 ) -> Result<PatternId, NoMemory>
-    ensures { IfOk result (λ p. Lowers module.old module.new places.new (bound_by places.old (written_pattern_at source.now.node_table id.0))
-        (λ t. WrittenPatternMeans source.now.functions t places.old (written_pattern_at source.now.node_table id.0) p)) }
+    ensures { IfOk result (λ p. Lowers module.old module.new places.new
+        (bound_by places.old (written_pattern_at source.now.node_table id.0))
+        (λ t. WrittenPatternMeans source.now.functions t places.old
+        (written_pattern_at source.now.node_table id.0) p)) }
 {
     match source.written_pattern(id) {
         None => put_pattern(module, PatternNode::Any),
@@ -106,8 +109,10 @@ pub(crate) fn patterns(
     module: &mut Module,
     ids: &[WrittenPatternId],
 ) -> Result<Vec<PatternId>, NoMemory>
-    ensures { IfOk result (λ ps. Lowers module.old module.new places.new (all_bound_by places.old (written_patterns_at source.now.node_table ids.now))
-        (λ t. WrittenPatternsMean source.now.functions t places.old (written_patterns_at source.now.node_table ids.now) ps.items)) }
+    ensures { IfOk result (λ ps. Lowers module.old module.new places.new
+        (all_bound_by places.old (written_patterns_at source.now.node_table ids.now))
+        (λ t. WrittenPatternsMean source.now.functions t places.old
+        (written_patterns_at source.now.node_table ids.now) ps.items)) }
 {
     let mut parts = Vec::with_capacity(alloc, ids.len())?;
     for id in ids {

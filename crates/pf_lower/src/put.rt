@@ -40,7 +40,8 @@ pub(crate) fn put_list_pattern(
 ) -> Result<PatternId, NoMemory>
     requires elements_stand { All (PatternStands module.old.tables) elements.items }
     requires tail_stands { PatternStands module.old.tables tail }
-    ensures { IfOk result (λ p. PatternPut module.old module.new (conses_of (patterns_at module.old.tables elements.items) (pattern_at module.old.tables tail.0)) p) }
+    ensures { IfOk result (λ p. PatternPut module.old module.new
+        (conses_of (patterns_at module.old.tables elements.items) (pattern_at module.old.tables tail.0)) p) }
 {
     let mut front = elements;
     let mut list = tail;
@@ -75,7 +76,8 @@ pub(crate) fn put_list(
 ) -> Result<Part, NoMemory>
     requires elements_stand { All (PartStands module.old.tables) elements.items }
     requires tail_stands { PartStands module.old.tables tail }
-    ensures { IfOk result (λ x. PartPut module.old module.new (conses (parts_over module.old.tables elements.items) (part_over module.old.tables tail)) x) }
+    ensures { IfOk result (λ x. PartPut module.old module.new
+        (conses (parts_over module.old.tables elements.items) (part_over module.old.tables tail)) x) }
 {
     let mut front = elements;
     let mut list = tail;

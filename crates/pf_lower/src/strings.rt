@@ -29,7 +29,8 @@ fn integers(alloc: Global, codes: &[u8]) -> Result<Vec<Term>, NoMemory>
 
 /// The list of these codes; none where it is too large for a value.
 pub(crate) fn string(alloc: Global, codes: &[u8]) -> Result<Option<Term>, NoMemory>
-    ensures { IfOk result (λ made. MatchOption made (¬ IsWithinLimits (spec.string codes.now)) (λ t. value_of t ≡ spec.string codes.now)) }
+    ensures { IfOk result (λ made. MatchOption made (¬ IsWithinLimits (spec.string codes.now))
+        (λ t. value_of t ≡ spec.string codes.now)) }
 {
     match list_of(alloc, integers(alloc, codes)?) {
         Ok(list) => Ok(Some(Term::List(list))),

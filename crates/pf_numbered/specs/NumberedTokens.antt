@@ -36,9 +36,13 @@ abbrev pub variable_name : written.TokenKind → List (List ℕ)
 variable_name (written.variable name) = name ∷ []
 variable_name _ = []
 
+-- the names, and behind them the atoms that tokens have and they lack, in order of appearance
+abbrev pub atoms_after : List (List ℕ) → List Placed → List (List ℕ)
+atoms_after names ts = with_names names (flat_map (λ t. atom_name t.kind) ts)
+
 -- the atoms of a source: the fixed ones, and then its own in order of appearance
 abbrev pub atoms_of : List Placed → List (List ℕ)
-atoms_of ts = with_names fixed_names (flat_map (λ t. atom_name t.kind) ts)
+atoms_of ts = atoms_after fixed_names ts
 
 -- the names of its variables, which are numbered in the same way in a table of their own
 abbrev pub variables_of : List Placed → List (List ℕ)
@@ -64,6 +68,10 @@ kind_in atoms variables (written.reserved r) = reserved r
 abbrev pub numbered_token_in : List (List ℕ) → List (List ℕ) → Placed → NumberedToken
 numbered_token_in atoms variables t = record { kind = kind_in atoms variables t.kind; at = t.start }
 
+-- tokens with numbers for names, where those of their atoms go on from these names
+abbrev pub numbered_after : List (List ℕ) → List Placed → List NumberedToken
+numbered_after names ts = map (numbered_token_in (atoms_after names ts) (variables_of ts)) ts
+
 -- the tokens of a source, with numbers for names
 abbrev pub numbered : List Placed → List NumberedToken
-numbered ts = map (numbered_token_in (atoms_of ts) (variables_of ts)) ts
+numbered ts = numbered_after fixed_names ts

@@ -3,7 +3,7 @@
 ghost use Rattle.std.specs.Prelude.{◌≡◌, ◌<◌, ◌^◌, ℕ, length, List, map, IfOk, OnOk};
 ghost use Rattle.pf_terms.specs.Atoms.{fixed_names, with_name, with_names};
 ghost use Rattle.pf_tokens.specs.TokenKinds.{placed_of, kind_of};
-ghost use Rattle.pf_numbered.specs.NumberedTokens.{atom_name, atoms_of, number_in, numbered, variable_name};
+ghost use Rattle.pf_numbered.specs.NumberedTokens.{atom_name, atoms_after, atoms_of, number_in, numbered, numbered_after, variable_name};
 ghost use Rattle.pf_numbered.specs.View.{token_list};
 ghost use Rattle.pf_numbered.specs.Numbering.{StandsForKind};
 
@@ -73,17 +73,18 @@ fn offset_of(start: usize) -> Result<u32, NoMemory>
     }
 }
 
-/// The tokens with numbers for their names, which enter two fresh tables.
+/// The tokens with numbers for their names. Those of atoms enter a table behind its own, and those of variables a fresh one.
 fn number_all<'a>(
     alloc: Global,
     atoms: &mut AtomNumbers,
     variables: &mut AtomNumbers,
     tokens: &'a [Token],
 ) -> Result<Vec<NumberedToken<'a>>, NoMemory>
-    requires atoms { atoms.old ≡ fixed_names }
+    requires room { length atoms.old < 2 ^ 32 }
     requires variables { variables.old ≡ fixed_names }
-    ensures atoms { OnOk result (atoms.new ≡ atoms_of (map placed_of tokens.now)) }
-    ensures token_list { IfOk result (λ found. token_list found.items ≡ numbered (map placed_of tokens.now)) }
+    ensures atoms { OnOk result (atoms.new ≡ atoms_after atoms.old (map placed_of tokens.now)) }
+    ensures token_list { IfOk result
+        (λ found. token_list found.items ≡ numbered_after atoms.old (map placed_of tokens.now)) }
 {
     let mut found = Vec::new(alloc);
     for token in tokens {
@@ -94,15 +95,16 @@ fn number_all<'a>(
     Ok(found)
 }
 
-/// The tokens with numbers for their names. Those of atoms enter a fresh table, and those of variables one that is dropped here.
+/// The tokens with numbers for their names. Those of atoms enter a table behind its own, and those of variables one that is dropped here.
 fn number_names<'a>(
     alloc: Global,
     atoms: &mut AtomNumbers,
     tokens: &'a [Token],
 ) -> Result<Vec<NumberedToken<'a>>, NoMemory>
-    requires { atoms.old ≡ fixed_names }
-    ensures atoms { OnOk result (atoms.new ≡ atoms_of (map placed_of tokens.now)) }
-    ensures token_list { IfOk result (λ found. token_list found.items ≡ numbered (map placed_of tokens.now)) }
+    requires { length atoms.old < 2 ^ 32 }
+    ensures atoms { OnOk result (atoms.new ≡ atoms_after atoms.old (map placed_of tokens.now)) }
+    ensures token_list { IfOk result
+        (λ found. token_list found.items ≡ numbered_after atoms.old (map placed_of tokens.now)) }
 {
     let mut variables = AtomNumbers::new(alloc)?;
     number_all(alloc, atoms, &mut variables, tokens)
@@ -119,4 +121,32 @@ pub fn number_tokens<'a>(
     let mut atoms = AtomNumbers::new(alloc)?;
     let found = number_names(alloc, &mut atoms, tokens)?;
     Ok((atoms.into_table(), found))
+}
+
+/// The names of a table, each with the number that it has there. The table has room for one more.
+fn numbers_of(alloc: Global, atoms: &AtomTable) -> Result<AtomNumbers, NoMemory>
+    ensures same { IfOk result (λ t. t ≡ atoms.now) }
+    ensures room { IfOk result (λ t. length t < 2 ^ 32) }
+{
+    let numbers = AtomNumbers::of(alloc, atoms)?;
+    if numbers.len() > LIMIT {
+        return Err(NoMemory);
+    }
+    Ok(numbers)
+}
+
+/// The atoms of a table with those of the tokens behind them, and the tokens with numbers for their names. An atom of the table
+/// keeps its number there.
+pub fn number_tokens_after<'a>(
+    alloc: Global,
+    tokens: &'a [Token],
+    atoms: &AtomTable,
+) -> Result<(AtomTable, Vec<NumberedToken<'a>>), NoMemory>
+    ensures atoms { IfOk result (λ x. x.0 ≡ atoms_after atoms.now (map placed_of tokens.now)) }
+    ensures token_list { IfOk result
+        (λ x. token_list x.1.items ≡ numbered_after atoms.now (map placed_of tokens.now)) }
+{
+    let mut numbers = numbers_of(alloc, atoms)?;
+    let found = number_names(alloc, &mut numbers, tokens)?;
+    Ok((numbers.into_table(), found))
 }

@@ -6,3 +6,4 @@ pub mod Parts
 pub mod Patterns
 pub mod Turns
 pub mod Head
+pub mod Alone

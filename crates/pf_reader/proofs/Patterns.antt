@@ -1,5 +1,5 @@
 -- Patterns, a step at a time.
-use Rattle.std.proofs.Common.{◌≡◌, ℕ, zero, suc, ◌-◌, ◌<◌, List, [], ◌∷◌, Bool, true, false, Option, Some, None, refl, sym, ap, ◌∙◌, arith, length}
+use Rattle.std.proofs.Common.{◌≡◌, ℕ, zero, suc, ◌-◌, ◌<◌, List, [], ◌∷◌, Bool, true, false, Option, Some, None, refl, sym, arith, length}
 use Rattle.std.specs.Prelude.{if◌then◌else◌, nat_le, not, option_map, pos}
 use Rattle.std.specs.Option.{is_some}
 use Rattle.pf_terms.specs.Atoms.{name_of}

@@ -22,7 +22,8 @@ fn read_entry<'a, 't>(
     context: Context,
     tokens: Tokens<'a, 't>,
 ) -> Result<(Export, Tokens<'a, 't>), ReadFault>
-    ensures { Gives (λ x. (export_of x.0, tokens_in x.1)) result (entry (names_of context.entry) (tokens_in tokens.entry)) }
+    ensures { Gives (λ x. (export_of x.0, tokens_in x.1)) result
+        (entry (names_of context.entry) (tokens_in tokens.entry)) }
 {
     let (word, rest) = read_name(context, tokens)?;
     let rest = behind(rest, NumberedKind::Mark(Mark::Slash))?;
@@ -44,7 +45,9 @@ fn read_entries<'a, 't>(
     context: Context,
     tokens: Tokens<'a, 't>,
 ) -> Result<(Vec<Export>, Tokens<'a, 't>), ReadFault>
-    ensures { Gives (λ x. (map export_of x.0.items, tokens_in x.1)) result (items (mark Comma) (entry (names_of context.entry)) (length (tokens_in tokens.entry)) (tokens_in tokens.entry)) }
+    ensures { Gives (λ x. (map export_of x.0.items, tokens_in x.1)) result
+        (items (mark Comma) (entry (names_of context.entry)) (length (tokens_in tokens.entry))
+        (tokens_in tokens.entry)) }
 {
     let mut found = Vec::new(alloc);
     let mut rest = tokens;
@@ -65,7 +68,8 @@ fn read_entry_list<'a, 't>(
     context: Context,
     tokens: Tokens<'a, 't>,
 ) -> Result<(Vec<Export>, Tokens<'a, 't>), ReadFault>
-    ensures { Gives (λ x. (map export_of x.0.items, tokens_in x.1)) result (until (mark CloseBracket) (entry (names_of context.entry)) (tokens_in tokens.entry)) }
+    ensures { Gives (λ x. (map export_of x.0.items, tokens_in x.1)) result
+        (until (mark CloseBracket) (entry (names_of context.entry)) (tokens_in tokens.entry)) }
 {
     if let Some(rest) = skip(tokens, NumberedKind::Mark(Mark::CloseBracket)) {
         return Ok((Vec::new(alloc), rest));
@@ -81,7 +85,8 @@ fn read_export<'a, 't>(
     context: Context,
     tokens: Tokens<'a, 't>,
 ) -> Result<(Vec<Export>, Tokens<'a, 't>), ReadFault>
-    ensures { Gives (λ x. (map export_of x.0.items, tokens_in x.1)) result (export (names_of context.entry) (tokens_in tokens.entry)) }
+    ensures { Gives (λ x. (map export_of x.0.items, tokens_in x.1)) result
+        (export (names_of context.entry) (tokens_in tokens.entry)) }
 {
     let Some(rest) = skip_word(context.atoms, b"export", tokens) else {
         return Err(OrNoMemory::Fault(Syntax));
@@ -113,7 +118,9 @@ pub(crate) fn read_exports<'a, 't>(
     source: &mut Source,
     tokens: Tokens<'a, 't>,
 ) -> Result<Tokens<'a, 't>, ReadFault>
-    ensures given { Gives (λ rest. (source.new.exports, tokens_in rest)) result (with_front source.old.exports (exports (names_of context.entry) (length (tokens_in tokens.entry)) (tokens_in tokens.entry))) }
+    ensures given { Gives (λ rest. (source.new.exports, tokens_in rest)) result
+        (with_front source.old.exports (exports (names_of context.entry) (length (tokens_in tokens.entry))
+        (tokens_in tokens.entry))) }
     ensures name { source.new.name ≡ source.old.name }
     ensures functions { source.new.functions ≡ source.old.functions }
 {

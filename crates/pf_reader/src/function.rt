@@ -28,7 +28,8 @@ fn read_head<'a, 't>(
 ) -> Result<(Head, Tokens<'a, 't>), ReadFault>
     ensures grown { Grown source.old source.new }
     ensures stands { IfOk result (λ x. HeadStands source.new.node_table x.0) }
-    ensures given { Gives (λ x. (head_over source.new.node_table x.0, tokens_in x.1)) result (head (names_of context.entry) (tokens_in tokens.entry)) }
+    ensures given { Gives (λ x. (head_over source.new.node_table x.0, tokens_in x.1)) result
+        (head (names_of context.entry) (tokens_in tokens.entry)) }
 {
     let limit = MOST_TREE_DEPTH;
     let last = Mark::CloseParenthesis;
@@ -56,7 +57,9 @@ fn read_heads<'a, 't>(
 ) -> Result<(Vec<Head>, Tokens<'a, 't>), ReadFault>
     ensures grown { Grown source.old source.new }
     ensures stands { IfOk result (λ x. All (HeadStands source.new.node_table) x.0.items) }
-    ensures given { Gives (λ x. (map (head_over source.new.node_table) x.0.items, tokens_in x.1)) result (items (mark Semicolon) (head (names_of context.entry)) (length (tokens_in tokens.entry)) (tokens_in tokens.entry)) }
+    ensures given { Gives (λ x. (map (head_over source.new.node_table) x.0.items, tokens_in x.1)) result
+        (items (mark Semicolon) (head (names_of context.entry)) (length (tokens_in tokens.entry))
+        (tokens_in tokens.entry)) }
 {
     let mut found = Vec::new(alloc);
     let mut rest = tokens;
@@ -80,7 +83,8 @@ fn read_function<'a, 't>(
 ) -> Result<(WrittenFunction, Tokens<'a, 't>), ReadFault>
     ensures grown { Grown source.old source.new }
     ensures stands { IfOk result (λ x. HeadsStand source.new.node_table x.0) }
-    ensures given { Gives (λ x. (heads_over source.new.node_table x.0, tokens_in x.1)) result (function (names_of context.entry) (tokens_in tokens.entry)) }
+    ensures given { Gives (λ x. (heads_over source.new.node_table x.0, tokens_in x.1)) result
+        (function (names_of context.entry) (tokens_in tokens.entry)) }
 {
     let (heads, rest) = read_heads(alloc, context, source, tokens)?;
     let rest = behind(rest, NumberedKind::Dot)?;
@@ -94,7 +98,9 @@ pub(crate) fn read_functions(
     source: &mut Source,
     tokens: Tokens,
 ) -> Result<(), ReadFault>
-    ensures given { Gives (λ _. source.new.functions) result (with_first source.old.functions (functions (names_of context.entry) (length (tokens_in tokens.entry)) (tokens_in tokens.entry))) }
+    ensures given { Gives (λ _. source.new.functions) result
+        (with_first source.old.functions
+        (functions (names_of context.entry) (length (tokens_in tokens.entry)) (tokens_in tokens.entry))) }
     ensures name { source.new.name ≡ source.old.name }
     ensures exports { source.new.exports ≡ source.old.exports }
 {

@@ -9,9 +9,11 @@ mod fault;
 mod function;
 mod operator;
 mod part;
+mod pattern_alone;
 mod read;
 mod token;
 mod written_expression;
 mod written_pattern;
 
+pub use pattern_alone::{ReadPattern, read_pattern};
 pub use read::{ReadModule, read_tree};

@@ -17,8 +17,10 @@ pub(crate) fn joined(
     left: WrittenExpressionId,
     right: WrittenExpressionId,
 ) -> WrittenExpressionNode
-    ensures meaning { (b : NodeTable) → written_expression_over b result ≡ joined (infix_seen joint) (written_expression_at b left.0) (written_expression_at b right.0) }
-    ensures stands { (b : NodeTable) → WrittenExpressionStands b left → WrittenExpressionStands b right → WrittenExpressionPartsStand b result }
+    ensures meaning { (b : NodeTable) → written_expression_over b result ≡ joined (infix_seen joint)
+        (written_expression_at b left.0) (written_expression_at b right.0) }
+    ensures stands { (b : NodeTable) → WrittenExpressionStands b left → WrittenExpressionStands b right
+        → WrittenExpressionPartsStand b result }
 {
     match joint {
         Infix::Operator(operator) => WrittenExpressionNode::Binary(operator, left, right),
@@ -35,7 +37,8 @@ pub(crate) fn infix_ahead<'a, 't>(
     level: u32,
     tokens: Tokens<'a, 't>,
 ) -> Option<(Infix, Tokens<'a, 't>)>
-    ensures { option_map (λ x. (infix_seen x.0, tokens_in x.1)) result ≡ infix_ahead guard floor level (tokens_in tokens.entry) }
+    ensures { option_map (λ x. (infix_seen x.0, tokens_in x.1)) result ≡ infix_ahead guard floor level
+        (tokens_in tokens.entry) }
 {
     let (first, rest) = tokens.first()?;
     let infix = infix_of(first.kind)?;

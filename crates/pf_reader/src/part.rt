@@ -49,7 +49,8 @@ pub(crate) fn put_written_pattern<'a, 't>(
     requires { WrittenPatternPartsStand source.old.node_table node }
     ensures grown { Grown source.old source.new }
     ensures stands { IfOk result (λ p. WrittenPatternStands source.new.node_table p.written_pattern) }
-    ensures given { Gives (seen_written_pattern source.new.node_table) result (Some (written_pattern_over source.old.node_table node, tokens_in rest.entry)) }
+    ensures given { Gives (seen_written_pattern source.new.node_table) result
+        (Some (written_pattern_over source.old.node_table node, tokens_in rest.entry)) }
 {
     let written_pattern = source.add_written_pattern(node)?;
     Ok(WrittenPatternPart {
@@ -67,7 +68,8 @@ pub(crate) fn put<'a, 't>(
     requires { WrittenExpressionPartsStand source.old.node_table node }
     ensures grown { Grown source.old source.new }
     ensures stands { IfOk result (λ p. WrittenExpressionStands source.new.node_table p.written_expression) }
-    ensures given { Gives (seen source.new.node_table) result (Some (written_expression_over source.old.node_table node, tokens_in rest.entry)) }
+    ensures given { Gives (seen source.new.node_table) result
+        (Some (written_expression_over source.old.node_table node, tokens_in rest.entry)) }
 {
     let written_expression = source.add_written_expression(node)?;
     Ok(Part {
@@ -86,7 +88,8 @@ pub(crate) fn put_within<'a, 't>(
     requires { WrittenExpressionPartsStand source.old.node_table node }
     ensures grown { Grown source.old source.new }
     ensures stands { IfOk result (λ p. WrittenExpressionStands source.new.node_table p.written_expression) }
-    ensures given { Gives (seen source.new.node_table) result (within limit (written_expression_over source.old.node_table node) (tokens_in rest.entry)) }
+    ensures given { Gives (seen source.new.node_table) result
+        (within limit (written_expression_over source.old.node_table node) (tokens_in rest.entry)) }
 {
     let part = put(source, node, rest)?;
     if source.depth(part.written_expression) > limit {
@@ -114,7 +117,8 @@ pub(crate) fn put_written_pattern_text<'a, 't>(
 ) -> Result<WrittenPatternPart<'a, 't>, ReadFault>
     ensures grown { Grown source.old source.new }
     ensures stands { IfOk result (λ p. WrittenPatternStands source.new.node_table p.written_pattern) }
-    ensures given { Gives (seen_written_pattern source.new.node_table) result (if is_short text.now then Some (patterns.text text.now, tokens_in rest.entry) else None) }
+    ensures given { Gives (seen_written_pattern source.new.node_table) result
+        (if is_short text.now then Some (patterns.text text.now, tokens_in rest.entry) else None) }
 {
     let characters = read_characters(alloc, text)?;
     put_written_pattern(source, WrittenPatternNode::Text(characters), rest)
@@ -129,7 +133,8 @@ pub(crate) fn put_text<'a, 't>(
 ) -> Result<Part<'a, 't>, ReadFault>
     ensures grown { Grown source.old source.new }
     ensures stands { IfOk result (λ p. WrittenExpressionStands source.new.node_table p.written_expression) }
-    ensures given { Gives (seen source.new.node_table) result (if is_short text.now then Some (expressions.text text.now, tokens_in rest.entry) else None) }
+    ensures given { Gives (seen source.new.node_table) result
+        (if is_short text.now then Some (expressions.text text.now, tokens_in rest.entry) else None) }
 {
     let characters = read_characters(alloc, text)?;
     put(source, WrittenExpressionNode::Text(characters), rest)

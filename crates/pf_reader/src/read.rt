@@ -99,12 +99,15 @@ pub fn read_tree(
     tokens: &[Token],
     end: usize,
 ) -> Result<ReadModule, OrNoMemory<Refusal>>
-    ensures found { IfOk result (λ t. DerivesTree (atoms_of (map placed_of tokens.now)) (tree_of t.source) (numbered (map placed_of tokens.now))) }
+    ensures found { IfOk result (λ t. DerivesTree (atoms_of (map placed_of tokens.now)) (tree_of t.source)
+        (numbered (map placed_of tokens.now))) }
     ensures atoms { IfOk result (λ t. t.atoms ≡ atoms_of (map placed_of tokens.now)) }
 
     // What derives the tokens is read, unless memory runs out.
-    ensures only { (m : Tree) → DerivesTree (atoms_of (map placed_of tokens.now)) m (numbered (map placed_of tokens.now)) → IsReadAs m result }
-    ensures fault { IfErr result (IsTreeFault (atoms_of (map placed_of tokens.now)) (numbered (map placed_of tokens.now)) end) }
+    ensures only { (m : Tree) → DerivesTree (atoms_of (map placed_of tokens.now)) m
+        (numbered (map placed_of tokens.now)) → IsReadAs m result }
+    ensures fault { IfErr result (IsTreeFault (atoms_of (map placed_of tokens.now))
+        (numbered (map placed_of tokens.now)) end) }
 {
     let (atoms, found) = number_tokens(alloc, tokens)?;
     match read_module(alloc, &atoms, &found) {

@@ -31,7 +31,8 @@ pub(crate) struct Tokens<'a, 't> {
 impl<'a, 't> Tokens<'a, 't> {
     /// The first token, and what follows it.
     pub(crate) fn first(self) -> Option<(NumberedToken<'t>, Tokens<'a, 't>)>
-        ensures { MatchOption result (tokens_in self.entry ≡ []) (λ x. tokens_in self.entry ≡ numbered_token_of x.0 ∷ tokens_in x.1) }
+        ensures { MatchOption result (tokens_in self.entry ≡ [])
+            (λ x. tokens_in self.entry ≡ numbered_token_of x.0 ∷ tokens_in x.1) }
     {
         let (first, list) = self.list.split_first()?;
         Some((*first, Tokens { list }))
@@ -61,7 +62,8 @@ fn is_kind(wanted: NumberedKind, kind: NumberedKind) -> bool
 
 /// What follows the kind of token, where it stands first.
 pub(crate) fn skip<'a, 't>(tokens: Tokens<'a, 't>, wanted: NumberedKind) -> Option<Tokens<'a, 't>>
-    ensures { option_map (λ rest. tokens_in rest) result ≡ after (kind_of wanted.entry) (tokens_in tokens.entry) }
+    ensures { option_map (λ rest. tokens_in rest) result ≡ after (kind_of wanted.entry)
+        (tokens_in tokens.entry) }
 {
     let (first, rest) = tokens.first()?;
     if is_kind(wanted, first.kind) {
@@ -121,7 +123,8 @@ pub(crate) fn read_name<'a, 't>(
     context: Context,
     tokens: Tokens<'a, 't>,
 ) -> Result<(Word, Tokens<'a, 't>), ReadFault>
-    ensures { Gives (λ x. ((x.0.name.0, x.0.offset), tokens_in x.1)) result (named (names_of context.entry) (tokens_in tokens.entry)) }
+    ensures { Gives (λ x. ((x.0.name.0, x.0.offset), tokens_in x.1)) result
+        (named (names_of context.entry) (tokens_in tokens.entry)) }
 {
     let Some((first, rest)) = tokens.first() else {
         return Err(OrNoMemory::Fault(Syntax));

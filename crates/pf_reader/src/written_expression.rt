@@ -55,7 +55,8 @@ fn read_prim<'a, 't>(
     requires { 0 < limit }
     ensures grown { Grown source.old source.new }
     ensures stands { IfOk result (λ x. WrittenExpressionStands source.new.node_table x.written_expression) }
-    ensures given { Gives (seen source.new.node_table) result (prim (names_of context.entry) guard limit (tokens_in tokens.entry)) }
+    ensures given { Gives (seen source.new.node_table) result
+        (prim (names_of context.entry) guard limit (tokens_in tokens.entry)) }
 {
     let Some((first, rest)) = tokens.first() else {
         return Err(OrNoMemory::Fault(Syntax));
@@ -102,7 +103,10 @@ fn read_named<'a, 't>(
 ) -> Result<Part<'a, 't>, ReadFault>
     ensures grown { Grown source.old source.new }
     ensures stands { IfOk result (λ x. WrittenExpressionStands source.new.node_table x.written_expression) }
-    ensures given { Gives (seen source.new.node_table) result (call_step (names_of context.entry) guard (expr (names_of context.entry) guard limit top) word.name.0 word.offset (tokens_in tokens.entry) (after (mark OpenParenthesis) (tokens_in tokens.entry))) }
+    ensures given { Gives (seen source.new.node_table) result
+        (call_step (names_of context.entry) guard
+        (expr (names_of context.entry) guard limit top) word.name.0 word.offset (tokens_in tokens.entry)
+        (after (mark OpenParenthesis) (tokens_in tokens.entry))) }
 {
     let Some(rest) = skip(tokens, NumberedKind::Mark(Mark::OpenParenthesis)) else {
         return put(source, WrittenExpressionNode::Atom(word.name), tokens);
@@ -129,7 +133,8 @@ fn read_marked<'a, 't>(
 ) -> Result<Part<'a, 't>, ReadFault>
     ensures grown { Grown source.old source.new }
     ensures stands { IfOk result (λ x. WrittenExpressionStands source.new.node_table x.written_expression) }
-    ensures given { Gives (seen source.new.node_table) result (marked (expr (names_of context.entry) guard limit top) first (tokens_in tokens.entry)) }
+    ensures given { Gives (seen source.new.node_table) result
+        (marked (expr (names_of context.entry) guard limit top) first (tokens_in tokens.entry)) }
 {
     match first {
         Mark::OpenParenthesis => {
@@ -161,7 +166,8 @@ fn read_list<'a, 't>(
 ) -> Result<Part<'a, 't>, ReadFault>
     ensures grown { Grown source.old source.new }
     ensures stands { IfOk result (λ x. WrittenExpressionStands source.new.node_table x.written_expression) }
-    ensures given { Gives (seen source.new.node_table) result (list (expr (names_of context.entry) guard limit top) (tokens_in tokens.entry)) }
+    ensures given { Gives (seen source.new.node_table) result
+        (list (expr (names_of context.entry) guard limit top) (tokens_in tokens.entry)) }
 {
     if let Some(rest) = skip(tokens, NumberedKind::Mark(Mark::CloseBracket)) {
         return put(source, WrittenExpressionNode::List(Vec::new(alloc)), rest);
@@ -195,7 +201,8 @@ fn read_unary<'a, 't>(
     requires { 0 < limit }
     ensures grown { Grown source.old source.new }
     ensures stands { IfOk result (λ x. WrittenExpressionStands source.new.node_table x.written_expression) }
-    ensures given { Gives (seen source.new.node_table) result (unary (prim (names_of context.entry) guard limit) limit (tokens_in tokens.entry)) }
+    ensures given { Gives (seen source.new.node_table) result
+        (unary (prim (names_of context.entry) guard limit) limit (tokens_in tokens.entry)) }
 {
     match skip(tokens, NumberedKind::Mark(Mark::Minus)) {
         None => read_prim(alloc, context, source, guard, limit, tokens),
@@ -220,7 +227,8 @@ fn read_level<'a, 't>(
 ) -> Result<Part<'a, 't>, ReadFault>
     ensures grown { Grown source.old source.new }
     ensures stands { IfOk result (λ x. WrittenExpressionStands source.new.node_table x.written_expression) }
-    ensures given { Gives (seen source.new.node_table) result (expr (names_of context.entry) guard limit level (tokens_in tokens.entry)) }
+    ensures given { Gives (seen source.new.node_table) result
+        (expr (names_of context.entry) guard limit level (tokens_in tokens.entry)) }
 {
     if limit == 0 {
         return Err(OrNoMemory::Fault(Syntax));
@@ -261,7 +269,8 @@ fn read_element<'a, 't>(
 ) -> Result<Part<'a, 't>, ReadFault>
     ensures grown { Grown source.old source.new }
     ensures stands { IfOk result (λ x. WrittenExpressionStands source.new.node_table x.written_expression) }
-    ensures given { Gives (seen source.new.node_table) result (element (names_of context.entry) limit (tokens_in tokens.entry)) }
+    ensures given { Gives (seen source.new.node_table) result
+        (element (names_of context.entry) limit (tokens_in tokens.entry)) }
 {
     if limit == 0 {
         return Err(OrNoMemory::Fault(Syntax));
@@ -288,7 +297,8 @@ fn read_item<'a, 't>(
 ) -> Result<Part<'a, 't>, ReadFault>
     ensures grown { Grown source.old source.new }
     ensures stands { IfOk result (λ x. WrittenExpressionStands source.new.node_table x.written_expression) }
-    ensures given { Gives (seen source.new.node_table) result (item_at (names_of context.entry) item limit (tokens_in tokens.entry)) }
+    ensures given { Gives (seen source.new.node_table) result
+        (item_at (names_of context.entry) item limit (tokens_in tokens.entry)) }
 {
     match item {
         Item::Expression(guard) => read_level(alloc, context, source, guard, limit, TOP, tokens),
@@ -308,7 +318,13 @@ fn read_items<'a, 't>(
 ) -> Result<(Vec<WrittenExpressionId>, Tokens<'a, 't>), ReadFault>
     ensures grown { Grown source.old source.new }
     ensures stands { IfOk result (λ x. All (WrittenExpressionStands source.new.node_table) x.0.items) }
-    ensures given { Gives (λ x. (map (written_expression_of source.new.node_table) x.0.items, tokens_in x.1)) result (items (mark Comma) (item_at (names_of context.entry) item limit) (length (tokens_in tokens.entry)) (tokens_in tokens.entry)) }
+    ensures given { Gives (λ x. (
+      map
+          (written_expression_of source.new.node_table) x.0.items,
+      tokens_in x.1,
+    )) result
+        (items (mark Comma) (item_at (names_of context.entry) item limit) (length (tokens_in tokens.entry))
+        (tokens_in tokens.entry)) }
 {
     let mut found = Vec::new(alloc);
     let mut rest = tokens;
@@ -336,7 +352,12 @@ fn read_until<'a, 't>(
 ) -> Result<(Vec<WrittenExpressionId>, Tokens<'a, 't>), ReadFault>
     ensures grown { Grown source.old source.new }
     ensures stands { IfOk result (λ x. All (WrittenExpressionStands source.new.node_table) x.0.items) }
-    ensures given { Gives (λ x. (map (written_expression_of source.new.node_table) x.0.items, tokens_in x.1)) result (until (mark last) (item_at (names_of context.entry) item limit) (tokens_in tokens.entry)) }
+    ensures given { Gives (λ x. (
+      map
+          (written_expression_of source.new.node_table) x.0.items,
+      tokens_in x.1,
+    )) result
+        (until (mark last) (item_at (names_of context.entry) item limit) (tokens_in tokens.entry)) }
 {
     if let Some(rest) = skip(tokens, NumberedKind::Mark(last)) {
         return Ok((Vec::new(alloc), rest));
@@ -356,7 +377,12 @@ pub(crate) fn read_body<'a, 't>(
 ) -> Result<(Vec<WrittenExpressionId>, Tokens<'a, 't>), ReadFault>
     ensures grown { Grown source.old source.new }
     ensures stands { IfOk result (λ x. All (WrittenExpressionStands source.new.node_table) x.0.items) }
-    ensures given { Gives (λ x. (map (written_expression_of source.new.node_table) x.0.items, tokens_in x.1)) result (body (element (names_of context.entry) limit) (tokens_in tokens.entry)) }
+    ensures given { Gives (λ x. (
+      map
+          (written_expression_of source.new.node_table) x.0.items,
+      tokens_in x.1,
+    )) result
+        (body (element (names_of context.entry) limit) (tokens_in tokens.entry)) }
 {
     read_items(alloc, context, source, Item::Element, limit, tokens)
 }
@@ -372,7 +398,8 @@ fn read_guard<'a, 't>(
 ) -> Result<(Condition, Tokens<'a, 't>), ReadFault>
     ensures grown { Grown source.old source.new }
     ensures stands { IfOk result (λ x. ConditionStands source.new.node_table x.0) }
-    ensures given { Gives (λ x. (condition_over source.new.node_table x.0, tokens_in x.1)) result (guard (expr (names_of context.entry) true limit top) (tokens_in tokens.entry)) }
+    ensures given { Gives (λ x. (condition_over source.new.node_table x.0, tokens_in x.1)) result
+        (guard (expr (names_of context.entry) true limit top) (tokens_in tokens.entry)) }
 {
     let mut alternatives = Vec::new(alloc);
     let mut rest = tokens;
@@ -399,7 +426,8 @@ pub(crate) fn read_when<'a, 't>(
 ) -> Result<(Condition, Tokens<'a, 't>), ReadFault>
     ensures grown { Grown source.old source.new }
     ensures stands { IfOk result (λ x. ConditionStands source.new.node_table x.0) }
-    ensures given { Gives (λ x. (condition_over source.new.node_table x.0, tokens_in x.1)) result (when (expr (names_of context.entry) true limit top) (tokens_in tokens.entry)) }
+    ensures given { Gives (λ x. (condition_over source.new.node_table x.0, tokens_in x.1)) result
+        (when (expr (names_of context.entry) true limit top) (tokens_in tokens.entry)) }
 {
     match skip(tokens, NumberedKind::Reserved(Reserved::When)) {
         None => {
@@ -422,7 +450,8 @@ fn read_front<'a, 't>(
 ) -> Result<FrontPart<'a, 't>, ReadFault>
     ensures grown { Grown source.old source.new }
     ensures stands { IfOk result (λ x. FrontStands source.new.node_table x) }
-    ensures given { Gives (front_seen source.new.node_table) result (front (readers (names_of context.entry) limit) choice (tokens_in tokens.entry)) }
+    ensures given { Gives (front_seen source.new.node_table) result
+        (front (readers (names_of context.entry) limit) choice (tokens_in tokens.entry)) }
 {
     if choice {
         let part = put_written_pattern(source, WrittenPatternNode::Anything, tokens)?;
@@ -457,7 +486,8 @@ fn read_clause<'a, 't>(
 ) -> Result<(Branch, Tokens<'a, 't>), ReadFault>
     ensures grown { Grown source.old source.new }
     ensures stands { IfOk result (λ x. BranchStands source.new.node_table x.0) }
-    ensures given { Gives (λ x. (clause_of source.new.node_table x.0, tokens_in x.1)) result (clause (readers (names_of context.entry) limit) choice (tokens_in tokens.entry)) }
+    ensures given { Gives (λ x. (clause_of source.new.node_table x.0, tokens_in x.1)) result
+        (clause (readers (names_of context.entry) limit) choice (tokens_in tokens.entry)) }
 {
     let front = read_front(alloc, context, source, choice, limit, tokens)?;
     let rest = behind(front.rest, NumberedKind::Mark(Mark::Arrow))?;
@@ -482,7 +512,9 @@ fn read_clauses<'a, 't>(
 ) -> Result<(Vec<Branch>, Tokens<'a, 't>), ReadFault>
     ensures grown { Grown source.old source.new }
     ensures stands { IfOk result (λ x. All (BranchStands source.new.node_table) x.0.items) }
-    ensures given { Gives (λ x. (map (clause_of source.new.node_table) x.0.items, tokens_in x.1)) result (items (mark Semicolon) (clause (readers (names_of context.entry) limit) choice) (length (tokens_in tokens.entry)) (tokens_in tokens.entry)) }
+    ensures given { Gives (λ x. (map (clause_of source.new.node_table) x.0.items, tokens_in x.1)) result
+        (items (mark Semicolon) (clause (readers (names_of context.entry) limit) choice)
+        (length (tokens_in tokens.entry)) (tokens_in tokens.entry)) }
 {
     let mut found = Vec::new(alloc);
     let mut rest = tokens;
@@ -509,7 +541,8 @@ fn read_branches<'a, 't>(
 ) -> Result<(Vec<Branch>, Tokens<'a, 't>), ReadFault>
     ensures grown { Grown source.old source.new }
     ensures stands { IfOk result (λ x. All (BranchStands source.new.node_table) x.0.items) }
-    ensures given { Gives (λ x. (branches_over source.new.node_table x.0.items, tokens_in x.1)) result (branches (readers (names_of context.entry) limit) choice (tokens_in tokens.entry)) }
+    ensures given { Gives (λ x. (branches_over source.new.node_table x.0.items, tokens_in x.1)) result
+        (branches (readers (names_of context.entry) limit) choice (tokens_in tokens.entry)) }
 {
     let (found, rest) = read_clauses(alloc, context, source, choice, limit, tokens)?;
     let rest = behind(rest, NumberedKind::Reserved(Reserved::End))?;
@@ -528,7 +561,9 @@ fn read_case<'a, 't>(
 ) -> Result<Part<'a, 't>, ReadFault>
     ensures grown { Grown source.old source.new }
     ensures stands { IfOk result (λ x. WrittenExpressionStands source.new.node_table x.written_expression) }
-    ensures given { Gives (seen source.new.node_table) result (case_of (readers (names_of context.entry) limit) (expr (names_of context.entry) guard limit top) (tokens_in tokens.entry)) }
+    ensures given { Gives (seen source.new.node_table) result
+        (case_of (readers (names_of context.entry) limit) (expr (names_of context.entry) guard limit top)
+        (tokens_in tokens.entry)) }
 {
     let subject = read_level(alloc, context, source, guard, limit, TOP, tokens)?;
     let rest = behind(subject.rest, NumberedKind::Reserved(Reserved::Of))?;
@@ -550,7 +585,9 @@ fn read_worded<'a, 't>(
 ) -> Result<Part<'a, 't>, ReadFault>
     ensures grown { Grown source.old source.new }
     ensures stands { IfOk result (λ x. WrittenExpressionStands source.new.node_table x.written_expression) }
-    ensures given { Gives (seen source.new.node_table) result (worded (readers (names_of context.entry) limit) guard (expr (names_of context.entry) guard limit top) first (tokens_in tokens.entry)) }
+    ensures given { Gives (seen source.new.node_table) result
+        (worded (readers (names_of context.entry) limit) guard
+        (expr (names_of context.entry) guard limit top) first (tokens_in tokens.entry)) }
 {
     match first {
         Reserved::Case if may_stand(guard, Form::Deciding) => {

@@ -26,7 +26,8 @@ fn read_negative<'a, 't>(
 ) -> Result<WrittenPatternPart<'a, 't>, ReadFault>
     ensures grown { Grown source.old source.new }
     ensures stands { IfOk result (λ p. WrittenPatternStands source.new.node_table p.written_pattern) }
-    ensures given { Gives (seen_written_pattern source.new.node_table) result (negative (tokens_in tokens.entry)) }
+    ensures given { Gives (seen_written_pattern source.new.node_table) result
+        (negative (tokens_in tokens.entry)) }
 {
     match read_number(tokens) {
         Some((n, rest)) => put_written_pattern(
@@ -49,7 +50,8 @@ pub(crate) fn read_written_pattern<'a, 't>(
 ) -> Result<WrittenPatternPart<'a, 't>, ReadFault>
     ensures grown { Grown source.old source.new }
     ensures stands { IfOk result (λ p. WrittenPatternStands source.new.node_table p.written_pattern) }
-    ensures given { Gives (seen_written_pattern source.new.node_table) result (pattern (names_of context.entry) limit (tokens_in tokens.entry)) }
+    ensures given { Gives (seen_written_pattern source.new.node_table) result
+        (pattern (names_of context.entry) limit (tokens_in tokens.entry)) }
 {
     if limit == 0 {
         return Err(OrNoMemory::Fault(Syntax));
@@ -68,7 +70,9 @@ fn read_begun<'a, 't>(
 ) -> Result<WrittenPatternPart<'a, 't>, ReadFault>
     ensures grown { Grown source.old source.new }
     ensures stands { IfOk result (λ p. WrittenPatternStands source.new.node_table p.written_pattern) }
-    ensures given { Gives (seen_written_pattern source.new.node_table) result (pattern_with (names_of context.entry) (pattern (names_of context.entry) limit) (tokens_in tokens.entry)) }
+    ensures given { Gives (seen_written_pattern source.new.node_table) result
+        (pattern_with (names_of context.entry) (pattern (names_of context.entry) limit)
+        (tokens_in tokens.entry)) }
 {
     let Some((first, rest)) = tokens.first() else {
         return Err(OrNoMemory::Fault(Syntax));
@@ -107,7 +111,8 @@ fn read_marked<'a, 't>(
 ) -> Result<WrittenPatternPart<'a, 't>, ReadFault>
     ensures grown { Grown source.old source.new }
     ensures stands { IfOk result (λ p. WrittenPatternStands source.new.node_table p.written_pattern) }
-    ensures given { Gives (seen_written_pattern source.new.node_table) result (marked_written_pattern (pattern (names_of context.entry) limit) first (tokens_in tokens.entry)) }
+    ensures given { Gives (seen_written_pattern source.new.node_table) result
+        (marked_written_pattern (pattern (names_of context.entry) limit) first (tokens_in tokens.entry)) }
 {
     match first {
         Mark::Minus => read_negative(source, tokens),
@@ -138,7 +143,8 @@ fn read_list<'a, 't>(
 ) -> Result<WrittenPatternPart<'a, 't>, ReadFault>
     ensures grown { Grown source.old source.new }
     ensures stands { IfOk result (λ p. WrittenPatternStands source.new.node_table p.written_pattern) }
-    ensures given { Gives (seen_written_pattern source.new.node_table) result (list_written_pattern (pattern (names_of context.entry) limit) (tokens_in tokens.entry)) }
+    ensures given { Gives (seen_written_pattern source.new.node_table) result
+        (list_written_pattern (pattern (names_of context.entry) limit) (tokens_in tokens.entry)) }
 {
     if let Some(rest) = skip(tokens, NumberedKind::Mark(Mark::CloseBracket)) {
         return put_written_pattern(source, WrittenPatternNode::List(Vec::new(alloc)), rest);
@@ -169,7 +175,13 @@ fn read_written_pattern_items<'a, 't>(
 ) -> Result<(Vec<WrittenPatternId>, Tokens<'a, 't>), ReadFault>
     ensures grown { Grown source.old source.new }
     ensures stands { IfOk result (λ x. All (WrittenPatternStands source.new.node_table) x.0.items) }
-    ensures given { Gives (λ x. (map (written_pattern_of source.new.node_table) x.0.items, tokens_in x.1)) result (items (mark Comma) (pattern (names_of context.entry) limit) (length (tokens_in tokens.entry)) (tokens_in tokens.entry)) }
+    ensures given { Gives (λ x. (
+      map
+          (written_pattern_of source.new.node_table) x.0.items,
+      tokens_in x.1,
+    )) result
+        (items (mark Comma) (pattern (names_of context.entry) limit) (length (tokens_in tokens.entry))
+        (tokens_in tokens.entry)) }
 {
     let mut found = Vec::new(alloc);
     let mut rest = tokens;
@@ -196,7 +208,12 @@ pub(crate) fn read_written_patterns<'a, 't>(
 ) -> Result<(Vec<WrittenPatternId>, Tokens<'a, 't>), ReadFault>
     ensures grown { Grown source.old source.new }
     ensures stands { IfOk result (λ x. All (WrittenPatternStands source.new.node_table) x.0.items) }
-    ensures given { Gives (λ x. (map (written_pattern_of source.new.node_table) x.0.items, tokens_in x.1)) result (until (mark last) (pattern (names_of context.entry) limit) (tokens_in tokens.entry)) }
+    ensures given { Gives (λ x. (
+      map
+          (written_pattern_of source.new.node_table) x.0.items,
+      tokens_in x.1,
+    )) result
+        (until (mark last) (pattern (names_of context.entry) limit) (tokens_in tokens.entry)) }
 {
     if let Some(rest) = skip(tokens, NumberedKind::Mark(last)) {
         return Ok((Vec::new(alloc), rest));
@@ -208,7 +225,8 @@ pub(crate) fn read_written_patterns<'a, 't>(
 
 /// Whether two tokens tell that no match begins here: the first is a pattern alone or none, and no `=` stands behind it.
 fn has_no_match(tokens: Tokens) -> bool
-    ensures { result ≡ true → (n : Names) → (limit : ℕ) → match_ahead (pattern n limit) (tokens_in tokens.entry) ≡ None }
+    ensures { result ≡ true → (n : Names) → (limit : ℕ) → match_ahead (pattern n limit)
+        (tokens_in tokens.entry) ≡ None }
 {
     match tokens.first() {
         Some((first, rest)) => match first.kind {
@@ -228,8 +246,10 @@ pub(crate) fn read_match_ahead<'a, 't>(
     tokens: Tokens<'a, 't>,
 ) -> Result<Option<WrittenPatternPart<'a, 't>>, NoMemory>
     ensures grown { Grown source.old source.new }
-    ensures stands { IfOk result (λ o. IfSome o (λ p. WrittenPatternStands source.new.node_table p.written_pattern)) }
-    ensures given { IfOk result (λ o. option_map (seen_written_pattern source.new.node_table) o ≡ match_ahead (pattern (names_of context.entry) limit) (tokens_in tokens.entry)) }
+    ensures stands { IfOk result (λ o. IfSome o
+        (λ p. WrittenPatternStands source.new.node_table p.written_pattern)) }
+    ensures given { IfOk result (λ o. option_map (seen_written_pattern source.new.node_table) o ≡ match_ahead
+        (pattern (names_of context.entry) limit) (tokens_in tokens.entry)) }
 {
     if has_no_match(tokens) {
         return Ok(None);

@@ -6,6 +6,7 @@ pub mod SameValues
 pub mod Total
 pub mod Exact
 pub mod Fronts
+pub mod Prefixes
 pub mod Crossing
 pub mod Cuts
 pub mod ByName

@@ -43,6 +43,17 @@ impl AtomNumbers {
         })
     }
 
+    /// The names of a table, each with the number that it has there.
+    pub fn of(alloc: Global, names: &AtomTable) -> Result<AtomNumbers, NoMemory>
+        ensures { IfOk result (λ t. t ≡ names.now) }
+    {
+        let mut numbers = AtomNumbers::new(alloc)?;
+        for index in names.fixed_len()..names.len() {
+            numbers.enter(alloc, names.name(AtomId(index as u32)))?;
+        }
+        Ok(numbers)
+    }
+
     /// How many names there are. No two of them are the same.
     pub fn len(&self) -> usize
         ensures len { result ≡ length self.now }

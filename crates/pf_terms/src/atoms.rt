@@ -1,6 +1,6 @@
 //! The names of the atoms of a module, each by its number.
 
-ghost use Rattle.std.specs.Prelude.{◌≡◌, ◌<◌, ◌^◌, length, map, position, IfOk, IfSome, IfNone, OnErr, OnOk, slice_get, Some, false, ◌++◌, ◌∷◌, []};
+ghost use Rattle.std.specs.Prelude.{◌≡◌, ◌<◌, ◌≤◌, ◌^◌, length, take, map, position, IfOk, IfSome, IfNone, OnErr, OnOk, slice_get, Some, false, ◌++◌, ◌∷◌, []};
 ghost use Rattle.std.specs.List.{list_any};
 ghost use Rattle.std.specs.Str.{bytes_eq};
 ghost use Rattle.pf_terms.specs.Atoms.{fixed_names, name_of, with_name};
@@ -152,6 +152,16 @@ impl AtomTable {
         ensures distinct { TellsApart (name_of self.now) (length self.now) }
     {
         FIXED.len() + self.entered.len()
+    }
+
+    /// How many of the names are the fixed ones, which stand first.
+    pub(crate) fn fixed_len(&self) -> usize
+        ensures fixed { take result self.now ≡ fixed_names }
+        ensures within { result ≤ length self.now }
+        ensures few { length self.now ≤ 2 ^ 32 }
+    {
+        let _entered = &self.entered;
+        FIXED.len()
     }
 
     /// The atom of this name, where the table has it.

@@ -10,6 +10,8 @@ mod ends;
 #[cfg(test)]
 mod forms;
 #[cfg(test)]
+mod lone_patterns;
+#[cfg(test)]
 mod machine;
 #[cfg(test)]
 mod trees;

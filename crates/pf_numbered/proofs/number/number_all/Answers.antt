@@ -1,7 +1,7 @@
 use Rattle.std.proofs.Common.{◌≡◌, ◌+◌, suc, [], ◌∷◌, ◌++◌, drop, arith, rules, drop-cons}
 use Rattle.std.specs.Prelude.{map, flat_map}
 use Rattle.pf_tokens.specs.TokenKinds.{placed_of}
-use Rattle.pf_numbered.specs.NumberedTokens.{atom_name, atoms_of, numbered_token_in, variable_name, variables_of}
+use Rattle.pf_numbered.specs.NumberedTokens.{atom_name, atoms_after, numbered_token_in, variable_name, variables_of}
 use Rattle.pf_numbered.specs.declared.numbered_token.NumberedToken.{NumberedToken as CodeNumberedToken}
 use Rattle.pf_numbered.specs.View.{numbered_token_of}
 use Rattle.pf_numbered.proofs.Numbering.{names_go, numbered_as, token_list_go}
@@ -22,7 +22,7 @@ loop-token-preserved c =
     let s = c.in_ok-kind.ensures.kind (flat_map (λ t. atom_name t.kind) (map placed_of next)) (flat_map (λ t. variable_name t.kind) (map placed_of next)) in
     let at = c.in_ok-at.ensures.same in
     let t : CodeNumberedToken = record { kind = c.in_ok-kind.kind; at = c.in_ok-at.at } in
-    let same : numbered_token_of t ≡ numbered_token_in (atoms_of (map placed_of ts)) (variables_of (map placed_of ts)) (placed_of x) =
+    let same : numbered_token_of t ≡ numbered_token_in (atoms_after c.args.atoms.now (map placed_of ts)) (variables_of (map placed_of ts)) (placed_of x) =
     numbered_as c.in_ok-kind.kind c.in_ok-at.at x _ _ _ _ s a v at in
     let pushed : c.push.new.self.items ≡ c.loop-token.found.items ++ t ∷ [] = search rules in
     record {

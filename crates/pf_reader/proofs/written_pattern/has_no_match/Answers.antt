@@ -1,4 +1,4 @@
-use Rattle.std.proofs.Common.{◌≡◌, ℕ, [], ◌∷◌, None, rules}
+use Rattle.std.proofs.Common.{◌≡◌, [], ◌∷◌, rules}
 use Rattle.pf_tokens.specs.declared.marks.Mark.TheVariants.{Match}
 use Rattle.pf_numbered.specs.NumberedTokens.{mark}
 use Rattle.pf_numbered.specs.View.{numbered_token_of}

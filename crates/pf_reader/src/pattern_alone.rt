@@ -1,0 +1,93 @@
+//! Reads a pattern that stands by itself, in no module.
+
+ghost use Rattle.std.specs.Prelude.{map, IfErr, IfOk};
+ghost use Rattle.std.specs.Bool.{Decides};
+ghost use Rattle.pf_tokens.specs.TokenKinds.{placed_of};
+ghost use Rattle.pf_syntax.specs.SourceOver.{WrittenPatternStands};
+ghost use Rattle.pf_syntax.specs.WrittenPattern.{WrittenPattern};
+ghost use Rattle.pf_numbered.specs.View.{token_list};
+ghost use Rattle.pf_grammar.specs.Parse.{pattern};
+ghost use Rattle.pf_reader.specs.View.{names_of};
+ghost use Rattle.pf_reader.specs.Given.{Gives};
+ghost use Rattle.pf_reader.specs.PatternAlone.{alone, pattern_of, DerivesPatternAlone, IsNoPattern, IsPatternReadAs, LacksModule};
+
+use crate::fault::{ReadFault, Syntax};
+use crate::token::{Context, Tokens};
+use crate::written_pattern::read_written_pattern;
+use pf_fault::{Code, OrNoMemory};
+use pf_numbered::{MOST_TREE_DEPTH, NumberedToken, number_tokens_after};
+use pf_syntax::{Source, WrittenPatternId};
+use pf_terms::{AtomId, AtomTable};
+use pf_tokens::{Kind, Token};
+use std::alloc::Global;
+
+/// A pattern by itself, in a source of its own.
+#[derive(Drop)]
+pub struct ReadPattern {
+    pub source: Source,
+    pub pattern: WrittenPatternId,
+}
+
+/// Whether no token is `?MODULE`.
+fn lacks_module(tokens: &[Token]) -> bool
+    ensures { Decides result (LacksModule (map placed_of tokens.now)) }
+{
+    for token in tokens {
+        if let Kind::Module = token.kind {
+            return false;
+        }
+    }
+    true
+}
+
+/// The pattern that these tokens are, from the first to the last.
+fn read_alone(
+    alloc: Global,
+    context: Context,
+    tokens: &[NumberedToken],
+) -> Result<ReadPattern, ReadFault>
+    ensures stands { IfOk result (λ r. WrittenPatternStands r.source.node_table r.pattern) }
+    ensures given { Gives pattern_of result
+        (alone (pattern (names_of context.entry) MOST_TREE_DEPTH (token_list tokens.now))) }
+{
+    let mut source = Source::new(alloc, context.own);
+    let tokens = Tokens { list: tokens };
+    let part = read_written_pattern(alloc, context, &mut source, MOST_TREE_DEPTH, tokens)?;
+    if part.rest.first().is_some() {
+        return Err(OrNoMemory::Fault(Syntax));
+    }
+    Ok(ReadPattern {
+        source,
+        pattern: part.written_pattern,
+    })
+}
+
+/// The pattern that the tokens of a text are, from the first to the last. Its atoms go by the numbers of the table; one that the
+/// table lacks has a number past the table's.
+pub fn read_pattern(
+    alloc: Global,
+    tokens: &[Token],
+    atoms: &AtomTable,
+) -> Result<ReadPattern, OrNoMemory<Code>>
+    ensures found { IfOk result
+        (λ r. DerivesPatternAlone atoms.now (pattern_of r) (map placed_of tokens.now)) }
+    ensures stands { IfOk result (λ r. WrittenPatternStands r.source.node_table r.pattern) }
+
+    // What derives the tokens is read, unless memory runs out.
+    ensures only { (q : WrittenPattern) → DerivesPatternAlone atoms.now q (map placed_of tokens.now)
+        → IsPatternReadAs q result }
+    ensures fault { IfErr result (IsNoPattern atoms.now (map placed_of tokens.now)) }
+{
+    if !lacks_module(tokens) {
+        return Err(OrNoMemory::Fault(Code::NoProperty));
+    }
+    let (names, found) = number_tokens_after(alloc, tokens, atoms)?;
+    // The own name is asked for at `?MODULE` alone, which no token is.
+    let own = AtomId::TRUE;
+    let context = Context { atoms: &names, own };
+    match read_alone(alloc, context, &found) {
+        Ok(read) => Ok(read),
+        Err(OrNoMemory::NoMemory) => Err(OrNoMemory::NoMemory),
+        Err(OrNoMemory::Fault(Syntax)) => Err(OrNoMemory::Fault(Code::NoProperty)),
+    }
+}

@@ -1,0 +1,149 @@
+//! Patterns that stand by themselves.
+
+use pf_fault::{Code, OrNoMemory};
+use pf_reader::{ReadPattern, read_pattern};
+use pf_syntax::{Source, WrittenPatternId, WrittenPatternNode};
+use pf_terms::AtomTable;
+use pf_tokens::tokens;
+use std::alloc::Global;
+use std::fmt::Write;
+use std::test::Fail;
+
+/// The pattern of a text, over the fixed atoms and `ready`, which is number 20.
+fn read(alloc: Global, text: &[u8]) -> Result<Result<ReadPattern, OrNoMemory<Code>>, Fail> {
+    let mut atoms = AtomTable::new(alloc)?;
+    atoms.enter(alloc, b"ready")?;
+    let found = tokens(alloc, text)?;
+    Ok(read_pattern(alloc, &found, &atoms))
+}
+
+/// Writes a node: its atoms and variables by number, variables with their places, and how many parts it has.
+fn describe(out: &mut String, source: &Source, id: WrittenPatternId) -> Result<(), Fail> {
+    match source.written_pattern(id) {
+        Some(WrittenPatternNode::Integer(n)) => write!(out, " {n}")?,
+        Some(WrittenPatternNode::Atom(a)) => write!(out, " atom {}", a.0)?,
+        Some(WrittenPatternNode::Text(text)) => write!(out, " text of {}", text.len())?,
+        Some(WrittenPatternNode::Variable(word)) => {
+            write!(out, " variable {} at {}", word.name.0, word.offset)?;
+        }
+        Some(WrittenPatternNode::Anything) => write!(out, " _")?,
+        Some(WrittenPatternNode::Tuple(parts)) => write!(out, " tuple of {}", parts.len())?,
+        Some(WrittenPatternNode::List(parts)) => write!(out, " list of {}", parts.len())?,
+        Some(WrittenPatternNode::ListOn(parts, _)) => write!(out, " list of {} on", parts.len())?,
+        None => write!(out, " nothing")?,
+    }
+    Ok(())
+}
+
+/// The parts of a node, its tail last.
+fn parts(
+    alloc: Global,
+    source: &Source,
+    id: WrittenPatternId,
+) -> Result<Vec<WrittenPatternId>, Fail> {
+    let mut found = Vec::new(alloc);
+    match source.written_pattern(id) {
+        Some(WrittenPatternNode::Tuple(parts) | WrittenPatternNode::List(parts)) => {
+            found.extend_from_slice(parts)?;
+        }
+        Some(WrittenPatternNode::ListOn(parts, tail)) => {
+            found.extend_from_slice(parts)?;
+            found.push(*tail)?;
+        }
+        _ => {}
+    }
+    Ok(found)
+}
+
+/// The node of a pattern and the nodes of its parts, or the refusal.
+fn told(alloc: Global, text: &str) -> Result<String, Fail> {
+    let mut out = String::new(alloc);
+    match read(alloc, text.as_bytes())? {
+        Ok(read) => {
+            describe(&mut out, &read.source, read.pattern)?;
+            for part in &parts(alloc, &read.source, read.pattern)? {
+                describe(&mut out, &read.source, *part)?;
+            }
+        }
+        Err(refused) => write!(out, "{refused}")?,
+    }
+    Ok(out)
+}
+
+#[test]
+fn patterns_alone_are_read_or_refused(rt: HostRuntime) -> Result<(), Fail> {
+    let cases: [(&str, &str); 16] = [
+        // The fixed names are the first 20 of variables too.
+        (
+            "{ready, X, X}",
+            " tuple of 3 atom 20 variable 20 at 8 variable 20 at 11",
+        ),
+        ("[1, -2 | Rest]", " list of 2 on 1 -2 variable 20 at 9"),
+        ("[]", " list of 0"),
+        ("\"ab\"", " text of 2"),
+        ("_", " _"),
+        // A fixed atom, one of the table, and two that it lacks, one of them twice.
+        (
+            "{kill, ready, done, gone, done}",
+            " tuple of 5 atom 4 atom 20 atom 21 atom 22 atom 21",
+        ),
+        ("?MODULE", "P1"),
+        ("{ready, [?MODULE]}", "P1"),
+        ("ready.", "P1"),
+        ("", "P1"),
+        ("X Y", "P1"),
+        ("X, Y", "P1"),
+        ("1 + 2", "P1"),
+        ("X = 1", "P1"),
+        ("{ready", "P1"),
+        ("[| X]", "P1"),
+    ];
+    for (text, want) in cases {
+        let told = told(rt.alloc(), text)?;
+        assert_eq!(rt; told.as_str(), want);
+    }
+    Ok(())
+}
+
+fn add(text: &mut Vec<u8>, byte: u8, times: usize) -> Result<(), Fail> {
+    for _ in 0..times {
+        text.push(byte)?;
+    }
+    Ok(())
+}
+
+/// So many lists, each the element of the one around it.
+fn nested(alloc: Global, depth: usize) -> Result<Vec<u8>, Fail> {
+    let mut text = Vec::new(alloc);
+    add(&mut text, b'[', depth)?;
+    add(&mut text, b']', depth)?;
+    Ok(text)
+}
+
+#[test]
+fn patterns_alone_have_the_depth_of_the_grammar(rt: HostRuntime) -> Result<(), Fail> {
+    let alloc = rt.alloc();
+    assert!(rt; read(alloc, &nested(alloc, 256)?)?.is_ok());
+    let refused = read(alloc, &nested(alloc, 257)?)?;
+    assert!(rt; matches!(refused, Err(OrNoMemory::Fault(Code::NoProperty))));
+    Ok(())
+}
+
+/// A quoted atom, or a string, of so many letters.
+fn quoted(alloc: Global, quote: u8, letters: usize) -> Result<Vec<u8>, Fail> {
+    let mut text = Vec::new(alloc);
+    text.push(quote)?;
+    add(&mut text, b'a', letters)?;
+    text.push(quote)?;
+    Ok(text)
+}
+
+#[test]
+fn patterns_alone_have_the_limits_of_names_and_strings(rt: HostRuntime) -> Result<(), Fail> {
+    let alloc = rt.alloc();
+    assert!(rt; read(alloc, &quoted(alloc, b'\'', 255)?)?.is_ok());
+    assert!(rt; read(alloc, &quoted(alloc, b'\'', 256)?)?.is_err());
+    assert!(rt; read(alloc, &quoted(alloc, b'"', 4095)?)?.is_ok());
+    assert!(rt; read(alloc, &quoted(alloc, b'"', 4096)?)?.is_err());
+    Ok(())
+}
