@@ -5,7 +5,7 @@ use Rattle.pf_fault.specs.declared.code.Code.{Code}
 use Rattle.pf_fault.specs.declared.memory.NoMemory.{NoMemory}
 use Rattle.pf_check.specs.Reads.{accepted, refused, Reads}
 use Rattle.pf_model.specs.Code.{Code as Module}
-use Rattle.pf_model.specs.Meaning.{Choices, schedule, Means, returning}
+use Rattle.pf_model.specs.Meaning.{schedule, Means, returning}
 use Rattle.pf_desks.specs.Desk as desk
 use Rattle.pf_desks.specs.Desk.{Profile, Stored, Job, job_meant, Desk, Reply, number, submitted}
 use Rattle.pf_model.specs.Reports.{report_of}
@@ -27,9 +27,10 @@ module _ (p : Profile) (right : IsRight p) where
       → ◌≡◌ {A = Desk × Reply} (d, desk.refused code) (submitted d bytes (p.reading bytes))
   submitted_refused d bytes code place h = ap (submitted d bytes) (sym (right.reads bytes (refused code place) h))
 
--- what was run, whatever its choices, is the job
-pub means_run : (j : Job) (r : Result Report NoMemory) (m : Module) (root limit : ℕ) → m ≡ j.stored.code → root ≡ j.root → limit ≡ j.limit
-    → IfOk r (λ x. (choices : Choices) → Means (returning m root choices limit) (report_of x)) → IfOk r (λ x. Means (job_meant j) (report_of x))
-means_run j (Ok x) m root limit of_code of_root of_limit h =
-    subst (λ w. Means w (report_of x)) (λ i. returning (of_code i) (of_root i) (schedule j.schedule) (of_limit i)) (h (schedule j.schedule))
-means_run j (Err e) m root limit of_code of_root of_limit h = tt
+-- what was run is the job
+pub means_run : (j : Job) (r : Result Report NoMemory) (m : Module) (root : ℕ) (words : List ℕ) (limit : ℕ) → m ≡ j.stored.code → root ≡ j.root
+    → words ≡ j.schedule → limit ≡ j.limit
+    → IfOk r (λ x. Means (returning m root (schedule words) limit) (report_of x)) → IfOk r (λ x. Means (job_meant j) (report_of x))
+means_run j (Ok x) m root words limit of_code of_root of_words of_limit h =
+    subst (λ w. Means w (report_of x)) (λ i. returning (of_code i) (of_root i) (schedule (of_words i)) (of_limit i)) h
+means_run j (Err e) m root words limit of_code of_root of_words of_limit h = tt

@@ -12,7 +12,7 @@ use crate::refusal::Refusal;
 use pf_fault::OrNoMemory;
 use pf_model::limits::is_in_range;
 use pf_model::report::Report;
-use pf_stepper::run_one;
+use pf_run::run_words;
 use pf_store::Stored;
 use pf_syntax::{FunctionId, Module};
 use pf_terms::NoMemory;
@@ -87,6 +87,8 @@ impl Job {
     pub fn run(&self, alloc: Global) -> Result<Report, NoMemory>
         ensures { IfOk result (λ r. Means (job_meant self.now) (report_of r)) }
     {
-        run_one(alloc, self.stored.module(), self.root, self.order.limit)
+        let order: &Order = &self.order;
+        let words = order.schedule.as_slice();
+        run_words(alloc, self.stored.module(), self.root, words, order.limit)
     }
 }

@@ -66,6 +66,9 @@ counted_set rs n old r before after h l read short e =
 pub counted_fits : (rs : Channels) (count : ℕ) → IsCounted rs count → count < 2 ^ 64
 counted_fits rs count h = omega (arith, short_total 0 rs h.short, h.few, h.counted)
 
+pub counted_few : (rs : Channels) (count : ℕ) → IsCounted rs count → count ≤ 2 ^ 40
+counted_few rs count h = omega (arith, short_total 0 rs h.short, h.few, h.counted)
+
 -- a row is no longer than there are heads, nor than there are numbers of receivers
 pub row_within : (rs : Channels) (n : ℕ) (old : Row) (count : ℕ) → IsCounted rs count → n < length rs → old ≡ slice_index_or rs n old
     → (length old ≤ count) × (length old ≤ 2 ^ 32)

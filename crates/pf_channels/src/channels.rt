@@ -1,6 +1,6 @@
 //! The channels of all pairs of processes.
 
-ghost use Rattle.std.specs.Prelude.{◌≡◌, ◌+◌, ◌<◌, length, [], Some, None, slice_get};
+ghost use Rattle.std.specs.Prelude.{◌≡◌, ◌+◌, ◌^◌, ◌<◌, ◌≤◌, length, [], Some, None, slice_get};
 ghost use Rattle.std.specs.Prelude.{IfSome, IfNone, OnOk, OnErr};
 ghost use Rattle.pf_model.specs.Channels.{sent, taken, with_senders, heads};
 ghost use Rattle.pf_model.specs.Signals.{signal_of};
@@ -103,7 +103,8 @@ impl Channels {
 
     /// How many heads there are: pairs with a signal on its way.
     pub fn len(&self) -> usize
-        ensures { result ≡ length (heads self.now) }
+        ensures count { result ≡ length (heads self.now) }
+        ensures few { result ≤ 2 ^ 40 }
     {
         self.count
     }

@@ -8,7 +8,7 @@ use Rattle.pf_terms.specs.Atoms.{name_of}
 use Rattle.pf_syntax.specs.Tree.{Builtin}
 use Rattle.pf_syntax.specs.Source.{Head}
 use Rattle.pf_syntax.specs.WrittenModule.{Tree}
-use Rattle.pf_forms.specs.Forms.{builtin_named, only_open}
+use Rattle.pf_forms.specs.Forms.{builtin_named}
 use Rattle.pf_rules.specs.Static.{fault_if, parameters_of, is_named, own_in, is_builtin, defined_faults, names_of, faults_of}
 use Rattle.pf_lower.proofs.Exists.{left_empty, right_empty}
 use Rattle.pf_check.proofs.NoFaults.{none_defined_twice}
@@ -40,14 +40,14 @@ none_built_in atoms earlier ((h ∷ hs) ∷ fs) f k zero none within named = not
 none_built_in atoms earlier ((h ∷ hs) ∷ fs) f k (suc i) none within named =
     none_built_in atoms (earlier ++ (h ∷ hs) ∷ []) fs f k i (right_empty _ _ none) (omega (arith, within)) named
 
--- none that can be called either
-none_open : (o : Option Builtin) (b : Builtin) → is_some o ≡ false → only_open o ≡ Some b → ⊥
-none_open None b e h = cc
-none_open (Some c) b e h = cc
+-- there is none
+none_named : (o : Option Builtin) (b : Builtin) → is_some o ≡ false → o ≡ Some b → ⊥
+none_named None b e h = cc
+none_named (Some c) b e h = cc
 
 -- an own function isn't a built-in one
 pub apart : (atoms : List (List ℕ)) (m : Tree) → faults_of atoms m ≡ [] → (f k i : ℕ) (b : Builtin)
     → (names_of atoms m.functions).own_of f k ≡ Some i → (names_of atoms m.functions).builtin_of f k ≡ Some b → ⊥
 apart atoms m e f k i b own built_in =
     let there = position-Some (is_named f k) m.functions i [] own in
-    none_open (builtin_named (name_of atoms f) k) b (none_built_in atoms [] m.functions f k i (none_defined_twice atoms m e) there.0 there.1) built_in
+    none_named (builtin_named (name_of atoms f) k) b (none_built_in atoms [] m.functions f k i (none_defined_twice atoms m e) there.0 there.1) built_in

@@ -4,7 +4,6 @@ ghost use Rattle.std.specs.Prelude.{◌≡◌, length, ℕ, List, IfOk, Some, tr
 ghost use Rattle.pf_fault.specs.Codes.{code_text, refusal_text};
 ghost use Rattle.pf_syntax.specs.Root.{root_of};
 ghost use Rattle.pf_model.specs.Limits.{is_in_range};
-ghost use Rattle.pf_model.specs.Quiet.{CodeIsQuiet};
 ghost use Rattle.pf_check.specs.Reads.{Reads, accepted_as};
 ghost use Rattle.pf_command.specs.Words.{request};
 ghost use Rattle.pf_command.specs.Answers.{Answers, Refuses, run_status};
@@ -13,7 +12,7 @@ use crate::words::RunWords;
 use pf_check::read;
 use pf_fault::{Code, NoMemory, OrNoMemory, Refusal};
 use pf_model::limits::is_in_range;
-use pf_stepper::run_one;
+use pf_run::run_words;
 use pf_syntax::{FunctionId, Module};
 use pf_text::{put, put_byte, put_report};
 use std::alloc::Global;
@@ -68,7 +67,7 @@ fn run_status(verdict: Option<bool>) -> u8
     }
 }
 
-/// The report of a run from the root, of a module that asks the system for nothing.
+/// The report of a run from the root.
 fn report_run(
     alloc: Global,
     words: &RunWords,
@@ -76,12 +75,11 @@ fn report_run(
     root: FunctionId,
 ) -> Result<Answer, NoMemory>
     requires root { root_of words.now.root.now shared.now.value.atoms shared.now.value.functions ≡ Some root.0 }
-    requires quiet { CodeIsQuiet shared.now.value.functions }
     requires within { is_in_range words.now.limit (length words.now.schedule.items) ≡ true }
     ensures { IfOk result (λ a. (bytes : List ℕ)
         → Reads bytes (accepted_as shared.now.value) → Answers (request words.now) bytes a.text.items a.status) }
 {
-    let report = run_one(alloc, shared, root, words.limit)?;
+    let report = run_words(alloc, shared, root, words.schedule.as_slice(), words.limit)?;
     let mut text = Vec::new(alloc);
     put_report(alloc, &mut text, shared.atoms(), &report)?;
     let status = run_status(report.verdict);
@@ -90,7 +88,6 @@ fn report_run(
 
 /// The answer to a source that was read.
 fn answer_module(alloc: Global, words: &RunWords, shared: &Arc<Module>) -> Result<Answer, NoMemory>
-    requires quiet { CodeIsQuiet shared.now.value.functions }
     ensures { IfOk result (λ a. (bytes : List ℕ)
         → Reads bytes (accepted_as shared.now.value) → Answers (request words.now) bytes a.text.items a.status) }
 {

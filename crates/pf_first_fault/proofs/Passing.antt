@@ -1,12 +1,11 @@
 -- Walks one after another.
 use Rattle.std.proofs.Common.{◌≡◌, ℕ, ◌+◌, ◌<◌, List, get_or, [], ◌∷◌, ◌++◌, length, drop, take, Bool, true, false, refl, sym, ap, ◌∙◌, subst, append_assoc}
-use Rattle.std.specs.Prelude.{if◌then◌else◌, ◌&&◌, ◌||◌, is_some}
+use Rattle.std.specs.Prelude.{if◌then◌else◌, ◌&&◌, ◌||◌}
 use Rattle.std.proofs.lemmas.List.Sums.{fold-append}
 use Rattle.std.proofs.lemmas.List.{append-nil, at_drop_more}
 use Rattle.std.proofs.Math.Seq.{drop-append_seam}
 use Rattle.pf_fault.specs.declared.refusal.Refusal.{Refusal}
 use Rattle.pf_fault.specs.declared.code.Code.TheVariants.{Undefined}
-use Rattle.pf_terms.specs.Atoms.{name_of}
 use Rattle.pf_syntax.specs.WrittenPattern.{WrittenPattern, WrittenPatterns, no_written_patterns, written_pattern, variable}
 use Rattle.pf_syntax.specs.WrittenExpression.{WrittenExpression, WrittenExpressions, Condition, Branches, no_written_expressions, written_expression, no_tests, tests, no_branches, branch, call}
 use Rattle.pf_syntax.specs.Scope.{Scope, no_scope, has, is_new, after_written_pattern, after_written_patterns, after, after_all, ends_of}
@@ -15,8 +14,7 @@ use Rattle.pf_syntax.specs.Naming.{Names, arity_of}
 use Rattle.pf_syntax.specs.Source.{NodeTable, Head}
 use Rattle.pf_syntax.specs.SourceOver.{written_expressions_at}
 use Rattle.pf_syntax.specs.declared.written.WrittenExpressionId.{WrittenExpressionId}
-use Rattle.pf_forms.specs.Forms.{open_builtin}
-use Rattle.pf_rules.specs.Static.{fault_if, head_faults, names_of, is_defined, written_pattern_faults, written_patterns_faults, written_expression_faults, written_expressions_faults, condition_faults, branches_faults}
+use Rattle.pf_rules.specs.Static.{fault_if, is_builtin, head_faults, names_of, is_defined, written_pattern_faults, written_patterns_faults, written_expression_faults, written_expressions_faults, condition_faults, branches_faults}
 use Rattle.pf_first_fault.specs.Earliest.{earlier, earliest, kept}
 use Rattle.pf_first_fault.specs.Marks.{Stands, Trails, Binds, status_of, trail_of, is_marked}
 use Rattle.pf_first_fault.specs.Walking.{Walks, BeginsAnew, Clauses, SafeWalked, CallWalked, WrittenPatternWalked, WrittenPatternsWalked, WrittenExpressionWalked, WrittenExpressionsWalked, TestsWalked, ConditionWalked, BranchesWalked, BranchWalked}
@@ -111,8 +109,8 @@ pub written_expressions_all : (n : Names) (old now : Walk) (es left : WrittenExp
 written_expressions_all n old now es left p u = underway_all old now (λ g. after_all g es) (λ g. written_expressions_faults n g es) (subst (WrittenExpressionsUnderway n old now es) p u)
 
 -- a name is found among the functions of the module or among the built-in ones, or in vain
-defined_is : (atoms : List (List ℕ)) (fs : List (List Head)) (o : Signatures) (f k : ℕ) → Lists o fs → (lists o f k || is_some (open_builtin (name_of atoms f) k)) ≡ is_defined (names_of atoms fs) f k
-defined_is atoms fs o f k l = ap (λ (v : Bool). v || is_some (open_builtin (name_of atoms f) k)) (l.same f k)
+defined_is : (atoms : List (List ℕ)) (fs : List (List Head)) (o : Signatures) (f k : ℕ) → Lists o fs → (lists o f k || is_builtin atoms f k) ≡ is_defined (names_of atoms fs) f k
+defined_is atoms fs o f k l = ap (λ (v : Bool). v || is_builtin atoms f k) (l.same f k)
 
 pub called : (atoms : List (List ℕ)) (fs : List (List Head)) (o : Signatures) (node_table : NodeTable) (a b c : Walk) (f at k : ℕ) (ids args : List WrittenExpressionId) → Lists o fs → k ≡ length ids → args ≡ ids → CallWalked atoms o a b f at k
     → WrittenExpressionsWalked (names_of atoms fs) b c (written_expressions_at node_table args) → WrittenExpressionWalked (names_of atoms fs) a c (call f at (written_expressions_at node_table ids))
@@ -120,7 +118,7 @@ called atoms fs o node_table a b c f at k ids args l e d x y =
     let n = names_of atoms fs in
     let es = written_expressions_at node_table ids in
     let z : WrittenExpressionsWalked n b c es = subst (λ (is : List WrittenExpressionId). WrittenExpressionsWalked n b c (written_expressions_at node_table is)) d y in
-    let same : (lists o f k || is_some (open_builtin (name_of atoms f) k)) ≡ is_defined n f (arity_of es) = defined_is atoms fs o f k l ∙ ap (is_defined n f) (e ∙ sym (arity_length node_table ids)) in
+    let same : (lists o f k || is_builtin atoms f k) ≡ is_defined n f (arity_of es) = defined_is atoms fs o f k l ∙ ap (is_defined n f) (e ∙ sym (arity_length node_table ids)) in
     let w : Walks a b (λ g. g) (λ g. if is_defined n f (arity_of es) then [] else fault_if true Undefined at) =
     subst (λ (v : Bool). Walks a b (λ g. g) (λ g. if v then [] else fault_if true Undefined at)) same x in
     walks_then a b c (λ g. g) (λ g. after_all g es) (λ g. if is_defined n f (arity_of es) then [] else fault_if true Undefined at) (λ g. written_expressions_faults n g es) w z

@@ -1,8 +1,7 @@
 -- What a walk through a part of a clause does: to what is seen, to the trail, and to the first fault.
-use Rattle.std.specs.Prelude.{◌≡◌, ℕ, true, false, ◌&&◌, ◌||◌, is_some, if◌then◌else◌, List, [], ◌∷◌, ◌++◌}
+use Rattle.std.specs.Prelude.{◌≡◌, ℕ, true, false, ◌&&◌, ◌||◌, if◌then◌else◌, List, [], ◌∷◌, ◌++◌}
 use Rattle.pf_fault.specs.declared.refusal.Refusal.{Refusal}
 use Rattle.pf_fault.specs.declared.code.Code.TheVariants.{Unbound, Undefined, Unsafe}
-use Rattle.pf_terms.specs.Atoms.{name_of}
 use Rattle.pf_syntax.specs.WrittenPattern.{WrittenPattern, WrittenPatterns}
 use Rattle.pf_syntax.specs.WrittenExpression.{WrittenExpression, WrittenExpressions, Condition, Branches}
 use Rattle.pf_syntax.specs.Scope.{Scope, no_scope, has, is_new, is_unsafe, after_written_pattern, after_written_patterns, after, after_all, leaving, ends_of}
@@ -10,8 +9,7 @@ use Rattle.pf_syntax.specs.Naming.{Names}
 use Rattle.pf_syntax.specs.Source.{NodeTable}
 use Rattle.pf_syntax.specs.SourceOver.{branches_over}
 use Rattle.pf_syntax.specs.declared.written.Branch.{Branch}
-use Rattle.pf_forms.specs.Forms.{open_builtin}
-use Rattle.pf_rules.specs.Static.{fault_if, written_pattern_faults, written_patterns_faults, written_expression_faults, written_expressions_faults, condition_faults, branches_faults}
+use Rattle.pf_rules.specs.Static.{fault_if, is_builtin, written_pattern_faults, written_patterns_faults, written_expression_faults, written_expressions_faults, condition_faults, branches_faults}
 use Rattle.pf_first_fault.specs.Earliest.{earliest, kept}
 use Rattle.pf_first_fault.specs.Marks.{Stands, Trails, trail_of, status_of, is_marked}
 use Rattle.pf_rules.specs.Listing.{lists}
@@ -81,7 +79,7 @@ abbrev pub AnonymousWalked : Walk → Walk → ℕ → Type 0
 AnonymousWalked old new at = Walks old new (λ g. g) (λ g. fault_if true Unbound at)
 
 abbrev pub CallWalked : List (List ℕ) → Signatures → Walk → Walk → ℕ → ℕ → ℕ → Type 0
-CallWalked atoms o old new f at arity = Walks old new (λ g. g) (λ g. if lists o f arity || is_some (open_builtin (name_of atoms f) arity) then [] else fault_if true Undefined at)
+CallWalked atoms o old new f at arity = Walks old new (λ g. g) (λ g. if lists o f arity || is_builtin atoms f arity then [] else fault_if true Undefined at)
 
 -- through a part that begins with no variable, behind which there is none again
 pub record BeginsAnew (old new : Walk) (faults : List Refusal) : Type 0 where

@@ -1,16 +1,14 @@
 //! Names of functions with numbers of arguments: which are built in, and which can be called.
 
-ghost use Rattle.std.specs.Prelude.{◌≡◌, ◌||◌, is_some};
-ghost use Rattle.pf_terms.specs.Atoms.{name_of};
-ghost use Rattle.pf_forms.specs.Forms.{open_builtin as open_named};
+ghost use Rattle.std.specs.Prelude.{◌≡◌, ◌||◌};
 ghost use Rattle.pf_rules.specs.Static.{is_builtin as is_built_in};
 ghost use Rattle.pf_rules.specs.Listing.{lists};
 
-use pf_forms::{builtin_named, open_builtin};
+use pf_forms::builtin_named;
 use pf_rules::Signatures;
 use pf_terms::{AtomId, AtomTable};
 
-/// Whether a built-in function of this name takes so many arguments, whether it can be called or not.
+/// Whether a built-in function of this name takes so many arguments.
 pub(crate) fn is_builtin(atoms: &AtomTable, name: AtomId, arity: u64) -> bool
     ensures { result ≡ is_built_in atoms.now name.0 arity }
 {
@@ -19,7 +17,7 @@ pub(crate) fn is_builtin(atoms: &AtomTable, name: AtomId, arity: u64) -> bool
 
 /// Whether a function of this name with so many arguments can be called: one that is listed, or a built-in one.
 pub(crate) fn is_defined(atoms: &AtomTable, own: &Signatures, name: AtomId, arity: u64) -> bool
-    ensures { result ≡ (lists own.now name.0 arity || is_some (open_named (name_of atoms.now name.0) arity)) }
+    ensures { result ≡ (lists own.now name.0 arity || is_built_in atoms.now name.0 arity) }
 {
-    own.has(name, arity) || open_builtin(atoms.name(name), arity).is_some()
+    own.has(name, arity) || is_builtin(atoms, name, arity)
 }

@@ -1,4 +1,4 @@
--- The built-in functions by name, and which forms of the language are open.
+-- The built-in functions by name, and which forms of the language a guard holds.
 use Rattle.std.specs.Prelude.{ℕ, Bool, true, false, ◌==◌, ◌&&◌, List, [], ◌∷◌, Option, Some, None, codes, if◌then◌else◌}
 use Rattle.std.specs.Str.{bytes_eq}
 use Rattle.pf_syntax.specs.Tree.{Builtin, self, hd, tl, length_of, element, tuple_size, is_integer, is_atom, is_tuple, is_list, is_pid, is_reference, exit, spawn, spawn_link, link, unlink, monitor, demonitor, exit_other, process_flag, register, unregister, whereis, make_ref}
@@ -50,7 +50,7 @@ is_pure is_pid = true
 is_pure is_reference = true
 is_pure _ = false
 
--- ---- which forms are open
+-- ---- what a guard holds
 
 -- the forms of a body that a guard doesn't hold. A match isn't among them, since it stands in bodies by its level alone
 pub data Form : Type 0 where
@@ -61,25 +61,9 @@ pub data Form : Type 0 where
   sending : Form
   calling : Builtin → Form
 
--- No run has these forms yet, since there is no system of processes: `receive`, `!` and the built-in functions that ask it for
--- something. The first two have no rule of the grammar, and the last can't be called. All other forms are open
-abbrev pub is_open : Form → Bool
-is_open receiving = false
-is_open sending = false
-is_open (calling exit) = true
-is_open (calling b) = is_pure b
-is_open _ = true
-
--- a guard, where the flag says that it is one, holds none of these forms but calls of the built-in functions that are pure
+-- A body holds all of these forms. A guard, where the flag says that it is one, holds none of them but calls of the built-in functions
+-- that are pure
 abbrev pub may_stand : Bool → Form → Bool
 may_stand true (calling b) = is_pure b
 may_stand true _ = false
-may_stand false form = is_open form
-
--- the built-in function of this name and number of arguments that can be called
-abbrev pub only_open : Option Builtin → Option Builtin
-only_open None = None
-only_open (Some b) = if is_open (calling b) then Some b else None
-
-abbrev pub open_builtin : List ℕ → ℕ → Option Builtin
-open_builtin name arity = only_open (builtin_named name arity)
+may_stand false form = true

@@ -5,7 +5,7 @@ ghost use Rattle.std.specs.Option.{option_map_or};
 ghost use Rattle.pf_syntax.specs.Operators.{builtin_of};
 ghost use Rattle.pf_forms.specs.Forms as forms;
 
-use crate::forms::{Form, is_open, may_stand};
+use crate::forms::{Form, may_stand};
 use pf_syntax::Builtin;
 
 /// Each built-in function, by its name and its number of arguments.
@@ -85,16 +85,6 @@ pub fn is_pure(builtin: Builtin) -> bool
         | Builtin::Unregister
         | Builtin::Whereis
         | Builtin::MakeRef => false,
-    }
-}
-
-/// The built-in function of this name and number of arguments, where it can be called.
-pub fn open_builtin(name: &[u8], arity: u64) -> Option<Builtin>
-    ensures { option_map builtin_of result ≡ forms.open_builtin name.now arity }
-{
-    match builtin_named(name, arity) {
-        Some(builtin) if is_open(Form::Calling(builtin)) => Some(builtin),
-        _ => None,
     }
 }
 

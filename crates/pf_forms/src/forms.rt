@@ -1,4 +1,4 @@
-//! Which forms of the language are open, and which of them a guard holds.
+//! Which forms of the language a guard holds.
 
 ghost use Rattle.std.specs.Prelude.{◌≡◌};
 ghost use Rattle.pf_forms.specs.Forms as forms;
@@ -24,23 +24,12 @@ pub enum Form {
     Calling(Builtin),
 }
 
-/// Whether runs have this form: all but those that ask a system of processes for something.
-pub fn is_open(form: Form) -> bool
-    ensures { result ≡ forms.is_open (form_of form) }
-{
-    match form {
-        Form::Appending | Form::Deciding | Form::Choosing => true,
-        Form::Receiving | Form::Sending => false,
-        Form::Calling(builtin) => builtin == Builtin::Exit || is_pure(builtin),
-    }
-}
-
-/// Whether this form may stand in a guard, or else in a body.
+/// Whether this form may stand in a guard, or else in a body, which holds all of them.
 pub fn may_stand(guard: bool, form: Form) -> bool
     ensures { result ≡ forms.may_stand guard (form_of form) }
 {
     match form {
         Form::Calling(builtin) if guard => is_pure(builtin),
-        _ => !guard && is_open(form),
+        _ => !guard,
     }
 }

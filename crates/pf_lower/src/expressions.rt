@@ -17,7 +17,7 @@ use crate::patterns::pattern;
 use crate::places::Places;
 use crate::put::{put_list, put_literal, put_node};
 use crate::strings::string;
-use pf_forms::open_builtin;
+use pf_forms::builtin_named;
 use pf_syntax::{
     Alternative, Branch, Clause, Condition, Guard, Module, Node, Part, Source, Word,
     WrittenExpressionId, WrittenExpressionNode, WrittenPatternId,
@@ -75,7 +75,7 @@ fn call(
     if let Some(function) = functions.find(source, word.name, ids.len()) {
         return put_node(module, Node::Call(function, parts));
     }
-    match open_builtin(module.atoms().name(word.name), ids.len() as u64) {
+    match builtin_named(module.atoms().name(word.name), ids.len() as u64) {
         Some(builtin) => put_node(module, Node::Builtin(builtin, parts)),
         None => Ok(Part::Nil),
     }

@@ -15,6 +15,4 @@ pub mod Filled
 pub mod Spawned
 pub mod Kept
 pub mod Closed
-pub mod QuietTrees
-pub mod Quiet
 pub mod Crossing

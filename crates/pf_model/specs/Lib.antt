@@ -15,7 +15,6 @@ pub mod Properties
 pub mod Meaning
 pub mod Limits
 pub mod Reports
-pub mod Quiet
 pub mod Shrinking
 pub mod TermText
 pub mod Text

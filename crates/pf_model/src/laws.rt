@@ -2,7 +2,6 @@
 
 ghost use Rattle.pf_model.specs.Laws.{OnePlace, OneMeaning, EvaluationIsMeaning, Replay, PairOrder, ShrinkingIsRight};
 ghost use Rattle.pf_model.specs.Closed.{ClosedStatesStayClosed};
-ghost use Rattle.pf_model.specs.Quiet.{QuietStaysQuiet};
 ghost use Rattle.pf_model.specs.Receive.{ReceiveIsRelation};
 ghost use Rattle.pf_model.specs.WorkedRuns.{WorkedRuns};
 
@@ -54,9 +53,4 @@ pub fn worked_runs()
 /// call its function, and no built-in function has another number of arguments.
 pub fn closed_states()
     ensures { ClosedStatesStayClosed }
-{}
-
-/// A quiet process of quiet code stays quiet, whatever it does: it asks and waits for nothing.
-pub fn quiet_stays_quiet()
-    ensures { QuietStaysQuiet }
 {}

@@ -25,7 +25,7 @@ use Rattle.pf_model.proofs.Closed.{closed_states_stay_closed}
 use Rattle.pf_read_modules.specs.ReadModules.{ReadModulesAreClosed}
 use Rattle.pf_lower.proofs.Exists.{left_empty, right_empty}
 use Rattle.pf_check.proofs.NoFaults.{none_unlike}
-use Rattle.pf_read_modules.proofs.Builtins.{open_takes}
+use Rattle.pf_read_modules.proofs.Builtins.{named_is_right}
 use Rattle.pf_read_modules.proofs.Closing.{StandRight, head_closes}
 
 -- what stands at a place of a list has its like at the same place of the other
@@ -75,7 +75,7 @@ module _ (atoms : List (List ℕ)) (m : Tree) (fs : Program) (all : Pairwise (Fu
       ap (option_map (λ g. g.arity)) r.1 ∙ ap (λ j. Some j) (named_takes f k _ r.0 p.1 r.2)
 
   stand_right : StandRight fs names
-  stand_right = record { own = own_has; built_in = λ f k b e. open_takes (name_of atoms f) k b e }
+  stand_right = record { own = own_has; built_in = λ f k b e. named_is_right (name_of atoms f) k b e }
 
   -- ---- functions
 

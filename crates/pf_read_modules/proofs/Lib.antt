@@ -2,4 +2,3 @@ pub mod Bindings
 pub mod Closing
 pub mod Builtins
 pub mod Closed
-pub mod Quiet

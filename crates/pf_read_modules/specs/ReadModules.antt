@@ -4,7 +4,6 @@ use Rattle.pf_syntax.specs.Tree.{Program}
 use Rattle.pf_syntax.specs.Root.{root_of}
 use Rattle.pf_check.specs.Reads.{accepted, Reads}
 use Rattle.pf_model.specs.Closed.{HasArity, CodeIsClosed, RunsStayClosed}
-use Rattle.pf_model.specs.Quiet.{CodeIsQuiet}
 
 -- it is closed, so no run of it comes to a variable without a value, to a call of a function that the module lacks, or to a built-in
 -- function with another number of arguments
@@ -17,8 +16,3 @@ pub record IsClosedModule (name : ℕ) (atoms : List (List ℕ)) (functions : Pr
 abbrev pub ReadModulesAreClosed : Type 0
 ReadModulesAreClosed = (bytes : List ℕ) (name : ℕ) (atoms : List (List ℕ)) (functions : Program) → Reads bytes (accepted name atoms functions)
     → IsClosedModule name atoms functions
-
--- it is quiet, since no form of it asks the system for anything yet: no `receive`, no `!` and no built-in function that acts is read
-abbrev pub ReadModulesAreQuiet : Type 0
-ReadModulesAreQuiet = (bytes : List ℕ) (name : ℕ) (atoms : List (List ℕ)) (functions : Program) → Reads bytes (accepted name atoms functions)
-    → CodeIsQuiet functions

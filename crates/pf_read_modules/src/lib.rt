@@ -3,4 +3,4 @@
 
 mod laws;
 
-pub use laws::{read_modules_are_closed, read_modules_are_quiet};
+pub use laws::read_modules_are_closed;

@@ -12,7 +12,7 @@ use Rattle.pf_syntax.specs.WrittenExpression.{WrittenExpression, WrittenExpressi
 use Rattle.pf_syntax.specs.Source.{Export, Head}
 use Rattle.pf_syntax.specs.Scope.{Scope, no_scope, is_unsafe, is_new, after_written_pattern, after_written_patterns, after, after_all}
 use Rattle.pf_syntax.specs.Naming.{Names, arity_of}
-use Rattle.pf_forms.specs.Forms.{builtin_named, open_builtin}
+use Rattle.pf_forms.specs.Forms.{builtin_named}
 use Rattle.pf_syntax.specs.WrittenModule.{Tree}
 
 -- the fault, where the test says so
@@ -35,11 +35,11 @@ is_named f arity (h ∷ hs) = (h.name == f) && (parameters_of h.parameters == ar
 abbrev pub own_in : List (List Head) → ℕ → ℕ → Option ℕ
 own_in fs f arity = position (is_named f arity) fs
 
--- the names of a module with these atoms: atoms keep their numbers, and a call finds an own function, or a built-in one that is open
+-- the names of a module with these atoms: atoms keep their numbers, and a call finds an own function, or a built-in one
 abbrev pub names_of : List (List ℕ) → List (List Head) → Names
-names_of atoms fs = record { atom_of = λ a. a; own_of = own_in fs; builtin_of = λ f arity. open_builtin (name_of atoms f) arity }
+names_of atoms fs = record { atom_of = λ a. a; own_of = own_in fs; builtin_of = λ f arity. builtin_named (name_of atoms f) arity }
 
--- whether a built-in function has this name and number of arguments, open or not
+-- whether a built-in function has this name and number of arguments
 abbrev pub is_builtin : List (List ℕ) → ℕ → ℕ → Bool
 is_builtin atoms f arity = is_some (builtin_named (name_of atoms f) arity)
 

@@ -12,5 +12,5 @@ pub mod Entered
 pub mod Outer
 pub mod Ready
 pub mod Scans
-pub mod TurnOfRoot
+pub mod Before
 pub mod Crossing

@@ -14,4 +14,3 @@ pub mod Inner
 pub mod Moves
 pub mod Settled
 pub mod Turns
-pub mod Runs

@@ -1,4 +1,4 @@
-//! A machine of one stack of slots for every form of the language, and the run of one process by it.
+//! A machine of one stack of slots for every form of the language.
 #![tactic(auto)]
 
 mod act;
@@ -15,11 +15,9 @@ mod lookups;
 mod machine;
 mod outcomes;
 mod pass;
-mod run;
 mod stack;
 
 pub use act::Act;
 pub use clauses::choose;
 pub use inbox::{Inbox, PlainInbox};
 pub use machine::{Machine, Move};
-pub use run::run_one;

@@ -11,5 +11,6 @@ mod refusal;
 mod ties;
 
 pub use fate::Fate;
+pub use numbers::Numbers;
 pub use refusal::BadArgument;
 pub use ties::Ties;

@@ -10,7 +10,7 @@ use std::marker::Model;
 
 /// Numbers, each once. Contracts see them as a list that rises.
 #[derive(Drop)]
-pub(crate) struct Numbers {
+pub struct Numbers {
     items: Vec<u32>,
 }
 
@@ -52,7 +52,7 @@ fn find(items: &[u32], number: u32) -> Result<usize, usize>
 }
 
 impl Numbers {
-    pub(crate) fn new(alloc: Global) -> Numbers
+    pub fn new(alloc: Global) -> Numbers
         ensures { result ≡ [] }
     {
         Numbers {
@@ -60,19 +60,19 @@ impl Numbers {
         }
     }
 
-    pub(crate) fn as_slice(&self) -> &[u32]
+    pub fn as_slice(&self) -> &[u32]
         ensures { result.now ≡ self.now }
     {
         self.items.as_slice()
     }
 
-    pub(crate) fn has(&self, number: u32) -> bool
+    pub fn has(&self, number: u32) -> bool
         ensures { result ≡ has number self.now }
     {
         find(&self.items, number).is_ok()
     }
 
-    pub(crate) fn insert(&mut self, number: u32) -> Result<(), NoMemory>
+    pub fn insert(&mut self, number: u32) -> Result<(), NoMemory>
         ensures inserted { OnOk result (self.new ≡ with_number number self.old) }
         ensures refused { OnErr result (self.new ≡ self.old) }
     {
@@ -86,7 +86,7 @@ impl Numbers {
     }
 
     /// Takes a number out, and tells whether it was there.
-    pub(crate) fn remove(&mut self, number: u32) -> bool
+    pub fn remove(&mut self, number: u32) -> bool
         ensures was { result ≡ has number self.old }
         ensures removed { self.new ≡ without_number number self.old }
     {

@@ -1,19 +1,9 @@
-use Rattle.std.proofs.Common.{sym, subst}
 use Rattle.std.proofs.lemmas.Result.{IfOk-weaker}
 use Rattle.pf_fault.specs.Codes.{refusal_text}
-use Rattle.pf_syntax.specs.Module.{Checked}
-use Rattle.pf_model.specs.Quiet.{CodeIsQuiet}
-use Rattle.pf_read_modules.proofs.Quiet.{read_is_quiet}
 use Rattle.pf_command.specs.Words.{request}
 use Rattle.pf_command.specs.Answers.{Answers, Refuses}
 use Rattle.pf_command.proofs.Rows.{row_refused}
 use Rattle.pf_command.proofs.answer.answer_source.Goals as goal
-
-pub answer_module-requires : goal.answer_module-requires
-answer_module-requires c =
-    let m = c.in-Ok.checked in
-    let quiet = read_is_quiet c.args.source.now m.name m.atoms m.functions c.in-Ok.ensures.read in
-    record { quiet = subst (λ (x : Checked). CodeIsQuiet x.functions) (sym c.in_ok-shared-in-Ok.ensures.ok) quiet }
 
 pub returns-in-Err-Fault : goal.returns-in-Err-Fault
 returns-in-Err-Fault c =

@@ -1,7 +1,6 @@
 use Rattle.std.proofs.Common.{◌≡◌}
 use Rattle.pf_terms.specs.Atoms.{name_of}
 use Rattle.pf_model.specs.Reports.{report_of}
-use Rattle.pf_model.specs.Meaning.{schedule}
 use Rattle.pf_model.specs.Text.{report_text}
 use Rattle.pf_command.specs.Words.{request}
 use Rattle.pf_command.proofs.Rows.{row_reported}
@@ -13,4 +12,4 @@ returns c = λ bytes reads.
     let report = report_of c.in_ok-report.report in
     let text : c.put_report.new.out.items ≡ report_text (name_of m.atoms) report =
     rw c.deref.ensures at (rw c.atoms.ensures at (rw c.new-text.ensures.items at c.in_ok-put_report.ensures)) in
-    row_reported (request c.args.words.now) m bytes c.put_report.new.out.items c.args.root.0 report _ reads c.requires.root c.requires.within (c.in_ok-report.ensures (schedule c.args.words.now.schedule.items)) text c.run_status-status.ensures
+    row_reported (request c.args.words.now) m bytes c.put_report.new.out.items c.args.root.0 report _ reads c.requires.root c.requires.within c.in_ok-report.ensures text c.run_status-status.ensures

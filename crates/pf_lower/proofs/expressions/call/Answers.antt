@@ -1,6 +1,6 @@
 use Rattle.std.proofs.Common.{◌≡◌, ℕ, List, length, Some, None, refl, sym, ap, ◌∙◌}
 use Rattle.pf_terms.specs.Atoms.{name_of}
-use Rattle.pf_forms.specs.Forms.{open_builtin}
+use Rattle.pf_forms.specs.Forms.{builtin_named}
 use Rattle.pf_syntax.specs.Operators.{builtin_of}
 use Rattle.pf_syntax.specs.Naming.{arity_of}
 use Rattle.pf_syntax.specs.Naming as w
@@ -30,8 +30,8 @@ returns-in-Some c =
 found_by : {X : Type 0} (B : List ℕ → ℕ → X) (name there : List ℕ) (k count : ℕ) (x : X) → name ≡ there → k ≡ count → x ≡ B name count → B there k ≡ x
 found_by B name there k count x e d h = ap (B there) d ∙ ap (λ (l : List ℕ). B l count) (sym e) ∙ sym h
 
-pub returns-in-Some-open_builtin : goal.returns-in-Some-open_builtin
-returns-in-Some-open_builtin c =
+pub returns-in-Some-builtin_named : goal.returns-in-Some-builtin_named
+returns-in-Some-builtin_named c =
     let m = c.args.module.now in
     let fs = c.args.source.now.functions in
     let n = names_of m.atoms fs in
@@ -39,10 +39,10 @@ returns-in-Some-open_builtin c =
     let f = c.args.word.name.0 in
     let at = c.args.word.offset in
     let named = c.name.ensures ∙ ap (λ (a : List (List ℕ)). name_of a f) c.atoms.ensures in
-    let found = found_by open_builtin c.name.result.now (name_of m.atoms f) (arity_of es) (length c.args.ids.now) (Some (builtin_of c.in-Some-open_builtin.builtin)) named (arity_length c.args.source.now.node_table c.args.ids.now) c.in-Some-open_builtin.ensures in
-    by_ok _ _ _ c.put_node-in-Some-open_builtin.ensures
+    let found = found_by builtin_named c.name.result.now (name_of m.atoms f) (arity_of es) (length c.args.ids.now) (Some (builtin_of c.in-Some-builtin_named.builtin)) named (arity_length c.args.source.now.node_table c.args.ids.now) c.in-Some-builtin_named.ensures in
+    by_ok _ _ _ c.put_node-in-Some-builtin_named.ensures
     (λ x h. written_expression_put fs m m _ _ c.args.places.now _ (p.call f at es) _ x refl refl (grown_itself m)
-    (λ g e i k. w.builtin g f at (builtin_of c.in-Some-open_builtin.builtin) es _ found (c.requires.parts_are.means g e i (call_clean n g f at es k))) h)
+    (λ g e i k. w.builtin g f at (builtin_of c.in-Some-builtin_named.builtin) es _ found (c.requires.parts_are.means g e i (call_clean n g f at es k))) h)
 
 pub returns-in-None : goal.returns-in-None
 returns-in-None c =
@@ -54,6 +54,6 @@ returns-in-None c =
     let at = c.args.word.offset in
     let count = arity_length c.args.source.now.node_table c.args.ids.now in
     let named = c.name.ensures ∙ ap (λ (a : List (List ℕ)). name_of a f) c.atoms.ensures in
-    let found = found_by open_builtin c.name.result.now (name_of m.atoms f) (arity_of es) (length c.args.ids.now) None named count c.in-None.ensures in
+    let found = found_by builtin_named c.name.result.now (name_of m.atoms f) (arity_of es) (length c.args.ids.now) None named count c.in-None.ensures in
     written_expression_here fs m c.args.places.now _ (p.call f at es) part.Nil refl tt
     (λ g e i k. absurd (call_defined n g f at es (ap (own_in fs f) count ∙ c.in_default.ensures) found k))

@@ -1,0 +1,37 @@
+-- A run that goes on by one transition more.
+use Rattle.std.proofs.Common.{◌≡◌, ℕ, zero, suc, ◌+◌, ◌-◌, ◌≤◌, ◌%◌, List, [], ◌∷◌, ◌++◌, length, Some, refl, sym, ap, ◌∙◌, subst, arith}
+use Rattle.std.specs.Prelude.{slice_get}
+use Rattle.pf_model.specs.Code.{Code}
+use Rattle.pf_model.specs.Place.{State}
+use Rattle.pf_model.specs.Configuration.{Configuration, Core}
+use Rattle.pf_model.specs.Deliveries.{Deed}
+use Rattle.pf_model.specs.Turns.{Turn, cut_running, cut_ending, end, contraction, act}
+use Rattle.pf_model.specs.Runs.{Actor, Passed, Passes, turn, delivery, Transition, transition, Words, later, Goes, stays, more, enabled}
+
+-- a turn with a step left takes one at least
+turn_takes : (m : Code) (a : ℕ) (c : Core) (n : ℕ) (s : State) (d : Deed) (k : ℕ) → Turn m a c (suc n) s d k → 1 ≤ k
+turn_takes m a c n s d k (end _ r) = omega arith
+turn_takes m a c n s d k (contraction _ j t u _ moves rest) = omega arith
+turn_takes m a c n s d k (act _ t x _ moves last) = omega arith
+
+-- so does each transition
+pub passes_takes : (m : Code) (n : ℕ) (c : Configuration) (x : Actor) (p : Passed) → Passes m (suc n) c x p → 1 ≤ p.used
+passes_takes m n c x p (turn a k d t) = turn_takes m a c.core n _ d k t
+passes_takes m n c x p (delivery a b s cs e) = omega arith
+
+-- one transition more, of the actor that the next word chooses
+pub goes_on : (m : Code) (ws : Words) (n : ℕ) (c : Configuration) (ts : List Transition) (d : Configuration) (k : ℕ) → Goes m ws n c ts d k
+    → (l : ℕ) (x : Actor) (p : Passed) → slice_get (enabled d) (ws (length ts) % length (enabled d)) ≡ Some x → n ≡ suc l + k → Passes m (suc l) d x p
+    → Goes m ws n c (ts ++ transition (ws (length ts)) (enabled d) x p ∷ []) p.after (k + p.used)
+goes_on m ws n c _ _ _ (stays _ _ _) l x p e h pass =
+    let one = more ws l c x p [] p.after zero e pass (stays (later ws) (suc l - p.used) p.after) in
+    let steps : p.used + zero ≡ zero + p.used = omega arith in
+    let left : suc l ≡ n = omega arith in
+    let t = transition (ws zero) (enabled c) x p in
+    subst (λ z. Goes m ws z c (t ∷ []) p.after (zero + p.used)) left (subst (λ z. Goes m ws (suc l) c (t ∷ []) p.after z) steps one)
+goes_on m ws _ c _ d _ (more _ n _ y q ts _ k e0 pass0 rest) l x p e h pass =
+    let left : suc n - q.used ≡ suc l + k = omega arith in
+    let inner = goes_on m (later ws) (suc n - q.used) q.after ts d k rest l x p e left pass in
+    let all = more ws n c y q (ts ++ transition (ws (suc (length ts))) (enabled d) x p ∷ []) p.after (k + p.used) e0 pass0 inner in
+    let steps : q.used + (k + p.used) ≡ (q.used + k) + p.used = omega arith in
+    subst (λ z. Goes m ws (suc n) c (transition (ws zero) (enabled c) y q ∷ (ts ++ transition (ws (suc (length ts))) (enabled d) x p ∷ [])) p.after z) steps all

@@ -1,0 +1,219 @@
+-- A run by words, transition by transition, and its report.
+use Rattle.std.proofs.Common.{◌≡◌, ℕ, zero, suc, ◌+◌, ◌-◌, ◌<◌, ◌≤◌, ◌%◌, List, [], ◌∷◌, ◌++◌, length, map, Option, Some, None, Bool, true, false, refl, sym, ap, ◌∙◌, subst, arith, inl, inr}
+use Rattle.std.specs.Prelude.{slice_get}
+use Rattle.std.proofs.lemmas.Nat.{mod_below}
+use Rattle.rand_pcg.specs.Pcg.{pcg32}
+use Rattle.rand_pcg.specs.Lcg.{Lcg}
+use Rattle.pf_choice.specs.Choices.{Chooses, IsAt, words_ahead}
+use Rattle.pf_choice.specs.Words.{schedule_word}
+use Rattle.pf_choice.specs.declared.choices.Choices.{Choices}
+use Rattle.pf_model.specs.Code.{Code}
+use Rattle.pf_model.specs.Configuration.{Configuration, Core, of}
+use Rattle.pf_model.specs.Place.{State, running, waiting, ending, ended, returned, failed}
+use Rattle.pf_model.specs.Labels.{Label}
+use Rattle.pf_model.specs.Meaning as meaning
+use Rattle.pf_model.specs.Properties as property
+use Rattle.pf_model.specs.Properties.{is_finished}
+use Rattle.pf_model.specs.Reports.{actor_of, event_of, label_of, outcome_of, report_of}
+use Rattle.pf_model.specs.Runs.{Actor, channel, enabled, Goes, stays, Passed, Passes, delivery, is_waiting, numbers_of, Run, start, transition, Transition, Words}
+use Rattle.pf_model.specs.declared.report.Event.{Event}
+use Rattle.pf_model.specs.declared.report.Report.{Report}
+use Rattle.pf_system.specs.Steps.{IsAmong, MayGo, PassesTo}
+use Rattle.pf_system.specs.View.{SystemView, system_view}
+use Rattle.pf_run.specs.Traces.{Begins, Going, Traced, Went}
+use Rattle.pf_run.proofs.Longer.{goes_on, passes_takes}
+
+same_some : {X : Type 0} (x y : X) → Some x ≡ Some y → x ≡ y
+same_some x y e = cc
+
+-- what stands at a place is among them
+pub among : (xs : List Actor) (k : ℕ) (x : Actor) → slice_get xs k ≡ Some x → IsAmong x xs
+among [] k x e = absurd (cc)
+among (y ∷ xs) zero x e = ([], xs, ap (λ z. z ∷ xs) (same_some y x e))
+among (y ∷ xs) (suc k) x e = let r = among xs k x e in (y ∷ r.0, r.1, ap (λ z. y ∷ z) r.2)
+
+-- a delivery is one step, however many are left
+pub delivers_within : (left a b : ℕ) (s s' : SystemView) (l : Label) → 0 < left → PassesTo 1 s (channel a b) l 1 s' → PassesTo left s (channel a b) l 1 s'
+delivers_within left a b s s' l h p =
+    record {
+      before = p.before;
+      passed = p.passed;
+      was = p.was;
+      passes = further p.passed p.passes;
+      becomes = p.becomes;
+      label = p.label;
+      counts = p.counts;
+      within = omega arith;
+    }
+  where
+    further : (q : Passed) → Passes s.code 1 p.before (channel a b) q → Passes s.code left p.before (channel a b) q
+    further _ (delivery _ _ x cs e) = delivery a b x cs e
+
+-- ---- events
+
+map_last : {A B : Type 0} (f : A → B) (xs : List A) (x : A) → map f (xs ++ x ∷ []) ≡ map f xs ++ f x ∷ []
+map_last f [] x = refl
+map_last f (y ∷ xs) x = ap (λ z. f y ∷ z) (map_last f xs x)
+
+length_last : {A : Type 0} (xs : List A) (x : A) → length (xs ++ x ∷ []) ≡ length xs + 1
+length_last [] x = refl
+length_last (y ∷ xs) x = let e = length_last xs x in omega arith
+
+abbrev told : ℕ → ℕ → Actor → Label → meaning.Event
+told i n x l = record { choice = i; count = n; actor = x; label = l }
+
+-- ---- one transition more
+
+module _ (m : Code) (ws : Words) (limit : ℕ) (c : Configuration) where
+  -- before the first
+  pub begins : (s : SystemView) (q : Choices Lcg) → s.code ≡ m → s.standing ≡ Some c → s.steps ≡ 0 → IsAt pcg32 ws 0 q → Going m ws limit c [] s q
+  begins s q k e z at =
+      record {
+        transitions = [];
+        last = c;
+        code = k;
+        stands = e;
+        goes = subst (Goes m ws limit c [] c) (sym z) (stays ws limit c);
+        within = omega arith;
+        at = at;
+        events = refl;
+      }
+
+  module _ (es : List Event) (s s' : SystemView) (q q' : Choices Lcg) (g : Going m ws limit c es s q) where
+    -- what went, went from where the run stands
+    from_last : (left : ℕ) (x : Actor) (l : Label) (used : ℕ) (p : PassesTo left s x l used s') → p.before ≡ g.last
+    from_last left x l used p = same_some p.before g.last (sym p.was ∙ g.stands)
+
+    -- each transition uses a step
+    pub uses : (left : ℕ) (e : Event) → 0 < left → Went left g.last s q e s' q' → s.steps < s'.steps
+    uses left e h w =
+        let p = w.passes in
+        let some : left ≡ suc (left - 1) = omega arith in
+        let one = passes_takes s.code (left - 1) p.before (actor_of e.actor) p.passed (subst (λ n. Passes s.code n p.before (actor_of e.actor) p.passed) some p.passes) in
+        let steps : s'.steps ≡ s.steps + w.used = ap (λ z. z.steps) p.becomes in
+        let counts = p.counts in
+        omega arith
+
+    pub next : (e : Event) → s.steps < limit → Went (limit - s.steps) g.last s q e s' q' → Going m ws limit c (es ++ e ∷ []) s' q'
+    next e h w =
+        record {
+          transitions = g.transitions ++ t ∷ [];
+          last = p.passed.after;
+          code = ap (λ z. z.code) p.becomes ∙ g.code;
+          stands = ap (λ z. z.standing) p.becomes;
+          goes = subst (Goes m ws limit c (g.transitions ++ t ∷ []) p.passed.after) steps longer;
+          within = let u = p.within in let z = ap (λ y. y.steps) p.becomes in omega arith;
+          at = subst (λ k. IsAt pcg32 ws k q') (sym (length_last g.transitions t)) (w.chooses.moves ws (length g.transitions) g.at);
+          events = map_last event_of es e ∙ ap (λ l. l ++ event_of e ∷ []) g.events
+              ∙ ap (λ y. map meaning.event_of g.transitions ++ y ∷ []) tells ∙ sym (map_last meaning.event_of g.transitions t);
+        }
+      where
+        p : PassesTo (limit - s.steps) s (actor_of e.actor) (label_of e.label) w.used s'
+        p = w.passes
+
+        x : Actor
+        x = actor_of e.actor
+
+        k : ℕ
+        k = length g.transitions
+
+        t : Transition
+        t = transition (ws k) (enabled g.last) x p.passed
+
+        chosen_is : e.choice ≡ ws k % length (enabled g.last)
+        chosen_is = w.chooses.choice_is ws k g.at
+
+        left : limit - s.steps ≡ suc (limit - s.steps - 1)
+        left = omega arith
+
+        passes : Passes m (suc (limit - s.steps - 1)) g.last x p.passed
+        passes =
+            subst (λ z. Passes z (suc (limit - s.steps - 1)) g.last x p.passed) g.code
+            (subst (λ z. Passes s.code (suc (limit - s.steps - 1)) z x p.passed) (from_last (limit - s.steps) x (label_of e.label) w.used p)
+            (subst (λ n. Passes s.code n p.before x p.passed) left p.passes))
+
+        longer : Goes m ws limit c (g.transitions ++ t ∷ []) p.passed.after (s.steps + p.passed.used)
+        longer =
+            goes_on m ws limit c g.transitions g.last s.steps g.goes (limit - s.steps - 1) x p.passed
+            (ap (slice_get (enabled g.last)) (sym chosen_is) ∙ w.chosen) (omega arith) passes
+
+        steps : s.steps + p.passed.used ≡ s'.steps
+        steps = let z = ap (λ y. y.steps) p.becomes in let u = p.counts in omega arith
+
+        tells : event_of e ≡ meaning.event_of t
+        tells =
+            ap (λ i. told i e.count x (label_of e.label)) chosen_is
+            ∙ ap (λ n. told (ws k % length (enabled g.last)) n x (label_of e.label)) w.counts
+            ∙ ap (told (ws k % length (enabled g.last)) (length (enabled g.last)) x) p.label
+
+    -- nobody may go
+    pub stops : enabled g.last ≡ [] → s' ≡ s → Traced m ws limit c es s'
+    stops e same =
+        subst (Traced m ws limit c es) (sym same)
+        (record { transitions = g.transitions; last = g.last; stands = g.stands; run = record { goes = g.goes; stops = inl e }; events = g.events })
+
+  -- no step is left
+  pub stops_at_limit : (es : List Event) (s : SystemView) (q : Choices Lcg) (g : Going m ws limit c es s q) → limit ≤ s.steps → Traced m ws limit c es s
+  stops_at_limit es s q g h =
+      record {
+        transitions = g.transitions;
+        last = g.last;
+        stands = g.stands;
+        run = record { goes = g.goes; stops = inr (let w = g.within in omega arith) };
+        events = g.events;
+      }
+
+-- choices are at the first of the words ahead of them
+pub at_first : (q : Choices Lcg) → IsAt pcg32 (words_ahead pcg32 q) 0 q
+at_first q = record { ahead = λ i. let z : i ≡ 0 + i = omega arith in ap (words_ahead pcg32 q) z }
+
+-- ---- the report
+
+by_root : (s : State) (ps : List ℕ) (ls : List Label) → Some (is_finished (meaning.outcome_of_root s ps)) ≡ property.verdict property.returns ls (meaning.outcome_of_root s ps)
+by_root (ended (returned v)) ps ls = refl
+by_root (ended (failed r)) ps ls = refl
+by_root (running t) ps ls = refl
+by_root (waiting t) ps ls = refl
+by_root (ending r) ps ls = refl
+
+by_actors : (xs : List Actor) (c : Core) (ls : List Label) → Some (is_finished (meaning.outcome_with xs c)) ≡ property.verdict property.returns ls (meaning.outcome_with xs c)
+by_actors [] c ls = by_root (of c zero).state (numbers_of is_waiting zero c.processes) ls
+by_actors (x ∷ xs) c ls = refl
+
+-- where a run stops, memory is left
+pub told_so : (d : Configuration) (ls : List Label) → Some (is_finished (meaning.outcome_of d)) ≡ property.verdict property.returns ls (meaning.outcome_of d)
+told_so d ls = by_actors (enabled d) d.core ls
+
+-- a whole run and what it came to are the meaning
+pub means : (m : Code) (root : ℕ) (ns : List ℕ) (limit : ℕ) (r : Report) (s : SystemView) (t : Traced m (schedule_word ns) limit (start root) r.events.items s)
+    → outcome_of r.outcome ≡ meaning.outcome_of t.last → r.steps ≡ s.steps → r.verdict ≡ Some (is_finished (outcome_of r.outcome))
+    → meaning.Means (meaning.returning m root (meaning.schedule ns) limit) (report_of r)
+means m root ns limit r s t out steps verdict =
+    record {
+      transitions = t.transitions;
+      last = t.last;
+      run = subst (Run m (schedule_word ns) limit (start root) t.transitions t.last) (sym steps) t.run;
+      report = ap (λ es. reported es (outcome_of r.outcome) r.verdict) t.events ∙ ap (λ o. reported events o r.verdict) out ∙ ap (reported events (meaning.outcome_of t.last)) v;
+    }
+  where
+    reported : List meaning.Event → property.Outcome → Option Bool → meaning.Report
+    reported es o w = record { events = es; outcome = o; steps = r.steps; verdict = w }
+
+    events : List meaning.Event
+    events = map meaning.event_of t.transitions
+
+    v : r.verdict ≡ property.verdict property.returns (map (λ x. x.label) t.transitions) (meaning.outcome_of t.last)
+    v = verdict ∙ ap (λ o. Some (is_finished o)) out ∙ told_so t.last (map (λ x. x.label) t.transitions)
+
+-- ---- who may go
+
+-- what stands among those that are noted may go
+pub may_go : (o : Option Configuration) (xs : List Actor) → ((c : Configuration) → o ≡ Some c → xs ≡ enabled c) → (k : ℕ) (x : Actor) → slice_get xs k ≡ Some x → MayGo x o
+may_go None xs h k x e = tt
+may_go (Some c) xs h k x e = among (enabled c) k x (ap (λ l. slice_get l k) (sym (h c refl)) ∙ e)
+
+-- a choice is below the number of things to choose among
+pub chosen_below : (q q' : Choices Lcg) (n k : ℕ) → Chooses pcg32 q n k q' → 0 < n → k < n
+chosen_below q q' n k h p =
+    let e = h.choice_is (words_ahead pcg32 q) 0 (at_first q) in
+    subst (λ z. z < n) (sym e) (mod_below (words_ahead pcg32 q 0) n p)

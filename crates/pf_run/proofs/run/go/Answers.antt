@@ -1,0 +1,14 @@
+use Rattle.std.proofs.Common.{◌≡◌, ◌<◌, ap, sym, ◌∙◌, subst, length, arith}
+use Rattle.pf_model.specs.Reports.{actor_of}
+use Rattle.pf_system.specs.Steps.{MayGo, noted}
+use Rattle.pf_run.proofs.Traces.{chosen_below, may_go, next, at_first}
+use Rattle.pf_run.proofs.run.go.Goals as goal
+
+pub actor-actor-requires : goal.actor-actor-requires
+actor-actor-requires c =
+    let below = chosen_below _ _ c.len-among.result c.next-index.result c.next-index.ensures (omega (arith, c.if-among-eq0.false)) in
+    subst (λ n. c.next-index.result < n) c.len-among.ensures below
+
+pub pass-requires-clause-enabled : goal.pass-requires-clause-enabled
+pass-requires-clause-enabled c =
+    may_go c.args.system.now.standing (noted c.enabled-enabled.result) c.enabled-enabled.ensures c.next-index.result (actor_of c.actor-actor.result) c.actor-actor.ensures

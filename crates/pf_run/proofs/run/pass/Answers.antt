@@ -1,0 +1,6 @@
+use Rattle.pf_run.proofs.Traces.{delivers_within}
+use Rattle.pf_run.proofs.run.pass.Goals as goal
+
+pub returns-in_ok-deliver-in-Channel : goal.returns-in_ok-deliver-in-Channel
+returns-in_ok-deliver-in-Channel c =
+    rw c.in-Channel.is (delivers_within c.args.left _ _ c.args.system.now c.deliver.new.self _ c.requires.left c.in_ok-deliver-in-Channel.ensures.passed)

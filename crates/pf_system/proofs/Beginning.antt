@@ -1,0 +1,57 @@
+-- How a process begins.
+use Rattle.std.proofs.Common.{◌≡◌, ℕ, false, List, [], ◌∷◌, Option, None, refl, sym, ap, ◌∙◌, length, arith}
+use Rattle.pf_terms.specs.Value.{Values, count}
+use Rattle.pf_terms.specs.Term.{value_of, values_of}
+use Rattle.pf_terms.specs.Fixed.{undef}
+use Rattle.pf_terms.specs.declared.term.Term.{Term}
+use Rattle.pf_terms.specs.declared.term.Term.TheVariants as term
+use Rattle.pf_syntax.specs.Tree.{call}
+use Rattle.pf_ops.specs.Reasons.{ending_reason}
+use Rattle.pf_model.specs.Actions as actions
+use Rattle.pf_model.specs.Actions.{start_of}
+use Rattle.pf_model.specs.Code.{Code}
+use Rattle.pf_model.specs.Place.{State, running, ending, literals}
+use Rattle.pf_model.specs.Runs.{can_go}
+use Rattle.pf_stepper.specs.MachineView.{MachineView, at_call}
+use Rattle.pf_system.specs.Acts.{LifeBegins, home_function}
+use Rattle.pf_system.specs.Slots.{state_in}
+use Rattle.pf_system.specs.declared.slot.Life.TheVariants as life
+
+pub count_of : (ts : List Term) → length ts ≡ count (values_of ts)
+count_of [] = refl
+count_of (t ∷ ts) = omega (arith, count_of ts)
+
+-- by the function that is found
+pub start_at : (m : Code) (home name : ℕ) (vs : Values) (n : ℕ) (o : Option ℕ) → n ≡ count vs → o ≡ home_function m home name n
+    → start_of m home name vs ≡ actions.begun o vs
+start_at m home name vs n o e h = ap (λ k. actions.begun (home_function m home name k) vs) (sym e) ∙ ap (λ z. actions.begun z vs) (sym h)
+
+-- at the call of a function
+pub begins_running : (m : Code) (own f : ℕ) (vs : Values) (s : State) (k : MachineView) → k ≡ at_call own m f vs → s ≡ running (call f (literals vs))
+    → LifeBegins m own s (life.Lives k false)
+begins_running m own f vs s k e q =
+    record {
+      sound = λ mail h. ((running (call f (literals vs)), ap (λ z. z.standing) e, refl), h k);
+      is_of = (ap (λ z. z.own) e, ap (λ z. z.code) e);
+      state = ap (λ z. state_in z.standing) e ∙ sym q;
+      goes = ap can_go q;
+    }
+
+-- about to end
+pub begins_ending : (m : Code) (own : ℕ) (t : Term) (s : State) → s ≡ ending (ending_reason undef) → value_of t ≡ ending_reason undef
+    → LifeBegins m own s (life.Ends t)
+begins_ending m own t s q e =
+    record {
+      sound = λ mail h. tt;
+      is_of = tt;
+      state = ap ending e ∙ sym q;
+      goes = ap can_go q;
+    }
+
+pub not_list : (t : Term) → ((l : _) → t ≡ term.List l → ⊥) → actions.as_elements (value_of t) ≡ None
+not_list (term.Int n) h = refl
+not_list (term.Atom a) h = refl
+not_list (term.Ref r) h = refl
+not_list (term.Pid p) h = refl
+not_list (term.Tuple vs) h = refl
+not_list (term.List l) h = absurd (h l refl)

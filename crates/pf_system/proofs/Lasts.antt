@@ -1,0 +1,169 @@
+-- What the last step of a turn does, by its move.
+use Rattle.std.proofs.Common.{◌≡◌, ℕ, zero, suc, true, List, [], ◌∷◌, Some, None, refl, sym, ap, ◌∙◌, subst, length, slice_set}
+use Rattle.std.specs.Prelude.{Result, Ok, Err, slice_get}
+use Rattle.pf_terms.specs.Value.{Value}
+use Rattle.pf_terms.specs.Term.{value_of}
+use Rattle.pf_terms.specs.declared.term.Term.{Term}
+use Rattle.pf_syntax.specs.Tree.{lit}
+use Rattle.pf_model.specs.Code.{Code}
+use Rattle.pf_model.specs.Place.{fill, State, running, waiting, ending, ended, returned, failed, asks, awaits, returns, at_value}
+use Rattle.pf_model.specs.Channels.{with_senders}
+use Rattle.pf_model.specs.Configuration.{Core, leaving, of, with_state, posted}
+use Rattle.pf_model.specs.Labels as label
+use Rattle.pf_model.specs.Ends.{reason_of}
+use Rattle.pf_model.specs.Receive.{taking}
+use Rattle.pf_model.specs.Runs.{can_go}
+use Rattle.pf_model.specs.Actions.{acted}
+use Rattle.pf_model.specs.Turns.{end, act, received, ended_so, after_act}
+use Rattle.pf_model.specs.Reports.{label_of}
+use Rattle.pf_model.specs.declared.report.Label.{Label}
+use Rattle.pf_stepper.specs.Acts.{act_of}
+use Rattle.pf_stepper.specs.MachineView.{Standing, goes, over}
+use Rattle.pf_stepper.specs.Moves.{Moved, AskedFor, TookOne, WaitsOn}
+use Rattle.pf_stepper.specs.declared.act.Act.{Act as Asked}
+use Rattle.pf_stepper.specs.declared.machine.Move.TheVariants as v
+use Rattle.pf_mailbox.specs.MailView.{MailView}
+use Rattle.pf_system.specs.Bodies.{body}
+use Rattle.pf_system.specs.Slots.{SlotIsLeft, PutsIn, StandsAs, state_in, waiting_if, end_of}
+use Rattle.pf_system.specs.Worlds.{Stands, StandsBut, IsLeftAt, Done, Shown, EndsSo, code_in}
+use Rattle.pf_system.specs.Acts.{ShowsAct}
+use Rattle.pf_system.specs.Settled.{SettlesAs, LastStep, WaitsIn, cut_in}
+use Rattle.pf_system.specs.declared.slot.Life.{Life}
+use Rattle.pf_system.specs.declared.slot.Life.TheVariants as life
+use Rattle.pf_system.specs.declared.slot.Slot.{Slot}
+use Rattle.pf_system.specs.declared.world.World.{World}
+use Rattle.pf_system.proofs.Bodies.{set_length}
+use Rattle.pf_system.proofs.Slots.{slot_with}
+use Rattle.pf_system.proofs.Awaiting.{stays_at}
+use Rattle.pf_system.proofs.Settling.{in_state, goes_again, none_sent}
+
+-- ---- a slot as the machine left it
+
+not_over : (s : State) → goes s ≡ over → ⊥
+not_over s e = absurd cc
+
+set_back : {A : Type 0} (n : ℕ) (xs : List A) (x : A) → slice_get xs n ≡ Some x → xs ≡ slice_set xs n x
+set_back n [] x e = absurd (cc)
+set_back zero (y ∷ xs) x e = let k : y ≡ x = cc in ap (λ z. z ∷ xs) k
+set_back (suc n) (y ∷ xs) x e = ap (λ z. y ∷ z) (set_back n xs x e)
+
+life_puts : (m : Code) (own : ℕ) (t : State) (l : Life) (mail : MailView) → SlotIsLeft m own (goes t) (slot_with l mail) → can_go t ≡ true
+    → PutsIn m own (body t mail.messages) (slot_with l mail)
+life_puts m own t (life.Lives k w) mail h e =
+    record {
+      sound = record { ready = (subst (λ z. StandsAs z k.standing) (sym h.2) (t, h.0, e), h.3); is_of = h.1 };
+      is = ap (λ z. body (waiting_if z (state_in k.standing)) mail.messages) h.2 ∙ ap (λ z. body (state_in z) mail.messages) h.0;
+    }
+life_puts m own t (life.Ends r) mail h e = absurd (not_over t h)
+life_puts m own t (life.Ended r) mail h e = absurd (not_over t h)
+
+module _ (w : World) (c : Core) (a : ℕ) (x : Standing) (s : Slot) (but : StandsBut w c a) (can : can_go (of c a).state ≡ true) (left : IsLeftAt w a x s) where
+  -- it goes on in this state, over the messages that are left
+  goes_in : (t : State) → x ≡ goes t → can_go t ≡ true → Stands w (in_state c a t s.mailbox.messages)
+  goes_in t e g =
+      goes_again w w c a s t s.mailbox.messages but can g
+      (life_puts (code_in w) a t s.life s.mailbox (subst (λ z. SlotIsLeft (code_in w) a z s) e left.leaves) g)
+      (set_back a w.slots.items s left.at, refl, refl) refl
+
+  quiet_channels : (t : State) (vs : List Value) → w.bonds.channels ≡ posted a [] (with_senders (length (in_state c a t vs).processes) w.bonds.channels)
+  quiet_channels t vs = none_sent w w c (in_state c a t vs) a (set_length a c.processes _) but refl
+
+  pub cut_shown : (l : Label) (t : State) → label_of l ≡ label.cut → x ≡ goes t → can_go t ≡ true → s.mailbox.messages ≡ (of c a).mailbox
+      → Shown a (cut_in c a t) w.bonds.channels w l w
+  cut_shown l t q e g k =
+      record {
+        done = record {
+          stands = subst (λ z. Stands w (in_state c a t z)) k (goes_in t e g);
+          channels = quiet_channels t (of c a).mailbox;
+          code = refl;
+        };
+        label = q;
+      }
+
+  take_last : (l : Label) (m : Term) (y : State) → label_of l ≡ label.takes (value_of m) → TookOne (code_in w) a y (of c a).mailbox (value_of m) x s.mailbox.messages
+      → LastStep y c a w l w
+  take_last l m (running tr) q h =
+      let t = taking h.body (value_of m) s.mailbox.messages in
+      record {
+        deed = received c a h.frames h.clauses (Some t);
+        last = λ n. act n tr (awaits h.frames h.clauses) (received c a h.frames h.clauses (Some t)) h.step
+            (ap (λ o. Some (received c a h.frames h.clauses o)) h.taken);
+        shown = record {
+          done = record {
+            stands = goes_in (running (fill h.frames h.body)) h.stands refl;
+            channels = quiet_channels (running (fill h.frames h.body)) s.mailbox.messages;
+            code = refl;
+          };
+          label = q;
+        };
+      }
+  take_last l m (waiting tr) q h = absurd h.step
+  take_last l m (ending r) q h = absurd h.step
+  take_last l m (ended r) q h = absurd h.step
+
+  module _ (w' : World) where
+    act_last : (l : Label) (z : Asked) (y : State) → ShowsAct a (act_of z) w l w' → AskedFor (code_in w) a y (of c a).mailbox z x s.mailbox.messages → LastStep y c a w l w'
+    act_last l z (running tr) k h =
+        let d = after_act a h.frames (acted (code_in w) c a (act_of z)) in
+        record {
+          deed = d;
+          last = λ n. act n tr (asks h.frames (act_of z)) d h.step refl;
+          shown = k c h.frames s but can (record { at = left.at; leaves = subst (λ q. SlotIsLeft (code_in w) a q s) h.stands left.leaves }) h.kept;
+        }
+    act_last l z (waiting tr) k h = absurd h.step
+    act_last l z (ending r) k h = absurd h.step
+    act_last l z (ended r) k h = absurd h.step
+
+    wait_last : (l : Label) (y : State) → label_of l ≡ label.waits → WaitsIn a w w' → WaitsOn (code_in w) a y (of c a).mailbox x s.mailbox.messages → LastStep y c a w l w'
+    wait_last l (running tr) q k h =
+        let f = stays_at (code_in w) a tr h.frames h.clauses h.step in
+        let g = k c tr s but can (record { at = left.at; leaves = subst (λ z. SlotIsLeft (code_in w) a z s) h.stands left.leaves }) h.kept in
+        record {
+          deed = received c a h.frames h.clauses None;
+          last = λ n. act n tr (awaits h.frames h.clauses) (received c a h.frames h.clauses None) h.step
+              (ap (λ o. Some (received c a h.frames h.clauses o)) h.none);
+          shown = record {
+            done = subst (λ z. Done a (leaving (with_state c a (waiting z)) []) w.bonds.channels w w') (sym f) g;
+            label = q;
+          };
+        }
+    wait_last l (waiting tr) q k h = absurd h.step
+    wait_last l (ending r) q k h = absurd h.step
+    wait_last l (ended r) q k h = absurd h.step
+
+    end_last : (l : Label) (e : Result Term Term) (y : State) → label_of l ≡ label.ends (reason_of (end_of e)) → EndsSo c a e w w'
+        → Moved (code_in w) a y (of c a).mailbox (v.End e) x s.mailbox.messages → LastStep y c a w l w'
+    end_last l (Ok t) y q k h =
+        let u = value_of t in
+        subst (λ z. LastStep z c a w l w') (sym h.was)
+        (record {
+          deed = ended_so c a (returned u);
+          last = λ n. act n (lit u) (returns u) (ended_so c a (returned u)) (at_value u refl refl) refl;
+          shown = record { done = k; label = q };
+        })
+    end_last l (Err t) y q k h =
+        let u = value_of t in
+        subst (λ z. LastStep z c a w l w') (sym h.was)
+        (record {
+          deed = ended_so c a (failed u);
+          last = λ n. end n u;
+          shown = record { done = k; label = q };
+        })
+
+-- ---- by the move
+
+pub settles_cut : (a : ℕ) (w : World) (l : Label) → label_of l ≡ label.cut → SettlesAs a v.Pure w l w
+settles_cut a w l q c x s but can left t e g k = cut_shown w c a x s but can left l t q e g k
+
+pub settles_take : (a : ℕ) (m : Term) (w : World) (l : Label) → label_of l ≡ label.takes (value_of m) → SettlesAs a (v.Take m) w l w
+settles_take a m w l q c x s but can left y h = take_last w c a x s but can left l m y q h
+
+pub settles_act : (a : ℕ) (z : Asked) (w w' : World) (l : Label) → ShowsAct a (act_of z) w l w' → SettlesAs a (v.Action z) w l w'
+settles_act a z w w' l k c x s but can left y h = act_last w c a x s but can left w' l z y k h
+
+pub settles_wait : (a : ℕ) (w w' : World) (l : Label) → label_of l ≡ label.waits → WaitsIn a w w' → SettlesAs a v.Wait w l w'
+settles_wait a w w' l q k c x s but can left y h = wait_last w c a x s but can left w' l y q k h
+
+pub settles_end : (a : ℕ) (e : Result Term Term) (w w' : World) (l : Label) → label_of l ≡ label.ends (reason_of (end_of e))
+    → ((c : Core) → StandsBut w c a → EndsSo c a e w w') → SettlesAs a (v.End e) w l w'
+settles_end a e w w' l q k c x s but can left y h = end_last w c a x s but can left w' l e y q (k c but) h

@@ -1,0 +1,164 @@
+-- The processes that can go, as their bodies change.
+use Rattle.std.proofs.Common.{◌≡◌, ℕ, zero, suc, ◌+◌, ◌<◌, ◌≤◌, ◌==◌, Bool, true, false, List, [], ◌∷◌, ◌++◌, if◌then◌else◌, refl, sym, ap, ◌∙◌, arith, nat_lt, length, map, slice_set}
+use Rattle.std.proofs.lemmas.Bool.Decides.{nat_tests}
+use Rattle.pf_model.specs.Place.{State}
+use Rattle.pf_model.specs.Maps.{with_number, without_number}
+use Rattle.pf_model.specs.Configuration.{Process, Core, process_at}
+use Rattle.pf_model.specs.Runs.{numbers_of}
+use Rattle.pf_system.specs.Bodies.{Body, process_body, bodies_of}
+
+abbrev pub numbers_in : (State → Bool) → ℕ → List Body → List ℕ
+numbers_in so n [] = []
+numbers_in so n (b ∷ bs) = if so b.state then n ∷ numbers_in so (suc n) bs else numbers_in so (suc n) bs
+
+pub by_bodies : (so : State → Bool) (n : ℕ) (ps : List Process) → numbers_of so n ps ≡ numbers_in so n (map process_body ps)
+by_bodies so n [] = refl
+by_bodies so n (p ∷ ps) = by (by_bodies so (suc n) ps) (so p.state)
+  where
+    by : numbers_of so (suc n) ps ≡ numbers_in so (suc n) (map process_body ps) → (t : Bool) → (if t then n ∷ numbers_of so (suc n) ps else numbers_of so (suc n) ps)
+        ≡ (if t then n ∷ numbers_in so (suc n) (map process_body ps) else numbers_in so (suc n) (map process_body ps))
+    by h true = ap (λ z. n ∷ z) h
+    by h false = h
+
+-- the same bodies, the same numbers
+pub numbers_alike : (so : State → Bool) (n : ℕ) (c d : Core) → bodies_of c ≡ bodies_of d → numbers_of so n c.processes ≡ numbers_of so n d.processes
+numbers_alike so n c d e = by_bodies so n c.processes ∙ ap (numbers_in so n) e ∙ sym (by_bodies so n d.processes)
+
+-- ---- numbers that rise
+
+abbrev IsRising : ℕ → List ℕ → Type 0
+IsRising low [] = Unit {0}
+IsRising low (x ∷ xs) = (low ≤ x) × IsRising (suc x) xs
+
+ne_of : (a b : ℕ) → (a ≡ b → ⊥) → (b == a) ≡ false
+ne_of a b e = by (b == a) refl
+  where
+    by : (t : Bool) → (b == a) ≡ t → t ≡ false
+    by true q = absurd (e (grind (arith, nat_tests)))
+    by false q = refl
+
+eq_of : (a b : ℕ) → a ≡ b → (b == a) ≡ true
+eq_of a b e = grind (arith, nat_tests)
+
+below_not : (a b : ℕ) → a < b → nat_lt b a ≡ false
+below_not a b e = grind (arith, nat_tests)
+
+above_is : (a b : ℕ) → b < a → nat_lt b a ≡ true
+above_is a b e = grind (arith, nat_tests)
+
+lower : (low : ℕ) (xs : List ℕ) → IsRising (suc low) xs → IsRising low xs
+lower low [] h = tt
+lower low (x ∷ xs) h = let q = h.0 in (omega arith, h.1)
+
+module _ (so : State → Bool) where
+  rise : (n : ℕ) (bs : List Body) → IsRising n (numbers_in so n bs)
+  rise n [] = tt
+  rise n (b ∷ bs) = by (so b.state) (rise (suc n) bs)
+    where
+      by : (e : Bool) → IsRising (suc n) (numbers_in so (suc n) bs) → IsRising n (if e then n ∷ numbers_in so (suc n) bs else numbers_in so (suc n) bs)
+      by true h = (omega arith, h)
+      by false h = lower n (numbers_in so (suc n) bs) h
+
+  with_front : (b low : ℕ) (xs : List ℕ) → b < low → IsRising low xs → with_number b xs ≡ b ∷ xs
+  with_front b low [] l h = refl
+  with_front b low (x ∷ xs) l h = let k = h.0 in let q = ne_of x b (λ z. omega arith) in let p = above_is x b (omega arith) in rw (q, p) refl
+
+  without_below : (b low : ℕ) (xs : List ℕ) → b < low → IsRising low xs → without_number b xs ≡ xs
+  without_below b low [] l h = refl
+  without_below b low (x ∷ xs) l h =
+      let k = h.0 in let q = ne_of x b (λ z. omega arith) in rw q (ap (λ r. x ∷ r) (without_below b (suc x) xs (omega arith) h.1))
+
+  -- a body that can go no more
+  pub gone_in : (n : ℕ) (bs : List Body) (a : ℕ) (b : Body) → a < length bs → so b.state ≡ false
+      → numbers_in so n (slice_set bs a b) ≡ without_number (n + a) (numbers_in so n bs)
+  gone_in n [] a b l e = absurd (omega arith)
+  gone_in n (x ∷ bs) zero b l e =
+      ap (λ t. if t then n ∷ numbers_in so (suc n) bs else numbers_in so (suc n) bs) e ∙ by (so x.state)
+    where
+      zero_more : n + zero ≡ n
+      zero_more = omega arith
+
+      h : without_number n (numbers_in so (suc n) bs) ≡ numbers_in so (suc n) bs
+      h = without_below n (suc n) (numbers_in so (suc n) bs) (omega arith) (rise (suc n) bs)
+
+      same_key : (n == n) ≡ true
+      same_key = eq_of n n refl
+
+      drops : without_number n (n ∷ numbers_in so (suc n) bs) ≡ without_number n (numbers_in so (suc n) bs)
+      drops = ap (λ t. if t then without_number n (numbers_in so (suc n) bs) else n ∷ without_number n (numbers_in so (suc n) bs)) same_key
+
+      by : (t : Bool) → numbers_in so (suc n) bs ≡ without_number (n + zero) (if t then n ∷ numbers_in so (suc n) bs else numbers_in so (suc n) bs)
+      by true = sym (ap (λ k. without_number k (n ∷ numbers_in so (suc n) bs)) zero_more ∙ drops ∙ h)
+      by false = sym (ap (λ k. without_number k (numbers_in so (suc n) bs)) zero_more ∙ h)
+  gone_in n (x ∷ bs) (suc a) b l e =
+      ap (λ r. if so x.state then n ∷ r else r) (gone_in (suc n) bs a b (omega arith) e) ∙ by (so x.state)
+    where
+      same : suc n + a ≡ n + suc a
+      same = omega arith
+
+      by : (t : Bool) → (if t then n ∷ without_number (suc n + a) (numbers_in so (suc n) bs) else without_number (suc n + a) (numbers_in so (suc n) bs))
+          ≡ without_number (n + suc a) (if t then n ∷ numbers_in so (suc n) bs else numbers_in so (suc n) bs)
+      by true = let d = ne_of n (n + suc a) (λ z. omega arith) in rw d (ap (λ k. n ∷ without_number k (numbers_in so (suc n) bs)) same)
+      by false = ap (λ k. without_number k (numbers_in so (suc n) bs)) same
+
+  -- a body that can go from now on, or still
+  pub woken_in : (n : ℕ) (bs : List Body) (a : ℕ) (b : Body) → a < length bs → so b.state ≡ true
+      → numbers_in so n (slice_set bs a b) ≡ with_number (n + a) (numbers_in so n bs)
+  woken_in n [] a b l e = absurd (omega arith)
+  woken_in n (x ∷ bs) zero b l e =
+      ap (λ t. if t then n ∷ numbers_in so (suc n) bs else numbers_in so (suc n) bs) e ∙ by (so x.state)
+    where
+      zero_more : n + zero ≡ n
+      zero_more = omega arith
+
+      h : with_number n (numbers_in so (suc n) bs) ≡ n ∷ numbers_in so (suc n) bs
+      h = with_front n (suc n) (numbers_in so (suc n) bs) (omega arith) (rise (suc n) bs)
+
+      same_key : (n == n) ≡ true
+      same_key = eq_of n n refl
+
+      keeps : with_number n (n ∷ numbers_in so (suc n) bs) ≡ n ∷ numbers_in so (suc n) bs
+      keeps = ap (λ t. if t then n ∷ numbers_in so (suc n) bs else (if nat_lt n n then n ∷ n ∷ numbers_in so (suc n) bs else n ∷ with_number n (numbers_in so (suc n) bs))) same_key
+
+      by : (t : Bool) → n ∷ numbers_in so (suc n) bs ≡ with_number (n + zero) (if t then n ∷ numbers_in so (suc n) bs else numbers_in so (suc n) bs)
+      by true = sym (ap (λ k. with_number k (n ∷ numbers_in so (suc n) bs)) zero_more ∙ keeps)
+      by false = sym (ap (λ k. with_number k (numbers_in so (suc n) bs)) zero_more ∙ h)
+  woken_in n (x ∷ bs) (suc a) b l e =
+      ap (λ r. if so x.state then n ∷ r else r) (woken_in (suc n) bs a b (omega arith) e) ∙ by (so x.state)
+    where
+      same : suc n + a ≡ n + suc a
+      same = omega arith
+
+      by : (t : Bool) → (if t then n ∷ with_number (suc n + a) (numbers_in so (suc n) bs) else with_number (suc n + a) (numbers_in so (suc n) bs))
+          ≡ with_number (n + suc a) (if t then n ∷ numbers_in so (suc n) bs else numbers_in so (suc n) bs)
+      by true =
+          let d = ne_of n (n + suc a) (λ z. omega arith) in let b = below_not n (n + suc a) (omega arith) in
+          rw (d, b) (ap (λ k. n ∷ with_number k (numbers_in so (suc n) bs)) same)
+      by false = ap (λ k. with_number k (numbers_in so (suc n) bs)) same
+
+  -- a body more that can go
+  pub more_in : (n : ℕ) (bs : List Body) (b : Body) → so b.state ≡ true
+      → numbers_in so n (bs ++ b ∷ []) ≡ with_number (n + length bs) (numbers_in so n bs)
+  more_in n [] b e =
+      let z : n ≡ n + zero = omega arith in ap (λ t. if t then n ∷ [] else []) e ∙ ap (λ k. k ∷ []) z
+  more_in n (x ∷ bs) b e = ap (λ r. if so x.state then n ∷ r else r) (more_in (suc n) bs b e) ∙ by (so x.state)
+    where
+      k : ℕ
+      k = length bs
+
+      same : suc n + k ≡ n + suc k
+      same = omega arith
+
+      by : (t : Bool) → (if t then n ∷ with_number (suc n + k) (numbers_in so (suc n) bs) else with_number (suc n + k) (numbers_in so (suc n) bs))
+          ≡ with_number (n + suc k) (if t then n ∷ numbers_in so (suc n) bs else numbers_in so (suc n) bs)
+      by true =
+          let d = ne_of n (n + suc k) (λ z. omega arith) in let b = below_not n (n + suc k) (omega arith) in
+          rw (d, b) (ap (λ j. n ∷ with_number j (numbers_in so (suc n) bs)) same)
+      by false = ap (λ j. with_number j (numbers_in so (suc n) bs)) same
+
+-- a process that can go where it could, or can't where it couldn't
+pub numbers_kept : (so : State → Bool) (n : ℕ) (ps : List Process) (a : ℕ) (q : Process) → so q.state ≡ so (process_at a ps).state
+    → numbers_of so n (slice_set ps a q) ≡ numbers_of so n ps
+numbers_kept so n [] a q e = refl
+numbers_kept so n (p ∷ ps) zero q e = ap (λ t. if t then n ∷ numbers_of so (suc n) ps else numbers_of so (suc n) ps) e
+numbers_kept so n (p ∷ ps) (suc a) q e = ap (λ r. if so p.state then n ∷ r else r) (numbers_kept so (suc n) ps a q e)

@@ -1,0 +1,93 @@
+-- What is left of a world after a delivery or an end.
+use Rattle.std.proofs.Common.{◌≡◌, ℕ, zero, ◌<◌, ◌≤◌, List, [], refl, sym, ap, ◌∙◌, subst, arith, length, map, slice_set}
+use Rattle.std.specs.Prelude.{Result}
+use Rattle.pf_terms.specs.declared.term.Term.{Term}
+use Rattle.pf_model.specs.Code.{code_of}
+use Rattle.pf_model.specs.Maps.{without_number}
+use Rattle.pf_model.specs.Place.{ended}
+use Rattle.pf_model.specs.Channels.{Signal}
+use Rattle.pf_model.specs.Configuration.{Process, Core, Left, fresh, of, with_process, posted}
+use Rattle.pf_model.specs.Ends.{reason_of, ended_by}
+use Rattle.pf_model.specs.Runs.{can_go}
+use Rattle.pf_ties.specs.Ties as ties
+use Rattle.pf_ties.specs.Laws.{ties_of}
+use Rattle.pf_ties.proofs.Followed.{follow_ends}
+use Rattle.pf_system.specs.Bodies.{body, process_body}
+use Rattle.pf_system.specs.Slots.{slot_body, end_of, SlotIsSound, SlotsAreSound}
+use Rattle.pf_system.specs.Worlds.{Stands, StandsBut, Done, EndsSo, code_in, bodies_in}
+use Rattle.pf_system.specs.declared.slot.Slot.{Slot}
+use Rattle.pf_system.specs.declared.world.World.{World}
+use Rattle.pf_system.proofs.Bodies.{set_map, set_length, bodies_changed, bodies_same, ties_length}
+use Rattle.pf_system.proofs.Ready.{numbers_kept}
+use Rattle.pf_system.proofs.Rows.{enough_senders, posted_length}
+use Rattle.pf_system.proofs.Worlds.{goes_no_more}
+
+-- there are rows enough for what is sent
+pub done_so : (w w' : World) (a : ℕ) (d : Left) → Stands w' d.core → length d.core.processes ≤ length w.bonds.channels
+    → w'.bonds.channels ≡ posted a d.sent w.bonds.channels → w'.module ≡ w.module → Done a d w.bonds.channels w w'
+done_so w w' a d h n e m =
+    record { stands = h; channels = e ∙ ap (posted a d.sent) (sym (enough_senders (length d.core.processes) w.bonds.channels n)); code = m }
+
+-- a world in which nothing but ties and channels is changed
+module _ (w w' : World) (c : Core) (slots : w'.slots.items ≡ w.slots.items) (ready : w'.ready ≡ w.ready) (code : w'.module ≡ w.module) where
+  kept_slots : Stands w c → SlotsAreSound (code_in w') zero w'.slots.items
+  kept_slots h =
+      subst (λ ss. SlotsAreSound (code_in w') zero ss) (sym slots)
+      (subst (λ z. SlotsAreSound (code_of z.value) zero w.slots.items) (sym code) h.slots)
+
+  pub rows_more : Stands w c → ties_of c ≡ w'.bonds.ties → length w.bonds.channels ≤ length w'.bonds.channels → Stands w' c
+  rows_more h t n =
+      record {
+        bodies = h.bodies ∙ sym (ap (map slot_body) slots);
+        ties = t;
+        ready = ready ∙ h.ready;
+        slots = kept_slots h;
+        room = record { rows = let k = h.room.rows in omega arith; few = h.room.few };
+      }
+
+  pub tied : (b : ℕ) (p : Process) → Stands w c → process_body p ≡ process_body (of c b) → ties_of (with_process c b p) ≡ w'.bonds.ties
+      → w'.bonds.channels ≡ w.bonds.channels → Stands w' (with_process c b p)
+  tied b p h y t r =
+      let n : length (with_process c b p).processes ≡ length c.processes = set_length b c.processes p in
+      record {
+        bodies = bodies_same c b p y ∙ h.bodies ∙ sym (ap (map slot_body) slots);
+        ties = t;
+        ready = ready ∙ h.ready ∙ sym (numbers_kept can_go zero c.processes b p (ap (λ z. can_go z.state) y));
+        slots = kept_slots h;
+        room = record {
+          rows = let q = subst (λ z. length c.processes ≤ length z) (sym r) h.room.rows in omega arith;
+          few = let q = h.room.few in omega arith;
+        };
+      }
+
+-- ---- the end of a process
+
+module _ (w w' : World) (a : ℕ) (e : Result Term Term) (s' : Slot) (ss : List (ℕ × Signal)) where
+  pub ends_so : slot_body s' ≡ body (ended (end_of e)) [] → ((m : _) → SlotIsSound m a s') → w'.slots.items ≡ slice_set w.slots.items a s'
+      → w'.bonds.ties ≡ ties.ended w.bonds.ties a → w'.ready ≡ without_number a w.ready → w'.module ≡ w.module
+      → ss ≡ ties.last_signals_of (ties.of w.bonds.ties a) (reason_of (end_of e)) → w'.bonds.channels ≡ posted a ss w.bonds.channels
+      → length w.slots.items ≡ length w.bonds.ties.processes
+      → (c : Core) → StandsBut w c a → EndsSo c a e w w'
+  ends_so y sound slots t r m last sent even c h =
+      let x = end_of e in
+      let p = fresh (ended x) [] in
+      let n : length (with_process c a p).processes ≡ length c.processes = set_length a c.processes p in
+      let rows = h.room.rows in
+      let few = h.room.few in
+      let there = h.there in
+      let sizes : length (ties_of c).processes ≡ length w.bonds.ties.processes = ap (λ z. length z.processes) h.ties in
+      let size : a < length c.processes = omega (arith, ties_length c) in
+      let all = follow_ends.last c a x ∙ ap (λ z. ties.last_signals_of (ties.of z a) (reason_of x)) h.ties ∙ sym last in
+      let longer = posted_length a ss w.bonds.channels in
+      let long = ap length sent in
+      done_so w w' a (ended_by c a x)
+      (record {
+        bodies = bodies_changed c a p ∙ h.bodies (body (ended x) []) ∙ ap (slice_set (bodies_in w) a) (sym y)
+            ∙ sym (ap (map slot_body) slots ∙ set_map slot_body a w.slots.items s');
+        ties = follow_ends.ended c a x ∙ ap (λ z. ties.ended z a) h.ties ∙ sym t;
+        ready = r ∙ ap (without_number a) h.ready ∙ sym (goes_no_more c a p size refl);
+        slots = subst (λ z. SlotsAreSound (code_in w') zero z) (sym slots)
+            (subst (λ z. SlotsAreSound (code_of z.value) zero (slice_set w.slots.items a s')) (sym m) (h.slots s' (sound (code_in w))));
+        room = record { rows = omega arith; few = omega arith };
+      })
+      (omega arith) (sent ∙ ap (λ z. posted a z w.bonds.channels) (sym all)) m

@@ -1,0 +1,147 @@
+-- A system that begins, and the turn of one of its processes, as a transition.
+use Rattle.std.proofs.Common.{◌≡◌, ◌⊎◌, inl, inr, ℕ, zero, suc, ◌+◌, Bool, true, false, List, [], ◌∷◌, ◌++◌, Some, None, if◌then◌else◌, refl, sym, ap, ◌∙◌, subst, arith, length, map}
+use Rattle.pf_terms.specs.Value.{none}
+use Rattle.pf_syntax.specs.Tree.{call, no_trees}
+use Rattle.pf_model.specs.Code.{Code, code_of}
+use Rattle.pf_model.specs.Place.{running}
+use Rattle.pf_model.specs.Maps.{with_number}
+use Rattle.pf_model.specs.Channels.{heads, with_senders}
+use Rattle.pf_model.specs.Configuration.{Process, Core, Configuration, of, process_at}
+use Rattle.pf_model.specs.Runs.{process, channel, enabled, start, can_go, numbers_of, Passed, Passes, passed, turn}
+use Rattle.pf_model.specs.Reports.{label_of}
+use Rattle.pf_model.specs.declared.report.Label.{Label}
+use Rattle.pf_ties.specs.Ties.{no_process, opened}
+use Rattle.pf_stepper.specs.MachineView.{MachineView, goes, at_call}
+use Rattle.pf_system.specs.View.{system_view}
+use Rattle.pf_system.specs.Acts.{Opens}
+use Rattle.pf_system.specs.Slots.{SlotIsSound, SlotsAreSound, slot_body, state_in}
+use Rattle.pf_system.specs.Steps.{IsAmong, IsWorldOf, PassesTo}
+use Rattle.pf_system.specs.Worlds.{Stands, Turned, code_in, core_of, configuration_of}
+use Rattle.pf_system.specs.declared.slot.Life.TheVariants as life
+use Rattle.pf_system.specs.declared.slot.Slot.{Slot}
+use Rattle.pf_system.specs.declared.world.World.{World}
+use Rattle.pf_system.proofs.Going.{IsIn, split_in, in_either}
+use Rattle.pf_system.proofs.Passing.{both, kept_after, stands_itself}
+use Rattle.pf_system.proofs.Worlds.{again}
+
+-- ---- a process that may go can go
+
+no_channel : (a : ℕ) (hs : List (ℕ × ℕ)) → IsIn (process a) (map (λ h. channel h.0 h.1) hs) → ⊥
+no_channel a [] h = h
+no_channel a (x ∷ hs) (inl e) = absurd (cc)
+no_channel a (x ∷ hs) (inr h) = no_channel a hs h
+
+by_process : (a : ℕ) (ps : List ℕ) → IsIn (process a) (map process ps) → IsIn a ps
+by_process a [] h = h
+by_process a (p ∷ ps) (inl e) = let k : a ≡ p = cc in inl k
+by_process a (p ∷ ps) (inr h) = inr (by_process a ps h)
+
+in_numbers : (n a : ℕ) (ps : List Process) → IsIn a (numbers_of can_go n ps) → (i : ℕ) × (a ≡ n + i) × (can_go (process_at i ps).state ≡ true)
+in_numbers n a [] h = absurd h
+in_numbers n a (p ∷ ps) h = by (in_numbers (suc n) a ps) (can_go p.state) refl h
+  where
+    later : (i : ℕ) × (a ≡ suc n + i) × (can_go (process_at i ps).state ≡ true) → (i : ℕ) × (a ≡ n + i) × (can_go (process_at i (p ∷ ps)).state ≡ true)
+    later q = let e = q.1 in (suc q.0, omega arith, q.2)
+
+    first : (t : Bool) → can_go p.state ≡ t → (IsIn a (numbers_of can_go (suc n) ps) → (i : ℕ) × (a ≡ suc n + i) × (can_go (process_at i ps).state ≡ true))
+        → IsIn a (n ∷ numbers_of can_go (suc n) ps) → t ≡ true → (i : ℕ) × (a ≡ n + i) × (can_go (process_at i (p ∷ ps)).state ≡ true)
+    first t e f (inl k) y = (zero, omega arith, e ∙ y)
+    first t e f (inr k) y = later (f k)
+
+    by : (IsIn a (numbers_of can_go (suc n) ps) → (i : ℕ) × (a ≡ suc n + i) × (can_go (process_at i ps).state ≡ true)) → (t : Bool) → can_go p.state ≡ t
+        → IsIn a (if t then n ∷ numbers_of can_go (suc n) ps else numbers_of can_go (suc n) ps)
+        → (i : ℕ) × (a ≡ n + i) × (can_go (process_at i (p ∷ ps)).state ≡ true)
+    by f true e k = first true e f k refl
+    by f false e k = later (f k)
+
+pub can_go_of : (a : ℕ) (c : Configuration) → IsAmong (process a) (enabled c) → can_go (of c.core a).state ≡ true
+can_go_of a c h = by (in_either (process a) (map process ps) (map (λ h. channel h.0 h.1) (heads c.channels)) there)
+  where
+    ps : List ℕ
+    ps = numbers_of can_go zero c.core.processes
+
+    there : IsIn (process a) (enabled c)
+    there = subst (IsIn (process a)) (sym h.2) (split_in (process a) h.0 h.1)
+
+    by : IsIn (process a) (map process ps) ⊎ IsIn (process a) (map (λ h. channel h.0 h.1) (heads c.channels)) → can_go (of c.core a).state ≡ true
+    by (inl k) =
+        let q = in_numbers zero a c.core.processes (by_process a ps k) in
+        let x = q.1 in
+        let e : q.0 ≡ a = omega arith in
+        ap (λ z. can_go (process_at z c.core.processes).state) (sym e) ∙ q.2
+    by (inr k) = absurd (no_channel a (heads c.channels) k)
+
+-- ---- a turn
+
+pub turn_kept : (m : Code) (w w' : World) (c : Core) (a left used : ℕ) (l : Label) → IsWorldOf m w → Turned c a left w l used w' → IsWorldOf m w'
+turn_kept m w w' c a left used l k h = kept_after m w w' h.deed.left.core k h.shown.done.stands h.shown.done.code
+
+pub turn_passes : (m : Code) (w w' : World) (k a left used : ℕ) (l : Label) → IsWorldOf m w → Turned (core_of w) a left w l used w'
+    → PassesTo left (system_view m k (Some (configuration_of w))) (process a) (label_of l) used (system_view m (k + used) (Some (configuration_of w')))
+turn_passes m w w' k a left used l i h =
+    let d = h.deed in
+    let p : Passed = passed a d w.bonds.channels None used in
+    let e : configuration_of w' ≡ p.after =
+    ap (λ c. both c w'.bonds.channels) (again w' d.left.core h.shown.done.stands) ∙ ap (both d.left.core) h.shown.done.channels in
+    record {
+      before = configuration_of w;
+      passed = p;
+      was = refl;
+      passes = subst (λ z. Passes z left (configuration_of w) (process a) p) i.code (turn a used d h.turn);
+      becomes = ap (λ c. system_view m (k + used) (Some c)) e;
+      label = h.shown.label;
+      counts = refl;
+      within = h.within;
+    }
+
+-- ---- the beginning
+
+-- nothing is there yet
+pub record IsEmpty (w : World) : Type 0 where
+  pub slots : w.slots.items ≡ []
+  pub ties : w.bonds.ties ≡ no_process
+  pub channels : w.bonds.channels ≡ []
+  pub ready : w.ready ≡ []
+
+module _ (w w' : World) (k : MachineView) (root : ℕ) (none' : IsEmpty w) (at : k ≡ at_call 0 (code_in w) root none)
+    (o : Opens None w (life.Lives k false) w') where
+  abbrev first : Slot
+  first = record { life = life.Lives k false; mailbox = o.slots.0 }
+
+  one_slot : w'.slots.items ≡ first ∷ []
+  one_slot = o.slots.3 ∙ ap (λ z. z ++ first ∷ []) none'.slots
+
+  one_row : w'.bonds.channels ≡ [] ∷ []
+  one_row = o.channels ∙ ap (λ z. with_senders (length z + 1) w.bonds.channels) none'.slots ∙ ap (with_senders 1) none'.channels
+
+  stood : k.standing ≡ goes (running (call root no_trees))
+  stood = ap (λ z. z.standing) at
+
+  first_is_sound : SlotIsSound (code_in w') zero first
+  first_is_sound =
+      record {
+        ready = ((running (call root no_trees), stood, refl), o.slots.2 k);
+        is_of = (ap (λ z. z.own) at, ap (λ z. z.code) at ∙ ap (λ z. code_of z.value) (sym o.code));
+      }
+
+  pub begins : Stands w' (start root).core
+  begins =
+      record {
+        bodies = sym (ap (map slot_body) one_slot ∙ ap (λ z. record { state = z; mailbox = o.slots.0.messages } ∷ []) (ap state_in stood)
+            ∙ ap (λ z. record { state = running (call root no_trees); mailbox = z } ∷ []) o.slots.1);
+        ties = sym (o.ties ∙ ap (λ z. opened z None) none'.ties);
+        ready = o.ready ∙ ap (λ z. with_number (length z) w.ready) none'.slots ∙ ap (with_number 0) none'.ready;
+        slots = subst (SlotsAreSound (code_in w') zero) (sym one_slot) (first_is_sound, tt);
+        room = record {
+          rows = let e = ap length one_row in omega arith;
+          few = omega arith;
+        };
+      }
+
+  pub begins_kept : (m : Code) → code_in w ≡ m → IsWorldOf m w'
+  begins_kept m e = record { stands = stands_itself w' (start root).core begins; code = ap (λ z. code_of z.value) o.code ∙ e }
+
+  pub begins_so : (m : Code) → system_view m 0 (Some (configuration_of w')) ≡ system_view m 0 (Some (start root))
+  begins_so m =
+      ap (λ c. system_view m 0 (Some (both c w'.bonds.channels))) (again w' (start root).core begins)
+      ∙ ap (λ cs. system_view m 0 (Some (both (start root).core cs))) one_row

@@ -1,0 +1,181 @@
+-- A turn, from what a machine ran and what its last step did.
+use Rattle.std.proofs.Common.{◌≡◌, ℕ, zero, suc, ◌+◌, ◌<◌, true, List, [], ◌∷◌, Some, refl, sym, ap, ◌∙◌, subst, arith, length, slice_set}
+use Rattle.std.specs.Prelude.{slice_get}
+use Rattle.pf_terms.specs.Value.{Value}
+use Rattle.pf_syntax.specs.Tree.{Tree}
+use Rattle.pf_model.specs.Code.{Code, code_of}
+use Rattle.pf_model.specs.Contraction.{Change, Becomes, Raises, Exits, Asks, Awaits}
+use Rattle.pf_model.specs.Place as place
+use Rattle.pf_model.specs.Place.{Frame, State, running, waiting, ending, ended, goes_on, asks, awaits, moved, Moves, at_value, at_place}
+use Rattle.pf_model.specs.Channels.{with_senders}
+use Rattle.pf_model.specs.Configuration.{Process, Core, of, process_at, posted}
+use Rattle.pf_model.specs.Deliveries.{Deed}
+use Rattle.pf_model.specs.Turns.{Turn, cut_running, cut_ending}
+use Rattle.pf_model.specs.Runs.{can_go}
+use Rattle.pf_model.specs.declared.report.Label.{Label}
+use Rattle.pf_stepper.specs.MicroSteps.{Contracts}
+use Rattle.pf_stepper.specs.Advanced.{Steps, no_step, one_more}
+use Rattle.pf_mailbox.specs.MailView.{MailView}
+use Rattle.pf_stepper.specs.MachineView.{Standing, asking}
+use Rattle.pf_stepper.specs.Moves.{Moved}
+use Rattle.pf_stepper.specs.Turns.{CanAnswer, StepsAndMove, Ran}
+use Rattle.pf_stepper.proofs.Before.{steps_before, turn_behind}
+use Rattle.pf_stepper.specs.declared.machine.Move.{Move}
+use Rattle.pf_stepper.specs.declared.machine.Move.TheVariants as v
+use Rattle.pf_system.specs.Slots.{state_of, LifeAsks, LifeIsLeft, LifeIsReady, RanInSlot, SlotIsSound}
+use Rattle.pf_system.specs.Worlds.{Stands, IsShaped, Shown, Turned, code_in}
+use Rattle.pf_system.specs.Settled.{AsksFor, Settles, SettlesAs, LastStep, cut_in}
+use Rattle.pf_system.specs.declared.slot.Life.{Life}
+use Rattle.pf_system.specs.declared.slot.Life.TheVariants as life
+use Rattle.pf_system.specs.declared.slot.Slot.{Slot}
+use Rattle.pf_system.specs.declared.world.World.{World}
+use Rattle.pf_system.proofs.Bodies.{set_length}
+use Rattle.pf_system.proofs.Worlds.{ran_but, left_at, body_at, get_within, slots_length, sound_at, ties_length_in}
+
+-- ---- a process that goes on by itself can go
+
+abbrev GoesOn : place.Move → Type 0
+GoesOn (goes_on s) = can_go s ≡ true
+GoesOn x = Unit {0}
+
+moved_goes_on : (fs : List Frame) (d : Change) → GoesOn (moved fs d)
+moved_goes_on fs (Becomes t) = refl
+moved_goes_on fs (Raises e) = refl
+moved_goes_on fs (Exits w) = refl
+moved_goes_on fs (Asks x) = tt
+moved_goes_on fs (Awaits ks) = tt
+
+module _ (m : Code) (a : ℕ) where
+  move_goes_on : (t : Tree) (x : place.Move) → Moves m a t x → GoesOn x
+  move_goes_on t x (at_value w e q) = rw q tt
+  move_goes_on t x (at_place fs r d p q) = rw q (moved_goes_on fs d)
+
+  step_goes_on : (q r : place.Move) → Contracts m a q r → GoesOn r
+  step_goes_on (goes_on (running t)) r h = move_goes_on t r h
+  step_goes_on (goes_on (waiting t)) r h = absurd h
+  step_goes_on (goes_on (ending w)) r h = absurd h
+  step_goes_on (goes_on (ended e)) r h = absurd h
+  step_goes_on (asks fs x) r h = absurd h
+  step_goes_on (awaits fs ks) r h = absurd h
+  step_goes_on (place.returns w) r h = absurd h
+
+  steps_go_on : (i : ℕ) (p q : place.Move) → Steps m a i p q → GoesOn p → GoesOn q
+  steps_go_on _ _ _ (no_step p) k = k
+  steps_go_on _ _ _ (one_more i p q r s h) k = step_goes_on q r h
+
+  cut_at : (c : Core) (t : State) → can_go t ≡ true → Turn m a c zero t (cut_in c a t) zero
+  cut_at c (running t) h = cut_running t
+  cut_at c (ending r) h = cut_ending r
+  cut_at c (waiting t) h = absurd (cc)
+  cut_at c (ended e) h = absurd (cc)
+
+  cut_turn : (c : Core) (left used : ℕ) (s t : State) → can_go t ≡ true → used ≡ left → Steps m a left (goes_on s) (goes_on t)
+      → Turn m a c left s (cut_in c a t) used
+  cut_turn c left used s t k e h =
+      let x : left + zero ≡ left = omega arith in
+      let y : left + zero ≡ used = omega (arith, e) in
+      subst (λ z. Turn m a c z s (cut_in c a t) used) x
+      (subst (Turn m a c (left + zero) s (cut_in c a t)) y (steps_before m a c zero zero (cut_in c a t) left (goes_on s) (goes_on t) h (cut_at c t k)))
+
+-- ---- what the calls of a turn ask for
+
+in_range : (a : ℕ) (ps : List Process) → can_go (process_at a ps).state ≡ true → a < length ps
+in_range a [] e = absurd (cc)
+in_range zero (p ∷ ps) e = omega arith
+in_range (suc a) (p ∷ ps) e = let k = in_range a ps e in omega arith
+
+-- a process that can go has a slot
+pub slot_there : (w : World) (c : Core) (a : ℕ) → Stands w c → can_go (of c a).state ≡ true → a < length w.slots.items
+slot_there w c a h e = let k = in_range a c.processes e in let l = slots_length w c h in omega arith
+
+module _ (w : World) (c : Core) (a : ℕ) (s : Slot) (h : Stands w c) (at : slice_get w.slots.items a ≡ Some s) where
+  pub slot_ready : LifeIsReady s.life s.mailbox
+  slot_ready = (sound_at (code_in w) zero a w.slots.items s h.slots at).ready
+
+  pub slot_sound : SlotIsSound (code_in w) a s
+  slot_sound = let e : zero + a ≡ a = omega arith in subst (λ z. SlotIsSound (code_in w) z s) e (sound_at (code_in w) zero a w.slots.items s h.slots at)
+
+  pub slot_can : can_go (of c a).state ≡ true → can_go (state_of s.life) ≡ true
+  slot_can e = ap (λ z. can_go z.state) (sym (body_at w c a s h at)) ∙ e
+
+  pub still_shaped : (w1 : World) (s1 : Slot) → w1.slots.items ≡ slice_set w.slots.items a s1 → w1.bonds ≡ w.bonds → IsShaped a w1
+  still_shaped w1 s1 e b =
+      let n : length w1.slots.items ≡ length w.slots.items = ap length e ∙ set_length a w.slots.items s1 in
+      let l = get_within a w.slots.items s at in
+      let i = slots_length w c h in
+      let j = ties_length_in w c h in
+      let r = h.room.rows in
+      let f = h.room.few in
+      let t = ap (λ z. length z.ties.processes) b in
+      let k = ap (λ z. length z.channels) b in
+      record { there = omega arith; ties = omega arith; rows = omega arith; few = omega arith }
+
+asks_in : (m : Code) (own : ℕ) (x : Standing) (l : Life) (mail : MailView) (fs : List Frame) → LifeIsLeft m own x l mail → x ≡ asking fs → LifeAsks l
+asks_in m own x (life.Lives k w) mail fs h e = subst CanAnswer (sym (h.0 ∙ e)) tt
+asks_in m own x (life.Ends r) mail fs h e = tt
+asks_in m own x (life.Ended r) mail fs h e = tt
+
+-- a machine that asked for an action waits for the answer
+pub asks_for : (m : Code) (own left used : ℕ) (s s1 : Slot) (move : Move) → RanInSlot m own left s move used s1 → AsksFor move s1
+asks_for m own left used s s1 (v.Action act) r = asks_in m own r.standing s1.life s1.mailbox r.ran.last.frames r.leaves r.ran.last.stands
+asks_for m own left used s s1 v.Pure r = tt
+asks_for m own left used s s1 (v.Take t) r = tt
+asks_for m own left used s s1 v.Wait r = tt
+asks_for m own left used s s1 (v.End e) r = tt
+
+-- ---- the turn of a world
+
+shown_from : (w w1 w' : World) (a : ℕ) (l : Label) (d : Deed) → w1.bonds ≡ w.bonds → w1.module ≡ w.module → Shown a d w1.bonds.channels w1 l w' → Shown a d w.bonds.channels w l w'
+shown_from w w1 w' a l d e f h =
+    record {
+      done = record {
+        stands = h.done.stands;
+        channels = h.done.channels ∙ ap (λ b. posted a d.left.sent (with_senders (length d.left.core.processes) b.channels)) e;
+        code = h.done.code ∙ f;
+      };
+      label = h.label;
+    }
+
+module _ (w w1 w' : World) (c : Core) (a left used : ℕ) (l : Label) (e : w1.bonds ≡ w.bonds) (f : w1.module ≡ w.module) (can : can_go (of c a).state ≡ true)
+    (x : Standing) (mail : List Value) where
+  cut_so : Ran (code_in w) a left (of c a).state (of c a).mailbox v.Pure x used mail → Settles c a v.Pure x mail w1 l w' → Turned c a left w l used w'
+  cut_so r k =
+      let g = steps_go_on (code_in w) a left (goes_on (of c a).state) (goes_on r.next) r.steps can in
+      record {
+        deed = cut_in c a r.next;
+        turn = cut_turn (code_in w) a c left used (of c a).state r.next g r.all r.steps;
+        within = let q = r.all in omega arith;
+        shown = shown_from w w1 w' a l (cut_in c a r.next) e f (k r.next r.stands g r.kept);
+      }
+
+  -- the last step of a turn after those that went before it
+  last_so : (move : Move) (r : StepsAndMove (code_in w) a left (of c a).state (of c a).mailbox move x used mail) → LastStep r.middle c a w1 l w' → Turned c a left w l used w'
+  last_so move r k =
+      record {
+        deed = k.deed;
+        turn = turn_behind (code_in w) a c left used r.before (of c a).state r.middle k.deed r.counted r.within r.steps
+            (λ n. subst (λ z. Turn (code_of z.value) a c (suc n) r.middle k.deed 1) f (k.last n));
+        within = r.within;
+        shown = shown_from w w1 w' a l k.deed e f k.shown;
+      }
+
+  moved_from : (y : State) (move : Move) → Moved (code_in w) a y (of c a).mailbox move x mail → Moved (code_in w1) a y (of c a).mailbox move x mail
+  moved_from y move h = subst (λ z. Moved (code_of z.value) a y (of c a).mailbox move x mail) (sym f) h
+
+  turned_by : (move : Move) → Ran (code_in w) a left (of c a).state (of c a).mailbox move x used mail → Settles c a move x mail w1 l w' → Turned c a left w l used w'
+  turned_by v.Pure r k = cut_so r k
+  turned_by (v.Action act) r k = last_so (v.Action act) r (k r.middle (moved_from r.middle (v.Action act) r.last))
+  turned_by (v.Take t) r k = last_so (v.Take t) r (k r.middle (moved_from r.middle (v.Take t) r.last))
+  turned_by v.Wait r k = last_so v.Wait r (k r.middle (moved_from r.middle v.Wait r.last))
+  turned_by (v.End z) r k = last_so (v.End z) r (k r.middle (moved_from r.middle (v.End z) r.last))
+
+pub turned : (w w1 w' : World) (c : Core) (a left used : ℕ) (s s1 : Slot) (move : Move) (l : Label) → Stands w c → can_go (of c a).state ≡ true
+    → slice_get w.slots.items a ≡ Some s → RanInSlot (code_in w) a left s move used s1 → w1.slots.items ≡ slice_set w.slots.items a s1 → w1.bonds ≡ w.bonds
+    → w1.ready ≡ w.ready → w1.module ≡ w.module → SettlesAs a move w1 l w' → Turned c a left w l used w'
+turned w w1 w' c a left used s s1 move l h can at r e b q f k =
+    let n = get_within a w.slots.items s at in
+    let y = body_at w c a s h at in
+    let r' : Ran (code_in w) a left (of c a).state (of c a).mailbox move r.standing used s1.mailbox.messages =
+    subst (λ z. Ran (code_in w) a left z.state z.mailbox move r.standing used s1.mailbox.messages) (sym y) r.ran in
+    turned_by w w1 w' c a left used l b f can r.standing s1.mailbox.messages move r'
+    (k c r.standing s1 (ran_but w w1 c a s1 h n e b q f) can (left_at w w1 c a s1 r.standing r.leaves n e f))

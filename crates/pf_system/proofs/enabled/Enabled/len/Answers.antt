@@ -1,0 +1,5 @@
+use Rattle.std.proofs.Common.{arith}
+use Rattle.pf_system.proofs.enabled.Enabled.len.Goals as goal
+
+pub overflow_add-result : goal.overflow_add-result
+overflow_add-result c = let h = c.as_slice.type_inv.1 in let k = c.len.ensures.few in omega arith

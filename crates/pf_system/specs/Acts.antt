@@ -1,0 +1,113 @@
+-- What the actions of a process do.
+use Rattle.std.specs.Prelude.{◌≡◌, ◌<◌, ◌≤◌, ℕ, ◌+◌, true, List, [], ◌∷◌, ◌++◌, Option, Some, None, length, slice_get, if◌then◌else◌, ◌==◌}
+use Rattle.pf_model.specs.Maps.{with_number}
+use Rattle.pf_model.specs.Place.{Frame, State}
+use Rattle.pf_model.specs.Runs.{can_go}
+use Rattle.pf_model.specs.Turns.{after_act}
+use Rattle.pf_model.specs.Code.{Code, exported_as}
+use Rattle.pf_model.specs.Contraction.{Act}
+use Rattle.pf_model.specs.Channels.{with_senders}
+use Rattle.pf_model.specs.Configuration.{Core, of, posted}
+use Rattle.pf_model.specs.Actions.{Acted, acted}
+use Rattle.pf_model.specs.Reports.{label_of}
+use Rattle.pf_model.specs.declared.report.Label.{Label}
+use Rattle.pf_ties.specs.Ties.{opened}
+use Rattle.pf_ties.specs.Laws.{ties_of}
+use Rattle.pf_stepper.specs.MachineView.{MachineView, asking}
+use Rattle.pf_mailbox.specs.MailView.{MailView}
+use Rattle.pf_mailbox.specs.Tests.{IsAheadOf}
+use Rattle.pf_stepper.specs.Turns.{told_of}
+use Rattle.pf_stepper.specs.declared.act.Act.{Act as Asked}
+use Rattle.pf_stepper.specs.declared.act.Act.TheVariants as asked
+use Rattle.pf_system.specs.Bodies.{process_body}
+use Rattle.pf_system.specs.Slots.{LifeAsks, LifeIsReady, LifeIsOf, state_of}
+use Rattle.pf_system.specs.Worlds.{StandsBut, IsLeftAt, Shown, code_in}
+use Rattle.pf_system.specs.declared.slot.Life.{Life}
+use Rattle.pf_system.specs.declared.slot.Slot.{Slot}
+use Rattle.pf_system.specs.declared.bonds.Answer.{Answer}
+use Rattle.pf_system.specs.declared.bonds.Bonds.{Bonds}
+use Rattle.pf_system.specs.declared.world.World.{World}
+
+-- the process is there, and has a row of channels
+pub record IsMember (a : ℕ) (b : Bonds) : Type 0 where
+  pub there : a < length b.ties.processes
+  pub rows : length b.ties.processes ≤ length b.channels
+
+-- an answer and its label are those of what an action leaves
+pub record Answers (r : Answer) (x : Acted) : Type 0 where
+  pub value : told_of r.value ≡ x.answer
+  pub label : label_of r.label ≡ x.label
+
+-- ties and channels are what an action of process a makes of them
+pub record ActedSo (x : Acted) (a : ℕ) (b : Bonds) (r : Answer) (b' : Bonds) : Type 0 where
+  pub ties : ties_of x.left.core ≡ b'.ties
+  pub channels : b'.channels ≡ posted a x.left.sent b.channels
+  pub answers : Answers r x
+
+-- so they are whatever the rest of the core is
+abbrev pub ActsAs : ℕ → Act → Bonds → Answer → Bonds → Type 0
+ActsAs a act b r b' = (m : Code) (c : Core) → ties_of c ≡ b.ties → ActedSo (acted m c a act) a b r b'
+
+-- all actions but those that make a process
+abbrev pub IsBetween : Asked → Type 0
+IsBetween (asked.Send to message) = Unit {0}
+IsBetween (asked.Spawn linked home function arguments) = ⊥
+IsBetween (asked.Link other) = Unit {0}
+IsBetween (asked.Unlink other) = Unit {0}
+IsBetween (asked.Monitor kind other) = Unit {0}
+IsBetween (asked.Demonitor reference) = Unit {0}
+IsBetween (asked.ExitOther other reason) = Unit {0}
+IsBetween (asked.SetFlag flag setting) = Unit {0}
+IsBetween (asked.Register name other) = Unit {0}
+IsBetween (asked.Unregister name) = Unit {0}
+IsBetween (asked.Whereis name) = Unit {0}
+IsBetween asked.MakeRef = Unit {0}
+
+-- the world is what an action of process a makes of it, but for the slot of that process, which waits for the answer
+pub record ActedIn (c : Core) (x : Acted) (a : ℕ) (w : World) (r : Answer) (w' : World) : Type 0 where
+  pub stands : StandsBut w' x.left.core a
+  pub same : process_body (of x.left.core a) ≡ process_body (of c a)
+  pub channels : w'.bonds.channels ≡ posted a x.left.sent (with_senders (length x.left.core.processes) w.bonds.channels)
+  pub answers : Answers r x
+  pub code : w'.module ≡ w.module
+
+abbrev pub ActsIn : ℕ → Act → World → Answer → World → Type 0
+ActsIn a act w r w' = (c : Core) → StandsBut w c a → ActedIn c (acted (code_in w) c a act) a w r w'
+
+-- the slot of a process stays as it was
+abbrev pub KeepsSlot : ℕ → World → World → Type 0
+KeepsSlot a w w' = slice_get w'.slots.items a ≡ slice_get w.slots.items a
+
+-- the slot of a process that may be answered
+pub record IsAsking (a : ℕ) (w : World) : Type 0 where
+  pub slot : Slot
+  pub at : slice_get w.slots.items a ≡ Some slot
+  pub asks : LifeAsks slot.life
+
+-- the action that process a asked for in these frames
+abbrev pub ShowsAct : ℕ → Act → World → Label → World → Type 0
+ShowsAct a act w l w' =
+    (c : Core) (fs : List Frame) (s : Slot) → StandsBut w c a → can_go (of c a).state ≡ true → IsLeftAt w a (asking fs) s
+    → s.mailbox.messages ≡ (of c a).mailbox
+    → Shown a (after_act a fs (acted (code_in w) c a act)) w.bonds.channels w l w'
+
+-- ---- a new process
+
+-- the function of this name and so many arguments of a module, which is the own one or none
+abbrev pub home_function : Code → (home name arity : ℕ) → Option ℕ
+home_function m home name arity = if home == m.name then exported_as m name arity else None
+
+-- a process of this pid begins in a state in which it can go
+pub record LifeBegins (m : Code) (own : ℕ) (s : State) (l : Life) : Type 0 where
+  pub sound : (mail : MailView) → ((k : MachineView) → IsAheadOf k mail) → LifeIsReady l mail
+  pub is_of : LifeIsOf m own l
+  pub state : state_of l ≡ s
+  pub goes : can_go s ≡ true
+
+-- one process more, with no message, that can go
+pub record Opens (parent : Option ℕ) (w : World) (l : Life) (w' : World) : Type 0 where
+  pub ties : w'.bonds.ties ≡ opened w.bonds.ties parent
+  pub channels : w'.bonds.channels ≡ with_senders (length w.slots.items + 1) w.bonds.channels
+  pub slots : (mail : MailView) × (mail.messages ≡ []) × ((k : MachineView) → IsAheadOf k mail) × (w'.slots.items ≡ w.slots.items ++ record { life = l; mailbox = mail } ∷ [])
+  pub ready : w'.ready ≡ with_number (length w.slots.items) w.ready
+  pub code : w'.module ≡ w.module

@@ -1,0 +1,10 @@
+pub mod View
+pub mod Codes
+pub mod Messages
+pub mod Bodies
+pub mod Slots
+pub mod Worlds
+pub mod Acts
+pub mod Placed
+pub mod Settled
+pub mod Steps

@@ -1,0 +1,43 @@
+-- What deliveries do, by the rows of the definition.
+use Rattle.std.specs.Prelude.{◌≡◌, ℕ, Bool, true}
+use Rattle.pf_terms.specs.Value.{Value}
+use Rattle.pf_model.specs.Channels as signal
+use Rattle.pf_model.specs.Channels.{Signal}
+use Rattle.pf_model.specs.Configuration.{Core, of, with_process, is_alive}
+use Rattle.pf_model.specs.Deliveries.{Deed, with_message, at_living, at_ended}
+use Rattle.pf_model.specs.Labels.{delivers}
+use Rattle.pf_model.specs.Reports.{suffix_of}
+use Rattle.pf_model.specs.declared.report.Label.{Label}
+use Rattle.pf_model.specs.declared.report.Suffix.{Suffix}
+use Rattle.pf_system.specs.Worlds.{Stands, Done, Shown}
+use Rattle.pf_system.specs.declared.world.World.{World}
+
+-- a message came to a process that lives, and nothing else was changed
+pub record PlacedSo (c : Core) (b : ℕ) (v : Value) (w w' : World) : Type 0 where
+  pub stands : Stands w' (with_process c b (with_message (of c b) v))
+  pub bonds : w'.bonds ≡ w.bonds
+  pub code : w'.module ≡ w.module
+
+abbrev pub Places : ℕ → Value → World → World → Type 0
+Places b v w w' = (c : Core) → Stands w c → is_alive (of c b).state ≡ true → PlacedSo c b v w w'
+
+-- what is shown of a delivery beside its signal
+pub record SuffixShown (b : ℕ) (s : Signal) (d : Deed) (w : World) (x : Suffix) (w' : World) : Type 0 where
+  pub done : Done b d.left w.bonds.channels w w'
+  pub label : delivers s (suffix_of x) ≡ d.label
+
+abbrev pub ShowsAtEnded : (from to : ℕ) → Signal → World → Label → World → Type 0
+ShowsAtEnded a b s w l w' =
+    (c : Core) → Stands w c → Shown b (at_ended c a s) w.bonds.channels w l w'
+
+abbrev pub ShowsAtLiving : (from to : ℕ) → Signal → World → Label → World → Type 0
+ShowsAtLiving a b s w l w' =
+    (c : Core) → Stands w c → is_alive (of c b).state ≡ true → Shown b (at_living c a b s) w.bonds.channels w l w'
+
+abbrev pub ShowsDown : (from to : ℕ) → (reference : ℕ) → Value → World → Suffix → World → Type 0
+ShowsDown a b r v w x w' =
+    (c : Core) → Stands w c → is_alive (of c b).state ≡ true → SuffixShown b (signal.down r v) (at_living c a b (signal.down r v)) w x w'
+
+abbrev pub ShowsExit : (from to : ℕ) → (by_link : Bool) → Value → World → Suffix → World → Type 0
+ShowsExit a b by_link v w x w' =
+    (c : Core) → Stands w c → is_alive (of c b).state ≡ true → SuffixShown b (signal.exit by_link v) (at_living c a b (signal.exit by_link v)) w x w'

@@ -1,0 +1,39 @@
+//! Who may go.
+
+ghost use Rattle.std.specs.Prelude.{◌≡◌, ◌<◌, length, slice_get, Some};
+ghost use Rattle.pf_model.specs.Reports.{actor_of};
+ghost use Rattle.pf_system.specs.Steps.{noted};
+
+use pf_channels::Channels;
+use pf_model::report::Actor;
+use pf_ties::Numbers;
+
+/// The enabled actors: the processes that neither ended nor wait, by number, and then the channels that aren't empty, by sender and
+/// then by receiver.
+#[derive(Drop)]
+pub struct Enabled<'a> {
+    pub(crate) ready: &'a Numbers,
+    pub(crate) channels: &'a Channels,
+}
+
+impl Enabled<'_> {
+    /// How many there are.
+    pub fn len(&self) -> usize
+        ensures { result ≡ length (noted self.now) }
+    {
+        self.ready.as_slice().len() + self.channels.len()
+    }
+
+    /// The k-th of them, counted from 0.
+    pub fn actor(&self, k: usize) -> Actor
+        requires { k < length (noted self.now) }
+        ensures { slice_get (noted self.now) k ≡ Some (actor_of result) }
+    {
+        let ready = self.ready.as_slice();
+        if k < ready.len() {
+            return Actor::Process(ready[k]);
+        }
+        let (from, to) = self.channels.head(k - ready.len());
+        Actor::Channel { from, to }
+    }
+}

@@ -1,0 +1,56 @@
+//! The actions of exits: the signal to another process, and the flag that traps them.
+
+ghost use Rattle.std.specs.Prelude.{IfOk};
+ghost use Rattle.pf_terms.specs.Term.{value_of};
+ghost use Rattle.pf_model.specs.Contraction.{exit_other, set_flag};
+ghost use Rattle.pf_system.specs.Acts.{ActsAs, IsMember};
+
+use crate::bonds::{Answer, Bonds, giving_true, raising};
+use pf_model::Signal;
+use pf_model::report::Label;
+use pf_ops::{truth, truth_of};
+use pf_terms::{AtomId, NoMemory, Term, copy, equal};
+use std::alloc::Global;
+
+impl Bonds {
+    /// `exit/2`.
+    pub(crate) fn exit_other(
+        &mut self,
+        alloc: Global,
+        pid: u32,
+        other: Term,
+        reason: Term,
+    ) -> Result<Answer, NoMemory>
+        requires { IsMember pid self.old }
+        ensures { IfOk result
+            (λ r. ActsAs pid (exit_other (value_of other) (value_of reason)) self.old r self.new) }
+    {
+        let Term::Pid(other) = other else {
+            return Ok(raising(AtomId::BADARG));
+        };
+        let signal = Signal::Exit {
+            by_link: false,
+            reason: copy(&reason)?,
+        };
+        self.channels.send(alloc, pid, other, signal)?;
+        Ok(giving_true(Label::Exits { pid: other, reason }))
+    }
+
+    /// `process_flag/2`, which gives what the flag was.
+    pub(crate) fn set_flag(&mut self, pid: u32, flag: Term, setting: Term) -> Answer
+        requires { IsMember pid self.old }
+        ensures { ActsAs pid (set_flag (value_of flag) (value_of setting)) self.old result self.new }
+    {
+        let Some(traps) = truth_of(&setting) else {
+            return raising(AtomId::BADARG);
+        };
+        if !equal(&flag, &Term::Atom(AtomId::TRAP_EXIT)) {
+            return raising(AtomId::BADARG);
+        }
+        let was = self.ties.set_flag(pid, traps);
+        Answer {
+            value: Ok(truth(was)),
+            label: Label::SetsFlag(traps),
+        }
+    }
+}

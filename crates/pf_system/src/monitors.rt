@@ -1,0 +1,93 @@
+//! The actions of monitors and references.
+
+ghost use Rattle.std.specs.Prelude.{◌≡◌, IfOk};
+ghost use Rattle.pf_terms.specs.Term.{value_of};
+ghost use Rattle.pf_model.specs.Contraction.{demonitor, make_ref, monitor};
+ghost use Rattle.pf_model.specs.Actions.{monitored};
+ghost use Rattle.pf_ties.specs.Laws.{ties_of};
+ghost use Rattle.pf_system.specs.Acts.{ActedSo, ActsAs, IsMember};
+
+use crate::bonds::{Answer, Bonds, giving_true, raising};
+use pf_model::Signal;
+use pf_model::report::Label;
+use pf_terms::{AtomId, NoMemory, Term, equal};
+use std::alloc::Global;
+
+impl Bonds {
+    /// `monitor/2`.
+    pub(crate) fn monitor(
+        &mut self,
+        alloc: Global,
+        pid: u32,
+        kind: Term,
+        other: Term,
+    ) -> Result<Answer, NoMemory>
+        requires { IsMember pid self.old }
+        ensures { IfOk result
+            (λ r. ActsAs pid (monitor (value_of kind) (value_of other)) self.old r self.new) }
+    {
+        let Term::Pid(other) = other else {
+            return Ok(raising(AtomId::BADARG));
+        };
+        if !equal(&kind, &Term::Atom(AtomId::PROCESS)) {
+            return Ok(raising(AtomId::BADARG));
+        }
+        self.watch(alloc, pid, other)
+    }
+
+    /// A new reference watches a process.
+    fn watch(&mut self, alloc: Global, pid: u32, other: u32) -> Result<Answer, NoMemory>
+        requires { IsMember pid self.old }
+        ensures { IfOk result (λ r. (c : _) → ties_of c ≡ self.old.ties
+            → ActedSo (monitored c pid other) pid self.old r self.new) }
+    {
+        if self.ties.next_reference() == u64::MAX {
+            return Err(NoMemory);
+        }
+        let reference = self.ties.monitor(alloc, pid, other)?;
+        self.channels
+            .send(alloc, pid, other, Signal::Monitor(reference))?;
+        Ok(Answer {
+            value: Ok(Term::Ref(reference)),
+            label: Label::Monitors {
+                reference,
+                pid: other,
+            },
+        })
+    }
+
+    /// `demonitor/1`. A signal goes out where the reference was active.
+    pub(crate) fn demonitor(
+        &mut self,
+        alloc: Global,
+        pid: u32,
+        reference: Term,
+    ) -> Result<Answer, NoMemory>
+        requires { IsMember pid self.old }
+        ensures { IfOk result
+            (λ r. ActsAs pid (demonitor (value_of reference)) self.old r self.new) }
+    {
+        let Term::Ref(reference) = reference else {
+            return Ok(raising(AtomId::BADARG));
+        };
+        if let Some(other) = self.ties.demonitor(pid, reference) {
+            self.channels
+                .send(alloc, pid, other, Signal::Demonitor(reference))?;
+        }
+        Ok(giving_true(Label::Demonitors(reference)))
+    }
+
+    /// `make_ref/0`.
+    pub(crate) fn make_reference(&mut self, pid: u32) -> Result<Answer, NoMemory>
+        ensures { IfOk result (λ r. ActsAs pid make_ref self.old r self.new) }
+    {
+        if self.ties.next_reference() == u64::MAX {
+            return Err(NoMemory);
+        }
+        let reference = self.ties.make_reference();
+        Ok(Answer {
+            value: Ok(Term::Ref(reference)),
+            label: Label::MakesReference(reference),
+        })
+    }
+}

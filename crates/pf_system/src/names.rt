@@ -1,0 +1,69 @@
+//! The actions of names.
+
+ghost use Rattle.std.specs.Prelude.{IfOk};
+ghost use Rattle.pf_terms.specs.Term.{value_of};
+ghost use Rattle.pf_model.specs.Contraction.{register, unregister, whereis};
+ghost use Rattle.pf_system.specs.Acts.{ActsAs};
+
+use crate::bonds::{Answer, Bonds, giving_true, raising};
+use pf_fault::OrNoMemory;
+use pf_model::report::Label;
+use pf_terms::{AtomId, NoMemory, Term};
+use pf_ties::BadArgument;
+use std::alloc::Global;
+
+impl Bonds {
+    /// `register/2`.
+    pub(crate) fn register(
+        &mut self,
+        alloc: Global,
+        pid: u32,
+        name: Term,
+        other: Term,
+    ) -> Result<Answer, NoMemory>
+        ensures { IfOk result
+            (λ r. ActsAs pid (register (value_of name) (value_of other)) self.old r self.new) }
+    {
+        let Term::Atom(name) = name else {
+            return Ok(raising(AtomId::BADARG));
+        };
+        let Term::Pid(other) = other else {
+            return Ok(raising(AtomId::BADARG));
+        };
+        match self.ties.register(alloc, name, other) {
+            Ok(()) => Ok(giving_true(Label::Registers { name, pid: other })),
+            Err(OrNoMemory::Fault(BadArgument)) => Ok(raising(AtomId::BADARG)),
+            Err(OrNoMemory::NoMemory) => Err(NoMemory),
+        }
+    }
+
+    /// `unregister/1`.
+    pub(crate) fn unregister(&mut self, pid: u32, name: Term) -> Answer
+        ensures { ActsAs pid (unregister (value_of name)) self.old result self.new }
+    {
+        let Term::Atom(name) = name else {
+            return raising(AtomId::BADARG);
+        };
+        match self.ties.unregister(name) {
+            Ok(()) => giving_true(Label::Unregisters(name)),
+            Err(BadArgument) => raising(AtomId::BADARG),
+        }
+    }
+
+    /// `whereis/1`.
+    pub(crate) fn whereis(&mut self, pid: u32, name: Term) -> Answer
+        ensures { ActsAs pid (whereis (value_of name)) self.old result self.new }
+    {
+        let Term::Atom(name) = name else {
+            return raising(AtomId::BADARG);
+        };
+        let value = match self.ties.whereis(name) {
+            Some(other) => Term::Pid(other),
+            None => Term::Atom(AtomId::UNDEFINED),
+        };
+        Answer {
+            value: Ok(value),
+            label: Label::LooksUp(name),
+        }
+    }
+}

@@ -1,0 +1,123 @@
+//! The slot of one process: what it does, and its messages.
+
+ghost use Rattle.std.specs.Prelude.{◌≡◌, ◌<◌, true, IfOk, OnOk};
+ghost use Rattle.pf_terms.specs.Term.{value_of};
+ghost use Rattle.pf_model.specs.Place.{running, waiting};
+ghost use Rattle.pf_model.specs.Runs.{can_go, is_waiting};
+ghost use Rattle.pf_stepper.specs.MachineView.{asking, goes};
+ghost use Rattle.pf_stepper.specs.Turns.{CanMove, RanSo, told_of};
+ghost use Rattle.pf_mailbox.specs.Tests.{IsAheadOf};
+ghost use Rattle.pf_system.specs.Bodies.{body, with_one};
+ghost use Rattle.pf_system.specs.Slots.{AnswersIn, LifeAsks, LifeIsReady, PutsIn, RanInSlot, SlotIsLeft};
+ghost use Rattle.pf_system.specs.Slots.{SlotIsSound, slot_body, state_of};
+
+use pf_mailbox::{Mailbox, Opened};
+use pf_nodes::Pool;
+use pf_stepper::{Machine, Move};
+use pf_terms::{NoMemory, Term, copy};
+use std::alloc::Global;
+use std::mem;
+
+/// A process has a machine, which may wait for a message; or it never had one and is about to end with a reason; or it has
+/// ended, with the value that it returned or with a reason.
+#[derive(Drop)]
+pub(crate) enum Life {
+    Lives { machine: Machine, waits: bool },
+    Ends(Term),
+    Ended(Result<Term, Term>),
+}
+
+/// What one process does, and its messages.
+#[derive(Drop)]
+pub(crate) struct Slot {
+    pub(crate) life: Life,
+    pub(crate) mailbox: Mailbox,
+}
+
+/// All steps of a machine over its mailbox, as `Machine::run` has them.
+fn run_machine(
+    alloc: Global,
+    machine: &mut Machine,
+    mailbox: &mut Mailbox,
+    pool: &mut Pool<Term>,
+    left: u32,
+) -> Result<(Move, u32), NoMemory>
+    requires stands { CanMove machine.old.standing }
+    requires ready { IsAheadOf machine.old mailbox.old }
+    ensures ran { IfOk result (λ r. RanSo left machine.old mailbox.old.messages
+        r.0 machine.new r.1 mailbox.new.messages) }
+    ensures ready { IsAheadOf machine.new mailbox.new }
+{
+    let mut opened = Opened {
+        mailbox: mem::replace(mailbox, Mailbox::new(alloc)),
+        pool: mem::replace(pool, Pool::new(alloc)),
+    };
+    let ran = machine.run(alloc, &mut opened, left);
+    let Opened {
+        mailbox: messages,
+        pool: nodes,
+    } = opened;
+    *mailbox = messages;
+    *pool = nodes;
+    ran
+}
+
+impl Slot {
+    /// All steps of the process up to and with its next action, message, wait or end, but no more than `left`; and how many they
+    /// were.
+    pub(crate) fn run(
+        &mut self,
+        alloc: Global,
+        pool: &mut Pool<Term>,
+        left: u32,
+    ) -> Result<(Move, u32), NoMemory>
+        requires ready { LifeIsReady self.old.life self.old.mailbox }
+        requires can { can_go (state_of self.old.life) ≡ true }
+        requires left { 0 < left }
+        ensures { IfOk result (λ r. (m : _) (own : _) → SlotIsSound m own self.old
+            → RanInSlot m own left self.old r.0 r.1 self.new) }
+    {
+        match &mut self.life {
+            Life::Lives { machine, waits: _ } => {
+                run_machine(alloc, machine, &mut self.mailbox, pool, left)
+            }
+            Life::Ends(reason) => Ok((Move::End(Err(copy(reason)?)), 1)),
+            Life::Ended(_) => unreachable!(),
+        }
+    }
+
+    /// The answer to the action that the process asked for.
+    pub(crate) fn answer(&mut self, answer: Result<Term, Term>)
+        requires { LifeAsks self.old.life }
+        ensures { (m : _) (own : _) (fs : _) → SlotIsLeft m own (asking fs) self.old
+            → AnswersIn m own fs (told_of answer) self.old self.new }
+    {
+        if let Life::Lives { machine, waits: _ } = &mut self.life {
+            machine.answer(answer);
+        }
+    }
+
+    /// The process waits at a `receive`.
+    pub(crate) fn wait(&mut self)
+        ensures { (m : _) (own : _) (t : _) → SlotIsLeft m own (goes (running t)) self.old
+            → PutsIn m own (body (waiting t) self.old.mailbox.messages) self.new }
+    {
+        if let Life::Lives { machine: _, waits } = &mut self.life {
+            *waits = true;
+        }
+    }
+
+    /// A message comes, and the process goes on where it waited; it tells whether it did.
+    pub(crate) fn place(&mut self, pool: &mut Pool<Term>, message: Term) -> Result<bool, NoMemory>
+        ensures woken { IfOk result (λ w. (m : _) (own : _) → SlotIsSound m own self.old
+            → w ≡ is_waiting (state_of self.old.life)) }
+        ensures placed { OnOk result ((m : _) (own : _) → SlotIsSound m own self.old
+            → PutsIn m own (with_one (value_of message) (slot_body self.old)) self.new) }
+    {
+        self.mailbox.deliver(pool, message)?;
+        if let Life::Lives { machine: _, waits } = &mut self.life {
+            return Ok(mem::replace(waits, false));
+        }
+        Ok(false)
+    }
+}

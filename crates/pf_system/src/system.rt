@@ -1,0 +1,176 @@
+//! The system of processes of one run.
+
+ghost use Rattle.std.specs.Prelude.{◌≡◌, ◌<◌, ◌≤◌, Some, None, IfOk, IsErr, OnErr};
+ghost use Rattle.pf_model.specs.Code.{code_of};
+ghost use Rattle.pf_model.specs.Meaning.{outcome_of as outcome_where};
+ghost use Rattle.pf_model.specs.Reports.{label_of, outcome_of};
+ghost use Rattle.pf_model.specs.Runs.{process, channel, enabled, start};
+ghost use Rattle.pf_system.specs.View.{system_view};
+ghost use Rattle.pf_system.specs.Steps.{MayGo, PassesTo, noted};
+
+use crate::bonds::Bonds;
+use crate::enabled::Enabled;
+use crate::slot::Life;
+use crate::world::World;
+use pf_channels::Channels;
+use pf_model::report::{Label, Outcome};
+use pf_nodes::Pool;
+use pf_stepper::Machine;
+use pf_syntax::{FunctionId, Module};
+use pf_terms::{NoMemory, Term};
+use pf_ties::{Numbers, Ties};
+use smallvec::SmallVec;
+use std::alloc::Global;
+use std::marker::Model;
+use std::mem;
+use std::sync::Arc;
+
+/// The processes of one run and the signals between them. Once memory ran out each turn and each delivery answers so; of the world
+/// nothing is said then, but the code stays known.
+#[derive(Drop)]
+pub struct System {
+    module: Arc<Module>,
+    world: World,
+    steps: u32,
+    spent: bool,
+}
+
+impl Model for System {
+    ghost use Rattle.pf_system.specs.View.{SystemView};
+    ghost use Rattle.pf_system.specs.Codes.{coded_system_view};
+
+    ghost Value = { SystemView };
+
+    ghost coded = { coded_system_view };
+
+    ghost use Rattle.pf_system.specs.Steps.{IsKept, system_view_of};
+
+    ghost view = { system_view_of };
+
+    ghost invariant = { IsKept };
+}
+
+impl System {
+    /// One process, at the call of a function without arguments, and nothing on its way.
+    pub fn new(alloc: Global, module: &Arc<Module>, root: FunctionId) -> Result<System, NoMemory>
+        ensures { IfOk result (λ s.
+            s ≡ system_view (code_of «module».now.value) 0 (Some (start root.0))) }
+    {
+        let shared = Arc::try_clone(module)?;
+        let machine = Machine::new(alloc, 0, shared, root, SmallVec::new(alloc))?;
+        let mut world = World {
+            module: Arc::try_clone(module)?,
+            slots: Vec::new(alloc),
+            bonds: Bonds {
+                ties: Ties::new(alloc),
+                channels: Channels::new(alloc),
+            },
+            ready: Numbers::new(alloc),
+            pool: Pool::new(alloc),
+        };
+        world.open(
+            alloc,
+            None,
+            Life::Lives {
+                machine,
+                waits: false,
+            },
+        )?;
+        Ok(System {
+            module: Arc::try_clone(module)?,
+            world,
+            steps: 0,
+            spent: false,
+        })
+    }
+
+    /// The steps that were used.
+    pub fn steps(&self) -> u32
+        ensures { result ≡ self.now.steps }
+    {
+        self.steps
+    }
+
+    /// Who may go. Nothing is searched for it, and it takes no memory.
+    pub fn enabled(&self) -> Enabled<'_>
+        ensures { (c : _) → self.now.standing ≡ Some c → noted result ≡ enabled c }
+    {
+        Enabled {
+            ready: &self.world.ready,
+            channels: &self.world.bonds.channels,
+        }
+    }
+
+    /// How a run comes out that stops here: at its limit where anybody may go, and else by what the root came to.
+    pub fn outcome(&self, alloc: Global) -> Result<Outcome, NoMemory>
+        ensures outcome { IfOk result (λ o.
+            (c : _) → self.now.standing ≡ Some c → outcome_of o ≡ outcome_where c) }
+        ensures refused { self.now.standing ≡ None → IsErr result }
+    {
+        if self.spent {
+            return Err(NoMemory);
+        }
+        if self.enabled().len() > 0 {
+            return Ok(Outcome::Limit);
+        }
+        self.world.outcome(alloc)
+    }
+
+    /// The turn of a process that may go: all its steps up to and with its next action, message, wait or end, but no more than
+    /// `left`; what it shows, and how many they were.
+    pub fn turn(&mut self, alloc: Global, pid: u32, left: u32) -> Result<(Label, u32), NoMemory>
+        requires enabled { MayGo (process pid) self.old.standing }
+        requires left { 0 < left }
+        ensures passed { IfOk result (λ r.
+            PassesTo left self.old (process pid) (label_of r.0) r.1 self.new) }
+        ensures spent { OnErr result (self.new ≡ system_view self.old.code self.old.steps None) }
+        ensures refused { self.old.standing ≡ None → IsErr result }
+    {
+        if self.spent {
+            return Err(NoMemory);
+        }
+        self.spent = true;
+        let (label, used) = self.world.turn(alloc, pid, left)?;
+        let Some(steps) = self.steps.checked_add(used) else {
+            return Err(NoMemory);
+        };
+        self.steps = steps;
+        self.spent = false;
+        Ok((label, used))
+    }
+
+    /// The delivery of the oldest signal from one process to another, which is a step, and what it shows.
+    pub fn deliver(&mut self, alloc: Global, from: u32, to: u32) -> Result<Label, NoMemory>
+        requires enabled { MayGo (channel from to) self.old.standing }
+        ensures passed { IfOk result (λ l.
+            PassesTo 1 self.old (channel from to) (label_of l) 1 self.new) }
+        ensures spent { OnErr result (self.new ≡ system_view self.old.code self.old.steps None) }
+        ensures refused { self.old.standing ≡ None → IsErr result }
+    {
+        if self.spent {
+            return Err(NoMemory);
+        }
+        self.spent = true;
+        let label = self.world.deliver(alloc, from, to)?;
+        let Some(steps) = self.steps.checked_add(1) else {
+            return Err(NoMemory);
+        };
+        self.steps = steps;
+        self.spent = false;
+        Ok(label)
+    }
+
+    /// Takes spare nodes for its mailboxes, in place of those that it had.
+    pub fn put_pool(&mut self, pool: Pool<Term>)
+        ensures { self.new ≡ self.old }
+    {
+        self.world.pool = pool;
+    }
+
+    /// Gives its spare nodes away.
+    pub fn take_pool(&mut self, alloc: Global) -> Pool<Term>
+        ensures { self.new ≡ self.old }
+    {
+        mem::replace(&mut self.world.pool, Pool::new(alloc))
+    }
+}

@@ -1,0 +1,20 @@
+//! All processes of a run, and what is between them.
+
+use crate::bonds::Bonds;
+use crate::slot::Slot;
+use pf_nodes::Pool;
+use pf_syntax::Module;
+use pf_terms::Term;
+use pf_ties::Numbers;
+use std::sync::Arc;
+
+/// The code, the slot of each process by its pid, ties and signals, the processes that can go by rising pid, and the spare nodes of
+/// all mailboxes.
+#[derive(Drop)]
+pub(crate) struct World {
+    pub(crate) module: Arc<Module>,
+    pub(crate) slots: Vec<Slot>,
+    pub(crate) bonds: Bonds,
+    pub(crate) ready: Numbers,
+    pub(crate) pool: Pool<Term>,
+}
