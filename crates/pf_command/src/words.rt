@@ -131,7 +131,7 @@ fn run_command<'a>(alloc: Global) -> Result<Command<'a>, AllocError>
     ensures app { IfOk result (λ c. app_of c ≡ run_app) }
     ensures local { IfOk result (λ c. (out-Command c).has_globals ≡ false) }
 {
-    let about = "Runs a module of one process and reports each of its turns";
+    let about = "Runs a module by a schedule and reports each turn and delivery";
     let run = bare(alloc, "run", about)
         .arg(file(alloc, SOURCE_HELP))?
         .arg(root(alloc))?
