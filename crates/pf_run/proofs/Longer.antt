@@ -1,11 +1,11 @@
 -- A run that goes on by one transition more.
-use Rattle.std.proofs.Common.{◌≡◌, ℕ, zero, suc, ◌+◌, ◌-◌, ◌≤◌, ◌%◌, List, [], ◌∷◌, ◌++◌, length, Some, refl, sym, ap, ◌∙◌, subst, arith}
+use Rattle.std.proofs.Common.{◌≡◌, ℕ, zero, suc, ◌+◌, ◌-◌, ◌≤◌, ◌%◌, List, [], ◌∷◌, ◌++◌, length, Some, subst, arith}
 use Rattle.std.specs.Prelude.{slice_get}
 use Rattle.pf_model.specs.Code.{Code}
 use Rattle.pf_model.specs.Place.{State}
 use Rattle.pf_model.specs.Configuration.{Configuration, Core}
 use Rattle.pf_model.specs.Deliveries.{Deed}
-use Rattle.pf_model.specs.Turns.{Turn, cut_running, cut_ending, end, contraction, act}
+use Rattle.pf_model.specs.Turns.{Turn, end, contraction, act}
 use Rattle.pf_model.specs.Runs.{Actor, Passed, Passes, turn, delivery, Transition, transition, Words, later, Goes, stays, more, enabled}
 
 -- a turn with a step left takes one at least

@@ -1,5 +1,5 @@
 -- A run by words, transition by transition, and its report.
-use Rattle.std.proofs.Common.{◌≡◌, ℕ, zero, suc, ◌+◌, ◌-◌, ◌<◌, ◌≤◌, ◌%◌, List, [], ◌∷◌, ◌++◌, length, map, Option, Some, None, Bool, true, false, refl, sym, ap, ◌∙◌, subst, arith, inl, inr}
+use Rattle.std.proofs.Common.{◌≡◌, ℕ, zero, suc, ◌+◌, ◌-◌, ◌<◌, ◌≤◌, ◌%◌, List, [], ◌∷◌, ◌++◌, length, map, Option, Some, None, Bool, refl, sym, ap, ◌∙◌, subst, arith, inl, inr}
 use Rattle.std.specs.Prelude.{slice_get}
 use Rattle.std.proofs.lemmas.Nat.{mod_below}
 use Rattle.rand_pcg.specs.Pcg.{pcg32}
@@ -19,8 +19,8 @@ use Rattle.pf_model.specs.Runs.{Actor, channel, enabled, Goes, stays, Passed, Pa
 use Rattle.pf_model.specs.declared.report.Event.{Event}
 use Rattle.pf_model.specs.declared.report.Report.{Report}
 use Rattle.pf_system.specs.Steps.{IsAmong, MayGo, PassesTo}
-use Rattle.pf_system.specs.View.{SystemView, system_view}
-use Rattle.pf_run.specs.Traces.{Begins, Going, Traced, Went}
+use Rattle.pf_system.specs.View.{SystemView}
+use Rattle.pf_run.specs.Traces.{Going, Traced, Went}
 use Rattle.pf_run.proofs.Longer.{goes_on, passes_takes}
 
 same_some : {X : Type 0} (x y : X) → Some x ≡ Some y → x ≡ y

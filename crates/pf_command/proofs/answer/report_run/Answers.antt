@@ -12,4 +12,5 @@ returns c = λ bytes reads.
     let report = report_of c.in_ok-report.report in
     let text : c.put_report.new.out.items ≡ report_text (name_of m.atoms) report =
     rw c.deref.ensures at (rw c.atoms.ensures at (rw c.new-text.ensures.items at c.in_ok-put_report.ensures)) in
-    row_reported (request c.args.words.now) m bytes c.put_report.new.out.items c.args.root.0 report _ reads c.requires.root c.requires.within c.in_ok-report.ensures text c.run_status-status.ensures
+    let means = rw c.as_slice.ensures.value at c.in_ok-report.ensures in
+    row_reported (request c.args.words.now) m bytes c.put_report.new.out.items c.args.root.0 report _ reads c.requires.root c.requires.within means text c.run_status-status.ensures

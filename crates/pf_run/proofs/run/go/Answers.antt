@@ -1,7 +1,7 @@
-use Rattle.std.proofs.Common.{◌≡◌, ◌<◌, ap, sym, ◌∙◌, subst, length, arith}
+use Rattle.std.proofs.Common.{◌<◌, subst, arith}
 use Rattle.pf_model.specs.Reports.{actor_of}
-use Rattle.pf_system.specs.Steps.{MayGo, noted}
-use Rattle.pf_run.proofs.Traces.{chosen_below, may_go, next, at_first}
+use Rattle.pf_system.specs.Steps.{noted}
+use Rattle.pf_run.proofs.Traces.{chosen_below, may_go}
 use Rattle.pf_run.proofs.run.go.Goals as goal
 
 pub actor-actor-requires : goal.actor-actor-requires

@@ -1,4 +1,4 @@
-use Rattle.std.proofs.Common.{◌≡◌, Some, refl, sym, ap, ◌∙◌, subst}
+use Rattle.std.proofs.Common.{◌≡◌, ap, subst}
 use Rattle.pf_model.specs.Code.{code_of}
 use Rattle.pf_model.specs.Runs.{start}
 use Rattle.pf_model.specs.declared.report.Report.{Report}
@@ -22,7 +22,7 @@ returns c =
     let m = code_of c.args.module.now.value in
     let d = start c.args.root.0 in
     let s = c.trace.new.system in
-    let copied : c.extend_from_slice.new.numbers.items ≡ c.args.words.now = rw c.new-numbers.ensures.items at c.in_ok-extend_from_slice.ensures.items in
+    let copied : c.extend_from_slice.new.self.items ≡ c.args.words.now = rw c.new-numbers.ensures.items at c.in_ok-extend_from_slice.ensures.items in
     let begun = subst (λ n. IsAt pcg32 (schedule_word n) 0 c.schedule-choices.result) copied c.schedule-choices.ensures in
     let traced = c.in_ok-events.ensures d (schedule_word c.args.words.now) (ap (λ s. s.standing) c.in_ok-system.ensures) begun in
     let t = subst (λ k. Traced k (schedule_word c.args.words.now) c.args.limit d c.in_ok-events.events.items s) (ap (λ s. s.code) c.in_ok-system.ensures) traced in

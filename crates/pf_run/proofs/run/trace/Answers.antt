@@ -1,4 +1,4 @@
-use Rattle.std.proofs.Common.{◌≡◌, ◌-◌, ◌<◌, ◌≤◌, None, Some, refl, sym, ap, ◌∙◌, subst, arith}
+use Rattle.std.proofs.Common.{◌≡◌, ◌-◌, ◌<◌, ◌≤◌, refl, ap, subst, arith}
 use Rattle.rand_pcg.specs.Pcg.{pcg32}
 use Rattle.pf_choice.specs.Choices.{words_ahead}
 use Rattle.pf_run.specs.Traces.{MayHaveGone, Went}

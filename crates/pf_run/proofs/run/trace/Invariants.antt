@@ -1,4 +1,4 @@
-use Rattle.std.proofs.Common.{◌≡◌, ℕ, ◌-◌, Some}
+use Rattle.std.proofs.Common.{◌≡◌, ◌-◌, Some}
 use Rattle.rand_pcg.specs.Pcg.{pcg32}
 use Rattle.pf_choice.specs.Choices.{IsAt}
 use Rattle.pf_model.specs.Configuration.{Configuration}
