@@ -298,10 +298,16 @@ deepest_of_each_form() {
   deepest 'case 1 of 1 -> ' 255 1 ' end' '' '' 41
   deepest 'case ' 255 1 ' of 1 -> 1 end' '' '' 41
   deepest 'if true -> ' 255 1 ' end' '' '' 41
+  deepest 'receive 1 -> ' 255 1 ' end' '' '' 41
+  deepest '1 ! ' 255 1 '' '' '' 41
+  deepest '(' 127 1 ') ! 1' '' '' 41
+  deepest 'exit(1, ' 255 1 ')' '' '' 41
   deepest '{' 254 1 '}' 'case 1 of ' ' -> 1 end' 41
   deepest '[' 254 1 ']' 'case 1 of ' ' -> 1 end' 41
   deepest '[1|' 254 1 ']' 'case 1 of ' ' -> 1 end' 41
   deepest '(' 254 true ')' 'if ' ' -> 1 end' 41
+  deepest '{' 254 1 '}' 'receive ' ' -> 1 end' 41
+  deepest '(' 254 true ')' 'receive 1 when ' ' -> 1 end' 41
 }
 
 # Memory goes by the longest command, and no byte past 67,108,864 leaves the input.

@@ -32,6 +32,13 @@ repeated() { awk -v text="$1" -v count="$2" 'BEGIN { for (i = 0; i < count; i++)
 # Puts a module into `$room/in` whose `main` has this body, which begins at byte 41. More functions may follow the dot.
 main_is() { printf -- '-module(m).\n-export([main/0]).\nmain() -> %s.\n' "$1" > "$room/in"; }
 
+# Puts a module into `$room/in` that exports $1 and has the functions from $2 on.
+module_is() {
+  printf -- '-module(m).\n-export([%s]).\n' "$1" > "$room/in"
+  shift
+  printf '%s\n' "$@" >> "$room/in"
+}
+
 # Pads `$room/in` with blanks, up to so many bytes.
 pad_to() {
   size=$(wc -c < "$room/in")
@@ -109,6 +116,19 @@ runs_of_deep_expressions() {
   run_within '255 matches' 0 1000
 }
 
+# 255 sends to oneself within one another, whose messages 255 receives within one another take.
+deep_sends_and_receives() {
+  main_is "S = self(), $(repeated 'S ! ' 255)1, $(repeated 'receive 1 -> ' 255)1$(repeated ' end' 255)"
+  {
+    echo '0/1 <0> send <0> 1'
+    repeated '0/2 <0> send <0> 1\n' 254
+    echo '0/2 <0> wait'
+    repeated '0/1 <0>-><0> deliver message\n0/2 <0> receive 1\n0/2 <0> wait\n' 254
+    printf '%s\n' '0/1 <0>-><0> deliver message' '0/1 <0> receive 1' '0/1 <0> end normal' 'finished 1' 'steps 1026' 'property holds'
+  } > "$room/wanted"
+  run_within '255 sends and receives' 0 2000
+}
+
 limits_of_steps() {
   main_is 'main()'
   cut_after 1
@@ -163,6 +183,106 @@ f(N) -> case N of 0 -> 0; _ -> 1 + f(N - 1) end'
   run_within '20,000 calls that wait' 0 100000
 }
 
+# Says in `$room/wanted` that the root began 255 processes, then the events from $4 on, then that each process waits; $1 is the
+# outcome, $2 the steps and $3 the verdict.
+began_255() {
+  outcome=$1 steps=$2 verdict=$3
+  shift 3
+  {
+    awk 'BEGIN { for (n = 1; n <= 255; n++) printf "0/%d <0> spawn <%d>\n", n, n }'
+    printf '%s\n' "$@"
+    awk 'BEGIN { for (n = 1; n <= 255; n++) printf "0/%d <%d> wait\n", 256 - n, n }'
+    printf '%s\n' "$outcome" "steps $steps" "property $verdict"
+  } > "$room/wanted"
+}
+
+# The first process that is begun takes 3 steps, each other one 4, what follows 4 or 5, and each wait 2.
+processes_that_wait() {
+  all='all(0) -> full; all(N) -> spawn(m, kid, []), all(N - 1).'
+  kid='kid() -> receive never -> ok end.'
+  module_is 'main/0, kid/0' 'main() -> all(255).' "$all" "$kid"
+  began_255 'finished full' 1533 holds '0/256 <0> end normal'
+  run_within '256 processes' 0 100000
+  module_is 'main/0, kid/0' 'main() -> all(256).' "$all" "$kid"
+  began_255 'ended {system_limit,[]}' 1534 fails '0/256 <0> raise system_limit' '0/256 <0> end {system_limit,[]}'
+  run_within '257 processes' 1 100000
+}
+
+# Processes that ended are counted too. Each takes 12 steps up to the root's `receive`, and what follows the last one 6.
+processes_that_ended() {
+  module_is 'main/0, kid/1' 'main() -> all(256).' 'all(N) -> spawn(m, kid, [self()]), receive done -> all(N - 1) end.' 'kid(P) -> P ! done.'
+  {
+    awk 'BEGIN {
+      for (n = 1; n <= 255; n++) {
+        printf "0/1 <0> spawn <%d>\n0/2 <0> wait\n0/1 <%d> send <0> done\n0/2 <%d> end normal\n", n, n, n
+        printf "0/1 <%d>-><0> deliver message\n0/1 <0> receive done\n", n
+      }
+    }'
+    printf '%s\n' '0/1 <0> raise system_limit' '0/1 <0> end {system_limit,[]}' 'ended {system_limit,[]}' 'steps 3066' 'property fails'
+  } > "$room/wanted"
+  run_within '257 processes one after another' 1 100000
+}
+
+# What a list of so many letters `a` prints as.
+codes() { printf '[97%s]' "$(repeated ,97 $(($1 - 1)))"; }
+
+# A list of 4,095 integers has 4,096 nodes, the most that a value may have.
+sizes_of_messages() {
+  letters=$(repeated a 4095)
+  main_is "self() ! \"$letters\", receive L -> length(L) end"
+  printf '%s\n' "0/1 <0> send <0> $(codes 4095)" '0/2 <0> wait' '0/1 <0>-><0> deliver message' "0/1 <0> receive $(codes 4095)" \
+    '0/1 <0> end normal' 'finished 4095' 'steps 9' 'property holds' > "$room/wanted"
+  run_within 'message of 4,096 nodes' 0 1000
+  main_is "self() ! [97 | \"$letters\"], receive L -> length(L) end"
+  printf '%s\n' '0/1 <0> end {system_limit,[]}' 'ended {system_limit,[]}' 'steps 4' 'property fails' > "$room/wanted"
+  run_within 'message of 4,097 nodes' 1 1000
+}
+
+# A linked process ends with the reason $2, which prints as $3 and takes $4 steps to build: who traps exits gets $5 in its place.
+exit_reason() {
+  module_is 'main/0, kid/0' 'main() -> process_flag(trap_exit, true), spawn_link(m, kid, []), receive {_, _, _} -> ok end.' "kid() -> exit($2)."
+  printf '%s\n' '0/1 <0> process_flag true' '0/1 <0> spawn_link <1>' '0/2 <0> wait' "0/1 <1> end $3" '0/1 <1>-><0> deliver exit message' \
+    "0/1 <0> receive {'EXIT',<1>,$5}" '0/1 <0> end normal' 'finished ok' "steps $((12 + $4))" 'property holds' > "$room/wanted"
+  run_within "$1" 0 1000
+}
+
+# The same of a process that is watched, for a reason that takes no step.
+down_reason() {
+  module_is 'main/0, kid/0' 'main() -> monitor(process, spawn(m, kid, [])), receive {_, _, _, _, _} -> ok end.' "kid() -> exit($2)."
+  printf '%s\n' '0/1 <0> spawn <1>' '0/2 <0> monitor #Ref<0> <1>' '0/3 <0> wait' '1/2 <0>-><1> deliver monitor' "0/1 <1> end $3" \
+    '0/1 <1>-><0> deliver down' "0/1 <0> receive {'DOWN',#Ref<0>,process,<1>,$4}" '0/1 <0> end normal' 'finished ok' 'steps 12' \
+    'property holds' > "$room/wanted"
+  expect "$1" 0 run --root main --limit 1000 --schedule 0,0,0,1
+}
+
+# So many tuples, each the element of the one around it, around 1.
+tuples() { printf '%s1%s' "$(repeated '{' "$1")" "$(repeated '}' "$1")"; }
+
+# A message about an end adds 3 or 5 nodes to the reason, and 1 to its depth.
+sizes_of_reasons() {
+  exit_reason 'reason of 4,093 nodes at a link' "\"$(repeated a 4092)\"" "$(codes 4092)" 0 "$(codes 4092)"
+  exit_reason 'reason of 4,094 nodes at a link' "\"$(repeated a 4093)\"" "$(codes 4093)" 0 system_limit
+  exit_reason 'reason 63 deep at a link' "$(tuples 62)" "$(tuples 62)" 62 "$(tuples 62)"
+  exit_reason 'reason 64 deep at a link' "$(tuples 63)" "$(tuples 63)" 63 system_limit
+  down_reason 'reason of 4,091 nodes at a monitor' "\"$(repeated a 4090)\"" "$(codes 4090)" "$(codes 4090)"
+  down_reason 'reason of 4,092 nodes at a monitor' "\"$(repeated a 4091)\"" "$(codes 4091)" system_limit
+}
+
+# 1,000 messages to oneself, the last of which is taken first: at each delivery but the last none fits.
+long_mailboxes() {
+  module_is 'main/0' 'main() -> flood(1000).' 'flood(0) -> drain(1); flood(N) -> self() ! N, flood(N - 1).' \
+    'drain(1000) -> receive 1000 -> done end; drain(N) -> receive N -> drain(N + 1) end.'
+  awk 'BEGIN {
+    for (n = 1000; n >= 1; n--) printf "0/%d <0> send <0> %d\n", (n == 1000 ? 1 : 2), n
+    print "0/2 <0> wait"
+    for (n = 1000; n > 1; n--) print "0/1 <0>-><0> deliver message\n0/2 <0> wait"
+    print "0/1 <0>-><0> deliver message"
+    for (n = 1; n <= 1000; n++) printf "0/1 <0> receive %d\n", n
+    print "0/1 <0> end normal\nfinished done\nsteps 10002\nproperty holds"
+  }' > "$room/wanted"
+  run_within '1,000 messages from the last on' 0 100000
+}
+
 # Projects that submit, order, run, fetch and ask for their usage in turns, so many rounds of all of them: each is told what it is told alone.
 projects_in_turns() {
   awk -v rounds="$1" -v room="$room" 'BEGIN {
@@ -197,9 +317,15 @@ lengths_of_sources
 lengths_of_atoms
 depths_of_expressions
 runs_of_deep_expressions
+deep_sends_and_receives
 limits_of_steps
 schedules
 sizes_of_modules
+processes_that_wait
+processes_that_ended
+sizes_of_messages
+sizes_of_reasons
+long_mailboxes
 projects_in_turns 1
 projects_in_turns 100
 tell_counts

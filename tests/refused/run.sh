@@ -1,8 +1,10 @@
 #!/bin/sh
 # Refuses each growth of three built programs in turn, until a run meets no refusal: of `pf_refused`, of `pf_refused_mailbox`, and
-# of `pulsefarm run` on its stored run. Each run has to end with the whole text and status 0, or with `NoMemory` alone on a line and status 2; a growth that
-# is refused before `main` has begun may end the program with a message on standard error and status 1 or 2. Anything else, a
-# signal or a hang fails. Each run of the program itself, refused or not, has to give back each block that it asked for.
+# of `pulsefarm run` on its stored run and on rows with several processes: three that race by messages, three with links, monitors
+# and names, and one that is killed though it traps exits. Each run has to end with the whole text and its status, or with `NoMemory`
+# alone on a line and status 2; a growth that is refused before `main` has begun may end the program with a message on standard error
+# and status 1 or 2. Anything else, a signal or a hang fails. Each run of the program itself, refused or not, has to give back each
+# block that it asked for.
 #
 # It does the same with `pulsefarm steps`, whose runs may go on after a refused growth and say so in a line.
 #
@@ -25,6 +27,7 @@ built() {
   crate="$top/crates/$1"
   program="$crate/out/$1"
   whole="$crate/stdout"
+  wanted=0
   if [ -e "$crate/args" ]; then tr '\n' ' ' < "$crate/args" > "$room/words"; else : > "$room/words"; fi
   if [ -e "$crate/stdin" ]; then cp "$crate/stdin" "$room/in"; else : > "$room/in"; fi
   words=$(cat "$room/words")
@@ -52,7 +55,7 @@ gave_all_back() {
 
 # Whether the run ended as it may.
 ended_well() {
-  { [ "$status" = 0 ] && cmp -s "$room/out" "$whole"; } \
+  { [ "$status" = "$wanted" ] && cmp -s "$room/out" "$whole"; } \
     || { [ "$status" = 2 ] && [ "$(cat "$room/out")" = NoMemory ]; } \
     || { { [ "$status" = 1 ] || [ "$status" = 2 ]; } && [ ! -s "$room/out" ] && [ -s "$room/err" ]; }
 }
@@ -83,13 +86,28 @@ all_refused() {
     k=$((k + 1))
   done
   gave_all_back || failure "$1: with no growth refused: $(cat "$room/blocks")"
-  if [ "$status" != 0 ] || ! cmp -s "$room/out" "$whole"; then
+  if [ "$status" != "$wanted" ] || ! cmp -s "$room/out" "$whole"; then
     failure "$1: with no growth refused: status $status"
   fi
   if [ "$k" -lt 5 ]; then
     failure "$1: only $((k - 1)) growths were refused: the library does not reach the program"
   fi
   echo "$1: $((k - 1)) growths refused"
+}
+
+# Sets the words, the input, the whole text and the status to those of the row $1.
+some_row() {
+  row=$top/tests/rows/$1
+  tr '\n' ' ' < "$row/words" > "$room/words"
+  cp "$row/input" "$room/in"
+  whole=$row/output
+  wanted=$(cat "$row/status" 2> /dev/null || echo 0)
+}
+
+# Refuses each growth of the row $1 in turn; $2 tells whether a run ended as it may.
+row_refused() {
+  some_row "$1"
+  all_refused "$1" "$2"
 }
 
 # Sets the words and the input of `pulsefarm steps`, over the calls of two projects and a worker's work, and what it writes.
@@ -99,6 +117,7 @@ some_commands() {
   order='main returns none 100'
   printf "submit 1 52\n$source\nsubmit 2 52\n$source\norder 1 1 $order\norder 2 1 $order\nonce 1 1\nfetch 1 1\nfetch 2 1\nusage 2\n" > "$room/in"
   whole=$room/whole
+  wanted=0
   printf '%s\n' 'p1 module 1' 'p2 module 1' 'p1 ticket 1' 'p2 ticket 1' 'w0 done' 'p1 report 4' '0/1 <0> end normal' 'finished 7' \
     'steps 4' 'property holds' 'p2 refused B5' 'p2 usage 1 52 1 100 3' > "$whole"
 }
@@ -117,8 +136,12 @@ built pf_refused_mailbox
 all_refused pf_refused_mailbox ended_well
 built pulsefarm
 all_refused pulsefarm ended_well
+row_refused race_of_two_senders_right_first ended_well
+row_refused together_the_worker_ends_and_is_watched ended_well
+row_refused exits_kill_who_traps ended_well
 some_commands
 all_refused steps commands_ended_well
+row_refused steps_race_in_both_orders commands_ended_well
 
 printf '%s\n' '-module(m).' '-export([main/0]).' 'main() -> loop(50000).' 'loop(N) -> case N of 0 -> done; _ -> loop(N - 1) end.' > "$room/in"
 most_within 1000
