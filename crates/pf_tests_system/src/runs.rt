@@ -8,21 +8,29 @@ const RACE: &str = "-module(m).\n-export([main/0, server/0]).\n\
 main() -> spawn(m, server, []), server ! hello.\n\
 server() -> register(server, self()), receive hello -> ok end.\n";
 
+const TOO_EARLY: &str = "0/1 <0> spawn <1>\n0/2 <0> raise badarg\n0/2 <0> end {badarg,[]}\n\
+0/1 <1> register server <1>\n0/1 <1> wait\nended {badarg,[]}\nsteps 10\nproperty fails\n";
+
+const IN_TIME: &str = "0/1 <0> spawn <1>\n1/2 <1> register server <1>\n0/2 <0> send <1> hello\n\
+0/3 <0> end normal\n0/2 <1> wait\n0/1 <0>-><1> deliver message\n0/1 <1> receive hello\n\
+0/1 <1> end normal\nfinished hello\nsteps 13\nproperty holds\n";
+
+/// A root that waits for what nobody sends.
+const WAITING: &str = "-module(m).\n-export([main/0]).\nmain() -> receive X -> X end.\n";
+
+const WAITED: &str = "0/1 <0> wait\ndeadlock <0>\nsteps 2\nproperty fails\n";
+
 #[test]
 fn a_name_may_be_used_too_early(rt: HostRuntime) -> Result<(), Fail> {
     let text = printed(rt.alloc(), RACE, &[], 1000)?;
-    assert_eq!(rt; text.as_str(), "0/1 <0> spawn <1>\n0/2 <0> raise badarg\n\
-0/2 <0> end {badarg,[]}\n0/1 <1> register server <1>\n0/1 <1> wait\nended {badarg,[]}\nsteps 10\n\
-property fails\n");
+    assert_eq!(rt; text.as_str(), TOO_EARLY);
     Ok(())
 }
 
 #[test]
 fn a_name_may_be_there_in_time(rt: HostRuntime) -> Result<(), Fail> {
     let text = printed(rt.alloc(), RACE, &[4, 3], 1000)?;
-    assert_eq!(rt; text.as_str(), "0/1 <0> spawn <1>\n1/2 <1> register server <1>\n\
-0/2 <0> send <1> hello\n0/3 <0> end normal\n0/2 <1> wait\n0/1 <0>-><1> deliver message\n\
-0/1 <1> receive hello\n0/1 <1> end normal\nfinished hello\nsteps 13\nproperty holds\n");
+    assert_eq!(rt; text.as_str(), IN_TIME);
     Ok(())
 }
 
@@ -35,8 +43,7 @@ fn nobody_goes_within_no_steps(rt: HostRuntime) -> Result<(), Fail> {
 
 #[test]
 fn who_waits_for_nothing_is_in_a_deadlock(rt: HostRuntime) -> Result<(), Fail> {
-    let source = "-module(m).\n-export([main/0]).\nmain() -> receive X -> X end.\n";
-    let text = printed(rt.alloc(), source, &[], 1000)?;
-    assert_eq!(rt; text.as_str(), "0/1 <0> wait\ndeadlock <0>\nsteps 2\nproperty fails\n");
+    let text = printed(rt.alloc(), WAITING, &[], 1000)?;
+    assert_eq!(rt; text.as_str(), WAITED);
     Ok(())
 }

@@ -13,6 +13,9 @@ const TALKED: &str = "0/1 <0> spawn <1>\n0/2 <0> send <1> <0>\n1/3 <1> wait\n\
 1/2 <1>-><0> deliver message\n0/2 <0> receive done\n0/2 <0> end normal\n0/1 <1> end normal\n\
 finished done\nsteps 17\nno verdict\n";
 
+/// What is told behind its first turn.
+const STOPPED: &str = "0/1 <0> spawn <1>\nlimit\nsteps 2\nno verdict\n";
+
 /// Who goes in turn.
 const TALK_CHOICES: [usize; 11] = [0, 0, 1, 1, 0, 0, 0, 1, 0, 0, 0];
 
@@ -51,6 +54,6 @@ fn a_run_that_stops_early_is_at_its_limit(rt: HostRuntime) -> Result<(), Fail> {
     let mut run = Driven::started(alloc, TALK)?;
     run.go(alloc, 0)?;
     let text = run.printed(alloc)?;
-    assert_eq!(rt; text.as_str(), "0/1 <0> spawn <1>\nlimit\nsteps 2\nno verdict\n");
+    assert_eq!(rt; text.as_str(), STOPPED);
     Ok(())
 }
