@@ -1,12 +1,12 @@
 -- Who waits, and what the root came to.
-use Rattle.std.proofs.Common.{◌≡◌, ℕ, zero, suc, ◌+◌, ◌<◌, ◌≤◌, Bool, true, false, List, [], ◌∷◌, ◌++◌, if◌then◌else◌, refl, sym, ap, ◌∙◌, subst, arith, length, map, take, get_or}
+use Rattle.std.proofs.Common.{◌≡◌, ℕ, zero, suc, ◌+◌, ◌<◌, Bool, true, false, List, [], ◌∷◌, ◌++◌, if◌then◌else◌, refl, sym, ap, ◌∙◌, subst, arith, length, map, take, get_or}
 use Rattle.std.proofs.lemmas.List.{take_more, length-take-le}
 use Rattle.pf_model.specs.Place.{State}
 use Rattle.pf_model.specs.Code.{Code}
 use Rattle.pf_model.specs.Runs.{is_waiting, numbers_of}
-use Rattle.pf_system.specs.Bodies.{Body, bodies_of}
+use Rattle.pf_system.specs.Bodies.{Body}
 use Rattle.pf_system.specs.Slots.{slot_body, state_of, SlotIsSound, SlotsAreSound}
-use Rattle.pf_system.specs.Worlds.{bodies_in, core_of, Stands}
+use Rattle.pf_system.specs.Worlds.{core_of, Stands}
 use Rattle.pf_system.specs.declared.slot.Slot.{Slot}
 use Rattle.pf_system.specs.declared.world.World.{World}
 use Rattle.pf_system.proofs.Bodies.{map_length, map_more}

@@ -1,9 +1,8 @@
-use Rattle.std.proofs.Common.{◌≡◌, ◌<◌, ◌+◌, ◌^◌, ℕ, zero, length, map, take, get_or, Bool, true, false, List, [], ◌∷◌, ◌++◌, if◌then◌else◌, sym, ap, ◌∙◌, subst, arith}
+use Rattle.std.proofs.Common.{◌≡◌, ◌<◌, ◌+◌, zero, length, map, take, get_or, [], ◌∷◌, ◌++◌, if◌then◌else◌, sym, ap, ◌∙◌, arith}
 use Rattle.std.proofs.lemmas.List.{take_all}
 use Rattle.pf_model.specs.Runs.{is_waiting}
-use Rattle.pf_system.specs.Slots.{slot_body, state_of}
+use Rattle.pf_system.specs.Slots.{slot_body}
 use Rattle.pf_system.specs.Worlds.{code_in}
-use Rattle.pf_system.specs.declared.slot.Slot.{Slot}
 use Rattle.pf_system.proofs.Ready.{numbers_in}
 use Rattle.pf_system.proofs.Outcomes.{waiting_more, nothing_behind, numbers_of_world, sound_at}
 use Rattle.pf_system.proofs.world.World.waiting.Goals as goal
