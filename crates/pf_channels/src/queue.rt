@@ -1,6 +1,6 @@
 //! What is on its way in one channel.
 
-ghost use Rattle.std.specs.Prelude.{◌≡◌, [], ◌∷◌, Some, None, IfSome, IfNone, OnOk, OnErr};
+ghost use Rattle.std.specs.Prelude.{◌≡◌, [], ◌∷◌, Some, None, IfOk, IfSome, IfNone, OnOk, OnErr};
 ghost use Rattle.pf_model.specs.Channels.{with_last};
 ghost use Rattle.pf_model.specs.Signals.{signal_of};
 
@@ -11,9 +11,16 @@ use std::collections::VecDeque;
 use std::marker::Model;
 use std::mem;
 
-/// Signals, the oldest first: never none. One signal alone takes no memory of its own.
+/// Signals, the oldest first: never none. They stand in a block of their own, so that a queue moves as a pointer where others come and
+/// go beside it.
 #[derive(Drop)]
 pub(crate) struct Queue {
+    waiting: Box<Waiting>,
+}
+
+/// The oldest signal, and those behind it. One signal alone takes no further memory.
+#[derive(Drop)]
+struct Waiting {
     first: Signal,
     rest: VecDeque<Signal>,
 }
@@ -28,18 +35,21 @@ impl Model for Queue {
 
     ghost coded = { coded_queue };
 
-    ghost view = { λ q. record { first = signal_of q.first; rest = map signal_of q.rest.items } };
+    ghost view = { λ q. record { first = signal_of q.waiting.value.first; rest = map signal_of q.waiting.value.rest.items } };
 }
 
 impl Queue {
     /// The queue of one signal.
-    pub(crate) fn new(alloc: Global, signal: Signal) -> Queue
-        ensures { result ≡ with_last None (signal_of signal) }
+    pub(crate) fn new(alloc: Global, signal: Signal) -> Result<Queue, NoMemory>
+        ensures { IfOk result (λ q. q ≡ with_last None (signal_of signal)) }
     {
-        Queue {
+        let alone = Waiting {
             first: signal,
             rest: VecDeque::new(alloc),
-        }
+        };
+        Ok(Queue {
+            waiting: Box::new(alloc, alone)?,
+        })
     }
 
     /// Adds a signal as the youngest.
@@ -47,7 +57,7 @@ impl Queue {
         ensures pushed { OnOk result (self.new ≡ with_last (Some self.old) (signal_of signal)) }
         ensures refused { OnErr result (self.new ≡ self.old) }
     {
-        self.rest.push_back(signal)?;
+        self.waiting.rest.push_back(signal)?;
         Ok(())
     }
 
@@ -58,14 +68,15 @@ impl Queue {
         ensures only { IfNone result (self.old.rest ≡ []) }
         ensures stays { IfNone result (self.new ≡ self.old) }
     {
-        let next = self.rest.pop_front()?;
-        Some(mem::replace(&mut self.first, next))
+        let next = self.waiting.rest.pop_front()?;
+        Some(mem::replace(&mut self.waiting.first, next))
     }
 
     /// The oldest signal, without those after it.
     pub(crate) fn into_first(self) -> Signal
         ensures { signal_of result ≡ self.first }
     {
-        self.first
+        let Waiting { first, rest: _ } = Box::into_inner(self.waiting);
+        first
     }
 }

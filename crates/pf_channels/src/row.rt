@@ -69,7 +69,10 @@ impl Row {
     {
         match self.search(to) {
             Ok(at) => self.queues[at].1.push(signal),
-            Err(at) => Ok(self.queues.insert(at, (to, Queue::new(alloc, signal)))?),
+            Err(at) => {
+                let queue = Queue::new(alloc, signal)?;
+                Ok(self.queues.insert(at, (to, queue))?)
+            }
         }
     }
 

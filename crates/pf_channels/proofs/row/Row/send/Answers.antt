@@ -9,6 +9,9 @@ invariant_of-self c =
     (found c.args.to c.self.inside.queues.items c.args.self.now c.in-Ok.at c.index_mut.result.now c.self.invariant c.self.view_is c.in-Ok.ensures
     c.index_mut.ensures.value)
 
+pub returns-in_err-queue-in-Err-clause-bound : goal.returns-in_err-queue-in-Err-clause-bound
+returns-in_err-queue-in-Err-clause-bound c = rw (← c.self.view_is) (rises_short c.self.inside.queues.items c.self.invariant)
+
 pub returns-in_err-insert-in-Err-clause-bound : goal.returns-in_err-insert-in-Err-clause-bound
 returns-in_err-insert-in-Err-clause-bound c =
     rw c.in_err-insert-in-Err.ensures.items (rises_short c.self.inside.queues.items c.self.invariant)
@@ -36,7 +39,7 @@ returns-in-Ok-clause-bound c =
 pub returns-in_ok-insert-in-Err-clause-sent : goal.returns-in_ok-insert-in-Err-clause-sent
 returns-in_ok-insert-in-Err-clause-sent c =
     let g = rw (← c.self.view_is) at c.in-Err.ensures in
-    rw (c.in_ok-insert-in-Err.ensures.items, c.new.ensures, ← c.self.view_is)
+    rw (c.in_ok-insert-in-Err.ensures.items, c.in_ok-queue-in-Err.ensures, ← c.self.view_is)
     (sent_gap c.args.to c.self.inside.queues.items c.in-Err.at _ c.self.invariant g.1)
 
 pub returns-in_ok-insert-in-Err-clause-bound : goal.returns-in_ok-insert-in-Err-clause-bound
