@@ -78,7 +78,7 @@ module _ (n : Names) where
   -- ---- patterns
 
   mutual
-    written_pattern_formed : (q : WrittenPattern) (ts : List NumberedToken) → DerivesWrittenPattern n q ts → WrittenPatternFormed q
+    pub written_pattern_formed : (q : WrittenPattern) (ts : List NumberedToken) → DerivesWrittenPattern n q ts → WrittenPatternFormed q
     written_pattern_formed (s.integer z) ts h = tt
     written_pattern_formed (s.atom a) ts h = tt
     written_pattern_formed (s.variable x at) ts h = tt

@@ -8,3 +8,4 @@ pub mod WrittenExpressions_mean
 pub mod Bodies_mean
 pub mod Knows_more
 pub mod Heads_mean
+pub mod Patterns_alone

@@ -6,3 +6,4 @@ pub mod Built
 pub mod Bodies
 pub mod Knows
 pub mod Heads
+pub mod Alone

@@ -1,6 +1,7 @@
 //! The checked module of a module as it is written: places in place of names, and nodes by number.
 #![tactic(auto)]
 
+mod alone;
 mod bodies;
 mod build;
 mod expressions;
@@ -10,4 +11,5 @@ mod places;
 mod put;
 mod strings;
 
+pub use alone::pattern_alone;
 pub use build::module_of;

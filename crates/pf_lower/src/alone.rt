@@ -1,0 +1,27 @@
+//! A pattern that stands by itself, in no module.
+
+ghost use Rattle.std.specs.Prelude.{IfOk};
+ghost use Rattle.pf_syntax.specs.Source.{written_pattern_at};
+ghost use Rattle.pf_syntax.specs.Module.{pattern_at};
+ghost use Rattle.pf_lower.specs.Alone.{BecomesAlone};
+
+use crate::patterns::pattern;
+use crate::places::Places;
+use pf_syntax::{Module, PatternId, Source, WrittenPatternId};
+use pf_terms::NoMemory;
+use std::alloc::Global;
+
+/// Adds a pattern that stands by itself to a module. No variable is bound before it, and its atoms keep their numbers, whether or not
+/// the module names them.
+pub fn pattern_alone(
+    alloc: Global,
+    source: &Source,
+    module: &mut Module,
+    id: WrittenPatternId,
+) -> Result<PatternId, NoMemory>
+    ensures { IfOk result (λ p. BecomesAlone (written_pattern_at source.now.node_table id.0)
+        (pattern_at module.new.tables p.0)) }
+{
+    let mut places = Places::new(alloc);
+    pattern(alloc, source, &mut places, module, id)
+}

@@ -1,0 +1,3 @@
+pub mod Shown
+pub mod Patterns_read
+pub mod One
