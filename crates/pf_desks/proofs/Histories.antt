@@ -34,7 +34,7 @@ module _ (p : Profile) (d : Desk) where
 
   call_notes : (c : Call) → (answered p d c).0.history ≡ d.history
   call_notes (submit text) = submission_notes text (p.reading text)
-  call_notes (order n root property schedule limit) = order_notes (job_of (numbered d.modules n) root property schedule limit)
+  call_notes (order n root property cs limit) = order_notes (job_of p (numbered d.modules n) root property cs limit)
   call_notes (fetch t) = refl
   call_notes usage = refl
 

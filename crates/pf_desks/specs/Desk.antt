@@ -1,6 +1,5 @@
 -- Desks: what the farm holds for one project, and what a call of its clients or the work of a worker makes of it.
-use Rattle.std.specs.Prelude.{ℕ, zero, suc, ◌+◌, Bool, true, false, if◌then◌else◌, List, [], ◌∷◌, ◌++◌, length, map, Option, Some, None, option_and_then, Result, Ok, Err, slice_get, slice_set, codes}
-use Rattle.std.specs.Str.{bytes_eq}
+use Rattle.std.specs.Prelude.{ℕ, zero, suc, ◌+◌, Bool, true, false, if◌then◌else◌, List, [], ◌∷◌, ◌++◌, length, map, Option, Some, None, option_and_then, Result, Ok, Err, slice_get, slice_set}
 use Rattle.pf_fault.specs.declared.code.Code.{Code}
 use Rattle.pf_fault.specs.declared.code.Code.TheVariants as code
 use Rattle.pf_quota.specs.Usage.{usage_of}
@@ -10,8 +9,9 @@ use Rattle.pf_quota.specs.declared.charges.Held.TheVariants as held
 use Rattle.pf_syntax.specs.Root.{root_of}
 use Rattle.pf_model.specs.Code.{Code as Module}
 use Rattle.pf_model.specs.Meaning as model
-use Rattle.pf_model.specs.Meaning.{Report, returning}
+use Rattle.pf_model.specs.Meaning.{Report, Choices, seed, schedule}
 use Rattle.pf_model.specs.Limits.{is_in_range}
+use Rattle.pf_model.specs.Properties.{Property}
 
 -- ---- what a desk holds
 
@@ -20,16 +20,19 @@ pub record Stored : Type 0 where
   pub source : List ℕ
   pub code : Module
 
--- a run that was ordered: of a module from one of its functions, by a schedule, within so many steps
+-- a run that was ordered: of a module from one of its functions, by choices of a seed or of a schedule, within so many steps; it is
+-- asked whether a property holds
 pub record Job : Type 0 where
   pub stored : Stored
   pub root : ℕ
-  pub schedule : List ℕ
+  pub property : Property
+  pub choices : Choices
   pub limit : ℕ
 
--- it asks whether the root returns
+-- what it means: the run of its module's code; it is no shrinking
 abbrev pub job_meant : Job → model.Job
-job_meant j = returning j.stored.code j.root (model.schedule j.schedule) j.limit
+job_meant j =
+    record { code = j.stored.code; root = j.root; choices = j.choices; limit = j.limit; property = j.property; runs = zero }
 
 pub data State : Type 0 where
   queued : State
@@ -40,11 +43,11 @@ pub record Trial : Type 0 where
   pub job : Job
   pub state : State
 
--- what a client asks for: a module number for a source; a trial of a module from a root with a property, by a schedule and within
--- a limit; the report of a ticket; what the project uses
+-- what a client asks for: a module number for a source; a trial of a module from a root with a property, by choices and within a
+-- limit; the report of a ticket; what the project uses
 pub data Call : Type 0 where
   submit : List ℕ → Call
-  order : (n : ℕ) (root property schedule : List ℕ) (limit : ℕ) → Call
+  order : (n : ℕ) (root property : List ℕ) → Choices → (limit : ℕ) → Call
   fetch : ℕ → Call
   usage : Call
 
@@ -81,9 +84,11 @@ pub data Reading : Type 0 where
   readable : Module → Reading
   faulty : Code → Reading
 
--- the profile of the language, as far as desks ask for it
+-- the profile of the language, as far as desks ask for it: what a source is read as; the property that bytes are, where a run's atoms
+-- have these names; what a job means
 pub record Profile : Type 0 where
   pub reading : List ℕ → Reading
+  pub property : (atoms : List (List ℕ)) → List ℕ → Option Property
   pub meaning : Job → Report
 
 -- ---- calls
@@ -93,20 +98,27 @@ abbrev pub submitted : Desk → List ℕ → Reading → Desk × Reply
 submitted d text (readable m) = (record d { modules = d.modules ++ record { source = text; code = m } ∷ [] }, number (length d.modules + 1))
 submitted d text (faulty c) = (d, refused c)
 
--- the job of an order, or what it is refused for: first the root, then the property, then the range
-abbrev pub job_from : Stored → Option ℕ → (property schedule : List ℕ) → ℕ → Result Job Code
-job_from m None property schedule limit = Err code.NoRoot
-job_from m (Some root) property schedule limit =
-    if bytes_eq property (codes "returns")
-    then (if is_in_range limit (length schedule)
-    then Ok (record { stored = m; root = root; schedule = schedule; limit = limit })
-    else Err code.OutOfRange)
-    else Err code.NoProperty
+-- how many numbers are given with choices: those of a schedule
+abbrev pub count_of : Choices → ℕ
+count_of (seed n) = 0
+count_of (schedule ns) = length ns
 
--- the module comes before all of these
-abbrev pub job_of : Option Stored → (root property schedule : List ℕ) → ℕ → Result Job Code
-job_of None root property schedule limit = Err code.NoModule
-job_of (Some m) root property schedule limit = job_from m (root_of root m.code.atoms m.code.functions) property schedule limit
+-- ---- the job of an order, or the first of what it is refused for: its module, its root, its property, its range
+
+abbrev pub within_range : Job → Result Job Code
+within_range j = if is_in_range j.limit (count_of j.choices) then Ok j else Err code.OutOfRange
+
+abbrev pub job_asking : Stored → (root : ℕ) → Option Property → Choices → (limit : ℕ) → Result Job Code
+job_asking m i None cs limit = Err code.NoProperty
+job_asking m i (Some q) cs limit = within_range (record { stored = m; root = i; property = q; choices = cs; limit = limit })
+
+abbrev pub job_from : Profile → Stored → (root : Option ℕ) → (property : List ℕ) → Choices → (limit : ℕ) → Result Job Code
+job_from p m None property cs limit = Err code.NoRoot
+job_from p m (Some i) property cs limit = job_asking m i (p.property m.code.atoms property) cs limit
+
+abbrev pub job_of : Profile → Option Stored → (root property : List ℕ) → Choices → (limit : ℕ) → Result Job Code
+job_of p None root property cs limit = Err code.NoModule
+job_of p (Some m) root property cs limit = job_from p m (root_of root m.code.atoms m.code.functions) property cs limit
 
 -- the desk with a job as its newest trial, which is queued
 abbrev pub ordered : Desk → Result Job Code → Desk × Reply
@@ -134,7 +146,7 @@ calls_in (filed t ∷ es) = calls_in es
 -- a call's reply, and the desk before the call is noted
 abbrev pub answered : Profile → Desk → Call → Desk × Reply
 answered p d (submit text) = submitted d text (p.reading text)
-answered p d (order n root property schedule limit) = ordered d (job_of (numbered d.modules n) root property schedule limit)
+answered p d (order n root property cs limit) = ordered d (job_of p (numbered d.modules n) root property cs limit)
 answered p d (fetch t) = (d, fetched (numbered d.trials t))
 answered p d usage = (d, uses (usage_of (held_by d) (calls_in d.history)))
 

@@ -1,13 +1,16 @@
 -- How the logic stores desks.
-use Rattle.std.specs.Prelude.{◌≡◌, ◌⊎◌, ℕ, zero, suc, List, refl}
+use Rattle.std.specs.Prelude.{◌≡◌, ◌⊎◌, ℕ, zero, suc, ◌==◌, if◌then◌else◌, List, refl}
 use Rattle.std.proofs.Common.{inl, inr}
 use Rattle.std.specs.Coded.{Coded, code_by, coded×, coded⊎, coded_ℕ, coded_list}
 use Rattle.pf_fault.specs.declared.code.Code.{Code}
 use Rattle.pf_fault.specs.Codes.{rank_of, code_at, code_at-rank_of}
+use Rattle.pf_syntax.specs.Pattern.{Pattern}
+use Rattle.pf_syntax.specs.Code.{coded_pattern}
 use Rattle.pf_syntax.specs.Module.{coded_function}
 use Rattle.pf_quota.specs.declared.usage.Usage.{Usage}
 use Rattle.pf_model.specs.Code.{Code as Module}
-use Rattle.pf_model.specs.Meaning.{Report}
+use Rattle.pf_model.specs.Meaning.{Report, Choices, seed, schedule}
+use Rattle.pf_model.specs.Properties.{Property, returns, returns_true, no_crash, no_deadlock, within_limit, never}
 use Rattle.pf_desks.specs.ReportCode.{coded_report}
 use Rattle.pf_desks.specs.Desk.{Stored, Job, State, queued, running, done, Trial, Call, submit, order, fetch, usage, Reply, number, ticket, report, uses, refused, Entry, called, claimed, filed, Desk}
 
@@ -24,10 +27,56 @@ coded_module =
 abbrev pub coded_stored : Coded Stored
 coded_stored = code_by _ (coded× (coded_list coded_ℕ) coded_module) (λ m. (m.source, m.code)) (λ p. record { source = p.0; code = p.1 }) (λ _. refl)
 
+abbrev pub parts_of_choices : Choices → ℕ ⊎ List ℕ
+parts_of_choices (seed n) = inl n
+parts_of_choices (schedule ns) = inr ns
+
+abbrev pub choices_from : ℕ ⊎ List ℕ → Choices
+choices_from (inl n) = seed n
+choices_from (inr ns) = schedule ns
+
+pub choices_from-parts_of : (cs : Choices) → choices_from (parts_of_choices cs) ≡ cs
+choices_from-parts_of (seed n) = refl
+choices_from-parts_of (schedule ns) = refl
+
+abbrev pub coded_choices : Coded Choices
+coded_choices = code_by _ (coded⊎ coded_ℕ (coded_list coded_ℕ)) parts_of_choices choices_from choices_from-parts_of
+
+abbrev pub parts_of_property : Property → ℕ ⊎ Pattern
+parts_of_property returns = inl 0
+parts_of_property returns_true = inl 1
+parts_of_property no_crash = inl 2
+parts_of_property no_deadlock = inl 3
+parts_of_property within_limit = inl 4
+parts_of_property (never q) = inr q
+
+abbrev pub plain_property : ℕ → Property
+plain_property n =
+    if n == 0 then returns
+    else (if n == 1 then returns_true
+    else (if n == 2 then no_crash
+    else (if n == 3 then no_deadlock else within_limit)))
+
+abbrev pub property_from : ℕ ⊎ Pattern → Property
+property_from (inl n) = plain_property n
+property_from (inr q) = never q
+
+pub property_from-parts_of : (q : Property) → property_from (parts_of_property q) ≡ q
+property_from-parts_of returns = refl
+property_from-parts_of returns_true = refl
+property_from-parts_of no_crash = refl
+property_from-parts_of no_deadlock = refl
+property_from-parts_of within_limit = refl
+property_from-parts_of (never q) = refl
+
+abbrev pub coded_property : Coded Property
+coded_property = code_by _ (coded⊎ coded_ℕ coded_pattern) parts_of_property property_from property_from-parts_of
+
 abbrev pub coded_job : Coded Job
 coded_job =
-    code_by _ (coded× (coded× coded_stored coded_ℕ) (coded× (coded_list coded_ℕ) coded_ℕ))
-    (λ j. ((j.stored, j.root), (j.schedule, j.limit))) (λ p. record { stored = p.0.0; root = p.0.1; schedule = p.1.0; limit = p.1.1 }) (λ _. refl)
+    code_by _ (coded× (coded× coded_stored coded_ℕ) (coded× coded_property (coded× coded_choices coded_ℕ)))
+    (λ j. ((j.stored, j.root), (j.property, (j.choices, j.limit))))
+    (λ p. record { stored = p.0.0; root = p.0.1; property = p.1.0; choices = p.1.1.0; limit = p.1.1.1 }) (λ _. refl)
 
 abbrev pub parts_of_state : State → ℕ ⊎ Report
 parts_of_state queued = inl 0
@@ -53,14 +102,14 @@ coded_trial = code_by _ (coded× coded_job coded_state) (λ t. (t.job, t.state))
 -- ---- calls and replies
 
 abbrev pub Ordered : Type 0
-Ordered = (ℕ × List ℕ) × (List ℕ × (List ℕ × ℕ))
+Ordered = (ℕ × List ℕ) × (List ℕ × (Choices × ℕ))
 
 abbrev pub coded_ordered : Coded Ordered
-coded_ordered = coded× (coded× coded_ℕ (coded_list coded_ℕ)) (coded× (coded_list coded_ℕ) (coded× (coded_list coded_ℕ) coded_ℕ))
+coded_ordered = coded× (coded× coded_ℕ (coded_list coded_ℕ)) (coded× (coded_list coded_ℕ) (coded× coded_choices coded_ℕ))
 
 abbrev pub parts_of_call : Call → List ℕ ⊎ (Ordered ⊎ (ℕ ⊎ ℕ))
 parts_of_call (submit text) = inl text
-parts_of_call (order n root property schedule l) = inr (inl ((n, root), (property, (schedule, l))))
+parts_of_call (order n root property cs l) = inr (inl ((n, root), (property, (cs, l))))
 parts_of_call (fetch t) = inr (inr (inl t))
 parts_of_call usage = inr (inr (inr 0))
 
@@ -72,7 +121,7 @@ call_from (inr (inr (inr n))) = usage
 
 pub call_from-parts_of : (c : Call) → call_from (parts_of_call c) ≡ c
 call_from-parts_of (submit text) = refl
-call_from-parts_of (order n root property schedule l) = refl
+call_from-parts_of (order n root property cs l) = refl
 call_from-parts_of (fetch t) = refl
 call_from-parts_of usage = refl
 

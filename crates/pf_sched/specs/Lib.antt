@@ -1,0 +1,5 @@
+pub mod Views
+pub mod Asked
+pub mod Traces
+pub mod Parts
+pub mod Slices

@@ -1,0 +1,111 @@
+//! Runs that may be asked for.
+
+ghost use Rattle.std.specs.Prelude.{◌≡◌, Ok, MatchResult};
+ghost use Rattle.pf_fault.specs.declared.code.Code.TheVariants as code;
+ghost use Rattle.pf_model.specs.Code.{code_of as code_in};
+ghost use Rattle.pf_property.specs.Texts.{ReadsProperty};
+ghost use Rattle.pf_property.specs.Views.{property_of};
+ghost use Rattle.pf_sched.specs.Asked.{Asks, IsKept, IsRefusal, NoSuch};
+ghost use Rattle.pf_sched.specs.Views.{choices_of};
+
+use crate::choices::JobChoices;
+use crate::refusal::JobRefusal;
+use pf_fault::OrNoMemory;
+use pf_model::limits::is_in_range;
+use pf_property::Property;
+use pf_store::Stored;
+use pf_syntax::{FunctionId, Module};
+use pf_terms::AtomTable;
+use std::alloc::Global;
+use std::marker::Model;
+use std::sync::Arc;
+
+/// A run that may be asked for: of a module from one of its exported functions without arguments, whether a property holds, by choices and
+/// within a limit of steps. The module is what its source is read as; the limit and the schedule are within their bounds.
+#[derive(Drop)]
+pub struct Job {
+    stored: Stored,
+    pub(crate) root: FunctionId,
+    pub(crate) property: Property,
+    pub(crate) choices: JobChoices,
+    limit: u32,
+}
+
+impl Model for Job {
+    ghost use Rattle.pf_desks.specs.Desk as desk;
+    ghost use Rattle.pf_desks.specs.DeskCode.{coded_job};
+    ghost use Rattle.pf_sched.specs.Asked.{IsKept};
+    ghost use Rattle.pf_sched.specs.Parts.{job_in};
+
+    ghost Value = { desk.Job };
+
+    ghost coded = { coded_job };
+
+    ghost view = { job_in };
+
+    ghost invariant = { λ j. IsKept (job_in j) };
+}
+
+/// The property of these bytes; what is no property is refused so.
+fn read_property(
+    alloc: Global,
+    bytes: &[u8],
+    atoms: &AtomTable,
+) -> Result<Property, OrNoMemory<JobRefusal>>
+    ensures { MatchResult result
+        (λ q. ReadsProperty atoms.now bytes.now (property_of q))
+        (NoSuch atoms.now bytes.now) }
+{
+    match Property::read(alloc, bytes, atoms) {
+        Ok(property) => Ok(property),
+        Err(OrNoMemory::NoMemory) => Err(OrNoMemory::NoMemory),
+        Err(OrNoMemory::Fault(_)) => Err(OrNoMemory::Fault(JobRefusal::NoProperty)),
+    }
+}
+
+impl Job {
+    /// The job of a run of a module from the function of this name, or the first of its refusals: of the root, of the property, of the limit and
+    /// the schedule.
+    pub fn new(
+        alloc: Global,
+        stored: Stored,
+        root: &[u8],
+        property: &[u8],
+        choices: JobChoices,
+        limit: u32,
+    ) -> Result<Job, OrNoMemory<JobRefusal>>
+        ensures { MatchResult result
+            (λ job. Asks stored root.now property.now (choices_of choices) limit (Ok job))
+            (IsRefusal (Asks stored root.now property.now (choices_of choices) limit)) }
+    {
+        let Some(root) = stored.module().root(root) else {
+            return Err(OrNoMemory::Fault(JobRefusal::NoRoot));
+        };
+        let property = read_property(alloc, property, stored.module().atoms())?;
+        if !is_in_range(limit, choices.count()) {
+            return Err(OrNoMemory::Fault(JobRefusal::OutOfRange));
+        }
+        Ok(Job {
+            stored,
+            root,
+            property,
+            choices,
+            limit,
+        })
+    }
+
+    /// The module that runs.
+    pub fn module(&self) -> &Arc<Module>
+        ensures { code_in result.now.value ≡ self.now.stored.code }
+    {
+        self.stored.module()
+    }
+
+    /// The most steps of the run, from 1 to 100,000.
+    pub fn limit(&self) -> u32
+        ensures limit { result ≡ self.now.limit }
+        ensures kept { IsKept self.now }
+    {
+        self.limit
+    }
+}

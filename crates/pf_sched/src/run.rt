@@ -1,0 +1,138 @@
+//! A run as far as it came, transition by transition.
+
+ghost use Rattle.std.specs.Prelude.{◌≡◌, ◌<◌, ◌-◌, IfOk, Some, length, MatchBool};
+ghost use Rattle.rand_pcg.specs.Pcg.{pcg32};
+ghost use Rattle.pf_model.specs.Configuration.{Configuration};
+ghost use Rattle.pf_model.specs.Meaning.{Means};
+ghost use Rattle.pf_model.specs.Reports.{actor_of, label_of, report_of};
+ghost use Rattle.pf_model.specs.Runs.{Stops};
+ghost use Rattle.pf_system.specs.Steps.{MayGo, PassesTo};
+ghost use Rattle.pf_desks.specs.Desk as desk;
+ghost use Rattle.pf_desks.specs.Desk.{job_meant};
+ghost use Rattle.pf_sched.specs.Parts.{IsRunOf};
+ghost use Rattle.pf_sched.specs.Slices.{Advances, IsOver};
+ghost use Rattle.pf_sched.specs.Traces.{MayHaveGone};
+
+use crate::job::Job;
+use pf_choice::Choices;
+use pf_model::report::{Actor, Event, Label, Report};
+use pf_system::System;
+use pf_terms::NoMemory;
+use std::alloc::Global;
+
+/// A run as far as it came: its processes and signals, its next choices, and its events so far.
+#[derive(Drop)]
+pub(crate) struct Run {
+    pub system: System,
+    pub choices: Choices,
+    pub events: Vec<Event>,
+}
+
+/// What an actor does that may go, within the steps that are left: what it shows, and how many steps it used.
+fn pass(
+    alloc: Global,
+    system: &mut System,
+    actor: Actor,
+    left: u32,
+) -> Result<(Label, u32), NoMemory>
+    requires enabled { MayGo (actor_of actor) system.old.standing }
+    requires left { 0 < left }
+    ensures { IfOk result (λ r.
+        PassesTo left system.old (actor_of actor) (label_of r.0) r.1 system.new) }
+{
+    match actor {
+        Actor::Process(pid) => system.turn(alloc, pid, left),
+        Actor::Channel { from, to } => Ok((system.deliver(alloc, from, to)?, 1)),
+    }
+}
+
+/// The transition of the actor that the next word chooses, within the steps that are left; none where nobody may go.
+fn go(
+    alloc: Global,
+    system: &mut System,
+    choices: &mut Choices,
+    left: u32,
+) -> Result<Option<Event>, NoMemory>
+    requires { 0 < left }
+    ensures { IfOk result (λ o. (c : Configuration) → system.old.standing ≡ Some c
+        → MayHaveGone left c system.old choices.old o system.new choices.new) }
+{
+    let enabled = system.enabled();
+    let among = enabled.len();
+    if among == 0 {
+        return Ok(None);
+    }
+    let index = choices.next(among);
+    let actor = enabled.actor(index);
+    let (label, _) = pass(alloc, system, actor, left)?;
+    let Ok(choice) = u32::try_from(index) else {
+        return Err(NoMemory);
+    };
+    let Ok(count) = u32::try_from(among) else {
+        return Err(NoMemory);
+    };
+    Ok(Some(Event {
+        choice,
+        count,
+        actor,
+        label,
+    }))
+}
+
+/// Whether a run is over where its system stands: nobody may go, or no step is left.
+fn is_over(system: &System, limit: u32) -> bool
+    ensures { (c : Configuration) → system.now.standing ≡ Some c
+        → MatchBool result (Stops (limit - system.now.steps) c) (Stops (limit - system.now.steps) c → ⊥) }
+{
+    system.steps() >= limit || system.enabled().len() == 0
+}
+
+impl Run {
+    /// The run of a job, before its first event.
+    pub fn new(alloc: Global, job: &Job) -> Result<Run, NoMemory>
+        ensures run { IfOk result (λ r. IsRunOf job.now r) }
+        ensures first { IfOk result (λ r. length r.events.items ≡ 0) }
+    {
+        Ok(Run {
+            system: System::new(alloc, job.module(), job.root)?,
+            choices: job.choices.open(alloc)?,
+            events: Vec::new(alloc),
+        })
+    }
+
+    /// Goes on by so many events, or fewer where the run is over before; whether it is over then.
+    pub fn advance(&mut self, alloc: Global, limit: u32, turns: u32) -> Result<bool, NoMemory>
+        ensures { IfOk result (λ over. (j : desk.Job) → j.limit ≡ limit → IsRunOf j self.old
+            → IsRunOf j self.new
+            × Advances (length self.old.events.items) (length self.new.events.items) turns over
+            (IsOver limit self.new)) }
+    {
+        for _ in 0..turns {
+            if self.system.steps() >= limit {
+                return Ok(true);
+            }
+            let left = limit - self.system.steps();
+            match go(alloc, &mut self.system, &mut self.choices, left)? {
+                None => return Ok(true),
+                Some(event) => self.events.push(event)?,
+            }
+        }
+        Ok(is_over(&self.system, limit))
+    }
+
+    /// The report of a run that is over.
+    pub fn report(self, alloc: Global, job: &Job) -> Result<Report, NoMemory>
+        ensures { IfOk result (λ r. IsRunOf job.now self → IsOver job.now.limit self
+            → Means (job_meant job.now) (report_of r) × (length r.events.items ≡ length self.events.items)) }
+    {
+        let outcome = self.system.outcome(alloc)?;
+        let steps = self.system.steps();
+        let verdict = job.property.verdict(self.events.as_slice(), &outcome);
+        Ok(Report {
+            events: self.events,
+            outcome,
+            steps,
+            verdict,
+        })
+    }
+}
