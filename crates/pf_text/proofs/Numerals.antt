@@ -1,11 +1,11 @@
 -- Numbers in texts.
 use Rattle.std.proofs.Common.{◌≡◌, ℕ, zero, suc, ◌<◌, ◌≤◌, ◌^◌, List, [], ◌∷◌, ◌++◌, length, get_or, Some, None, Option, refl, ap, arith}
 use Rattle.std.proofs.lemmas.Bool.{le-ltb}
-use Rattle.pf_text.specs.Numbers.{small, number_of, numbers_of, with_number}
+use Rattle.pf_text.specs.Numbers.{long, number_of, numbers_of, with_number}
 
 -- a value above the limit is no number
-pub small_none : (value : ℕ) → 2 ^ 32 ≤ value → small value ≡ None
-small_none value le = rw (le-ltb value (2 ^ 32) le) refl
+pub long_none : (value : ℕ) → 2 ^ 64 ≤ value → long value ≡ None
+long_none value le = rw (le-ltb value (2 ^ 64) le) refl
 
 -- numbers that one text begins
 more_of : (o : Option ℕ) (before after : Option (List ℕ)) (n : ℕ) (ns : List ℕ) → with_number o before ≡ Some ns → ((ms : List ℕ) → before ≡ Some ms → after ≡ Some (ms ++ n ∷ [])) → with_number o after ≡ Some (ns ++ n ∷ [])

@@ -15,9 +15,17 @@ is_numeral (d ∷ e ∷ ds) = not (d == 48) && list_all is_digit (d ∷ e ∷ ds
 abbrev pub small : ℕ → Option ℕ
 small value = if nat_lt value (2 ^ 32) then Some value else None
 
+-- a value below 18,446,744,073,709,551,616
+abbrev pub long : ℕ → Option ℕ
+long value = if nat_lt value (2 ^ 64) then Some value else None
+
 -- a number is below 4,294,967,296
 abbrev pub number_of : List ℕ → Option ℕ
 number_of text = if is_numeral text then small (decimal text) else None
+
+-- a long number is below 18,446,744,073,709,551,616
+abbrev pub long_number_of : List ℕ → Option ℕ
+long_number_of text = if is_numeral text then long (decimal text) else None
 
 abbrev pub with_number : Option ℕ → Option (List ℕ) → Option (List ℕ)
 with_number (Some n) (Some ns) = Some (n ∷ ns)

@@ -9,7 +9,7 @@ mod terms;
 mod text;
 
 pub use names::is_plain_name;
-pub use numbers::{is_numeral, number_of, schedule_of};
+pub use numbers::{is_numeral, long_number_of, number_of, schedule_of};
 pub use report::put_report;
 pub use terms::put_term;
 pub use text::{put, put_byte, put_number};

@@ -4,7 +4,7 @@ ghost use Rattle.std.specs.Prelude.{◌≡◌, ◌==◌, IfOk, option_map, true}
 ghost use Rattle.std.specs.List.{list_all, slice_split};
 ghost use Rattle.pf_tokens.specs.Bytes.{is_digit};
 ghost use Rattle.pf_tokens.specs.TokenKinds.{decimal};
-ghost use Rattle.pf_text.specs.Numbers.{is_numeral, number_of, numbers_of, schedule_of, small};
+ghost use Rattle.pf_text.specs.Numbers.{is_numeral, long, long_number_of, number_of, numbers_of, schedule_of};
 
 use pf_tokens::is_digit;
 use std::alloc::{AllocError, Global};
@@ -26,15 +26,15 @@ pub fn is_numeral(text: &[u8]) -> bool
     }
 }
 
-/// The value of the digits, where it is below 4,294,967,296.
-fn value_of(digits: &[u8]) -> Option<u32>
+/// The value of the digits, where it is below 18,446,744,073,709,551,616.
+fn value_of(digits: &[u8]) -> Option<u64>
     requires { list_all is_digit digits.now ≡ true }
-    ensures { result ≡ small (decimal digits.now) }
+    ensures { result ≡ long (decimal digits.now) }
 {
-    let mut value: u32 = 0;
+    let mut value: u64 = 0;
     for digit in digits {
-        let digit = u32::from(*digit - b'0');
-        if value > (u32::MAX - digit) / 10 {
+        let digit = u64::from(*digit - b'0');
+        if value > (u64::MAX - digit) / 10 {
             return None;
         }
         value = 10 * value + digit;
@@ -42,14 +42,22 @@ fn value_of(digits: &[u8]) -> Option<u32>
     Some(value)
 }
 
-/// The number that a text is, from 0 to 4,294,967,295, without a sign or a zero before other digits.
-pub fn number_of(text: &[u8]) -> Option<u32>
-    ensures { result ≡ number_of text.now }
+/// The number that a text is, from 0 to 18,446,744,073,709,551,615, without a sign or a zero before other digits.
+pub fn long_number_of(text: &[u8]) -> Option<u64>
+    ensures { result ≡ long_number_of text.now }
 {
     if !is_numeral(text) {
         return None;
     }
     value_of(text)
+}
+
+/// The number that a text is, from 0 to 4,294,967,295, without a sign or a zero before other digits.
+pub fn number_of(text: &[u8]) -> Option<u32>
+    ensures { result ≡ number_of text.now }
+{
+    let number = long_number_of(text)?;
+    u32::try_from(number).ok()
 }
 
 /// The numbers of a text with commas between them, where each piece is one.

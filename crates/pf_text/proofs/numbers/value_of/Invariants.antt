@@ -6,5 +6,5 @@ use Rattle.pf_text.proofs.numbers.value_of.Given as goal
 abbrev pub invariant-loop-digit : goal.invariant-loop-digit
 invariant-loop-digit l = record {
   so_far : l.value ≡ decimal (take l.digit-index l.digits);
-  in_range : l.value < 2 ^ 32;
+  in_range : l.value < 2 ^ 64;
 }
