@@ -74,7 +74,7 @@ module _ (n : Names) where
       by_bound false e = (new, w.fresh g x at (new_by_tests at (is_unsafe g x) (has g.bound x) h e))
 
   mutual
-    some_written_pattern : (g : Scope) (q : WrittenPattern) → written_pattern_faults g q ≡ [] → (y : Pattern) × WrittenPatternIs n g q y
+    pub some_written_pattern : (g : Scope) (q : WrittenPattern) → written_pattern_faults g q ≡ [] → (y : Pattern) × WrittenPatternIs n g q y
     some_written_pattern g (s.integer z) h = (known (int z), w.integer g z)
     some_written_pattern g (s.atom a) h = (known (atom_value (n.atom_of a)), w.atom g a)
     some_written_pattern g (s.text cs) h = (known (string cs), w.text g cs)

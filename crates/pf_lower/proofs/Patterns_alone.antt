@@ -6,10 +6,12 @@ use Rattle.pf_terms.specs.Value.{atom as atom_value}
 use Rattle.pf_syntax.specs.Pattern.{Pattern, Patterns, known}
 use Rattle.pf_syntax.specs.WrittenPattern as s
 use Rattle.pf_syntax.specs.WrittenPattern.{WrittenPattern, WrittenPatterns, no_written_patterns, written_pattern}
-use Rattle.pf_syntax.specs.Scope.{Scope, has, is_new, binding, after_written_pattern, after_written_patterns}
+use Rattle.pf_syntax.specs.Scope.{Scope, no_scope, has, is_new, binding, after_written_pattern, after_written_patterns}
 use Rattle.pf_syntax.specs.Naming as w
 use Rattle.pf_syntax.specs.Naming.{Names, WrittenPatternIs, WrittenPatternsAre}
 use Rattle.pf_rules.specs.Static.{fault_if, written_pattern_faults, written_patterns_faults}
+use Rattle.pf_lower.specs.Alone.{only_atoms}
+use Rattle.pf_lower.proofs.Exists.{some_written_pattern}
 
 -- ---- no variable becomes unsafe
 
@@ -50,6 +52,11 @@ mutual
   none_faults g no_written_patterns e = refl
   none_faults g (written_pattern q qs) e =
       ap₂ (λ fs gs. fs ++ gs) (no_faults g q e) (none_faults (after_written_pattern g q) qs (unsafe_after g q ∙ e))
+
+-- ---- so each becomes something
+
+pub some_alone : (q : WrittenPattern) → (y : Pattern) × WrittenPatternIs only_atoms no_scope q y
+some_alone q = some_written_pattern only_atoms no_scope q (no_faults no_scope q refl)
 
 -- ---- names whose atoms stand for the same
 

@@ -1,3 +1,4 @@
 pub mod Shown
 pub mod Patterns_read
 pub mod One
+pub mod AnyProperty

@@ -1,5 +1,5 @@
 -- The texts of properties: which property the bytes are, where a table names the atoms of a run.
-use Rattle.std.specs.Prelude.{◌≡◌, ℕ, List, ◌++◌, codes}
+use Rattle.std.specs.Prelude.{◌≡◌, ℕ, List, ◌++◌, Option, Some, None, codes}
 use Rattle.pf_fault.specs.declared.code.Code.{Code}
 use Rattle.pf_fault.specs.declared.code.Code.TheVariants.{NoProperty}
 use Rattle.pf_fault.specs.declared.fault.OrNoMemory.{OrNoMemory}
@@ -32,6 +32,11 @@ ReadsProperty names bytes no_deadlock = bytes ≡ codes "nodeadlock"
 ReadsProperty names bytes within_limit = bytes ≡ codes "withinlimit"
 ReadsProperty names bytes (never p) = (text : List ℕ) × (bytes ≡ codes "never:" ++ text) × ReadsPattern names text p
 
+-- the bytes are this property, or none
+abbrev pub IsPropertyOf : List (List ℕ) → List ℕ → Option Property → Type 0
+IsPropertyOf names bytes (Some p) = ReadsProperty names bytes p
+IsPropertyOf names bytes None = (p : Property) → ReadsProperty names bytes p → ⊥
+
 -- ---- refusals: out of memory says nothing of the bytes, and a fault is that there is no such property
 
 -- the text has no tokens
@@ -47,4 +52,4 @@ IsNoPatternText names text (Fault c) = (c ≡ NoProperty) × ((p : Pattern) → 
 -- the bytes are no property
 abbrev pub IsNoPropertyText : List (List ℕ) → List ℕ → OrNoMemory Code → Type 0
 IsNoPropertyText names bytes NoMemory = Unit {0}
-IsNoPropertyText names bytes (Fault c) = (c ≡ NoProperty) × ((p : Property) → ReadsProperty names bytes p → ⊥)
+IsNoPropertyText names bytes (Fault c) = (c ≡ NoProperty) × IsPropertyOf names bytes None

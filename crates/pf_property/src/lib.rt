@@ -6,6 +6,6 @@ mod lone_pattern;
 mod property;
 mod verdict;
 
-pub use laws::one_property;
+pub use laws::{one_property, some_property};
 pub use lone_pattern::LonePattern;
 pub use property::Property;

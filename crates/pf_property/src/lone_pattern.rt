@@ -23,7 +23,7 @@ use std::marker::Model;
 /// so fits nothing that the run sends.
 #[derive(Drop)]
 pub struct LonePattern {
-    module: Module,
+    module: Box<Module>,
     pattern: PatternId,
 }
 
@@ -36,7 +36,7 @@ impl Model for LonePattern {
 
     ghost coded = { coded_pattern };
 
-    ghost view = { λ a. pattern_at a.module.tables a.pattern.0 };
+    ghost view = { λ a. pattern_at a.module.value.tables a.pattern.0 };
 }
 
 /// The tokens of a text. Each of their faults is that there is no such property.
@@ -58,6 +58,7 @@ fn lowered(alloc: Global, read: &ReadPattern) -> Result<LonePattern, NoMemory>
     let mut module = Module::new(alloc, AtomId::TRUE, AtomTable::new(alloc)?);
     let pattern = pattern_alone(alloc, &read.source, &mut module, read.pattern)?;
     module.shrink_to_fit();
+    let module = Box::new(alloc, module)?;
     Ok(LonePattern { module, pattern })
 }
 
