@@ -3,8 +3,8 @@ use Rattle.rand_pcg.specs.Pcg.{pcg32}
 use Rattle.pf_choice.specs.Choices.{IsAt}
 use Rattle.pf_model.specs.Configuration.{Configuration}
 use Rattle.pf_model.specs.Runs.{Words}
-use Rattle.pf_run.specs.Traces.{Going}
-use Rattle.pf_run.proofs.run.trace.Given as goal
+use Rattle.pf_sched.specs.Traces.{Going}
+use Rattle.pf_sched.proofs.run.Run.advance.Given as goal
 
 -- the run as far as it came
 abbrev pub invariant-loop-alloc : goal.invariant-loop-alloc

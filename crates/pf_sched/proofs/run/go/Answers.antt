@@ -1,8 +1,8 @@
 use Rattle.std.proofs.Common.{◌<◌, subst, arith}
 use Rattle.pf_model.specs.Reports.{actor_of}
 use Rattle.pf_system.specs.Steps.{noted}
-use Rattle.pf_run.proofs.Traces.{chosen_below, may_go}
-use Rattle.pf_run.proofs.run.go.Goals as goal
+use Rattle.pf_sched.proofs.Traces.{chosen_below, may_go}
+use Rattle.pf_sched.proofs.run.go.Goals as goal
 
 pub actor-actor-requires : goal.actor-actor-requires
 actor-actor-requires c =

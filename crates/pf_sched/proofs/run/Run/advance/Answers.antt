@@ -1,9 +1,9 @@
 use Rattle.std.proofs.Common.{◌≡◌, ◌-◌, ◌<◌, ◌≤◌, refl, ap, subst, arith}
 use Rattle.rand_pcg.specs.Pcg.{pcg32}
 use Rattle.pf_choice.specs.Choices.{words_ahead}
-use Rattle.pf_run.specs.Traces.{MayHaveGone, Went}
-use Rattle.pf_run.proofs.Traces.{at_first, begins, next, stops, stops_at_limit, uses}
-use Rattle.pf_run.proofs.run.trace.Goals as goal
+use Rattle.pf_sched.specs.Traces.{MayHaveGone, Went}
+use Rattle.pf_sched.proofs.Traces.{at_first, begins, next, stops, stops_at_limit, uses}
+use Rattle.pf_sched.proofs.run.Run.advance.Goals as goal
 
 pub loop-alloc-init : goal.loop-alloc-init
 loop-alloc-init c d ws e at =

@@ -20,8 +20,8 @@ use Rattle.pf_model.specs.declared.report.Event.{Event}
 use Rattle.pf_model.specs.declared.report.Report.{Report}
 use Rattle.pf_system.specs.Steps.{IsAmong, MayGo, PassesTo}
 use Rattle.pf_system.specs.View.{SystemView}
-use Rattle.pf_run.specs.Traces.{Going, Traced, Went}
-use Rattle.pf_run.proofs.Longer.{goes_on, passes_takes}
+use Rattle.pf_sched.specs.Traces.{Going, Traced, Went}
+use Rattle.pf_sched.proofs.Longer.{goes_on, passes_takes}
 
 same_some : {X : Type 0} (x y : X) → Some x ≡ Some y → x ≡ y
 same_some x y e = cc

@@ -1,5 +1,5 @@
-use Rattle.pf_run.proofs.Traces.{delivers_within}
-use Rattle.pf_run.proofs.run.pass.Goals as goal
+use Rattle.pf_sched.proofs.Traces.{delivers_within}
+use Rattle.pf_sched.proofs.run.pass.Goals as goal
 
 pub returns-in_ok-deliver-in-Channel : goal.returns-in_ok-deliver-in-Channel
 returns-in_ok-deliver-in-Channel c =
