@@ -56,7 +56,7 @@ map_last : {A B : Type 0} (f : A → B) (xs : List A) (x : A) → map f (xs ++ x
 map_last f [] x = refl
 map_last f (y ∷ xs) x = ap (λ z. f y ∷ z) (map_last f xs x)
 
-length_last : {A : Type 0} (xs : List A) (x : A) → length (xs ++ x ∷ []) ≡ length xs + 1
+pub length_last : {A : Type 0} (xs : List A) (x : A) → length (xs ++ x ∷ []) ≡ length xs + 1
 length_last [] x = refl
 length_last (y ∷ xs) x = let e = length_last xs x in omega arith
 
