@@ -5,7 +5,7 @@ use Rattle.std.proofs.Math.Nat.{sub-zero}
 use Rattle.pf_model.specs.Code.{Code}
 use Rattle.pf_model.specs.Configuration.{Configuration}
 use Rattle.pf_model.specs.Evaluation.{pass_of}
-use Rattle.pf_model.specs.Runs.{Actor, Passed, Passes, Transition, transition, Words, later, Goes, stays, more, Stops, enabled}
+use Rattle.pf_model.specs.Runs.{Actor, Passed, Passes, Transition, Words, later, Goes, stays, more, Stops, enabled}
 use Rattle.pf_model.proofs.Turned.{pass_only, pass_uses}
 
 -- each transition takes a step at least
@@ -88,12 +88,12 @@ module _ (m : Code) where
       by (inr first) further =
           let actor = same_actor first.actor x (sym first.chosen ∙ chosen) in
           let same : first.passed ≡ p =
-              sym (pass_only m (suc n) c first.actor first.passed first.passes)
-              ∙ ap (pass_of m (suc n) c) actor ∙ pass_only m (suc n) c x p pass in
+          sym (pass_only m (suc n) c first.actor first.passed first.passes)
+          ∙ ap (pass_of m (suc n) c) actor ∙ pass_only m (suc n) c x p pass in
           let left : suc n - l ≡ suc n - first.passed.used - first.steps = (let s = first.sums in omega arith) in
           let behind =
-              further first.others e first.steps
-              (subst (λ z. Goes m (later ws) (suc n - z.used) z.after first.others e first.steps) same first.rest)
-              (subst (λ z. Stops (suc n - z.used - first.steps) e) same (subst (λ z. Stops z e) left stops)) in
+          further first.others e first.steps
+          (subst (λ z. Goes m (later ws) (suc n - z.used) z.after first.others e first.steps) same first.rest)
+          (subst (λ z. Stops (suc n - z.used - first.steps) e) same (subst (λ z. Stops z e) left stops)) in
           let counts = first.counts in
           omega arith

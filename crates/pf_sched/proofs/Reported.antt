@@ -1,5 +1,5 @@
 -- The report of a run that is over.
-use Rattle.std.proofs.Common.{◌≡◌, ℕ, ◌-◌, ◌≤◌, List, length, map, Option, Some, Bool, refl, sym, ap, ◌∙◌, subst, arith}
+use Rattle.std.proofs.Common.{◌≡◌, ◌-◌, List, map, Option, Some, Bool, sym, ap, ◌∙◌, subst}
 use Rattle.pf_choice.specs.declared.choices.Choices.{Choices}
 use Rattle.rand_pcg.specs.Lcg.{Lcg}
 use Rattle.pf_model.specs.Configuration.{Configuration}

@@ -58,7 +58,7 @@ pub goes_on : (j : Job) (turns limit : ℕ) (old new : code.Run) → limit ≡ j
     → (parked_view j (length new.events.items) ≡ parked_view p.job (p.at + turns)) × GoesPast p.job (p.at + turns)
 goes_on j turns limit old new same over off went p is =
     let a : Advances (length old.events.items) (length new.events.items) turns false (IsOver limit new) =
-        subst (λ b. Advances (length old.events.items) (length new.events.items) turns b (IsOver limit new)) off went.1 in
+    subst (λ b. Advances (length old.events.items) (length new.events.items) turns b (IsOver limit new)) off went.1 in
     let past = goes_past j new went.0 (subst (λ n. IsOver n new → ⊥) same a.1) in
     subst (λ v. (parked_view j (length new.events.items) ≡ parked_view v.job (v.at + turns)) × GoesPast v.job (v.at + turns)) is
     (ap (parked_view j) a.0, subst (GoesPast j) a.0 past)

@@ -1,4 +1,4 @@
-use Rattle.std.proofs.Common.{◌≡◌, refl, sym, ap, subst}
+use Rattle.std.proofs.Common.{◌≡◌, refl, ap, subst}
 use Rattle.pf_property.specs.Texts.{ReadsProperty}
 use Rattle.pf_sched.proofs.job.read_property.Goals as goal
 

@@ -1,4 +1,4 @@
-use Rattle.std.proofs.Common.{◌≡◌, true, false, None, sym, ap, ◌∙◌}
+use Rattle.std.proofs.Common.{◌≡◌, true, false, sym, ap, ◌∙◌}
 use Rattle.std.specs.Prelude.{option_map}
 use Rattle.std.proofs.lemmas.Result.{err_from_is_err_and}
 use Rattle.pf_model.specs.Limits.{is_in_range}
@@ -20,17 +20,17 @@ returns-in_err-property c =
 pub returns-then-not-is_in_range : goal.returns-then-not-is_in_range
 returns-then-not-is_in_range c =
     let without : may_be_asked (choices_of c.args.choices) c.args.limit ≡ false =
-        ap (is_in_range c.args.limit) (sym c.count.ensures) ∙ sym c.if-not-is_in_range.ensures in
+    ap (is_in_range c.args.limit) (sym c.count.ensures) ∙ sym c.if-not-is_in_range.ensures in
     out_of_range c.in-Some.root.0 (property_of c.in_ok-property.property) (sym c.in-Some.ensures) c.in_ok-property.ensures without
 
 pub invariant_of-result : goal.invariant_of-result
 invariant_of-result c =
     let within : may_be_asked (choices_of c.args.choices) c.args.limit ≡ true =
-        ap (is_in_range c.args.limit) (sym c.count.ensures) ∙ sym c.if-not-is_in_range.ensures in
+    ap (is_in_range c.args.limit) (sym c.count.ensures) ∙ sym c.if-not-is_in_range.ensures in
     record { name = c.args.root.now; root = sym c.in-Some.ensures; within = within }
 
 pub returns : goal.returns
 returns c =
     let within : may_be_asked (choices_of c.args.choices) c.args.limit ≡ true =
-        ap (is_in_range c.args.limit) (sym c.count.ensures) ∙ sym c.if-not-is_in_range.ensures in
+    ap (is_in_range c.args.limit) (sym c.count.ensures) ∙ sym c.if-not-is_in_range.ensures in
     job c.in-Some.root.0 (property_of c.in_ok-property.property) (sym c.in-Some.ensures) c.in_ok-property.ensures within
