@@ -34,8 +34,8 @@ lacks_or_has (t ∷ ts) = both (module_or_other t.kind) (lacks_or_has ts)
   where
     both : (t.kind ≡ own_module) ⊎ (t.kind ≡ own_module → ⊥) → LacksModule ts ⊎ (LacksModule ts → ⊥) → LacksModule (t ∷ ts) ⊎ (LacksModule (t ∷ ts) → ⊥)
     both (inl e) rest = inr (λ h. h.0 e)
-    both (inr no) (inl h) = inl (no, h)
-    both (inr no) (inr h) = inr (λ k. h k.1)
+    both (inr other) (inl h) = inl (other, h)
+    both (inr other) (inr h) = inr (λ k. h k.1)
 
 module _ (names : List (List ℕ)) where
   -- ---- patterns
@@ -56,7 +56,7 @@ module _ (names : List (List ℕ)) where
 
       by_module : LacksModule ts ⊎ (LacksModule ts → ⊥) → PatternOrNone
       by_module (inl lacks) = by_reading lacks (read_by (atoms_after names ts) (numbered_after names ts)) refl
-      by_module (inr no) = none_derives (λ q d. no d.no_module)
+      by_module (inr stands) = none_derives (λ q d. stands d.no_module)
 
     by_tokens : (read : Read (List Placed)) → Tells text read → PatternOrNone
     by_tokens (Ok ts) has = by_module ts has (lacks_or_has ts)
@@ -101,9 +101,24 @@ module _ (names : List (List ℕ)) where
 
     pub any_property : Outcomes
     any_property =
-        elim (word_or_other (codes "returns")) [ inl h ↦ (Some returns, h) | inr a ↦
-        elim (word_or_other (codes "true")) [ inl h ↦ (Some returns_true, h) | inr b ↦
-        elim (word_or_other (codes "nocrash")) [ inl h ↦ (Some no_crash, h) | inr c ↦
-        elim (word_or_other (codes "nodeadlock")) [ inl h ↦ (Some no_deadlock, h) | inr d ↦
-        elim (word_or_other (codes "withinlimit")) [ inl h ↦ (Some within_limit, h) | inr e ↦
-        elim prefix_or_none [ inl h ↦ behind h.0 h.1 (pattern_or_none h.0) | inr f ↦ (None, none_of_all a b c d e f) ] ] ] ] ] ]
+        elim (word_or_other (codes "returns")) [
+          | inl h ↦ (Some returns, h)
+          | inr a ↦
+              elim (word_or_other (codes "true")) [
+                | inl h ↦ (Some returns_true, h)
+                | inr b ↦
+                    elim (word_or_other (codes "nocrash")) [
+                      | inl h ↦ (Some no_crash, h)
+                      | inr c ↦
+                          elim (word_or_other (codes "nodeadlock")) [
+                            | inl h ↦ (Some no_deadlock, h)
+                            | inr d ↦
+                                elim (word_or_other (codes "withinlimit")) [
+                                  | inl h ↦ (Some within_limit, h)
+                                  | inr e ↦
+                                      elim prefix_or_none [ inl h ↦ behind h.0 h.1 (pattern_or_none h.0) | inr f ↦ (None, none_of_all a b c d e f) ]
+                                ]
+                          ]
+                    ]
+              ]
+        ]

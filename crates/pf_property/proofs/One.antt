@@ -77,7 +77,7 @@ module _ (names : List (List ℕ)) (bytes : List ℕ) where
       ap never (one_pattern names a.0 x y a.2 (subst (λ text. ReadsPattern names text y) rest b.2))
 
   -- no pattern stands behind `never:`, so the bytes are no property
-  none_behind : (text : List ℕ) → bytes ≡ codes "never:" ++ text → ((p : Pattern) → ReadsPattern names text p → ⊥) → (p : Property) → ReadsProperty names bytes p → ⊥
+  pub none_behind : (text : List ℕ) → bytes ≡ codes "never:" ++ text → ((p : Pattern) → ReadsPattern names text p → ⊥) → (p : Property) → ReadsProperty names bytes p → ⊥
   none_behind text e none returns h = subst IsBare (tells returns h ∙ ap told e) tt
   none_behind text e none returns_true h = subst IsBare (tells returns_true h ∙ ap told e) tt
   none_behind text e none no_crash h = subst IsBare (tells no_crash h ∙ ap told e) tt
