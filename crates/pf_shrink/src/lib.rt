@@ -1,0 +1,7 @@
+//! The hunt for a small schedule that fails: which schedule is to be run next, and what it comes to.
+#![tactic(auto)]
+
+mod hunt;
+mod round;
+
+pub use hunt::{Hunt, MOST_RUNS};
