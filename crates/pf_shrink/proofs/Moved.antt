@@ -1,5 +1,5 @@
 -- Schedules with one number at another place, and the candidates at and behind a place.
-use Rattle.std.proofs.Common.{◌≡◌, ℕ, zero, suc, ◌+◌, ◌-◌, ◌/◌, ◌<◌, ◌≤◌, List, [], ◌∷◌, ◌++◌, length, take, drop, refl, sym, ap, ◌∙◌, arith, slice_index, slice_set, get_or}
+use Rattle.std.proofs.Common.{◌≡◌, ℕ, zero, suc, ◌+◌, ◌-◌, ◌/◌, ◌<◌, ◌≤◌, List, [], ◌∷◌, ◌++◌, length, take, drop, refl, sym, ap, ◌∙◌, arith, slice_set, get_or}
 use Rattle.std.specs.List.{slice_rotate_right, swap}
 use Rattle.std.proofs.lemmas.List.{drop_more, drop_all, length-set, get_or-set_same, take-set, get_or_push, take_at, length_push}
 use Rattle.std.proofs.lemmas.List.Edits.{swap_is}

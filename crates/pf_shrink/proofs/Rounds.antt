@@ -1,9 +1,9 @@
 -- Rounds by how they are kept: which candidate is next, and what is left behind it.
-use Rattle.std.proofs.Common.{◌≡◌, ◌⊎◌, inl, inr, ℕ, zero, suc, ◌+◌, ◌-◌, ◌/◌, ◌<◌, ◌≤◌, List, [], ◌∷◌, ◌++◌, Some, None, length, take, drop, refl, sym, ap, subst, ◌∙◌, arith, slice_index, slice_set, get_or}
+use Rattle.std.proofs.Common.{◌≡◌, ◌⊎◌, inl, inr, ℕ, suc, ◌+◌, ◌-◌, ◌/◌, ◌<◌, ◌≤◌, List, [], ◌∷◌, ◌++◌, Some, length, take, drop, refl, sym, ap, subst, ◌∙◌, arith, slice_set, get_or}
 use Rattle.std.specs.List.{swap}
 use Rattle.std.proofs.lemmas.List.{length-set, get_or-set_same, set-set, set-get_or}
 use Rattle.std.proofs.lemmas.List.Edits.{length-swap}
-use Rattle.pf_model.specs.Shrinking.{without_one, halved, candidates}
+use Rattle.pf_model.specs.Shrinking.{without_one, halved}
 use Rattle.pf_shrink.specs.Rounds.{Round, round, head, begun, passed_over, passed, taken_of, taken, from_place}
 use Rattle.pf_shrink.specs.Kept.{with_last_at, schedule_in, left_in, kept, IsKept}
 use Rattle.pf_shrink.specs.declared.round.Place.{Place}

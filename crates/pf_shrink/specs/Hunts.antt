@@ -1,6 +1,7 @@
 -- Hunts: which schedule is run next, what an answer makes of a hunt, and what it comes to.
 use Rattle.std.specs.Prelude.{◌≡◌, ℕ, zero, suc, Bool, true, false, if◌then◌else◌, List, [], ◌∷◌, Option, Some, None}
 use Rattle.pf_model.specs.Shrinking.{candidates, Found, found, search, shrunk}
+use Rattle.pf_model.specs.Laws.{IsSmaller}
 
 -- a hunt, with so many runs behind that of the next schedule: before the run of the given schedule; within a search from a
 -- schedule that fails, before the run of a candidate, with others left behind it; or at its end, with what it found
@@ -32,6 +33,12 @@ abbrev pub found_of : Hunting → Option Found
 found_of (begins k ns) = None
 found_of (searches k ns c cs) = None
 found_of (ended f) = f
+
+-- a candidate that is to be run is shorter than the schedule that it may take the place of, or as long with a smaller sum
+abbrev pub NextIsSmaller : Hunting → Type 0
+NextIsSmaller (begins k ns) = Unit {0}
+NextIsSmaller (searches k ns c cs) = IsSmaller c ns
+NextIsSmaller (ended f) = Unit {0}
 
 -- what a hunt comes to, where this function tells which schedules fail
 abbrev pub comes_to : (List ℕ → Bool) → Hunting → Option Found

@@ -1,6 +1,7 @@
 -- Rounds of a search: a schedule that fails, and those of its candidates that are left.
-use Rattle.std.specs.Prelude.{ℕ, zero, suc, List, [], ◌∷◌, Option, Some, None}
+use Rattle.std.specs.Prelude.{ℕ, zero, suc, List, [], ◌∷◌, Option, Some, None, All}
 use Rattle.pf_model.specs.Shrinking.{behind, candidates}
+use Rattle.pf_model.specs.Laws.{IsSmaller}
 
 pub record Round : Type 0 where
   pub schedule : List ℕ
@@ -37,6 +38,10 @@ taken r = taken_of r.schedule r.left
 -- no candidate is left
 abbrev pub given_up : Round → Round
 given_up r = round r.schedule []
+
+-- each candidate that is left is smaller than the schedule
+abbrev pub AreSmaller : Round → Type 0
+AreSmaller r = All (λ c. IsSmaller c r.schedule) r.left
 
 -- those of some changes of a schedule that leave its first i numbers as they are
 abbrev pub from_place : (List ℕ → List (List ℕ)) → (i : ℕ) → List ℕ → List (List ℕ)

@@ -1,5 +1,5 @@
 -- The schedules that are run, in their order.
-use Rattle.std.specs.Prelude.{◌≡◌, ◌↔◌, ℕ, zero, suc, Bool, if◌then◌else◌, List, [], ◌∷◌, Option, Some, None}
+use Rattle.std.specs.Prelude.{◌≡◌, ◌↔◌, ℕ, zero, suc, Bool, if◌then◌else◌, List, [], ◌∷◌, Some, None}
 use Rattle.pf_model.specs.Shrinking.{candidates}
 use Rattle.pf_shrink.specs.Hunts.{Hunting, begins, searches, ended, next_of, told_of}
 

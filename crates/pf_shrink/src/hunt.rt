@@ -2,7 +2,7 @@
 
 ghost use Rattle.std.specs.Prelude.{◌≡◌, ◌<◌, ◌-◌, ℕ, suc, Bool, List, [], IsSome, IsNone, option_map};
 ghost use Rattle.pf_model.specs.Shrinking.{shrunk, found as found_at};
-ghost use Rattle.pf_shrink.specs.Hunts.{begins, next_of, told_of, found_of, comes_to, IsAnswerOf};
+ghost use Rattle.pf_shrink.specs.Hunts.{begins, next_of, told_of, found_of, comes_to, IsAnswerOf, NextIsSmaller};
 ghost use Rattle.pf_shrink.specs.Standing.{standing, Stands};
 
 use crate::round::Round;
@@ -61,7 +61,8 @@ impl Hunt {
 
     /// The schedule that is to be run next; none at the end of the hunt.
     pub fn next(&self) -> Option<&[u32]>
-        ensures { option_map (λ s. s.now) result ≡ next_of self.now }
+        ensures next { option_map (λ s. s.now) result ≡ next_of self.now }
+        ensures smaller { NextIsSmaller self.now }
     {
         match self.phase {
             Phase::Given => Some(self.round.schedule()),

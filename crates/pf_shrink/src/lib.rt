@@ -3,5 +3,7 @@
 
 mod hunt;
 mod round;
+#[cfg(test)]
+mod tests;
 
 pub use hunt::{Hunt, MOST_RUNS};

@@ -1,4 +1,4 @@
-use Rattle.std.proofs.Common.{◌∙◌, arith}
+use Rattle.std.proofs.Common.{arith}
 use Rattle.pf_shrink.proofs.Rounds.{after_last, after_only, after_without, after_all_without, after_halved}
 use Rattle.pf_shrink.proofs.round.following.Goals as goal
 

@@ -1,4 +1,4 @@
-use Rattle.std.proofs.Common.{ap, subst, ◌∙◌, ◌≡◌, refl, arith, get_or, [], List, ℕ}
+use Rattle.std.proofs.Common.{ap, ◌∙◌, refl, arith, get_or}
 use Rattle.pf_model.specs.Shrinking.{halved}
 use Rattle.pf_shrink.specs.Rounds.{from_place}
 use Rattle.pf_shrink.proofs.Rounds.{number_back, past_zero, all_past}
