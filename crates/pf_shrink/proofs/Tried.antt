@@ -1,0 +1,42 @@
+-- The schedules that a hunt gives, told truly, are those that are tried, in their order.
+use Rattle.std.proofs.Common.{◌≡◌, ℕ, zero, suc, Bool, true, false, List, [], ◌∷◌, Some, None, refl, sym, ap, ◌∙◌, if◌then◌else◌}
+use Rattle.std.specs.Prelude.{◌↔◌}
+use Rattle.pf_model.specs.Shrinking.{candidates}
+use Rattle.pf_shrink.specs.Hunts.{Hunting, begins, searches, ended, searching, next_of, told_of}
+use Rattle.pf_shrink.specs.Tried.{tried_of_search, tried_from, TriesInOrder}
+
+module _ (fails : List ℕ → Bool) where
+  -- a search, with these candidates left
+  tried_from_search : (k : ℕ) (ns : List ℕ) (cs : List (List ℕ)) → tried_from fails (searching k ns cs) ≡ tried_of_search fails k cs
+  tried_from_search zero ns [] = refl
+  tried_from_search (suc k) ns [] = refl
+  tried_from_search zero ns (c ∷ cs) = refl
+  tried_from_search (suc k) ns (c ∷ cs) = refl
+
+  after_first : (b : Bool) (k : ℕ) (ns : List ℕ)
+      → (if b then tried_of_search fails k (candidates ns) else []) ≡ tried_from fails (told_of b (begins k ns))
+  after_first true k ns = sym (tried_from_search k ns (candidates ns))
+  after_first false k ns = refl
+
+  after_candidate : (b : Bool) (k : ℕ) (ns c : List ℕ) (cs : List (List ℕ))
+      → (if b then tried_of_search fails k (candidates c) else tried_of_search fails k cs) ≡ tried_from fails (told_of b (searches k ns c cs))
+  after_candidate true k ns c cs = sym (tried_from_search k c (candidates c))
+  after_candidate false k ns c cs = sym (tried_from_search k ns cs)
+
+  first_tried : (h : Hunting) (ns : List ℕ) → next_of h ≡ Some ns → tried_from fails h ≡ ns ∷ tried_from fails (told_of (fails ns) h)
+  first_tried (begins k ns) ms e =
+      let same : ns ≡ ms = cc in
+      ap (λ x. ns ∷ x) (after_first (fails ns) k ns) ∙ ap (λ x. x ∷ tried_from fails (told_of (fails x) (begins k ns))) same
+  first_tried (searches k ns c cs) ms e =
+      let same : c ≡ ms = cc in
+      ap (λ x. c ∷ x) (after_candidate (fails c) k ns c cs) ∙ ap (λ x. x ∷ tried_from fails (told_of (fails x) (searches k ns c cs))) same
+  first_tried (ended f) ms e = absurd (cc)
+
+  none_tried : (h : Hunting) → (next_of h ≡ None) ↔ (tried_from fails h ≡ [])
+  none_tried (begins k ns) = (λ e. absurd (cc), λ e. absurd (cc))
+  none_tried (searches k ns c cs) = (λ e. absurd (cc), λ e. absurd (cc))
+  none_tried (ended f) = (λ e. refl, λ e. refl)
+
+-- whichever schedules fail
+pub tries_in_order : (fails : List ℕ → Bool) (h : Hunting) → TriesInOrder fails h
+tries_in_order fails h = record { first = first_tried fails h; none = none_tried fails h }
