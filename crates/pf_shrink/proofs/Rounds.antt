@@ -54,12 +54,6 @@ next_halved ns p i n h e =
 
 -- ---- it fails, and becomes the schedule
 
-pub begun_again : (ns now : List ℕ) (p q : Place) (r : Round) → now ≡ ns → kept now q ≡ begun now → IsKept ns p → kept ns p ≡ r → r.left ≡ []
-    → kept ns q ≡ begun r.schedule
-begun_again ns now p q r e b k v none =
-    let same = schedule_where_none_left ns p k (ap (λ x. x.left) v ∙ none) in
-    ap (λ x. kept x q) (sym e) ∙ b ∙ ap begun (e ∙ same ∙ ap (λ x. x.schedule) v)
-
 taken_head : (s : List ℕ) (cs : List (List ℕ)) (c : List ℕ) → head cs ≡ Some c → taken_of s cs ≡ begun c
 taken_head s [] c e = absurd (cc)
 taken_head s (d ∷ cs) c e = let f : d ≡ c = cc in ap begun f

@@ -106,15 +106,11 @@ fn answered(round: &mut Round, phase: Phase, fails: bool) -> Phase
     ensures told { (k : ℕ) → standing k result round.new ≡ told_of fails (standing (suc k) phase round.old) }
     ensures stands { (k : ℕ) → Stands (suc k) result round.new }
 {
+    if fails {
+        round.take();
+        return Phase::Search;
+    }
     match phase {
-        Phase::Given if fails => {
-            round.begin();
-            Phase::Search
-        }
-        Phase::Search if fails => {
-            round.take();
-            Phase::Search
-        }
         Phase::Search => {
             round.pass();
             Phase::Search

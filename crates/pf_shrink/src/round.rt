@@ -70,14 +70,6 @@ impl Round {
         }
     }
 
-    /// Leaves all candidates of the schedule to come.
-    pub(crate) fn begin(&mut self)
-        requires { self.old.left ≡ [] }
-        ensures { self.new ≡ begun self.old.schedule }
-    {
-        self.place = first_place(&self.numbers);
-    }
-
     /// Passes over the next candidate.
     pub(crate) fn pass(&mut self)
         ensures { self.new ≡ passed self.old }
@@ -85,7 +77,7 @@ impl Round {
         self.place = following(&mut self.numbers, self.place);
     }
 
-    /// Takes the next candidate as the schedule, and begins again.
+    /// Takes the next candidate as the schedule, or the schedule itself where none is left. All its candidates are left then.
     pub(crate) fn take(&mut self)
         ensures { self.new ≡ taken self.old }
     {
