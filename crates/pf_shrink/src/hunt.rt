@@ -8,7 +8,7 @@ ghost use Rattle.pf_shrink.specs.Standing.{standing, Stands};
 use crate::round::Round;
 use std::marker::Model;
 
-/// How many runs a hunt may have for whoever asks for one.
+/// The most runs that may be asked for. A hunt itself goes with any number of them.
 pub const MOST_RUNS: u32 = 1_000;
 
 /// How far a hunt is.

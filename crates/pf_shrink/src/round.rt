@@ -8,16 +8,16 @@ ghost use Rattle.pf_model.specs.Shrinking.{halved};
 
 use std::marker::Model;
 
-/// By what the numbers that are kept differ from the schedule: by the next candidate.
+/// Which candidate is next, and by what the numbers that are kept differ from the schedule.
 #[derive(Clone, Copy)]
 enum Place {
-    /// By nothing; next is the schedule without its last number.
+    /// By nothing. Next is the schedule without its last number.
     WithoutLast,
-    /// The number of this place stands last; next are the numbers before it.
+    /// The number of this place stands last. Next are the numbers before it.
     Without(usize),
-    /// The number of this place is halved, and was this one; next are all numbers.
+    /// The number of this place is halved, and was this one. Next are the numbers as they are kept.
     Halved(usize, u32),
-    /// By nothing; no candidate is left.
+    /// By nothing. No candidate is left.
     End,
 }
 
