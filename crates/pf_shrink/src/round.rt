@@ -1,5 +1,5 @@
-//! One round of a search: a schedule that fails, and those of its candidates that are left. The candidates are made one from
-//! another, in the place of the schedule.
+//! One round of a search: a schedule that fails, and those of its candidates that are left. The candidates
+//! are made one from another, in the place of the schedule.
 
 ghost use Rattle.std.specs.Prelude.{◌≡◌, ◌<◌, ◌≤◌, [], length, drop, option_map};
 ghost use Rattle.pf_shrink.specs.Rounds.{begun, passed, taken, given_up, head, from_place};
@@ -77,7 +77,8 @@ impl Round {
         self.place = following(&mut self.numbers, self.place);
     }
 
-    /// Takes the next candidate as the schedule, or the schedule itself where none is left. All its candidates are left then.
+    /// Takes the next candidate as the schedule, or the schedule itself where none is left. All its
+    /// candidates are left then.
     pub(crate) fn take(&mut self)
         ensures { self.new ≡ taken self.old }
     {
