@@ -6,7 +6,7 @@ use Rattle.pf_model.proofs.Shrinks.{shrinking_is_right}
 use Rattle.pf_shrink.specs.Rounds.{Round, round, begun, passed, taken, taken_of, AreSmaller}
 
 -- by the law of shrinking, whichever schedules fail
-pub begun_smaller : (ns : List ℕ) → AreSmaller (begun ns)
+begun_smaller : (ns : List ℕ) → AreSmaller (begun ns)
 begun_smaller ns = (shrinking_is_right (λ _. false) 0 ns).candidates_are_smaller
 
 taken_smaller : (ns : List ℕ) (cs : List (List ℕ)) → AreSmaller (taken_of ns cs)

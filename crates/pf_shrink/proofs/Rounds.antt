@@ -54,12 +54,6 @@ next_halved ns p i n h e =
 
 -- ---- it fails, and becomes the schedule
 
-pub begun_again : (ns now : List ℕ) (p q : Place) (r : Round) → now ≡ ns → kept now q ≡ begun now → IsKept ns p → kept ns p ≡ r → r.left ≡ []
-    → kept ns q ≡ begun r.schedule
-begun_again ns now p q r e b k v none =
-    let same = schedule_where_none_left ns p k (ap (λ x. x.left) v ∙ none) in
-    ap (λ x. kept x q) (sym e) ∙ b ∙ ap begun (e ∙ same ∙ ap (λ x. x.schedule) v)
-
 taken_head : (s : List ℕ) (cs : List (List ℕ)) (c : List ℕ) → head cs ≡ Some c → taken_of s cs ≡ begun c
 taken_head s [] c e = absurd (cc)
 taken_head s (d ∷ cs) c e = let f : d ≡ c = cc in ap begun f
@@ -129,9 +123,9 @@ after_halved i n ns ms p h s f =
     kept_as ms p (slice_set ns i n) (from_place halved (suc i) (slice_set ns i n)) s (f ∙ ap (λ x. from_place halved x (slice_set ns i n)) next)
     ∙ sym (passed_on ns (Halved i n) _ _ (left_halved i n ns h))
 
--- a number of the schedule halved, and back
-pub number_back : (i n : ℕ) (ns : List ℕ) → n ≡ get_or ns i 0 → schedule_in (slice_set ns i (n / 2)) (Halved i n) ≡ ns
-number_back i n ns e = set-set ns i (n / 2) n ∙ ap (slice_set ns i) e ∙ set-get_or ns i 0
+-- a number of the schedule changed, and back
+pub number_back : (i m n : ℕ) (ns : List ℕ) → n ≡ get_or ns i 0 → slice_set (slice_set ns i m) i n ≡ ns
+number_back i m n ns e = set-set ns i m n ∙ ap (slice_set ns i) e ∙ set-get_or ns i 0
 
 -- ---- the walk over zeros
 

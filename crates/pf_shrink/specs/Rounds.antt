@@ -27,7 +27,7 @@ passed_over ns (c ∷ cs) = round ns cs
 abbrev pub passed : Round → Round
 passed r = passed_over r.schedule r.left
 
--- the next candidate fails: it becomes the schedule
+-- the next candidate fails, or where none is left the schedule itself: it is the schedule, and all begins
 abbrev pub taken_of : List ℕ → List (List ℕ) → Round
 taken_of ns [] = begun ns
 taken_of ns (c ∷ cs) = begun c

@@ -8,7 +8,7 @@ ghost use Rattle.pf_shrink.specs.Standing.{standing, Stands};
 use crate::round::Round;
 use std::marker::Model;
 
-/// How many runs a hunt may have for whoever asks for one.
+/// The most runs that may be asked for. A hunt itself goes with any number of them.
 pub const MOST_RUNS: u32 = 1_000;
 
 /// How far a hunt is.
@@ -24,8 +24,8 @@ enum Phase {
     Nothing,
 }
 
-/// The search for a small schedule that fails, within so many runs. It runs nothing: it gives the schedule that is to
-/// be run next, and is told whether it fails.
+/// The search for a small schedule that fails, within so many runs. It runs nothing: it gives the schedule
+/// that is to be run next, and is told whether it fails.
 #[derive(Drop)]
 pub struct Hunt {
     round: Round,
@@ -50,7 +50,8 @@ impl Hunt {
     pub fn new(schedule: Vec<u32>, runs: u32) -> Hunt
         requires { 0 < runs }
         ensures begins { result ≡ begins (runs - 1) schedule.items }
-        ensures comes_to { (fails : List ℕ → Bool) → comes_to fails result ≡ shrunk fails runs schedule.items }
+        ensures comes_to { (fails : List ℕ → Bool)
+            → comes_to fails result ≡ shrunk fails runs schedule.items }
     {
         Hunt {
             round: Round::new(schedule),
@@ -75,7 +76,8 @@ impl Hunt {
     pub fn told(&mut self, fails: bool)
         requires { IsSome (next_of self.old) }
         ensures told { self.new ≡ told_of fails self.old }
-        ensures comes_to { (f : List ℕ → Bool) → IsAnswerOf f fails self.old → comes_to f self.new ≡ comes_to f self.old }
+        ensures comes_to { (f : List ℕ → Bool) → IsAnswerOf f fails self.old
+            → comes_to f self.new ≡ comes_to f self.old }
     {
         self.phase = answered(&mut self.round, self.phase, fails);
         self.runs -= 1;
@@ -84,12 +86,13 @@ impl Hunt {
         }
     }
 
-    /// What was found, at the end of the hunt: the schedule, and whether no candidate of it fails. None where the given
-    /// schedule doesn't fail.
+    /// What was found, at the end of the hunt: the schedule, and whether no candidate of it fails. None where
+    /// the given schedule doesn't fail.
     pub fn found(&self) -> Option<(&[u32], bool)>
         requires { IsNone (next_of self.now) }
         ensures found { option_map (λ f. found_at f.0.now f.1) result ≡ found_of self.now }
-        ensures comes_to { (fails : List ℕ → Bool) → option_map (λ f. found_at f.0.now f.1) result ≡ comes_to fails self.now }
+        ensures comes_to { (fails : List ℕ → Bool)
+            → option_map (λ f. found_at f.0.now f.1) result ≡ comes_to fails self.now }
     {
         match self.phase {
             Phase::Search => Some((self.round.schedule(), true)),
@@ -106,15 +109,11 @@ fn answered(round: &mut Round, phase: Phase, fails: bool) -> Phase
     ensures told { (k : ℕ) → standing k result round.new ≡ told_of fails (standing (suc k) phase round.old) }
     ensures stands { (k : ℕ) → Stands (suc k) result round.new }
 {
+    if fails {
+        round.take();
+        return Phase::Search;
+    }
     match phase {
-        Phase::Given if fails => {
-            round.begin();
-            Phase::Search
-        }
-        Phase::Search if fails => {
-            round.take();
-            Phase::Search
-        }
         Phase::Search => {
             round.pass();
             Phase::Search

@@ -1,5 +1,5 @@
-//! One round of a search: a schedule that fails, and those of its candidates that are left. The candidates are made one from
-//! another, in the place of the schedule.
+//! One round of a search: a schedule that fails, and those of its candidates that are left. The candidates
+//! are made one from another, in the place of the schedule.
 
 ghost use Rattle.std.specs.Prelude.{◌≡◌, ◌<◌, ◌≤◌, [], length, drop, option_map};
 ghost use Rattle.pf_shrink.specs.Rounds.{begun, passed, taken, given_up, head, from_place};
@@ -8,16 +8,16 @@ ghost use Rattle.pf_model.specs.Shrinking.{halved};
 
 use std::marker::Model;
 
-/// By what the numbers that are kept differ from the schedule: by the next candidate.
+/// Which candidate is next, and by what the numbers that are kept differ from the schedule.
 #[derive(Clone, Copy)]
 enum Place {
-    /// By nothing; next is the schedule without its last number.
+    /// By nothing. Next is the schedule without its last number.
     WithoutLast,
-    /// The number of this place stands last; next are the numbers before it.
+    /// The number of this place stands last. Next are the numbers before it.
     Without(usize),
-    /// The number of this place is halved, and was this one; next are all numbers.
+    /// The number of this place is halved, and was this one. Next are the numbers as they are kept.
     Halved(usize, u32),
-    /// By nothing; no candidate is left.
+    /// By nothing. No candidate is left.
     End,
 }
 
@@ -70,14 +70,6 @@ impl Round {
         }
     }
 
-    /// Leaves all candidates of the schedule to come.
-    pub(crate) fn begin(&mut self)
-        requires { self.old.left ≡ [] }
-        ensures { self.new ≡ begun self.old.schedule }
-    {
-        self.place = first_place(&self.numbers);
-    }
-
     /// Passes over the next candidate.
     pub(crate) fn pass(&mut self)
         ensures { self.new ≡ passed self.old }
@@ -85,7 +77,8 @@ impl Round {
         self.place = following(&mut self.numbers, self.place);
     }
 
-    /// Takes the next candidate as the schedule, and begins again.
+    /// Takes the next candidate as the schedule, or the schedule itself where none is left. All its
+    /// candidates are left then.
     pub(crate) fn take(&mut self)
         ensures { self.new ≡ taken self.old }
     {

@@ -1,15 +1,12 @@
 use Rattle.std.proofs.Common.{subst, sym}
 use Rattle.pf_shrink.specs.Rounds.{AreSmaller}
-use Rattle.pf_shrink.proofs.Hunts.{begun_smaller, taken_are_smaller, passed_are_smaller}
+use Rattle.pf_shrink.proofs.Hunts.{taken_are_smaller, passed_are_smaller}
 use Rattle.pf_shrink.proofs.hunt.answered.Goals as goal
 
-pub returns-in-Given-clause-stands : goal.returns-in-Given-clause-stands
-returns-in-Given-clause-stands c = λ k. subst AreSmaller (sym c.begin.ensures) (begun_smaller c.args.round.now.schedule)
+pub returns-then-fails-clause-stands : goal.returns-then-fails-clause-stands
+returns-then-fails-clause-stands c = λ k. subst AreSmaller (sym c.take.ensures) (taken_are_smaller c.args.round.now)
 
 pub returns-in-Search-clause-stands : goal.returns-in-Search-clause-stands
-returns-in-Search-clause-stands c = λ k. subst AreSmaller (sym c.take.ensures) (taken_are_smaller c.args.round.now)
-
-pub returns-in-Search-2-clause-stands : goal.returns-in-Search-2-clause-stands
-returns-in-Search-2-clause-stands c =
-    let held = rw c.in-Search-2.is at c.requires.stands in
+returns-in-Search-clause-stands c =
+    let held = rw c.in-Search.is at c.requires.stands in
     λ k. subst AreSmaller (sym c.pass.ensures) (passed_are_smaller c.args.round.now held)

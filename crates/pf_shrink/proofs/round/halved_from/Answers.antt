@@ -10,11 +10,11 @@ loop-at-preserved c =
 
 pub returns-then-number-gt0-clause-schedule : goal.returns-then-number-gt0-clause-schedule
 returns-then-number-gt0-clause-schedule c =
-    number_back c.loop-at.at (get_or c.loop-at.numbers c.loop-at.at 0) c.loop-at.numbers refl ∙ c.loop-at.invariant.0
+    number_back c.loop-at.at _ (get_or c.loop-at.numbers c.loop-at.at 0) c.loop-at.numbers refl ∙ c.loop-at.invariant.0
 
 pub returns-then-number-gt0-clause-left : goal.returns-then-number-gt0-clause-left
 returns-then-number-gt0-clause-left c =
-    ap (from_place halved c.loop-at.at) (number_back c.loop-at.at (get_or c.loop-at.numbers c.loop-at.at 0) c.loop-at.numbers refl)
+    ap (from_place halved c.loop-at.at) (number_back c.loop-at.at _ (get_or c.loop-at.numbers c.loop-at.at 0) c.loop-at.numbers refl)
     ∙ c.loop-at.invariant.1 ∙ ap (from_place halved c.args.start) c.loop-at.invariant.0
 
 pub returns-clause-left : goal.returns-clause-left
