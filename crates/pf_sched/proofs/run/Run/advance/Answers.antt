@@ -1,44 +1,49 @@
-use Rattle.std.proofs.Common.{◌≡◌, ◌-◌, ◌<◌, ◌≤◌, refl, ap, subst, arith}
-use Rattle.rand_pcg.specs.Pcg.{pcg32}
-use Rattle.pf_choice.specs.Choices.{words_ahead}
+use Rattle.std.proofs.Common.{◌≡◌, zero, ◌+◌, ◌-◌, ◌<◌, ◌≤◌, inl, inr, Some, length, sym, subst, arith}
+use Rattle.pf_model.specs.Meaning.{words_of}
+use Rattle.pf_model.specs.Runs.{start}
 use Rattle.pf_sched.specs.Traces.{MayHaveGone, Went}
-use Rattle.pf_sched.proofs.Traces.{at_first, begins, next, stops, stops_at_limit, uses}
+use Rattle.pf_sched.proofs.Sliced.{ended}
+use Rattle.pf_sched.proofs.Traces.{length_last, next, same}
 use Rattle.pf_sched.proofs.run.Run.advance.Goals as goal
 
-pub loop-alloc-init : goal.loop-alloc-init
-loop-alloc-init c d ws e at =
-    rw c.new-events.ensures.items (begins c.args.system.now.code ws c.args.limit d c.args.system.now c.args.choices.now refl e c.requires.unused at)
+pub returns-then-steps-limit : goal.returns-then-steps-limit
+returns-then-steps-limit c j e run =
+    let i = c.loop.invariant j e run in
+    let count : length c.loop.self.events.items ≤ length c.args.self.now.events.items + c.args.turns = omega arith in
+    let none : c.args.limit - c.loop.self.system.steps ≡ zero = omega arith in
+    (i.0, (count, (i.0.last, i.0.stands, inr none)))
 
 pub returns-in-None : goal.returns-in-None
-returns-in-None c d ws e at =
-    let g = c.loop-alloc.invariant d ws e at in
-    let left = c.args.limit - c.steps-in-loop-alloc.result in
-    let w = subst (λ o. MayHaveGone left g.last c.loop-alloc.system c.loop-alloc.choices o c.go.new.system c.go.new.choices) c.in-None.is (c.in_ok-go.ensures g.last g.stands) in
-    stops c.args.system.now.code ws c.args.limit d c.loop-alloc.events.items c.loop-alloc.system c.go.new.system c.loop-alloc.choices c.go.new.choices g w.0 w.1
+returns-in-None c j e run =
+    let i = c.loop.invariant j e run in
+    let g = i.0 in
+    let s = c.loop.self.system in
+    let w =
+    subst (λ o. MayHaveGone (c.args.limit - c.steps-in-loop.result) g.last s c.loop.self.choices o c.go.new.system c.go.new.choices) c.in-None.is
+    (c.in_ok-go.ensures g.last g.stands) in
+    let count : length c.loop.self.events.items ≤ length c.args.self.now.events.items + c.args.turns = omega arith in
+    let there =
+    same j.stored.code (words_of j.choices) j.limit (start j.root) c.loop.self.events.items s c.go.new.system c.loop.self.choices c.go.new.choices g w.1 w.2 in
+    (there, (count, (g.last, subst (λ z. z.standing ≡ Some g.last) (sym w.1) g.stands, inl w.0)))
 
-pub loop-alloc-smaller : goal.loop-alloc-smaller
-loop-alloc-smaller c =
-    let d = c.requires.before in
-    let ws = words_ahead pcg32 c.args.choices.now in
-    let g = c.loop-alloc.invariant d ws c.requires.stands (at_first c.args.choices.now) in
-    let left = c.args.limit - c.steps-in-loop-alloc.result in
-    let w = subst (λ o. MayHaveGone left g.last c.loop-alloc.system c.loop-alloc.choices o c.go.new.system c.go.new.choices) c.in-Some.is (c.in_ok-go.ensures g.last g.stands) in
-    let some : 0 < left = omega (arith, c.loop-alloc-test.true, c.steps.ensures, c.steps-in-loop-alloc.ensures) in
-    let more = uses c.args.system.now.code ws c.args.limit d c.loop-alloc.events.items c.loop-alloc.system c.go.new.system c.loop-alloc.choices c.go.new.choices g left c.in-Some.event some w in
-    omega (arith, c.loop-alloc-test.true, c.steps.ensures)
-
-pub loop-alloc-preserved : goal.loop-alloc-preserved
-loop-alloc-preserved c d ws e at =
-    let g = c.loop-alloc.invariant d ws e at in
-    let left = c.args.limit - c.steps-in-loop-alloc.result in
-    let w = subst (λ o. MayHaveGone left g.last c.loop-alloc.system c.loop-alloc.choices o c.go.new.system c.go.new.choices) c.in-Some.is (c.in_ok-go.ensures g.last g.stands) in
-    let same : left ≡ c.args.limit - c.loop-alloc.system.steps = ap (λ n. c.args.limit - n) c.steps-in-loop-alloc.ensures in
-    let h : c.loop-alloc.system.steps < c.args.limit = omega (arith, c.loop-alloc-test.true, c.steps.ensures) in
-    let went = subst (λ n. Went n g.last c.loop-alloc.system c.loop-alloc.choices c.in-Some.event c.go.new.system c.go.new.choices) same w in
-    rw c.in_ok-push-in-Some.ensures.items
-    (next c.args.system.now.code ws c.args.limit d c.loop-alloc.events.items c.loop-alloc.system c.go.new.system c.loop-alloc.choices c.go.new.choices g c.in-Some.event h went)
+pub loop-preserved : goal.loop-preserved
+loop-preserved c j e run =
+    let i = c.loop.invariant j e run in
+    let g = i.0 in
+    let s = c.loop.self.system in
+    let w =
+    subst (λ o. MayHaveGone (c.args.limit - c.steps-in-loop.result) g.last s c.loop.self.choices o c.go.new.system c.go.new.choices) c.in-Some.is
+    (c.in_ok-go.ensures g.last g.stands) in
+    let left : c.args.limit - c.steps-in-loop.result ≡ j.limit - s.steps = omega arith in
+    let some : s.steps < j.limit = omega arith in
+    let went = subst (λ n. Went n g.last s c.loop.self.choices c.in-Some.event c.go.new.system c.go.new.choices) left w in
+    let there =
+    next j.stored.code (words_of j.choices) j.limit (start j.root) c.loop.self.events.items s c.go.new.system c.loop.self.choices c.go.new.choices g c.in-Some.event some went in
+    let more = length_last c.loop.self.events.items c.in-Some.event in
+    rw c.in_ok-push-in-Some.ensures.items (there, omega arith)
 
 pub returns : goal.returns
-returns c d ws e at =
-    let h : c.args.limit ≤ c.loop-alloc.system.steps = omega (arith, c.loop-alloc-test.false, c.steps.ensures) in
-    stops_at_limit c.args.system.now.code ws c.args.limit d c.loop-alloc.events.items c.loop-alloc.system c.loop-alloc.choices (c.loop-alloc.invariant d ws e at) h
+returns c j e run =
+    let i = c.loop.invariant j e run in
+    let count : length c.loop.self.events.items ≡ length c.args.self.now.events.items + c.args.turns = omega arith in
+    (i.0, ended c.args.limit (length c.args.self.now.events.items) c.args.turns c.loop.self i.0.last i.0.stands count c.is_over.result (c.is_over.ensures i.0.last i.0.stands))
