@@ -1,2 +1,3 @@
 pub mod Longer
+pub mod Past
 pub mod Traces

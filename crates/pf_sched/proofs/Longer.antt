@@ -2,22 +2,8 @@
 use Rattle.std.proofs.Common.{◌≡◌, ℕ, zero, suc, ◌+◌, ◌-◌, ◌≤◌, ◌%◌, List, [], ◌∷◌, ◌++◌, length, Some, subst, arith}
 use Rattle.std.specs.Prelude.{slice_get}
 use Rattle.pf_model.specs.Code.{Code}
-use Rattle.pf_model.specs.Place.{State}
-use Rattle.pf_model.specs.Configuration.{Configuration, Core}
-use Rattle.pf_model.specs.Deliveries.{Deed}
-use Rattle.pf_model.specs.Turns.{Turn, end, contraction, act}
-use Rattle.pf_model.specs.Runs.{Actor, Passed, Passes, turn, delivery, Transition, transition, Words, later, Goes, stays, more, enabled}
-
--- a turn with a step left takes one at least
-turn_takes : (m : Code) (a : ℕ) (c : Core) (n : ℕ) (s : State) (d : Deed) (k : ℕ) → Turn m a c (suc n) s d k → 1 ≤ k
-turn_takes m a c n s d k (end _ r) = omega arith
-turn_takes m a c n s d k (contraction _ j t u _ moves rest) = omega arith
-turn_takes m a c n s d k (act _ t x _ moves last) = omega arith
-
--- so does each transition
-pub passes_takes : (m : Code) (n : ℕ) (c : Configuration) (x : Actor) (p : Passed) → Passes m (suc n) c x p → 1 ≤ p.used
-passes_takes m n c x p (turn a k d t) = turn_takes m a c.core n _ d k t
-passes_takes m n c x p (delivery a b s cs e) = omega arith
+use Rattle.pf_model.specs.Configuration.{Configuration}
+use Rattle.pf_model.specs.Runs.{Actor, Passed, Passes, Transition, transition, Words, later, Goes, stays, more, enabled}
 
 -- one transition more, of the actor that the next word chooses
 pub goes_on : (m : Code) (ws : Words) (n : ℕ) (c : Configuration) (ts : List Transition) (d : Configuration) (k : ℕ) → Goes m ws n c ts d k

@@ -20,8 +20,9 @@ use Rattle.pf_model.specs.declared.report.Event.{Event}
 use Rattle.pf_model.specs.declared.report.Report.{Report}
 use Rattle.pf_system.specs.Steps.{IsAmong, MayGo, PassesTo}
 use Rattle.pf_system.specs.View.{SystemView}
-use Rattle.pf_sched.specs.Traces.{Going, Traced, Went}
-use Rattle.pf_sched.proofs.Longer.{goes_on, passes_takes}
+use Rattle.pf_sched.specs.Traces.{Going, Went}
+use Rattle.pf_model.proofs.Turned.{pass_uses}
+use Rattle.pf_sched.proofs.Longer.{goes_on}
 
 same_some : {X : Type 0} (x y : X) → Some x ≡ Some y → x ≡ y
 same_some x y e = cc
@@ -89,7 +90,7 @@ module _ (m : Code) (ws : Words) (limit : ℕ) (c : Configuration) where
     uses left e h w =
         let p = w.passes in
         let some : left ≡ suc (left - 1) = omega arith in
-        let one = passes_takes s.code (left - 1) p.before (actor_of e.actor) p.passed (subst (λ n. Passes s.code n p.before (actor_of e.actor) p.passed) some p.passes) in
+        let one = pass_uses s.code (left - 1) p.before (actor_of e.actor) p.passed (subst (λ n. Passes s.code n p.before (actor_of e.actor) p.passed) some p.passes) in
         let steps : s'.steps ≡ s.steps + w.used = ap (λ z. z.steps) p.becomes in
         let counts = p.counts in
         omega arith
@@ -146,64 +147,13 @@ module _ (m : Code) (ws : Words) (limit : ℕ) (c : Configuration) where
             ∙ ap (λ n. told (ws k % length (enabled g.last)) n x (label_of e.label)) w.counts
             ∙ ap (told (ws k % length (enabled g.last)) (length (enabled g.last)) x) p.label
 
-    -- nobody may go
-    pub stops : enabled g.last ≡ [] → s' ≡ s → Traced m ws limit c es s'
-    stops e same =
-        subst (Traced m ws limit c es) (sym same)
-        (record { transitions = g.transitions; last = g.last; stands = g.stands; run = record { goes = g.goes; stops = inl e }; events = g.events })
-
-  -- no step is left
-  pub stops_at_limit : (es : List Event) (s : SystemView) (q : Choices Lcg) (g : Going m ws limit c es s q) → limit ≤ s.steps → Traced m ws limit c es s
-  stops_at_limit es s q g h =
-      record {
-        transitions = g.transitions;
-        last = g.last;
-        stands = g.stands;
-        run = record { goes = g.goes; stops = inr (let w = g.within in omega arith) };
-        events = g.events;
-      }
+    -- nobody went
+    pub same : s' ≡ s → q' ≡ q → Going m ws limit c es s' q'
+    same a b = subst (λ z. Going m ws limit c es z q') (sym a) (subst (λ z. Going m ws limit c es s z) (sym b) g)
 
 -- choices are at the first of the words ahead of them
 pub at_first : (q : Choices Lcg) → IsAt pcg32 (words_ahead pcg32 q) 0 q
 at_first q = record { ahead = λ i. let z : i ≡ 0 + i = omega arith in ap (words_ahead pcg32 q) z }
-
--- ---- the report
-
-by_root : (s : State) (ps : List ℕ) (ls : List Label) → Some (is_finished (meaning.outcome_of_root s ps)) ≡ property.verdict property.returns ls (meaning.outcome_of_root s ps)
-by_root (ended (returned v)) ps ls = refl
-by_root (ended (failed r)) ps ls = refl
-by_root (running t) ps ls = refl
-by_root (waiting t) ps ls = refl
-by_root (ending r) ps ls = refl
-
-by_actors : (xs : List Actor) (c : Core) (ls : List Label) → Some (is_finished (meaning.outcome_with xs c)) ≡ property.verdict property.returns ls (meaning.outcome_with xs c)
-by_actors [] c ls = by_root (of c zero).state (numbers_of is_waiting zero c.processes) ls
-by_actors (x ∷ xs) c ls = refl
-
--- where a run stops, memory is left
-pub told_so : (d : Configuration) (ls : List Label) → Some (is_finished (meaning.outcome_of d)) ≡ property.verdict property.returns ls (meaning.outcome_of d)
-told_so d ls = by_actors (enabled d) d.core ls
-
--- a whole run and what it came to are the meaning
-pub means : (m : Code) (root : ℕ) (ns : List ℕ) (limit : ℕ) (r : Report) (s : SystemView) (t : Traced m (schedule_word ns) limit (start root) r.events.items s)
-    → outcome_of r.outcome ≡ meaning.outcome_of t.last → r.steps ≡ s.steps → r.verdict ≡ Some (is_finished (outcome_of r.outcome))
-    → meaning.Means (meaning.returning m root (meaning.schedule ns) limit) (report_of r)
-means m root ns limit r s t out steps verdict =
-    record {
-      transitions = t.transitions;
-      last = t.last;
-      run = subst (Run m (schedule_word ns) limit (start root) t.transitions t.last) (sym steps) t.run;
-      report = ap (λ es. reported es (outcome_of r.outcome) r.verdict) t.events ∙ ap (λ o. reported events o r.verdict) out ∙ ap (reported events (meaning.outcome_of t.last)) v;
-    }
-  where
-    reported : List meaning.Event → property.Outcome → Option Bool → meaning.Report
-    reported es o w = record { events = es; outcome = o; steps = r.steps; verdict = w }
-
-    events : List meaning.Event
-    events = map meaning.event_of t.transitions
-
-    v : r.verdict ≡ property.verdict property.returns (map (λ x. x.label) t.transitions) (meaning.outcome_of t.last)
-    v = verdict ∙ ap (λ o. Some (is_finished o)) out ∙ told_so t.last (map (λ x. x.label) t.transitions)
 
 -- ---- who may go
 

@@ -9,7 +9,6 @@ use Rattle.pf_sched.specs.declared.slice.Slice.{Slice}
 use Rattle.pf_sched.specs.declared.slice.Slice.TheVariants.{More, Done}
 use Rattle.pf_sched.specs.Views.{ParkedView, parked_view, memory_report}
 
-
 -- the run of a job has more events than so many
 abbrev pub GoesPast : Job → ℕ → Type 0
 GoesPast j n = (r : Report) → Means (job_meant j) r → n < length r.events

@@ -8,7 +8,7 @@ use Rattle.pf_model.specs.Code.{Code}
 use Rattle.pf_model.specs.Configuration.{Configuration}
 use Rattle.pf_model.specs.Meaning as meaning
 use Rattle.pf_model.specs.Reports.{actor_of, event_of, label_of}
-use Rattle.pf_model.specs.Runs.{enabled, Goes, Run, Transition, Words}
+use Rattle.pf_model.specs.Runs.{enabled, Goes, Transition, Words}
 use Rattle.pf_model.specs.declared.report.Event.{Event}
 use Rattle.pf_system.specs.Steps.{PassesTo}
 use Rattle.pf_system.specs.View.{SystemView}
@@ -23,7 +23,7 @@ pub record Went (left : ℕ) (c : Configuration) (s : SystemView) (q : Choices L
 
 -- the same, or nobody may go and nothing was done
 abbrev pub MayHaveGone : ℕ → Configuration → SystemView → Choices Lcg → Option Event → SystemView → Choices Lcg → Type 0
-MayHaveGone left c s q None s' q' = (enabled c ≡ []) × (s' ≡ s)
+MayHaveGone left c s q None s' q' = (enabled c ≡ []) × (s' ≡ s) × (q' ≡ q)
 MayHaveGone left c s q (Some e) s' q' = Went left c s q e s' q'
 
 -- a run by these words, as far as it came: it stands at some configuration, the next word is that of the next transition
@@ -36,4 +36,3 @@ pub record Going (m : Code) (ws : Words) (limit : ℕ) (c : Configuration) (es :
   pub within : s.steps ≤ limit
   pub at : IsAt pcg32 ws (length transitions) q
   pub events : map event_of es ≡ map meaning.event_of transitions
-

@@ -22,7 +22,7 @@ pub struct Finished {
 
 impl Model for Finished {
     ghost use Rattle.pf_sched.specs.Views.{FinishedView, coded_finished_view};
-    ghost use Rattle.pf_sched.specs.Parts.{EndsSo, finished_in};
+    ghost use Rattle.pf_sched.specs.InFinished.{EndsSo, finished_in};
 
     ghost Value = { FinishedView };
 

@@ -35,7 +35,7 @@ impl Model for Job {
     ghost use Rattle.pf_desks.specs.Desk as desk;
     ghost use Rattle.pf_desks.specs.DeskCode.{coded_job};
     ghost use Rattle.pf_sched.specs.Asked.{IsKept};
-    ghost use Rattle.pf_sched.specs.Parts.{job_in};
+    ghost use Rattle.pf_sched.specs.InJob.{job_in};
 
     ghost Value = { desk.Job };
 

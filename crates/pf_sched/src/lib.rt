@@ -16,4 +16,4 @@ pub use job::Job;
 pub use parked::{Parked, start};
 pub use refusal::JobRefusal;
 pub use scratch::Scratch;
-pub use slice::{Slice, slice, whole};
+pub use slice::{Slice, run_slice, whole};

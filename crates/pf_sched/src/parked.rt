@@ -19,7 +19,7 @@ pub struct Parked {
 
 impl Model for Parked {
     ghost use Rattle.pf_sched.specs.Views.{ParkedView, coded_parked_view};
-    ghost use Rattle.pf_sched.specs.Parts.{IsOnRun, parked_in};
+    ghost use Rattle.pf_sched.specs.InParked.{IsOnRun, parked_in};
 
     ghost Value = { ParkedView };
 

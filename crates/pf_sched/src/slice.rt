@@ -41,7 +41,7 @@ fn finish(alloc: Global, job: Arc<Job>, run: Run) -> Finished
 
 /// Goes on with a run by so many events at most. It goes on where the run has more; else it is over, with the report that its job means. Where
 /// a growth is refused it is over too, and its report tells that memory ran out. What stands in the scratch makes no difference.
-pub fn slice(alloc: Global, parked: Parked, scratch: &mut Scratch, turns: u32) -> Slice
+pub fn run_slice(alloc: Global, parked: Parked, scratch: &mut Scratch, turns: u32) -> Slice
     requires { 0 < turns }
     ensures { Sliced parked turns result }
 {
@@ -62,7 +62,7 @@ pub fn whole(alloc: Global, job: Arc<Job>, scratch: &mut Scratch) -> Result<Fini
 {
     let mut parked = start(alloc, job)?;
     loop {
-        match slice(alloc, parked, scratch, TURNS) {
+        match run_slice(alloc, parked, scratch, TURNS) {
             Slice::More(more) => parked = more,
             Slice::Done(finished) => return Ok(finished),
         }

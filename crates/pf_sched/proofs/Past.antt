@@ -1,0 +1,100 @@
+-- A run that goes on has more transitions to come, and no run has more than its steps.
+use Rattle.std.proofs.Common.{◌≡◌, ◌⊎◌, inl, inr, ℕ, zero, suc, ◌+◌, ◌-◌, ◌<◌, ◌≤◌, ◌%◌, List, [], ◌∷◌, length, Some, refl, sym, ap, ◌∙◌, subst, arith}
+use Rattle.std.specs.Prelude.{slice_get}
+use Rattle.std.proofs.Math.Nat.{sub-zero}
+use Rattle.pf_model.specs.Code.{Code}
+use Rattle.pf_model.specs.Configuration.{Configuration}
+use Rattle.pf_model.specs.Evaluation.{pass_of}
+use Rattle.pf_model.specs.Runs.{Actor, Passed, Passes, Transition, transition, Words, later, Goes, stays, more, Stops, enabled}
+use Rattle.pf_model.proofs.Turned.{pass_only, pass_uses}
+
+-- each transition takes a step at least
+pub within_steps : (m : Code) (ws : Words) (n : ℕ) (c : Configuration) (ts : List Transition) (d : Configuration) (k : ℕ) → Goes m ws n c ts d k → length ts ≤ n
+within_steps m _ _ _ _ _ _ (stays ws n c) = omega arith
+within_steps m _ _ _ _ _ _ (more ws n c x p ts d k e pass rest) =
+    let one = pass_uses m n c x p pass in
+    let more = within_steps m (later ws) (suc n - p.used) p.after ts d k rest in
+    omega arith
+
+module _ (m : Code) where
+  -- no transition was made
+  record None (n : ℕ) (c : Configuration) (d : Configuration) (k : ℕ) : Type 0 where
+    same : d ≡ c
+    unused : k ≡ zero
+
+  -- one was made, and then others
+  record First (ws : Words) (n : ℕ) (c : Configuration) (ts : List Transition) (d : Configuration) (k : ℕ) : Type 0 where
+    left : ℕ
+    actor : Actor
+    passed : Passed
+    others : List Transition
+    steps : ℕ
+    some : n ≡ suc left
+    counts : length ts ≡ suc (length others)
+    sums : k ≡ passed.used + steps
+    chosen : slice_get (enabled c) (ws zero % length (enabled c)) ≡ Some actor
+    passes : Passes m n c actor passed
+    rest : Goes m (later ws) (n - passed.used) passed.after others d steps
+
+  first_of : (ws : Words) (n : ℕ) (c : Configuration) (ts : List Transition) (d : Configuration) (k : ℕ) → Goes m ws n c ts d k
+      → None n c d k ⊎ First ws n c ts d k
+  first_of _ _ _ _ _ _ (stays ws n c) = inl (record { same = refl; unused = refl })
+  first_of _ _ _ _ _ _ (more ws n c x p ts d k e pass rest) = inr (record {
+    left = n;
+    actor = x;
+    passed = p;
+    others = ts;
+    steps = k;
+    some = refl;
+    counts = refl;
+    sums = refl;
+    chosen = e;
+    passes = pass;
+    rest = rest;
+  })
+
+  same_actor : (x y : Actor) → Some x ≡ Some y → x ≡ y
+  same_actor x y e = cc
+
+  nobody : (xs : List Actor) (k : ℕ) (x : Actor) → slice_get xs k ≡ Some x → xs ≡ [] → ⊥
+  nobody [] k x e h = cc
+  nobody (y ∷ ys) k x e h = cc
+
+  -- where a run does not stop, a run by the same words that stops has more transitions
+  pub longer : (ws : Words) (n : ℕ) (c : Configuration) (ts : List Transition) (d : Configuration) (k : ℕ) → Goes m ws n c ts d k → (Stops (n - k) d → ⊥)
+      → (us : List Transition) (e : Configuration) (l : ℕ) → Goes m ws n c us e l → Stops (n - l) e → length ts < length us
+  longer _ _ _ _ _ _ (stays ws n c) goes us e l whole stops = by (first_of ws n c us e l whole)
+    where
+      by : None n c e l ⊎ First ws n c us e l → 0 < length us
+      by (inl none) = absurd (goes (subst (λ z. Stops (n - z) c) none.unused (subst (λ z. Stops (n - l) z) none.same stops)))
+      by (inr first) = let h = first.counts in omega arith
+  longer _ _ _ _ _ _ (more ws n c x p ts d k chosen pass rest) goes us e l whole stops = by (first_of ws (suc n) c us e l whole)
+    where
+      stands : None (suc n) c e l → Stops (suc n) c
+      stands none = subst (λ z. Stops z c) (sub-zero (suc n)) (subst (λ z. Stops (suc n - z) c) none.unused (subst (λ z. Stops (suc n - l) z) none.same stops))
+
+      never : Stops (suc n) c → ⊥
+      never (inl h) = nobody (enabled c) (ws zero % length (enabled c)) x chosen h
+      never (inr h) = omega arith
+
+      goes_behind : Stops (suc n - p.used - k) d → ⊥
+      goes_behind h = goes (let q : suc n - p.used - k ≡ suc n - (p.used + k) = omega arith in subst (λ z. Stops z d) q h)
+
+      by : None (suc n) c e l ⊎ First ws (suc n) c us e l → suc (length ts) < length us
+      by (inl none) = absurd (never (stands none))
+      by (inr first) = let h = behind in let g = first.counts in omega arith
+        where
+          actor : first.actor ≡ x
+          actor = same_actor first.actor x (sym first.chosen ∙ chosen)
+
+          passed : first.passed ≡ p
+          passed =
+              sym (pass_only m (suc n) c first.actor first.passed first.passes)
+              ∙ ap (pass_of m (suc n) c) actor ∙ pass_only m (suc n) c x p pass
+
+          behind : length ts < length first.others
+          behind =
+              longer (later ws) (suc n - p.used) p.after ts d k rest goes_behind first.others e first.steps
+              (subst (λ z. Goes m (later ws) (suc n - z.used) z.after first.others e first.steps) passed first.rest)
+              (let q : suc n - l ≡ suc n - first.passed.used - first.steps = (let s = first.sums in omega arith) in
+              subst (λ z. Stops (suc n - z.used - first.steps) e) passed (subst (λ z. Stops z e) q stops))
