@@ -145,10 +145,10 @@ fn read_order(alloc: Global, words: &[u8]) -> Result<Option<Request>, NoMemory>
     let Some(module) = number_of(words.module) else {
         return Ok(None);
     };
-    let Some(limit) = number_of(words.limit) else {
+    let Some(choices) = choices_of(alloc, words.choices)? else {
         return Ok(None);
     };
-    let Some(choices) = choices_of(alloc, words.choices)? else {
+    let Some(limit) = number_of(words.limit) else {
         return Ok(None);
     };
     let order = Order {
