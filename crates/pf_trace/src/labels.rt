@@ -9,12 +9,10 @@ ghost use Rattle.pf_model.specs.Signals.{signal_of};
 ghost use Rattle.pf_model.specs.Text.{kind_text, label_text, reference_text, suffix_text};
 ghost use Rattle.pf_model.specs.TermText.{atom_text, pid_text, value_text};
 
-use crate::names::put_atom;
-use crate::terms::{put_pid, put_reference, put_term};
-use crate::text::put;
 use pf_model::Signal;
 use pf_model::report::{Label, Suffix};
 use pf_terms::{AtomId, AtomTable, NoMemory, Term};
+use pf_text::{put, put_atom, put_pid, put_reference, put_term};
 use std::alloc::Global;
 
 /// Puts a word with the pid that it is said of.

@@ -4,7 +4,7 @@ use Rattle.pf_terms.specs.Atoms.{name_of}
 use Rattle.pf_model.specs.Reports.{event_of}
 use Rattle.pf_model.specs.Text.{event_text}
 use Rattle.pf_model.specs.TermText.{line}
-use Rattle.pf_text.proofs.report.put_events.Given as goal
+use Rattle.pf_trace.proofs.report.put_events.Given as goal
 
 -- the lines so far have gone out
 abbrev pub invariant-loop-event : goal.invariant-loop-event

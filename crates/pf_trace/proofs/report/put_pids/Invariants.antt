@@ -1,7 +1,7 @@
 use Rattle.std.proofs.Common.{◌≡◌, ◌++◌, take}
 use Rattle.std.specs.Prelude.{codes, flat_map}
 use Rattle.pf_model.specs.TermText.{pid_text}
-use Rattle.pf_text.proofs.report.put_pids.Given as goal
+use Rattle.pf_trace.proofs.report.put_pids.Given as goal
 
 -- the pids so far have gone out
 abbrev pub invariant-loop-pid : goal.invariant-loop-pid

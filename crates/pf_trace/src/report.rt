@@ -8,10 +8,9 @@ ghost use Rattle.pf_model.specs.Text.{actor_text, event_text, outcome_text, repo
 ghost use Rattle.pf_model.specs.TermText.{line, pid_text};
 
 use crate::labels::put_label;
-use crate::terms::{put_pid, put_term};
-use crate::text::{put, put_byte, put_number};
 use pf_model::report::{Actor, Event, Outcome, Report};
 use pf_terms::{AtomTable, NoMemory};
+use pf_text::{put, put_byte, put_number, put_pid, put_term};
 use std::alloc::Global;
 
 fn put_actor(alloc: Global, out: &mut Vec<u8>, actor: Actor) -> Result<(), NoMemory>

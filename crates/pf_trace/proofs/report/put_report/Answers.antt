@@ -6,7 +6,7 @@ use Rattle.pf_model.specs.Meaning.{Event}
 use Rattle.pf_model.specs.Reports.{event_of}
 use Rattle.pf_model.specs.Text.{event_text}
 use Rattle.pf_model.specs.TermText.{line}
-use Rattle.pf_text.proofs.report.put_report.Goals as goal
+use Rattle.pf_trace.proofs.report.put_report.Goals as goal
 
 -- four pieces in turn are one text behind what was there
 joined : (b0 b1 b2 b3 b4 e f o s p : List ℕ) → b1 ≡ b0 ++ e → e ≡ f → b2 ≡ b1 ++ o → b3 ≡ b2 ++ s → b4 ≡ b3 ++ p → b4 ≡ b0 ++ (f ++ o ++ s ++ p)
