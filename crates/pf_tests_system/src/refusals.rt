@@ -59,7 +59,13 @@ fn a_property_is_one_of_six(rt: HostRuntime) -> Result<(), Fail> {
         let refusal = refused(alloc, &stored, "main", property, 1)?;
         assert_eq!(rt; refusal, Some(JobRefusal::NoProperty));
     }
-    for property in ["true", "nocrash", "nodeadlock", "withinlimit", "never:{ok, X}"] {
+    for property in [
+        "true",
+        "nocrash",
+        "nodeadlock",
+        "withinlimit",
+        "never:{ok, X}",
+    ] {
         assert_eq!(rt; refused(alloc, &stored, "main", property, 1)?, None);
     }
     Ok(())
@@ -81,7 +87,10 @@ fn limits_and_schedules_are_within_bounds(rt: HostRuntime) -> Result<(), Fail> {
         numbers.push(0)?;
     }
     let most = scheduled(alloc, numbers.as_slice())?;
-    assert_eq!(rt; refused_with(alloc, &stored, "main", "returns", most, 1)?, None);
+    assert_eq!(rt;
+        refused_with(alloc, &stored, "main", "returns", most, 1)?,
+        None
+    );
     numbers.push(0)?;
     let more = scheduled(alloc, numbers.as_slice())?;
     let refusal = refused_with(alloc, &stored, "main", "returns", more, 1)?;

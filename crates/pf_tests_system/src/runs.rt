@@ -38,7 +38,10 @@ fn a_name_may_be_there_in_time(rt: HostRuntime) -> Result<(), Fail> {
 #[test]
 fn a_limit_of_one_step_ends_a_run(rt: HostRuntime) -> Result<(), Fail> {
     let text = printed(rt.alloc(), RandomState::new(&rt)?, RACE, &[], 1)?;
-    assert_eq!(rt; text.as_str(), "0/1 <0> cut\nlimit\nsteps 1\nproperty fails\n");
+    assert_eq!(rt;
+        text.as_str(),
+        "0/1 <0> cut\nlimit\nsteps 1\nproperty fails\n"
+    );
     Ok(())
 }
 
