@@ -29,7 +29,14 @@ pub(crate) fn job_of(
     let stored = numbered(modules, order.module).ok_or(OrNoMemory::Fault(Refusal::NoModule))?;
     let root = order.root.as_slice();
     let property = order.property.as_slice();
-    match Job::new(alloc, stored.share()?, root, property, order.choices.share()?, order.limit) {
+    match Job::new(
+        alloc,
+        stored.share()?,
+        root,
+        property,
+        order.choices.share()?,
+        order.limit,
+    ) {
         Ok(job) => Ok(Arc::new(alloc, job)?),
         Err(OrNoMemory::NoMemory) => Err(OrNoMemory::NoMemory),
         Err(OrNoMemory::Fault(refusal)) => Err(OrNoMemory::Fault(Refusal::from(refusal))),

@@ -5,8 +5,7 @@ use std::hash::RandomState;
 use std::test::Fail;
 
 /// A submission of a module of project 1.
-const MODULE: &str =
-    "submit 1 52\n-module(m).\n-export([main/0]).\nmain() -> 1 + 2 * 3.\n\n";
+const MODULE: &str = "submit 1 52\n-module(m).\n-export([main/0]).\nmain() -> 1 + 2 * 3.\n\n";
 
 const NO_FAILURE: Failing = Failing { read: 0, write: 0 };
 
