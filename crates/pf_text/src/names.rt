@@ -59,7 +59,7 @@ fn put_quoted(out: &mut Vec<u8>, name: &[u8]) -> Result<(), NoMemory>
 }
 
 /// Puts an atom, in quotes where its name asks for them.
-pub(crate) fn put_atom(out: &mut Vec<u8>, name: &[u8]) -> Result<(), NoMemory>
+pub fn put_atom(out: &mut Vec<u8>, name: &[u8]) -> Result<(), NoMemory>
     ensures { OnOk result (out.new.items ≡ out.old.items ++ atom_text name.now) }
 {
     if is_plain_name(name) {

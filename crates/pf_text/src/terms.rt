@@ -13,7 +13,7 @@ use pf_terms::{AtomTable, Elements, List, NoMemory, Term};
 use std::alloc::Global;
 
 /// Puts a pid, as `<0>`.
-pub(crate) fn put_pid(alloc: Global, out: &mut Vec<u8>, pid: u32) -> Result<(), NoMemory>
+pub fn put_pid(alloc: Global, out: &mut Vec<u8>, pid: u32) -> Result<(), NoMemory>
     ensures { OnOk result (out.new.items ≡ out.old.items ++ pid_text pid) }
 {
     put(out, b"<")?;
@@ -22,11 +22,7 @@ pub(crate) fn put_pid(alloc: Global, out: &mut Vec<u8>, pid: u32) -> Result<(), 
 }
 
 /// Puts a reference, as `#Ref<0>`.
-pub(crate) fn put_reference(
-    alloc: Global,
-    out: &mut Vec<u8>,
-    reference: u64,
-) -> Result<(), NoMemory>
+pub fn put_reference(alloc: Global, out: &mut Vec<u8>, reference: u64) -> Result<(), NoMemory>
     ensures { OnOk result (out.new.items ≡ out.old.items ++ reference_text reference) }
 {
     put(out, b"#Ref<")?;

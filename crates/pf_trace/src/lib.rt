@@ -1,0 +1,13 @@
+//! What is told of a run, and its text.
+#![tactic(auto)]
+
+mod labels;
+mod printing;
+mod report;
+
+pub use pf_model::report::{Actor, Event, Label, Outcome, Report, Suffix};
+pub use printing::print_report;
+pub use report::put_report;
+
+/// The turns and deliveries of a run, in their order.
+pub type Trace = Vec<Event>;

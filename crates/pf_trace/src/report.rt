@@ -1,0 +1,136 @@
+//! The text of a report.
+
+ghost use Rattle.std.specs.Prelude.{◌≡◌, ◌++◌, OnOk, codes, flat_map};
+ghost use Rattle.std.specs.Fmt.{decimal};
+ghost use Rattle.pf_terms.specs.Atoms.{name_of};
+ghost use Rattle.pf_model.specs.Reports.{actor_of, event_of, outcome_of, report_of};
+ghost use Rattle.pf_model.specs.Text.{actor_text, event_text, outcome_text, report_text, verdict_text};
+ghost use Rattle.pf_model.specs.TermText.{line, pid_text};
+
+use crate::labels::put_label;
+use pf_model::report::{Actor, Event, Outcome, Report};
+use pf_terms::{AtomTable, NoMemory};
+use pf_text::{put, put_byte, put_number, put_pid, put_term};
+use std::alloc::Global;
+
+fn put_actor(alloc: Global, out: &mut Vec<u8>, actor: Actor) -> Result<(), NoMemory>
+    ensures { OnOk result (out.new.items ≡ out.old.items ++ actor_text (actor_of actor)) }
+{
+    match actor {
+        Actor::Process(pid) => put_pid(alloc, out, pid),
+        Actor::Channel { from, to } => {
+            put_pid(alloc, out, from)?;
+            put(out, b"->")?;
+            put_pid(alloc, out, to)
+        }
+    }
+}
+
+/// Puts the line of an event: CHOICE/N, who acts, what it did.
+fn put_event(
+    alloc: Global,
+    out: &mut Vec<u8>,
+    atoms: &AtomTable,
+    event: &Event,
+) -> Result<(), NoMemory>
+    ensures { OnOk result (out.new.items ≡ out.old.items
+        ++ line (event_text (name_of atoms.now) (event_of event.now))) }
+{
+    put_number(alloc, out, u64::from(event.choice))?;
+    put(out, b"/")?;
+    put_number(alloc, out, u64::from(event.count))?;
+    put(out, b" ")?;
+    put_actor(alloc, out, event.actor)?;
+    put(out, b" ")?;
+    put_label(alloc, out, atoms, &event.label)?;
+    put_byte(out, b'\n')
+}
+
+fn put_events(
+    alloc: Global,
+    out: &mut Vec<u8>,
+    atoms: &AtomTable,
+    events: &[Event],
+) -> Result<(), NoMemory>
+    ensures { OnOk result (out.new.items ≡ out.old.items
+        ++ flat_map (λ e. line (event_text (name_of atoms.now) (event_of e))) events.now) }
+{
+    for event in events {
+        put_event(alloc, out, atoms, event)?;
+    }
+    Ok(())
+}
+
+/// Puts pids, each after a blank.
+fn put_pids(alloc: Global, out: &mut Vec<u8>, pids: &[u32]) -> Result<(), NoMemory>
+    ensures { OnOk result (out.new.items ≡ out.old.items
+        ++ flat_map (λ p. codes " " ++ pid_text p) pids.now) }
+{
+    for pid in pids {
+        put(out, b" ")?;
+        put_pid(alloc, out, *pid)?;
+    }
+    Ok(())
+}
+
+fn put_outcome(
+    alloc: Global,
+    out: &mut Vec<u8>,
+    atoms: &AtomTable,
+    outcome: &Outcome,
+) -> Result<(), NoMemory>
+    ensures { OnOk result (out.new.items ≡ out.old.items
+        ++ line (outcome_text (name_of atoms.now) (outcome_of outcome.now))) }
+{
+    match outcome {
+        Outcome::Finished(value) => {
+            put(out, b"finished ")?;
+            put_term(alloc, out, atoms, value)?;
+        }
+        Outcome::Ended(reason) => {
+            put(out, b"ended ")?;
+            put_term(alloc, out, atoms, reason)?;
+        }
+        Outcome::Deadlock(pids) => {
+            put(out, b"deadlock")?;
+            put_pids(alloc, out, pids)?;
+        }
+        Outcome::Limit => put(out, b"limit")?,
+        Outcome::Memory => put(out, b"memory")?,
+    }
+    put_byte(out, b'\n')
+}
+
+fn put_verdict(out: &mut Vec<u8>, verdict: Option<bool>) -> Result<(), NoMemory>
+    ensures { OnOk result (out.new.items ≡ out.old.items ++ line (verdict_text verdict)) }
+{
+    match verdict {
+        Some(true) => put(out, b"property holds\n"),
+        Some(false) => put(out, b"property fails\n"),
+        None => put(out, b"no verdict\n"),
+    }
+}
+
+fn put_steps(alloc: Global, out: &mut Vec<u8>, steps: u32) -> Result<(), NoMemory>
+    ensures { OnOk result (out.new.items ≡ out.old.items ++ line (codes "steps " ++ decimal steps)) }
+{
+    put(out, b"steps ")?;
+    put_number(alloc, out, u64::from(steps))?;
+    put_byte(out, b'\n')
+}
+
+/// Puts the text of a report.
+pub fn put_report(
+    alloc: Global,
+    out: &mut Vec<u8>,
+    atoms: &AtomTable,
+    report: &Report,
+) -> Result<(), NoMemory>
+    ensures { OnOk result (out.new.items ≡ out.old.items
+        ++ report_text (name_of atoms.now) (report_of report.now)) }
+{
+    put_events(alloc, out, atoms, &report.events)?;
+    put_outcome(alloc, out, atoms, &report.outcome)?;
+    put_steps(alloc, out, report.steps)?;
+    put_verdict(out, report.verdict)
+}
