@@ -2,7 +2,7 @@
 
 use pf_sched::{Finished, Job, JobChoices, Scratch, Slice, run_slice, start, whole};
 use pf_store::{Source, Store, Stored};
-use pf_text::put_report;
+use pf_trace::put_report;
 use std::alloc::Global;
 use std::hash::RandomState;
 use std::sync::Arc;

@@ -4,7 +4,7 @@ use pf_check::read;
 use pf_model::report::{Actor, Event, Report};
 use pf_syntax::{FunctionId, Module};
 use pf_system::System;
-use pf_text::put_report;
+use pf_trace::put_report;
 use std::alloc::Global;
 use std::sync::Arc;
 use std::test::Fail;
