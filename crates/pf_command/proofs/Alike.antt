@@ -12,7 +12,7 @@ use Rattle.clap.specs.Matches.{count_text}
 use Rattle.clap.specs.Facts.{explicit_source, parser_of_value, unwrap_or_range}
 use Rattle.clap.specs.Takes.{is_given}
 use Rattle.clap.specs.Walk.{next, trailing, subcommand, value}
-use Rattle.clap.specs.Simple.{App, Shape, argument_words, built, entered, label_of, names_of}
+use Rattle.clap.specs.Simple.{App, Shape, argument_words, built, entered, label_of, names_of, subcommand_of}
 use Rattle.clap.specs.Kinds.{Kinds, IsAmong, check_kinds, or_else, range_kinds, request_kinds, value_kinds, values_kinds}
 use Rattle.clap.specs.Faults.{action_fault, bundle_fault, bundle_step_fault, check_fault, positional_fault, built_fault, count_fault, defaults_fault, entered_fault, fault_of}
 use Rattle.clap.specs.Faults.{flag_word_fault, flags_fault, level_fault, long_fault, option_fault, other_fault, react_fault, set_fault}
@@ -22,7 +22,7 @@ use Rattle.clap.specs.declared.builder.action.ArgAction.TheVariants as action
 use Rattle.clap.specs.declared.builder.value_parser.ValueParser.{ValueParser}
 use Rattle.clap.specs.declared.error.kind.ErrorKind.{ErrorKind}
 use Rattle.clap.specs.declared.error.kind.ErrorKind.TheVariants as kind
-use Rattle.pf_command.specs.Words.{IsFaultOf, is_shown, pulsefarm, status_of_kind, words_status}
+use Rattle.pf_command.specs.Words.{IsFaultOf, is_shown, own_fault, pulsefarm, run_fault, status_of_kind, values_fault, words_status}
 
 abbrev AllAre : Bool → Kinds → Type 0
 AllAre b [] = Unit {0}
@@ -251,12 +251,29 @@ any_is false ks k h g = any_false ks h
 any_is true [] k h g = absurd g
 any_is true (x ∷ xs) k h g = ap (λ (b : Bool). b || list_any is_shown xs) h.0
 
-status_of : (words : List Text) (k : ErrorKind) → (IsAmong k (fault_of pulsefarm words)) ⊎ ((fault_of pulsefarm words ≡ []) × (k ≡ kind.InvalidValue))
+-- the values of a run are refused by no kind that asks for a text
+values_shown : (s t : Option Text) → is_shown (values_fault s t) ≡ false
+values_shown None None = refl
+values_shown None (Some b) = refl
+values_shown (Some a) None = refl
+values_shown (Some a) (Some b) = refl
+
+shown_under : (is_run : Bool) (k : ErrorKind) → is_shown k ≡ false → is_shown (if is_run then k else kind.InvalidValue) ≡ false
+shown_under true k h = h
+shown_under false k h = refl
+
+own_shown : (o : Option (Text × List Row)) → is_shown (own_fault o) ≡ false
+own_shown None = refl
+own_shown (Some p) = shown_under (bytes_eq p.0 (codes "run")) (run_fault p.1) (values_shown _ _)
+
+status_of : (words : List Text) (k : ErrorKind) → (IsAmong k (fault_of pulsefarm words)) ⊎ ((fault_of pulsefarm words ≡ []) × (k ≡ own_fault (subcommand_of pulsefarm words)))
     → status_of_kind k ≡ (if list_any is_shown (fault_of pulsefarm words) then 0 else 2)
 status_of words k (inl g) =
     let a = alike_words words in
     ap (λ (b : Bool). if b then 0 else 2) (among_is a.shown (fault_of pulsefarm words) k a.are g ∙ sym (any_is a.shown (fault_of pulsefarm words) k a.are g))
-status_of words k (inr p) = ap status_of_kind p.1 ∙ sym (ap (λ (ks : Kinds). if list_any is_shown ks then 0 else 2) p.0)
+status_of words k (inr p) =
+    let fault : is_shown k ≡ false = ap is_shown p.1 ∙ own_shown (subcommand_of pulsefarm words) in
+    ap (λ (b : Bool). if b then 0 else 2) fault ∙ sym (ap (λ (ks : Kinds). if list_any is_shown ks then 0 else 2) p.0)
 
 -- a fault of the words has their status
 pub fault_status : (words : List Text) (k : ErrorKind) → IsFaultOf k words → status_of_kind k ≡ words_status words

@@ -5,7 +5,7 @@ use Rattle.clap.specs.Words.{Text, Row, Kinds, HasKind, IsAmong, fault_of, first
 use Rattle.clap.specs.declared.error.Error.{Error}
 use Rattle.clap.specs.declared.error.kind.ErrorKind.{ErrorKind}
 use Rattle.clap.specs.declared.error.kind.ErrorKind.TheVariants as kind
-use Rattle.pf_command.specs.Words.{IsFaultOf, pulsefarm, of_command, asked, unless_refused, wanted_of, file_named, file_of}
+use Rattle.pf_command.specs.Words.{IsFaultOf, own_fault, pulsefarm, of_command, asked, unless_refused, wanted_of, file_named, file_of}
 
 refused : {T : Type 0} (kinds : Kinds) (k : ErrorKind) (r : Option T) → IsAmong k kinds → unless_refused kinds r ≡ None
 refused [] k r h = absurd h
@@ -35,6 +35,6 @@ pub words_file : (words : List Text) (name : Text) (rows : List Row) → subcomm
 unfolding file_of
 words_file words name rows e = ap (asked (λ (n : Text) (rs : List Row). file_named (first_of (codes "file") rs))) e
 
--- a value that is no number or no schedule, or no command
-pub values_refused : (words : List Text) (k : ErrorKind) → wanted_of words ≡ None → fault_of pulsefarm words ≡ [] → k ≡ kind.InvalidValue → IsFaultOf k words
+-- values that ask for no run, or no command
+pub values_refused : (words : List Text) (k : ErrorKind) → wanted_of words ≡ None → fault_of pulsefarm words ≡ [] → k ≡ own_fault (subcommand_of pulsefarm words) → IsFaultOf k words
 values_refused words k e f h = (e, inr (f, h))

@@ -1,37 +1,46 @@
 -- The rows of answers, for texts and statuses that are equal to theirs.
-use Rattle.std.proofs.Common.{◌≡◌, ◌++◌, ℕ, Bool, List}
-use Rattle.std.specs.Prelude.{None, Some, true, false, codes}
+use Rattle.std.proofs.Common.{◌≡◌, ◌++◌, ◌∙◌, ℕ, Bool, List, Ok, Err, ap, refl, inl, inr}
+use Rattle.std.specs.Prelude.{codes}
 use Rattle.pf_fault.specs.Codes.{code_text, refusal_text}
 use Rattle.pf_fault.specs.declared.code.Code.{Code}
-use Rattle.pf_fault.specs.declared.code.Code.TheVariants as table
 use Rattle.pf_terms.specs.Atoms.{name_of}
 use Rattle.pf_syntax.specs.Module.{Checked}
-use Rattle.pf_model.specs.Meaning.{Means, Report}
-use Rattle.pf_syntax.specs.Root.{root_of}
-use Rattle.pf_model.specs.Code.{code_of}
+use Rattle.pf_model.specs.Meaning.{Report}
 use Rattle.pf_model.specs.TermText.{line}
 use Rattle.pf_model.specs.Text.{report_text}
 use Rattle.pf_check.specs.Reads.{Reads, refused, accepted_as}
+use Rattle.pf_desks.specs.Desk.{Stored, Job}
+use Rattle.pf_sched.specs.Asked.{job}
+use Rattle.pf_sched.specs.Parts.{Ends}
 use Rattle.pf_command.specs.Words.{Request}
-use Rattle.pf_command.specs.Answers.{Answers, may_be_asked, job_asked, run_status, source_refused, no_root, out_of_bounds, reported}
+use Rattle.pf_command.specs.Answers.{Answers, AsksOf, IsModuleOf, Reports, run_status, source_refused, run_refused, reported, out_of_memory}
 use Rattle.pf_command.specs.Checks.{Checks, explained, is_module, is_refused}
+use Rattle.pf_command.specs.declared.answer.Answer.{Answer}
 
 pub row_refused : (r : Request) (bytes text : List ℕ) (status : ℕ) (code : Code) (place : ℕ) → Reads bytes (refused code place)
     → text ≡ line (refusal_text code place) → status ≡ 2 → Answers r bytes text status
 row_refused r bytes text status code place reads e s = rw (e, s) (source_refused code place reads)
 
-pub row_no_root : (r : Request) (m : Checked) (bytes text : List ℕ) (status : ℕ) → Reads bytes (accepted_as m) → root_of r.root m.atoms m.functions ≡ None
-    → text ≡ line (code_text table.NoRoot) → status ≡ 2 → Answers r bytes text status
-row_no_root r m bytes text status reads none e s = rw (e, s) (no_root m.name m.atoms m.functions reads none)
+pub row_run_refused : (r : Request) (m : Stored) (bytes text : List ℕ) (status : ℕ) (code : Code) → IsModuleOf bytes m → AsksOf r m (Err code)
+    → text ≡ line (code_text code) → status ≡ 2 → Answers r bytes text status
+row_run_refused r m bytes text status code is asks e s = rw (e, s) (run_refused m code is asks)
 
-pub row_out_of_bounds : (r : Request) (m : Checked) (bytes text : List ℕ) (status i : ℕ) → Reads bytes (accepted_as m) → root_of r.root m.atoms m.functions ≡ Some i
-    → may_be_asked r ≡ false → text ≡ line (code_text table.OutOfRange) → status ≡ 2 → Answers r bytes text status
-row_out_of_bounds r m bytes text status i reads root out e s = rw (e, s) (out_of_bounds m.name m.atoms m.functions i reads root out)
+-- the job that is asked for is of the module
+stored_of : (r : Request) (m : Stored) (j : Job) → AsksOf r m (Ok j) → j.stored ≡ m
+stored_of r m j (job i q root property within) = refl
 
-pub row_reported : (r : Request) (m : Checked) (bytes text : List ℕ) (i : ℕ) (report : Report) (status : ℕ) → Reads bytes (accepted_as m)
-    → root_of r.root m.atoms m.functions ≡ Some i → may_be_asked r ≡ true → Means (job_asked r (code_of m) i) report
-    → text ≡ report_text (name_of m.atoms) report → status ≡ run_status report.verdict → Answers r bytes text status
-row_reported r m bytes text i report status reads root within means e s = rw (e, s) (reported m.name m.atoms m.functions i report reads root within means)
+ended : (r : Request) (m : Stored) (bytes : List ℕ) (j : Job) (report : Report) → IsModuleOf bytes m → AsksOf r m (Ok j) → Ends j report
+    → Answers r bytes (report_text (name_of m.code.atoms) report) (run_status report.verdict)
+ended r m bytes j report is asks (inl means) = reported m j report is asks means
+ended r m bytes j report is asks (inr e) = rw e (out_of_memory m j is asks)
+
+-- where a job is asked for, its report answers
+pub row_reported : (r : Request) (m : Stored) (bytes : List ℕ) (j : Job) (a : Answer) → IsModuleOf bytes m → AsksOf r m (Ok j) → Reports j a
+    → Answers r bytes a.text.items a.status
+row_reported r m bytes j a is asks (report, ends, text, status) =
+    let same : report_text (name_of j.stored.code.atoms) report ≡ report_text (name_of m.code.atoms) report =
+    ap (λ (s : Stored). report_text (name_of s.code.atoms) report) (stored_of r m j asks) in
+    rw (text ∙ same, status) (ended r m bytes j report is asks ends)
 
 pub row_module : (explain : Bool) (m : Checked) (bytes text : List ℕ) (status : ℕ) → Reads bytes (accepted_as m)
     → text ≡ line (codes "ok") → status ≡ 0 → Checks explain bytes text status

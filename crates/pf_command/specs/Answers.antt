@@ -1,57 +1,58 @@
 -- What a source is answered with under a request: the text that goes out and the status.
-use Rattle.std.specs.Prelude.{◌≡◌, ◌+◌, ℕ, Bool, true, false, List, length, take, Option, None, Some, IfSome}
+use Rattle.std.specs.Prelude.{◌≡◌, ◌+◌, ℕ, Bool, true, false, List, take, Option, None, Some, IfSome, Result, Ok, Err}
 use Rattle.std.specs.Io.KnownBytes.{Appends}
 use Rattle.pf_fault.specs.Codes.{code_text, refusal_text}
 use Rattle.pf_fault.specs.declared.code.Code.{Code}
-use Rattle.pf_fault.specs.declared.code.Code.TheVariants as table
 use Rattle.pf_fault.specs.declared.fault.OrNoMemory.{OrNoMemory}
 use Rattle.pf_fault.specs.declared.fault.OrNoMemory.TheVariants.{NoMemory, Fault}
 use Rattle.pf_terms.specs.Atoms.{name_of}
 use Rattle.pf_terms.specs.Streams.{AppendsFront}
 use Rattle.pf_terms.specs.declared.stream.StreamFault.{StreamFault}
 use Rattle.pf_terms.specs.declared.stream.StreamFault.TheVariants.{Read, Write}
-use Rattle.pf_syntax.specs.Tree.{Program}
-use Rattle.pf_syntax.specs.Root.{root_of}
-use Rattle.pf_model.specs.Limits.{is_in_range}
-use Rattle.pf_model.specs.Code.{Code as Module}
-use Rattle.pf_model.specs.Meaning as model
-use Rattle.pf_model.specs.Meaning.{Means, Report, returning}
+use Rattle.pf_model.specs.Meaning.{Means, Report}
 use Rattle.pf_model.specs.TermText.{line}
 use Rattle.pf_model.specs.Text.{report_text}
-use Rattle.pf_check.specs.Reads.{Reads, accepted, refused}
+use Rattle.pf_check.specs.Reads.{Reads, refused}
+use Rattle.pf_desks.specs.Desk.{Stored, Job, job_meant}
+use Rattle.pf_store.specs.Sources.{IsReadAs}
+use Rattle.pf_sched.specs.Asked.{Asks}
+use Rattle.pf_sched.specs.Parts.{Ends}
+use Rattle.pf_sched.specs.Views.{memory_report}
 use Rattle.pf_command.specs.Words.{Request}
 use Rattle.pf_command.specs.declared.answer.Answer.{Answer}
 use Rattle.pf_command.specs.declared.source.TheConstants.{MOST_BYTES}
 
--- the run that is asked for is one that may be
-abbrev pub may_be_asked : Request → Bool
-may_be_asked r = is_in_range r.limit (length r.schedule)
+-- a source of these bytes is this module
+abbrev pub IsModuleOf : List ℕ → Stored → Type 0
+IsModuleOf bytes m = (m.source ≡ bytes) × IsReadAs bytes m
 
--- the run that is asked for, of a module from the function of this number: by the schedule, within the limit, whether it returns
-abbrev pub job_asked : Request → Module → (root : ℕ) → model.Job
-job_asked r m root = returning m root (model.schedule r.schedule) r.limit
+-- what is asked for of a module is this job, or refused for this
+abbrev pub AsksOf : Request → Stored → Result Job Code → Type 0
+AsksOf r m = Asks m r.root r.property r.choices r.limit
 
--- the status of a run: 0 where its property holds, else 1
+-- the status of a run: 0 where its property holds, 1 where it fails, 2 where memory ran out and nothing is known
 abbrev pub run_status : Option Bool → ℕ
 run_status (Some true) = 0
 run_status (Some false) = 1
-run_status None = 1
+run_status None = 2
 
 -- Answers request bytes text status: a source of these bytes is answered with this text and this status
 pub data Answers (r : Request) (bytes : List ℕ) : List ℕ → ℕ → Type 0 where
   -- the source is refused
   source_refused : (code : Code) (place : ℕ) → Reads bytes (refused code place) → Answers r bytes (line (refusal_text code place)) 2
-  -- no exported function without arguments has the root's name
-  no_root : (name : ℕ) (atoms : List (List ℕ)) (functions : Program) → Reads bytes (accepted name atoms functions)
-      → root_of r.root atoms functions ≡ None → Answers r bytes (line (code_text table.NoRoot)) 2
-  -- the limit or the schedule is out of bounds
-  out_of_bounds : (name : ℕ) (atoms : List (List ℕ)) (functions : Program) (i : ℕ) → Reads bytes (accepted name atoms functions)
-      → root_of r.root atoms functions ≡ Some i → may_be_asked r ≡ false → Answers r bytes (line (code_text table.OutOfRange)) 2
-  -- the report that the run means
-  reported : (name : ℕ) (atoms : List (List ℕ)) (functions : Program) (i : ℕ) (report : Report) → Reads bytes (accepted name atoms functions)
-      → root_of r.root atoms functions ≡ Some i → may_be_asked r ≡ true
-      → Means (job_asked r (record { name = name; atoms = atoms; functions = functions }) i) report
-      → Answers r bytes (report_text (name_of atoms) report) (run_status report.verdict)
+  -- what is asked for of the module is refused
+  run_refused : (m : Stored) (code : Code) → IsModuleOf bytes m → AsksOf r m (Err code) → Answers r bytes (line (code_text code)) 2
+  -- the report that the job means
+  reported : (m : Stored) (j : Job) (report : Report) → IsModuleOf bytes m → AsksOf r m (Ok j) → Means (job_meant j) report
+      → Answers r bytes (report_text (name_of m.code.atoms) report) (run_status report.verdict)
+  -- memory ran out within the run
+  out_of_memory : (m : Stored) (j : Job) → IsModuleOf bytes m → AsksOf r m (Ok j)
+      → Answers r bytes (report_text (name_of m.code.atoms) memory_report) 2
+
+-- the answer is a report in which the job may end, with the status of its verdict
+abbrev pub Reports : Job → Answer → Type 0
+Reports j a =
+    (report : Report) × Ends j report × (a.text.items ≡ report_text (name_of j.stored.code.atoms) report) × (a.status ≡ run_status report.verdict)
 
 -- the answer is these words on a line of their own, with the status of what is refused
 abbrev pub Refuses : Answer → List ℕ → Type 0

@@ -6,7 +6,9 @@ use Rattle.clap.specs.Words.{IsAmong, App, Shape, Rule, Row, Text, new_app, new_
 use Rattle.clap.specs.declared.builder.action.ArgAction.TheVariants.{SetTrue}
 use Rattle.clap.specs.declared.error.kind.ErrorKind.{ErrorKind}
 use Rattle.clap.specs.declared.error.kind.ErrorKind.TheVariants as kind
-use Rattle.pf_text.specs.Numbers.{number_of, schedule_of}
+use Rattle.pf_model.specs.Meaning.{Choices, seed, schedule}
+use Rattle.pf_text.specs.Numbers.{number_of, long_number_of, schedule_of}
+use Rattle.pf_sched.specs.Views.{choices_of}
 use Rattle.pf_command.specs.declared.words.RunWords.{RunWords}
 use Rattle.pf_command.specs.declared.words.Words.{Words}
 use Rattle.pf_command.specs.declared.words.Words.TheVariants.{Run, Check, Steps}
@@ -17,18 +19,26 @@ use Rattle.pf_command.specs.declared.words.Words.TheVariants.{Run, Check, Steps}
 abbrev pub file_rule : Rule
 file_rule = record (new_rule (codes "file")) { value_names = 1 }
 
--- an option must be given, with one value
+-- an option has one value, and may be left out
 abbrev pub option_rule : Text → Rule
-option_rule name = record (new_rule name) { long = Some name; value_names = 1; required = true }
+option_rule name = record (new_rule name) { long = Some name; value_names = 1 }
+
+-- an option must be given
+abbrev pub required_rule : Text → Rule
+required_rule name = record (option_rule name) { required = true }
 
 -- a flag has no value, and may be left out
 abbrev pub flag_rule : Text → Rule
 flag_rule name = record (new_rule name) { long = Some name; action = Some SetTrue }
 
--- run [FILE] --root F --limit N --schedule L
+-- what must be given of a run whatever its choices are: run [FILE] --root F --limit N
+abbrev pub bounded_app : App
+bounded_app = with_rule (with_rule (with_rule (new_app (codes "run")) file_rule) (required_rule (codes "root"))) (required_rule (codes "limit"))
+
+-- run [FILE] --root F --limit N [--seed N] [--schedule L] [--property P]
 abbrev pub run_app : App
 run_app =
-    with_rule (with_rule (with_rule (with_rule (new_app (codes "run")) file_rule) (option_rule (codes "root"))) (option_rule (codes "limit"))) (option_rule (codes "schedule"))
+    with_rule (with_rule (with_rule bounded_app (option_rule (codes "seed"))) (option_rule (codes "schedule"))) (option_rule (codes "property"))
 
 -- check [FILE] [--explain]
 abbrev pub check_app : App
@@ -50,22 +60,38 @@ pulsefarm =
 
 -- ---- what is asked for
 
--- a run is asked for: of the function of this name, within so many steps, with the words of a scheduler
+-- a run is asked for: of the function of this name, within so many steps, by these choices; whether the property of this text holds
 pub record Request : Type 0 where
   pub root : Text
   pub limit : ℕ
-  pub schedule : List ℕ
+  pub choices : Choices
+  pub property : Text
 
-abbrev pub requested : Text → Option ℕ → Option (List ℕ) → Option Request
-requested root (Some limit) (Some schedule) = Some (record { root = root; limit = limit; schedule = schedule })
-requested root _ _ = None
+-- the choices of a seed or of a schedule; one of the two is given, and not both
+abbrev pub choices_named : (seeded scheduled : Option Text) → Option Choices
+choices_named (Some word) None = option_map seed (long_number_of word)
+choices_named None (Some word) = option_map schedule (schedule_of word)
+choices_named _ _ = None
 
-abbrev pub read_values : Option Text → Option Text → Option Text → Option Request
-read_values (Some root) (Some limit) (Some schedule) = requested root (number_of limit) (schedule_of schedule)
-read_values _ _ _ = None
+-- the property that a word names; `returns` where there is none
+abbrev pub property_named : Option Text → Text
+property_named None = codes "returns"
+property_named (Some word) = word
+
+abbrev pub requested : Text → Option ℕ → Option Choices → Text → Option Request
+requested root (Some limit) (Some choices) property = Some (record { root = root; limit = limit; choices = choices; property = property })
+requested root _ _ property = None
+
+abbrev pub read_values : (root limit : Option Text) → Option Choices → (property : Text) → Option Request
+read_values (Some root) (Some limit) choices property = requested root (number_of limit) choices property
+read_values _ _ choices property = None
+
+abbrev pub choices_in : List Row → Option Choices
+choices_in rows = choices_named (first_of (codes "seed") rows) (first_of (codes "schedule") rows)
 
 abbrev pub run_of : List Row → Option Request
-run_of rows = read_values (first_of (codes "root") rows) (first_of (codes "limit") rows) (first_of (codes "schedule") rows)
+run_of rows =
+    read_values (first_of (codes "root") rows) (first_of (codes "limit") rows) (choices_in rows) (property_named (first_of (codes "property") rows))
 
 -- a flag that is given has the value `true`
 abbrev pub is_given : Option Text → Bool
@@ -112,7 +138,7 @@ file_of words = asked (λ name rows. file_named (first_of (codes "file") rows)) 
 
 -- the request that the code's own stands for
 abbrev pub request : RunWords → Request
-request w = record { root = w.root.now; limit = w.limit; schedule = w.schedule.items }
+request w = record { root = w.root.now; limit = w.limit; choices = choices_of w.choices; property = w.property.now }
 
 -- and what the code's own words stand for
 abbrev pub wanted : Words → Wanted
@@ -137,10 +163,27 @@ is_shown _ = false
 abbrev pub status_of_kind : ErrorKind → ℕ
 status_of_kind k = if is_shown k then 0 else 2
 
--- what the command line finds in the words, or else a value that is no number or no schedule
+-- a seed beside a schedule, neither of the two, or else a value that is no number or no schedule
+abbrev pub values_fault : (seeded scheduled : Option Text) → ErrorKind
+values_fault (Some _) (Some _) = kind.ArgumentConflict
+values_fault None None = kind.MissingRequiredArgument
+values_fault _ _ = kind.InvalidValue
+
+abbrev pub run_fault : List Row → ErrorKind
+run_fault rows = values_fault (first_of (codes "seed") rows) (first_of (codes "schedule") rows)
+
+abbrev pub fault_under : Text → List Row → ErrorKind
+fault_under name rows = if bytes_eq name (codes "run") then run_fault rows else kind.InvalidValue
+
+abbrev pub own_fault : Option (Text × List Row) → ErrorKind
+own_fault None = kind.InvalidValue
+own_fault (Some p) = fault_under p.0 p.1
+
+-- what the command line finds in the words, or else the fault of a run's values
 abbrev pub IsFaultOf : ErrorKind → List Text → Type 0
 IsFaultOf k words =
-    (wanted_of words ≡ None) × (IsAmong k (fault_of pulsefarm words) ⊎ ((fault_of pulsefarm words ≡ []) × (k ≡ kind.InvalidValue)))
+    (wanted_of words ≡ None)
+    × (IsAmong k (fault_of pulsefarm words) ⊎ ((fault_of pulsefarm words ≡ []) × (k ≡ own_fault (subcommand_of pulsefarm words))))
 
 -- the status of words that ask for no run: 0 where they ask for help or the version, else 2
 unfoldable pub words_status : List Text → ℕ

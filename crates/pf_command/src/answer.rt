@@ -1,20 +1,17 @@
 //! What a source is answered with: a text and a status.
 
-ghost use Rattle.std.specs.Prelude.{◌≡◌, length, ℕ, List, IfOk, Some, true};
+ghost use Rattle.std.specs.Prelude.{◌≡◌, ℕ, List, IfErr, IfOk};
 ghost use Rattle.pf_fault.specs.Codes.{code_text, refusal_text};
-ghost use Rattle.pf_syntax.specs.Root.{root_of};
-ghost use Rattle.pf_model.specs.Limits.{is_in_range};
-ghost use Rattle.pf_check.specs.Reads.{Reads, accepted_as};
+ghost use Rattle.pf_check.specs.Reads.{IsRefusalOf};
 ghost use Rattle.pf_command.specs.Words.{request};
-ghost use Rattle.pf_command.specs.Answers.{Answers, Refuses, run_status};
+ghost use Rattle.pf_command.specs.Answers.{Answers, IsModuleOf, Refuses, Reports, run_status};
 
 use crate::words::RunWords;
-use pf_check::read;
 use pf_fault::{Code, NoMemory, OrNoMemory, Refusal};
-use pf_model::limits::is_in_range;
-use pf_run::run_words;
-use pf_syntax::{FunctionId, Module};
-use pf_text::{put, put_byte, put_report};
+use pf_sched::{Job, Scratch, whole};
+use pf_store::{Source, Stored};
+use pf_text::{put, put_byte};
+use pf_trace::put_report;
 use std::alloc::Global;
 use std::sync::Arc;
 
@@ -57,58 +54,59 @@ pub(crate) fn refused_at(alloc: Global, refusal: Refusal) -> Result<Answer, NoMe
     refused(alloc, &words)
 }
 
-/// The status of a run by the verdict of its property: 0 where that holds, else 1.
+/// The status of a run by the verdict of its property: 0 where that holds, 1 where it fails, 2 where there is no verdict.
 fn run_status(verdict: Option<bool>) -> u8
     ensures { result ≡ run_status verdict }
 {
     match verdict {
         Some(true) => 0,
-        _ => 1,
+        Some(false) => 1,
+        None => REFUSED,
     }
 }
 
-/// The report of a run from the root.
-fn report_run(
-    alloc: Global,
-    words: &RunWords,
-    shared: &Arc<Module>,
-    root: FunctionId,
-) -> Result<Answer, NoMemory>
-    requires root { root_of words.now.root.now shared.now.value.atoms shared.now.value.functions ≡ Some root.0 }
-    requires within { is_in_range words.now.limit (length words.now.schedule.items) ≡ true }
-    ensures { IfOk result (λ a. (bytes : List ℕ)
-        → Reads bytes (accepted_as shared.now.value) → Answers (request words.now) bytes a.text.items a.status) }
+/// The report of the run of a job.
+fn report_run(alloc: Global, job: Job) -> Result<Answer, NoMemory>
+    ensures { IfOk result (λ a. Reports job a) }
 {
-    let report = run_words(alloc, shared, root, words.schedule.as_slice(), words.limit)?;
+    let finished = whole(alloc, Arc::new(alloc, job)?, &mut Scratch::new(alloc))?;
+    let report = finished.report();
     let mut text = Vec::new(alloc);
-    put_report(alloc, &mut text, shared.atoms(), &report)?;
+    put_report(alloc, &mut text, finished.job().module().atoms(), report)?;
     let status = run_status(report.verdict);
     Ok(Answer { text, status })
 }
 
-/// The answer to a source that was read.
-fn answer_module(alloc: Global, words: &RunWords, shared: &Arc<Module>) -> Result<Answer, NoMemory>
-    ensures { IfOk result (λ a. (bytes : List ℕ)
-        → Reads bytes (accepted_as shared.now.value) → Answers (request words.now) bytes a.text.items a.status) }
+/// The answer to a module.
+fn answer_module(alloc: Global, words: &RunWords, stored: Stored) -> Result<Answer, NoMemory>
+    ensures { IfOk result (λ a. (bytes : List ℕ) → IsModuleOf bytes stored
+        → Answers (request words.now) bytes a.text.items a.status) }
 {
-    let Some(root) = shared.root(words.root.as_bytes()) else {
-        return refused_by_code(alloc, Code::NoRoot);
-    };
-    if !is_in_range(words.limit, words.schedule.len()) {
-        return refused_by_code(alloc, Code::OutOfRange);
+    let root = words.root.as_bytes();
+    let property = words.property.as_bytes();
+    let choices = words.choices.share()?;
+    match Job::new(alloc, stored, root, property, choices, words.limit) {
+        Ok(job) => report_run(alloc, job),
+        Err(OrNoMemory::Fault(refusal)) => refused_by_code(alloc, refusal.code()),
+        Err(OrNoMemory::NoMemory) => Err(NoMemory),
     }
-    report_run(alloc, words, shared, root)
 }
 
-/// The answer to a source.
-pub fn answer_source(alloc: Global, words: &RunWords, source: &[u8]) -> Result<Answer, NoMemory>
-    ensures { IfOk result (λ a. Answers (request words.now) source.now a.text.items a.status) }
+/// The module that a source of these bytes is, or why it is none.
+fn read_source(alloc: Global, bytes: Vec<u8>) -> Result<Stored, OrNoMemory<Refusal>>
+    ensures read { IfOk result (λ m. IsModuleOf bytes.items m) }
+    ensures fault { IfErr result (IsRefusalOf bytes.items) }
 {
-    match read(alloc, source) {
-        Ok(checked) => {
-            let shared = Arc::new(alloc, checked)?;
-            answer_module(alloc, words, &shared)
-        }
+    let source = Source::new(alloc, bytes)?;
+    Stored::read(alloc, &source)
+}
+
+/// The answer to a source of these bytes.
+pub fn answer_source(alloc: Global, words: &RunWords, bytes: Vec<u8>) -> Result<Answer, NoMemory>
+    ensures { IfOk result (λ a. Answers (request words.now) bytes.items a.text.items a.status) }
+{
+    match read_source(alloc, bytes) {
+        Ok(stored) => answer_module(alloc, words, stored),
         Err(OrNoMemory::Fault(refusal)) => refused_at(alloc, refusal),
         Err(OrNoMemory::NoMemory) => Err(NoMemory),
     }

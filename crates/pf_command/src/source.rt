@@ -37,7 +37,7 @@ pub fn run_source<R: Read, W: Write, L: Ledger, M: Ledger>(
         reader.old.failures.total reader.new.failures.total writer.old.failures.total writer.new.failures.total) }
 {
     let source = reader.take_front(alloc, MOST_BYTES)?;
-    let answer = answer_source(alloc, words, &source)?;
+    let answer = answer_source(alloc, words, source)?;
     writer.put(&answer.text)?;
     Ok(answer.status)
 }

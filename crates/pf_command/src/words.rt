@@ -3,11 +3,16 @@
 ghost use Rattle.std.specs.Prelude.{◌≡◌, ◌⊎◌, IfOk, IfErr, map, true, false, Some, None, codes, option_map};
 ghost use Rattle.clap.specs.Words.{FailsBy, Shape, app_of, fault_of, subcommand_of, subcommand_rows_of, rule_of, new_app, kind_of, first_of, rows_of, found_of};
 ghost use Rattle.clap.specs.declared.builder.command.Command.TheViews.{out-Command};
-ghost use Rattle.pf_command.specs.Words.{IsFaultOf, check_app, file_named, file_of, file_rule, flag_rule, is_given, named_file, of_command, option_rule, pulsefarm, request, run_app, run_of, status_of_kind, steps_app, top_shape, wanted, wanted_of};
+ghost use Rattle.pf_model.specs.Meaning.{seed, schedule};
+ghost use Rattle.pf_text.specs.Numbers.{long_number_of, schedule_of};
+ghost use Rattle.pf_sched.specs.Views.{choices_of};
+ghost use Rattle.pf_command.specs.Words.{IsFaultOf, bounded_app, check_app, choices_in, fault_under, file_named, file_of, file_rule, flag_rule, is_given, named_file, of_command, option_rule, property_named, pulsefarm, request, required_rule, run_app, run_fault, run_of, status_of_kind, steps_app, top_shape, wanted, wanted_of};
 
 use clap::error::ErrorKind;
 use clap::{Arg, ArgAction, ArgMatches, Command, Error};
-use pf_text::{number_of, schedule_of};
+use pf_sched::JobChoices;
+use pf_terms::NoMemory;
+use pf_text::{long_number_of, number_of, schedule_of};
 use std::alloc::{AllocError, Global};
 
 /// What the words of `run` ask for.
@@ -19,8 +24,10 @@ pub struct RunWords<'a> {
     pub root: &'a str,
     /// The most steps of the run.
     pub limit: u32,
-    /// The scheduler's numbers.
-    pub schedule: Vec<u32>,
+    /// Where its choices come from.
+    pub choices: JobChoices,
+    /// The text of the property that it is judged by.
+    pub property: &'a str,
 }
 
 /// What the words of `check` ask for.
@@ -63,6 +70,9 @@ impl<'a> Words<'a> {
 const SOURCE_HELP: &str =
     "File of the module's source, at most 65,536 bytes; `-` is standard input [default: -]";
 
+const RUN_USAGE: &str =
+    "pulsefarm run [OPTIONS] --root <F> --limit <N> <--seed <N>|--schedule <L>> [FILE]";
+
 /// A file that comes without a name before it.
 fn file<'a>(alloc: Global, help: &'a str) -> Arg<'a>
     ensures rule { rule_of result ≡ file_rule }
@@ -71,7 +81,7 @@ fn file<'a>(alloc: Global, help: &'a str) -> Arg<'a>
     Arg::new(alloc, "file").value_name("FILE").help(help)
 }
 
-/// An option that must be given, with its one value.
+/// An option with its one value, which may be left out.
 fn option<'a>(alloc: Global, name: &'a str, value: &'a str, help: &'a str) -> Arg<'a>
     ensures rule { rule_of result ≡ option_rule name.entry.now }
     ensures local { result.global ≡ false }
@@ -79,8 +89,15 @@ fn option<'a>(alloc: Global, name: &'a str, value: &'a str, help: &'a str) -> Ar
     Arg::new(alloc, name)
         .long(name)
         .value_name(value)
-        .required(true)
         .help(help)
+}
+
+/// An option that must be given.
+fn required<'a>(alloc: Global, name: &'a str, value: &'a str, help: &'a str) -> Arg<'a>
+    ensures rule { rule_of result ≡ required_rule name.entry.now }
+    ensures local { result.global ≡ false }
+{
+    option(alloc, name, value, help).required(true)
 }
 
 /// An option without a value, which may be left out.
@@ -95,19 +112,27 @@ fn flag<'a>(alloc: Global, name: &'a str, help: &'a str) -> Arg<'a>
 }
 
 fn root<'a>(alloc: Global) -> Arg<'a>
-    ensures rule { rule_of result ≡ option_rule (codes "root") }
+    ensures rule { rule_of result ≡ required_rule (codes "root") }
     ensures local { result.global ≡ false }
 {
     let help = "Name of the function that runs first, exported and without arguments";
-    option(alloc, "root", "F", help)
+    required(alloc, "root", "F", help)
 }
 
 fn limit<'a>(alloc: Global) -> Arg<'a>
-    ensures rule { rule_of result ≡ option_rule (codes "limit") }
+    ensures rule { rule_of result ≡ required_rule (codes "limit") }
     ensures local { result.global ≡ false }
 {
     let help = "Most steps of the run, from 1 to 100,000";
-    option(alloc, "limit", "N", help)
+    required(alloc, "limit", "N", help)
+}
+
+fn seed<'a>(alloc: Global) -> Arg<'a>
+    ensures rule { rule_of result ≡ option_rule (codes "seed") }
+    ensures local { result.global ≡ false }
+{
+    let help = "Seed of the scheduler's numbers, from 0 to 18446744073709551615";
+    option(alloc, "seed", "N", help)
 }
 
 fn schedule<'a>(alloc: Global) -> Arg<'a>
@@ -119,6 +144,15 @@ fn schedule<'a>(alloc: Global) -> Arg<'a>
     option(alloc, "schedule", "L", help)
 }
 
+fn property<'a>(alloc: Global) -> Arg<'a>
+    ensures rule { rule_of result ≡ option_rule (codes "property") }
+    ensures local { result.global ≡ false }
+{
+    let help =
+        "Property that the run is judged by: `returns`, `true`, `nocrash`, `nodeadlock`, `withinlimit` or `never:PATTERN` [default: returns]";
+    option(alloc, "property", "P", help)
+}
+
 /// A command without its arguments.
 fn bare<'a>(alloc: Global, name: &'a str, about: &'a str) -> Command<'a>
     ensures app { app_of result ≡ new_app name.entry.now }
@@ -127,16 +161,28 @@ fn bare<'a>(alloc: Global, name: &'a str, about: &'a str) -> Command<'a>
     Command::new(alloc, name).about(about)
 }
 
+/// `run` without the options that may be left out.
+fn bounded_run<'a>(alloc: Global) -> Result<Command<'a>, AllocError>
+    ensures app { IfOk result (λ c. app_of c ≡ bounded_app) }
+    ensures local { IfOk result (λ c. (out-Command c).has_globals ≡ false) }
+{
+    let about = "Runs a module by a seed or a schedule and reports each turn and delivery";
+    let run = bare(alloc, "run", about)
+        .override_usage(RUN_USAGE)
+        .arg(file(alloc, SOURCE_HELP))?
+        .arg(root(alloc))?
+        .arg(limit(alloc))?;
+    Ok(run)
+}
+
 fn run_command<'a>(alloc: Global) -> Result<Command<'a>, AllocError>
     ensures app { IfOk result (λ c. app_of c ≡ run_app) }
     ensures local { IfOk result (λ c. (out-Command c).has_globals ≡ false) }
 {
-    let about = "Runs a module by a schedule and reports each turn and delivery";
-    let run = bare(alloc, "run", about)
-        .arg(file(alloc, SOURCE_HELP))?
-        .arg(root(alloc))?
-        .arg(limit(alloc))?
-        .arg(schedule(alloc))?;
+    let run = bounded_run(alloc)?
+        .arg(seed(alloc))?
+        .arg(schedule(alloc))?
+        .arg(property(alloc))?;
     Ok(run)
 }
 
@@ -233,22 +279,96 @@ fn mistake(alloc: Global, text: &str) -> Error
     }
 }
 
-/// An error that names the value of an option of `run`, with the usage of that command.
-fn try_refuse(alloc: Global, option: &str, value: &str, wants: &str) -> Result<Error, AllocError>
-    ensures { IfOk result (λ e. kind_of e ≡ ErrorKind.InvalidValue) }
+/// An error of this kind with its text and the usage of `run`.
+fn try_refuse(alloc: Global, kind: ErrorKind, text: &str) -> Result<Error, AllocError>
+    ensures { IfOk result (λ e. kind_of e ≡ kind) }
 {
-    let text = format!(in alloc; "invalid value '{value}' for '{option}': it wants {wants}")?;
     run_command(alloc)?
         .bin_name("pulsefarm run")?
-        .error(ErrorKind::InvalidValue, &text)
+        .error(kind, text)
 }
 
+fn refuse(alloc: Global, kind: ErrorKind, text: &str) -> Error
+    ensures { (kind_of result ≡ ErrorKind.OutOfMemory) ⊎ (kind_of result ≡ kind) }
+{
+    match try_refuse(alloc, kind, text) {
+        Ok(error) => error,
+        Err(e) => Error::from(e),
+    }
+}
+
+/// An error that names the value of an option of `run`.
 fn refuse_value(alloc: Global, option: &str, value: &str, wants: &str) -> Error
     ensures { (kind_of result ≡ ErrorKind.OutOfMemory) ⊎ (kind_of result ≡ ErrorKind.InvalidValue) }
 {
-    match try_refuse(alloc, option, value, wants) {
-        Ok(error) => error,
+    match format!(in alloc; "invalid value '{value}' for '{option}': it wants {wants}") {
+        Ok(text) => refuse(alloc, ErrorKind::InvalidValue, &text),
         Err(e) => Error::from(e),
+    }
+}
+
+/// The choices of the seed that a word is.
+fn choices_by_seed(alloc: Global, word: &str) -> Result<JobChoices, Error>
+    ensures ok { IfOk result (λ cs. option_map seed (long_number_of word.now) ≡ Some (choices_of cs)) }
+    ensures err { IfErr result (λ e. (kind_of e ≡ ErrorKind.OutOfMemory)
+        ⊎ ((kind_of e ≡ ErrorKind.InvalidValue) × (long_number_of word.now ≡ None))) }
+{
+    match long_number_of(word.as_bytes()) {
+        Some(seed) => Ok(JobChoices::Seed(seed)),
+        None => {
+            let wants = "a number from 0 to 18446744073709551615, without leading zeros";
+            Err(refuse_value(alloc, "--seed <N>", word, wants))
+        }
+    }
+}
+
+/// The choices of the schedule that a word is.
+fn choices_by_schedule(alloc: Global, word: &str) -> Result<JobChoices, Error>
+    ensures ok { IfOk result (λ cs. option_map schedule (schedule_of word.now) ≡ Some (choices_of cs)) }
+    ensures err { IfErr result (λ e. (kind_of e ≡ ErrorKind.OutOfMemory)
+        ⊎ ((kind_of e ≡ ErrorKind.InvalidValue) × (schedule_of word.now ≡ None))) }
+{
+    let numbers = match schedule_of(alloc, word.as_bytes()) {
+        Ok(Some(numbers)) => numbers,
+        Ok(None) => {
+            let wants = "`none`, or numbers from 0 to 4294967295 with commas between them";
+            return Err(refuse_value(alloc, "--schedule <L>", word, wants));
+        }
+        Err(e) => return Err(Error::from(e)),
+    };
+    match JobChoices::schedule(alloc, numbers) {
+        Ok(choices) => Ok(choices),
+        Err(NoMemory) => Err(Error::from(AllocError)),
+    }
+}
+
+/// The choices of a seed or of a schedule, of which one is given.
+fn choices(alloc: Global, rows: &ArgMatches) -> Result<JobChoices, Error>
+    ensures ok { IfOk result (λ cs. choices_in (rows_of (found_of rows.now)) ≡ Some (choices_of cs)) }
+    ensures err { IfErr result (λ e. (kind_of e ≡ ErrorKind.OutOfMemory)
+        ⊎ ((kind_of e ≡ run_fault (rows_of (found_of rows.now))) × (choices_in (rows_of (found_of rows.now)) ≡ None))) }
+{
+    match (value(rows, "seed"), value(rows, "schedule")) {
+        (Some(word), None) => choices_by_seed(alloc, word),
+        (None, Some(word)) => choices_by_schedule(alloc, word),
+        (Some(_), Some(_)) => {
+            let text = "the argument '--seed <N>' cannot be used with '--schedule <L>'";
+            Err(refuse(alloc, ErrorKind::ArgumentConflict, text))
+        }
+        (None, None) => {
+            let text = "one of '--seed <N>' and '--schedule <L>' is wanted";
+            Err(refuse(alloc, ErrorKind::MissingRequiredArgument, text))
+        }
+    }
+}
+
+/// The property that the words name; `returns` where they name none.
+fn named_property<'a>(rows: &ArgMatches<'a>) -> &'a str
+    ensures { result.now ≡ property_named (first_of (codes "property") (rows_of (found_of rows.now))) }
+{
+    match value(rows, "property") {
+        Some(word) => word,
+        None => "returns",
     }
 }
 
@@ -258,35 +378,29 @@ fn run_words<'a>(alloc: Global, rows: &ArgMatches<'a>) -> Result<RunWords<'a>, E
     ensures file { IfOk result (λ w. option_map (λ s. s.now) w.file
         ≡ file_named (first_of (codes "file") (rows_of (found_of rows.now)))) }
     ensures err { IfErr result (λ e. (kind_of e ≡ ErrorKind.OutOfMemory)
-        ⊎ ((kind_of e ≡ ErrorKind.InvalidValue) × (run_of (rows_of (found_of rows.now)) ≡ None))) }
+        ⊎ ((kind_of e ≡ run_fault (rows_of (found_of rows.now))) × (run_of (rows_of (found_of rows.now)) ≡ None))) }
 {
-    let file = named_file(rows);
+    let choices = match choices(alloc, rows) {
+        Ok(choices) => choices,
+        Err(e) => return Err(e),
+    };
     let Some(root) = value(rows, "root") else {
         return Err(mistake(alloc, "--root is missing"));
     };
     let Some(limit) = value(rows, "limit") else {
         return Err(mistake(alloc, "--limit is missing"));
     };
-    let Some(schedule) = value(rows, "schedule") else {
-        return Err(mistake(alloc, "--schedule is missing"));
-    };
     let Some(limit) = number_of(limit.as_bytes()) else {
         let wants = "a number of steps from 1 to 100000, without leading zeros";
         return Err(refuse_value(alloc, "--limit <N>", limit, wants));
     };
-    match schedule_of(alloc, schedule.as_bytes()) {
-        Ok(Some(schedule)) => Ok(RunWords {
-            file,
-            root,
-            limit,
-            schedule,
-        }),
-        Ok(None) => {
-            let wants = "`none`, or numbers from 0 to 4294967295 with commas between them";
-            Err(refuse_value(alloc, "--schedule <L>", schedule, wants))
-        }
-        Err(e) => Err(Error::from(e)),
-    }
+    Ok(RunWords {
+        file: named_file(rows),
+        root,
+        limit,
+        choices,
+        property: named_property(rows),
+    })
 }
 
 /// The command's name and the values of its options.
@@ -302,7 +416,8 @@ fn command_words<'a>(alloc: Global, name: &str, rows: &ArgMatches<'a>) -> Result
     ensures file { IfOk result (λ w. named_file w
         ≡ file_named (first_of (codes "file") (rows_of (found_of rows.now)))) }
     ensures err { IfErr result (λ e. (kind_of e ≡ ErrorKind.OutOfMemory)
-        ⊎ ((kind_of e ≡ ErrorKind.InvalidValue) × (of_command name.now (rows_of (found_of rows.now)) ≡ None))) }
+        ⊎ ((kind_of e ≡ fault_under name.now (rows_of (found_of rows.now)))
+        × (of_command name.now (rows_of (found_of rows.now)) ≡ None))) }
 {
     if name == "run" {
         return match run_words(alloc, rows) {

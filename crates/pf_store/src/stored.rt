@@ -50,7 +50,7 @@ impl Stored {
     }
 
     /// The module that a source is, or why it is none.
-    pub(crate) fn read(alloc: Global, source: &Source) -> Result<Stored, OrNoMemory<Refusal>>
+    pub fn read(alloc: Global, source: &Source) -> Result<Stored, OrNoMemory<Refusal>>
         ensures read { IfOk result (λ s. (s.source ≡ source.now) × IsReadAs source.now s) }
         ensures fault { IfErr result (IsRefusalOf source.now) }
     {

@@ -9,7 +9,7 @@ pub returns-in-Err-Fault : goal.returns-in-Err-Fault
 returns-in-Err-Fault c =
     let refusal = c.in-Err-Fault.refusal in
     let r = request c.args.words.now in
-    let bytes = c.args.source.now in
+    let bytes = c.args.bytes.items in
     let reads = rw c.in-Err-Fault.field-0-is at c.in-Err-Fault.ensures.fault in
     IfOk-weaker c.refused_at.result (λ a. Refuses a (refusal_text refusal.code refusal.place)) (λ a. Answers r bytes a.text.items a.status)
     (λ a is. row_refused r bytes a.text.items a.status refusal.code refusal.place reads is.0 is.1) c.refused_at.ensures

@@ -1,6 +1,6 @@
-use Rattle.std.proofs.Common.{◌≡◌, None, Some, inl, inr, ◌∙◌, sym, map}
+use Rattle.std.proofs.Common.{◌≡◌, None, Some, ap, inl, inr, ◌∙◌, sym, map}
 use Rattle.clap.specs.Words.{found_of, rows_of, subcommand_of}
-use Rattle.pf_command.specs.Words.{pulsefarm}
+use Rattle.pf_command.specs.Words.{own_fault, pulsefarm}
 use Rattle.pf_command.proofs.Asked.{words_refused, words_none, words_wanted, words_file, values_refused}
 use Rattle.pf_command.proofs.words.read_words.Goals as goal
 
@@ -13,7 +13,7 @@ returns-in_default-clause-err c =
     let none : subcommand_of pulsefarm words ≡ None = sym (c.in_default.ensures ∙ c.in-Ok.ensures.ok) in
     elim (c.mistake.ensures) [
       | inl h ↦ inl h
-      | inr h ↦ inr (values_refused words _ (words_none words c.in-Ok.ensures.kinds none) c.in-Ok.ensures.kinds h)
+      | inr h ↦ inr (values_refused words _ (words_none words c.in-Ok.ensures.kinds none) c.in-Ok.ensures.kinds (h ∙ ap own_fault (sym none)))
     ]
 
 pub returns-in-Ok-command_words-clause-ok : goal.returns-in-Ok-command_words-clause-ok
@@ -40,5 +40,5 @@ returns-clause-err c =
     let some : subcommand_of pulsefarm words ≡ Some (name, rows) = sym (c.in-Some.ensures ∙ c.in-Ok.ensures.ok) in
     elim (c.in-Err-command_words.ensures.err) [
       | inl h ↦ inl h
-      | inr h ↦ inr (values_refused words _ (words_wanted words name rows c.in-Ok.ensures.kinds some ∙ h.1) c.in-Ok.ensures.kinds h.0)
+      | inr h ↦ inr (values_refused words _ (words_wanted words name rows c.in-Ok.ensures.kinds some ∙ h.1) c.in-Ok.ensures.kinds (h.0 ∙ ap own_fault (sym some)))
     ]
