@@ -21,8 +21,8 @@ use std::marker::Model;
 
 /// The desks of all projects, each opened by the first call of its project; the store of what was submitted, from which desks share
 /// the modules of equal sources; and the spare nodes that one run leaves to the next. Contracts see the desks by project, in the order
-/// in which they were opened; what is shared or spare isn't seen. No call of one project reads or changes the desk of another. Random keys keep a look-up from being slow for
-/// projects or sources that are chosen to be; no reply depends on them.
+/// in which they were opened; what is shared or spare isn't seen. No call of one project reads or changes the desk of another. Random
+/// keys keep a look-up from being slow for projects or sources that are chosen to be; no reply depends on them.
 #[derive(Drop)]
 pub struct Book {
     desks: IndexMap<u32, Desk, RandomState>,
