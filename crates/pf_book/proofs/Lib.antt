@@ -1,4 +1,5 @@
 pub mod Profiles
+pub mod Orders
 pub mod Sums
 pub mod Called
 pub mod Filed

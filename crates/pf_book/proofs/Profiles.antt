@@ -1,15 +1,15 @@
--- What right profiles say of a source that was read, and what the run of a job means.
-use Rattle.std.proofs.Common.{◌≡◌, ℕ, ◌+◌, List, [], ◌∷◌, ◌++◌, length, Result, Ok, Err, sym, ap, ◌∙◌, subst}
-use Rattle.std.specs.Prelude.{IfOk}
+-- What right profiles say of a source that was read, and of the job that is asked for.
+use Rattle.std.proofs.Common.{◌≡◌, ℕ, ◌+◌, Bool, true, false, List, [], ◌∷◌, ◌++◌, length, Option, Some, None, Result, Ok, Err, sym, ap, ◌∙◌}
+use Rattle.std.specs.Prelude.{if◌then◌else◌}
 use Rattle.pf_fault.specs.declared.code.Code.{Code}
-use Rattle.pf_fault.specs.declared.memory.NoMemory.{NoMemory}
+use Rattle.pf_fault.specs.declared.code.Code.TheVariants as code
 use Rattle.pf_check.specs.Reads.{accepted, refused, Reads}
-use Rattle.pf_model.specs.Code.{Code as Module}
-use Rattle.pf_model.specs.Meaning.{schedule, Means, returning}
+use Rattle.pf_model.specs.Meaning.{Choices}
+use Rattle.pf_model.specs.Properties.{Property}
+use Rattle.pf_property.specs.Texts.{IsPropertyOf, ReadsProperty}
 use Rattle.pf_desks.specs.Desk as desk
-use Rattle.pf_desks.specs.Desk.{Profile, Stored, Job, job_meant, Desk, Reply, number, submitted}
-use Rattle.pf_model.specs.Reports.{report_of}
-use Rattle.pf_model.specs.declared.report.Report.{Report}
+use Rattle.pf_desks.specs.Desk.{Profile, Stored, Job, job_asking, job_from, Desk, Reply, number, submitted}
+use Rattle.pf_sched.specs.Asked.{Asks, no_root, no_property, out_of_range, job, may_be_asked, root_in}
 use Rattle.pf_book.specs.Profile.{IsRight}
 
 module _ (p : Profile) (right : IsRight p) where
@@ -27,10 +27,25 @@ module _ (p : Profile) (right : IsRight p) where
       → ◌≡◌ {A = Desk × Reply} (d, desk.refused code) (submitted d bytes (p.reading bytes))
   submitted_refused d bytes code place h = ap (submitted d bytes) (sym (right.reads bytes (refused code place) h))
 
--- what was run is the job
-pub means_run : (j : Job) (r : Result Report NoMemory) (m : Module) (root : ℕ) (words : List ℕ) (limit : ℕ) → m ≡ j.stored.code → root ≡ j.root
-    → words ≡ j.schedule → limit ≡ j.limit
-    → IfOk r (λ x. Means (returning m root (schedule words) limit) (report_of x)) → IfOk r (λ x. Means (job_meant j) (report_of x))
-means_run j (Ok x) m root words limit of_code of_root of_words of_limit h =
-    subst (λ w. Means w (report_of x)) (λ i. returning (of_code i) (of_root i) (schedule (of_words i)) (of_limit i)) h
-means_run j (Err e) m root words limit of_code of_root of_words of_limit h = tt
+  -- what job is asked for, or what it is refused for
+  module _ (m : Stored) (root property : List ℕ) (cs : Choices) (limit : ℕ) where
+    with_root : (o : Option ℕ) → root_in m root ≡ o → job_from p m (root_in m root) property cs limit ≡ job_from p m o property cs limit
+    with_root o e = ap (λ (x : Option ℕ). job_from p m x property cs limit) e
+
+    with_property : (i : ℕ) (o : Option Property) → root_in m root ≡ Some i → IsPropertyOf m.code.atoms property o
+        → job_from p m (root_in m root) property cs limit ≡ job_asking m i o cs limit
+    with_property i o e is =
+        with_root (Some i) e ∙ ap (λ (x : Option Property). job_asking m i x cs limit) (right.properties m.code.atoms property o is)
+
+    in_range : (i : ℕ) (q : Property) (b : Bool) → root_in m root ≡ Some i → ReadsProperty m.code.atoms property q → may_be_asked cs limit ≡ b
+        → job_from p m (root_in m root) property cs limit
+        ≡ (if b then Ok (record { stored = m; root = i; property = q; choices = cs; limit = limit }) else Err code.OutOfRange)
+    in_range i q b e reads range =
+        let made : Result Job Code = Ok (record { stored = m; root = i; property = q; choices = cs; limit = limit }) in
+        with_property i (Some q) e reads ∙ ap (λ (x : Bool). if x then made else Err code.OutOfRange) range
+
+    pub asked_so : (r : Result Job Code) → Asks m root property cs limit r → job_from p m (root_in m root) property cs limit ≡ r
+    asked_so _ (no_root e) = with_root None e
+    asked_so _ (no_property i e none) = with_property i None e none
+    asked_so _ (out_of_range i q e reads range) = in_range i q false e reads range
+    asked_so _ (job i q e reads range) = in_range i q true e reads range

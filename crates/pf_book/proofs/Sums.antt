@@ -93,5 +93,5 @@ used_more d addition.Nothing u n h = ap (λ (v : Usage). charged v charge.Call) 
 used_more d (addition.Module m) u n h =
     ap (λ (v : Usage). charged (charged v (charge.Module (length m.source))) charge.Call) h ∙ with_module d.modules d.trials m n
 used_more d (addition.Trial j) u n h =
-    ap (λ (v : Usage). charged (charged v (charge.Trial j.limit)) charge.Call) h
-    ∙ with_trial d.modules d.trials (record { job = j; state = desk.queued }) n
+    ap (λ (v : Usage). charged (charged v (charge.Trial j.value.limit)) charge.Call) h
+    ∙ with_trial d.modules d.trials (record { job = j.value; state = desk.queued }) n

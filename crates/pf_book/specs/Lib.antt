@@ -3,7 +3,6 @@ pub mod View
 pub mod Trials
 pub mod Queued
 pub mod Orders
-pub mod Jobs
 pub mod Plans
 pub mod Kept
 pub mod Answers

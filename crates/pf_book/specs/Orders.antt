@@ -4,15 +4,17 @@ use Rattle.pf_fault.specs.declared.code.Code.{Code}
 use Rattle.pf_fault.specs.declared.fault.OrNoMemory.{OrNoMemory}
 use Rattle.pf_fault.specs.declared.fault.OrNoMemory.TheVariants.{NoMemory, Fault}
 use Rattle.pf_desks.specs.Desk.{Stored, Job, job_of, numbered}
+use Rattle.pf_sched.specs.Views.{choices_of}
 use Rattle.pf_book.specs.declared.call.Order.{Order}
 use Rattle.pf_book.specs.declared.refusal.Refusal.{Refusal}
+use Rattle.pf_book.specs.Profile.{ForRight}
 use Rattle.pf_book.specs.View.{code_of}
 
--- the job of an order to a project with these modules
-abbrev pub job_asked : List Stored → Order → Result Job Code
-job_asked modules o = job_of (numbered modules o.module) o.root.items o.property.items o.schedule.items o.limit
+-- Asked modules o r: an order to a project with these modules asks for this job, or is refused for this
+abbrev pub Asked : List Stored → Order → Result Job Code → Type 0
+Asked modules o r = ForRight (λ p. job_of p (numbered modules o.module) o.root.items o.property.items (choices_of o.choices) o.limit ≡ r)
 
--- out of memory says nothing of the order
-abbrev pub IsRefusedJob : Result Job Code → OrNoMemory Refusal → Type 0
-IsRefusedJob r NoMemory = Unit {0}
-IsRefusedJob r (Fault e) = r ≡ Err (code_of e)
+-- a refusal is one of these; out of memory says nothing of the order
+abbrev pub IsRefusedJob : (Result Job Code → Type 0) → OrNoMemory Refusal → Type 0
+IsRefusedJob P NoMemory = Unit {0}
+IsRefusedJob P (Fault e) = P (Err (code_of e))

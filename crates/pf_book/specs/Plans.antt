@@ -14,7 +14,7 @@ use Rattle.pf_book.specs.View.{entry_seen, reply_seen}
 abbrev pub with_addition : desk.Desk → Addition → desk.Desk
 with_addition d addition.Nothing = d
 with_addition d (addition.Module m) = record d { modules = d.modules ++ m ∷ [] }
-with_addition d (addition.Trial j) = record d { trials = d.trials ++ record { job = j; state = desk.queued } ∷ [] }
+with_addition d (addition.Trial j) = record d { trials = d.trials ++ record { job = j.value; state = desk.queued } ∷ [] }
 
 -- what a call to a desk comes to is what it is answered with, and it is noted so
 abbrev pub IsPlan : desk.Desk → desk.Call → Plan → Type 0
@@ -26,7 +26,7 @@ IsPlan d c plan =
 abbrev pub used_by : Usage → Addition → Usage
 used_by u addition.Nothing = u
 used_by u (addition.Module m) = charged u (charge.Module (length m.source))
-used_by u (addition.Trial j) = charged u (charge.Trial j.limit)
+used_by u (addition.Trial j) = charged u (charge.Trial j.value.limit)
 
 -- one of the sums doesn't fit 64 bits
 abbrev pub IsPastSums : Usage → Type 0

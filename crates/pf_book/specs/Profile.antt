@@ -1,7 +1,9 @@
--- Profiles that are right: they read sources as the language does, and jobs mean to them what they mean in it.
-use Rattle.std.specs.Prelude.{◌≡◌, ℕ, List}
+-- Profiles that are right: they read sources and properties as the language does, and jobs mean to them what they mean in it.
+use Rattle.std.specs.Prelude.{◌≡◌, ℕ, List, Option}
 use Rattle.pf_check.specs.Reads.{Outcome, accepted, refused, Reads}
 use Rattle.pf_model.specs.Meaning.{Report, Means}
+use Rattle.pf_model.specs.Properties.{Property}
+use Rattle.pf_property.specs.Texts.{IsPropertyOf}
 use Rattle.pf_desks.specs.Desk.{Reading, readable, faulty, Job, job_meant, Profile}
 
 -- what desks see of an outcome: a module, or the code of a refusal without its place
@@ -9,9 +11,11 @@ abbrev pub reading_from : Outcome → Reading
 reading_from (accepted name atoms functions) = readable (record { name = name; atoms = atoms; functions = functions })
 reading_from (refused code place) = faulty code
 
--- however a source is read, the profile reads it so; whatever a job means in the language, it means to the profile
+-- however a source is read, the profile reads it so; whatever property bytes are, or none, they are to the profile; whatever a job means in
+-- the language, it means to the profile
 pub record IsRight (p : Profile) : Type 0 where
   pub reads : (bytes : List ℕ) (o : Outcome) → Reads bytes o → p.reading bytes ≡ reading_from o
+  pub properties : (names : List (List ℕ)) (bytes : List ℕ) (o : Option Property) → IsPropertyOf names bytes o → p.property names bytes ≡ o
   pub means : (j : Job) (r : Report) → Means (job_meant j) r → p.meaning j ≡ r
 
 -- it holds for each profile that is right

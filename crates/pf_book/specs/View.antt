@@ -2,6 +2,7 @@
 use Rattle.pf_fault.specs.declared.code.Code.{Code}
 use Rattle.pf_fault.specs.declared.code.Code.TheVariants as code
 use Rattle.pf_desks.specs.Desk as desk
+use Rattle.pf_sched.specs.Views.{choices_of}
 use Rattle.pf_book.specs.declared.call.Order.{Order}
 use Rattle.pf_book.specs.declared.call.Call.{Call}
 use Rattle.pf_book.specs.declared.call.Call.TheVariants as call
@@ -15,7 +16,7 @@ use Rattle.pf_book.specs.declared.trial.State.{State}
 use Rattle.pf_book.specs.declared.trial.State.TheVariants as state
 
 abbrev pub order_seen : Order → desk.Call
-order_seen o = desk.order o.module o.root.items o.property.items o.schedule.items o.limit
+order_seen o = desk.order o.module o.root.items o.property.items (choices_of o.choices) o.limit
 
 abbrev pub call_seen : Call → desk.Call
 call_seen (call.Submit s) = desk.submit s

@@ -12,20 +12,22 @@ use crate::call::{Call, Order};
 use crate::desk::Desk;
 use crate::reply::Reply;
 use indexmap::IndexMap;
+use pf_sched::Scratch;
 use pf_store::{Source, Store};
 use pf_terms::NoMemory;
 use std::alloc::Global;
 use std::hash::RandomState;
 use std::marker::Model;
 
-/// The desks of all projects, each opened by the first call of its project, and the store of what was submitted, from which desks
-/// share the modules of equal sources. Contracts see the desks by project, in the order in which they were opened; that modules are
-/// shared isn't seen. No call of one project reads or changes the desk of another. Random keys keep a look-up from being slow for
-/// projects or sources that are chosen to be; no reply depends on them.
+/// The desks of all projects, each opened by the first call of its project; the store of what was submitted, from which desks share
+/// the modules of equal sources; and the spare nodes that one run leaves to the next. Contracts see the desks by project, in the order
+/// in which they were opened; what is shared or spare isn't seen. No call of one project reads or changes the desk of another. Random
+/// keys keep a look-up from being slow for projects or sources that are chosen to be; no reply depends on them.
 #[derive(Drop)]
 pub struct Book {
     desks: IndexMap<u32, Desk, RandomState>,
     store: Store,
+    scratch: Scratch,
 }
 
 impl Model for Book {
@@ -47,6 +49,7 @@ impl Book {
         Book {
             desks: IndexMap::with_hasher(alloc, keys),
             store: Store::new(alloc, keys),
+            scratch: Scratch::new(alloc),
         }
     }
 
@@ -112,6 +115,6 @@ impl Book {
         let Some(desk) = self.desks.get_mut(&project) else {
             return Ok(false);
         };
-        desk.once(alloc, ticket)
+        desk.once(alloc, &mut self.scratch, ticket)
     }
 }

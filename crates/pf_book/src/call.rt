@@ -1,19 +1,20 @@
 //! What a client asks for.
 
+use pf_sched::JobChoices;
 use pf_store::Source;
 use smallvec::SmallVec;
 
 /// A word of a call. One of at most 16 bytes takes no block of memory.
 pub type Word = SmallVec<u8, 16>;
 
-/// An order of a trial: of a module by its number, from the function of this name, by the words of a schedule and within so
-/// many steps. The property says what is asked of the run.
+/// An order of a trial: of a module by its number, from the function of this name, whether the property of these bytes holds, by these
+/// choices and within so many steps.
 #[derive(Drop)]
 pub struct Order {
     pub module: u64,
     pub root: Word,
     pub property: Word,
-    pub schedule: Vec<u32>,
+    pub choices: JobChoices,
     pub limit: u32,
 }
 

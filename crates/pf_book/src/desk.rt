@@ -1,7 +1,7 @@
 //! The desk of one project.
 
 ghost use Rattle.std.specs.Prelude.{◌≡◌, IfOk, MatchResult, length};
-ghost use Rattle.std.specs.Option.{option_copied};
+ghost use Rattle.std.specs.Option.{option_map};
 ghost use Rattle.pf_desks.specs.Desk as desk;
 ghost use Rattle.pf_desks.specs.Desk.{no_desk, fetched};
 ghost use Rattle.pf_desks.specs.History.{IsLegalDesk};
@@ -14,7 +14,7 @@ ghost use Rattle.pf_book.specs.Trials.{AtomsAt};
 
 use crate::call::{Call, Order};
 use crate::entry::Entry;
-use crate::job::Job;
+use crate::job::{job_of, run};
 use crate::numbers::{make_room, numbered};
 use crate::plan::{Addition, Plan};
 use crate::refusal::Refusal;
@@ -22,6 +22,7 @@ use crate::reply::{FiledReport, Reply};
 use crate::trial::Trial;
 use pf_fault::OrNoMemory;
 use pf_quota::Usage;
+use pf_sched::{Job, Scratch};
 use pf_store::{Source, Store, Stored};
 use pf_terms::NoMemory;
 use std::alloc::Global;
@@ -135,7 +136,7 @@ impl Desk {
         ensures { IfOk result (λ p. IsPlan self.now (order_seen order) p) }
     {
         let order = Arc::new(alloc, order)?;
-        match Job::ordered(&self.modules, &order) {
+        match job_of(alloc, &self.modules, &order) {
             Ok(job) => {
                 let ticket = self.trials.len() as u64 + 1;
                 Ok(Plan {
@@ -168,14 +169,19 @@ impl Desk {
     }
 
     /// A worker claims a trial, runs it whole and files its report; says false where the trial isn't queued, which takes no memory.
-    /// After running out of memory nothing has changed.
-    pub fn once(&mut self, alloc: Global, ticket: u64) -> Result<bool, NoMemory>
+    /// After running out of memory nothing has changed. What stands in the scratch makes no difference.
+    pub fn once(
+        &mut self,
+        alloc: Global,
+        scratch: &mut Scratch,
+        ticket: u64,
+    ) -> Result<bool, NoMemory>
         ensures { DeskWorks self.old ticket result self.new }
     {
         let Some(job) = queued(&self.trials, ticket) else {
             return Ok(false);
         };
-        let report = FiledReport::new(alloc, job.module(), job.run(alloc)?)?;
+        let report = run(alloc, job, scratch)?;
         make_room(&mut self.history, 2)?;
         file(&mut self.trials, ticket, report);
         self.history.push_reserved(Entry::Claimed(ticket));
@@ -185,8 +191,8 @@ impl Desk {
 }
 
 /// The job of the trial of a ticket, where it is queued.
-fn queued(trials: &[Trial], ticket: u64) -> Option<&Job>
-    ensures { option_copied result ≡ job_at trials.now ticket }
+fn queued(trials: &[Trial], ticket: u64) -> Option<&Arc<Job>>
+    ensures { option_map (λ j. j.now.value) result ≡ job_at trials.now ticket }
 {
     numbered(trials, ticket)?.queued()
 }

@@ -6,19 +6,20 @@ ghost use Rattle.pf_quota.specs.declared.charges.Charge.TheVariants as charge;
 ghost use Rattle.pf_book.specs.Plans.{IsPastSums, used_by};
 
 use crate::entry::Entry;
-use crate::job::Job;
 use crate::numbers::sum;
 use crate::reply::Reply;
 use pf_quota::Usage;
+use pf_sched::Job;
 use pf_store::Stored;
 use pf_terms::NoMemory;
+use std::sync::Arc;
 
 /// What a call adds to its desk.
 #[derive(Drop)]
 pub(crate) enum Addition {
     Nothing,
     Module(Stored),
-    Trial(Job),
+    Trial(Arc<Job>),
 }
 
 /// What a call comes to: what it adds to its desk, what is noted of it, and its reply.

@@ -4,6 +4,7 @@ ghost use Rattle.std.specs.Prelude.{◌≡◌};
 ghost use Rattle.pf_book.specs.View.{code_of};
 
 use pf_fault::Code;
+use pf_sched::JobRefusal;
 use std::fmt;
 
 /// Why a call is refused. It prints as its code.
@@ -21,7 +22,7 @@ pub enum Refusal {
     NoTrial,
     /// `B5`: the trial has no report yet.
     NotDone,
-    /// `B6`: the limit isn't from 1 to 100,000, or the schedule has more than 100,000 words.
+    /// `B6`: the limit isn't from 1 to 100,000, or the schedule has more than 100,000 numbers.
     OutOfRange,
 }
 
@@ -38,6 +39,20 @@ impl Refusal {
             Refusal::NoTrial => Code::NoTrial,
             Refusal::NotDone => Code::NotDone,
             Refusal::OutOfRange => Code::OutOfRange,
+        }
+    }
+}
+
+impl From<JobRefusal> for Refusal {
+    ghost use Rattle.pf_sched.specs.Views as job;
+
+    ghost from_gives = { λ refusal same. code_of same ≡ job.code_of refusal };
+
+    fn from(refusal: JobRefusal) -> Refusal {
+        match refusal {
+            JobRefusal::NoRoot => Refusal::NoRoot,
+            JobRefusal::NoProperty => Refusal::NoProperty,
+            JobRefusal::OutOfRange => Refusal::OutOfRange,
         }
     }
 }

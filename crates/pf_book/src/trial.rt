@@ -1,15 +1,16 @@
 //! Trials of a desk.
 
 ghost use Rattle.std.specs.Prelude.{◌≡◌, MatchResult};
-ghost use Rattle.std.specs.Option.{option_copied};
+ghost use Rattle.std.specs.Option.{option_map};
 ghost use Rattle.pf_desks.specs.Desk as desk;
 ghost use Rattle.pf_book.specs.View.{code_of};
 ghost use Rattle.pf_book.specs.Queued.{queued_job};
 
-use crate::job::Job;
 use crate::refusal::Refusal;
 use crate::reply::FiledReport;
+use pf_sched::Job;
 use std::marker::Model;
+use std::sync::Arc;
 
 /// How far a trial is.
 #[derive(Drop)]
@@ -22,7 +23,7 @@ pub(crate) enum State {
 /// A job, and how far it is.
 #[derive(Drop)]
 pub(crate) struct Trial {
-    job: Job,
+    job: Arc<Job>,
     state: State,
 }
 
@@ -37,15 +38,15 @@ impl Model for Trial {
     ghost use Rattle.pf_book.specs.View.{state_seen};
     ghost use Rattle.pf_book.specs.Trials.{SpeaksOf};
 
-    ghost view = { λ t. record { job = t.job; state = state_seen t.state } };
+    ghost view = { λ t. record { job = t.job.value; state = state_seen t.state } };
 
-    ghost invariant = { λ t. SpeaksOf t.job.stored.code.atoms t.state };
+    ghost invariant = { λ t. SpeaksOf t.job.value.stored.code.atoms t.state };
 }
 
 impl Trial {
     /// The trial of a job, which is queued.
-    pub fn new(job: Job) -> Trial
-        ensures { result ≡ record { job = job; state = desk.queued } }
+    pub fn new(job: Arc<Job>) -> Trial
+        ensures { result ≡ record { job = job.value; state = desk.queued } }
     {
         Trial {
             job,
@@ -54,8 +55,8 @@ impl Trial {
     }
 
     /// The job, where it is queued.
-    pub fn queued(&self) -> Option<&Job>
-        ensures { option_copied result ≡ queued_job self.now }
+    pub fn queued(&self) -> Option<&Arc<Job>>
+        ensures { option_map (λ j. j.now.value) result ≡ queued_job self.now }
     {
         match &self.state {
             State::Queued => Some(&self.job),

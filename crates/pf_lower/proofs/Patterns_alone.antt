@@ -1,12 +1,12 @@
 -- A pattern that stands by itself breaks no rule, and only what its atoms stand for decides what it becomes.
-use Rattle.std.proofs.Common.{◌≡◌, ℕ, Bool, true, false, List, [], ◌∷◌, ◌++◌, refl, sym, ap, ap₂, ◌∙◌, subst}
+use Rattle.std.proofs.Common.{◌≡◌, ℕ, Bool, true, false, [], ◌∷◌, ◌++◌, refl, ap, ap₂, ◌∙◌, subst}
 use Rattle.std.specs.Prelude.{if◌then◌else◌}
 use Rattle.pf_fault.specs.declared.code.Code.TheVariants.{Unsafe}
 use Rattle.pf_terms.specs.Value.{atom as atom_value}
 use Rattle.pf_syntax.specs.Pattern.{Pattern, Patterns, known}
 use Rattle.pf_syntax.specs.WrittenPattern as s
 use Rattle.pf_syntax.specs.WrittenPattern.{WrittenPattern, WrittenPatterns, no_written_patterns, written_pattern}
-use Rattle.pf_syntax.specs.Scope.{Scope, no_scope, has, is_new, binding, after_written_pattern, after_written_patterns}
+use Rattle.pf_syntax.specs.Scope.{Scope, no_scope, has, is_new, after_written_pattern, after_written_patterns}
 use Rattle.pf_syntax.specs.Naming as w
 use Rattle.pf_syntax.specs.Naming.{Names, WrittenPatternIs, WrittenPatternsAre}
 use Rattle.pf_rules.specs.Static.{fault_if, written_pattern_faults, written_patterns_faults}

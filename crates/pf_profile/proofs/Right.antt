@@ -1,11 +1,15 @@
 -- The profile of the language is right.
-use Rattle.std.proofs.Common.{◌≡◌, ℕ, List, sym, ap}
+use Rattle.std.proofs.Common.{◌≡◌, ℕ, List, Option, Some, None, refl, sym, ap}
 use Rattle.pf_check.specs.Reads.{Outcome, accepted, refused, Reads, SameOutcome}
 use Rattle.pf_check.proofs.AnyOutcome.{any_outcome}
 use Rattle.pf_check.proofs.Same.{same_outcome}
 use Rattle.pf_model.specs.Meaning.{Means, Report}
 use Rattle.pf_desks.specs.Desk.{readable, faulty, Job, job_meant}
 use Rattle.pf_model.proofs.Meanings.{one_meaning}
+use Rattle.pf_model.specs.Properties.{Property}
+use Rattle.pf_property.specs.Texts.{IsPropertyOf}
+use Rattle.pf_property.proofs.AnyProperty.{any_property}
+use Rattle.pf_property.proofs.One.{at_most_one}
 use Rattle.pf_book.specs.Profile.{reading_from, IsRight}
 use Rattle.pf_profile.specs.Profile.{profile}
 
@@ -19,9 +23,19 @@ reading_is : (bytes : List ℕ) (o : Outcome) → Reads bytes o → profile.read
 unfolding profile
 reading_is bytes o h = let any = any_outcome bytes in same_reading any.0 o (same_outcome bytes any.0 o any.1 h)
 
+same_property : (names : List (List ℕ)) (bytes : List ℕ) (o p : Option Property) → IsPropertyOf names bytes o → IsPropertyOf names bytes p → o ≡ p
+same_property names bytes (Some q) (Some r) h k = ap Some (at_most_one names bytes q r h k)
+same_property names bytes (Some q) None h k = absurd (k q h)
+same_property names bytes None (Some r) h k = absurd (h r k)
+same_property names bytes None None h k = refl
+
+property_is : (names : List (List ℕ)) (bytes : List ℕ) (o : Option Property) → IsPropertyOf names bytes o → profile.property names bytes ≡ o
+unfolding profile
+property_is names bytes o h = let any = any_property names bytes in same_property names bytes any.0 o any.1 h
+
 meaning_is : (j : Job) (r : Report) → Means (job_meant j) r → profile.meaning j ≡ r
 unfolding profile
 meaning_is j r h = sym ((one_meaning (job_meant j)).2 r h)
 
 pub right : IsRight profile
-right = record { reads = reading_is; means = meaning_is }
+right = record { reads = reading_is; properties = property_is; means = meaning_is }

@@ -5,7 +5,7 @@ use Rattle.std.proofs.Math.Nat.{sub-zero}
 use Rattle.pf_model.specs.Code.{Code}
 use Rattle.pf_model.specs.Configuration.{Configuration}
 use Rattle.pf_model.specs.Evaluation.{pass_of}
-use Rattle.pf_model.specs.Runs.{Actor, Passed, Passes, Transition, transition, Words, later, Goes, stays, more, Stops, enabled}
+use Rattle.pf_model.specs.Runs.{Actor, Passed, Passes, Transition, Words, later, Goes, stays, more, Stops, enabled}
 use Rattle.pf_model.proofs.Turned.{pass_only, pass_uses}
 
 -- each transition takes a step at least
@@ -68,8 +68,12 @@ module _ (m : Code) where
       by : None n c e l ⊎ First ws n c us e l → 0 < length us
       by (inl none) = absurd (goes (subst (λ z. Stops (n - z) c) none.unused (subst (λ z. Stops (n - l) z) none.same stops)))
       by (inr first) = let h = first.counts in omega arith
-  longer _ _ _ _ _ _ (more ws n c x p ts d k chosen pass rest) goes us e l whole stops = by (first_of ws (suc n) c us e l whole)
+  longer _ _ _ _ _ _ (more ws n c x p ts d k chosen pass rest) goes us e l whole stops =
+      by (first_of ws (suc n) c us e l whole) (longer (later ws) (suc n - p.used) p.after ts d k rest goes_behind)
     where
+      goes_behind : Stops (suc n - p.used - k) d → ⊥
+      goes_behind h = goes (let q : suc n - p.used - k ≡ suc n - (p.used + k) = omega arith in subst (λ z. Stops z d) q h)
+
       stands : None (suc n) c e l → Stops (suc n) c
       stands none = subst (λ z. Stops z c) (sub-zero (suc n)) (subst (λ z. Stops (suc n - z) c) none.unused (subst (λ z. Stops (suc n - l) z) none.same stops))
 
@@ -77,24 +81,19 @@ module _ (m : Code) where
       never (inl h) = nobody (enabled c) (ws zero % length (enabled c)) x chosen h
       never (inr h) = omega arith
 
-      goes_behind : Stops (suc n - p.used - k) d → ⊥
-      goes_behind h = goes (let q : suc n - p.used - k ≡ suc n - (p.used + k) = omega arith in subst (λ z. Stops z d) q h)
-
-      by : None (suc n) c e l ⊎ First ws (suc n) c us e l → suc (length ts) < length us
-      by (inl none) = absurd (never (stands none))
-      by (inr first) = let h = behind in let g = first.counts in omega arith
-        where
-          actor : first.actor ≡ x
-          actor = same_actor first.actor x (sym first.chosen ∙ chosen)
-
-          passed : first.passed ≡ p
-          passed =
-              sym (pass_only m (suc n) c first.actor first.passed first.passes)
-              ∙ ap (pass_of m (suc n) c) actor ∙ pass_only m (suc n) c x p pass
-
-          behind : length ts < length first.others
-          behind =
-              longer (later ws) (suc n - p.used) p.after ts d k rest goes_behind first.others e first.steps
-              (subst (λ z. Goes m (later ws) (suc n - z.used) z.after first.others e first.steps) passed first.rest)
-              (let q : suc n - l ≡ suc n - first.passed.used - first.steps = (let s = first.sums in omega arith) in
-              subst (λ z. Stops (suc n - z.used - first.steps) e) passed (subst (λ z. Stops z e) q stops))
+      by : None (suc n) c e l ⊎ First ws (suc n) c us e l
+          → ((vs : List Transition) (f : Configuration) (i : ℕ) → Goes m (later ws) (suc n - p.used) p.after vs f i → Stops (suc n - p.used - i) f → length ts < length vs)
+          → suc (length ts) < length us
+      by (inl none) further = absurd (never (stands none))
+      by (inr first) further =
+          let actor = same_actor first.actor x (sym first.chosen ∙ chosen) in
+          let same : first.passed ≡ p =
+          sym (pass_only m (suc n) c first.actor first.passed first.passes)
+          ∙ ap (pass_of m (suc n) c) actor ∙ pass_only m (suc n) c x p pass in
+          let left : suc n - l ≡ suc n - first.passed.used - first.steps = (let s = first.sums in omega arith) in
+          let behind =
+          further first.others e first.steps
+          (subst (λ z. Goes m (later ws) (suc n - z.used) z.after first.others e first.steps) same first.rest)
+          (subst (λ z. Stops (suc n - z.used - first.steps) e) same (subst (λ z. Stops z e) left stops)) in
+          let counts = first.counts in
+          omega arith

@@ -1,6 +1,5 @@
 -- The report of a run that is over.
-use Rattle.std.proofs.Common.{◌≡◌, ℕ, ◌-◌, ◌≤◌, List, length, map, Option, Some, Bool, refl, sym, ap, ◌∙◌, subst, arith}
-use Rattle.std.proofs.lemmas.List.{length-map}
+use Rattle.std.proofs.Common.{◌≡◌, ◌-◌, List, map, Option, Some, Bool, sym, ap, ◌∙◌, subst}
 use Rattle.pf_choice.specs.declared.choices.Choices.{Choices}
 use Rattle.rand_pcg.specs.Lcg.{Lcg}
 use Rattle.pf_model.specs.Configuration.{Configuration}
@@ -20,11 +19,6 @@ use Rattle.pf_sched.specs.Traces.{Going}
 -- what stands is one thing
 pub one_stands : (o : Option Configuration) (c d : Configuration) → o ≡ Some c → o ≡ Some d → c ≡ d
 one_stands o c d a b = cc
-
--- as many events as transitions
-pub as_many : {A B : Type 0} (xs ys : List meaning.Event) (as : List A) (bs : List B) (f : A → meaning.Event) (g : B → meaning.Event)
-    → xs ≡ map f as → ys ≡ map g bs → xs ≡ ys → length as ≡ length bs
-as_many xs ys as bs f g a b e = sym (length-map as f) ∙ ap length (sym a) ∙ ap length e ∙ ap length b ∙ length-map bs g
 
 module _ (j : Job) (es : List Event) (s : SystemView) (q : Choices Lcg) (g : Going j.stored.code (words_of j.choices) j.limit (start j.root) es s q) where
   -- the report with the events of a whole run and what it came to is what the job means

@@ -1,23 +1,18 @@
 -- A run by words, transition by transition, and its report.
-use Rattle.std.proofs.Common.{◌≡◌, ℕ, zero, suc, ◌+◌, ◌-◌, ◌<◌, ◌≤◌, ◌%◌, List, [], ◌∷◌, ◌++◌, length, map, Option, Some, None, Bool, refl, sym, ap, ◌∙◌, subst, arith, inl, inr}
+use Rattle.std.proofs.Common.{◌≡◌, ℕ, zero, suc, ◌+◌, ◌-◌, ◌<◌, ◌%◌, List, [], ◌∷◌, ◌++◌, length, map, Option, Some, None, refl, sym, ap, ◌∙◌, subst, arith}
 use Rattle.std.specs.Prelude.{slice_get}
 use Rattle.std.proofs.lemmas.Nat.{mod_below}
 use Rattle.rand_pcg.specs.Pcg.{pcg32}
 use Rattle.rand_pcg.specs.Lcg.{Lcg}
 use Rattle.pf_choice.specs.Choices.{Chooses, IsAt, words_ahead}
-use Rattle.pf_choice.specs.Words.{schedule_word}
 use Rattle.pf_choice.specs.declared.choices.Choices.{Choices}
 use Rattle.pf_model.specs.Code.{Code}
-use Rattle.pf_model.specs.Configuration.{Configuration, Core, of}
-use Rattle.pf_model.specs.Place.{State, running, waiting, ending, ended, returned, failed}
+use Rattle.pf_model.specs.Configuration.{Configuration}
 use Rattle.pf_model.specs.Labels.{Label}
 use Rattle.pf_model.specs.Meaning as meaning
-use Rattle.pf_model.specs.Properties as property
-use Rattle.pf_model.specs.Properties.{is_finished}
-use Rattle.pf_model.specs.Reports.{actor_of, event_of, label_of, outcome_of, report_of}
-use Rattle.pf_model.specs.Runs.{Actor, channel, enabled, Goes, stays, Passed, Passes, delivery, is_waiting, numbers_of, Run, start, transition, Transition, Words}
+use Rattle.pf_model.specs.Reports.{actor_of, event_of, label_of}
+use Rattle.pf_model.specs.Runs.{Actor, channel, enabled, Goes, stays, Passed, Passes, delivery, transition, Transition, Words}
 use Rattle.pf_model.specs.declared.report.Event.{Event}
-use Rattle.pf_model.specs.declared.report.Report.{Report}
 use Rattle.pf_system.specs.Steps.{IsAmong, MayGo, PassesTo}
 use Rattle.pf_system.specs.View.{SystemView}
 use Rattle.pf_sched.specs.Traces.{Going, Went}
@@ -56,7 +51,7 @@ map_last : {A B : Type 0} (f : A → B) (xs : List A) (x : A) → map f (xs ++ x
 map_last f [] x = refl
 map_last f (y ∷ xs) x = ap (λ z. f y ∷ z) (map_last f xs x)
 
-length_last : {A : Type 0} (xs : List A) (x : A) → length (xs ++ x ∷ []) ≡ length xs + 1
+pub length_last : {A : Type 0} (xs : List A) (x : A) → length (xs ++ x ∷ []) ≡ length xs + 1
 length_last [] x = refl
 length_last (y ∷ xs) x = let e = length_last xs x in omega arith
 

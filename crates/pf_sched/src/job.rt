@@ -1,11 +1,11 @@
 //! Runs that may be asked for.
 
-ghost use Rattle.std.specs.Prelude.{◌≡◌, Ok, MatchResult};
+ghost use Rattle.std.specs.Prelude.{◌≡◌, Ok, MatchResult, option_map};
 ghost use Rattle.pf_fault.specs.declared.code.Code.TheVariants as code;
 ghost use Rattle.pf_model.specs.Code.{code_of as code_in};
 ghost use Rattle.pf_property.specs.Texts.{ReadsProperty};
 ghost use Rattle.pf_property.specs.Views.{property_of};
-ghost use Rattle.pf_sched.specs.Asked.{Asks, IsKept, IsRefusal, NoSuch};
+ghost use Rattle.pf_sched.specs.Asked.{Asks, IsKept, IsRefusal, NoSuch, root_in};
 ghost use Rattle.pf_sched.specs.Views.{choices_of};
 
 use crate::choices::JobChoices;
@@ -15,7 +15,6 @@ use pf_model::limits::is_in_range;
 use pf_property::Property;
 use pf_store::Stored;
 use pf_syntax::{FunctionId, Module};
-use pf_terms::AtomTable;
 use std::alloc::Global;
 use std::marker::Model;
 use std::sync::Arc;
@@ -46,17 +45,24 @@ impl Model for Job {
     ghost invariant = { λ j. IsKept (job_in j) };
 }
 
-/// The property of these bytes; what is no property is refused so.
+/// The exported function of this name without arguments.
+fn find_root(stored: &Stored, name: &[u8]) -> Option<FunctionId>
+    ensures { option_map (λ f. f.0) result ≡ root_in stored.now name.now }
+{
+    stored.module().root(name)
+}
+
+/// The property of these bytes, where it is asked of a run of a module; what is no property is refused so.
 fn read_property(
     alloc: Global,
+    stored: &Stored,
     bytes: &[u8],
-    atoms: &AtomTable,
 ) -> Result<Property, OrNoMemory<JobRefusal>>
     ensures { MatchResult result
-        (λ q. ReadsProperty atoms.now bytes.now (property_of q))
-        (NoSuch atoms.now bytes.now) }
+        (λ q. ReadsProperty stored.now.code.atoms bytes.now (property_of q))
+        (NoSuch stored.now.code.atoms bytes.now) }
 {
-    match Property::read(alloc, bytes, atoms) {
+    match Property::read(alloc, bytes, stored.module().atoms()) {
         Ok(property) => Ok(property),
         Err(OrNoMemory::NoMemory) => Err(OrNoMemory::NoMemory),
         Err(OrNoMemory::Fault(_)) => Err(OrNoMemory::Fault(JobRefusal::NoProperty)),
@@ -78,10 +84,10 @@ impl Job {
             (λ job. Asks stored root.now property.now (choices_of choices) limit (Ok job))
             (IsRefusal (Asks stored root.now property.now (choices_of choices) limit)) }
     {
-        let Some(root) = stored.module().root(root) else {
+        let Some(root) = find_root(&stored, root) else {
             return Err(OrNoMemory::Fault(JobRefusal::NoRoot));
         };
-        let property = read_property(alloc, property, stored.module().atoms())?;
+        let property = read_property(alloc, &stored, property)?;
         if !is_in_range(limit, choices.count()) {
             return Err(OrNoMemory::Fault(JobRefusal::OutOfRange));
         }

@@ -1,6 +1,7 @@
 //! Three projects at the book, project 0 among them: each is told what it is told alone.
 
 use pf_book::{Book, Order, Reply, Word};
+use pf_sched::JobChoices;
 use pf_store::Source;
 use pf_terms::NoMemory;
 use std::alloc::Global;
@@ -37,7 +38,7 @@ fn order_of(alloc: Global, module: u64, root: &str, property: &str) -> Result<Or
         module,
         root: Word::from_slice(alloc, root.as_bytes())?,
         property: Word::from_slice(alloc, property.as_bytes())?,
-        schedule: Vec::new(alloc),
+        choices: JobChoices::schedule(alloc, Vec::new(alloc))?,
         limit: 100,
     })
 }

@@ -6,6 +6,8 @@ mod book;
 #[cfg(test)]
 mod commands;
 #[cfg(test)]
+mod orders;
+#[cfg(test)]
 mod pieces;
 #[cfg(test)]
 mod pipes;

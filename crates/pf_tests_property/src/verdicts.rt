@@ -59,7 +59,10 @@ fn never_looks_at_what_is_sent_alone(rt: HostRuntime) -> Result<(), Fail> {
     assert_eq!(rt; after(alloc, "never:1", delivered)?, '+');
     assert_eq!(rt; after(alloc, "never:1", Label::Takes(Term::Int(1)))?, '+');
     let reason = Term::Int(1);
-    assert_eq!(rt; after(alloc, "never:1", Label::Exits { pid: 1, reason })?, '+');
+    assert_eq!(rt;
+        after(alloc, "never:1", Label::Exits { pid: 1, reason })?,
+        '+'
+    );
     Ok(())
 }
 

@@ -1,11 +1,10 @@
-//! Runs of a source: one by the words of a schedule, and one in which the test says who goes.
+//! A run of a source in which the test says who goes.
 
 use pf_check::read;
 use pf_model::report::{Actor, Event, Report};
-use pf_run::run_words;
 use pf_syntax::{FunctionId, Module};
 use pf_system::System;
-use pf_text::put_report;
+use pf_trace::put_report;
 use std::alloc::Global;
 use std::sync::Arc;
 use std::test::Fail;
@@ -30,18 +29,6 @@ fn text_of(alloc: Global, module: &Module, report: &Report) -> Result<String, Fa
         Ok(text) => Ok(text),
         Err(_) => Err(Fail::from("the text of a report is no UTF-8")),
     }
-}
-
-/// The report of a run by the words of a schedule, as it prints.
-pub(crate) fn printed(
-    alloc: Global,
-    source: &str,
-    words: &[u32],
-    limit: u32,
-) -> Result<String, Fail> {
-    let (module, root) = read_main(alloc, source)?;
-    let report = run_words(alloc, &module, root, words, limit)?;
-    text_of(alloc, &module, &report)
 }
 
 /// A run in which the test says who goes, and its events so far.

@@ -1,6 +1,7 @@
-//! Runs by the words of a schedule.
+//! Runs by the numbers of a schedule.
 
-use crate::driven::printed;
+use crate::asked::printed;
+use std::hash::RandomState;
 use std::test::Fail;
 
 /// A name that is used and that a child registers: which comes first is a race.
@@ -22,28 +23,31 @@ const WAITED: &str = "0/1 <0> wait\ndeadlock <0>\nsteps 2\nproperty fails\n";
 
 #[test]
 fn a_name_may_be_used_too_early(rt: HostRuntime) -> Result<(), Fail> {
-    let text = printed(rt.alloc(), RACE, &[], 1000)?;
+    let text = printed(rt.alloc(), RandomState::new(&rt)?, RACE, &[], 1000)?;
     assert_eq!(rt; text.as_str(), TOO_EARLY);
     Ok(())
 }
 
 #[test]
 fn a_name_may_be_there_in_time(rt: HostRuntime) -> Result<(), Fail> {
-    let text = printed(rt.alloc(), RACE, &[4, 3], 1000)?;
+    let text = printed(rt.alloc(), RandomState::new(&rt)?, RACE, &[4, 3], 1000)?;
     assert_eq!(rt; text.as_str(), IN_TIME);
     Ok(())
 }
 
 #[test]
-fn nobody_goes_within_no_steps(rt: HostRuntime) -> Result<(), Fail> {
-    let text = printed(rt.alloc(), RACE, &[], 0)?;
-    assert_eq!(rt; text.as_str(), "limit\nsteps 0\nproperty fails\n");
+fn a_limit_of_one_step_ends_a_run(rt: HostRuntime) -> Result<(), Fail> {
+    let text = printed(rt.alloc(), RandomState::new(&rt)?, RACE, &[], 1)?;
+    assert_eq!(rt;
+        text.as_str(),
+        "0/1 <0> cut\nlimit\nsteps 1\nproperty fails\n"
+    );
     Ok(())
 }
 
 #[test]
 fn who_waits_for_nothing_is_in_a_deadlock(rt: HostRuntime) -> Result<(), Fail> {
-    let text = printed(rt.alloc(), WAITING, &[], 1000)?;
+    let text = printed(rt.alloc(), RandomState::new(&rt)?, WAITING, &[], 1000)?;
     assert_eq!(rt; text.as_str(), WAITED);
     Ok(())
 }

@@ -1,8 +1,10 @@
 -- Commands: what the bytes that `steps` reads ask for. One command stands on a line, its words parted by single spaces.
 use Rattle.std.specs.Prelude.{◌≡◌, ℕ, ◌==◌, Bool, true, false, ◌&&◌, ◌||◌, not, nat_le, if◌then◌else◌, List, [], ◌∷◌, length, take, drop, Option, Some, None, codes}
 use Rattle.std.specs.List.{list_any, slice_split}
+use Rattle.std.specs.Option.{option_map}
 use Rattle.std.specs.Str.{bytes_eq}
-use Rattle.pf_text.specs.Numbers.{number_of, schedule_of}
+use Rattle.pf_text.specs.Numbers.{long_number_of, number_of, schedule_of}
+use Rattle.pf_model.specs.Meaning.{Choices, seed, schedule}
 use Rattle.pf_desks.specs.Desk.{submit, order, fetch, usage, once}
 use Rattle.pf_desks.specs.World.{Step, client, worker}
 
@@ -53,15 +55,20 @@ abbrev pub of_one : (ℕ → Asked) → List (List ℕ) → Option Asked
 of_one f (a ∷ []) = with_one f (number_of a)
 of_one f _ = None
 
-abbrev pub with_order : (root property : List ℕ) → (project n : Option ℕ) → Option (List ℕ) → Option ℕ → Option Asked
-with_order root property (Some project) (Some n) (Some schedule) (Some limit) = Some (made (client project (order n root property schedule limit)))
+-- choices are `seed:N`, a seed that is a long number, or else a schedule
+abbrev pub choices_in : List ℕ → Option Choices
+choices_in text =
+    if bytes_eq (take 5 text) (codes "seed:") then option_map seed (long_number_of (drop 5 text)) else option_map schedule (schedule_of text)
+
+abbrev pub with_order : (root property : List ℕ) → (project n : Option ℕ) → Option Choices → Option ℕ → Option Asked
+with_order root property (Some project) (Some n) (Some cs) (Some limit) = Some (made (client project (order n root property cs limit)))
 with_order root property _ _ _ _ = None
 
 -- P M ROOT PROPERTY CHOICES LIMIT
 abbrev pub of_order : List (List ℕ) → Option Asked
 of_order (p ∷ m ∷ root ∷ property ∷ choices ∷ limit ∷ []) =
     if is_word root && is_word property
-    then with_order root property (number_of p) (number_of m) (schedule_of choices) (number_of limit)
+    then with_order root property (number_of p) (number_of m) (choices_in choices) (number_of limit)
     else None
 of_order _ = None
 

@@ -5,14 +5,16 @@ ghost use Rattle.std.specs.List.{list_any};
 ghost use Rattle.std.specs.Option.{option_map};
 ghost use Rattle.pf_desks.specs.Desk.{fetch, usage, once};
 ghost use Rattle.pf_desks.specs.World.{client, worker};
-ghost use Rattle.pf_wire.specs.Commands.{Asked, made, submission, is_word, of_one, of_two, of_order, asked_by, words_of};
+ghost use Rattle.pf_sched.specs.Views as jobs;
+ghost use Rattle.pf_wire.specs.Commands.{Asked, made, submission, choices_in, is_word, of_one, of_two, of_order, asked_by, words_of};
 ghost use Rattle.pf_wire.specs.View.{request_seen};
 
 use crate::command::Command;
 use crate::cut::{first_word, only_word};
 use pf_book::{Call, Order, Word};
+use pf_sched::JobChoices;
 use pf_terms::NoMemory;
-use pf_text::{number_of, schedule_of};
+use pf_text::{long_number_of, number_of, schedule_of};
 use std::alloc::Global;
 
 /// What a line asks for.
@@ -115,6 +117,19 @@ fn order_words(words: &[u8]) -> Option<OrderWords<'_>>
     })
 }
 
+/// The choices of an order: of a seed, or of a schedule.
+fn choices_of(alloc: Global, text: &[u8]) -> Result<Option<JobChoices>, NoMemory>
+    ensures { IfOk result (λ cs. option_map jobs.choices_of cs ≡ choices_in text.now) }
+{
+    if let Some(number) = text.strip_prefix(b"seed:".as_slice()) {
+        return Ok(long_number_of(number).map(JobChoices::Seed));
+    }
+    match schedule_of(alloc, text)? {
+        Some(numbers) => Ok(Some(JobChoices::schedule(alloc, numbers)?)),
+        None => Ok(None),
+    }
+}
+
 fn read_order(alloc: Global, words: &[u8]) -> Result<Option<Request>, NoMemory>
     ensures { IfOk result (λ a. option_map request_seen a ≡ of_order (words_of words.now)) }
 {
@@ -130,17 +145,17 @@ fn read_order(alloc: Global, words: &[u8]) -> Result<Option<Request>, NoMemory>
     let Some(module) = number_of(words.module) else {
         return Ok(None);
     };
-    let Some(limit) = number_of(words.limit) else {
+    let Some(choices) = choices_of(alloc, words.choices)? else {
         return Ok(None);
     };
-    let Some(schedule) = schedule_of(alloc, words.choices)? else {
+    let Some(limit) = number_of(words.limit) else {
         return Ok(None);
     };
     let order = Order {
         module: u64::from(module),
         root: Word::from_slice(alloc, words.root)?,
         property: Word::from_slice(alloc, words.property)?,
-        schedule,
+        choices,
         limit,
     };
     Ok(Some(Request::Made(Command::Client(project, Call::Order(order)))))

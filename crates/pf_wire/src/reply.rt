@@ -12,7 +12,8 @@ use pf_fault::Code;
 use pf_model::report::Report;
 use pf_quota::Usage;
 use pf_terms::NoMemory;
-use pf_text::{put, put_byte, put_number, put_report};
+use pf_text::{put, put_byte, put_number};
+use pf_trace::put_report;
 use std::alloc::Global;
 
 /// Puts whom a line is for.

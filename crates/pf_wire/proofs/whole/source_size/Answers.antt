@@ -1,10 +1,11 @@
 use Rattle.std.proofs.Common.{◌≡◌, ◌∷◌, ℕ, List, [], Bool, true, false, Option, Some, None, refl, sym, ap, ◌∙◌}
 use Rattle.std.specs.Prelude.{codes, ◌&&◌, not, if◌then◌else◌}
 use Rattle.std.specs.Str.{bytes_eq}
-use Rattle.pf_text.specs.Numbers.{number_of, schedule_of}
+use Rattle.pf_text.specs.Numbers.{number_of}
+use Rattle.pf_model.specs.Meaning.{Choices}
 use Rattle.pf_desks.specs.Desk.{fetch, usage, once}
 use Rattle.pf_desks.specs.World.{Step, client, worker}
-use Rattle.pf_wire.specs.Commands.{Asked, made, with_one, with_two, with_order, of_one, of_two, of_order, asked_by, words_of, is_word}
+use Rattle.pf_wire.specs.Commands.{Asked, choices_in, made, with_one, with_two, with_order, of_one, of_two, of_order, asked_by, words_of, is_word}
 use Rattle.pf_wire.specs.Whole.{size_in}
 use Rattle.pf_wire.proofs.whole.source_size.Goals as goal
 
@@ -29,12 +30,12 @@ two_made f (a ∷ []) = refl
 two_made f (a ∷ b ∷ []) = with_two_made f (number_of a) (number_of b)
 two_made f (a ∷ b ∷ c ∷ ws) = refl
 
-with_order_made : (root property : List ℕ) (p n : Option ℕ) (s : Option (List ℕ)) (l : Option ℕ) → size_in (with_order root property p n s l) ≡ None
-with_order_made root property None n s l = refl
-with_order_made root property (Some p) None s l = refl
+with_order_made : (root property : List ℕ) (p n : Option ℕ) (cs : Option Choices) (l : Option ℕ) → size_in (with_order root property p n cs l) ≡ None
+with_order_made root property None n cs l = refl
+with_order_made root property (Some p) None cs l = refl
 with_order_made root property (Some p) (Some n) None l = refl
-with_order_made root property (Some p) (Some n) (Some s) None = refl
-with_order_made root property (Some p) (Some n) (Some s) (Some l) = refl
+with_order_made root property (Some p) (Some n) (Some cs) None = refl
+with_order_made root property (Some p) (Some n) (Some cs) (Some l) = refl
 
 pick_none : (c : Bool) (x y : Option Asked) → size_in x ≡ None → size_in y ≡ None → size_in (if◌then◌else◌ {A = Option Asked} c x y) ≡ None
 pick_none true x y h k = h
@@ -48,8 +49,8 @@ order_made (a ∷ b ∷ c ∷ []) = refl
 order_made (a ∷ b ∷ c ∷ d ∷ []) = refl
 order_made (a ∷ b ∷ c ∷ d ∷ e ∷ []) = refl
 order_made (p ∷ m ∷ root ∷ property ∷ choices ∷ limit ∷ []) =
-    pick_none (is_word root && is_word property) (with_order root property (number_of p) (number_of m) (schedule_of choices) (number_of limit)) None
-    (with_order_made root property (number_of p) (number_of m) (schedule_of choices) (number_of limit)) refl
+    pick_none (is_word root && is_word property) (with_order root property (number_of p) (number_of m) (choices_in choices) (number_of limit)) None
+    (with_order_made root property (number_of p) (number_of m) (choices_in choices) (number_of limit)) refl
 order_made (a ∷ b ∷ c ∷ d ∷ e ∷ f ∷ g ∷ ws) = refl
 
 not_true : (b : Bool) → not b ≡ true → b ≡ false

@@ -1,8 +1,6 @@
 use Rattle.std.proofs.Common.{◌≡◌, ℕ, List, [], ◌∷◌, ◌++◌, map, Some, refl, sym, ap, ◌∙◌}
 use Rattle.std.proofs.lemmas.List.{map_push}
-use Rattle.pf_desks.specs.Desk.{Desk, Job, job_meant, Trial, claimed, filed, once, worker_step}
-use Rattle.pf_model.specs.Meaning.{Report, Means}
-use Rattle.pf_book.specs.Profile.{ForRight}
+use Rattle.pf_desks.specs.Desk.{Desk, Trial, claimed, filed, once, worker_step}
 use Rattle.pf_book.specs.View.{entry_seen}
 use Rattle.pf_book.specs.Queued.{job_at}
 use Rattle.pf_book.specs.Kept.{desk_in}
@@ -20,23 +18,18 @@ noted t es es1 es2 es3 reserved claims files =
     ∙ map_push entry_seen (es ++ Claimed t ∷ []) (Filed t)
     ∙ ap (λ l. l ++ filed t ∷ []) (map_push entry_seen es (Claimed t))
 
--- what a job is right for, is what the report says
-meant : (j : Job) (r s : Report) → Means (job_meant j) s → r ≡ s → ForRight (λ p. p.meaning j ≡ r)
-meant j r s means same p right = right.means j s means ∙ sym same
-
 pub invariant_of-self-2 : goal.invariant_of-self-2
 invariant_of-self-2 c =
     let d = desk_in c.self.inside in
     let t = c.args.ticket in
-    let j = c.in-Some.job.now in
+    let j = c.in-Some.job.now.value in
     let r = c.in_ok-report.report.1 in
     let waits : job_at d.trials t ≡ Some j = ap (λ (l : List Trial). job_at l t) (sym c.deref.ensures.value) ∙ sym c.in-Some.ensures in
-    let means = meant j r _ c.in_ok-run.ensures (ap (λ (x : List (List ℕ) × Report). x.1) c.in_ok-report.ensures) in
     let history = noted t c.self.inside.history.items _ _ _ c.make_room.ensures.items c.push_reserved.ensures.items c.push_reserved-2.ensures.items in
     let d' = desk_in (record { modules = c.self.inside.modules; trials = c.file.new.trials; history = c.push_reserved-2.new.self; usage = c.self.inside.usage }) in
     record {
       legal = λ p right.
-          legal_work p d d' (once t) (once_is d j r d' refl p (means p right) t waits c.file.ensures history) (c.self.invariant.legal p right);
+          legal_work p d d' (once t) (once_is d j r d' refl p (right.means j r c.in_ok-report.ensures.means) t waits c.file.ensures history) (c.self.invariant.legal p right);
       sums = c.self.invariant.sums ∙ sym (once_sums d j r d' refl t waits c.file.ensures history);
     }
 
@@ -44,10 +37,9 @@ pub returns : goal.returns
 returns c =
     let d = desk_in c.self.inside in
     let t = c.args.ticket in
-    let j = c.in-Some.job.now in
+    let j = c.in-Some.job.now.value in
     let r = c.in_ok-report.report.1 in
     let waits : job_at d.trials t ≡ Some j = ap (λ (l : List Trial). job_at l t) (sym c.deref.ensures.value) ∙ sym c.in-Some.ensures in
-    let means = meant j r _ c.in_ok-run.ensures (ap (λ (x : List (List ℕ) × Report). x.1) c.in_ok-report.ensures) in
     let history = noted t c.self.inside.history.items _ _ _ c.make_room.ensures.items c.push_reserved.ensures.items c.push_reserved-2.ensures.items in
     λ p right.
-    ap (λ (k : Desk). worker_step p k (once t)) (sym c.self.view_is) ∙ once_is d j r _ refl p (means p right) t waits c.file.ensures history
+    ap (λ (k : Desk). worker_step p k (once t)) (sym c.self.view_is) ∙ once_is d j r _ refl p (right.means j r c.in_ok-report.ensures.means) t waits c.file.ensures history

@@ -1,8 +1,6 @@
-use Rattle.std.proofs.Common.{◌≡◌, ◌+◌, ◌<◌, ◌^◌, ◌++◌, ◌∷◌, [], false, true, length, sym, ap, ◌∙◌, subst, arith, rules, set}
+use Rattle.std.proofs.Common.{◌≡◌, ◌+◌, ◌<◌, ◌^◌, false, true, length, ap, ◌∙◌, rules}
 use Rattle.std.specs.Prelude.{is_some}
 use Rattle.pf_syntax.specs.Scope.{has}
-use Rattle.pf_lower.specs.Bound.{with_bound}
-use Rattle.pf_lower.specs.Placed.{Placed}
 use Rattle.pf_lower.proofs.Places_of.{kept_where_found, new_where_missing, lengthened, bound}
 use Rattle.pf_lower.proofs.places.Places.bind.Goals as goal
 

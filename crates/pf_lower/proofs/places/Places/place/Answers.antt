@@ -1,4 +1,4 @@
-use Rattle.std.proofs.Common.{◌≡◌, ◌-◌, ◌≤◌, false, Some, sym, subst, rules}
+use Rattle.std.proofs.Common.{◌≡◌, ◌-◌, ◌≤◌, false, Some, subst, rules}
 use Rattle.std.specs.Prelude.{slice_get, slice_index, MatchOption, SomeIff}
 use Rattle.pf_syntax.specs.Scope.{has}
 use Rattle.pf_lower.proofs.Places_of.{looked, unnoted}

@@ -1,0 +1,4 @@
+pub mod Moved
+pub mod Rounds
+pub mod Hunts
+pub mod Tried

@@ -1,0 +1,5 @@
+pub mod Hunts
+pub mod Rounds
+pub mod Kept
+pub mod Standing
+pub mod Tried

@@ -1,0 +1,50 @@
+-- Rounds of a search: a schedule that fails, and those of its candidates that are left.
+use Rattle.std.specs.Prelude.{ℕ, zero, suc, List, [], ◌∷◌, Option, Some, None, All}
+use Rattle.pf_model.specs.Shrinking.{behind, candidates}
+use Rattle.pf_model.specs.Laws.{IsSmaller}
+
+pub record Round : Type 0 where
+  pub schedule : List ℕ
+  pub left : List (List ℕ)
+
+abbrev pub round : List ℕ → List (List ℕ) → Round
+round ns cs = record { schedule = ns; left = cs }
+
+-- the first of some schedules
+abbrev pub head : List (List ℕ) → Option (List ℕ)
+head [] = None
+head (c ∷ cs) = Some c
+
+-- all candidates of a schedule are left
+abbrev pub begun : List ℕ → Round
+begun ns = round ns (candidates ns)
+
+-- the next candidate doesn't fail
+abbrev pub passed_over : List ℕ → List (List ℕ) → Round
+passed_over ns [] = round ns []
+passed_over ns (c ∷ cs) = round ns cs
+
+abbrev pub passed : Round → Round
+passed r = passed_over r.schedule r.left
+
+-- the next candidate fails, or where none is left the schedule itself: it is the schedule, and all begins
+abbrev pub taken_of : List ℕ → List (List ℕ) → Round
+taken_of ns [] = begun ns
+taken_of ns (c ∷ cs) = begun c
+
+abbrev pub taken : Round → Round
+taken r = taken_of r.schedule r.left
+
+-- no candidate is left
+abbrev pub given_up : Round → Round
+given_up r = round r.schedule []
+
+-- each candidate that is left is smaller than the schedule
+abbrev pub AreSmaller : Round → Type 0
+AreSmaller r = All (λ c. IsSmaller c r.schedule) r.left
+
+-- those of some changes of a schedule that leave its first i numbers as they are
+abbrev pub from_place : (List ℕ → List (List ℕ)) → (i : ℕ) → List ℕ → List (List ℕ)
+from_place changed zero ns = changed ns
+from_place changed (suc i) [] = []
+from_place changed (suc i) (n ∷ ns) = behind n (from_place changed i ns)

@@ -1,0 +1,23 @@
+-- How a hunt is kept: a round of its search, a phase, and the runs that are left.
+use Rattle.std.specs.Prelude.{◌≡◌, ℕ, zero, suc, ◌<◌, false, [], Some, None}
+use Rattle.pf_model.specs.Shrinking.{found}
+use Rattle.pf_shrink.specs.Hunts.{Hunting, begins, ended, searching}
+use Rattle.pf_shrink.specs.Rounds.{Round, AreSmaller}
+use Rattle.pf_shrink.specs.declared.hunt.Phase.{Phase}
+use Rattle.pf_shrink.specs.declared.hunt.Phase.TheVariants.{Given, Search, Partial, Nothing}
+
+-- the hunt, with so many runs left
+abbrev pub standing : (runs : ℕ) → Phase → Round → Hunting
+standing zero Given r = ended None
+standing (suc k) Given r = begins k r.schedule
+standing k Search r = searching k r.schedule r.left
+standing k Partial r = ended (Some (found r.schedule false))
+standing k Nothing r = ended None
+
+-- a round has candidates left only within a search, and only while there are runs; they are smaller than its schedule
+abbrev pub Stands : (runs : ℕ) → Phase → Round → Type 0
+Stands k Given r = (0 < k) × (r.left ≡ [])
+Stands zero Search r = r.left ≡ []
+Stands (suc k) Search r = AreSmaller r
+Stands k Partial r = r.left ≡ []
+Stands k Nothing r = Unit {0}

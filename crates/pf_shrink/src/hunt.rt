@@ -1,0 +1,140 @@
+//! [`Hunt`]: the search for a small schedule that fails.
+
+ghost use Rattle.std.specs.Prelude.{◌≡◌, ◌<◌, ◌-◌, ℕ, suc, Bool, List, [], IsSome, IsNone, option_map};
+ghost use Rattle.pf_model.specs.Shrinking.{shrunk, found as found_at};
+ghost use Rattle.pf_shrink.specs.Hunts.{begins, next_of, told_of, found_of, comes_to, IsAnswerOf, NextIsSmaller};
+ghost use Rattle.pf_shrink.specs.Standing.{standing, Stands};
+
+use crate::round::Round;
+use std::marker::Model;
+
+/// The most runs that may be asked for. A hunt itself goes with any number of them.
+pub const MOST_RUNS: u32 = 1_000;
+
+/// How far a hunt is.
+#[derive(Clone, Copy)]
+enum Phase {
+    /// The given schedule is to be run.
+    Given,
+    /// A search goes on, or ended where no candidate fails.
+    Search,
+    /// The runs were used up while candidates were left.
+    Partial,
+    /// The given schedule doesn't fail.
+    Nothing,
+}
+
+/// The search for a small schedule that fails, within so many runs. It runs nothing: it gives the schedule
+/// that is to be run next, and is told whether it fails.
+#[derive(Drop)]
+pub struct Hunt {
+    round: Round,
+    phase: Phase,
+    runs: u32,
+}
+
+impl Model for Hunt {
+    ghost use Rattle.pf_shrink.specs.Hunts.{Hunting};
+
+    ghost Value = { Hunting };
+
+    ghost use Rattle.pf_shrink.specs.Standing.{standing, Stands};
+
+    ghost view = { λ h. standing h.runs h.phase h.round };
+
+    ghost invariant = { λ h. Stands h.runs h.phase h.round };
+}
+
+impl Hunt {
+    /// The hunt from this schedule, within so many runs. The run of the schedule is the first of them.
+    pub fn new(schedule: Vec<u32>, runs: u32) -> Hunt
+        requires { 0 < runs }
+        ensures begins { result ≡ begins (runs - 1) schedule.items }
+        ensures comes_to { (fails : List ℕ → Bool)
+            → comes_to fails result ≡ shrunk fails runs schedule.items }
+    {
+        Hunt {
+            round: Round::new(schedule),
+            phase: Phase::Given,
+            runs,
+        }
+    }
+
+    /// The schedule that is to be run next; none at the end of the hunt.
+    pub fn next(&self) -> Option<&[u32]>
+        ensures next { option_map (λ s. s.now) result ≡ next_of self.now }
+        ensures smaller { NextIsSmaller self.now }
+    {
+        match self.phase {
+            Phase::Given => Some(self.round.schedule()),
+            Phase::Search => self.round.next(),
+            Phase::Partial | Phase::Nothing => None,
+        }
+    }
+
+    /// Takes the answer whether the next schedule fails. It takes no memory.
+    pub fn told(&mut self, fails: bool)
+        requires { IsSome (next_of self.old) }
+        ensures told { self.new ≡ told_of fails self.old }
+        ensures comes_to { (f : List ℕ → Bool) → IsAnswerOf f fails self.old
+            → comes_to f self.new ≡ comes_to f self.old }
+    {
+        self.phase = answered(&mut self.round, self.phase, fails);
+        self.runs -= 1;
+        if self.runs == 0 {
+            self.phase = cut_off(&mut self.round, self.phase);
+        }
+    }
+
+    /// What was found, at the end of the hunt: the schedule, and whether no candidate of it fails. None where
+    /// the given schedule doesn't fail.
+    pub fn found(&self) -> Option<(&[u32], bool)>
+        requires { IsNone (next_of self.now) }
+        ensures found { option_map (λ f. found_at f.0.now f.1) result ≡ found_of self.now }
+        ensures comes_to { (fails : List ℕ → Bool)
+            → option_map (λ f. found_at f.0.now f.1) result ≡ comes_to fails self.now }
+    {
+        match self.phase {
+            Phase::Search => Some((self.round.schedule(), true)),
+            Phase::Partial => Some((self.round.schedule(), false)),
+            Phase::Given | Phase::Nothing => None,
+        }
+    }
+}
+
+// What an answer makes of a round and a phase, before the run is counted.
+fn answered(round: &mut Round, phase: Phase, fails: bool) -> Phase
+    requires stands { Stands 1 phase round.old }
+    requires next { IsSome (next_of (standing 1 phase round.old)) }
+    ensures told { (k : ℕ) → standing k result round.new ≡ told_of fails (standing (suc k) phase round.old) }
+    ensures stands { (k : ℕ) → Stands (suc k) result round.new }
+{
+    if fails {
+        round.take();
+        return Phase::Search;
+    }
+    match phase {
+        Phase::Search => {
+            round.pass();
+            Phase::Search
+        }
+        Phase::Given | Phase::Partial | Phase::Nothing => Phase::Nothing,
+    }
+}
+
+// The phase where no run is left: a search that has candidates left is partial, and leaves them.
+fn cut_off(round: &mut Round, phase: Phase) -> Phase
+    requires { Stands 1 phase round.old }
+    ensures same { standing 0 result round.new ≡ standing 0 phase round.old }
+    ensures stands { Stands 0 result round.new }
+{
+    match phase {
+        Phase::Search if round.next().is_some() => {
+            round.give_up();
+            Phase::Partial
+        }
+        Phase::Search => Phase::Search,
+        Phase::Partial => Phase::Partial,
+        Phase::Given | Phase::Nothing => Phase::Nothing,
+    }
+}

@@ -1,0 +1,9 @@
+//! The hunt for a small schedule that fails: which schedule is to be run next, and what it comes to.
+#![tactic(auto)]
+
+mod hunt;
+mod round;
+#[cfg(test)]
+mod tests;
+
+pub use hunt::{Hunt, MOST_RUNS};

@@ -1,0 +1,90 @@
+//! Runs that are asked of the scheduler, as they print.
+
+use pf_sched::{Finished, Job, JobChoices, Scratch, Slice, run_slice, start, whole};
+use pf_store::{Source, Store, Stored};
+use pf_trace::put_report;
+use std::alloc::Global;
+use std::hash::RandomState;
+use std::sync::Arc;
+use std::test::Fail;
+
+/// More slices than any run of a test has.
+const ENOUGH: u32 = 1000;
+
+/// The module of a source.
+pub(crate) fn stored(alloc: Global, keys: RandomState, source: &str) -> Result<Stored, Fail> {
+    let mut bytes = Vec::new(alloc);
+    bytes.extend_from_slice(source.as_bytes())?;
+    let source = Source::new(alloc, bytes)?;
+    let mut store = Store::new(alloc, keys);
+    Ok(store.take_or_read(alloc, &source)?)
+}
+
+/// The choices of a schedule of these numbers.
+pub(crate) fn scheduled(alloc: Global, numbers: &[u32]) -> Result<JobChoices, Fail> {
+    let mut own = Vec::new(alloc);
+    own.extend_from_slice(numbers)?;
+    Ok(JobChoices::schedule(alloc, own)?)
+}
+
+/// The job of a run of `main`.
+pub(crate) fn job_of(
+    alloc: Global,
+    stored: &Stored,
+    property: &[u8],
+    choices: JobChoices,
+    limit: u32,
+) -> Result<Arc<Job>, Fail> {
+    let job = Job::new(alloc, stored.share()?, b"main", property, choices, limit)?;
+    Ok(Arc::new(alloc, job)?)
+}
+
+/// The text of the report of a run that is over.
+pub(crate) fn text_of(alloc: Global, finished: &Finished) -> Result<String, Fail> {
+    if !finished.is_whole() {
+        return Err(Fail::from("memory ran out"));
+    }
+    let mut text = Vec::new(alloc);
+    let module = finished.job().module();
+    put_report(alloc, &mut text, module.atoms(), finished.report())?;
+    match String::from_utf8(text) {
+        Ok(text) => Ok(text),
+        Err(_) => Err(Fail::from("the text of a report is no UTF-8")),
+    }
+}
+
+/// The end of a run that is made whole.
+pub(crate) fn run_whole(alloc: Global, job: &Arc<Job>) -> Result<Finished, Fail> {
+    let mut scratch = Scratch::new(alloc);
+    Ok(whole(alloc, Arc::try_clone(job)?, &mut scratch)?)
+}
+
+/// The end of a run by slices of so many turns, which share their spare nodes.
+pub(crate) fn run_sliced(alloc: Global, job: &Arc<Job>, turns: u32) -> Result<Finished, Fail> {
+    if turns == 0 {
+        return Err(Fail::from("a slice has a turn at least"));
+    }
+    let mut scratch = Scratch::new(alloc);
+    let mut parked = start(alloc, Arc::try_clone(job)?)?;
+    for _ in 0..ENOUGH {
+        match run_slice(alloc, parked, &mut scratch, turns) {
+            Slice::More(more) => parked = more,
+            Slice::Done(finished) => return Ok(finished),
+        }
+    }
+    Err(Fail::from("the run goes on"))
+}
+
+/// The report of a run of `main` by a schedule, asked whether it returns, as it prints.
+pub(crate) fn printed(
+    alloc: Global,
+    keys: RandomState,
+    source: &str,
+    numbers: &[u32],
+    limit: u32,
+) -> Result<String, Fail> {
+    let stored = stored(alloc, keys, source)?;
+    let choices = scheduled(alloc, numbers)?;
+    let job = job_of(alloc, &stored, b"returns", choices, limit)?;
+    text_of(alloc, &run_whole(alloc, &job)?)
+}

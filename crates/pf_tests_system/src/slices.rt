@@ -1,0 +1,79 @@
+//! Runs slice by slice.
+
+use crate::asked::{job_of, run_sliced, run_whole, scheduled, stored, text_of};
+use pf_sched::{JobChoices, Scratch, Slice, run_slice, start};
+use std::alloc::Global;
+use std::hash::RandomState;
+use std::test::Fail;
+
+/// A child takes its two messages in the other order. With no number on its schedule the run has 15 events.
+const SWAPPED: &str = "-module(m).\n-export([main/0, kid/1]).\n\
+main() -> C = spawn(m, kid, [self()]), C ! a, C ! b, receive done -> true end.\n\
+kid(P) -> receive b -> receive a -> P ! done end end.\n";
+
+/// Slices of one event, of three and of the whole run come to the same text.
+fn slices_agree(
+    alloc: Global,
+    keys: RandomState,
+    choices: &JobChoices,
+) -> Result<(String, Vec<u32>), Fail> {
+    let stored = stored(alloc, keys, SWAPPED)?;
+    let job = job_of(alloc, &stored, b"true", choices.share()?, 1000)?;
+    let whole = run_whole(alloc, &job)?;
+    let text = text_of(alloc, &whole)?;
+    for turns in [1, 3] {
+        let sliced = text_of(alloc, &run_sliced(alloc, &job, turns)?)?;
+        if sliced.as_str() != text.as_str() {
+            return Err(Fail::from("slices come to another report"));
+        }
+    }
+    let mut numbers = Vec::new(alloc);
+    for event in &whole.report().events {
+        numbers.push(event.choice)?;
+    }
+    Ok((text, numbers))
+}
+
+#[test]
+fn slices_by_a_schedule_agree(rt: HostRuntime) -> Result<(), Fail> {
+    let alloc = rt.alloc();
+    let choices = scheduled(alloc, &[1, 0, 2, 1, 1, 0, 1])?;
+    slices_agree(alloc, RandomState::new(&rt)?, &choices)?;
+    Ok(())
+}
+
+#[test]
+fn slices_by_a_seed_agree(rt: HostRuntime) -> Result<(), Fail> {
+    let alloc = rt.alloc();
+    for seed in [1, 2, 3] {
+        slices_agree(alloc, RandomState::new(&rt)?, &JobChoices::Seed(seed))?;
+    }
+    Ok(())
+}
+
+#[test]
+fn the_choices_of_a_seed_come_to_its_report(rt: HostRuntime) -> Result<(), Fail> {
+    let alloc = rt.alloc();
+    let (text, numbers) = slices_agree(alloc, RandomState::new(&rt)?, &JobChoices::Seed(7))?;
+    let again = JobChoices::schedule(alloc, numbers)?;
+    let (replayed, _) = slices_agree(alloc, RandomState::new(&rt)?, &again)?;
+    assert_eq!(rt; replayed.as_str(), text.as_str());
+    Ok(())
+}
+
+#[test]
+fn a_run_is_over_behind_its_last_event(rt: HostRuntime) -> Result<(), Fail> {
+    let alloc = rt.alloc();
+    let stored = stored(alloc, RandomState::new(&rt)?, SWAPPED)?;
+    let job = job_of(alloc, &stored, b"returns", scheduled(alloc, &[])?, 1000)?;
+    let mut scratch = Scratch::new(alloc);
+    let Slice::More(parked) = run_slice(alloc, start(alloc, job)?, &mut scratch, 14) else {
+        return Err(Fail::from("the run is over behind 14 events"));
+    };
+    let Slice::Done(finished) = run_slice(alloc, parked, &mut scratch, 1) else {
+        return Err(Fail::from("the run goes on behind 15 events"));
+    };
+    assert_eq!(rt; finished.report().events.len(), 15);
+    assert_eq!(rt; finished.report().verdict, Some(true));
+    Ok(())
+}
