@@ -116,11 +116,12 @@ files_that_are_not_read() {
   ended 'standard input that is a folder' 2 '' "pulsefarm: the input can't be read: Is a directory (os error 21)\n"
 }
 
-usage='\n\nUsage: pulsefarm run --root <F> --limit <N> --schedule <L> [FILE]\n'
+usage='\n\nUsage: pulsefarm run [OPTIONS] --root <F> --limit <N> <--seed <N>|--schedule <L>> [FILE]\n'
 more="\nFor more information, try '--help'.\n"
 
 number='a number of steps from 1 to 100000, without leading zeros'
 numbers='`none`, or numbers from 0 to 4294967295 with commas between them'
+seed='a number from 0 to 18446744073709551615, without leading zeros'
 
 words() {
   : > in
@@ -132,6 +133,18 @@ words() {
   ended 'negative limit' 2 '' "error: unexpected argument '-1' found$usage$more"
   run run --root main --limit=-1 --schedule none
   ended 'negative limit in one word' 2 '' "error: invalid value '-1' for '--limit <N>': it wants $number$usage$more"
+  run run --root main --limit 5
+  ended 'neither a seed nor a schedule' 2 '' "error: one of '--seed <N>' and '--schedule <L>' is wanted$usage$more"
+  run run --root main --limit 5 --seed 7 --schedule none
+  ended 'a seed and a schedule' 2 '' "error: the argument '--seed <N>' cannot be used with '--schedule <L>'$usage$more"
+  run run --root main --limit 5 --seed 007
+  ended 'leading zeros of a seed' 2 '' "error: invalid value '007' for '--seed <N>': it wants $seed$usage$more"
+  run run --root main --limit 5 --seed 18446744073709551616
+  ended 'seed past 64 bits' 2 '' "error: invalid value '18446744073709551616' for '--seed <N>': it wants $seed$usage$more"
+  run run --root main --limit 5 --seed 7 --property true --property true
+  ended 'two properties' 2 '' "error: the argument '--property <P>' cannot be used multiple times$usage$more"
+  run run --root main --limit 5 --seed 7 --property
+  ended 'property without a value' 2 '' "error: a value is required for '--property <P>' but none was supplied\n$more"
   run steps "$(printf -- '--\033[1m\377')"
   check 'odd bytes in a word' test "$status" = 2
   check 'odd bytes in a word' grep -qF -e '--\x1b[1m\xff' err

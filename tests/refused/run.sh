@@ -1,8 +1,9 @@
 #!/bin/sh
 # Refuses each growth of three built programs in turn, until a run meets no refusal: of `pf_refused`, of `pf_refused_mailbox`, and
 # of `pulsefarm run` on its stored run and on rows with several processes: three that race by messages, three with links, monitors
-# and names, and one that is killed though it traps exits. Each run has to end with the whole text and its status, or with `NoMemory`
-# alone on a line and status 2; a growth that is refused before `main` has begun may end the program with a message on standard error
+# and names, and one that is killed though it traps exits; by schedules, and one of them by a seed with a property. Each run has to end
+# with the whole text and its status; or with `NoMemory` alone on a line and status 2; or, where the growth was refused within a run of
+# `pulsefarm run`, with the report of a run that memory stopped, and status 2; a growth that is refused before `main` has begun may end the program with a message on standard error
 # and status 1 or 2. Anything else, a signal or a hang fails. Each run of the program itself, refused or not, has to give back each
 # block that it asked for.
 #
@@ -51,6 +52,23 @@ refusing() {
 
 gave_all_back() {
   read -r asked _ _ given _ < "$room/blocks" && [ "$asked" = "$given" ]
+}
+
+# Whether a run of a module ended as it may: so too with the report that memory stopped it.
+run_ended_well() {
+  if [ "$status" = 2 ] && cmp -s "$room/out" "$room/stopped"; then
+    stopped=$((stopped + 1))
+    return
+  fi
+  ended_well
+}
+
+# Refuses each growth of a run of a module in turn, some of them within the run; $1 names it.
+run_refused() {
+  stopped=0
+  all_refused "$1" run_ended_well
+  echo "$1: $stopped of them within the run"
+  [ "$stopped" != 0 ] || failure "$1: no growth was refused within the run"
 }
 
 # Whether the run ended as it may.
@@ -110,6 +128,12 @@ row_refused() {
   all_refused "$1" "$2"
 }
 
+# The same of a row that runs a module.
+row_run_refused() {
+  some_row "$1"
+  run_refused "$1"
+}
+
 # Sets the words and the input of `pulsefarm steps`, over the calls of two projects and a worker's work, and what it writes.
 some_commands() {
   echo steps > "$room/words"
@@ -134,11 +158,14 @@ built pf_refused
 all_refused pf_refused ended_well
 built pf_refused_mailbox
 all_refused pf_refused_mailbox ended_well
+printf '%s\n' memory 'steps 0' 'no verdict' > "$room/stopped"
 built pulsefarm
-all_refused pulsefarm ended_well
-row_refused race_of_two_senders_right_first ended_well
-row_refused together_the_worker_ends_and_is_watched ended_well
-row_refused exits_kill_who_traps ended_well
+run_refused pulsefarm
+row_run_refused race_of_two_senders_right_first
+row_run_refused together_the_worker_ends_and_is_watched
+row_run_refused exits_kill_who_traps
+row_run_refused seed_of_two_senders
+row_run_refused property_never_of_what_is_sent
 some_commands
 all_refused steps commands_ended_well
 row_refused steps_race_in_both_orders commands_ended_well

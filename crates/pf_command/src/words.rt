@@ -346,7 +346,8 @@ fn choices_by_schedule(alloc: Global, word: &str) -> Result<JobChoices, Error>
 fn choices(alloc: Global, rows: &ArgMatches) -> Result<JobChoices, Error>
     ensures ok { IfOk result (λ cs. choices_in (rows_of (found_of rows.now)) ≡ Some (choices_of cs)) }
     ensures err { IfErr result (λ e. (kind_of e ≡ ErrorKind.OutOfMemory)
-        ⊎ ((kind_of e ≡ run_fault (rows_of (found_of rows.now))) × (choices_in (rows_of (found_of rows.now)) ≡ None))) }
+        ⊎ ((kind_of e ≡ run_fault (rows_of (found_of rows.now)))
+        × (choices_in (rows_of (found_of rows.now)) ≡ None))) }
 {
     match (value(rows, "seed"), value(rows, "schedule")) {
         (Some(word), None) => choices_by_seed(alloc, word),
@@ -378,7 +379,8 @@ fn run_words<'a>(alloc: Global, rows: &ArgMatches<'a>) -> Result<RunWords<'a>, E
     ensures file { IfOk result (λ w. option_map (λ s. s.now) w.file
         ≡ file_named (first_of (codes "file") (rows_of (found_of rows.now)))) }
     ensures err { IfErr result (λ e. (kind_of e ≡ ErrorKind.OutOfMemory)
-        ⊎ ((kind_of e ≡ run_fault (rows_of (found_of rows.now))) × (run_of (rows_of (found_of rows.now)) ≡ None))) }
+        ⊎ ((kind_of e ≡ run_fault (rows_of (found_of rows.now)))
+        × (run_of (rows_of (found_of rows.now)) ≡ None))) }
 {
     let choices = match choices(alloc, rows) {
         Ok(choices) => choices,

@@ -4,6 +4,7 @@ ghost use Rattle.std.specs.Prelude.{◌≡◌, ◌<◌};
 
 use pf_command::{RunWords, run_source};
 use pf_fault::OrNoMemory;
+use pf_sched::JobChoices;
 use pf_terms::{Counted, FailAt, StreamFault};
 use pf_wire::run_steps;
 use std::alloc::Global;
@@ -92,13 +93,14 @@ fn run_by<L: Ledger, M: Ledger>(
     Worked { out, ended }
 }
 
-/// Runs `main` of a source in memory within 1,000 steps, with calls that fail.
+/// Runs `main` of a source in memory by a seed within 1,000 steps, with calls that fail.
 pub fn run(alloc: Global, input: &[u8], failing: Failing) -> Worked {
     let words = RunWords {
         file: None,
         root: "main",
         limit: 1_000,
-        schedule: Vec::new(alloc),
+        choices: JobChoices::Seed(0),
+        property: "returns",
     };
     run_by::<Brand, Brand>(alloc, &words, input, failing, Blank::new(1), Blank::new(1))
 }

@@ -1,6 +1,7 @@
 //! What words ask for, and what is said of words that ask for nothing.
 
 use pf_command::{Words, read_words, status_of_kind};
+use pf_sched::JobChoices;
 use std::alloc::Global;
 use std::test::Fail;
 
@@ -11,24 +12,22 @@ Usage: pulsefarm steps [FILE]
 For more information, try '--help'.
 ";
 
-const MISSING: &str = "error: the following required arguments were not provided:
-  --schedule <L>
-
-Usage: pulsefarm run --root <F> --limit <N> --schedule <L> [FILE]
-
-For more information, try '--help'.
-";
-
-/// What is said of a value of this option that isn't what the option wants.
-fn refused_value(alloc: Global, option: &str, value: &str, wants: &str) -> Result<String, Fail> {
+/// What is said of words of `run` that are refused for this.
+fn refused_run(alloc: Global, why: &str) -> Result<String, Fail> {
     Ok(format!(in alloc;
-        "error: invalid value '{value}' for '{option}': it wants {wants}
+        "error: {why}
 
-Usage: pulsefarm run --root <F> --limit <N> --schedule <L> [FILE]
+Usage: pulsefarm run [OPTIONS] --root <F> --limit <N> <--seed <N>|--schedule <L>> [FILE]
 
 For more information, try '--help'.
 "
     )?)
+}
+
+/// What is said of a value of this option that isn't what the option wants.
+fn refused_value(alloc: Global, option: &str, value: &str, wants: &str) -> Result<String, Fail> {
+    let why = format!(in alloc; "invalid value '{value}' for '{option}': it wants {wants}")?;
+    refused_run(alloc, &why)
 }
 
 /// Whether these words are refused with this text, and the status 2.
@@ -45,9 +44,35 @@ fn are_refused(alloc: Global, words: &[&str], text: &str) -> Result<bool, Fail> 
 #[test]
 fn texts_of_refused_words(rt: HostRuntime) -> Result<(), Fail> {
     let alloc = rt.alloc();
-    let missing = ["pulsefarm", "run", "--root=main", "--limit=5"];
-    assert!(rt; are_refused(alloc, &missing, MISSING)?);
+    let missing = refused_run(
+        alloc,
+        "the following required arguments were not provided:\n  --limit <N>",
+    )?;
+    let unbounded = ["pulsefarm", "run", "--root=main", "--seed=5"];
+    assert!(rt; are_refused(alloc, &unbounded, &missing)?);
     assert!(rt; are_refused(alloc, &["pulsefarm", "steps", "a", "b"], TWO_FILES)?);
+    Ok(())
+}
+
+#[test]
+fn one_of_a_seed_and_a_schedule_is_given(rt: HostRuntime) -> Result<(), Fail> {
+    let alloc = rt.alloc();
+    let neither = refused_run(alloc, "one of '--seed <N>' and '--schedule <L>' is wanted")?;
+    let bounded = ["pulsefarm", "run", "--root=main", "--limit=5"];
+    assert!(rt; are_refused(alloc, &bounded, &neither)?);
+    let both = refused_run(
+        alloc,
+        "the argument '--seed <N>' cannot be used with '--schedule <L>'",
+    )?;
+    let words = [
+        "pulsefarm",
+        "run",
+        "--root=main",
+        "--limit=5",
+        "--schedule=none",
+        "--seed=5",
+    ];
+    assert!(rt; are_refused(alloc, &words, &both)?);
     Ok(())
 }
 
@@ -66,6 +91,13 @@ fn wrong_values_are_named(rt: HostRuntime) -> Result<(), Fail> {
         let word = format!(in alloc; "--schedule={value}")?;
         let words = ["pulsefarm", "run", "--root=main", "--limit=5", &word];
         let text = refused_value(alloc, "--schedule <L>", value, wants)?;
+        assert!(rt; are_refused(alloc, &words, &text)?, "{value}");
+    }
+    let wants = "a number from 0 to 18446744073709551615, without leading zeros";
+    for value in ["007", "-1", "", "18446744073709551616", "none"] {
+        let word = format!(in alloc; "--seed={value}")?;
+        let words = ["pulsefarm", "run", "--root=main", "--limit=5", &word];
+        let text = refused_value(alloc, "--seed <N>", value, wants)?;
         assert!(rt; are_refused(alloc, &words, &text)?, "{value}");
     }
     Ok(())
@@ -88,16 +120,47 @@ fn values_of_words(rt: HostRuntime) {
             schedule,
         ];
         match read_words(rt.alloc(), &words) {
-            Ok(asked) => match &asked {
-                Words::Run(run) => {
-                    assert_eq!(rt; run.file, Some("a.erl"));
-                    assert_eq!(rt; run.root, "main");
-                    assert_eq!(rt; run.limit, 0);
-                    assert_eq!(rt; run.schedule.as_slice(), numbers);
-                }
-                Words::Check(_) | Words::Steps(_) => assert!(rt; false, "{schedule}"),
-            },
-            Err(_) => assert!(rt; false, "{schedule}"),
+            Ok(Words::Run(run)) => {
+                assert_eq!(rt; run.file, Some("a.erl"));
+                assert_eq!(rt; run.root, "main");
+                assert_eq!(rt; run.limit, 0);
+                assert_eq!(rt; run.property, "returns");
+                assert!(rt; is_schedule(&run.choices, numbers), "{schedule}");
+            }
+            _ => assert!(rt; false, "{schedule}"),
+        }
+    }
+}
+
+/// Whether the choices are those of a schedule of these numbers.
+fn is_schedule(choices: &JobChoices, numbers: &[u32]) -> bool {
+    match choices {
+        JobChoices::Schedule(given) => given.as_slice() == numbers,
+        JobChoices::Seed(_) => false,
+    }
+}
+
+#[test]
+fn seeds_and_properties(rt: HostRuntime) {
+    for (word, seed) in [("0", 0), ("18446744073709551615", u64::MAX)] {
+        let words = [
+            "pulsefarm",
+            "run",
+            "--root=main",
+            "--limit=5",
+            "--property=never:{a, _}",
+            "--seed",
+            word,
+        ];
+        match read_words(rt.alloc(), &words) {
+            Ok(Words::Run(run)) => {
+                assert_eq!(rt; run.property, "never:{a, _}");
+                assert!(rt;
+                    matches!(&run.choices, JobChoices::Seed(given) if *given == seed),
+                    "{word}"
+                );
+            }
+            _ => assert!(rt; false, "{word}"),
         }
     }
 }

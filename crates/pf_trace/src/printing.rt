@@ -20,7 +20,8 @@ fn print_text<W: Write, M: Ledger>(
     text: &[u8],
     writer: &mut Counted<W, M>,
 ) -> Result<(), OrNoMemory<StreamFault>>
-    ensures written { OnOk result (Appends (W.contents writer.old.inner) (W.contents writer.new.inner) text.now) }
+    ensures written { OnOk result (Appends (W.contents writer.old.inner) (W.contents writer.new.inner)
+        text.now) }
     ensures kept { OnOk result (writer.new.failures.total ≡ writer.old.failures.total) }
     ensures fault { IfErr result (λ e. Leaves e text.now
         (W.contents writer.old.inner) (W.contents writer.new.inner)

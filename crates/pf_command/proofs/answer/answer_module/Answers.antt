@@ -1,4 +1,4 @@
-use Rattle.std.proofs.Common.{◌≡◌, ℕ, List, Ok, Err}
+use Rattle.std.proofs.Common.{ℕ, List, Ok, Err}
 use Rattle.std.proofs.lemmas.Result.{IfOk-weaker}
 use Rattle.pf_fault.specs.Codes.{code_text}
 use Rattle.pf_sched.specs.Views.{code_of}
