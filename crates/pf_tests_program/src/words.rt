@@ -120,14 +120,17 @@ fn values_of_words(rt: HostRuntime) {
             schedule,
         ];
         match read_words(rt.alloc(), &words) {
-            Ok(Words::Run(run)) => {
-                assert_eq!(rt; run.file, Some("a.erl"));
-                assert_eq!(rt; run.root, "main");
-                assert_eq!(rt; run.limit, 0);
-                assert_eq!(rt; run.property, "returns");
-                assert!(rt; is_schedule(&run.choices, numbers), "{schedule}");
-            }
-            _ => assert!(rt; false, "{schedule}"),
+            Ok(asked) => match &asked {
+                Words::Run(run) => {
+                    assert_eq!(rt; run.file, Some("a.erl"));
+                    assert_eq!(rt; run.root, "main");
+                    assert_eq!(rt; run.limit, 0);
+                    assert_eq!(rt; run.property, "returns");
+                    assert!(rt; is_schedule(&run.choices, numbers), "{schedule}");
+                }
+                Words::Check(_) | Words::Steps(_) => assert!(rt; false, "{schedule}"),
+            },
+            Err(_) => assert!(rt; false, "{schedule}"),
         }
     }
 }
@@ -137,6 +140,14 @@ fn is_schedule(choices: &JobChoices, numbers: &[u32]) -> bool {
     match choices {
         JobChoices::Schedule(given) => given.as_slice() == numbers,
         JobChoices::Seed(_) => false,
+    }
+}
+
+/// Whether the choices are those of this seed.
+fn is_seed(choices: &JobChoices, seed: u64) -> bool {
+    match choices {
+        JobChoices::Seed(given) => *given == seed,
+        JobChoices::Schedule(_) => false,
     }
 }
 
@@ -153,14 +164,14 @@ fn seeds_and_properties(rt: HostRuntime) {
             word,
         ];
         match read_words(rt.alloc(), &words) {
-            Ok(Words::Run(run)) => {
-                assert_eq!(rt; run.property, "never:{a, _}");
-                assert!(rt;
-                    matches!(&run.choices, JobChoices::Seed(given) if *given == seed),
-                    "{word}"
-                );
-            }
-            _ => assert!(rt; false, "{word}"),
+            Ok(asked) => match &asked {
+                Words::Run(run) => {
+                    assert_eq!(rt; run.property, "never:{a, _}");
+                    assert!(rt; is_seed(&run.choices, seed), "{word}");
+                }
+                Words::Check(_) | Words::Steps(_) => assert!(rt; false, "{word}"),
+            },
+            Err(_) => assert!(rt; false, "{word}"),
         }
     }
 }
