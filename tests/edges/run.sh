@@ -121,6 +121,7 @@ more="\nFor more information, try '--help'.\n"
 
 number='a number of steps from 1 to 100000, without leading zeros'
 numbers='`none`, or numbers from 0 to 4294967295 with commas between them'
+runs='a number of runs from 1 to 1000, without leading zeros'
 seed='a number from 0 to 18446744073709551615, without leading zeros'
 
 words() {
@@ -145,6 +146,20 @@ words() {
   ended 'two properties' 2 '' "error: the argument '--property <P>' cannot be used multiple times$usage$more"
   run run --root main --limit 5 --seed 7 --property
   ended 'property without a value' 2 '' "error: a value is required for '--property <P>' but none was supplied\n$more"
+  shrink='\n\nUsage: pulsefarm shrink --root <F> --limit <N> --schedule <L> --property <P> --runs <N> [FILE]\n'
+  shrunk='shrink --root main --limit 5 --property true'
+  # The words in `$shrunk` have no blanks in them.
+  # shellcheck disable=SC2086
+  {
+    run $shrunk --schedule none --runs 4294967296
+    ended 'runs past 32 bits' 2 '' "error: invalid value '4294967296' for '--runs <N>': it wants $runs$shrink$more"
+    run $shrunk --schedule 1,,2 --runs 5
+    ended 'empty number of a schedule to shrink' 2 '' "error: invalid value '1,,2' for '--schedule <L>': it wants $numbers$shrink$more"
+    run $shrunk --runs 5
+    ended 'no schedule to shrink' 2 '' "error: the following required arguments were not provided:\n  --schedule <L>$shrink$more"
+    run $shrunk --schedule none --runs 5 --seed 7
+    ended 'a seed to shrink' 2 '' "error: unexpected argument '--seed' found$shrink$more"
+  }
   run steps "$(printf -- '--\033[1m\377')"
   check 'odd bytes in a word' test "$status" = 2
   check 'odd bytes in a word' grep -qF -e '--\x1b[1m\xff' err
@@ -163,7 +178,7 @@ unwritten() { ended "$1" 2 '' "pulsefarm: the output can't be written: $2\n"; }
 streams() {
   : > out
   printf -- "$module" > m.erl
-  for words in "run m.erl $asked" 'steps commands' --help --version 'run --help'; do
+  for words in "run m.erl $asked" 'steps commands' --help --version 'run --help' 'shrink --help'; do
     timeout 60 "$program" $words > /dev/full 2> err
     status=$?
     unwritten "$words to a full disk" 'No space left on device (os error 28)'

@@ -3,7 +3,7 @@
 # of `pulsefarm run` on its stored run and on rows with several processes: three that race by messages, three with links, monitors
 # and names, and one that is killed though it traps exits; by schedules, and one of them by a seed with a property. Each run has to end
 # with the whole text and its status; or with `NoMemory` alone on a line and status 2; or, where the growth was refused within a run of
-# `pulsefarm run`, with the report of a run that memory stopped, and status 2; a growth that is refused before `main` has begun may end the program with a message on standard error
+# `pulsefarm run` or `pulsefarm shrink`, with the report of a run that memory stopped, and status 2; a growth that is refused before `main` has begun may end the program with a message on standard error
 # and status 1 or 2. Anything else, a signal or a hang fails. Each run of the program itself, refused or not, has to give back each
 # block that it asked for.
 #
@@ -166,6 +166,7 @@ row_run_refused together_the_worker_ends_and_is_watched
 row_run_refused exits_kill_who_traps
 row_run_refused seed_of_two_senders
 row_run_refused property_never_of_what_is_sent
+row_run_refused shrink_wait_within_three_runs
 some_commands
 all_refused steps commands_ended_well
 row_refused steps_race_in_both_orders commands_ended_well

@@ -1,10 +1,11 @@
--- What a desk keeps is kept where a worker files a report.
+-- What a desk keeps is kept where a worker files what came of a trial.
 use Rattle.std.proofs.Common.{◌≡◌, ℕ, zero, suc, Bool, true, false, List, [], ◌∷◌, ◌++◌, length, map, Option, Some, None, refl, sym, ap, ◌∙◌}
 use Rattle.std.specs.Prelude.{if◌then◌else◌, option_and_then, slice_get, slice_set}
 use Rattle.pf_quota.specs.declared.charges.Held.{Held}
 use Rattle.pf_quota.specs.declared.charges.Held.TheVariants as held
+use Rattle.pf_quota.specs.Charges.{steps_of_trial}
 use Rattle.pf_quota.specs.Usage.{usage_of}
-use Rattle.pf_model.specs.Meaning.{Report}
+use Rattle.pf_model.specs.Shrinking.{Result}
 use Rattle.pf_desks.specs.Desk.{Profile, Stored, Job, State, queued, running, done, Trial, Desk, claimed, filed, numbered, is_queued_state, is_queued, is_running}
 use Rattle.pf_desks.specs.Desk.{set_trial, with_state, after_claim, after_file, file_step, once, worker_step, held_by, calls_in}
 use Rattle.pf_book.specs.Queued.{job_in_state, job_of_trial, job_at}
@@ -46,7 +47,7 @@ abbrev held_module : Stored → Held
 held_module m = held.Module (length m.source)
 
 abbrev held_trial : Trial → Held
-held_trial t = held.Trial t.job.limit
+held_trial t = held.Trial (steps_of_trial t.job.limit t.job.runs)
 
 held_set : (ts : List Trial) (i : ℕ) (x : Trial) (f : Job → State) → slice_get ts i ≡ Some x
     → map held_trial (slice_set ts i (in_state x f)) ≡ map held_trial ts
@@ -80,14 +81,14 @@ once_can p d t waits runs =
     ap (λ (b : Bool). option_and_then (λ k. file_step p k t) (if b then Some (after_claim d t) else None)) waits
     ∙ ap (λ (b : Bool). if b then Some (after_once p d t) else None) runs
 
-module _ (d : Desk) (i : ℕ) (j : Job) (r : Report) (waits : slice_get d.trials i ≡ Some (waiting j)) where
+module _ (d : Desk) (i : ℕ) (j : Job) (r : Result) (waits : slice_get d.trials i ≡ Some (waiting j)) where
   runs : is_running (slice_get (after_claim d (suc i)).trials i) ≡ true
   runs = ap is_running (found_set d.trials i (waiting j) (λ _. running) waits)
 
   filed_trials : (p : Profile) → p.meaning j ≡ r → (after_once p d (suc i)).trials ≡ with_state d.trials (suc i) (λ _. done r)
   filed_trials p means =
       state_again d.trials i (waiting j) (λ _. running) (λ k. done (p.meaning k)) waits
-      ∙ ap (λ (s : Report). slice_set d.trials i (record { job = j; state = done s })) means
+      ∙ ap (λ (s : Result). slice_set d.trials i (record { job = j; state = done s })) means
       ∙ sym (state_set d.trials i (waiting j) (λ _. done r) waits)
 
   filed_held : map held_trial (with_state d.trials (suc i) (λ _. done r)) ≡ map held_trial d.trials
@@ -125,8 +126,8 @@ pub queued_can : (p : Profile) (d : Desk) (t : ℕ) → is_queued (numbered d.tr
 queued_can p d zero h = absurd (cc)
 queued_can p d (suc i) h = once_can p d (suc i) h (queued_at d i (slice_get d.trials i) refl h)
 
--- a queued trial of a ticket was run, and its report filed: the desk is this one
-module _ (d : Desk) (j : Job) (r : Report) (d' : Desk) (modules : d'.modules ≡ d.modules) where
+-- a queued trial of a ticket was run, and what came of it filed: the desk is this one
+module _ (d : Desk) (j : Job) (r : Result) (d' : Desk) (modules : d'.modules ≡ d.modules) where
   -- it is the one that the worker's step leads to
   pub once_is : (p : Profile) → p.meaning j ≡ r → (t : ℕ) → job_at d.trials t ≡ Some j → d'.trials ≡ with_state d.trials t (λ _. done r)
       → d'.history ≡ (d.history ++ claimed t ∷ []) ++ filed t ∷ [] → worker_step p d (once t) ≡ Some d'

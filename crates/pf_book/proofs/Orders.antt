@@ -4,16 +4,16 @@ use Rattle.pf_fault.specs.declared.code.Code.{Code}
 use Rattle.pf_model.specs.Meaning.{Choices}
 use Rattle.pf_desks.specs.Desk.{Stored, Job, job_from, job_of, numbered}
 use Rattle.pf_sched.specs.Asked.{Asks, root_in}
-use Rattle.pf_sched.specs.Views.{choices_of}
+use Rattle.pf_sched.specs.Views.{choices_in, runs_asked}
 use Rattle.pf_book.specs.declared.call.Order.{Order}
 use Rattle.pf_book.specs.Orders.{Asked}
 use Rattle.pf_book.proofs.Profiles.{asked_so}
 
 -- it is what the order asks for
-pub order_asks : (modules : List Stored) (o : Order) (m : Stored) (root property : List ℕ) (cs : Choices) (r : Result Job Code)
-    → numbered modules o.module ≡ Some m → root ≡ o.root.items → property ≡ o.property.items → cs ≡ choices_of o.choices
-    → Asks m root property cs o.limit r → Asked modules o r
-order_asks modules o m root property cs r found of_root of_property of_choices asks p right =
-    ap (λ (x : Option Stored). job_of p x o.root.items o.property.items (choices_of o.choices) o.limit) found
-    ∙ sym (λ i. job_from p m (root_in m (of_root i)) (of_property i) (of_choices i) o.limit)
-    ∙ asked_so p right m root property cs o.limit r asks
+pub order_asks : (modules : List Stored) (o : Order) (m : Stored) (root property : List ℕ) (cs : Choices) (k : Option ℕ) (r : Result Job Code)
+    → numbered modules o.module ≡ Some m → root ≡ o.root.items → property ≡ o.property.items → cs ≡ choices_in o.kind → k ≡ runs_asked o.kind
+    → Asks m root property cs o.limit k r → Asked modules o r
+order_asks modules o m root property cs k r found of_root of_property of_choices of_runs asks p right =
+    ap (λ (x : Option Stored). job_of p x o.root.items o.property.items (choices_in o.kind) o.limit (runs_asked o.kind)) found
+    ∙ sym (λ i. job_from p m (root_in m (of_root i)) (of_property i) (of_choices i) o.limit (of_runs i))
+    ∙ asked_so p right m root property cs o.limit k r asks

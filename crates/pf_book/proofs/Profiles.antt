@@ -8,7 +8,7 @@ use Rattle.pf_model.specs.Meaning.{Choices}
 use Rattle.pf_model.specs.Properties.{Property}
 use Rattle.pf_property.specs.Texts.{IsPropertyOf, ReadsProperty}
 use Rattle.pf_desks.specs.Desk as desk
-use Rattle.pf_desks.specs.Desk.{Profile, Stored, Job, job_asking, job_from, Desk, Reply, number, submitted}
+use Rattle.pf_desks.specs.Desk.{Profile, Stored, Job, job_asking, job_from, runs_of, Desk, Reply, number, submitted}
 use Rattle.pf_sched.specs.Asked.{Asks, no_root, no_property, out_of_range, job, may_be_asked, root_in}
 use Rattle.pf_book.specs.Profile.{IsRight}
 
@@ -28,23 +28,23 @@ module _ (p : Profile) (right : IsRight p) where
   submitted_refused d bytes code place h = ap (submitted d bytes) (sym (right.reads bytes (refused code place) h))
 
   -- what job is asked for, or what it is refused for
-  module _ (m : Stored) (root property : List ℕ) (cs : Choices) (limit : ℕ) where
-    with_root : (o : Option ℕ) → root_in m root ≡ o → job_from p m (root_in m root) property cs limit ≡ job_from p m o property cs limit
-    with_root o e = ap (λ (x : Option ℕ). job_from p m x property cs limit) e
+  module _ (m : Stored) (root property : List ℕ) (cs : Choices) (limit : ℕ) (k : Option ℕ) where
+    with_root : (o : Option ℕ) → root_in m root ≡ o → job_from p m (root_in m root) property cs limit k ≡ job_from p m o property cs limit k
+    with_root o e = ap (λ (x : Option ℕ). job_from p m x property cs limit k) e
 
     with_property : (i : ℕ) (o : Option Property) → root_in m root ≡ Some i → IsPropertyOf m.code.atoms property o
-        → job_from p m (root_in m root) property cs limit ≡ job_asking m i o cs limit
+        → job_from p m (root_in m root) property cs limit k ≡ job_asking m i o cs limit k
     with_property i o e is =
-        with_root (Some i) e ∙ ap (λ (x : Option Property). job_asking m i x cs limit) (right.properties m.code.atoms property o is)
+        with_root (Some i) e ∙ ap (λ (x : Option Property). job_asking m i x cs limit k) (right.properties m.code.atoms property o is)
 
-    in_range : (i : ℕ) (q : Property) (b : Bool) → root_in m root ≡ Some i → ReadsProperty m.code.atoms property q → may_be_asked cs limit ≡ b
-        → job_from p m (root_in m root) property cs limit
-        ≡ (if b then Ok (record { stored = m; root = i; property = q; choices = cs; limit = limit }) else Err code.OutOfRange)
+    in_range : (i : ℕ) (q : Property) (b : Bool) → root_in m root ≡ Some i → ReadsProperty m.code.atoms property q → may_be_asked cs limit k ≡ b
+        → job_from p m (root_in m root) property cs limit k
+        ≡ (if b then Ok (record { stored = m; root = i; property = q; choices = cs; limit = limit; runs = runs_of k }) else Err code.OutOfRange)
     in_range i q b e reads range =
-        let made : Result Job Code = Ok (record { stored = m; root = i; property = q; choices = cs; limit = limit }) in
+        let made : Result Job Code = Ok (record { stored = m; root = i; property = q; choices = cs; limit = limit; runs = runs_of k }) in
         with_property i (Some q) e reads ∙ ap (λ (x : Bool). if x then made else Err code.OutOfRange) range
 
-    pub asked_so : (r : Result Job Code) → Asks m root property cs limit r → job_from p m (root_in m root) property cs limit ≡ r
+    pub asked_so : (r : Result Job Code) → Asks m root property cs limit k r → job_from p m (root_in m root) property cs limit k ≡ r
     asked_so _ (no_root e) = with_root None e
     asked_so _ (no_property i e none) = with_property i None e none
     asked_so _ (out_of_range i q e reads range) = in_range i q false e reads range

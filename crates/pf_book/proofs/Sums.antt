@@ -7,6 +7,7 @@ use Rattle.pf_quota.specs.declared.usage.Usage.{Usage}
 use Rattle.pf_quota.specs.declared.charges.Held.{Held}
 use Rattle.pf_quota.specs.declared.charges.Held.TheVariants as held
 use Rattle.pf_quota.specs.declared.charges.Charge.TheVariants as charge
+use Rattle.pf_quota.specs.Charges.{steps_of_trial}
 use Rattle.pf_quota.specs.Usage.{usage_of, charged, module_count, byte_count, trial_count, step_count}
 use Rattle.pf_desks.specs.Desk as desk
 use Rattle.pf_desks.specs.Desk.{Stored, Trial, Job, State, Desk, Entry, Call, Reply, called, claimed, filed, calls_in, held_by}
@@ -40,7 +41,7 @@ abbrev held_module : Stored → Held
 held_module m = held.Module (length m.source)
 
 abbrev held_trial : Trial → Held
-held_trial t = held.Trial t.job.limit
+held_trial t = held.Trial (steps_of_trial t.job.limit t.job.runs)
 
 -- a thing more in the middle, and one at the end
 between : (f : Held → ℕ) (before after : List Held) (x : Held) → sum_by f ((before ++ x ∷ []) ++ after) ≡ sum_by f (before ++ after) + f x
@@ -71,7 +72,7 @@ with_module ms ts m n =
     refl ∙ moved
 
 with_trial : (ms : List Stored) (ts : List Trial) (t : Trial) (n : ℕ)
-    → charged (charged (usage_of (map held_module ms ++ map held_trial ts) n) (charge.Trial t.job.limit)) charge.Call
+    → charged (charged (usage_of (map held_module ms ++ map held_trial ts) n) (charge.Trial (steps_of_trial t.job.limit t.job.runs))) charge.Call
     ≡ usage_of (map held_module ms ++ map held_trial (ts ++ t ∷ [])) (n + 1)
 with_trial ms ts t n =
     let before = map held_module ms in
@@ -93,5 +94,5 @@ used_more d addition.Nothing u n h = ap (λ (v : Usage). charged v charge.Call) 
 used_more d (addition.Module m) u n h =
     ap (λ (v : Usage). charged (charged v (charge.Module (length m.source))) charge.Call) h ∙ with_module d.modules d.trials m n
 used_more d (addition.Trial j) u n h =
-    ap (λ (v : Usage). charged (charged v (charge.Trial j.value.limit)) charge.Call) h
+    ap (λ (v : Usage). charged (charged v (charge.Trial (steps_of_trial j.value.limit j.value.runs))) charge.Call) h
     ∙ with_trial d.modules d.trials (record { job = j.value; state = desk.queued }) n

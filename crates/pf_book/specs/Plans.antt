@@ -2,6 +2,7 @@
 use Rattle.std.specs.Prelude.{◌≡◌, ◌^◌, ◌≤◌, max, [], ◌∷◌, ◌++◌, length}
 use Rattle.pf_quota.specs.declared.usage.Usage.{Usage}
 use Rattle.pf_quota.specs.declared.charges.Charge.TheVariants as charge
+use Rattle.pf_quota.specs.Charges.{steps_of_trial}
 use Rattle.pf_quota.specs.Usage.{charged}
 use Rattle.pf_desks.specs.Desk as desk
 use Rattle.pf_book.specs.declared.plan.Addition.{Addition}
@@ -26,7 +27,7 @@ IsPlan d c plan =
 abbrev pub used_by : Usage → Addition → Usage
 used_by u addition.Nothing = u
 used_by u (addition.Module m) = charged u (charge.Module (length m.source))
-used_by u (addition.Trial j) = charged u (charge.Trial j.value.limit)
+used_by u (addition.Trial j) = charged u (charge.Trial (steps_of_trial j.value.limit j.value.runs))
 
 -- one of the sums doesn't fit 64 bits
 abbrev pub IsPastSums : Usage → Type 0

@@ -1,7 +1,7 @@
 -- Profiles that are right: they read sources and properties as the language does, and jobs mean to them what they mean in it.
 use Rattle.std.specs.Prelude.{◌≡◌, ℕ, List, Option}
 use Rattle.pf_check.specs.Reads.{Outcome, accepted, refused, Reads}
-use Rattle.pf_model.specs.Meaning.{Report, Means}
+use Rattle.pf_model.specs.Shrinking.{Result, IsResult}
 use Rattle.pf_model.specs.Properties.{Property}
 use Rattle.pf_property.specs.Texts.{IsPropertyOf}
 use Rattle.pf_desks.specs.Desk.{Reading, readable, faulty, Job, job_meant, Profile}
@@ -11,12 +11,12 @@ abbrev pub reading_from : Outcome → Reading
 reading_from (accepted name atoms functions) = readable (record { name = name; atoms = atoms; functions = functions })
 reading_from (refused code place) = faulty code
 
--- however a source is read, the profile reads it so; whatever property bytes are, or none, they are to the profile; whatever a job means in
--- the language, it means to the profile
+-- however a source is read, the profile reads it so; whatever property bytes are, or none, they are to the profile; whatever a job comes to in
+-- the language, it comes to that to the profile
 pub record IsRight (p : Profile) : Type 0 where
   pub reads : (bytes : List ℕ) (o : Outcome) → Reads bytes o → p.reading bytes ≡ reading_from o
   pub properties : (names : List (List ℕ)) (bytes : List ℕ) (o : Option Property) → IsPropertyOf names bytes o → p.property names bytes ≡ o
-  pub means : (j : Job) (r : Report) → Means (job_meant j) r → p.meaning j ≡ r
+  pub means : (j : Job) (r : Result) → IsResult (job_meant j) r → p.meaning j ≡ r
 
 -- it holds for each profile that is right
 abbrev pub ForRight : (Profile → Type 0) → Type 0

@@ -1,10 +1,10 @@
--- Whose atoms reports speak of.
+-- Whose atoms what is filed speaks of.
 use Rattle.std.specs.Prelude.{◌≡◌, ℕ, List, IfSome}
 use Rattle.pf_desks.specs.Desk.{Trial, numbered}
 use Rattle.pf_book.specs.declared.trial.State.{State}
 use Rattle.pf_book.specs.declared.trial.State.TheVariants.{Queued, Done}
 
--- a report that is filed speaks of these atoms
+-- what is filed speaks of these atoms
 abbrev pub SpeaksOf : List (List ℕ) → State → Type 0
 SpeaksOf atoms Queued = Unit {0}
 SpeaksOf atoms (Done filed) = filed.0 ≡ atoms

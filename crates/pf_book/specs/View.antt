@@ -1,8 +1,11 @@
 -- What the code's calls, replies and notes stand for.
+use Rattle.std.specs.Prelude.{ℕ, List}
 use Rattle.pf_fault.specs.declared.code.Code.{Code}
 use Rattle.pf_fault.specs.declared.code.Code.TheVariants as code
 use Rattle.pf_desks.specs.Desk as desk
 use Rattle.pf_sched.specs.Views.{choices_of}
+use Rattle.pf_sched.specs.declared.choices.JobKind.{JobKind}
+use Rattle.pf_sched.specs.declared.choices.JobKind.TheVariants as kind
 use Rattle.pf_book.specs.declared.call.Order.{Order}
 use Rattle.pf_book.specs.declared.call.Call.{Call}
 use Rattle.pf_book.specs.declared.call.Call.TheVariants as call
@@ -15,8 +18,13 @@ use Rattle.pf_book.specs.declared.entry.Entry.TheVariants as entry
 use Rattle.pf_book.specs.declared.trial.State.{State}
 use Rattle.pf_book.specs.declared.trial.State.TheVariants as state
 
+-- an order of a trial, or of a shrinking
+abbrev pub ordered_as : (n : ℕ) (root property : List ℕ) → JobKind → (limit : ℕ) → desk.Call
+ordered_as n root property (kind.Trial cs) limit = desk.order n root property (choices_of cs) limit
+ordered_as n root property (kind.Shrinking numbers runs) limit = desk.order_shrink n root property numbers.value.items runs limit
+
 abbrev pub order_seen : Order → desk.Call
-order_seen o = desk.order o.module o.root.items o.property.items (choices_of o.choices) o.limit
+order_seen o = ordered_as o.module o.root.items o.property.items o.kind o.limit
 
 abbrev pub call_seen : Call → desk.Call
 call_seen (call.Submit s) = desk.submit s
@@ -36,7 +44,7 @@ code_of refusal.OutOfRange = code.OutOfRange
 abbrev pub reply_seen : Reply → desk.Reply
 reply_seen (reply.Module n) = desk.number n
 reply_seen (reply.Ticket t) = desk.ticket t
-reply_seen (reply.Report t) = desk.report t.0 t.1
+reply_seen (reply.Result t) = desk.result t.0 t.1
 reply_seen (reply.Usage u) = desk.uses u
 reply_seen (reply.Refused e) = desk.refused (code_of e)
 
@@ -45,7 +53,7 @@ entry_seen (entry.Submitted s n) = desk.called (desk.submit s) (desk.number n)
 entry_seen (entry.SubmitRefused s e) = desk.called (desk.submit s) (desk.refused (code_of e))
 entry_seen (entry.Ordered o t) = desk.called (order_seen o.value) (desk.ticket t)
 entry_seen (entry.OrderRefused o e) = desk.called (order_seen o.value) (desk.refused (code_of e))
-entry_seen (entry.Fetched t filed) = desk.called (desk.fetch t) (desk.report filed.0 filed.1)
+entry_seen (entry.Fetched t filed) = desk.called (desk.fetch t) (desk.result filed.0 filed.1)
 entry_seen (entry.FetchRefused t e) = desk.called (desk.fetch t) (desk.refused (code_of e))
 entry_seen (entry.Used u) = desk.called desk.usage (desk.uses u.value)
 entry_seen (entry.Claimed t) = desk.claimed t

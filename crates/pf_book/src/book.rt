@@ -72,14 +72,14 @@ impl Book {
         self.call(alloc, project, Call::Submit(source))
     }
 
-    /// Asks for a ticket for a trial.
+    /// Asks for a ticket for a trial, or for a shrinking where the order's kind is one.
     pub fn order(&mut self, alloc: Global, project: u32, order: Order) -> Result<Reply, NoMemory>
         ensures { Answers self.old project (order_seen order) result self.new }
     {
         self.call(alloc, project, Call::Order(order))
     }
 
-    /// Asks for the report of the trial of a ticket.
+    /// Asks for what came of the trial of a ticket.
     pub fn fetch(&mut self, alloc: Global, project: u32, ticket: u64) -> Result<Reply, NoMemory>
         ensures { Answers self.old project (desk.fetch ticket) result self.new }
     {
@@ -107,7 +107,7 @@ impl Book {
         Ok(reply)
     }
 
-    /// A worker claims a queued trial, runs it whole and files its report; says false where the trial isn't queued, which wants no
+    /// A worker claims a queued trial, runs it whole and files what came of it; says false where the trial isn't queued, which wants no
     /// memory. After running out of memory nothing has changed and nothing is noted.
     pub fn once(&mut self, alloc: Global, project: u32, ticket: u64) -> Result<bool, NoMemory>
         ensures { Works self.old project ticket result self.new }

@@ -1,20 +1,20 @@
 //! What a client asks for.
 
-use pf_sched::JobChoices;
+use pf_sched::JobKind;
 use pf_store::Source;
 use smallvec::SmallVec;
 
 /// A word of a call. One of at most 16 bytes takes no block of memory.
 pub type Word = SmallVec<u8, 16>;
 
-/// An order of a trial: of a module by its number, from the function of this name, whether the property of these bytes holds, by these
-/// choices and within so many steps.
+/// An order of a trial, or of a shrinking: of a module by its number, from the function of this name, whether the property of these bytes
+/// holds, by the choices of its kind and within so many steps a run.
 #[derive(Drop)]
 pub struct Order {
     pub module: u64,
     pub root: Word,
     pub property: Word,
-    pub choices: JobChoices,
+    pub kind: JobKind,
     pub limit: u32,
 }
 
@@ -23,9 +23,9 @@ pub struct Order {
 pub enum Call {
     /// A number for the module that this source is.
     Submit(Source),
-    /// A ticket for a trial.
+    /// A ticket for a trial, which may be a shrinking.
     Order(Order),
-    /// The report of the trial of a ticket.
+    /// What came of the trial of a ticket.
     Fetch(u64),
     /// What the project uses.
     Usage,

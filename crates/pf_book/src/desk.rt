@@ -18,7 +18,7 @@ use crate::job::{job_of, run};
 use crate::numbers::{make_room, numbered};
 use crate::plan::{Addition, Plan};
 use crate::refusal::Refusal;
-use crate::reply::{FiledReport, Reply};
+use crate::reply::{FiledResult, Reply};
 use crate::trial::Trial;
 use pf_fault::OrNoMemory;
 use pf_quota::Usage;
@@ -156,10 +156,10 @@ impl Desk {
     fn fetching(&self, ticket: u64) -> Result<Plan, NoMemory>
         ensures { IfOk result (λ p. IsPlan self.now (desk.fetch ticket) p) }
     {
-        match filed_report(&self.trials, ticket) {
-            Ok(report) => {
-                let noted = Entry::Fetched(ticket, report.share()?);
-                Ok(Plan::reply_alone(noted, Reply::Report(report.share()?)))
+        match filed_result(&self.trials, ticket) {
+            Ok(filed) => {
+                let noted = Entry::Fetched(ticket, filed.share()?);
+                Ok(Plan::reply_alone(noted, Reply::Result(filed.share()?)))
             }
             Err(refusal) => {
                 let noted = Entry::FetchRefused(ticket, refusal);
@@ -168,7 +168,7 @@ impl Desk {
         }
     }
 
-    /// A worker claims a trial, runs it whole and files its report; says false where the trial isn't queued, which takes no memory.
+    /// A worker claims a trial, runs it whole and files what came of it; says false where the trial isn't queued, which takes no memory.
     /// After running out of memory nothing has changed. What stands in the scratch makes no difference.
     pub fn once(
         &mut self,
@@ -181,9 +181,9 @@ impl Desk {
         let Some(job) = queued(&self.trials, ticket) else {
             return Ok(false);
         };
-        let report = run(alloc, job, scratch)?;
+        let filed = run(alloc, job, scratch)?;
         make_room(&mut self.history, 2)?;
-        file(&mut self.trials, ticket, report);
+        file(&mut self.trials, ticket, filed);
         self.history.push_reserved(Entry::Claimed(ticket));
         self.history.push_reserved(Entry::Filed(ticket));
         Ok(true)
@@ -197,23 +197,23 @@ fn queued(trials: &[Trial], ticket: u64) -> Option<&Arc<Job>>
     numbered(trials, ticket)?.queued()
 }
 
-/// The report of the trial of a ticket, where it is filed.
-fn filed_report(trials: &[Trial], ticket: u64) -> Result<&FiledReport, Refusal>
+/// What came of the trial of a ticket, where it is filed.
+fn filed_result(trials: &[Trial], ticket: u64) -> Result<&FiledResult, Refusal>
     ensures { MatchResult result
-        (λ r. fetched (desk.numbered trials.now ticket) ≡ desk.report r.now.0 r.now.1)
+        (λ r. fetched (desk.numbered trials.now ticket) ≡ desk.result r.now.0 r.now.1)
         (λ e. fetched (desk.numbered trials.now ticket) ≡ desk.refused (code_of e)) }
 {
-    numbered(trials, ticket).ok_or(Refusal::NoTrial)?.report()
+    numbered(trials, ticket).ok_or(Refusal::NoTrial)?.filed()
 }
 
-/// Files the report of the trial of a ticket, which speaks of the atoms of its module.
-fn file(trials: &mut Vec<Trial>, ticket: u64, report: FiledReport)
-    requires { AtomsAt trials.old.items ticket report.0 }
-    ensures { trials.new.items ≡ desk.with_state trials.old.items ticket (λ j. desk.done report.1) }
+/// Files what came of the trial of a ticket, which speaks of the atoms of its module.
+fn file(trials: &mut Vec<Trial>, ticket: u64, filed: FiledResult)
+    requires { AtomsAt trials.old.items ticket filed.0 }
+    ensures { trials.new.items ≡ desk.with_state trials.old.items ticket (λ j. desk.done filed.1) }
 {
     if ticket == 0 || ticket > trials.len() as u64 {
         return;
     }
     let trial = &mut trials[ticket as usize - 1];
-    trial.file(report);
+    trial.file(filed);
 }

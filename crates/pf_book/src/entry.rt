@@ -2,12 +2,12 @@
 
 use crate::call::Order;
 use crate::refusal::Refusal;
-use crate::reply::FiledReport;
+use crate::reply::FiledResult;
 use pf_quota::Usage;
 use pf_store::Source;
 use std::sync::Arc;
 
-/// What a desk notes: a call with its reply, and that a worker claimed the trial of a ticket or filed its report.
+/// What a desk notes: a call with its reply, and that a worker claimed the trial of a ticket or filed what came of it.
 #[derive(Drop)]
 pub(crate) enum Entry {
     /// A source was submitted, and given this number.
@@ -18,9 +18,9 @@ pub(crate) enum Entry {
     Ordered(Arc<Order>, u64),
     /// A trial was ordered, and refused.
     OrderRefused(Arc<Order>, Refusal),
-    /// The report of the trial of a ticket was handed out.
-    Fetched(u64, FiledReport),
-    /// The report of the trial of a ticket was refused.
+    /// What came of the trial of a ticket was handed out.
+    Fetched(u64, FiledResult),
+    /// What came of the trial of a ticket was refused.
     FetchRefused(u64, Refusal),
     /// What the project uses was handed out.
     Used(Box<Usage>),

@@ -1,20 +1,35 @@
 //! Jobs of orders, and their runs.
 
 ghost use Rattle.std.specs.Prelude.{◌≡◌, Ok, IfOk, MatchResult};
-ghost use Rattle.pf_model.specs.Meaning.{Means};
+ghost use Rattle.pf_model.specs.Shrinking.{IsResult};
 ghost use Rattle.pf_desks.specs.Desk.{job_meant};
+ghost use Rattle.pf_sched.specs.Views.{choices_in, runs_asked};
 ghost use Rattle.pf_book.specs.Orders.{Asked, IsRefusedJob};
 
 use crate::call::Order;
 use crate::numbers::numbered;
 use crate::refusal::Refusal;
-use crate::reply::FiledReport;
+use crate::reply::FiledResult;
 use pf_fault::OrNoMemory;
-use pf_sched::{Job, Scratch, whole};
+use pf_sched::{Job, JobKind, Scratch, whole};
 use pf_store::Stored;
 use pf_terms::NoMemory;
 use std::alloc::Global;
 use std::sync::Arc;
+
+/// The same kind once more.
+fn shared(kind: &JobKind) -> Result<JobKind, NoMemory>
+    ensures choices { IfOk result (λ k. choices_in k ≡ choices_in kind.now) }
+    ensures runs { IfOk result (λ k. runs_asked k ≡ runs_asked kind.now) }
+{
+    match kind {
+        JobKind::Trial(choices) => Ok(JobKind::Trial(choices.share()?)),
+        JobKind::Shrinking { schedule, runs } => Ok(JobKind::Shrinking {
+            schedule: Arc::try_clone(schedule)?,
+            runs: *runs,
+        }),
+    }
+}
 
 /// The job of an order to a project with these modules.
 pub(crate) fn job_of(
@@ -34,7 +49,7 @@ pub(crate) fn job_of(
         stored.share()?,
         root,
         property,
-        order.choices.share()?,
+        shared(&order.kind)?,
         order.limit,
     ) {
         Ok(job) => Ok(Arc::new(alloc, job)?),
@@ -43,18 +58,18 @@ pub(crate) fn job_of(
     }
 }
 
-/// The report of the whole run of a job.
+/// What the whole of a job comes to.
 pub(crate) fn run(
     alloc: Global,
     job: &Arc<Job>,
     scratch: &mut Scratch,
-) -> Result<FiledReport, NoMemory>
+) -> Result<FiledResult, NoMemory>
     ensures atoms { IfOk result (λ t. t.0 ≡ job.now.value.stored.code.atoms) }
-    ensures means { IfOk result (λ t. Means (job_meant job.now.value) t.1) }
+    ensures means { IfOk result (λ t. IsResult (job_meant job.now.value) t.1) }
 {
     let finished = whole(alloc, Arc::try_clone(job)?, scratch)?;
     if !finished.is_whole() {
         return Err(NoMemory);
     }
-    FiledReport::new(alloc, job.module(), finished.into_report())
+    FiledResult::new(alloc, job.module(), finished.into_result())
 }

@@ -15,4 +15,4 @@ mod trial;
 pub use book::Book;
 pub use call::{Call, Order, Word};
 pub use refusal::Refusal;
-pub use reply::{FiledReport, Reply};
+pub use reply::{FiledResult, Reply};

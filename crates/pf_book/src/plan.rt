@@ -8,7 +8,7 @@ ghost use Rattle.pf_book.specs.Plans.{IsPastSums, used_by};
 use crate::entry::Entry;
 use crate::numbers::sum;
 use crate::reply::Reply;
-use pf_quota::Usage;
+use pf_quota::{Usage, trial_steps};
 use pf_sched::Job;
 use pf_store::Stored;
 use pf_terms::NoMemory;
@@ -60,7 +60,7 @@ impl Addition {
             }
             Addition::Trial(job) => {
                 usage.trials = sum(usage.trials, 1)?;
-                usage.steps = sum(usage.steps, u64::from(job.limit()))?;
+                usage.steps = sum(usage.steps, trial_steps(job.limit(), job.runs()))?;
             }
         }
         Ok(usage)

@@ -20,9 +20,9 @@ pub enum Refusal {
     NoProperty,
     /// `B3`: the project has no trial of this ticket.
     NoTrial,
-    /// `B5`: the trial has no report yet.
+    /// `B5`: nothing came of the trial yet.
     NotDone,
-    /// `B6`: the limit isn't from 1 to 100,000, or the schedule has more than 100,000 numbers.
+    /// `B6`: the limit isn't from 1 to 100,000, the schedule has more than 100,000 numbers, or the runs of a shrinking aren't from 1 to 1,000.
     OutOfRange,
 }
 

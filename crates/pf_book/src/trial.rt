@@ -7,7 +7,7 @@ ghost use Rattle.pf_book.specs.View.{code_of};
 ghost use Rattle.pf_book.specs.Queued.{queued_job};
 
 use crate::refusal::Refusal;
-use crate::reply::FiledReport;
+use crate::reply::FiledResult;
 use pf_sched::Job;
 use std::marker::Model;
 use std::sync::Arc;
@@ -16,8 +16,8 @@ use std::sync::Arc;
 #[derive(Drop)]
 pub(crate) enum State {
     Queued,
-    /// Its report is filed.
-    Done(FiledReport),
+    /// What came of it is filed.
+    Done(FiledResult),
 }
 
 /// A job, and how far it is.
@@ -64,23 +64,23 @@ impl Trial {
         }
     }
 
-    /// Files its report, which speaks of the atoms of its module.
-    pub fn file(&mut self, report: FiledReport)
-        requires { report.0 ≡ self.old.job.stored.code.atoms }
-        ensures { self.new ≡ record { job = self.old.job; state = desk.done report.1 } }
+    /// Files what came of it, which speaks of the atoms of its module.
+    pub fn file(&mut self, filed: FiledResult)
+        requires { filed.0 ≡ self.old.job.stored.code.atoms }
+        ensures { self.new ≡ record { job = self.old.job; state = desk.done filed.1 } }
     {
-        self.state = State::Done(report);
+        self.state = State::Done(filed);
     }
 
-    /// Its report, where it is filed.
-    pub fn report(&self) -> Result<&FiledReport, Refusal>
+    /// What came of it, where that is filed.
+    pub fn filed(&self) -> Result<&FiledResult, Refusal>
         ensures { MatchResult result
-            (λ r. desk.report_in self.now.job.stored.code.atoms self.now.state ≡ desk.report r.now.0 r.now.1)
-            (λ e. desk.report_in self.now.job.stored.code.atoms self.now.state ≡ desk.refused (code_of e)) }
+            (λ r. desk.result_in self.now.job.stored.code.atoms self.now.state ≡ desk.result r.now.0 r.now.1)
+            (λ e. desk.result_in self.now.job.stored.code.atoms self.now.state ≡ desk.refused (code_of e)) }
     {
         match &self.state {
             State::Queued => Err(Refusal::NotDone),
-            State::Done(report) => Ok(report),
+            State::Done(filed) => Ok(filed),
         }
     }
 }

@@ -1,3 +1,3 @@
-pub mod Asked
+pub mod Parsed
 pub mod Rows
 pub mod Alike

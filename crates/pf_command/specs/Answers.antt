@@ -1,34 +1,58 @@
--- What a source is answered with under a request: the text that goes out and the status.
+-- What a source is answered with of which a run or a shrinking is asked for: the text that goes out and the status.
 use Rattle.std.specs.Prelude.{◌≡◌, ◌+◌, ℕ, Bool, true, false, List, take, Option, None, Some, IfSome, Result, Ok, Err}
 use Rattle.std.specs.Io.KnownBytes.{Appends}
 use Rattle.pf_fault.specs.Codes.{code_text, refusal_text}
 use Rattle.pf_fault.specs.declared.code.Code.{Code}
+use Rattle.pf_fault.specs.declared.code.Code.TheVariants as code
 use Rattle.pf_fault.specs.declared.fault.OrNoMemory.{OrNoMemory}
 use Rattle.pf_fault.specs.declared.fault.OrNoMemory.TheVariants.{NoMemory, Fault}
 use Rattle.pf_terms.specs.Atoms.{name_of}
 use Rattle.pf_terms.specs.Streams.{AppendsFront}
 use Rattle.pf_terms.specs.declared.stream.StreamFault.{StreamFault}
 use Rattle.pf_terms.specs.declared.stream.StreamFault.TheVariants.{Read, Write}
-use Rattle.pf_model.specs.Meaning.{Means, Report}
+use Rattle.pf_model.specs.Meaning.{Choices, schedule}
+use Rattle.pf_model.specs.Shrinking as shrinking
+use Rattle.pf_model.specs.Shrinking.{IsResult}
 use Rattle.pf_model.specs.TermText.{line}
-use Rattle.pf_model.specs.Text.{report_text}
+use Rattle.pf_model.specs.Text.{report_text, result_text}
 use Rattle.pf_check.specs.Reads.{Reads, refused}
 use Rattle.pf_desks.specs.Desk.{Stored, Job, job_meant}
 use Rattle.pf_store.specs.Sources.{IsReadAs}
 use Rattle.pf_sched.specs.Asked.{Asks}
 use Rattle.pf_sched.specs.Parts.{Ends}
-use Rattle.pf_sched.specs.Views.{memory_report}
-use Rattle.pf_command.specs.Words.{Request}
+use Rattle.pf_sched.specs.Views.{choices_in, memory_report, runs_asked}
+use Rattle.pf_command.specs.Words.{Request, ShrinkRequest}
 use Rattle.pf_command.specs.declared.answer.Answer.{Answer}
+use Rattle.pf_command.specs.declared.asked.Asked.{Asked}
 use Rattle.pf_command.specs.declared.source.TheConstants.{MOST_BYTES}
 
 -- a source of these bytes is this module
 abbrev pub IsModuleOf : List ℕ → Stored → Type 0
 IsModuleOf bytes m = (m.source ≡ bytes) × IsReadAs bytes m
 
+-- what is asked for of a module: a run, from the function of this name, whether the property of these bytes holds, by these choices and within
+-- this limit; or with runs the shrinking of its schedule
+pub record JobRequest : Type 0 where
+  pub root : List ℕ
+  pub property : List ℕ
+  pub choices : Choices
+  pub limit : ℕ
+  pub runs : Option ℕ
+
+abbrev pub of_run : Request → JobRequest
+of_run r = record { root = r.root; property = r.property; choices = r.choices; limit = r.limit; runs = None }
+
+abbrev pub of_shrinking : ShrinkRequest → JobRequest
+of_shrinking r = record { root = r.root; property = r.property; choices = schedule r.schedule; limit = r.limit; runs = Some r.runs }
+
+-- what the code's own stands for
+abbrev pub job_request : Asked → JobRequest
+job_request a =
+    record { root = a.root.now; property = a.property.now; choices = choices_in a.kind; limit = a.limit; runs = runs_asked a.kind }
+
 -- what is asked for of a module is this job, or refused for this
-abbrev pub AsksOf : Request → Stored → Result Job Code → Type 0
-AsksOf r m = Asks m r.root r.property r.choices r.limit
+abbrev pub AsksOf : JobRequest → Stored → Result Job Code → Type 0
+AsksOf r m = Asks m r.root r.property r.choices r.limit r.runs
 
 -- the status of a run: 0 where its property holds, 1 where it fails, 2 where memory ran out and nothing is known
 abbrev pub run_status : Option Bool → ℕ
@@ -36,23 +60,38 @@ run_status (Some true) = 0
 run_status (Some false) = 1
 run_status None = 2
 
+-- what a job came to in words, where `name` tells the names of atoms: that nothing fails is told by its code
+abbrev pub told_text : (ℕ → List ℕ) → shrinking.Result → List ℕ
+told_text name (shrinking.report r) = result_text name (shrinking.report r)
+told_text name (shrinking.shrunk_to f r) = result_text name (shrinking.shrunk_to f r)
+told_text name shrinking.nothing_fails = line (code_text code.NothingFails)
+
+-- and its status: that of the run; 1 where a schedule was shrunk, which fails; 2 where the given one doesn't
+abbrev pub told_status : shrinking.Result → ℕ
+told_status (shrinking.report r) = run_status r.verdict
+told_status (shrinking.shrunk_to f r) = 1
+told_status shrinking.nothing_fails = 2
+
 -- Answers request bytes text status: a source of these bytes is answered with this text and this status
-pub data Answers (r : Request) (bytes : List ℕ) : List ℕ → ℕ → Type 0 where
+pub data Answers (r : JobRequest) (bytes : List ℕ) : List ℕ → ℕ → Type 0 where
   -- the source is refused
   source_refused : (code : Code) (place : ℕ) → Reads bytes (refused code place) → Answers r bytes (line (refusal_text code place)) 2
   -- what is asked for of the module is refused
-  run_refused : (m : Stored) (code : Code) → IsModuleOf bytes m → AsksOf r m (Err code) → Answers r bytes (line (code_text code)) 2
-  -- the report that the job means
-  reported : (m : Stored) (j : Job) (report : Report) → IsModuleOf bytes m → AsksOf r m (Ok j) → Means (job_meant j) report
-      → Answers r bytes (report_text (name_of m.code.atoms) report) (run_status report.verdict)
-  -- memory ran out within the run
+  job_refused : (m : Stored) (code : Code) → IsModuleOf bytes m → AsksOf r m (Err code) → Answers r bytes (line (code_text code)) 2
+  -- what the job comes to
+  told : (m : Stored) (j : Job) (x : shrinking.Result) → IsModuleOf bytes m → AsksOf r m (Ok j) → IsResult (job_meant j) x
+      → Answers r bytes (told_text (name_of m.code.atoms) x) (told_status x)
+  -- memory ran out within it
   out_of_memory : (m : Stored) (j : Job) → IsModuleOf bytes m → AsksOf r m (Ok j)
       → Answers r bytes (report_text (name_of m.code.atoms) memory_report) 2
 
--- the answer is a report in which the job may end, with the status of its verdict
-abbrev pub Reports : Job → Answer → Type 0
-Reports j a =
-    (report : Report) × Ends j report × (a.text.items ≡ report_text (name_of j.stored.code.atoms) report) × (a.status ≡ run_status report.verdict)
+-- the answer tells a result, where atoms have these names
+abbrev pub Tells : (atoms : List (List ℕ)) → shrinking.Result → Answer → Type 0
+Tells atoms x a = (a.text.items ≡ told_text (name_of atoms) x) × (a.status ≡ told_status x)
+
+-- the answer tells a result in which the job may end
+abbrev pub TellsEnd : Job → Answer → Type 0
+TellsEnd j a = (x : shrinking.Result) × Ends j x × Tells j.stored.code.atoms x a
 
 -- the answer is these words on a line of their own, with the status of what is refused
 abbrev pub Refuses : Answer → List ℕ → Type 0

@@ -1,5 +1,5 @@
 -- What the words of the command line ask for.
-use Rattle.std.specs.Prelude.{◌≡◌, ◌⊎◌, ℕ, List, [], ◌∷◌, Option, Some, None, option_map, codes, Bool, true, false, if◌then◌else◌}
+use Rattle.std.specs.Prelude.{◌≡◌, ◌⊎◌, ℕ, List, [], ◌∷◌, Option, Some, None, option_map, option_and_then, codes, Bool, true, false, if◌then◌else◌}
 use Rattle.std.specs.List.{list_any}
 use Rattle.std.specs.Str.{bytes_eq}
 use Rattle.clap.specs.Words.{IsAmong, App, Shape, Rule, Row, Text, new_app, new_rule, with_rule, with_subcommand, Kinds, first_of, subcommand_of, fault_of}
@@ -10,8 +10,9 @@ use Rattle.pf_model.specs.Meaning.{Choices, seed, schedule}
 use Rattle.pf_text.specs.Numbers.{number_of, long_number_of, schedule_of}
 use Rattle.pf_sched.specs.Views.{choices_of}
 use Rattle.pf_command.specs.declared.words.RunWords.{RunWords}
+use Rattle.pf_command.specs.declared.words.ShrinkWords.{ShrinkWords}
 use Rattle.pf_command.specs.declared.words.Words.{Words}
-use Rattle.pf_command.specs.declared.words.Words.TheVariants.{Run, Check, Steps}
+use Rattle.pf_command.specs.declared.words.Words.TheVariants.{Run, Shrink, Check, Steps}
 
 -- ---- the words that are taken
 
@@ -31,14 +32,19 @@ required_rule name = record (option_rule name) { required = true }
 abbrev pub flag_rule : Text → Rule
 flag_rule name = record (new_rule name) { long = Some name; action = Some SetTrue }
 
--- what must be given of a run whatever its choices are: run [FILE] --root F --limit N
-abbrev pub bounded_app : App
-bounded_app = with_rule (with_rule (with_rule (new_app (codes "run")) file_rule) (required_rule (codes "root"))) (required_rule (codes "limit"))
+-- what must be given of all runs, whatever their choices are: NAME [FILE] --root F --limit N
+abbrev pub bounded_app : Text → App
+bounded_app name = with_rule (with_rule (with_rule (new_app name) file_rule) (required_rule (codes "root"))) (required_rule (codes "limit"))
 
 -- run [FILE] --root F --limit N [--seed N] [--schedule L] [--property P]
 abbrev pub run_app : App
 run_app =
-    with_rule (with_rule (with_rule bounded_app (option_rule (codes "seed"))) (option_rule (codes "schedule"))) (option_rule (codes "property"))
+    with_rule (with_rule (with_rule (bounded_app (codes "run")) (option_rule (codes "seed"))) (option_rule (codes "schedule"))) (option_rule (codes "property"))
+
+-- shrink [FILE] --root F --limit N --schedule L --property P --runs N
+abbrev pub shrink_app : App
+shrink_app =
+    with_rule (with_rule (with_rule (bounded_app (codes "shrink")) (required_rule (codes "schedule"))) (required_rule (codes "property"))) (required_rule (codes "runs"))
 
 -- check [FILE] [--explain]
 abbrev pub check_app : App
@@ -56,7 +62,7 @@ top_shape =
 -- the command line
 abbrev pub pulsefarm : App
 pulsefarm =
-    with_subcommand (with_subcommand (with_subcommand (record (new_app (codes "pulsefarm")) { top = top_shape }) run_app.top) check_app.top) steps_app.top
+    with_subcommand (with_subcommand (with_subcommand (with_subcommand (record (new_app (codes "pulsefarm")) { top = top_shape }) run_app.top) shrink_app.top) check_app.top) steps_app.top
 
 -- ---- what is asked for
 
@@ -66,6 +72,19 @@ pub record Request : Type 0 where
   pub limit : ℕ
   pub choices : Choices
   pub property : Text
+
+-- the shrinking of a schedule is asked for, within so many runs: from the function of this name, each within so many steps; a run fails where
+-- the property of this text does
+pub record ShrinkRequest : Type 0 where
+  pub root : Text
+  pub limit : ℕ
+  pub schedule : List ℕ
+  pub property : Text
+  pub runs : ℕ
+
+-- the number that the value of an option is
+abbrev pub number_in : Text → List Row → Option ℕ
+number_in name rows = option_and_then number_of (first_of name rows)
 
 -- the choices of a seed or of a schedule; one of the two is given, and not both
 abbrev pub choices_named : (seeded scheduled : Option Text) → Option Choices
@@ -78,20 +97,30 @@ abbrev pub property_named : Option Text → Text
 property_named None = codes "returns"
 property_named (Some word) = word
 
-abbrev pub requested : Text → Option ℕ → Option Choices → Text → Option Request
-requested root (Some limit) (Some choices) property = Some (record { root = root; limit = limit; choices = choices; property = property })
-requested root _ _ property = None
-
-abbrev pub read_values : (root limit : Option Text) → Option Choices → (property : Text) → Option Request
-read_values (Some root) (Some limit) choices property = requested root (number_of limit) choices property
-read_values _ _ choices property = None
+abbrev pub run_asked : (root : Option Text) → (limit : Option ℕ) → Option Choices → (property : Text) → Option Request
+run_asked (Some root) (Some limit) (Some choices) property = Some (record { root = root; limit = limit; choices = choices; property = property })
+run_asked _ _ _ property = None
 
 abbrev pub choices_in : List Row → Option Choices
 choices_in rows = choices_named (first_of (codes "seed") rows) (first_of (codes "schedule") rows)
 
 abbrev pub run_of : List Row → Option Request
 run_of rows =
-    read_values (first_of (codes "root") rows) (first_of (codes "limit") rows) (choices_in rows) (property_named (first_of (codes "property") rows))
+    run_asked (first_of (codes "root") rows) (number_in (codes "limit") rows) (choices_in rows) (property_named (first_of (codes "property") rows))
+
+abbrev pub shrinking_asked : (root property : Option Text) → (limit runs : Option ℕ) → (schedule : Option (List ℕ)) → Option ShrinkRequest
+shrinking_asked (Some root) (Some property) (Some limit) (Some runs) (Some numbers) =
+    Some (record { root = root; limit = limit; schedule = numbers; property = property; runs = runs })
+shrinking_asked _ _ _ _ _ = None
+
+-- the numbers that the schedule is
+abbrev pub schedule_in : List Row → Option (List ℕ)
+schedule_in rows = option_and_then schedule_of (first_of (codes "schedule") rows)
+
+abbrev pub shrink_of : List Row → Option ShrinkRequest
+shrink_of rows =
+    shrinking_asked (first_of (codes "root") rows) (first_of (codes "property") rows) (number_in (codes "limit") rows)
+    (number_in (codes "runs") rows) (schedule_in rows)
 
 -- a flag that is given has the value `true`
 abbrev pub is_given : Option Text → Bool
@@ -102,9 +131,10 @@ is_given (Some value) = bytes_eq value (codes "true")
 abbrev pub explain_of : List Row → Bool
 explain_of rows = is_given (first_of (codes "explain") rows)
 
--- a command asks for a run, for a check that may explain what it refuses, or for the steps that a file lists
+-- a command asks for a run, for the shrinking of a schedule, for a check that may explain what it refuses, or for the steps that a file lists
 pub data Wanted : Type 0 where
   run : Request → Wanted
+  shrink : ShrinkRequest → Wanted
   check : (explain : Bool) → Wanted
   steps : Wanted
 
@@ -112,8 +142,9 @@ pub data Wanted : Type 0 where
 abbrev pub of_command : Text → List Row → Option Wanted
 of_command name rows =
     if bytes_eq name (codes "run") then option_map run (run_of rows)
+    else (if bytes_eq name (codes "shrink") then option_map shrink (shrink_of rows)
     else (if bytes_eq name (codes "check") then Some (check (explain_of rows))
-    else (if bytes_eq name (codes "steps") then Some steps else None))
+    else (if bytes_eq name (codes "steps") then Some steps else None)))
 
 abbrev pub asked : {T : Type 0} → (Text → List Row → Option T) → Option (Text × List Row) → Option T
 asked read None = None
@@ -140,14 +171,19 @@ file_of words = asked (λ name rows. file_named (first_of (codes "file") rows)) 
 abbrev pub request : RunWords → Request
 request w = record { root = w.root.now; limit = w.limit; choices = choices_of w.choices; property = w.property.now }
 
+abbrev pub shrink_request : ShrinkWords → ShrinkRequest
+shrink_request w = record { root = w.root.now; limit = w.limit; schedule = w.schedule.value.items; property = w.property.now; runs = w.runs }
+
 -- and what the code's own words stand for
 abbrev pub wanted : Words → Wanted
 wanted (Run w) = run (request w)
+wanted (Shrink w) = shrink (shrink_request w)
 wanted (Check w) = check w.explain
 wanted (Steps w) = steps
 
 abbrev pub named_file : Words → Option Text
 named_file (Run w) = option_map (λ s. s.now) w.file
+named_file (Shrink w) = option_map (λ s. s.now) w.file
 named_file (Check w) = option_map (λ s. s.now) w.file
 named_file (Steps w) = option_map (λ s. s.now) w.file
 

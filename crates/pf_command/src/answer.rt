@@ -3,20 +3,27 @@
 ghost use Rattle.std.specs.Prelude.{◌≡◌, ℕ, List, IfErr, IfOk};
 ghost use Rattle.pf_fault.specs.Codes.{code_text, refusal_text};
 ghost use Rattle.pf_check.specs.Reads.{IsRefusalOf};
-ghost use Rattle.pf_command.specs.Words.{request};
-ghost use Rattle.pf_command.specs.Answers.{Answers, IsModuleOf, Refuses, Reports, run_status};
+ghost use Rattle.pf_model.specs.Reports.{report_of};
+ghost use Rattle.pf_model.specs.Shrinking.{found, report, shrunk_to};
+ghost use Rattle.pf_sched.specs.Views.{result_of};
+ghost use Rattle.pf_command.specs.Answers.{Answers, IsModuleOf, Refuses, Tells, TellsEnd, job_request, run_status};
 
-use crate::words::RunWords;
+use crate::asked::Asked;
 use pf_fault::{Code, NoMemory, OrNoMemory, Refusal};
-use pf_sched::{Job, Scratch, whole};
+use pf_model::report::Report;
+use pf_sched::{Job, JobResult, Scratch, whole};
 use pf_store::{Source, Stored};
+use pf_terms::AtomTable;
 use pf_text::{put, put_byte};
-use pf_trace::put_report;
+use pf_trace::{put_found, put_report};
 use std::alloc::Global;
 use std::sync::Arc;
 
 /// The status where something is refused.
 const REFUSED: u8 = 2;
+
+/// The status where a property fails.
+const FAILED: u8 = 1;
 
 /// A text that goes out, and the status that the program ends with.
 #[derive(Drop)]
@@ -60,33 +67,73 @@ fn run_status(verdict: Option<bool>) -> u8
 {
     match verdict {
         Some(true) => 0,
-        Some(false) => 1,
+        Some(false) => FAILED,
         None => REFUSED,
     }
 }
 
-/// The report of the run of a job.
-fn report_run(alloc: Global, job: Job) -> Result<Answer, NoMemory>
-    ensures { IfOk result (λ a. Reports job a) }
+/// The answer of a run: its report, with the status of its verdict.
+fn tell_run(alloc: Global, atoms: &AtomTable, told: &Report) -> Result<Answer, NoMemory>
+    ensures { IfOk result (Tells atoms.now (report (report_of told.now))) }
 {
-    let finished = whole(alloc, Arc::new(alloc, job)?, &mut Scratch::new(alloc))?;
-    let report = finished.report();
     let mut text = Vec::new(alloc);
-    put_report(alloc, &mut text, finished.job().module().atoms(), report)?;
-    let status = run_status(report.verdict);
+    put_report(alloc, &mut text, atoms, told)?;
+    let status = run_status(told.verdict);
     Ok(Answer { text, status })
 }
 
-/// The answer to a module.
-fn answer_module(alloc: Global, words: &RunWords, stored: Stored) -> Result<Answer, NoMemory>
-    ensures { IfOk result (λ a. (bytes : List ℕ) → IsModuleOf bytes stored
-        → Answers (request words.now) bytes a.text.items a.status) }
+/// The answer of a shrinking: the schedule that it found, whether no candidate of that fails, and the report of its run, which fails.
+fn tell_shrunk(
+    alloc: Global,
+    atoms: &AtomTable,
+    schedule: &[u32],
+    complete: bool,
+    told: &Report,
+) -> Result<Answer, NoMemory>
+    ensures { IfOk result (Tells atoms.now (shrunk_to (found schedule.now complete) (report_of told.now))) }
 {
-    let root = words.root.as_bytes();
-    let property = words.property.as_bytes();
-    let choices = words.choices.share()?;
-    match Job::new(alloc, stored, root, property, choices, words.limit) {
-        Ok(job) => report_run(alloc, job),
+    let mut text = Vec::new(alloc);
+    put_found(alloc, &mut text, schedule, complete)?;
+    put_report(alloc, &mut text, atoms, told)?;
+    Ok(Answer {
+        text,
+        status: FAILED,
+    })
+}
+
+/// The answer of what a job came to. Where the given schedule doesn't fail, that is refused.
+fn tell_result(alloc: Global, atoms: &AtomTable, told: &JobResult) -> Result<Answer, NoMemory>
+    ensures { IfOk result (Tells atoms.now (result_of told.now)) }
+{
+    match told {
+        JobResult::Report(report) => tell_run(alloc, atoms, report),
+        JobResult::Shrunk {
+            schedule,
+            complete,
+            report,
+        } => tell_shrunk(alloc, atoms, schedule, *complete, report),
+        JobResult::NothingFails => refused_by_code(alloc, Code::NothingFails),
+    }
+}
+
+/// The answer of a job, which is run whole.
+fn answer_job(alloc: Global, job: Job) -> Result<Answer, NoMemory>
+    ensures { IfOk result (TellsEnd job) }
+{
+    let finished = whole(alloc, Arc::new(alloc, job)?, &mut Scratch::new(alloc))?;
+    let atoms = finished.job().module().atoms();
+    tell_result(alloc, atoms, finished.result())
+}
+
+/// The answer to a module.
+fn answer_module(alloc: Global, asked: Asked, stored: Stored) -> Result<Answer, NoMemory>
+    ensures { IfOk result (λ a. (bytes : List ℕ) → IsModuleOf bytes stored
+        → Answers (job_request asked.entry) bytes a.text.items a.status) }
+{
+    let root = asked.root.as_bytes();
+    let property = asked.property.as_bytes();
+    match Job::new(alloc, stored, root, property, asked.kind, asked.limit) {
+        Ok(job) => answer_job(alloc, job),
         Err(OrNoMemory::Fault(refusal)) => refused_by_code(alloc, refusal.code()),
         Err(OrNoMemory::NoMemory) => Err(NoMemory),
     }
@@ -102,11 +149,11 @@ fn read_source(alloc: Global, bytes: Vec<u8>) -> Result<Stored, OrNoMemory<Refus
 }
 
 /// The answer to a source of these bytes.
-pub fn answer_source(alloc: Global, words: &RunWords, bytes: Vec<u8>) -> Result<Answer, NoMemory>
-    ensures { IfOk result (λ a. Answers (request words.now) bytes.items a.text.items a.status) }
+pub fn answer_source(alloc: Global, asked: Asked, bytes: Vec<u8>) -> Result<Answer, NoMemory>
+    ensures { IfOk result (λ a. Answers (job_request asked.entry) bytes.items a.text.items a.status) }
 {
     match read_source(alloc, bytes) {
-        Ok(stored) => answer_module(alloc, words, stored),
+        Ok(stored) => answer_module(alloc, asked, stored),
         Err(OrNoMemory::Fault(refusal)) => refused_at(alloc, refusal),
         Err(OrNoMemory::NoMemory) => Err(NoMemory),
     }

@@ -1,14 +1,15 @@
-//! The work of `run` and of `check` between a reader and a writer.
+//! The work of `run`, of `shrink` and of `check` between a reader and a writer.
 
 ghost use Rattle.std.specs.Prelude.{◌≡◌, ◌≤◌, ℕ, List, length, IfOk, IfErr, OnOk};
 ghost use Rattle.std.specs.Io.KnownBytes.{Consumes};
-ghost use Rattle.pf_command.specs.Words.{request};
-ghost use Rattle.pf_command.specs.Answers.{Answered, Answers, Leaves};
+ghost use Rattle.pf_command.specs.Words.{request, shrink_request};
+ghost use Rattle.pf_command.specs.Answers.{Answered, Answers, Leaves, job_request, of_run, of_shrinking};
 ghost use Rattle.pf_command.specs.Checks.{Checks};
 
 use crate::answer::answer_source;
+use crate::asked::Asked;
 use crate::check::answer_check;
-use crate::words::{CheckWords, RunWords};
+use crate::words::{CheckWords, RunWords, ShrinkWords};
 use pf_fault::OrNoMemory;
 use pf_terms::{Counted, StreamFault};
 use pf_tokens::MOST_SOURCE_BYTES;
@@ -19,27 +20,69 @@ use std::sync::ledger::Ledger;
 /// The most bytes that are read: one more than a source may have.
 pub const MOST_BYTES: usize = MOST_SOURCE_BYTES + 1;
 
-/// Answers a source under the words: reads at most one byte more than a source may have, writes a text and gives the status.
+/// Answers a source of which this is asked for: reads at most one byte more than a source may have, writes a text and gives the status.
+fn answer_asked<R: Read, W: Write, L: Ledger, M: Ledger>(
+    alloc: Global,
+    reader: &mut Counted<R, L>,
+    asked: Asked,
+    writer: &mut Counted<W, M>,
+) -> Result<u8, OrNoMemory<StreamFault>>
+    ensures answered { IfOk result (λ status. Answered (Answers (job_request asked.entry))
+        (R.remaining reader.old.inner) (W.contents writer.old.inner) (W.contents writer.new.inner) status) }
+    ensures counts { OnOk result ((reader.new.failures.total ≡ reader.old.failures.total)
+        × (writer.new.failures.total ≡ writer.old.failures.total)) }
+    ensures taken { (bytes : List ℕ) × (length bytes ≤ MOST_BYTES)
+        × Consumes (R.remaining reader.old.inner) (R.remaining reader.new.inner) bytes }
+    ensures fault { IfErr result (λ e. Leaves e (Answers (job_request asked.entry))
+        (R.remaining reader.old.inner) (W.contents writer.old.inner) (W.contents writer.new.inner)
+        reader.old.failures.total reader.new.failures.total writer.old.failures.total writer.new.failures.total) }
+{
+    let source = reader.take_front(alloc, MOST_BYTES)?;
+    let answer = answer_source(alloc, asked, source)?;
+    writer.put(&answer.text)?;
+    Ok(answer.status)
+}
+
+/// Answers a source of which a run is asked for: reads at most one byte more than a source may have, writes a text and gives the status.
 pub fn run_source<R: Read, W: Write, L: Ledger, M: Ledger>(
     alloc: Global,
     reader: &mut Counted<R, L>,
     words: &RunWords,
     writer: &mut Counted<W, M>,
 ) -> Result<u8, OrNoMemory<StreamFault>>
-    ensures answered { IfOk result (λ status. Answered (Answers (request words.now))
+    ensures answered { IfOk result (λ status. Answered (Answers (of_run (request words.now)))
         (R.remaining reader.old.inner) (W.contents writer.old.inner) (W.contents writer.new.inner) status) }
     ensures counts { OnOk result ((reader.new.failures.total ≡ reader.old.failures.total)
         × (writer.new.failures.total ≡ writer.old.failures.total)) }
     ensures taken { (bytes : List ℕ) × (length bytes ≤ MOST_BYTES)
         × Consumes (R.remaining reader.old.inner) (R.remaining reader.new.inner) bytes }
-    ensures fault { IfErr result (λ e. Leaves e (Answers (request words.now))
+    ensures fault { IfErr result (λ e. Leaves e (Answers (of_run (request words.now)))
         (R.remaining reader.old.inner) (W.contents writer.old.inner) (W.contents writer.new.inner)
         reader.old.failures.total reader.new.failures.total writer.old.failures.total writer.new.failures.total) }
 {
-    let source = reader.take_front(alloc, MOST_BYTES)?;
-    let answer = answer_source(alloc, words, source)?;
-    writer.put(&answer.text)?;
-    Ok(answer.status)
+    let asked = words.asked()?;
+    answer_asked(alloc, reader, asked, writer)
+}
+
+/// Answers a source of which a shrinking is asked for: reads at most one byte more than a source may have, writes a text and gives the status.
+pub fn shrink_source<R: Read, W: Write, L: Ledger, M: Ledger>(
+    alloc: Global,
+    reader: &mut Counted<R, L>,
+    words: &ShrinkWords,
+    writer: &mut Counted<W, M>,
+) -> Result<u8, OrNoMemory<StreamFault>>
+    ensures answered { IfOk result (λ status. Answered (Answers (of_shrinking (shrink_request words.now)))
+        (R.remaining reader.old.inner) (W.contents writer.old.inner) (W.contents writer.new.inner) status) }
+    ensures counts { OnOk result ((reader.new.failures.total ≡ reader.old.failures.total)
+        × (writer.new.failures.total ≡ writer.old.failures.total)) }
+    ensures taken { (bytes : List ℕ) × (length bytes ≤ MOST_BYTES)
+        × Consumes (R.remaining reader.old.inner) (R.remaining reader.new.inner) bytes }
+    ensures fault { IfErr result (λ e. Leaves e (Answers (of_shrinking (shrink_request words.now)))
+        (R.remaining reader.old.inner) (W.contents writer.old.inner) (W.contents writer.new.inner)
+        reader.old.failures.total reader.new.failures.total writer.old.failures.total writer.new.failures.total) }
+{
+    let asked = words.asked()?;
+    answer_asked(alloc, reader, asked, writer)
 }
 
 /// Checks a source: reads at most one byte more than a source may have, writes `ok` or its refusal, and gives the status.

@@ -1,19 +1,20 @@
 //! The words of the command line.
 
-ghost use Rattle.std.specs.Prelude.{◌≡◌, ◌⊎◌, IfOk, IfErr, map, true, false, Some, None, codes, option_map};
-ghost use Rattle.clap.specs.Words.{FailsBy, Shape, app_of, fault_of, subcommand_of, subcommand_rows_of, rule_of, new_app, kind_of, first_of, rows_of, found_of};
-ghost use Rattle.clap.specs.declared.builder.command.Command.TheViews.{out-Command};
+ghost use Rattle.std.specs.Prelude.{◌≡◌, ◌⊎◌, IfOk, IfErr, map, Some, None, codes, option_map};
+ghost use Rattle.clap.specs.Words.{FailsBy, fault_of, subcommand_of, subcommand_rows_of, kind_of, first_of, rows_of, found_of};
 ghost use Rattle.pf_model.specs.Meaning.{seed, schedule};
 ghost use Rattle.pf_text.specs.Numbers.{long_number_of, schedule_of};
 ghost use Rattle.pf_sched.specs.Views.{choices_of};
-ghost use Rattle.pf_command.specs.Words.{IsFaultOf, bounded_app, check_app, choices_in, fault_under, file_named, file_of, file_rule, flag_rule, is_given, named_file, of_command, option_rule, property_named, pulsefarm, request, required_rule, run_app, run_fault, run_of, status_of_kind, steps_app, top_shape, wanted, wanted_of};
+ghost use Rattle.pf_command.specs.Words.{IsFaultOf, choices_in, fault_under, file_named, file_of, is_given, named_file, number_in, of_command, property_named, pulsefarm, request, run_fault, run_of, schedule_in, shrink_of, shrink_request, status_of_kind, wanted, wanted_of};
 
+use crate::commands::{command, run_command, shrink_command};
 use clap::error::ErrorKind;
-use clap::{Arg, ArgAction, ArgMatches, Command, Error};
+use clap::{ArgMatches, Error};
 use pf_sched::JobChoices;
 use pf_terms::NoMemory;
 use pf_text::{long_number_of, number_of, schedule_of};
 use std::alloc::{AllocError, Global};
+use std::sync::Arc;
 
 /// What the words of `run` ask for.
 #[derive(Drop)]
@@ -28,6 +29,23 @@ pub struct RunWords<'a> {
     pub choices: JobChoices,
     /// The text of the property that it is judged by.
     pub property: &'a str,
+}
+
+/// What the words of `shrink` ask for.
+#[derive(Drop)]
+pub struct ShrinkWords<'a> {
+    /// The file of the source; the standard input where there is none.
+    pub file: Option<&'a str>,
+    /// The name of the function that runs first.
+    pub root: &'a str,
+    /// The most steps of each run.
+    pub limit: u32,
+    /// The schedule that is shrunk.
+    pub schedule: Arc<Vec<u32>>,
+    /// The text of the property that fails.
+    pub property: &'a str,
+    /// The most runs.
+    pub runs: u32,
 }
 
 /// What the words of `check` ask for.
@@ -50,6 +68,7 @@ pub struct StepsWords<'a> {
 #[derive(Drop)]
 pub enum Words<'a> {
     Run(RunWords<'a>),
+    Shrink(ShrinkWords<'a>),
     Check(CheckWords<'a>),
     Steps(StepsWords<'a>),
 }
@@ -61,174 +80,11 @@ impl<'a> Words<'a> {
     {
         match self {
             Words::Run(words) => words.file,
+            Words::Shrink(words) => words.file,
             Words::Check(words) => words.file,
             Words::Steps(words) => words.file,
         }
     }
-}
-
-const SOURCE_HELP: &str =
-    "File of the module's source, at most 65,536 bytes; `-` is standard input [default: -]";
-
-const RUN_USAGE: &str =
-    "pulsefarm run [OPTIONS] --root <F> --limit <N> <--seed <N>|--schedule <L>> [FILE]";
-
-/// A file that comes without a name before it.
-fn file<'a>(alloc: Global, help: &'a str) -> Arg<'a>
-    ensures rule { rule_of result ≡ file_rule }
-    ensures local { result.global ≡ false }
-{
-    Arg::new(alloc, "file").value_name("FILE").help(help)
-}
-
-/// An option with its one value, which may be left out.
-fn option<'a>(alloc: Global, name: &'a str, value: &'a str, help: &'a str) -> Arg<'a>
-    ensures rule { rule_of result ≡ option_rule name.entry.now }
-    ensures local { result.global ≡ false }
-{
-    Arg::new(alloc, name)
-        .long(name)
-        .value_name(value)
-        .help(help)
-}
-
-/// An option that must be given.
-fn required<'a>(alloc: Global, name: &'a str, value: &'a str, help: &'a str) -> Arg<'a>
-    ensures rule { rule_of result ≡ required_rule name.entry.now }
-    ensures local { result.global ≡ false }
-{
-    option(alloc, name, value, help).required(true)
-}
-
-/// An option without a value, which may be left out.
-fn flag<'a>(alloc: Global, name: &'a str, help: &'a str) -> Arg<'a>
-    ensures rule { rule_of result ≡ flag_rule name.entry.now }
-    ensures local { result.global ≡ false }
-{
-    Arg::new(alloc, name)
-        .long(name)
-        .action(ArgAction::SetTrue)
-        .help(help)
-}
-
-fn root<'a>(alloc: Global) -> Arg<'a>
-    ensures rule { rule_of result ≡ required_rule (codes "root") }
-    ensures local { result.global ≡ false }
-{
-    let help = "Name of the function that runs first, exported and without arguments";
-    required(alloc, "root", "F", help)
-}
-
-fn limit<'a>(alloc: Global) -> Arg<'a>
-    ensures rule { rule_of result ≡ required_rule (codes "limit") }
-    ensures local { result.global ≡ false }
-{
-    let help = "Most steps of the run, from 1 to 100,000";
-    required(alloc, "limit", "N", help)
-}
-
-fn seed<'a>(alloc: Global) -> Arg<'a>
-    ensures rule { rule_of result ≡ option_rule (codes "seed") }
-    ensures local { result.global ≡ false }
-{
-    let help = "Seed of the scheduler's numbers, from 0 to 18446744073709551615";
-    option(alloc, "seed", "N", help)
-}
-
-fn schedule<'a>(alloc: Global) -> Arg<'a>
-    ensures rule { rule_of result ≡ option_rule (codes "schedule") }
-    ensures local { result.global ≡ false }
-{
-    let help =
-        "Scheduler's numbers, each from 0 to 4294967295, at most 100,000 with commas between them, or `none`";
-    option(alloc, "schedule", "L", help)
-}
-
-fn property<'a>(alloc: Global) -> Arg<'a>
-    ensures rule { rule_of result ≡ option_rule (codes "property") }
-    ensures local { result.global ≡ false }
-{
-    let help =
-        "Property that the run is judged by: `returns`, `true`, `nocrash`, `nodeadlock`, `withinlimit` or `never:PATTERN` [default: returns]";
-    option(alloc, "property", "P", help)
-}
-
-/// A command without its arguments.
-fn bare<'a>(alloc: Global, name: &'a str, about: &'a str) -> Command<'a>
-    ensures app { app_of result ≡ new_app name.entry.now }
-    ensures local { (out-Command result).has_globals ≡ false }
-{
-    Command::new(alloc, name).about(about)
-}
-
-/// `run` without the options that may be left out.
-fn bounded_run<'a>(alloc: Global) -> Result<Command<'a>, AllocError>
-    ensures app { IfOk result (λ c. app_of c ≡ bounded_app) }
-    ensures local { IfOk result (λ c. (out-Command c).has_globals ≡ false) }
-{
-    let about = "Runs a module by a seed or a schedule and reports each turn and delivery";
-    let run = bare(alloc, "run", about)
-        .override_usage(RUN_USAGE)
-        .arg(file(alloc, SOURCE_HELP))?
-        .arg(root(alloc))?
-        .arg(limit(alloc))?;
-    Ok(run)
-}
-
-fn run_command<'a>(alloc: Global) -> Result<Command<'a>, AllocError>
-    ensures app { IfOk result (λ c. app_of c ≡ run_app) }
-    ensures local { IfOk result (λ c. (out-Command c).has_globals ≡ false) }
-{
-    let run = bounded_run(alloc)?
-        .arg(seed(alloc))?
-        .arg(schedule(alloc))?
-        .arg(property(alloc))?;
-    Ok(run)
-}
-
-fn check_command<'a>(alloc: Global) -> Result<Command<'a>, AllocError>
-    ensures app { IfOk result (λ c. app_of c ≡ check_app) }
-    ensures local { IfOk result (λ c. (out-Command c).has_globals ≡ false) }
-{
-    let about = "Reads a module and tells `ok`, or its first refusal with the place";
-    let explain = "Shows the line of a refusal too, and tells how to mend it";
-    let check = bare(alloc, "check", about)
-        .arg(file(alloc, SOURCE_HELP))?
-        .arg(flag(alloc, "explain", explain))?;
-    Ok(check)
-}
-
-fn steps_command<'a>(alloc: Global) -> Result<Command<'a>, AllocError>
-    ensures app { IfOk result (λ c. app_of c ≡ steps_app) }
-    ensures local { IfOk result (λ c. (out-Command c).has_globals ≡ false) }
-{
-    let about = "Carries out commands, one after another, and answers each as it comes";
-    let commands =
-        "File of the commands, at most 67,108,864 bytes; `-` is standard input [default: -]";
-    let steps = bare(alloc, "steps", about).arg(file(alloc, commands))?;
-    Ok(steps)
-}
-
-/// The program without its commands.
-fn top<'a>(alloc: Global) -> Command<'a>
-    ensures app { app_of result ≡ record (new_app (codes "pulsefarm")) { top = top_shape } }
-    ensures local { (out-Command result).has_globals ≡ false }
-{
-    Command::new(alloc, "pulsefarm")
-        .version("0.1.0")
-        .about("Tests Erlang programs for races")
-        .subcommand_required(true)
-        .disable_help_subcommand(true)
-}
-
-fn command<'a>(alloc: Global) -> Result<Command<'a>, AllocError>
-    ensures { IfOk result (λ c. app_of c ≡ pulsefarm) }
-{
-    let whole = top(alloc)
-        .subcommand(run_command(alloc)?)?
-        .subcommand(check_command(alloc)?)?
-        .subcommand(steps_command(alloc)?)?;
-    Ok(whole)
 }
 
 fn matches<'a>(alloc: Global, words: &'a [&'a str]) -> Result<ArgMatches<'a>, Error>
@@ -279,31 +135,83 @@ fn mistake(alloc: Global, text: &str) -> Error
     }
 }
 
-/// An error of this kind with its text and the usage of `run`.
-fn try_refuse(alloc: Global, kind: ErrorKind, text: &str) -> Result<Error, AllocError>
-    ensures { IfOk result (λ e. kind_of e ≡ kind) }
-{
-    run_command(alloc)?
-        .bin_name("pulsefarm run")?
-        .error(kind, text)
+/// A command whose options have values that are read.
+#[derive(Clone, Copy)]
+enum Valued {
+    Run,
+    Shrink,
 }
 
-fn refuse(alloc: Global, kind: ErrorKind, text: &str) -> Error
+/// An error of this kind with its text and the usage of a command.
+fn try_refuse(
+    alloc: Global,
+    valued: Valued,
+    kind: ErrorKind,
+    text: &str,
+) -> Result<Error, AllocError>
+    ensures { IfOk result (λ e. kind_of e ≡ kind) }
+{
+    let mut command = match valued {
+        Valued::Run => run_command(alloc)?.bin_name("pulsefarm run")?,
+        Valued::Shrink => shrink_command(alloc)?.bin_name("pulsefarm shrink")?,
+    };
+    command.error(kind, text)
+}
+
+fn refuse(alloc: Global, valued: Valued, kind: ErrorKind, text: &str) -> Error
     ensures { (kind_of result ≡ ErrorKind.OutOfMemory) ⊎ (kind_of result ≡ kind) }
 {
-    match try_refuse(alloc, kind, text) {
+    match try_refuse(alloc, valued, kind, text) {
         Ok(error) => error,
         Err(e) => Error::from(e),
     }
 }
 
-/// An error that names the value of an option of `run`.
-fn refuse_value(alloc: Global, option: &str, value: &str, wants: &str) -> Error
+/// An error that names the value of an option, as `limit <N>`.
+fn refuse_value(alloc: Global, valued: Valued, option: &str, value: &str, wants: &str) -> Error
     ensures { (kind_of result ≡ ErrorKind.OutOfMemory) ⊎ (kind_of result ≡ ErrorKind.InvalidValue) }
 {
-    match format!(in alloc; "invalid value '{value}' for '{option}': it wants {wants}") {
-        Ok(text) => refuse(alloc, ErrorKind::InvalidValue, &text),
+    match format!(in alloc; "invalid value '{value}' for '--{option}': it wants {wants}") {
+        Ok(text) => refuse(alloc, valued, ErrorKind::InvalidValue, &text),
         Err(e) => Error::from(e),
+    }
+}
+
+/// The same of an option whose value is a number.
+fn refuse_number(alloc: Global, valued: Valued, name: &str, value: &str, wants: &str) -> Error
+    ensures { (kind_of result ≡ ErrorKind.OutOfMemory) ⊎ (kind_of result ≡ ErrorKind.InvalidValue) }
+{
+    match format!(in alloc; "{name} <N>") {
+        Ok(option) => refuse_value(alloc, valued, &option, value, wants),
+        Err(e) => Error::from(e),
+    }
+}
+
+/// What a limit wants.
+const STEPS: &str = "a number of steps from 1 to 100000, without leading zeros";
+
+/// What the number of runs wants.
+const RUNS: &str = "a number of runs from 1 to 1000, without leading zeros";
+
+/// The number that the value of an option is, which its command wants.
+fn number(
+    alloc: Global,
+    valued: Valued,
+    rows: &ArgMatches,
+    name: &str,
+    wants: &str,
+) -> Result<u32, Error>
+    ensures ok { IfOk result (λ n. number_in name.now (rows_of (found_of rows.now)) ≡ Some n) }
+    ensures err { IfErr result (λ e. (kind_of e ≡ ErrorKind.OutOfMemory)
+        ⊎ ((kind_of e ≡ ErrorKind.InvalidValue)
+        × (number_in name.now (rows_of (found_of rows.now)) ≡ None))) }
+{
+    let Some(word) = value(rows, name) else {
+        return Err(mistake(alloc, "an option is missing"));
+    };
+    match number_of(word.as_bytes()) {
+        Some(number) => Ok(number),
+        None => Err(refuse_number(alloc, valued, name, word, wants)),
     }
 }
 
@@ -317,8 +225,24 @@ fn choices_by_seed(alloc: Global, word: &str) -> Result<JobChoices, Error>
         Some(seed) => Ok(JobChoices::Seed(seed)),
         None => {
             let wants = "a number from 0 to 18446744073709551615, without leading zeros";
-            Err(refuse_value(alloc, "--seed <N>", word, wants))
+            Err(refuse_value(alloc, Valued::Run, "seed <N>", word, wants))
         }
+    }
+}
+
+/// The numbers of the schedule that a word is.
+fn numbers(alloc: Global, valued: Valued, word: &str) -> Result<Vec<u32>, Error>
+    ensures ok { IfOk result (λ v. schedule_of word.now ≡ Some v.items) }
+    ensures err { IfErr result (λ e. (kind_of e ≡ ErrorKind.OutOfMemory)
+        ⊎ ((kind_of e ≡ ErrorKind.InvalidValue) × (schedule_of word.now ≡ None))) }
+{
+    match schedule_of(alloc, word.as_bytes()) {
+        Ok(Some(numbers)) => Ok(numbers),
+        Ok(None) => {
+            let wants = "`none`, or numbers from 0 to 4294967295 with commas between them";
+            Err(refuse_value(alloc, valued, "schedule <L>", word, wants))
+        }
+        Err(e) => Err(Error::from(e)),
     }
 }
 
@@ -328,13 +252,9 @@ fn choices_by_schedule(alloc: Global, word: &str) -> Result<JobChoices, Error>
     ensures err { IfErr result (λ e. (kind_of e ≡ ErrorKind.OutOfMemory)
         ⊎ ((kind_of e ≡ ErrorKind.InvalidValue) × (schedule_of word.now ≡ None))) }
 {
-    let numbers = match schedule_of(alloc, word.as_bytes()) {
-        Ok(Some(numbers)) => numbers,
-        Ok(None) => {
-            let wants = "`none`, or numbers from 0 to 4294967295 with commas between them";
-            return Err(refuse_value(alloc, "--schedule <L>", word, wants));
-        }
-        Err(e) => return Err(Error::from(e)),
+    let numbers = match numbers(alloc, Valued::Run, word) {
+        Ok(numbers) => numbers,
+        Err(e) => return Err(e),
     };
     match JobChoices::schedule(alloc, numbers) {
         Ok(choices) => Ok(choices),
@@ -354,11 +274,11 @@ fn choices(alloc: Global, rows: &ArgMatches) -> Result<JobChoices, Error>
         (None, Some(word)) => choices_by_schedule(alloc, word),
         (Some(_), Some(_)) => {
             let text = "the argument '--seed <N>' cannot be used with '--schedule <L>'";
-            Err(refuse(alloc, ErrorKind::ArgumentConflict, text))
+            Err(refuse(alloc, Valued::Run, ErrorKind::ArgumentConflict, text))
         }
         (None, None) => {
             let text = "one of '--seed <N>' and '--schedule <L>' is wanted";
-            Err(refuse(alloc, ErrorKind::MissingRequiredArgument, text))
+            Err(refuse(alloc, Valued::Run, ErrorKind::MissingRequiredArgument, text))
         }
     }
 }
@@ -389,12 +309,9 @@ fn run_words<'a>(alloc: Global, rows: &ArgMatches<'a>) -> Result<RunWords<'a>, E
     let Some(root) = value(rows, "root") else {
         return Err(mistake(alloc, "--root is missing"));
     };
-    let Some(limit) = value(rows, "limit") else {
-        return Err(mistake(alloc, "--limit is missing"));
-    };
-    let Some(limit) = number_of(limit.as_bytes()) else {
-        let wants = "a number of steps from 1 to 100000, without leading zeros";
-        return Err(refuse_value(alloc, "--limit <N>", limit, wants));
+    let limit = match number(alloc, Valued::Run, rows, "limit", STEPS) {
+        Ok(limit) => limit,
+        Err(e) => return Err(e),
     };
     Ok(RunWords {
         file: named_file(rows),
@@ -402,6 +319,62 @@ fn run_words<'a>(alloc: Global, rows: &ArgMatches<'a>) -> Result<RunWords<'a>, E
         limit,
         choices,
         property: named_property(rows),
+    })
+}
+
+/// The schedule that is shrunk.
+fn given_schedule(alloc: Global, rows: &ArgMatches) -> Result<Arc<Vec<u32>>, Error>
+    ensures ok { IfOk result (λ numbers.
+        schedule_in (rows_of (found_of rows.now)) ≡ Some numbers.value.items) }
+    ensures err { IfErr result (λ e. (kind_of e ≡ ErrorKind.OutOfMemory)
+        ⊎ ((kind_of e ≡ ErrorKind.InvalidValue) × (schedule_in (rows_of (found_of rows.now)) ≡ None))) }
+{
+    let Some(word) = value(rows, "schedule") else {
+        return Err(mistake(alloc, "--schedule is missing"));
+    };
+    let numbers = match numbers(alloc, Valued::Shrink, word) {
+        Ok(numbers) => numbers,
+        Err(e) => return Err(e),
+    };
+    match Arc::new(alloc, numbers) {
+        Ok(numbers) => Ok(numbers),
+        Err(e) => Err(Error::from(e)),
+    }
+}
+
+/// The shrinking that the values of the options ask for.
+fn shrink_words<'a>(alloc: Global, rows: &ArgMatches<'a>) -> Result<ShrinkWords<'a>, Error>
+    ensures ok { IfOk result (λ w. shrink_of (rows_of (found_of rows.now)) ≡ Some (shrink_request w)) }
+    ensures file { IfOk result (λ w. option_map (λ s. s.now) w.file
+        ≡ file_named (first_of (codes "file") (rows_of (found_of rows.now)))) }
+    ensures err { IfErr result (λ e. (kind_of e ≡ ErrorKind.OutOfMemory)
+        ⊎ ((kind_of e ≡ ErrorKind.InvalidValue) × (shrink_of (rows_of (found_of rows.now)) ≡ None))) }
+{
+    let Some(root) = value(rows, "root") else {
+        return Err(mistake(alloc, "--root is missing"));
+    };
+    let Some(property) = value(rows, "property") else {
+        return Err(mistake(alloc, "--property is missing"));
+    };
+    let limit = match number(alloc, Valued::Shrink, rows, "limit", STEPS) {
+        Ok(limit) => limit,
+        Err(e) => return Err(e),
+    };
+    let runs = match number(alloc, Valued::Shrink, rows, "runs", RUNS) {
+        Ok(runs) => runs,
+        Err(e) => return Err(e),
+    };
+    let schedule = match given_schedule(alloc, rows) {
+        Ok(schedule) => schedule,
+        Err(e) => return Err(e),
+    };
+    Ok(ShrinkWords {
+        file: named_file(rows),
+        root,
+        limit,
+        schedule,
+        property,
+        runs,
     })
 }
 
@@ -424,6 +397,12 @@ fn command_words<'a>(alloc: Global, name: &str, rows: &ArgMatches<'a>) -> Result
     if name == "run" {
         return match run_words(alloc, rows) {
             Ok(words) => Ok(Words::Run(words)),
+            Err(e) => Err(e),
+        };
+    }
+    if name == "shrink" {
+        return match shrink_words(alloc, rows) {
+            Ok(words) => Ok(Words::Shrink(words)),
             Err(e) => Err(e),
         };
     }

@@ -2,7 +2,8 @@
 use Rattle.std.proofs.Common.{◌≡◌, ℕ, ◌==◌, Bool, true, false, List, [], ◌∷◌, ◌++◌, Option, Some, None, refl, sym, ap, subst}
 use Rattle.std.specs.Prelude.{Result, Ok, Err, if◌then◌else◌, option_and_then}
 use Rattle.pf_fault.specs.declared.code.Code.{Code}
-use Rattle.pf_desks.specs.Desk.{Profile, Desk, no_desk, Entry, called, claimed, filed, Call, submit, order, fetch, usage, Reading, readable, faulty, submitted, ordered, answered, job_of, Job}
+use Rattle.pf_model.specs.Meaning.{schedule}
+use Rattle.pf_desks.specs.Desk.{Profile, Desk, no_desk, Entry, called, claimed, filed, Call, submit, order, order_shrink, fetch, usage, Reading, readable, faulty, submitted, ordered, answered, job_of, Job}
 use Rattle.pf_desks.specs.Desk.{numbered, is_queued, is_running, reply_to, after_call, after_claim, after_file, Work, claim, file, once, claim_step, file_step, worker_step}
 use Rattle.pf_desks.specs.History.{Follows, IsLegal, IsLegalDesk}
 use Rattle.pf_desks.specs.World.{World, Step, client, worker, desk_at, put_desk, worked, step}
@@ -34,7 +35,8 @@ module _ (p : Profile) (d : Desk) where
 
   call_notes : (c : Call) → (answered p d c).0.history ≡ d.history
   call_notes (submit text) = submission_notes text (p.reading text)
-  call_notes (order n root property cs limit) = order_notes (job_of p (numbered d.modules n) root property cs limit)
+  call_notes (order n root property cs limit) = order_notes (job_of p (numbered d.modules n) root property cs limit None)
+  call_notes (order_shrink n root property ns runs limit) = order_notes (job_of p (numbered d.modules n) root property (schedule ns) limit (Some runs))
   call_notes (fetch t) = refl
   call_notes usage = refl
 

@@ -1,7 +1,8 @@
 -- Desks: what the farm holds for one project, and what a call of its clients or the work of a worker makes of it.
-use Rattle.std.specs.Prelude.{ℕ, zero, suc, ◌+◌, Bool, true, false, if◌then◌else◌, List, [], ◌∷◌, ◌++◌, length, map, Option, Some, None, option_and_then, Result, Ok, Err, slice_get, slice_set}
+use Rattle.std.specs.Prelude.{ℕ, zero, suc, ◌+◌, Bool, true, false, ◌&&◌, nat_le, if◌then◌else◌, List, [], ◌∷◌, ◌++◌, length, map, Option, Some, None, option_and_then, Result, Ok, Err, slice_get, slice_set}
 use Rattle.pf_fault.specs.declared.code.Code.{Code}
 use Rattle.pf_fault.specs.declared.code.Code.TheVariants as code
+use Rattle.pf_quota.specs.Charges.{steps_of_trial}
 use Rattle.pf_quota.specs.Usage.{usage_of}
 use Rattle.pf_quota.specs.declared.usage.Usage.{Usage}
 use Rattle.pf_quota.specs.declared.charges.Held.{Held}
@@ -9,9 +10,11 @@ use Rattle.pf_quota.specs.declared.charges.Held.TheVariants as held
 use Rattle.pf_syntax.specs.Root.{root_of}
 use Rattle.pf_model.specs.Code.{Code as Module}
 use Rattle.pf_model.specs.Meaning as model
-use Rattle.pf_model.specs.Meaning.{Report, Choices, seed, schedule}
+use Rattle.pf_model.specs.Meaning.{Choices, seed, schedule}
 use Rattle.pf_model.specs.Limits.{is_in_range}
 use Rattle.pf_model.specs.Properties.{Property}
+use Rattle.pf_model.specs.Shrinking as shrinking
+use Rattle.pf_shrink.specs.declared.hunt.TheConstants.{MOST_RUNS}
 
 -- ---- what a desk holds
 
@@ -20,46 +23,48 @@ pub record Stored : Type 0 where
   pub source : List ℕ
   pub code : Module
 
--- a run that was ordered: of a module from one of its functions, by choices of a seed or of a schedule, within so many steps; it is
--- asked whether a property holds
+-- what was ordered: a run of a module from one of its functions, by choices of a seed or of a schedule, within so many steps, which is
+-- asked whether a property holds; or, with runs, the shrinking of its schedule within so many of them
 pub record Job : Type 0 where
   pub stored : Stored
   pub root : ℕ
   pub property : Property
   pub choices : Choices
   pub limit : ℕ
+  pub runs : ℕ
 
--- what it means: the run of its module's code; it is no shrinking
+-- what it means for its module's code
 abbrev pub job_meant : Job → model.Job
 job_meant j =
-    record { code = j.stored.code; root = j.root; choices = j.choices; limit = j.limit; property = j.property; runs = zero }
+    record { code = j.stored.code; root = j.root; choices = j.choices; limit = j.limit; property = j.property; runs = j.runs }
 
 pub data State : Type 0 where
   queued : State
   running : State
-  done : Report → State
+  done : shrinking.Result → State
 
 pub record Trial : Type 0 where
   pub job : Job
   pub state : State
 
 -- what a client asks for: a module number for a source; a trial of a module from a root with a property, by choices and within a
--- limit; the report of a ticket; what the project uses
+-- limit; the shrinking of such a schedule, within so many runs; what came of a ticket; what the project uses
 pub data Call : Type 0 where
   submit : List ℕ → Call
   order : (n : ℕ) (root property : List ℕ) → Choices → (limit : ℕ) → Call
+  order_shrink : (n : ℕ) (root property schedule : List ℕ) (runs limit : ℕ) → Call
   fetch : ℕ → Call
   usage : Call
 
--- what a client is told, a refusal by its code; a report comes with the names of its atoms
+-- what a client is told, a refusal by its code; what came of a trial comes with the names of its atoms
 pub data Reply : Type 0 where
   number : ℕ → Reply
   ticket : ℕ → Reply
-  report : List (List ℕ) → Report → Reply
+  result : List (List ℕ) → shrinking.Result → Reply
   uses : Usage → Reply
   refused : Code → Reply
 
--- what is noted: a call with its reply, and that a worker claimed a trial or filed its report
+-- what is noted: a call with its reply, and that a worker claimed a trial or filed what came of it
 pub data Entry : Type 0 where
   called : Call → Reply → Entry
   claimed : ℕ → Entry
@@ -89,7 +94,7 @@ pub data Reading : Type 0 where
 pub record Profile : Type 0 where
   pub reading : List ℕ → Reading
   pub property : (atoms : List (List ℕ)) → List ℕ → Option Property
-  pub meaning : Job → Report
+  pub meaning : Job → shrinking.Result
 
 -- ---- calls
 
@@ -105,37 +110,47 @@ count_of (schedule ns) = length ns
 
 -- ---- the job of an order, or the first of what it is refused for: its module, its root, its property, its range
 
-abbrev pub within_range : Job → Result Job Code
-within_range j = if is_in_range j.limit (count_of j.choices) then Ok j else Err code.OutOfRange
+-- how many runs are asked for: none of a run, so many of a shrinking
+abbrev pub runs_of : Option ℕ → ℕ
+runs_of None = zero
+runs_of (Some k) = k
 
-abbrev pub job_asking : Stored → (root : ℕ) → Option Property → Choices → (limit : ℕ) → Result Job Code
-job_asking m i None cs limit = Err code.NoProperty
-job_asking m i (Some q) cs limit = within_range (record { stored = m; root = i; property = q; choices = cs; limit = limit })
+-- a shrinking has from 1 to MOST_RUNS runs
+abbrev pub may_shrink : Option ℕ → Bool
+may_shrink None = true
+may_shrink (Some k) = nat_le 1 k && nat_le k MOST_RUNS
 
-abbrev pub job_from : Profile → Stored → (root : Option ℕ) → (property : List ℕ) → Choices → (limit : ℕ) → Result Job Code
-job_from p m None property cs limit = Err code.NoRoot
-job_from p m (Some i) property cs limit = job_asking m i (p.property m.code.atoms property) cs limit
+abbrev pub job_asking : Stored → (root : ℕ) → Option Property → Choices → (limit : ℕ) → (runs : Option ℕ) → Result Job Code
+job_asking m i None cs limit k = Err code.NoProperty
+job_asking m i (Some q) cs limit k =
+    if is_in_range limit (count_of cs) && may_shrink k
+    then Ok (record { stored = m; root = i; property = q; choices = cs; limit = limit; runs = runs_of k })
+    else Err code.OutOfRange
 
-abbrev pub job_of : Profile → Option Stored → (root property : List ℕ) → Choices → (limit : ℕ) → Result Job Code
-job_of p None root property cs limit = Err code.NoModule
-job_of p (Some m) root property cs limit = job_from p m (root_of root m.code.atoms m.code.functions) property cs limit
+abbrev pub job_from : Profile → Stored → (root : Option ℕ) → (property : List ℕ) → Choices → (limit : ℕ) → (runs : Option ℕ) → Result Job Code
+job_from p m None property cs limit k = Err code.NoRoot
+job_from p m (Some i) property cs limit k = job_asking m i (p.property m.code.atoms property) cs limit k
+
+abbrev pub job_of : Profile → Option Stored → (root property : List ℕ) → Choices → (limit : ℕ) → (runs : Option ℕ) → Result Job Code
+job_of p None root property cs limit k = Err code.NoModule
+job_of p (Some m) root property cs limit k = job_from p m (root_of root m.code.atoms m.code.functions) property cs limit k
 
 -- the desk with a job as its newest trial, which is queued
 abbrev pub ordered : Desk → Result Job Code → Desk × Reply
 ordered d (Ok j) = (record d { trials = d.trials ++ record { job = j; state = queued } ∷ [] }, ticket (length d.trials + 1))
 ordered d (Err e) = (d, refused e)
 
-abbrev pub report_in : List (List ℕ) → State → Reply
-report_in atoms (done r) = report atoms r
-report_in atoms s = refused code.NotDone
+abbrev pub result_in : List (List ℕ) → State → Reply
+result_in atoms (done r) = result atoms r
+result_in atoms s = refused code.NotDone
 
 abbrev pub fetched : Option Trial → Reply
 fetched None = refused code.NoTrial
-fetched (Some t) = report_in t.job.stored.code.atoms t.state
+fetched (Some t) = result_in t.job.stored.code.atoms t.state
 
 -- what a desk holds, as far as limits count it
 abbrev pub held_by : Desk → List Held
-held_by d = map (λ m. held.Module (length m.source)) d.modules ++ map (λ t. held.Trial t.job.limit) d.trials
+held_by d = map (λ m. held.Module (length m.source)) d.modules ++ map (λ t. held.Trial (steps_of_trial t.job.limit t.job.runs)) d.trials
 
 abbrev pub calls_in : List Entry → ℕ
 calls_in [] = 0
@@ -146,7 +161,8 @@ calls_in (filed t ∷ es) = calls_in es
 -- a call's reply, and the desk before the call is noted
 abbrev pub answered : Profile → Desk → Call → Desk × Reply
 answered p d (submit text) = submitted d text (p.reading text)
-answered p d (order n root property cs limit) = ordered d (job_of p (numbered d.modules n) root property cs limit)
+answered p d (order n root property cs limit) = ordered d (job_of p (numbered d.modules n) root property cs limit None)
+answered p d (order_shrink n root property ns runs limit) = ordered d (job_of p (numbered d.modules n) root property (schedule ns) limit (Some runs))
 answered p d (fetch t) = (d, fetched (numbered d.trials t))
 answered p d usage = (d, uses (usage_of (held_by d) (calls_in d.history)))
 
@@ -198,7 +214,7 @@ after_claim d t = with_entry (record d { trials = with_state d.trials t (λ j. r
 abbrev pub after_file : Profile → Desk → ℕ → Desk
 after_file p d t = with_entry (record d { trials = with_state d.trials t (λ j. done (p.meaning j)) }) (filed t)
 
--- what a worker does at the trial of a ticket: it claims it, it files its report, or it runs it whole, from claim to file
+-- what a worker does at the trial of a ticket: it claims it, it files what came of it, or it runs it whole, from claim to file
 pub data Work : Type 0 where
   claim : ℕ → Work
   file : ℕ → Work

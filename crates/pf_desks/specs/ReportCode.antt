@@ -11,6 +11,7 @@ use Rattle.pf_model.specs.Labels.{Label}
 use Rattle.pf_model.specs.Runs.{Actor, process, channel}
 use Rattle.pf_model.specs.Properties.{Outcome, finished, ended, deadlock, limit, memory}
 use Rattle.pf_model.specs.Meaning.{Event, Report}
+use Rattle.pf_model.specs.Shrinking.{Found, Result, report, shrunk_to, nothing_fails}
 
 -- a kind, two numbers, a truth and a value
 abbrev pub Parts : Type 0
@@ -217,3 +218,26 @@ abbrev pub coded_report : Coded Report
 coded_report =
     code_by _ (coded× (coded× (coded_list coded_event) coded_outcome) (coded× coded_ℕ (coded_option coded_bool)))
     (λ r. ((r.events, r.outcome), (r.steps, r.verdict))) (λ p. record { events = p.0.0; outcome = p.0.1; steps = p.1.0; verdict = p.1.1 }) (λ _. refl)
+
+-- ---- what jobs come to
+
+abbrev pub coded_found : Coded Found
+coded_found = code_by _ (coded× (coded_list coded_ℕ) coded_bool) (λ f. (f.schedule, f.complete)) (λ p. record { schedule = p.0; complete = p.1 }) (λ _. refl)
+
+abbrev pub parts_of_result : Result → Report ⊎ ((Found × Report) ⊎ ℕ)
+parts_of_result (report r) = inl r
+parts_of_result (shrunk_to f r) = inr (inl (f, r))
+parts_of_result nothing_fails = inr (inr 0)
+
+abbrev pub result_from : Report ⊎ ((Found × Report) ⊎ ℕ) → Result
+result_from (inl r) = report r
+result_from (inr (inl p)) = shrunk_to p.0 p.1
+result_from (inr (inr n)) = nothing_fails
+
+pub result_from-parts_of : (r : Result) → result_from (parts_of_result r) ≡ r
+result_from-parts_of (report r) = refl
+result_from-parts_of (shrunk_to f r) = refl
+result_from-parts_of nothing_fails = refl
+
+abbrev pub coded_result : Coded Result
+coded_result = code_by _ (coded⊎ coded_report (coded⊎ (coded× coded_found coded_report) coded_ℕ)) parts_of_result result_from result_from-parts_of

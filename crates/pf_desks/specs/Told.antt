@@ -7,8 +7,9 @@ use Rattle.pf_terms.specs.Atoms.{name_of}
 use Rattle.pf_quota.specs.declared.usage.Usage.{Usage}
 use Rattle.pf_model.specs.Meaning.{Report}
 use Rattle.pf_model.specs.TermText.{line}
-use Rattle.pf_model.specs.Text.{report_text}
-use Rattle.pf_desks.specs.Desk.{Reply, number, ticket, report, uses, refused}
+use Rattle.pf_model.specs.Shrinking.{Found, Result, report, shrunk_to, nothing_fails}
+use Rattle.pf_model.specs.Text.{complete_text, report_text, schedule_text}
+use Rattle.pf_desks.specs.Desk.{Reply, number, ticket, result, uses, refused}
 use Rattle.pf_desks.specs.World.{Step, client, worker, Answer, replied, work_done, not_now, named}
 
 -- MODULES BYTES TRIALS STEPS CALLS
@@ -20,17 +21,31 @@ usage_text u =
 abbrev pub lines_of : Report → ℕ
 lines_of r = length r.events + 3
 
+-- what the first line says of what came of a trial: how many lines its report has; of a shrinking the schedule too, and whether no
+-- candidate of it fails; or that the given schedule doesn't fail
+abbrev pub result_head : Result → List ℕ
+result_head (report r) = codes "report " ++ decimal (lines_of r)
+result_head (shrunk_to f r) =
+    codes "shrunk " ++ schedule_text f.schedule ++ codes " " ++ complete_text f.complete ++ codes " " ++ decimal (lines_of r)
+result_head nothing_fails = codes "shrunk " ++ code_text code.NothingFails
+
+-- the lines that follow: those of its report
+abbrev pub result_rest : List (List ℕ) → Result → List ℕ
+result_rest atoms (report r) = report_text (name_of atoms) r
+result_rest atoms (shrunk_to f r) = report_text (name_of atoms) r
+result_rest atoms nothing_fails = []
+
 -- what the first line of a reply says to the project
 abbrev pub reply_head : Reply → List ℕ
 reply_head (number n) = codes "module " ++ decimal n
 reply_head (ticket n) = codes "ticket " ++ decimal n
-reply_head (report atoms r) = codes "report " ++ decimal (lines_of r)
+reply_head (result atoms r) = result_head r
 reply_head (uses u) = codes "usage " ++ usage_text u
 reply_head (refused c) = codes "refused " ++ code_text c
 
 -- the lines that follow it
 abbrev pub reply_rest : Reply → List ℕ
-reply_rest (report atoms r) = report_text (name_of atoms) r
+reply_rest (result atoms r) = result_rest atoms r
 reply_rest _ = []
 
 -- a line to a project

@@ -1,9 +1,10 @@
 -- The profile of the language is right.
-use Rattle.std.proofs.Common.{◌≡◌, ℕ, List, Option, Some, None, refl, sym, ap}
+use Rattle.std.proofs.Common.{◌≡◌, ℕ, suc, Bool, List, Option, Some, None, refl, sym, ap, ◌∙◌}
 use Rattle.pf_check.specs.Reads.{Outcome, accepted, refused, Reads, SameOutcome}
 use Rattle.pf_check.proofs.AnyOutcome.{any_outcome}
 use Rattle.pf_check.proofs.Same.{same_outcome}
-use Rattle.pf_model.specs.Meaning.{Means, Report}
+use Rattle.pf_model.specs.Meaning as model
+use Rattle.pf_model.specs.Shrinking.{Result, report, shrunk_to, IsResult, plain, smaller, no_failure, TellsFailures, by_schedule, shrunk}
 use Rattle.pf_desks.specs.Desk.{readable, faulty, Job, job_meant}
 use Rattle.pf_model.proofs.Meanings.{one_meaning}
 use Rattle.pf_model.specs.Properties.{Property}
@@ -11,7 +12,7 @@ use Rattle.pf_property.specs.Texts.{IsPropertyOf}
 use Rattle.pf_property.proofs.AnyProperty.{any_property}
 use Rattle.pf_property.proofs.One.{at_most_one}
 use Rattle.pf_book.specs.Profile.{reading_from, IsRight}
-use Rattle.pf_profile.specs.Profile.{profile}
+use Rattle.pf_profile.specs.Profile.{profile, fails_by, shrunk_so, comes_to}
 
 same_reading : (o p : Outcome) → SameOutcome o p → reading_from o ≡ reading_from p
 same_reading (accepted n a f) (accepted m b g) h = λ i. readable (record { name = h.0 i; atoms = h.1 i; functions = h.2 i })
@@ -33,9 +34,25 @@ property_is : (names : List (List ℕ)) (bytes : List ℕ) (o : Option Property)
 unfolding profile
 property_is names bytes o h = let any = any_property names bytes in same_property names bytes any.0 o any.1 h
 
-meaning_is : (j : Job) (r : Report) → Means (job_meant j) r → profile.meaning j ≡ r
+-- a function that tells which schedules fail tells what the one report of each does
+same_failures : (j : model.Job) (fails : List ℕ → Bool) → TellsFailures j fails → fails_by j ≡ fails
+same_failures j fails tells = λ i ns. sym (tells ns (one_meaning (by_schedule j ns)).0 (one_meaning (by_schedule j ns)).1) i
+
+meaning_is : (j : Job) (r : Result) → IsResult (job_meant j) r → profile.meaning j ≡ r
 unfolding profile
-meaning_is j r h = sym ((one_meaning (job_meant j)).2 r h)
+meaning_is j _ (plain r no_runs means) =
+    ap (λ (n : ℕ). comes_to (job_meant j) n j.choices) no_runs ∙ ap report (sym ((one_meaning (job_meant j)).2 r means))
+meaning_is j _ (smaller k ns fails f r runs choices tells found means) =
+    let m = job_meant j in
+    (λ i. comes_to m (runs i) (choices i))
+    ∙ ap (λ (g : List ℕ → Bool). shrunk_so m (shrunk g (suc k) ns)) (same_failures m fails tells)
+    ∙ ap (shrunk_so m) found
+    ∙ ap (shrunk_to f) (sym ((one_meaning (by_schedule m f.schedule)).2 r means))
+meaning_is j _ (no_failure k ns fails runs choices tells none) =
+    let m = job_meant j in
+    (λ i. comes_to m (runs i) (choices i))
+    ∙ ap (λ (g : List ℕ → Bool). shrunk_so m (shrunk g (suc k) ns)) (same_failures m fails tells)
+    ∙ ap (shrunk_so m) none
 
 pub right : IsRight profile
 right = record { reads = reading_is; properties = property_is; means = meaning_is }

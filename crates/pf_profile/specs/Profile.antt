@@ -1,15 +1,34 @@
--- The profile of the language: what a source is read as, which property bytes are, and what a job means.
+-- The profile of the language: what a source is read as, which property bytes are, and what a job comes to.
+use Rattle.std.specs.Prelude.{ℕ, zero, suc, Bool, List, Option, Some, None}
 use Rattle.pf_check.proofs.AnyOutcome.{any_outcome}
 use Rattle.pf_desks.specs.Desk.{job_meant, Profile}
 use Rattle.pf_model.proofs.Meanings.{one_meaning}
+use Rattle.pf_model.specs.Meaning.{Job, Choices, seed, schedule}
+use Rattle.pf_model.specs.Shrinking.{Found, Result, report, shrunk_to, nothing_fails, by_schedule, is_failure, shrunk}
 use Rattle.pf_property.proofs.AnyProperty.{any_property}
 use Rattle.pf_book.specs.Profile.{reading_from}
 
--- a source is read as the rules of reading say; bytes are the property that their text says, or none; a job means the one report that it
--- means in the language
+-- whether a job fails by a schedule: by the one report that it means
+abbrev pub fails_by : Job → List ℕ → Bool
+fails_by j ns = is_failure (one_meaning (by_schedule j ns)).0.verdict
+
+-- what a shrinking comes to that ends so
+abbrev pub shrunk_so : Job → Option Found → Result
+shrunk_so j None = nothing_fails
+shrunk_so j (Some f) = shrunk_to f (one_meaning (by_schedule j f.schedule)).0
+
+-- what a job comes to: its one report, or with runs the shrinking of its schedule. A seed isn't shrunk: no such job is made, and what it comes to
+-- is left open
+abbrev pub comes_to : Job → (runs : ℕ) → Choices → Result
+comes_to j zero cs = report (one_meaning j).0
+comes_to j (suc k) (schedule ns) = shrunk_so j (shrunk (fails_by j) (suc k) ns)
+comes_to j (suc k) (seed n) = nothing_fails
+
+-- a source is read as the rules of reading say; bytes are the property that their text says, or none; a job comes to the one result that it
+-- has in the language
 unfoldable pub profile : Profile
 profile = record {
   reading = λ bytes. reading_from (any_outcome bytes).0;
   property = λ names bytes. (any_property names bytes).0;
-  meaning = λ j. (one_meaning (job_meant j)).0;
+  meaning = λ j. comes_to (job_meant j) j.runs j.choices;
 }

@@ -4,7 +4,7 @@ ghost use Rattle.pf_book.specs.Profile.{IsRight};
 ghost use Rattle.pf_profile.specs.Profile.{profile};
 
 /// The profile of the language is right: it reads a source as the rules of reading do, bytes are the property that their text says, and a
-/// job means what its module means from its root by its choices, within its limit.
+/// job comes to its result: what its module means from its root by its choices, within its limit, or with runs the shrinking of its schedule.
 pub fn profile_is_right()
     ensures { IsRight profile }
 {}

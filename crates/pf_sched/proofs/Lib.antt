@@ -4,3 +4,7 @@ pub mod Past
 pub mod Traces
 pub mod Reported
 pub mod Sliced
+pub mod Tries
+pub mod Hunted
+pub mod Endings
+pub mod Shrunk

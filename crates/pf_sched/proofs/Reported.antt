@@ -20,17 +20,17 @@ use Rattle.pf_sched.specs.Traces.{Going}
 pub one_stands : (o : Option Configuration) (c d : Configuration) → o ≡ Some c → o ≡ Some d → c ≡ d
 one_stands o c d a b = cc
 
-module _ (j : Job) (es : List Event) (s : SystemView) (q : Choices Lcg) (g : Going j.stored.code (words_of j.choices) j.limit (start j.root) es s q) where
-  -- the report with the events of a whole run and what it came to is what the job means
+module _ (j : Job) (cs : meaning.Choices) (es : List Event) (s : SystemView) (q : Choices Lcg) (g : Going j.stored.code (words_of cs) j.limit (start j.root) es s q) where
+  -- the report with the events of a whole run and what it came to is what the job means by its choices
   pub means : (c : Configuration) → s.standing ≡ Some c → Stops (j.limit - s.steps) c → (r : Report) → r.events.items ≡ es
       → ((d : Configuration) → s.standing ≡ Some d → outcome_of r.outcome ≡ meaning.outcome_of d) → r.steps ≡ s.steps
       → r.verdict ≡ property.verdict j.property (labels_of es) (outcome_of r.outcome)
-      → Means (job_meant j) (report_of r)
+      → Means (record (job_meant j) { choices = cs }) (report_of r)
   means c stands stops r same out steps verdict =
       record {
         transitions = g.transitions;
         last = g.last;
-        run = subst (Run j.stored.code (words_of j.choices) j.limit (start j.root) g.transitions g.last) (sym steps) (record { goes = g.goes; stops = stops_there });
+        run = subst (Run j.stored.code (words_of cs) j.limit (start j.root) g.transitions g.last) (sym steps) (record { goes = g.goes; stops = stops_there });
         report = ap (λ xs. reported (map event_of xs) (outcome_of r.outcome) r.verdict) same ∙ ap (λ xs. reported xs (outcome_of r.outcome) r.verdict) g.events
             ∙ ap (λ o. reported events o r.verdict) (out g.last g.stands) ∙ ap (reported events (meaning.outcome_of g.last)) v;
       }

@@ -1,15 +1,15 @@
--- Which run is asked for, or why it isn't one: first its root, then its property, then its range.
-use Rattle.std.specs.Prelude.{◌≡◌, ℕ, Bool, true, false, List, Option, Some, None, Result, Ok, Err}
+-- Which run or shrinking is asked for, or why it can't be: first its root, then its property, then its range.
+use Rattle.std.specs.Prelude.{◌≡◌, ◌⊎◌, ℕ, zero, Bool, true, false, ◌&&◌, List, Option, Some, None, Result, Ok, Err}
 use Rattle.pf_fault.specs.declared.code.Code.{Code}
 use Rattle.pf_fault.specs.declared.code.Code.TheVariants as code
 use Rattle.pf_fault.specs.declared.fault.OrNoMemory.{OrNoMemory}
 use Rattle.pf_fault.specs.declared.fault.OrNoMemory.TheVariants.{NoMemory, Fault}
 use Rattle.pf_syntax.specs.Root.{root_of}
 use Rattle.pf_model.specs.Limits.{is_in_range}
-use Rattle.pf_model.specs.Meaning.{Choices}
+use Rattle.pf_model.specs.Meaning.{Choices, schedule}
 use Rattle.pf_model.specs.Properties.{Property}
 use Rattle.pf_property.specs.Texts.{ReadsProperty}
-use Rattle.pf_desks.specs.Desk.{Stored, Job, count_of}
+use Rattle.pf_desks.specs.Desk.{Stored, Job, count_of, runs_of, may_shrink}
 use Rattle.pf_sched.specs.declared.refusal.JobRefusal.{JobRefusal}
 use Rattle.pf_sched.specs.Views.{code_of}
 
@@ -17,32 +17,35 @@ use Rattle.pf_sched.specs.Views.{code_of}
 abbrev pub root_in : Stored → List ℕ → Option ℕ
 root_in m root = root_of root m.code.atoms m.code.functions
 
--- the limit and the numbers of a schedule are within bounds
-abbrev pub may_be_asked : Choices → (limit : ℕ) → Bool
-may_be_asked cs limit = is_in_range limit (count_of cs)
+-- the limit, the numbers of a schedule and the runs of a shrinking are within bounds
+abbrev pub may_be_asked : Choices → (limit : ℕ) → (runs : Option ℕ) → Bool
+may_be_asked cs limit k = is_in_range limit (count_of cs) && may_shrink k
 
--- Asks m root property cs limit r: a run of a module from the function of this name, whether the property of these bytes holds, by these
--- choices and within this limit, is this job, or refused for this
-pub data Asks (m : Stored) (root property : List ℕ) (cs : Choices) (limit : ℕ) : Result Job Code → Type 0 where
-  no_root : root_in m root ≡ None → Asks m root property cs limit (Err code.NoRoot)
+-- Asks m root property cs limit k r: a run of a module from the function of this name, whether the property of these bytes holds, by these
+-- choices and within this limit, or the shrinking of these choices within k runs, is this job, or refused for this
+pub data Asks (m : Stored) (root property : List ℕ) (cs : Choices) (limit : ℕ) (k : Option ℕ) : Result Job Code → Type 0 where
+  no_root : root_in m root ≡ None → Asks m root property cs limit k (Err code.NoRoot)
   no_property : (i : ℕ) → root_in m root ≡ Some i → ((q : Property) → ReadsProperty m.code.atoms property q → ⊥)
-      → Asks m root property cs limit (Err code.NoProperty)
-  out_of_range : (i : ℕ) (q : Property) → root_in m root ≡ Some i → ReadsProperty m.code.atoms property q → may_be_asked cs limit ≡ false
-      → Asks m root property cs limit (Err code.OutOfRange)
-  job : (i : ℕ) (q : Property) → root_in m root ≡ Some i → ReadsProperty m.code.atoms property q → may_be_asked cs limit ≡ true
-      → Asks m root property cs limit (Ok (record { stored = m; root = i; property = q; choices = cs; limit = limit }))
+      → Asks m root property cs limit k (Err code.NoProperty)
+  out_of_range : (i : ℕ) (q : Property) → root_in m root ≡ Some i → ReadsProperty m.code.atoms property q → may_be_asked cs limit k ≡ false
+      → Asks m root property cs limit k (Err code.OutOfRange)
+  job : (i : ℕ) (q : Property) → root_in m root ≡ Some i → ReadsProperty m.code.atoms property q → may_be_asked cs limit k ≡ true
+      → Asks m root property cs limit k (Ok (record { stored = m; root = i; property = q; choices = cs; limit = limit; runs = runs_of k }))
 
 -- a refusal is one of these; out of memory says nothing of what is asked for
 abbrev pub IsRefusal : (Result Job Code → Type 0) → OrNoMemory JobRefusal → Type 0
 IsRefusal P NoMemory = Unit {0}
 IsRefusal P (Fault e) = P (Err (code_of e))
 
--- what is kept of each job: its root is an exported function without arguments, its property one that bytes may ask for, and its limit
--- and its schedule are within bounds
+-- what is kept of each job: its root is an exported function without arguments; its limit, its schedule and its runs are within bounds; what
+-- is shrunk is a schedule
 pub record IsKept (j : Job) : Type 0 where
   pub name : List ℕ
   pub root : root_in j.stored name ≡ Some j.root
-  pub within : may_be_asked j.choices j.limit ≡ true
+  pub asked : Option ℕ
+  pub runs : j.runs ≡ runs_of asked
+  pub within : may_be_asked j.choices j.limit asked ≡ true
+  pub shrinks : (j.runs ≡ zero) ⊎ ((ns : List ℕ) × (j.choices ≡ schedule ns))
 
 -- no property is of these bytes
 abbrev pub NoSuch : (atoms : List (List ℕ)) → List ℕ → OrNoMemory JobRefusal → Type 0

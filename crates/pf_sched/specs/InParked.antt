@@ -1,11 +1,24 @@
--- What the fields of a parked run stand for, and what is true of them.
-use Rattle.std.specs.Prelude.{length}
+-- What the fields of a parked job stand for, and what is true of them.
+use Rattle.std.specs.Prelude.{ℕ, length}
+use Rattle.pf_desks.specs.Desk.{Job}
 use Rattle.pf_sched.specs.declared.parked.Parked.TheInside as parked
+use Rattle.pf_sched.specs.declared.parked.Work.{Work}
+use Rattle.pf_sched.specs.declared.parked.Work.TheVariants as work
 use Rattle.pf_sched.specs.Views.{ParkedView, parked_view}
-use Rattle.pf_sched.specs.Parts.{IsRunOf}
+use Rattle.pf_sched.specs.Parts.{IsRunOf, IsShrinkingOf, events_so_far}
+
+-- the events so far
+abbrev pub at_of : Work → ℕ
+at_of (work.Trial run) = length run.events.items
+at_of (work.Shrinking shrinking) = events_so_far shrinking
 
 abbrev pub parked_in : parked.Inside → ParkedView
-parked_in p = parked_view p.job.value (length p.run.events.items)
+parked_in p = parked_view p.job.value (at_of p.work)
 
-abbrev pub IsOnRun : parked.Inside → Type 0
-IsOnRun p = IsRunOf p.job.value p.run
+-- it is the run of the job, or its shrinking
+abbrev pub IsWorkOf : Job → Work → Type 0
+IsWorkOf j (work.Trial run) = IsRunOf j run
+IsWorkOf j (work.Shrinking shrinking) = IsShrinkingOf j shrinking
+
+abbrev pub IsAtWork : parked.Inside → Type 0
+IsAtWork p = IsWorkOf p.job.value p.work

@@ -2,6 +2,7 @@ pub mod Views
 pub mod Asked
 pub mod InJob
 pub mod Traces
+pub mod Events
 pub mod Parts
 pub mod InParked
 pub mod InFinished

@@ -1,16 +1,72 @@
--- What is true of the run of a job, and of its end.
-use Rattle.std.specs.Prelude.{◌≡◌, ◌⊎◌}
-use Rattle.pf_model.specs.Meaning.{Report, Means, words_of}
+-- What is true of a run, of a shrinking as far as it came, and of the end of a job.
+use Rattle.std.specs.Prelude.{◌≡◌, ◌⊎◌, ℕ, zero, suc, ◌+◌, Bool, List, ◌++◌, length, Option, Some, None}
+use Rattle.pf_model.specs.Meaning as meaning
+use Rattle.pf_model.specs.Meaning.{Choices, schedule, Means, words_of}
+use Rattle.pf_model.specs.Reports.{report_of}
 use Rattle.pf_model.specs.Runs.{start}
+use Rattle.pf_model.specs.Shrinking as shrinking
+use Rattle.pf_model.specs.Shrinking.{by_schedule, shrunk, IsResult, TellsFailures}
+use Rattle.pf_model.specs.declared.report.Report.{Report}
+use Rattle.pf_shrink.specs.Hunts.{Hunting, begins, searches, ended, next_of, comes_to}
+use Rattle.pf_shrink.specs.Tried.{tried, tried_from}
 use Rattle.pf_desks.specs.Desk.{Job, job_meant}
 use Rattle.pf_sched.specs.declared.run.Run.{Run}
-use Rattle.pf_sched.specs.Views.{memory_report}
+use Rattle.pf_sched.specs.declared.shrinking.Shrinking.{Shrinking}
+use Rattle.pf_sched.specs.Events.{RunsHave}
+use Rattle.pf_sched.specs.Views.{without_memory}
 use Rattle.pf_sched.specs.Traces.{Going}
 
--- the run of a job, as far as it came
-abbrev pub IsRunOf : Job → Run → Type 0
-IsRunOf j r = Going j.stored.code (words_of j.choices) j.limit (start j.root) r.events.items r.system r.choices
+-- a run of a job's module by these choices, as far as it came
+abbrev pub IsRunBy : Job → Choices → Run → Type 0
+IsRunBy j cs r = Going j.stored.code (words_of cs) j.limit (start j.root) r.events.items r.system r.choices
 
--- it is what the job means, or memory ran out
-abbrev pub Ends : Job → Report → Type 0
-Ends j r = Means (job_meant j) r ⊎ (r ≡ memory_report)
+-- the run of a job that is no shrinking
+abbrev pub IsRunOf : Job → Run → Type 0
+IsRunOf j r = (j.runs ≡ zero) × IsRunBy j j.choices r
+
+-- ---- shrinkings
+
+-- the hunt of a shrinking was told true answers only: with them it comes to what the shrinking comes to, and the runs that are behind it,
+-- with so many events in all, are those that the shrinking tries first
+pub record IsHuntOf (j : meaning.Job) (h : Hunting) (before : ℕ) : Type 0 where
+  pub further : ℕ
+  pub given : List ℕ
+  pub fails : List ℕ → Bool
+  pub behind : List (List ℕ)
+  pub runs : j.runs ≡ suc further
+  pub choices : j.choices ≡ schedule given
+  pub tells : TellsFailures j fails
+  pub comes : comes_to fails h ≡ shrunk fails (suc further) given
+  pub events : RunsHave j behind before
+  pub order : tried fails (suc further) given ≡ behind ++ tried_from fails h
+
+-- the schedule that fails, where a hunt stands at one
+abbrev pub stands_at : Hunting → Option (List ℕ)
+stands_at (begins k ns) = None
+stands_at (searches k ns c cs) = Some ns
+stands_at (ended None) = None
+stands_at (ended (Some f)) = Some f.schedule
+
+-- the report of the schedule that a hunt stands at is kept
+abbrev pub KeepsReport : meaning.Job → Option (List ℕ) → Option Report → Type 0
+KeepsReport j None kept = Unit {0}
+KeepsReport j (Some ns) None = ⊥
+KeepsReport j (Some ns) (Some r) = Means (by_schedule j ns) (report_of r)
+
+-- a shrinking, as far as it came: its hunt, the report of the schedule that it stands at, and the run of the next schedule
+pub record IsShrinkingOf (j : Job) (s : Shrinking) : Type 0 where
+  pub hunt : IsHuntOf (job_meant j) s.hunt s.before
+  pub report : KeepsReport (job_meant j) (stands_at s.hunt) s.report
+  pub next : List ℕ
+  pub is_next : next_of s.hunt ≡ Some next
+  pub run : IsRunBy j (schedule next) s.run
+
+-- the events of all its runs so far
+abbrev pub events_so_far : Shrinking → ℕ
+events_so_far s = s.before + length s.run.events.items
+
+-- ---- the end
+
+-- it is what the job comes to, or memory ran out
+abbrev pub Ends : Job → shrinking.Result → Type 0
+Ends j r = IsResult (job_meant j) r ⊎ (r ≡ without_memory)

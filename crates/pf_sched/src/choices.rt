@@ -1,14 +1,15 @@
-//! Where the choices of a job come from.
+//! Where the choices of a job come from, and what kind of job it is.
 
 ghost use Rattle.std.specs.Prelude.{◌≡◌, IfOk};
 ghost use Rattle.rand_pcg.specs.Pcg.{pcg32};
 ghost use Rattle.pf_choice.specs.Choices.{IsAt};
 ghost use Rattle.pf_model.specs.Meaning as model;
 ghost use Rattle.pf_model.specs.Meaning.{words_of};
-ghost use Rattle.pf_desks.specs.Desk.{count_of};
-ghost use Rattle.pf_sched.specs.Views.{choices_of};
+ghost use Rattle.pf_desks.specs.Desk.{count_of, may_shrink};
+ghost use Rattle.pf_sched.specs.Views.{choices_in, choices_of, runs_asked};
 
 use pf_choice::Choices;
+use pf_shrink::MOST_RUNS;
 use pf_terms::NoMemory;
 use std::alloc::Global;
 use std::sync::Arc;
@@ -61,6 +62,37 @@ impl JobChoices {
                 own.extend_from_slice(numbers.as_slice())?;
                 Ok(Choices::schedule(own))
             }
+        }
+    }
+}
+
+/// Whether a job is a run or a shrinking.
+#[derive(Drop)]
+pub enum JobKind {
+    /// One run, by these choices.
+    Trial(JobChoices),
+    /// The shrinking of a schedule within so many runs, of which its own is the first.
+    Shrinking { schedule: Arc<Vec<u32>>, runs: u32 },
+}
+
+impl JobKind {
+    /// How many numbers are given: those of a schedule.
+    pub fn count(&self) -> usize
+        ensures { result ≡ count_of (choices_in self.now) }
+    {
+        match self {
+            JobKind::Trial(choices) => choices.count(),
+            JobKind::Shrinking { schedule, .. } => schedule.len(),
+        }
+    }
+
+    /// Whether the runs are within their bounds, from 1 to 1,000; of one run there is nothing to say.
+    pub fn may_shrink(&self) -> bool
+        ensures { result ≡ may_shrink (runs_asked self.now) }
+    {
+        match self {
+            JobKind::Trial(_) => true,
+            JobKind::Shrinking { runs, .. } => 1 <= *runs && *runs <= MOST_RUNS,
         }
     }
 }

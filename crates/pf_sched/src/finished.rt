@@ -1,23 +1,23 @@
-//! Runs that are over.
+//! Jobs whose runs are over.
 
 ghost use Rattle.std.specs.Prelude.{◌≡◌, MatchBool};
-ghost use Rattle.pf_model.specs.Meaning.{Means};
-ghost use Rattle.pf_model.specs.Reports.{report_of};
+ghost use Rattle.pf_model.specs.Shrinking.{IsResult};
 ghost use Rattle.pf_desks.specs.Desk.{job_meant};
 ghost use Rattle.pf_sched.specs.Parts.{Ends};
-ghost use Rattle.pf_sched.specs.Views.{finished_view, memory_report};
+ghost use Rattle.pf_sched.specs.Views.{finished_view, result_of, without_memory};
 
 use crate::job::Job;
+use crate::result::JobResult;
 use pf_model::report::{Outcome, Report};
 use std::alloc::Global;
 use std::marker::Model;
 use std::sync::Arc;
 
-/// A run that is over: its job and its report, which is what the job means, or tells that memory ran out.
+/// A job whose runs are over, and what it comes to; or the result tells that memory ran out.
 #[derive(Drop)]
 pub struct Finished {
     job: Arc<Job>,
-    report: Report,
+    result: JobResult,
 }
 
 impl Model for Finished {
@@ -34,17 +34,20 @@ impl Model for Finished {
 }
 
 impl Finished {
-    /// The end of a run with the report that its job means.
-    pub(crate) fn whole(job: Arc<Job>, report: Report) -> Finished
-        requires { Means (job_meant job.value) (report_of report) }
-        ensures { result ≡ finished_view job.value (report_of report) }
+    /// The end of a job with what it comes to.
+    pub(crate) fn whole(job: Arc<Job>, outcome: JobResult) -> Finished
+        requires { IsResult (job_meant job.value) (result_of outcome) }
+        ensures { result ≡ finished_view job.value (result_of outcome) }
     {
-        Finished { job, report }
+        Finished {
+            job,
+            result: outcome,
+        }
     }
 
-    /// The end of a run for which memory ran out. It takes no memory.
+    /// The end of a job for which memory ran out. It takes no memory.
     pub(crate) fn without_memory(alloc: Global, job: Arc<Job>) -> Finished
-        ensures { result ≡ finished_view job.value memory_report }
+        ensures { result ≡ finished_view job.value without_memory }
     {
         let report = Report {
             events: Vec::new(alloc),
@@ -52,35 +55,40 @@ impl Finished {
             steps: 0,
             verdict: None,
         };
-        Finished { job, report }
+        Finished {
+            job,
+            result: JobResult::Report(report),
+        }
     }
 
-    /// The job that was run.
+    /// The job.
     pub fn job(&self) -> &Arc<Job>
         ensures { result.now.value ≡ self.now.job }
     {
         &self.job
     }
 
-    /// Whether the report is what the job means; else memory ran out.
+    /// Whether the result is what the job comes to; else memory ran out.
     pub fn is_whole(&self) -> bool
-        ensures { MatchBool result (Means (job_meant self.now.job) self.now.report) (self.now.report ≡ memory_report) }
+        ensures { MatchBool result
+            (IsResult (job_meant self.now.job) self.now.result)
+            (self.now.result ≡ without_memory) }
     {
-        !matches!(self.report.outcome, Outcome::Memory)
+        !self.result.is_without_memory()
     }
 
-    /// What is told of the run.
-    pub fn report(&self) -> &Report
-        ensures report { report_of result.now ≡ self.now.report }
-        ensures ends { Ends self.now.job self.now.report }
+    /// What came of the job.
+    pub fn result(&self) -> &JobResult
+        ensures result { result_of result.now ≡ self.now.result }
+        ensures ends { Ends self.now.job self.now.result }
     {
-        &self.report
+        &self.result
     }
 
     /// The same, to keep.
-    pub fn into_report(self) -> Report
-        ensures { report_of result ≡ self.report }
+    pub fn into_result(self) -> JobResult
+        ensures { result_of result ≡ self.result }
     {
-        self.report
+        self.result
     }
 }

@@ -1,14 +1,14 @@
-//! Runs that may be asked for.
+//! Runs and shrinkings that may be asked for.
 
 ghost use Rattle.std.specs.Prelude.{◌≡◌, Ok, MatchResult, option_map};
 ghost use Rattle.pf_fault.specs.declared.code.Code.TheVariants as code;
 ghost use Rattle.pf_model.specs.Code.{code_of as code_in};
 ghost use Rattle.pf_property.specs.Texts.{ReadsProperty};
 ghost use Rattle.pf_property.specs.Views.{property_of};
-ghost use Rattle.pf_sched.specs.Asked.{Asks, IsKept, IsRefusal, NoSuch, root_in};
-ghost use Rattle.pf_sched.specs.Views.{choices_of};
+ghost use Rattle.pf_sched.specs.Asked.{Asks, IsKept, IsRefusal, NoSuch, may_be_asked, root_in};
+ghost use Rattle.pf_sched.specs.Views.{choices_in, runs_asked};
 
-use crate::choices::JobChoices;
+use crate::choices::JobKind;
 use crate::refusal::JobRefusal;
 use pf_fault::OrNoMemory;
 use pf_model::limits::is_in_range;
@@ -20,21 +20,21 @@ use std::marker::Model;
 use std::sync::Arc;
 
 /// A run that may be asked for: of a module from one of its exported functions without arguments, whether a property holds, by choices and
-/// within a limit of steps. The module is what its source is read as; the limit and the schedule are within their bounds.
+/// within a limit of steps; or the shrinking of a schedule of such runs. The module is what its source is read as; the limit, the schedule
+/// and the runs of a shrinking are within their bounds.
 #[derive(Drop)]
 pub struct Job {
     stored: Stored,
     pub(crate) root: FunctionId,
     pub(crate) property: Property,
-    pub(crate) choices: JobChoices,
+    pub(crate) kind: JobKind,
     limit: u32,
 }
 
 impl Model for Job {
     ghost use Rattle.pf_desks.specs.Desk as desk;
     ghost use Rattle.pf_desks.specs.DeskCode.{coded_job};
-    ghost use Rattle.pf_sched.specs.Asked.{IsKept};
-    ghost use Rattle.pf_sched.specs.InJob.{job_in};
+    ghost use Rattle.pf_sched.specs.InJob.{IsSound, job_in};
 
     ghost Value = { desk.Job };
 
@@ -42,7 +42,7 @@ impl Model for Job {
 
     ghost view = { job_in };
 
-    ghost invariant = { λ j. IsKept (job_in j) };
+    ghost invariant = { IsSound };
 }
 
 /// The exported function of this name without arguments.
@@ -69,33 +69,40 @@ fn read_property(
     }
 }
 
+/// Whether the limit, the schedule and the runs of a shrinking are within their bounds.
+fn is_within_bounds(kind: &JobKind, limit: u32) -> bool
+    ensures { result ≡ may_be_asked (choices_in kind.now) limit (runs_asked kind.now) }
+{
+    is_in_range(limit, kind.count()) && kind.may_shrink()
+}
+
 impl Job {
-    /// The job of a run of a module from the function of this name, or the first of its refusals: of the root, of the property, of the limit and
-    /// the schedule.
+    /// The job of a run or of a shrinking: of a module from the function of this name; or the first of its refusals: of the root, of the
+    /// property, of the limit, the schedule and the runs.
     pub fn new(
         alloc: Global,
         stored: Stored,
         root: &[u8],
         property: &[u8],
-        choices: JobChoices,
+        kind: JobKind,
         limit: u32,
     ) -> Result<Job, OrNoMemory<JobRefusal>>
         ensures { MatchResult result
-            (λ job. Asks stored root.now property.now (choices_of choices) limit (Ok job))
-            (IsRefusal (Asks stored root.now property.now (choices_of choices) limit)) }
+            (λ job. Asks stored root.now property.now (choices_in kind) limit (runs_asked kind) (Ok job))
+            (IsRefusal (Asks stored root.now property.now (choices_in kind) limit (runs_asked kind))) }
     {
         let Some(root) = find_root(&stored, root) else {
             return Err(OrNoMemory::Fault(JobRefusal::NoRoot));
         };
         let property = read_property(alloc, &stored, property)?;
-        if !is_in_range(limit, choices.count()) {
+        if !is_within_bounds(&kind, limit) {
             return Err(OrNoMemory::Fault(JobRefusal::OutOfRange));
         }
         Ok(Job {
             stored,
             root,
             property,
-            choices,
+            kind,
             limit,
         })
     }
@@ -107,11 +114,21 @@ impl Job {
         self.stored.module()
     }
 
-    /// The most steps of the run, from 1 to 100,000.
+    /// The most steps of a run, from 1 to 100,000.
     pub fn limit(&self) -> u32
         ensures limit { result ≡ self.now.limit }
         ensures kept { IsKept self.now }
     {
         self.limit
+    }
+
+    /// How many runs a shrinking may have, from 1 to 1,000; 0 where the job is one run.
+    pub fn runs(&self) -> u32
+        ensures { result ≡ self.now.runs }
+    {
+        match &self.kind {
+            JobKind::Trial(_) => 0,
+            JobKind::Shrinking { runs, .. } => *runs,
+        }
     }
 }

@@ -1,4 +1,4 @@
-//! The scheduler: jobs, and their runs from start to report, whole or slice by slice.
+//! The scheduler: jobs, and their runs and shrinkings from start to end, whole or slice by slice.
 #![tactic(auto)]
 
 mod choices;
@@ -6,14 +6,17 @@ mod finished;
 mod job;
 mod parked;
 mod refusal;
+mod result;
 mod run;
 mod scratch;
+mod shrinking;
 mod slice;
 
-pub use choices::JobChoices;
+pub use choices::{JobChoices, JobKind};
 pub use finished::Finished;
 pub use job::Job;
 pub use parked::{Parked, start};
 pub use refusal::JobRefusal;
+pub use result::JobResult;
 pub use scratch::Scratch;
 pub use slice::{Slice, run_slice, whole};

@@ -2,16 +2,16 @@
 
 ghost use Rattle.std.specs.Prelude.{◌≡◌, ◌<◌, ◌-◌, IfOk, Some, length, MatchBool};
 ghost use Rattle.rand_pcg.specs.Pcg.{pcg32};
-ghost use Rattle.pf_choice.specs.Choices.{Chooses};
+ghost use Rattle.pf_choice.specs.Choices.{IsAt};
 ghost use Rattle.pf_model.specs.Configuration.{Configuration};
-ghost use Rattle.pf_model.specs.Meaning.{Means};
+ghost use Rattle.pf_model.specs.Meaning as model;
+ghost use Rattle.pf_model.specs.Meaning.{Means, words_of};
 ghost use Rattle.pf_model.specs.Reports.{actor_of, label_of, report_of};
 ghost use Rattle.pf_model.specs.Runs.{Stops};
 ghost use Rattle.pf_system.specs.Steps.{MayGo, PassesTo};
-ghost use Rattle.pf_desks.specs.Desk as desk;
 ghost use Rattle.pf_desks.specs.Desk.{job_meant};
-ghost use Rattle.pf_sched.specs.Parts.{IsRunOf};
-ghost use Rattle.pf_sched.specs.Slices.{Advances, IsOver};
+ghost use Rattle.pf_sched.specs.Parts.{IsRunBy};
+ghost use Rattle.pf_sched.specs.Slices.{IsOver, RunAdvances};
 ghost use Rattle.pf_sched.specs.Traces.{MayHaveGone};
 
 use crate::job::Job;
@@ -47,14 +47,6 @@ fn pass(
     }
 }
 
-/// Which of so many the next word chooses, from 0 on. A word is drawn where there is but one, too.
-fn choose(choices: &mut Choices, among: usize) -> usize
-    requires { 0 < among }
-    ensures { Chooses pcg32 choices.old among result choices.new }
-{
-    choices.next(among)
-}
-
 /// The transition of the actor that the next word chooses, within the steps that are left; none where nobody may go.
 fn go(
     alloc: Global,
@@ -71,7 +63,7 @@ fn go(
     if among == 0 {
         return Ok(None);
     }
-    let index = choose(choices, among);
+    let index = choices.next(among);
     let actor = enabled.actor(index);
     let (label, _) = pass(alloc, system, actor, left)?;
     let Ok(choice) = u32::try_from(index) else {
@@ -97,24 +89,22 @@ fn is_over(system: &System, limit: u32) -> bool
 }
 
 impl Run {
-    /// The run of a job, before its first event.
-    pub fn new(alloc: Global, job: &Job) -> Result<Run, NoMemory>
-        ensures run { IfOk result (λ r. IsRunOf job.now r) }
+    /// The run of a job by these choices, before its first event.
+    pub fn new(alloc: Global, job: &Job, choices: Choices) -> Result<Run, NoMemory>
+        ensures run { (cs : model.Choices) → IsAt pcg32 (words_of cs) 0 choices
+            → IfOk result (λ r. IsRunBy job.now cs r) }
         ensures first { IfOk result (λ r. length r.events.items ≡ 0) }
     {
         Ok(Run {
             system: System::new(alloc, job.module(), job.root)?,
-            choices: job.choices.open(alloc)?,
+            choices,
             events: Vec::new(alloc),
         })
     }
 
     /// Goes on by so many events, or fewer where the run is over before; whether it is over then.
     pub fn advance(&mut self, alloc: Global, limit: u32, turns: u32) -> Result<bool, NoMemory>
-        ensures { IfOk result (λ over. (j : desk.Job) → j.limit ≡ limit → IsRunOf j self.old
-            → IsRunOf j self.new
-            × Advances (length self.old.events.items) (length self.new.events.items) turns over
-            (IsOver limit self.new)) }
+        ensures { IfOk result (RunAdvances limit self.old self.new turns) }
     {
         for _ in 0..turns {
             if self.system.steps() >= limit {
@@ -131,14 +121,18 @@ impl Run {
 
     /// The report of a run that is over.
     pub fn report(self, alloc: Global, job: &Job) -> Result<Report, NoMemory>
-        ensures { IfOk result (λ r. IsRunOf job.now self → IsOver job.now.limit self
-            → Means (job_meant job.now) (report_of r) × (length r.events.items ≡ length self.events.items)) }
+        ensures { IfOk result (λ r. (cs : model.Choices) → IsRunBy job.now cs self
+            → IsOver job.now.limit self
+            → Means (record (job_meant job.now) { choices = cs }) (report_of r)
+            × (length r.events.items ≡ length self.events.items)) }
     {
         let outcome = self.system.outcome(alloc)?;
         let steps = self.system.steps();
-        let verdict = job.property.verdict(self.events.as_slice(), &outcome);
+        let mut events = self.events;
+        events.shrink_to_fit();
+        let verdict = job.property.verdict(events.as_slice(), &outcome);
         Ok(Report {
-            events: self.events,
+            events,
             outcome,
             steps,
             verdict,

@@ -1,7 +1,7 @@
 //! Three projects at the book, project 0 among them: each is told what it is told alone.
 
 use pf_book::{Book, Order, Reply, Word};
-use pf_sched::JobChoices;
+use pf_sched::{JobChoices, JobKind, JobResult};
 use pf_store::Source;
 use pf_terms::NoMemory;
 use std::alloc::Global;
@@ -10,12 +10,22 @@ use std::test::Fail;
 
 const SUM: &str = "-module(m). -export([main/0]). main() -> 1 + 2 * 3.";
 
+/// What came of a trial in words.
+fn came_of(alloc: Global, came: &JobResult) -> Result<String, Fail> {
+    let text = match came {
+        JobResult::Report(report) => format!(in alloc; "{} steps", report.steps)?,
+        JobResult::Shrunk { report, .. } => format!(in alloc; "shrunk to {} steps", report.steps)?,
+        JobResult::NothingFails => format!(in alloc; "nothing fails")?,
+    };
+    Ok(text)
+}
+
 /// A reply in words.
 fn described(alloc: Global, reply: Reply) -> Result<String, Fail> {
     let text = match reply {
         Reply::Module(number) => format!(in alloc; "module {number}")?,
         Reply::Ticket(number) => format!(in alloc; "ticket {number}")?,
-        Reply::Report(filed) => format!(in alloc; "{} steps", filed.report().steps)?,
+        Reply::Result(filed) => came_of(alloc, filed.result())?,
         Reply::Usage(used) => {
             format!(in alloc;
                 "{} {} {} {} {}",
@@ -38,7 +48,7 @@ fn order_of(alloc: Global, module: u64, root: &str, property: &str) -> Result<Or
         module,
         root: Word::from_slice(alloc, root.as_bytes())?,
         property: Word::from_slice(alloc, property.as_bytes())?,
-        choices: JobChoices::schedule(alloc, Vec::new(alloc))?,
+        kind: JobKind::Trial(JobChoices::schedule(alloc, Vec::new(alloc))?),
         limit: 100,
     })
 }

@@ -98,3 +98,55 @@ fn a_report_tells_whether_the_property_holds(rt: HostRuntime) -> Result<(), Fail
     }
     Ok(())
 }
+
+#[test]
+fn what_asks_for_no_shrinking_is_no_command(rt: HostRuntime) -> Result<(), Fail> {
+    let keys = RandomState::new(&rt)?;
+    for words in [
+        "seed:1 3 100",
+        "0,1 3",
+        "0,1 3 100 1",
+        "0,1 4294967296 100",
+        "0,1 03 100",
+        "0,1 3 x",
+        "0,,1 3 100",
+    ] {
+        let input = format!(in rt.alloc(); "{MODULE}shrink 1 1 main returns {words}\n")?;
+        let work = carry_out(rt.alloc(), keys, input.as_bytes(), NO_FAILURE);
+        assert_eq!(rt; work.ended, Ended::Status(2), "{words}");
+        let told = "p1 module 1\ncommand 2 refused C1\n";
+        assert_eq!(rt; work.out.as_slice(), told.as_bytes(), "{words}");
+    }
+    Ok(())
+}
+
+#[test]
+fn a_shrinking_has_from_1_to_1000_runs(rt: HostRuntime) -> Result<(), Fail> {
+    let keys = RandomState::new(&rt)?;
+    for (runs, reply) in [
+        (0, "refused B6"),
+        (1, "ticket 1"),
+        (1_000, "ticket 1"),
+        (1_001, "refused B6"),
+    ] {
+        let input = format!(in rt.alloc(); "{MODULE}shrink 1 1 main returns none {runs} 100\n")?;
+        let work = carry_out(rt.alloc(), keys, input.as_bytes(), NO_FAILURE);
+        assert_eq!(rt; work.ended, Ended::Status(0), "{runs}");
+        let told = format!(in rt.alloc(); "p1 module 1\np1 {reply}\n")?;
+        assert_eq!(rt; work.out.as_slice(), told.as_bytes(), "{runs}");
+    }
+    Ok(())
+}
+
+#[test]
+fn a_shrinking_is_told_with_its_schedule(rt: HostRuntime) -> Result<(), Fail> {
+    let keys = RandomState::new(&rt)?;
+    let input = "submit 1 62\n-module(m).\n-export([main/0]).\nmain() -> receive x -> ok end.\n\n\
+        shrink 1 1 main nodeadlock 0,1 3 1000\nonce 1 1\nfetch 1 1\nusage 1\n";
+    let told = "p1 module 1\np1 ticket 1\nw0 done\np1 shrunk none complete 4\n0/1 <0> wait\n\
+        deadlock <0>\nsteps 2\nproperty fails\np1 usage 1 62 1 3000 3\n";
+    let work = carry_out(rt.alloc(), keys, input.as_bytes(), NO_FAILURE);
+    assert_eq!(rt; work.ended, Ended::Status(0));
+    assert_eq!(rt; work.out.as_slice(), told.as_bytes());
+    Ok(())
+}

@@ -176,6 +176,65 @@ fn seeds_and_properties(rt: HostRuntime) {
     }
 }
 
+/// What is said of words of `shrink` that are refused for this.
+fn refused_shrink(alloc: Global, why: &str) -> Result<String, Fail> {
+    Ok(format!(in alloc;
+        "error: {why}
+
+Usage: pulsefarm shrink --root <F> --limit <N> --schedule <L> --property <P> --runs <N> [FILE]
+
+For more information, try '--help'.
+"
+    )?)
+}
+
+#[test]
+fn wrong_values_of_shrink_are_named(rt: HostRuntime) -> Result<(), Fail> {
+    let alloc = rt.alloc();
+    let wants = "a number of runs from 1 to 1000, without leading zeros";
+    for value in ["007", "-1", "", "4294967296", "none"] {
+        let word = format!(in alloc; "--runs={value}")?;
+        let words = [
+            "pulsefarm",
+            "shrink",
+            "--root=main",
+            "--limit=5",
+            "--schedule=none",
+            "--property=true",
+            &word,
+        ];
+        let why = format!(in alloc; "invalid value '{value}' for '--runs <N>': it wants {wants}")?;
+        let text = refused_shrink(alloc, &why)?;
+        assert!(rt; are_refused(alloc, &words, &text)?, "{value}");
+    }
+    Ok(())
+}
+
+#[test]
+fn values_of_shrink(rt: HostRuntime) {
+    let words = [
+        "pulsefarm",
+        "shrink",
+        "a.erl",
+        "--root=main",
+        "--limit=0",
+        "--schedule=7,0,4294967295",
+        "--property=never:{a, _}",
+        "--runs=4294967295",
+    ];
+    match read_words(rt.alloc(), &words) {
+        Ok(Words::Shrink(shrink)) => {
+            assert_eq!(rt; shrink.file, Some("a.erl"));
+            assert_eq!(rt; shrink.root, "main");
+            assert_eq!(rt; shrink.limit, 0);
+            assert!(rt; shrink.schedule.as_slice() == [7, 0, 4294967295].as_slice());
+            assert_eq!(rt; shrink.property, "never:{a, _}");
+            assert_eq!(rt; shrink.runs, 4294967295);
+        }
+        _ => assert!(rt; false),
+    }
+}
+
 #[test]
 fn files_of_steps(rt: HostRuntime) {
     let cases: [(&[&str], Option<&str>); 4] = [

@@ -1,11 +1,15 @@
-//! Numbers and schedules in words.
+//! Numbers and schedules in words, and schedules that go out.
 
-ghost use Rattle.std.specs.Prelude.{◌≡◌, ◌==◌, IfOk, option_map, true};
+ghost use Rattle.std.specs.Prelude.{◌≡◌, ◌==◌, ◌++◌, IfOk, OnOk, codes, flat_map, option_map, true};
+ghost use Rattle.std.specs.Fmt.{decimal as digits_of};
 ghost use Rattle.std.specs.List.{list_all, slice_split};
 ghost use Rattle.pf_tokens.specs.Bytes.{is_digit};
 ghost use Rattle.pf_tokens.specs.TokenKinds.{decimal};
+ghost use Rattle.pf_model.specs.Text.{schedule_text};
 ghost use Rattle.pf_text.specs.Numbers.{is_numeral, long, long_number_of, number_of, numbers_of, schedule_of};
 
+use crate::text::{put, put_number};
+use pf_terms::NoMemory;
 use pf_tokens::is_digit;
 use std::alloc::{AllocError, Global};
 
@@ -82,4 +86,26 @@ pub fn schedule_of(alloc: Global, text: &[u8]) -> Result<Option<Vec<u32>>, Alloc
         return Ok(Some(Vec::new(alloc)));
     }
     numbers_of(alloc, text)
+}
+
+/// Puts numbers behind another, each after a comma.
+fn put_others(alloc: Global, out: &mut Vec<u8>, others: &[u32]) -> Result<(), NoMemory>
+    ensures { OnOk result (out.new.items ≡ out.old.items ++ flat_map (λ n. codes "," ++ digits_of n) others.now) }
+{
+    for number in others {
+        put(out, b",")?;
+        put_number(alloc, out, u64::from(*number))?;
+    }
+    Ok(())
+}
+
+/// Puts the numbers of a schedule with commas between them, or `none`.
+pub fn put_schedule(alloc: Global, out: &mut Vec<u8>, numbers: &[u32]) -> Result<(), NoMemory>
+    ensures { OnOk result (out.new.items ≡ out.old.items ++ schedule_text numbers.now) }
+{
+    let Some((first, others)) = numbers.split_first() else {
+        return put(out, b"none");
+    };
+    put_number(alloc, out, u64::from(*first))?;
+    put_others(alloc, out, others)
 }

@@ -1,13 +1,15 @@
-//! What is told of a run, and its text.
+//! What is told of a run and of a shrinking, and its text.
 #![tactic(auto)]
 
 mod labels;
 mod printing;
 mod report;
+mod shrunk;
 
 pub use pf_model::report::{Actor, Event, Label, Outcome, Report, Suffix};
 pub use printing::print_report;
 pub use report::put_report;
+pub use shrunk::put_found;
 
 /// The turns and deliveries of a run, in their order.
 pub type Trace = Vec<Event>;

@@ -5,7 +5,7 @@ use Rattle.std.specs.Option.{option_map}
 use Rattle.std.specs.Str.{bytes_eq}
 use Rattle.pf_text.specs.Numbers.{long_number_of, number_of, schedule_of}
 use Rattle.pf_model.specs.Meaning.{Choices, seed, schedule}
-use Rattle.pf_desks.specs.Desk.{submit, order, fetch, usage, once}
+use Rattle.pf_desks.specs.Desk.{submit, order, order_shrink, fetch, usage, once}
 use Rattle.pf_desks.specs.World.{Step, client, worker}
 
 -- ---- lines and words
@@ -72,16 +72,30 @@ of_order (p ∷ m ∷ root ∷ property ∷ choices ∷ limit ∷ []) =
     else None
 of_order _ = None
 
+abbrev pub with_shrink : (root property : List ℕ) → (project n : Option ℕ) → Option (List ℕ) → (runs limit : Option ℕ) → Option Asked
+with_shrink root property (Some project) (Some n) (Some ns) (Some runs) (Some limit) =
+    Some (made (client project (order_shrink n root property ns runs limit)))
+with_shrink root property _ _ _ _ _ = None
+
+-- P M ROOT PROPERTY LIST RUNS LIMIT
+abbrev pub of_shrink : List (List ℕ) → Option Asked
+of_shrink (p ∷ m ∷ root ∷ property ∷ numbers ∷ runs ∷ limit ∷ []) =
+    if is_word root && is_word property
+    then with_shrink root property (number_of p) (number_of m) (schedule_of numbers) (number_of runs) (number_of limit)
+    else None
+of_shrink _ = None
+
 -- the first word names the command
 abbrev pub asked_by : List (List ℕ) → Option Asked
 asked_by [] = None
 asked_by (w ∷ ws) =
     if bytes_eq w (codes "submit") then of_two submission ws
     else (if bytes_eq w (codes "order") then of_order ws
+    else (if bytes_eq w (codes "shrink") then of_shrink ws
     else (if bytes_eq w (codes "fetch") then of_two (λ p t. made (client p (fetch t))) ws
     else (if bytes_eq w (codes "usage") then of_one (λ p. made (client p usage)) ws
     else (if bytes_eq w (codes "once") then of_two (λ p t. made (worker p (once t))) ws
-    else None))))
+    else None)))))
 
 -- ---- what some bytes begin with
 

@@ -6,6 +6,7 @@ mod cut;
 mod line;
 mod outcome;
 mod reply;
+mod shrink;
 mod steps;
 mod stream;
 mod whole;

@@ -11,8 +11,9 @@ ghost use Rattle.pf_wire.specs.View.{request_seen};
 
 use crate::command::Command;
 use crate::cut::{first_word, only_word};
+use crate::shrink::read_shrink;
 use pf_book::{Call, Order, Word};
-use pf_sched::JobChoices;
+use pf_sched::{JobChoices, JobKind};
 use pf_terms::NoMemory;
 use pf_text::{long_number_of, number_of, schedule_of};
 use std::alloc::Global;
@@ -89,7 +90,7 @@ fn has_blank(text: &[u8]) -> bool
 }
 
 /// Whether a text between spaces is a word.
-fn is_word(text: &[u8]) -> bool
+pub(crate) fn is_word(text: &[u8]) -> bool
     ensures { result ≡ is_word text.now }
 {
     !text.is_empty() && !has_blank(text)
@@ -155,7 +156,7 @@ fn read_order(alloc: Global, words: &[u8]) -> Result<Option<Request>, NoMemory>
         module: u64::from(module),
         root: Word::from_slice(alloc, words.root)?,
         property: Word::from_slice(alloc, words.property)?,
-        choices,
+        kind: JobKind::Trial(choices),
         limit,
     };
     Ok(Some(Request::Made(Command::Client(project, Call::Order(order)))))
@@ -172,6 +173,8 @@ pub(crate) fn read_line(alloc: Global, line: &[u8]) -> Result<Option<Request>, N
         Ok(read_submit(words))
     } else if name == b"order".as_slice() {
         read_order(alloc, words)
+    } else if name == b"shrink".as_slice() {
+        read_shrink(alloc, words)
     } else if name == b"fetch".as_slice() {
         Ok(read_fetch(words))
     } else if name == b"usage".as_slice() {

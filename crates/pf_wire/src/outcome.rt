@@ -32,7 +32,7 @@ pub enum Requester {
 pub enum Outcome {
     /// A client is told this.
     Replied(Reply),
-    /// A worker filed the report of a trial.
+    /// A worker filed what came of a trial.
     Done,
     /// The trial wasn't queued.
     NotNow,

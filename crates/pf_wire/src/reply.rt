@@ -4,15 +4,18 @@ ghost use Rattle.std.specs.Prelude.{◌≡◌, ◌++◌, OnOk, codes};
 ghost use Rattle.std.specs.Fmt.{decimal};
 ghost use Rattle.pf_fault.specs.Codes.{code_text};
 ghost use Rattle.pf_model.specs.Reports.{report_of};
-ghost use Rattle.pf_desks.specs.Told.{lines_of, reply_head, reply_rest, reply_text, usage_text};
+ghost use Rattle.pf_model.specs.Text.{complete_text};
+ghost use Rattle.pf_desks.specs.Told.{lines_of, reply_head, reply_rest, reply_text, result_head, result_rest, usage_text};
+ghost use Rattle.pf_sched.specs.Views.{result_of};
 ghost use Rattle.pf_book.specs.View.{reply_seen};
 
 use pf_book::Reply;
 use pf_fault::Code;
 use pf_model::report::Report;
 use pf_quota::Usage;
-use pf_terms::NoMemory;
-use pf_text::{put, put_byte, put_number};
+use pf_sched::JobResult;
+use pf_terms::{AtomTable, NoMemory};
+use pf_text::{put, put_byte, put_number, put_schedule};
 use pf_trace::put_report;
 use std::alloc::Global;
 
@@ -55,6 +58,62 @@ fn put_lines(alloc: Global, out: &mut Vec<u8>, report: &Report) -> Result<(), No
     put_number(alloc, out, report.events.len() as u64 + 3)
 }
 
+/// Puts whether no candidate of a schedule fails.
+fn put_complete(out: &mut Vec<u8>, complete: bool) -> Result<(), NoMemory>
+    ensures { OnOk result (out.new.items ≡ out.old.items ++ complete_text complete) }
+{
+    if complete {
+        put(out, b"complete")
+    } else {
+        put(out, b"partial")
+    }
+}
+
+/// Puts what the first line says of what came of a trial.
+fn put_result_head(alloc: Global, out: &mut Vec<u8>, came: &JobResult) -> Result<(), NoMemory>
+    ensures { OnOk result (out.new.items ≡ out.old.items ++ result_head (result_of came.now)) }
+{
+    match came {
+        JobResult::Report(report) => {
+            put(out, b"report ")?;
+            put_lines(alloc, out, report)
+        }
+        JobResult::Shrunk {
+            schedule,
+            complete,
+            report,
+        } => {
+            put(out, b"shrunk ")?;
+            put_schedule(alloc, out, schedule.as_slice())?;
+            put(out, b" ")?;
+            put_complete(out, *complete)?;
+            put(out, b" ")?;
+            put_lines(alloc, out, report)
+        }
+        JobResult::NothingFails => {
+            put(out, b"shrunk ")?;
+            put_code(alloc, out, Code::NothingFails)
+        }
+    }
+}
+
+/// Puts the lines of what came of a trial that follow the first: those of its report.
+fn put_result_rest(
+    alloc: Global,
+    out: &mut Vec<u8>,
+    atoms: &AtomTable,
+    came: &JobResult,
+) -> Result<(), NoMemory>
+    ensures { OnOk result (out.new.items ≡ out.old.items ++ result_rest atoms.now (result_of came.now)) }
+{
+    match came {
+        JobResult::Report(report) | JobResult::Shrunk { report, .. } => {
+            put_report(alloc, out, atoms, report)
+        }
+        JobResult::NothingFails => Ok(()),
+    }
+}
+
 /// Puts what the first line of a reply says.
 fn put_head(alloc: Global, out: &mut Vec<u8>, reply: &Reply) -> Result<(), NoMemory>
     ensures { OnOk result (out.new.items ≡ out.old.items ++ reply_head (reply_seen reply.now)) }
@@ -68,10 +127,7 @@ fn put_head(alloc: Global, out: &mut Vec<u8>, reply: &Reply) -> Result<(), NoMem
             put(out, b"ticket ")?;
             put_number(alloc, out, *ticket)
         }
-        Reply::Report(told) => {
-            put(out, b"report ")?;
-            put_lines(alloc, out, told.report())
-        }
+        Reply::Result(told) => put_result_head(alloc, out, told.result()),
         Reply::Usage(usage) => {
             put(out, b"usage ")?;
             put_usage(alloc, out, *usage)
@@ -88,7 +144,7 @@ fn put_rest(alloc: Global, out: &mut Vec<u8>, reply: &Reply) -> Result<(), NoMem
     ensures { OnOk result (out.new.items ≡ out.old.items ++ reply_rest (reply_seen reply.now)) }
 {
     match reply {
-        Reply::Report(told) => put_report(alloc, out, told.atoms(), told.report()),
+        Reply::Result(told) => put_result_rest(alloc, out, told.atoms(), told.result()),
         _ => Ok(()),
     }
 }

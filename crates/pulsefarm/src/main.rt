@@ -11,7 +11,7 @@ use crate::given::{Word, given_words, is_text};
 use crate::shown::{Shown, without_tip};
 use crate::stack::{STACK_BYTES, first_thread_has_stack};
 use clap::error::ErrorKind;
-use pf_command::{Words, check_source, read_words, run_source, status_of_kind};
+use pf_command::{Words, check_source, read_words, run_source, shrink_source, status_of_kind};
 use pf_fault::{NoMemory, OrNoMemory};
 use pf_profile::run_steps;
 use pf_terms::{Counted, StreamFault};
@@ -72,6 +72,7 @@ fn answer_by<R: Read + Drop, W: Write + Drop, L: Ledger, M: Ledger>(
     let mut writer = Counted::<W, M>::new(writer, writes);
     match asked {
         Words::Run(words) => run_source(alloc, &mut reader, words, &mut writer),
+        Words::Shrink(words) => shrink_source(alloc, &mut reader, words, &mut writer),
         Words::Check(words) => check_source(alloc, &mut reader, words, &mut writer),
         Words::Steps(_) => answer_steps(rt, &mut reader, &mut writer),
     }
@@ -153,7 +154,7 @@ fn end(rt: &(impl Print + Eprint), asked: &Words, file: Option<&str>, answered: 
             failed(rt, file, &fault)
         }
         Err(_) => match asked {
-            Words::Run(_) | Words::Check(_) => no_memory(rt),
+            Words::Run(_) | Words::Shrink(_) | Words::Check(_) => no_memory(rt),
             Words::Steps(_) => no_more_memory(rt),
         },
     }

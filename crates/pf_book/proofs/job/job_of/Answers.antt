@@ -3,7 +3,7 @@ use Rattle.pf_fault.specs.declared.code.Code.{Code}
 use Rattle.pf_desks.specs.Desk.{Job, numbered}
 use Rattle.pf_sched.specs.Asked.{Asks, IsRefusal}
 use Rattle.pf_sched.specs.Views as job
-use Rattle.pf_sched.specs.Views.{choices_of}
+use Rattle.pf_sched.specs.Views.{choices_in, runs_asked}
 use Rattle.pf_book.specs.Orders.{Asked}
 use Rattle.pf_book.specs.View.{code_of}
 use Rattle.pf_book.proofs.Orders.{order_asks}
@@ -14,21 +14,23 @@ returns-in_ok-new-in-Ok c =
     let m = c.in_ok-share.field-0 in
     let root = c.as_slice-root.result.now in
     let property = c.as_slice-property.result.now in
-    let cs = choices_of c.in_ok-share-2.field-0 in
+    let cs = choices_in c.in_ok-shared.field-0 in
+    let k = runs_asked c.in_ok-shared.field-0 in
     let found : numbered c.args.modules.now c.args.order.now.module ≡ Some m = search rules in
-    let asks : Asks m root property cs c.args.order.now.limit (Ok c.in_ok-new-in-Ok.field-0.value) =
-    subst (λ (j : Job). Asks m root property cs c.args.order.now.limit (Ok j)) (sym c.in_ok-new-in-Ok.ensures.ok) c.in-Ok.ensures in
-    order_asks c.args.modules.now c.args.order.now m root property cs _ found c.as_slice-root.ensures c.as_slice-property.ensures c.in_ok-share-2.ensures asks
+    let asks : Asks m root property cs c.args.order.now.limit k (Ok c.in_ok-new-in-Ok.field-0.value) =
+    subst (λ (j : Job). Asks m root property cs c.args.order.now.limit k (Ok j)) (sym c.in_ok-new-in-Ok.ensures.ok) c.in-Ok.ensures in
+    order_asks c.args.modules.now c.args.order.now m root property cs k _ found c.as_slice-root.ensures c.as_slice-property.ensures c.in_ok-shared.ensures.choices c.in_ok-shared.ensures.runs asks
 
 pub returns-in-Err-Fault : goal.returns-in-Err-Fault
 returns-in-Err-Fault c =
     let m = c.in_ok-share.field-0 in
     let root = c.as_slice-root.result.now in
     let property = c.as_slice-property.result.now in
-    let cs = choices_of c.in_ok-share-2.field-0 in
+    let cs = choices_in c.in_ok-shared.field-0 in
+    let k = runs_asked c.in_ok-shared.field-0 in
     let found : numbered c.args.modules.now c.args.order.now.module ≡ Some m = search rules in
-    let asks : Asks m root property cs c.args.order.now.limit (Err (job.code_of c.in-Err-Fault.refusal)) =
-    subst (IsRefusal (Asks m root property cs c.args.order.now.limit)) c.in-Err-Fault.field-0-is c.in-Err-Fault.ensures in
+    let asks : Asks m root property cs c.args.order.now.limit k (Err (job.code_of c.in-Err-Fault.refusal)) =
+    subst (IsRefusal (Asks m root property cs c.args.order.now.limit k)) c.in-Err-Fault.field-0-is c.in-Err-Fault.ensures in
     let same : code_of c.from.result ≡ job.code_of c.in-Err-Fault.refusal = search rules in
     subst (λ (e : Code). Asked c.args.modules.now c.args.order.now (Err e)) (sym same)
-    (order_asks c.args.modules.now c.args.order.now m root property cs _ found c.as_slice-root.ensures c.as_slice-property.ensures c.in_ok-share-2.ensures asks)
+    (order_asks c.args.modules.now c.args.order.now m root property cs k _ found c.as_slice-root.ensures c.as_slice-property.ensures c.in_ok-shared.ensures.choices c.in_ok-shared.ensures.runs asks)

@@ -1,10 +1,10 @@
-use Rattle.std.proofs.Common.{◌≡◌, ◌-◌}
+use Rattle.std.proofs.Common.{◌≡◌, ◌-◌, ◌*◌, max}
 use Rattle.pf_sched.proofs.slice.whole.Given as goal
 
--- it is the run of the job
+-- it is the job
 abbrev pub invariant-loop-more : goal.invariant-loop-more
 invariant-loop-more l = l.parked.job ≡ l.fn.job.value
 
--- a run has no more events than its limit has steps
+-- the limit of each of its runs bounds its events
 abbrev pub decreases-loop-more : goal.decreases-loop-more
-decreases-loop-more l = l.parked.job.limit - l.parked.at
+decreases-loop-more l = max 1 l.parked.job.runs * l.parked.job.limit - l.parked.at

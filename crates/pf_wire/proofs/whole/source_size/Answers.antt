@@ -1,11 +1,11 @@
 use Rattle.std.proofs.Common.{◌≡◌, ◌∷◌, ℕ, List, [], Bool, true, false, Option, Some, None, refl, sym, ap, ◌∙◌}
 use Rattle.std.specs.Prelude.{codes, ◌&&◌, not, if◌then◌else◌}
 use Rattle.std.specs.Str.{bytes_eq}
-use Rattle.pf_text.specs.Numbers.{number_of}
+use Rattle.pf_text.specs.Numbers.{number_of, schedule_of}
 use Rattle.pf_model.specs.Meaning.{Choices}
 use Rattle.pf_desks.specs.Desk.{fetch, usage, once}
 use Rattle.pf_desks.specs.World.{Step, client, worker}
-use Rattle.pf_wire.specs.Commands.{Asked, choices_in, made, with_one, with_two, with_order, of_one, of_two, of_order, asked_by, words_of, is_word}
+use Rattle.pf_wire.specs.Commands.{Asked, choices_in, made, with_one, with_two, with_order, with_shrink, of_one, of_two, of_order, of_shrink, asked_by, words_of, is_word}
 use Rattle.pf_wire.specs.Whole.{size_in}
 use Rattle.pf_wire.proofs.whole.source_size.Goals as goal
 
@@ -53,6 +53,27 @@ order_made (p ∷ m ∷ root ∷ property ∷ choices ∷ limit ∷ []) =
     (with_order_made root property (number_of p) (number_of m) (choices_in choices) (number_of limit)) refl
 order_made (a ∷ b ∷ c ∷ d ∷ e ∷ f ∷ g ∷ ws) = refl
 
+with_shrink_made : (root property : List ℕ) (p n : Option ℕ) (ns : Option (List ℕ)) (k l : Option ℕ) → size_in (with_shrink root property p n ns k l) ≡ None
+with_shrink_made root property None n ns k l = refl
+with_shrink_made root property (Some p) None ns k l = refl
+with_shrink_made root property (Some p) (Some n) None k l = refl
+with_shrink_made root property (Some p) (Some n) (Some ns) None l = refl
+with_shrink_made root property (Some p) (Some n) (Some ns) (Some k) None = refl
+with_shrink_made root property (Some p) (Some n) (Some ns) (Some k) (Some l) = refl
+
+shrink_made : (ws : List (List ℕ)) → size_in (of_shrink ws) ≡ None
+shrink_made [] = refl
+shrink_made (a ∷ []) = refl
+shrink_made (a ∷ b ∷ []) = refl
+shrink_made (a ∷ b ∷ c ∷ []) = refl
+shrink_made (a ∷ b ∷ c ∷ d ∷ []) = refl
+shrink_made (a ∷ b ∷ c ∷ d ∷ e ∷ []) = refl
+shrink_made (a ∷ b ∷ c ∷ d ∷ e ∷ f ∷ []) = refl
+shrink_made (p ∷ m ∷ root ∷ property ∷ numbers ∷ runs ∷ limit ∷ []) =
+    pick_none (is_word root && is_word property) (with_shrink root property (number_of p) (number_of m) (schedule_of numbers) (number_of runs) (number_of limit)) None
+    (with_shrink_made root property (number_of p) (number_of m) (schedule_of numbers) (number_of runs) (number_of limit)) refl
+shrink_made (a ∷ b ∷ c ∷ d ∷ e ∷ f ∷ g ∷ h ∷ ws) = refl
+
 not_true : (b : Bool) → not b ≡ true → b ≡ false
 not_true true h = absurd cc
 not_true false h = refl
@@ -70,7 +91,9 @@ others_want_none w ws h =
     let is_fetch = bytes_eq w (codes "fetch") in
     let from_fetch = pick_none is_fetch fetched _ (two_made (λ p t. client p (fetch t)) ws) from_usage in
     let is_order = bytes_eq w (codes "order") in
-    let from_order = pick_none is_order (of_order ws) _ (order_made ws) from_fetch in
+    let is_shrink = bytes_eq w (codes "shrink") in
+    let from_shrink = pick_none is_shrink (of_shrink ws) _ (shrink_made ws) from_fetch in
+    let from_order = pick_none is_order (of_order ws) _ (order_made ws) from_shrink in
     rw h from_order
 
 pub returns-then-ne : goal.returns-then-ne

@@ -23,13 +23,13 @@ invariant_of-self-2 c =
     let d = desk_in c.self.inside in
     let t = c.args.ticket in
     let j = c.in-Some.job.now.value in
-    let r = c.in_ok-report.report.1 in
+    let r = c.in_ok-filed.filed.1 in
     let waits : job_at d.trials t ≡ Some j = ap (λ (l : List Trial). job_at l t) (sym c.deref.ensures.value) ∙ sym c.in-Some.ensures in
     let history = noted t c.self.inside.history.items _ _ _ c.make_room.ensures.items c.push_reserved.ensures.items c.push_reserved-2.ensures.items in
     let d' = desk_in (record { modules = c.self.inside.modules; trials = c.file.new.trials; history = c.push_reserved-2.new.self; usage = c.self.inside.usage }) in
     record {
       legal = λ p right.
-          legal_work p d d' (once t) (once_is d j r d' refl p (right.means j r c.in_ok-report.ensures.means) t waits c.file.ensures history) (c.self.invariant.legal p right);
+          legal_work p d d' (once t) (once_is d j r d' refl p (right.means j r c.in_ok-filed.ensures.means) t waits c.file.ensures history) (c.self.invariant.legal p right);
       sums = c.self.invariant.sums ∙ sym (once_sums d j r d' refl t waits c.file.ensures history);
     }
 
@@ -38,8 +38,8 @@ returns c =
     let d = desk_in c.self.inside in
     let t = c.args.ticket in
     let j = c.in-Some.job.now.value in
-    let r = c.in_ok-report.report.1 in
+    let r = c.in_ok-filed.filed.1 in
     let waits : job_at d.trials t ≡ Some j = ap (λ (l : List Trial). job_at l t) (sym c.deref.ensures.value) ∙ sym c.in-Some.ensures in
     let history = noted t c.self.inside.history.items _ _ _ c.make_room.ensures.items c.push_reserved.ensures.items c.push_reserved-2.ensures.items in
     λ p right.
-    ap (λ (k : Desk). worker_step p k (once t)) (sym c.self.view_is) ∙ once_is d j r _ refl p (right.means j r c.in_ok-report.ensures.means) t waits c.file.ensures history
+    ap (λ (k : Desk). worker_step p k (once t)) (sym c.self.view_is) ∙ once_is d j r _ refl p (right.means j r c.in_ok-filed.ensures.means) t waits c.file.ensures history

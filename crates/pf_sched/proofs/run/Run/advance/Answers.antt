@@ -7,15 +7,15 @@ use Rattle.pf_sched.proofs.Traces.{length_last, next, same}
 use Rattle.pf_sched.proofs.run.Run.advance.Goals as goal
 
 pub returns-then-steps-limit : goal.returns-then-steps-limit
-returns-then-steps-limit c j e run =
-    let i = c.loop.invariant j e run in
+returns-then-steps-limit c j cs e run =
+    let i = c.loop.invariant j cs e run in
     let count : length c.loop.self.events.items ≤ length c.args.self.now.events.items + c.args.turns = omega arith in
     let none : c.args.limit - c.loop.self.system.steps ≡ zero = omega arith in
-    (i.0, (count, (i.0.last, i.0.stands, inr none)))
+    (i.0, (omega arith, count, (i.0.last, i.0.stands, inr none)))
 
 pub returns-in-None : goal.returns-in-None
-returns-in-None c j e run =
-    let i = c.loop.invariant j e run in
+returns-in-None c j cs e run =
+    let i = c.loop.invariant j cs e run in
     let g = i.0 in
     let s = c.loop.self.system in
     let w =
@@ -23,12 +23,12 @@ returns-in-None c j e run =
     (c.in_ok-go.ensures g.last g.stands) in
     let count : length c.loop.self.events.items ≤ length c.args.self.now.events.items + c.args.turns = omega arith in
     let there =
-    same j.stored.code (words_of j.choices) j.limit (start j.root) c.loop.self.events.items s c.go.new.system c.loop.self.choices c.go.new.choices g w.1 w.2 in
-    (there, (count, (g.last, subst (λ z. z.standing ≡ Some g.last) (sym w.1) g.stands, inl w.0)))
+    same j.stored.code (words_of cs) j.limit (start j.root) c.loop.self.events.items s c.go.new.system c.loop.self.choices c.go.new.choices g w.1 w.2 in
+    (there, (omega arith, count, (g.last, subst (λ z. z.standing ≡ Some g.last) (sym w.1) g.stands, inl w.0)))
 
 pub loop-preserved : goal.loop-preserved
-loop-preserved c j e run =
-    let i = c.loop.invariant j e run in
+loop-preserved c j cs e run =
+    let i = c.loop.invariant j cs e run in
     let g = i.0 in
     let s = c.loop.self.system in
     let w =
@@ -38,12 +38,12 @@ loop-preserved c j e run =
     let some : s.steps < j.limit = omega arith in
     let went = subst (λ n. Went n g.last s c.loop.self.choices c.in-Some.event c.go.new.system c.go.new.choices) left w in
     let there =
-    next j.stored.code (words_of j.choices) j.limit (start j.root) c.loop.self.events.items s c.go.new.system c.loop.self.choices c.go.new.choices g c.in-Some.event some went in
+    next j.stored.code (words_of cs) j.limit (start j.root) c.loop.self.events.items s c.go.new.system c.loop.self.choices c.go.new.choices g c.in-Some.event some went in
     let more = length_last c.loop.self.events.items c.in-Some.event in
     rw c.in_ok-push-in-Some.ensures.items (there, omega arith)
 
 pub returns : goal.returns
-returns c j e run =
-    let i = c.loop.invariant j e run in
+returns c j cs e run =
+    let i = c.loop.invariant j cs e run in
     let count : length c.loop.self.events.items ≡ length c.args.self.now.events.items + c.args.turns = omega arith in
     (i.0, ended c.args.limit (length c.args.self.now.events.items) c.args.turns c.loop.self i.0.last i.0.stands count c.is_over.result (c.is_over.ensures i.0.last i.0.stands))

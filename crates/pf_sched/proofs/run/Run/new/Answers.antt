@@ -1,17 +1,14 @@
-use Rattle.std.proofs.Common.{◌≡◌, Some, ap, ◌∙◌, subst}
-use Rattle.rand_pcg.specs.Pcg.{pcg32}
-use Rattle.pf_choice.specs.Choices.{IsAt}
+use Rattle.std.proofs.Common.{◌≡◌, Some, ap, ◌∙◌}
 use Rattle.pf_model.specs.Meaning.{words_of}
 use Rattle.pf_model.specs.Runs.{start}
 use Rattle.pf_sched.proofs.Traces.{begins}
 use Rattle.pf_sched.proofs.run.Run.new.Goals as goal
 
 pub returns-clause-run : goal.returns-clause-run
-returns-clause-run c =
+returns-clause-run c cs at =
     let j = c.args.job.now in
     let s = c.in_ok-new.field-0 in
-    let q = c.in_ok-open.field-0 in
     let stands : s.standing ≡ Some (start j.root) = ap (λ z. z.standing) c.in_ok-new.ensures ∙ ap (λ k. Some (start k.root)) c.job.view_is in
     rw c.new-2.ensures.items
-    (begins j.stored.code (words_of j.choices) j.limit (start j.root) s q (ap (λ z. z.code) c.in_ok-new.ensures ∙ c.module.ensures) stands
-    (ap (λ z. z.steps) c.in_ok-new.ensures) (subst (λ k. IsAt pcg32 (words_of k.choices) 0 q) c.job.view_is c.in_ok-open.ensures))
+    (begins j.stored.code (words_of cs) j.limit (start j.root) s c.args.choices (ap (λ z. z.code) c.in_ok-new.ensures ∙ c.module.ensures) stands
+    (ap (λ z. z.steps) c.in_ok-new.ensures) at)

@@ -1,0 +1,194 @@
+//! The commands as the command line takes them, with the texts of their help.
+
+ghost use Rattle.std.specs.Prelude.{◌≡◌, IfOk, false, codes};
+ghost use Rattle.clap.specs.Words.{app_of, rule_of, new_app};
+ghost use Rattle.clap.specs.declared.builder.command.Command.TheViews.{out-Command};
+ghost use Rattle.pf_command.specs.Words.{bounded_app, check_app, file_rule, flag_rule, option_rule, pulsefarm, required_rule, run_app, shrink_app, steps_app, top_shape};
+
+use clap::{Arg, ArgAction, Command};
+use std::alloc::{AllocError, Global};
+
+const SOURCE_HELP: &str =
+    "File of the module's source, at most 65,536 bytes; `-` is standard input [default: -]";
+
+const SCHEDULE_HELP: &str =
+    "Scheduler's numbers, each from 0 to 4294967295, at most 100,000 with commas between them, or `none`";
+
+const FAILING_HELP: &str =
+    "Property that fails: `returns`, `true`, `nocrash`, `nodeadlock`, `withinlimit` or `never:PATTERN`";
+
+const RUN_USAGE: &str =
+    "pulsefarm run [OPTIONS] --root <F> --limit <N> <--seed <N>|--schedule <L>> [FILE]";
+
+/// A file that comes without a name before it.
+fn file<'a>(alloc: Global, help: &'a str) -> Arg<'a>
+    ensures rule { rule_of result ≡ file_rule }
+    ensures local { result.global ≡ false }
+{
+    Arg::new(alloc, "file").value_name("FILE").help(help)
+}
+
+/// An option with its one value, which may be left out.
+fn option<'a>(alloc: Global, name: &'a str, value: &'a str, help: &'a str) -> Arg<'a>
+    ensures rule { rule_of result ≡ option_rule name.entry.now }
+    ensures local { result.global ≡ false }
+{
+    Arg::new(alloc, name)
+        .long(name)
+        .value_name(value)
+        .help(help)
+}
+
+/// An option that must be given.
+fn required<'a>(alloc: Global, name: &'a str, value: &'a str, help: &'a str) -> Arg<'a>
+    ensures rule { rule_of result ≡ required_rule name.entry.now }
+    ensures local { result.global ≡ false }
+{
+    option(alloc, name, value, help).required(true)
+}
+
+/// An option without a value, which may be left out.
+fn flag<'a>(alloc: Global, name: &'a str, help: &'a str) -> Arg<'a>
+    ensures rule { rule_of result ≡ flag_rule name.entry.now }
+    ensures local { result.global ≡ false }
+{
+    Arg::new(alloc, name)
+        .long(name)
+        .action(ArgAction::SetTrue)
+        .help(help)
+}
+
+fn root<'a>(alloc: Global) -> Arg<'a>
+    ensures rule { rule_of result ≡ required_rule (codes "root") }
+    ensures local { result.global ≡ false }
+{
+    let help = "Name of the function that runs first, exported and without arguments";
+    required(alloc, "root", "F", help)
+}
+
+fn limit<'a>(alloc: Global) -> Arg<'a>
+    ensures rule { rule_of result ≡ required_rule (codes "limit") }
+    ensures local { result.global ≡ false }
+{
+    let help = "Most steps of a run, from 1 to 100,000";
+    required(alloc, "limit", "N", help)
+}
+
+fn seed<'a>(alloc: Global) -> Arg<'a>
+    ensures rule { rule_of result ≡ option_rule (codes "seed") }
+    ensures local { result.global ≡ false }
+{
+    let help = "Seed of the scheduler's numbers, from 0 to 18446744073709551615";
+    option(alloc, "seed", "N", help)
+}
+
+fn schedule<'a>(alloc: Global) -> Arg<'a>
+    ensures rule { rule_of result ≡ option_rule (codes "schedule") }
+    ensures local { result.global ≡ false }
+{
+    option(alloc, "schedule", "L", SCHEDULE_HELP)
+}
+
+fn property<'a>(alloc: Global) -> Arg<'a>
+    ensures rule { rule_of result ≡ option_rule (codes "property") }
+    ensures local { result.global ≡ false }
+{
+    let help =
+        "Property that the run is judged by: `returns`, `true`, `nocrash`, `nodeadlock`, `withinlimit` or `never:PATTERN` [default: returns]";
+    option(alloc, "property", "P", help)
+}
+
+/// A command without its arguments.
+fn bare<'a>(alloc: Global, name: &'a str, about: &'a str) -> Command<'a>
+    ensures app { app_of result ≡ new_app name.entry.now }
+    ensures local { (out-Command result).has_globals ≡ false }
+{
+    Command::new(alloc, name).about(about)
+}
+
+/// A command of runs without the options of its choices and its property.
+fn bounded<'a>(alloc: Global, name: &'a str, about: &'a str) -> Result<Command<'a>, AllocError>
+    ensures app { IfOk result (λ c. app_of c ≡ bounded_app name.entry.now) }
+    ensures local { IfOk result (λ c. (out-Command c).has_globals ≡ false) }
+{
+    let bounded = bare(alloc, name, about)
+        .arg(file(alloc, SOURCE_HELP))?
+        .arg(root(alloc))?
+        .arg(limit(alloc))?;
+    Ok(bounded)
+}
+
+/// `run`.
+pub(crate) fn run_command<'a>(alloc: Global) -> Result<Command<'a>, AllocError>
+    ensures app { IfOk result (λ c. app_of c ≡ run_app) }
+    ensures local { IfOk result (λ c. (out-Command c).has_globals ≡ false) }
+{
+    let about = "Runs a module by a seed or a schedule and reports each turn and delivery";
+    let run = bounded(alloc, "run", about)?
+        .override_usage(RUN_USAGE)
+        .arg(seed(alloc))?
+        .arg(schedule(alloc))?
+        .arg(property(alloc))?;
+    Ok(run)
+}
+
+/// `shrink`.
+pub(crate) fn shrink_command<'a>(alloc: Global) -> Result<Command<'a>, AllocError>
+    ensures app { IfOk result (λ c. app_of c ≡ shrink_app) }
+    ensures local { IfOk result (λ c. (out-Command c).has_globals ≡ false) }
+{
+    let about = "Shrinks a schedule that fails and reports the run of the schedule that is found";
+    let runs = "Most runs, from 1 to 1,000; that of the given schedule is the first";
+    let shrink = bounded(alloc, "shrink", about)?
+        .arg(required(alloc, "schedule", "L", SCHEDULE_HELP))?
+        .arg(required(alloc, "property", "P", FAILING_HELP))?
+        .arg(required(alloc, "runs", "N", runs))?;
+    Ok(shrink)
+}
+
+fn check_command<'a>(alloc: Global) -> Result<Command<'a>, AllocError>
+    ensures app { IfOk result (λ c. app_of c ≡ check_app) }
+    ensures local { IfOk result (λ c. (out-Command c).has_globals ≡ false) }
+{
+    let about = "Reads a module and tells `ok`, or its first refusal with the place";
+    let explain = "Shows the line of a refusal too, and tells how to mend it";
+    let check = bare(alloc, "check", about)
+        .arg(file(alloc, SOURCE_HELP))?
+        .arg(flag(alloc, "explain", explain))?;
+    Ok(check)
+}
+
+fn steps_command<'a>(alloc: Global) -> Result<Command<'a>, AllocError>
+    ensures app { IfOk result (λ c. app_of c ≡ steps_app) }
+    ensures local { IfOk result (λ c. (out-Command c).has_globals ≡ false) }
+{
+    let about = "Carries out commands, one after another, and answers each as it comes";
+    let commands =
+        "File of the commands, at most 67,108,864 bytes; `-` is standard input [default: -]";
+    let steps = bare(alloc, "steps", about).arg(file(alloc, commands))?;
+    Ok(steps)
+}
+
+/// The program without its commands.
+fn top<'a>(alloc: Global) -> Command<'a>
+    ensures app { app_of result ≡ record (new_app (codes "pulsefarm")) { top = top_shape } }
+    ensures local { (out-Command result).has_globals ≡ false }
+{
+    Command::new(alloc, "pulsefarm")
+        .version("0.1.0")
+        .about("Tests Erlang programs for races")
+        .subcommand_required(true)
+        .disable_help_subcommand(true)
+}
+
+/// The whole command line.
+pub(crate) fn command<'a>(alloc: Global) -> Result<Command<'a>, AllocError>
+    ensures { IfOk result (λ c. app_of c ≡ pulsefarm) }
+{
+    let whole = top(alloc)
+        .subcommand(run_command(alloc)?)?
+        .subcommand(shrink_command(alloc)?)?
+        .subcommand(check_command(alloc)?)?
+        .subcommand(steps_command(alloc)?)?;
+    Ok(whole)
+}

@@ -1,0 +1,201 @@
+-- Hunts of shrinkings: what true answers make of them, what they come to, and how many events their runs have.
+use Rattle.std.proofs.Common.{◌≡◌, ◌⊎◌, inl, inr, ℕ, zero, suc, ◌+◌, ◌*◌, ◌<◌, ◌≤◌, Bool, true, false, List, [], ◌∷◌, ◌++◌, length, max, Option, Some, None, refl, sym, ap, ◌∙◌, subst, arith, append_assoc, if◌then◌else◌}
+use Rattle.std.proofs.lemmas.List.{append-nil, length-append}
+use Rattle.std.proofs.lemmas.Nat.{mul-le}
+use Rattle.pf_model.specs.Meaning.{Job, Report, Means, schedule}
+use Rattle.pf_model.specs.Shrinking.{by_schedule, candidates, Found, found, is_failure, search, shrunk, TellsFailures, Result, IsResult, smaller, no_failure}
+use Rattle.pf_model.proofs.Meanings.{one_meaning}
+use Rattle.pf_shrink.specs.Hunts.{Hunting, begins, searches, ended, searching, next_of, told_of, found_of, comes_to}
+use Rattle.pf_shrink.specs.Tried.{tried, tried_from}
+use Rattle.pf_shrink.proofs.Tried.{tried_within_runs, tries_in_order}
+use Rattle.pf_desks.specs.Desk as desk
+use Rattle.pf_desks.specs.Desk.{job_meant}
+use Rattle.pf_sched.specs.Asked.{IsKept}
+use Rattle.pf_sched.specs.Events.{RunsHave, no_runs, HasEvents, of_run, of_shrinking}
+use Rattle.pf_sched.specs.Parts.{IsHuntOf, stands_at}
+use Rattle.pf_sched.specs.Slices.{GoesPast, TellsFound}
+use Rattle.pf_sched.proofs.Asking.{within_bounds}
+use Rattle.pf_sched.proofs.Tries.{fails_in, tells_failures, only_fails, few_events, first_run, only_so_many, so_many, few, one_more, parts}
+
+same_some : {X : Type 0} (x y : X) → Some x ≡ Some y → x ≡ y
+same_some x y e = cc
+
+-- ---- where a hunt stands
+
+stands_searching : (k : ℕ) (ns : List ℕ) (left : List (List ℕ)) → stands_at (searching k ns left) ≡ Some ns
+stands_searching k ns [] = refl
+stands_searching zero ns (c ∷ cs) = refl
+stands_searching (suc k) ns (c ∷ cs) = refl
+
+-- at the schedule that failed
+pub stands_at_failed : (h : Hunting) (ns : List ℕ) → next_of h ≡ Some ns → stands_at (told_of true h) ≡ Some ns
+stands_at_failed (begins k ms) ns e = stands_searching k ms (candidates ms) ∙ e
+stands_at_failed (searches k ms c cs) ns e = stands_searching k c (candidates c) ∙ e
+stands_at_failed (ended f) ns e = absurd (cc)
+
+-- where it was
+pub stands_as_it_was : (h : Hunting) (ns : List ℕ) → next_of h ≡ Some ns → stands_at (told_of false h) ≡ stands_at h
+stands_as_it_was (begins k ms) ns e = refl
+stands_as_it_was (searches k ms c cs) ns e = stands_searching k ms cs
+stands_as_it_was (ended f) ns e = absurd (cc)
+
+-- ---- what a hunt comes to
+
+comes_searching : (fails : List ℕ → Bool) (k : ℕ) (ns : List ℕ) (left : List (List ℕ)) → comes_to fails (searching k ns left) ≡ Some (search fails k ns left)
+comes_searching fails k ns [] = refl
+comes_searching fails zero ns (c ∷ cs) = refl
+comes_searching fails (suc k) ns (c ∷ cs) = refl
+
+-- a true answer changes nothing of it
+comes_on : (fails : List ℕ → Bool) (h : Hunting) (ns : List ℕ) → next_of h ≡ Some ns → comes_to fails (told_of (fails ns) h) ≡ comes_to fails h
+comes_on fails (begins k ms) ns e =
+    ap (λ z. comes_to fails (told_of (fails z) (begins k ms))) (same_some ns ms (sym e)) ∙ by (fails ms)
+  where
+    by : (b : Bool) → comes_to fails (told_of b (begins k ms)) ≡ (if b then Some (search fails k ms (candidates ms)) else None)
+    by true = comes_searching fails k ms (candidates ms)
+    by false = refl
+comes_on fails (searches k ms c cs) ns e =
+    ap (λ z. comes_to fails (told_of (fails z) (searches k ms c cs))) (same_some ns c (sym e)) ∙ by (fails c)
+  where
+    by : (b : Bool) → comes_to fails (told_of b (searches k ms c cs)) ≡ Some (if b then search fails k c (candidates c) else search fails k ms cs)
+    by true = comes_searching fails k c (candidates c)
+    by false = comes_searching fails k ms cs
+comes_on fails (ended f) ns e = absurd (cc)
+
+-- at its end it is what was found
+comes_found : (fails : List ℕ → Bool) (h : Hunting) → next_of h ≡ None → found_of h ≡ comes_to fails h
+comes_found fails (begins k ms) e = absurd (cc)
+comes_found fails (searches k ms c cs) e = absurd (cc)
+comes_found fails (ended f) e = refl
+
+module _ (j : Job) where
+  -- ---- from its begin to its end
+
+  -- before the first run
+  pub hunt_begins : (k : ℕ) (ns : List ℕ) → j.runs ≡ suc k → j.choices ≡ schedule ns → IsHuntOf j (begins k ns) zero
+  hunt_begins k ns runs choices =
+      record {
+        further = k;
+        given = ns;
+        fails = fails_in j;
+        behind = [];
+        runs = runs;
+        choices = choices;
+        tells = tells_failures j;
+        comes = refl;
+        events = no_runs;
+        order = refl;
+      }
+
+  module _ (h : Hunting) (before : ℕ) (hunt : IsHuntOf j h before) where
+    told_so : (ns : List ℕ) → next_of h ≡ Some ns → (r : Report) → Means (by_schedule j ns) r → IsHuntOf j (told_of (hunt.fails ns) h) (before + length r.events)
+    told_so ns e r means =
+        let rest = tried_from hunt.fails (told_of (hunt.fails ns) h) in
+        record {
+          further = hunt.further;
+          given = hunt.given;
+          fails = hunt.fails;
+          behind = hunt.behind ++ ns ∷ [];
+          runs = hunt.runs;
+          choices = hunt.choices;
+          tells = hunt.tells;
+          comes = comes_on hunt.fails h ns e ∙ hunt.comes;
+          events = one_more j hunt.behind before ns r hunt.events means;
+          order = hunt.order ∙ ap (λ nss. hunt.behind ++ nss) ((tries_in_order hunt.fails h).first ns e) ∙ sym (append_assoc hunt.behind (ns ∷ []) rest);
+        }
+
+    -- told the answer of the next run's report
+    pub hunt_told : (ns : List ℕ) → next_of h ≡ Some ns → (r : Report) → Means (by_schedule j ns) r
+        → IsHuntOf j (told_of (is_failure r.verdict) h) (before + length r.events)
+    hunt_told ns e r means = subst (λ b. IsHuntOf j (told_of b h) (before + length r.events)) (hunt.tells ns r means) (told_so ns e r means)
+
+    -- the events of the whole shrinking are those of the runs behind it and of those to come
+    all_events : (m : ℕ) → HasEvents j m → RunsHave j (hunt.behind ++ tried_from hunt.fails h) m
+    all_events _ (of_run r e means) = absurd (let some : j.runs ≡ suc hunt.further = hunt.runs in cc)
+    all_events _ (of_shrinking k ns fails m e c tells has) =
+        let counted : suc k ≡ suc hunt.further = sym e ∙ hunt.runs in
+        let given : schedule ns ≡ schedule hunt.given = sym c ∙ hunt.choices in
+        let same : ns ≡ hunt.given = cc in
+        subst (λ nss. RunsHave j nss m)
+        (ap (λ f. tried f (suc k) ns) (only_fails j fails hunt.fails tells hunt.tells) ∙ ap (λ n. tried hunt.fails n ns) counted
+        ∙ ap (tried hunt.fails (suc hunt.further)) same ∙ hunt.order)
+        has
+
+    -- where the next run has more than so many events, so has the shrinking behind those before it
+    pub hunt_goes_past : (ns : List ℕ) → next_of h ≡ Some ns → (n : ℕ) → ((r : Report) → Means (by_schedule j ns) r → n < length r.events)
+        → (m : ℕ) → HasEvents j m → before + n < m
+    hunt_goes_past ns e n past m has =
+        let rest = tried_from hunt.fails (told_of (hunt.fails ns) h) in
+        let p = parts j hunt.behind (tried_from hunt.fails h) m (all_events m has) in
+        let x = first_run j ns rest p.later (subst (λ nss. RunsHave j nss p.later) ((tries_in_order hunt.fails h).first ns e) p.rest) in
+        let ahead : p.ahead ≡ before = only_so_many j hunt.behind p.ahead before p.first hunt.events in
+        let more = past x.report x.means in
+        let all = p.sums in
+        let next = x.sums in
+        omega arith
+
+    -- at its end the events are those of all runs
+    pub hunt_has : next_of h ≡ None → HasEvents j before
+    hunt_has e =
+        let none : tried_from hunt.fails h ≡ [] = (tries_in_order hunt.fails h).none.0 e in
+        let order : hunt.behind ≡ tried hunt.fails (suc hunt.further) hunt.given =
+            sym (append-nil hunt.behind) ∙ ap (λ nss. hunt.behind ++ nss) (sym none) ∙ sym hunt.order in
+        of_shrinking hunt.further hunt.given hunt.fails before hunt.runs hunt.choices hunt.tells (subst (λ nss. RunsHave j nss before) order hunt.events)
+
+    -- and what was found, with its report, is what the job comes to
+    pub hunt_comes : next_of h ≡ None → (r : Result) → TellsFound j (found_of h) r → IsResult j r
+    hunt_comes e r tells = by (found_of h) (sym hunt.comes ∙ sym (comes_found hunt.fails h e)) tells
+      where
+        by : (f : Option Found) → shrunk hunt.fails (suc hunt.further) hunt.given ≡ f → TellsFound j f r → IsResult j r
+        by None is told = subst (IsResult j) (sym told) (no_failure hunt.further hunt.given hunt.fails hunt.runs hunt.choices hunt.tells is)
+        by (Some f) is told =
+            subst (IsResult j) (sym told.2) (smaller hunt.further hunt.given hunt.fails f told.0 hunt.runs hunt.choices hunt.tells is told.1)
+
+  -- ---- how many events there can be
+
+  -- a job has some number of events, which its limit and its runs bound
+  pub bounded : (j.runs ≡ zero) ⊎ ((ns : List ℕ) × (j.choices ≡ schedule ns)) → (m : ℕ) × HasEvents j m × (m ≤ max 1 j.runs * j.limit)
+  bounded kept = by j.runs refl kept
+    where
+      plain : j.runs ≡ zero → (m : ℕ) × HasEvents j m × (m ≤ max 1 j.runs * j.limit)
+      plain e =
+          let m = one_meaning j in
+          let one = few_events j m.0 m.1 in
+          (length m.0.events, of_run m.0 e m.1, subst (λ k. length m.0.events ≤ max 1 k * j.limit) (sym e) (omega arith))
+
+      shrinking : (k : ℕ) (ns : List ℕ) → j.runs ≡ suc k → j.choices ≡ schedule ns → (m : ℕ) × HasEvents j m × (m ≤ max 1 j.runs * j.limit)
+      shrinking k ns e c =
+          let nss = tried (fails_in j) (suc k) ns in
+          let s = so_many j nss in
+          let all = few j nss s.0 s.1 in
+          let within = tried_within_runs (fails_in j) (suc k) ns in
+          (s.0, of_shrinking k ns (fails_in j) s.0 e c (tells_failures j) s.1, subst (λ n. s.0 ≤ max 1 n * j.limit) (sym e) (bound s.0 (length nss) k j.limit all within))
+        where
+          bound : (m l k n : ℕ) → m ≤ l * n → l ≤ suc k → m ≤ max 1 (suc k) * n
+          bound m l k n a b = let more = mul-le l n (max 1 (suc k)) n (omega arith) (omega arith) in omega arith
+
+      by : (k : ℕ) → j.runs ≡ k → (j.runs ≡ zero) ⊎ ((ns : List ℕ) × (j.choices ≡ schedule ns)) → (m : ℕ) × HasEvents j m × (m ≤ max 1 j.runs * j.limit)
+      by zero e kept = plain e
+      by (suc k) e (inl alone) = plain alone
+      by (suc k) e (inr s) = shrinking k s.0 e s.1
+
+-- so more events can't be left than that
+pub past_bound : (j : desk.Job) → IsKept j → (n : ℕ) → GoesPast j n → n < max 1 j.runs * j.limit
+past_bound j kept n past =
+    let b = bounded (job_meant j) kept.shrinks in
+    let more = past b.0 b.1 in
+    let most = b.2 in
+    omega arith
+
+-- few events are behind a hunt
+pub few_behind : (j : desk.Job) → IsKept j → (h : Hunting) (before : ℕ) → IsHuntOf (job_meant j) h before → before ≤ 100000000
+few_behind j kept h before hunt =
+    let bounds = within_bounds j kept in
+    let rest = tried_from hunt.fails h in
+    let all : length (tried hunt.fails (suc hunt.further) hunt.given) ≡ length hunt.behind + length rest = ap length hunt.order ∙ length-append hunt.behind rest in
+    let tried_few = tried_within_runs hunt.fails (suc hunt.further) hunt.given in
+    let asked : j.runs ≡ suc hunt.further = hunt.runs in
+    let runs : length hunt.behind ≤ 1000 = let b = bounds.1 in omega arith in
+    let most = few (job_meant j) hunt.behind before hunt.events in
+    let bound = mul-le (length hunt.behind) j.limit 1000 100000 runs bounds.0 in
+    omega arith

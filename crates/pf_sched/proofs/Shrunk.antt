@@ -1,0 +1,147 @@
+-- Shrinkings as far as they came.
+use Rattle.std.proofs.Common.{◌≡◌, ℕ, zero, suc, ◌+◌, ◌-◌, ◌<◌, ◌≤◌, Bool, true, false, List, [], ◌∷◌, length, Option, Some, None, refl, sym, ap, ◌∙◌, subst, arith, if◌then◌else◌}
+use Rattle.std.proofs.lemmas.List.{length-map}
+use Rattle.rand_pcg.specs.Pcg.{pcg32}
+use Rattle.rand_pcg.specs.Lcg.{Lcg}
+use Rattle.pf_choice.specs.Choices.{IsAt}
+use Rattle.pf_choice.specs.declared.choices.Choices.{Choices}
+use Rattle.pf_model.specs.Meaning.{Means, schedule, words_of}
+use Rattle.pf_model.specs.Meaning as meaning
+use Rattle.pf_model.specs.Reports.{event_of, report_of}
+use Rattle.pf_model.specs.Shrinking.{by_schedule, candidates, Found, found, is_failure, nothing_fails, shrunk_to}
+use Rattle.pf_model.specs.declared.report.Report.{Report}
+use Rattle.pf_shrink.specs.Hunts.{Hunting, begins, searches, ended, searching, next_of, told_of, found_of}
+use Rattle.pf_desks.specs.Desk.{Job, job_meant}
+use Rattle.pf_sched.specs.declared.run.Run.{Run}
+use Rattle.pf_sched.specs.declared.shrinking.Progress.{Progress}
+use Rattle.pf_sched.specs.declared.shrinking.Progress.TheVariants as progress
+use Rattle.pf_sched.specs.declared.shrinking.Shrinking.{Shrinking}
+use Rattle.pf_sched.specs.Parts.{IsHuntOf, IsRunBy, IsShrinkingOf, KeepsReport, events_so_far, stands_at}
+use Rattle.pf_sched.specs.Slices.{Advances, EndsBy, Follows, GoesOn, GoesPast, IsOver, OpensNext, RunAdvances, TellsFound, runs_left}
+use Rattle.pf_sched.specs.Views.{result_of}
+use Rattle.pf_sched.proofs.Sliced.{run_goes_past}
+use Rattle.pf_sched.proofs.Hunted.{hunt_begins, hunt_told, hunt_goes_past, stands_at_failed, stands_as_it_was}
+
+-- ---- the next schedule
+
+-- what is opened is the next schedule
+pub opens_next : (o : Option (List ℕ)) (q : Choices Lcg) → OpensNext o (Some q) → (ns : List ℕ) × (o ≡ Some ns) × IsAt pcg32 (words_of (schedule ns)) 0 q
+opens_next None q h = absurd h
+opens_next (Some ns) q h = (ns, refl, h)
+
+pub opens_none : (o : Option (List ℕ)) → OpensNext o None → o ≡ None
+opens_none None h = refl
+opens_none (Some ns) h = absurd h
+
+searches_fewer : (k : ℕ) (ns : List ℕ) (left : List (List ℕ)) → runs_left (searching k ns left) ≤ k
+searches_fewer k ns [] = omega arith
+searches_fewer zero ns (c ∷ cs) = omega arith
+searches_fewer (suc k) ns (c ∷ cs) = omega arith
+
+-- an answer leaves one run less
+pub fewer_runs : (h : Hunting) (ns : List ℕ) → next_of h ≡ Some ns → (b : Bool) → runs_left (told_of b h) ≤ runs_left h - 1
+fewer_runs (begins k ms) ns e true = let h = searches_fewer k ms (candidates ms) in omega arith
+fewer_runs (begins k ms) ns e false = omega arith
+fewer_runs (searches k ms c cs) ns e true = let h = searches_fewer k c (candidates c) in omega arith
+fewer_runs (searches k ms c cs) ns e false = let h = searches_fewer k ms cs in omega arith
+fewer_runs (ended f) ns e b = absurd (cc)
+
+pub some_runs : (h : Hunting) (ns : List ℕ) → next_of h ≡ Some ns → 0 < runs_left h
+some_runs (begins k ms) ns e = omega arith
+some_runs (searches k ms c cs) ns e = omega arith
+some_runs (ended f) ns e = absurd (cc)
+
+-- ---- the report that is kept
+
+module _ (j : meaning.Job) where
+  -- that of the schedule that failed, or the one from before
+  pub keeps_on : (h : Hunting) (ns : List ℕ) → next_of h ≡ Some ns → (kept : Option Report) (r : Report) → Means (by_schedule j ns) (report_of r)
+      → KeepsReport j (stands_at h) kept → (b : Bool) → KeepsReport j (stands_at (told_of b h)) (if b then Some r else kept)
+  keeps_on h ns e kept r means k true = subst (λ o. KeepsReport j o (Some r)) (sym (stands_at_failed h ns e)) means
+  keeps_on h ns e kept r means k false = subst (λ o. KeepsReport j o kept) (sym (stands_as_it_was h ns e)) k
+
+module _ (j : Job) where
+  -- with another run by the same schedule
+  pub with_run : (s t : Shrinking) (x : IsShrinkingOf j s) → t ≡ record s { run = t.run } → IsRunBy j (schedule x.next) t.run → IsShrinkingOf j t
+  with_run s t x e run =
+      let same : IsShrinkingOf j (record s { run = t.run }) =
+          record { hunt = x.hunt; report = x.report; next = x.next; is_next = x.is_next; run = run } in
+      subst (IsShrinkingOf j) (sym e) same
+
+  -- where its run isn't over it has more events
+  pub shrinking_goes_past : (s : Shrinking) → IsShrinkingOf j s → (IsOver j.limit s.run → ⊥) → GoesPast j (events_so_far s)
+  shrinking_goes_past s x going m has =
+      hunt_goes_past (job_meant j) s.hunt s.before x.hunt x.next x.is_next (length s.run.events.items) (run_goes_past j (schedule x.next) s.run x.run going) m has
+
+  -- before its first event
+  pub shrinking_begins : (h : Hunting) (r : Run) (runs : ℕ) (ns items : List ℕ) → 0 < runs → j.runs ≡ runs → j.choices ≡ schedule ns → items ≡ ns
+      → h ≡ begins (runs - 1) items → IsRunBy j (schedule ns) r → IsShrinkingOf j (record { hunt = h; run = r; report = None; before = zero })
+  shrinking_begins h r runs ns items some asked shrinks same is run =
+      let begun : begins (runs - 1) ns ≡ h = ap (begins (runs - 1)) (sym same) ∙ sym is in
+      let counted : j.runs ≡ suc (runs - 1) = omega arith in
+      let first : IsShrinkingOf j (record { hunt = begins (runs - 1) ns; run = r; report = None; before = zero }) =
+          record { hunt = hunt_begins (job_meant j) (runs - 1) ns counted shrinks; report = tt; next = ns; is_next = refl; run = run } in
+      subst (λ z. IsShrinkingOf j (record { hunt = z; run = r; report = None; before = zero })) begun first
+
+  -- behind a run the hunt was told the truth
+  pub hunt_goes_on : (s : Shrinking) (x : IsShrinkingOf j s) (r : Report) → Means (by_schedule (job_meant j) x.next) (report_of r)
+      → length r.events.items ≡ length s.run.events.items → (h : Hunting) → h ≡ told_of (is_failure r.verdict) s.hunt → (behind : ℕ) → behind ≡ events_so_far s
+      → IsHuntOf (job_meant j) h behind
+  hunt_goes_on s x r means same h told behind count =
+      let told_it = hunt_told (job_meant j) s.hunt s.before x.hunt x.next x.is_next (report_of r) means in
+      let events : length (report_of r).events ≡ length r.events.items = length-map r.events.items event_of in
+      let at : s.before + length (report_of r).events ≡ behind = omega arith in
+      subst (λ z. IsHuntOf (job_meant j) z behind) (sym told) (subst (IsHuntOf (job_meant j) (told_of (is_failure r.verdict) s.hunt)) at told_it)
+
+  -- and a report is kept of where it stands
+  pub report_goes_on : (s : Shrinking) (x : IsShrinkingOf j s) (r : Report) → Means (by_schedule (job_meant j) x.next) (report_of r)
+      → (h : Hunting) → h ≡ told_of (is_failure r.verdict) s.hunt → (kept : Option Report) → kept ≡ (if is_failure r.verdict then Some r else s.report)
+      → KeepsReport (job_meant j) (stands_at h) kept
+  report_goes_on s x r means h told kept is =
+      let k = keeps_on (job_meant j) s.hunt x.next x.is_next s.report r means x.report (is_failure r.verdict) in
+      subst (λ z. KeepsReport (job_meant j) (stands_at z) kept) (sym told)
+      (subst (KeepsReport (job_meant j) (stands_at (told_of (is_failure r.verdict) s.hunt))) (sym is) k)
+
+  module _ (s t : Shrinking) (x : IsShrinkingOf j s) (limit turns : ℕ) (same : limit ≡ j.limit) (rest : t ≡ record s { run = t.run }) where
+    before_same : t.before ≡ s.before
+    before_same = ap (λ z. z.before) rest
+
+    -- its run isn't over
+    pub goes_further : (over : Bool) → over ≡ false → RunAdvances limit s.run t.run turns over → GoesOn j (events_so_far s + turns) (progress.More t)
+    goes_further over off went =
+        let a = went j (schedule x.next) (sym same) x.run in
+        let b : Advances (length s.run.events.items) (length t.run.events.items) turns false (IsOver limit t.run) =
+            subst (λ v. Advances (length s.run.events.items) (length t.run.events.items) turns v (IsOver limit t.run)) off a.1 in
+        let y = with_run s t x rest a.0 in
+        let e = before_same in
+        let count = b.0 in
+        let at : events_so_far t ≡ events_so_far s + turns = omega arith in
+        (y, at, subst (GoesPast j) at (shrinking_goes_past t y (subst (λ n. IsOver n t.run → ⊥) same b.1)))
+
+    -- or it is
+    pub record AtEdge : Type 0 where
+      pub shrinking : IsShrinkingOf j t
+      pub over : IsOver j.limit t.run
+      pub from : length s.run.events.items ≤ length t.run.events.items
+      pub within : length t.run.events.items ≤ length s.run.events.items + turns
+      pub before : t.before ≡ s.before
+      pub hunt : t.hunt ≡ s.hunt
+
+    pub at_edge : (over : Bool) → over ≡ true → RunAdvances limit s.run t.run turns over → AtEdge
+    at_edge over on went =
+        let a = went j (schedule x.next) (sym same) x.run in
+        let b : Advances (length s.run.events.items) (length t.run.events.items) turns true (IsOver limit t.run) =
+            subst (λ v. Advances (length s.run.events.items) (length t.run.events.items) turns v (IsOver limit t.run)) on a.1 in
+        record {
+          shrinking = with_run s t x rest a.0;
+          over = subst (λ n. IsOver n t.run) same b.2;
+          from = b.0;
+          within = b.1;
+          before = before_same;
+          hunt = ap (λ z. z.hunt) rest;
+        }
+
+  -- what follows, told by other numbers
+  pub follows_so : (n m k l : ℕ) → n ≡ m → k ≤ l → (p : Progress) → Follows j n k p → Follows j m l p
+  follows_so n m k l e h (progress.More s) f = (f.0, f.1 ∙ e, (let few = f.2 in omega arith))
+  follows_so n m k l e h (progress.Over r) f = subst (λ z. EndsBy j z (result_of r)) e f

@@ -1,0 +1,14 @@
+use Rattle.std.proofs.Common.{subst}
+use Rattle.rand_pcg.specs.Pcg.{pcg32}
+use Rattle.pf_choice.specs.Choices.{IsAt}
+use Rattle.pf_choice.specs.Words.{schedule_word}
+use Rattle.pf_model.specs.Meaning.{schedule}
+use Rattle.pf_sched.proofs.Shrunk.{shrinking_begins}
+use Rattle.pf_sched.proofs.shrinking.Shrinking.new.Goals as goal
+
+pub returns-clause-shrinking : goal.returns-clause-shrinking
+returns-clause-shrinking c =
+    let ns = c.args.schedule.now in
+    let first = subst (λ xs. IsAt pcg32 (schedule_word xs) 0 c.schedule-choices.result) c.in_ok-copy.ensures c.schedule-choices.ensures in
+    shrinking_begins c.args.job.now c.new.result c.in_ok-new.field-0 c.args.runs ns c.in_ok-copy-2.field-0.items c.requires.runs c.requires.job_runs c.requires.job_choices
+    c.in_ok-copy-2.ensures c.new.ensures.begins (c.in_ok-new.ensures.run (schedule ns) first)

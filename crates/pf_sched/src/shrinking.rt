@@ -1,0 +1,195 @@
+//! Shrinkings as far as they came, run by run.
+
+ghost use Rattle.std.specs.Prelude.{◌≡◌, ◌+◌, ◌-◌, ◌<◌, IfOk, IsNone, IsSome, if◌then◌else◌};
+ghost use Rattle.pf_model.specs.Meaning as model;
+ghost use Rattle.pf_model.specs.Shrinking.{is_failure};
+ghost use Rattle.pf_shrink.specs.Hunts.{found_of, next_of, told_of};
+ghost use Rattle.pf_desks.specs.Desk as desk;
+ghost use Rattle.pf_desks.specs.Desk.{job_meant};
+ghost use Rattle.pf_sched.specs.Asked.{IsKept};
+ghost use Rattle.pf_sched.specs.Parts.{IsHuntOf, IsShrinkingOf, KeepsReport, events_so_far, stands_at};
+ghost use Rattle.pf_sched.specs.Slices.{Follows, GoesOn, IsOver, OpensNext, RunAdvances, TellsFound, runs_left};
+ghost use Rattle.pf_sched.specs.Views.{result_of};
+
+use crate::job::Job;
+use crate::result::JobResult;
+use crate::run::Run;
+use crate::scratch::Scratch;
+use pf_choice::Choices;
+use pf_model::report::Report;
+use pf_shrink::Hunt;
+use pf_terms::NoMemory;
+use std::alloc::Global;
+
+/// A shrinking as far as it came: its hunt, the run of the hunt's next schedule, the report of the schedule that the hunt stands at, which is
+/// none before the first run that failed, and the number of events of all runs before this one.
+#[derive(Drop)]
+pub(crate) struct Shrinking {
+    pub hunt: Hunt,
+    pub run: Run,
+    pub report: Option<Report>,
+    pub before: u64,
+}
+
+/// What a shrinking goes on to.
+#[derive(Drop)]
+pub(crate) enum Progress {
+    /// It has more events.
+    More(Shrinking),
+    /// It is over.
+    Over(JobResult),
+}
+
+/// The same numbers, to keep.
+fn copy(alloc: Global, numbers: &[u32]) -> Result<Vec<u32>, NoMemory>
+    ensures { IfOk result (λ v. v.items ≡ numbers.now) }
+{
+    let mut own = Vec::new(alloc);
+    own.extend_from_slice(numbers)?;
+    Ok(own)
+}
+
+/// The choices of a hunt's next schedule; none at its end.
+fn next_choices(alloc: Global, hunt: &Hunt) -> Result<Option<Choices>, NoMemory>
+    ensures { IfOk result (λ o. OpensNext (next_of hunt.now) o) }
+{
+    match hunt.next() {
+        Some(numbers) => Ok(Some(Choices::schedule(copy(alloc, numbers)?))),
+        None => Ok(None),
+    }
+}
+
+/// What a hunt found, with the report of its schedule.
+fn found(alloc: Global, hunt: &Hunt, report: Option<Report>) -> Result<JobResult, NoMemory>
+    requires ended { IsNone (next_of hunt.now) }
+    requires report { IsSome (found_of hunt.now) → IsSome report }
+    ensures { IfOk result (λ r. (j : desk.Job) → KeepsReport (job_meant j) (stands_at hunt.now) report
+        → TellsFound (job_meant j) (found_of hunt.now) (result_of r)) }
+{
+    let Some((schedule, complete)) = hunt.found() else {
+        return Ok(JobResult::NothingFails);
+    };
+    Ok(JobResult::Shrunk {
+        schedule: copy(alloc, schedule)?,
+        complete,
+        report: report.unwrap(),
+    })
+}
+
+/// Tells a hunt whether its next schedule fails, by the report of its run; the report of the schedule that the hunt stands at then.
+fn tell(hunt: &mut Hunt, kept: Option<Report>, ended: Report) -> Option<Report>
+    requires { IsSome (next_of hunt.old) }
+    ensures told { hunt.new ≡ told_of (is_failure ended.verdict) hunt.old }
+    ensures kept { result ≡ (if is_failure ended.verdict then Some ended else kept) }
+{
+    let fails = matches!(ended.verdict, Some(false));
+    hunt.told(fails);
+    if fails { Some(ended) } else { kept }
+}
+
+/// The run of a hunt's next schedule, or what the hunt came to, behind so many events.
+fn begin(
+    alloc: Global,
+    job: &Job,
+    hunt: Hunt,
+    report: Option<Report>,
+    before: u64,
+) -> Result<Progress, NoMemory>
+    requires hunt { IsHuntOf (job_meant job.now) hunt before }
+    requires report { KeepsReport (job_meant job.now) (stands_at hunt) report }
+    ensures { IfOk result (λ p. Follows job.now before (runs_left hunt) p) }
+{
+    match next_choices(alloc, &hunt)? {
+        Some(choices) => Ok(Progress::More(Shrinking {
+            run: Run::new(alloc, job, choices)?,
+            hunt,
+            report,
+            before,
+        })),
+        None => Ok(Progress::Over(found(alloc, &hunt, report)?)),
+    }
+}
+
+impl Shrinking {
+    /// The shrinking of a schedule within so many runs, before its first event.
+    pub fn new(alloc: Global, job: &Job, schedule: &[u32], runs: u32) -> Result<Shrinking, NoMemory>
+        requires runs { 0 < runs }
+        requires job_runs { job.now.runs ≡ runs }
+        requires job_choices { job.now.choices ≡ model.schedule schedule.now }
+        ensures shrinking { IfOk result (λ s. IsShrinkingOf job.now s) }
+        ensures first { IfOk result (λ s. events_so_far s ≡ 0) }
+    {
+        let choices = Choices::schedule(copy(alloc, schedule)?);
+        Ok(Shrinking {
+            hunt: Hunt::new(copy(alloc, schedule)?, runs),
+            run: Run::new(alloc, job, choices)?,
+            report: None,
+            before: 0,
+        })
+    }
+
+    /// Goes on with the run by so many events, or fewer where the run is over before; whether it is over then. Spare nodes are those of the
+    /// scratch, and come back to it.
+    fn go(
+        &mut self,
+        alloc: Global,
+        limit: u32,
+        scratch: &mut Scratch,
+        turns: u32,
+    ) -> Result<bool, NoMemory>
+        ensures run { IfOk result (RunAdvances limit self.old.run self.new.run turns) }
+        ensures rest { self.new ≡ record self.old { run = self.new.run } }
+    {
+        self.run.system.put_pool(scratch.take_pool(alloc));
+        let went = self.run.advance(alloc, limit, turns);
+        scratch.put_pool(self.run.system.take_pool(alloc));
+        went
+    }
+
+    /// What follows a run that is over: the hunt is told whether it failed, and the report of one that did is kept.
+    fn follow(self, alloc: Global, job: &Job) -> Result<Progress, NoMemory>
+        requires kept { IsKept job.now }
+        requires shrinking { IsShrinkingOf job.now self }
+        requires over { IsOver job.now.limit self.run }
+        ensures { IfOk result (λ p. Follows job.now (events_so_far self) (runs_left self.hunt - 1) p) }
+    {
+        let Shrinking {
+            mut hunt,
+            run,
+            report,
+            before,
+        } = self;
+        let behind = before + run.events.len() as u64;
+        let ended = run.report(alloc, job)?;
+        let kept = tell(&mut hunt, report, ended);
+        begin(alloc, job, hunt, kept, behind)
+    }
+
+    /// Goes on by so many events, over as many runs as they take. It goes on where the shrinking has more; else it is over, with what the job
+    /// comes to.
+    pub fn advance(
+        self,
+        alloc: Global,
+        job: &Job,
+        scratch: &mut Scratch,
+        turns: u32,
+    ) -> Result<Progress, NoMemory>
+        requires { IsShrinkingOf job.now self }
+        ensures { IfOk result (λ p. GoesOn job.now (events_so_far self + turns) p) }
+    {
+        let limit = job.limit();
+        let mut shrinking = self;
+        let mut left = turns;
+        loop {
+            let had = shrinking.run.events.len();
+            if !shrinking.go(alloc, limit, scratch, left)? {
+                return Ok(Progress::More(shrinking));
+            }
+            left -= (shrinking.run.events.len() - had) as u32;
+            match shrinking.follow(alloc, job)? {
+                Progress::More(next) => shrinking = next,
+                Progress::Over(result) => return Ok(Progress::Over(result)),
+            }
+        }
+    }
+}
