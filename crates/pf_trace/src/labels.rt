@@ -152,7 +152,7 @@ fn put_delivery(
 }
 
 /// Puts what a turn or a delivery shows.
-pub(crate) fn put_label(
+pub fn put_label(
     alloc: Global,
     out: &mut Vec<u8>,
     atoms: &AtomTable,

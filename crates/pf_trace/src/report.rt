@@ -73,7 +73,7 @@ fn put_pids(alloc: Global, out: &mut Vec<u8>, pids: &[u32]) -> Result<(), NoMemo
     Ok(())
 }
 
-fn put_outcome(
+pub fn put_outcome(
     alloc: Global,
     out: &mut Vec<u8>,
     atoms: &AtomTable,
