@@ -73,6 +73,7 @@ fn put_pids(alloc: Global, out: &mut Vec<u8>, pids: &[u32]) -> Result<(), NoMemo
     Ok(())
 }
 
+/// Puts how a run came out, as a line.
 pub fn put_outcome(
     alloc: Global,
     out: &mut Vec<u8>,
