@@ -11,7 +11,7 @@ use crate::numbers::numbered;
 use crate::refusal::Refusal;
 use crate::reply::FiledResult;
 use pf_fault::OrNoMemory;
-use pf_sched::{Job, JobKind, Scratch, whole};
+use pf_sched::{Job, JobKind, Scratch, whole, Nobody};
 use pf_store::Stored;
 use pf_terms::NoMemory;
 use std::alloc::Global;
@@ -67,7 +67,7 @@ pub(crate) fn run(
     ensures atoms { IfOk result (λ t. t.0 ≡ job.now.value.stored.code.atoms) }
     ensures means { IfOk result (λ t. IsResult (job_meant job.now.value) t.1) }
 {
-    let finished = whole(alloc, Arc::try_clone(job)?, scratch)?;
+    let finished = whole(alloc, Arc::try_clone(job)?, scratch, &mut Nobody)?;
     if !finished.is_whole() {
         return Err(NoMemory);
     }

@@ -12,6 +12,7 @@ use Rattle.pf_model.specs.Shrinking.{by_schedule, candidates, Found, found, is_f
 use Rattle.pf_model.specs.declared.report.Report.{Report}
 use Rattle.pf_shrink.specs.Hunts.{Hunting, begins, searches, ended, searching, next_of, told_of, found_of}
 use Rattle.pf_desks.specs.Desk.{Job, job_meant}
+use Rattle.pf_sched.specs.declared.course.Course.{Course}
 use Rattle.pf_sched.specs.declared.run.Run.{Run}
 use Rattle.pf_sched.specs.declared.shrinking.Progress.{Progress}
 use Rattle.pf_sched.specs.declared.shrinking.Progress.TheVariants as progress
@@ -74,14 +75,14 @@ module _ (j : Job) where
       hunt_goes_past (job_meant j) s.hunt s.before x.hunt x.next x.is_next (length s.run.events.items) (run_goes_past j (schedule x.next) s.run x.run going) m has
 
   -- before its first event
-  pub shrinking_begins : (h : Hunting) (r : Run) (runs : ℕ) (ns items : List ℕ) → 0 < runs → j.runs ≡ runs → j.choices ≡ schedule ns → items ≡ ns
-      → h ≡ begins (runs - 1) items → IsRunBy j (schedule ns) r → IsShrinkingOf j (record { hunt = h; run = r; report = None; before = zero })
-  shrinking_begins h r runs ns items some asked shrinks same is run =
+  pub shrinking_begins : (h : Hunting) (r : Run) (c : Course) (runs : ℕ) (ns items : List ℕ) → 0 < runs → j.runs ≡ runs → j.choices ≡ schedule ns → items ≡ ns
+      → h ≡ begins (runs - 1) items → IsRunBy j (schedule ns) r → IsShrinkingOf j (record { hunt = h; run = r; report = None; before = zero; course = c })
+  shrinking_begins h r c runs ns items some asked shrinks same is run =
       let begun : begins (runs - 1) ns ≡ h = ap (begins (runs - 1)) (sym same) ∙ sym is in
       let counted : j.runs ≡ suc (runs - 1) = omega arith in
-      let first : IsShrinkingOf j (record { hunt = begins (runs - 1) ns; run = r; report = None; before = zero }) =
+      let first : IsShrinkingOf j (record { hunt = begins (runs - 1) ns; run = r; report = None; before = zero; course = c }) =
           record { hunt = hunt_begins (job_meant j) (runs - 1) ns counted shrinks; report = tt; next = ns; is_next = refl; run = run } in
-      subst (λ z. IsShrinkingOf j (record { hunt = z; run = r; report = None; before = zero })) begun first
+      subst (λ z. IsShrinkingOf j (record { hunt = z; run = r; report = None; before = zero; course = c })) begun first
 
   -- behind a run the hunt was told the truth
   pub hunt_goes_on : (s : Shrinking) (x : IsShrinkingOf j s) (r : Report) → Means (by_schedule (job_meant j) x.next) (report_of r)

@@ -2,6 +2,7 @@
 #![tactic(auto)]
 
 mod choices;
+mod course;
 mod finished;
 mod job;
 mod parked;
@@ -13,6 +14,7 @@ mod shrinking;
 mod slice;
 
 pub use choices::{JobChoices, JobKind};
+pub use course::{Course, Nobody, Watch};
 pub use finished::Finished;
 pub use job::Job;
 pub use parked::{Parked, start};

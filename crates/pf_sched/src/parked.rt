@@ -6,6 +6,7 @@ ghost use Rattle.pf_sched.specs.InParked.{IsWorkOf, at_of};
 ghost use Rattle.pf_sched.specs.Views.{parked_view};
 
 use crate::choices::JobKind;
+use crate::course::Course;
 use crate::job::Job;
 use crate::run::Run;
 use crate::shrinking::Shrinking;
@@ -39,6 +40,16 @@ impl Model for Parked {
     ghost view = { parked_in };
 
     ghost invariant = { IsAtWork };
+}
+
+impl Parked {
+    /// How far a shrinking came; none of a run.
+    pub fn course(&self) -> Option<Course> {
+        match &self.work {
+            Work::Trial(_) => None,
+            Work::Shrinking(shrinking) => Some(shrinking.course),
+        }
+    }
 }
 
 /// What a job begins with.

@@ -11,6 +11,7 @@ ghost use Rattle.pf_sched.specs.Parts.{IsHuntOf, IsShrinkingOf, KeepsReport, eve
 ghost use Rattle.pf_sched.specs.Slices.{Follows, GoesOn, IsOver, OpensNext, RunAdvances, TellsFound, runs_left};
 ghost use Rattle.pf_sched.specs.Views.{result_of};
 
+use crate::course::Course;
 use crate::job::Job;
 use crate::result::JobResult;
 use crate::run::Run;
@@ -22,13 +23,14 @@ use pf_terms::NoMemory;
 use std::alloc::Global;
 
 /// A shrinking as far as it came: its hunt, the run of the hunt's next schedule, the report of the schedule that the hunt stands at, which is
-/// none before the first run that failed, and the number of events of all runs before this one.
+/// none before the first run that failed, the number of events of all runs before this one, and what is told of it to who watches.
 #[derive(Drop)]
 pub(crate) struct Shrinking {
     pub hunt: Hunt,
     pub run: Run,
     pub report: Option<Report>,
     pub before: u64,
+    pub course: Course,
 }
 
 /// What a shrinking goes on to.
@@ -94,6 +96,7 @@ fn begin(
     hunt: Hunt,
     report: Option<Report>,
     before: u64,
+    course: Course,
 ) -> Result<Progress, NoMemory>
     requires hunt { IsHuntOf (job_meant job.now) hunt before }
     requires report { KeepsReport (job_meant job.now) (stands_at hunt) report }
@@ -105,6 +108,7 @@ fn begin(
             hunt,
             report,
             before,
+            course,
         })),
         None => Ok(Progress::Over(found(alloc, &hunt, report)?)),
     }
@@ -125,6 +129,7 @@ impl Shrinking {
             run: Run::new(alloc, job, choices)?,
             report: None,
             before: 0,
+            course: Course::new(schedule.len()),
         })
     }
 
@@ -158,11 +163,13 @@ impl Shrinking {
             run,
             report,
             before,
+            course,
         } = self;
         let behind = before + run.events.len() as u64;
         let ended = run.report(alloc, job)?;
+        let further = course.further(&hunt, &ended);
         let kept = tell(&mut hunt, report, ended);
-        begin(alloc, job, hunt, kept, behind)
+        begin(alloc, job, hunt, kept, behind, further)
     }
 
     /// Goes on by so many events, over as many runs as they take. It goes on where the shrinking has more; else it is over, with what the job

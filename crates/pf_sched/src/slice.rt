@@ -5,6 +5,7 @@ ghost use Rattle.pf_sched.specs.Parts.{IsRunOf, IsShrinkingOf, events_so_far};
 ghost use Rattle.pf_sched.specs.Slices.{EndsBy, IsOver, Sliced};
 ghost use Rattle.pf_sched.specs.Views.{parked_view, without_memory};
 
+use crate::course::Watch;
 use crate::finished::Finished;
 use crate::job::Job;
 use crate::parked::{Parked, Work, start};
@@ -100,12 +101,25 @@ pub fn run_slice(alloc: Global, parked: Parked, scratch: &mut Scratch, turns: u3
     }
 }
 
-/// The whole of a job, slice by slice. Where its start is refused a growth, there is no run.
-pub fn whole(alloc: Global, job: Arc<Job>, scratch: &mut Scratch) -> Result<Finished, NoMemory>
+/// Tells who watches how far a job came that is a shrinking.
+fn tell(watch: &mut impl Watch, parked: &Parked) {
+    if let Some(course) = parked.course() {
+        watch.tell(course);
+    }
+}
+
+/// The whole of a job, slice by slice. Where its start is refused a growth, there is no run. Who watches is told how far a shrinking came.
+pub fn whole(
+    alloc: Global,
+    job: Arc<Job>,
+    scratch: &mut Scratch,
+    watch: &mut impl Watch,
+) -> Result<Finished, NoMemory>
     ensures { IfOk result (λ f. f.job ≡ job.value) }
 {
     let mut parked = start(alloc, job)?;
     loop {
+        tell(watch, &parked);
         match run_slice(alloc, parked, scratch, TURNS) {
             Slice::More(more) => parked = more,
             Slice::Done(finished) => return Ok(finished),
