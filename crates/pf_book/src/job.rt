@@ -11,7 +11,7 @@ use crate::numbers::numbered;
 use crate::refusal::Refusal;
 use crate::reply::FiledResult;
 use pf_fault::OrNoMemory;
-use pf_sched::{Job, JobKind, Scratch, whole, Nobody};
+use pf_sched::{Job, JobKind, Nobody, Scratch, whole};
 use pf_store::Stored;
 use pf_terms::NoMemory;
 use std::alloc::Global;
