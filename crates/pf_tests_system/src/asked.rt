@@ -1,8 +1,10 @@
 //! Runs that are asked of the scheduler, as they print.
 
-use pf_sched::{Finished, Job, JobChoices, Scratch, Slice, run_slice, start, whole};
+use pf_sched::{
+    Finished, Job, JobChoices, JobKind, JobResult, Nobody, Scratch, Slice, run_slice, start, whole,
+};
 use pf_store::{Source, Store, Stored};
-use pf_trace::put_report;
+use pf_trace::{Report, put_found, put_report};
 use std::alloc::Global;
 use std::hash::RandomState;
 use std::sync::Arc;
@@ -35,18 +37,48 @@ pub(crate) fn job_of(
     choices: JobChoices,
     limit: u32,
 ) -> Result<Arc<Job>, Fail> {
-    let job = Job::new(alloc, stored.share()?, b"main", property, choices, limit)?;
+    job_of_kind(alloc, stored, property, JobKind::Trial(choices), limit)
+}
+
+/// The job of runs of `main`.
+pub(crate) fn job_of_kind(
+    alloc: Global,
+    stored: &Stored,
+    property: &[u8],
+    kind: JobKind,
+    limit: u32,
+) -> Result<Arc<Job>, Fail> {
+    let job = Job::new(alloc, stored.share()?, b"main", property, kind, limit)?;
     Ok(Arc::new(alloc, job)?)
 }
 
-/// The text of the report of a run that is over.
+/// The report of a run that is over.
+pub(crate) fn report_of(finished: &Finished) -> Result<&Report, Fail> {
+    match finished.result() {
+        JobResult::Report(report) => Ok(report),
+        _ => Err(Fail::from("a run comes to a report")),
+    }
+}
+
+/// The text of what came of a job.
 pub(crate) fn text_of(alloc: Global, finished: &Finished) -> Result<String, Fail> {
     if !finished.is_whole() {
         return Err(Fail::from("memory ran out"));
     }
     let mut text = Vec::new(alloc);
-    let module = finished.job().module();
-    put_report(alloc, &mut text, module.atoms(), finished.report())?;
+    let atoms = finished.job().module().atoms();
+    match finished.result() {
+        JobResult::Report(report) => put_report(alloc, &mut text, atoms, report)?,
+        JobResult::Shrunk {
+            schedule,
+            complete,
+            report,
+        } => {
+            put_found(alloc, &mut text, schedule, *complete)?;
+            put_report(alloc, &mut text, atoms, report)?;
+        }
+        JobResult::NothingFails => text.extend_from_slice(b"nothing fails\n")?,
+    }
     match String::from_utf8(text) {
         Ok(text) => Ok(text),
         Err(_) => Err(Fail::from("the text of a report is no UTF-8")),
@@ -56,7 +88,12 @@ pub(crate) fn text_of(alloc: Global, finished: &Finished) -> Result<String, Fail
 /// The end of a run that is made whole.
 pub(crate) fn run_whole(alloc: Global, job: &Arc<Job>) -> Result<Finished, Fail> {
     let mut scratch = Scratch::new(alloc);
-    Ok(whole(alloc, Arc::try_clone(job)?, &mut scratch)?)
+    Ok(whole(
+        alloc,
+        Arc::try_clone(job)?,
+        &mut scratch,
+        &mut Nobody,
+    )?)
 }
 
 /// The end of a run by slices of so many turns, which share their spare nodes.

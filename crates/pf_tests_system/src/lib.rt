@@ -10,6 +10,8 @@ mod refusals;
 #[cfg(test)]
 mod runs;
 #[cfg(test)]
+mod shrinkings;
+#[cfg(test)]
 mod slices;
 #[cfg(test)]
 mod turns;

@@ -3,7 +3,7 @@
 use crate::asked::{scheduled, stored};
 use pf_fault::OrNoMemory;
 use pf_model::limits::MOST_CHOICES;
-use pf_sched::{Job, JobChoices, JobRefusal};
+use pf_sched::{Job, JobChoices, JobKind, JobRefusal};
 use pf_store::Stored;
 use std::alloc::Global;
 use std::hash::RandomState;
@@ -32,7 +32,8 @@ fn refused_with(
     limit: u32,
 ) -> Result<Option<JobRefusal>, Fail> {
     let (root, property) = (root.as_bytes(), property.as_bytes());
-    match Job::new(alloc, stored.share()?, root, property, choices, limit) {
+    let kind = JobKind::Trial(choices);
+    match Job::new(alloc, stored.share()?, root, property, kind, limit) {
         Ok(_) => Ok(None),
         Err(OrNoMemory::Fault(refusal)) => Ok(Some(refusal)),
         Err(OrNoMemory::NoMemory) => Err(Fail::from("memory ran out")),

@@ -1,6 +1,6 @@
 //! Runs slice by slice.
 
-use crate::asked::{job_of, run_sliced, run_whole, scheduled, stored, text_of};
+use crate::asked::{job_of, report_of, run_sliced, run_whole, scheduled, stored, text_of};
 use pf_sched::{JobChoices, Scratch, Slice, run_slice, start};
 use std::alloc::Global;
 use std::hash::RandomState;
@@ -28,7 +28,7 @@ fn slices_agree(
         }
     }
     let mut numbers = Vec::new(alloc);
-    for event in &whole.report().events {
+    for event in &report_of(&whole)?.events {
         numbers.push(event.choice)?;
     }
     Ok((text, numbers))
@@ -73,7 +73,8 @@ fn a_run_is_over_behind_its_last_event(rt: HostRuntime) -> Result<(), Fail> {
     let Slice::Done(finished) = run_slice(alloc, parked, &mut scratch, 1) else {
         return Err(Fail::from("the run goes on behind 15 events"));
     };
-    assert_eq!(rt; finished.report().events.len(), 15);
-    assert_eq!(rt; finished.report().verdict, Some(true));
+    let report = report_of(&finished)?;
+    assert_eq!(rt; report.events.len(), 15);
+    assert_eq!(rt; report.verdict, Some(true));
     Ok(())
 }
