@@ -3,7 +3,7 @@ use Rattle.std.proofs.Common.{◌≡◌, ◌⊎◌, inl, inr, ℕ, zero, suc, �
 use Rattle.std.proofs.lemmas.List.{append-nil, length-append}
 use Rattle.std.proofs.lemmas.Nat.{mul-le}
 use Rattle.pf_model.specs.Meaning.{Job, Report, Means, schedule}
-use Rattle.pf_model.specs.Shrinking.{by_schedule, candidates, Found, found, is_failure, search, shrunk, TellsFailures, Result, IsResult, smaller, no_failure}
+use Rattle.pf_model.specs.Shrinking.{by_schedule, candidates, Found, is_failure, search, shrunk, Result, IsResult, smaller, no_failure}
 use Rattle.pf_model.proofs.Meanings.{one_meaning}
 use Rattle.pf_shrink.specs.Hunts.{Hunting, begins, searches, ended, searching, next_of, told_of, found_of, comes_to}
 use Rattle.pf_shrink.specs.Tried.{tried, tried_from}
@@ -139,7 +139,7 @@ module _ (j : Job) where
     hunt_has e =
         let none : tried_from hunt.fails h ≡ [] = (tries_in_order hunt.fails h).none.0 e in
         let order : hunt.behind ≡ tried hunt.fails (suc hunt.further) hunt.given =
-            sym (append-nil hunt.behind) ∙ ap (λ nss. hunt.behind ++ nss) (sym none) ∙ sym hunt.order in
+        sym (append-nil hunt.behind) ∙ ap (λ nss. hunt.behind ++ nss) (sym none) ∙ sym hunt.order in
         of_shrinking hunt.further hunt.given hunt.fails before hunt.runs hunt.choices hunt.tells (subst (λ nss. RunsHave j nss before) order hunt.events)
 
     -- and what was found, with its report, is what the job comes to

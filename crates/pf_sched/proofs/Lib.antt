@@ -6,5 +6,4 @@ pub mod Reported
 pub mod Sliced
 pub mod Tries
 pub mod Hunted
-pub mod Endings
 pub mod Shrunk

@@ -8,9 +8,9 @@ use Rattle.pf_choice.specs.declared.choices.Choices.{Choices}
 use Rattle.pf_model.specs.Meaning.{Means, schedule, words_of}
 use Rattle.pf_model.specs.Meaning as meaning
 use Rattle.pf_model.specs.Reports.{event_of, report_of}
-use Rattle.pf_model.specs.Shrinking.{by_schedule, candidates, Found, found, is_failure, nothing_fails, shrunk_to}
+use Rattle.pf_model.specs.Shrinking.{by_schedule, candidates, is_failure}
 use Rattle.pf_model.specs.declared.report.Report.{Report}
-use Rattle.pf_shrink.specs.Hunts.{Hunting, begins, searches, ended, searching, next_of, told_of, found_of}
+use Rattle.pf_shrink.specs.Hunts.{Hunting, begins, searches, ended, searching, next_of, told_of}
 use Rattle.pf_desks.specs.Desk.{Job, job_meant}
 use Rattle.pf_sched.specs.declared.course.Course.{Course}
 use Rattle.pf_sched.specs.declared.run.Run.{Run}
@@ -18,7 +18,7 @@ use Rattle.pf_sched.specs.declared.shrinking.Progress.{Progress}
 use Rattle.pf_sched.specs.declared.shrinking.Progress.TheVariants as progress
 use Rattle.pf_sched.specs.declared.shrinking.Shrinking.{Shrinking}
 use Rattle.pf_sched.specs.Parts.{IsHuntOf, IsRunBy, IsShrinkingOf, KeepsReport, events_so_far, stands_at}
-use Rattle.pf_sched.specs.Slices.{Advances, EndsBy, Follows, GoesOn, GoesPast, IsOver, OpensNext, RunAdvances, TellsFound, runs_left}
+use Rattle.pf_sched.specs.Slices.{Advances, EndsBy, Follows, GoesOn, GoesPast, IsOver, OpensNext, RunAdvances, runs_left}
 use Rattle.pf_sched.specs.Views.{result_of}
 use Rattle.pf_sched.proofs.Sliced.{run_goes_past}
 use Rattle.pf_sched.proofs.Hunted.{hunt_begins, hunt_told, hunt_goes_past, stands_at_failed, stands_as_it_was}
@@ -66,7 +66,7 @@ module _ (j : Job) where
   pub with_run : (s t : Shrinking) (x : IsShrinkingOf j s) → t ≡ record s { run = t.run } → IsRunBy j (schedule x.next) t.run → IsShrinkingOf j t
   with_run s t x e run =
       let same : IsShrinkingOf j (record s { run = t.run }) =
-          record { hunt = x.hunt; report = x.report; next = x.next; is_next = x.is_next; run = run } in
+      record { hunt = x.hunt; report = x.report; next = x.next; is_next = x.is_next; run = run } in
       subst (IsShrinkingOf j) (sym e) same
 
   -- where its run isn't over it has more events
@@ -81,7 +81,7 @@ module _ (j : Job) where
       let begun : begins (runs - 1) ns ≡ h = ap (begins (runs - 1)) (sym same) ∙ sym is in
       let counted : j.runs ≡ suc (runs - 1) = omega arith in
       let first : IsShrinkingOf j (record { hunt = begins (runs - 1) ns; run = r; report = None; before = zero; course = c }) =
-          record { hunt = hunt_begins (job_meant j) (runs - 1) ns counted shrinks; report = tt; next = ns; is_next = refl; run = run } in
+      record { hunt = hunt_begins (job_meant j) (runs - 1) ns counted shrinks; report = tt; next = ns; is_next = refl; run = run } in
       subst (λ z. IsShrinkingOf j (record { hunt = z; run = r; report = None; before = zero; course = c })) begun first
 
   -- behind a run the hunt was told the truth
@@ -112,7 +112,7 @@ module _ (j : Job) where
     goes_further over off went =
         let a = went j (schedule x.next) (sym same) x.run in
         let b : Advances (length s.run.events.items) (length t.run.events.items) turns false (IsOver limit t.run) =
-            subst (λ v. Advances (length s.run.events.items) (length t.run.events.items) turns v (IsOver limit t.run)) off a.1 in
+        subst (λ v. Advances (length s.run.events.items) (length t.run.events.items) turns v (IsOver limit t.run)) off a.1 in
         let y = with_run s t x rest a.0 in
         let e = before_same in
         let count = b.0 in
@@ -132,7 +132,7 @@ module _ (j : Job) where
     at_edge over on went =
         let a = went j (schedule x.next) (sym same) x.run in
         let b : Advances (length s.run.events.items) (length t.run.events.items) turns true (IsOver limit t.run) =
-            subst (λ v. Advances (length s.run.events.items) (length t.run.events.items) turns v (IsOver limit t.run)) on a.1 in
+        subst (λ v. Advances (length s.run.events.items) (length t.run.events.items) turns v (IsOver limit t.run)) on a.1 in
         record {
           shrinking = with_run s t x rest a.0;
           over = subst (λ n. IsOver n t.run) same b.2;

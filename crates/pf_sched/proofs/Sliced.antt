@@ -11,7 +11,7 @@ use Rattle.pf_model.specs.Shrinking as shrinking
 use Rattle.pf_model.specs.declared.report.Report.{Report}
 use Rattle.pf_system.specs.View.{SystemView}
 use Rattle.pf_desks.specs.Desk.{Job, job_meant}
-use Rattle.pf_sched.specs.Events.{HasEvents, of_run, of_shrinking}
+use Rattle.pf_sched.specs.Events.{of_run, of_shrinking}
 use Rattle.pf_sched.specs.Parts.{IsRunBy, IsRunOf}
 use Rattle.pf_sched.specs.Slices.{Advances, EndsBy, GoesPast, IsOver, RunAdvances}
 use Rattle.pf_sched.specs.Views.{without_memory}
@@ -67,19 +67,19 @@ pub goes_on : (j : Job) (before turns limit : ℕ) (new : code.Run) → limit �
     → (length new.events.items ≡ before + turns) × GoesPast j (before + turns)
 goes_on j before turns limit new same plain over off went =
     let a : Advances before (length new.events.items) turns false (IsOver limit new) =
-        subst (λ b. Advances before (length new.events.items) turns b (IsOver limit new)) off went.1 in
+    subst (λ b. Advances before (length new.events.items) turns b (IsOver limit new)) off went.1 in
     let past = goes_past j new (plain, went.0) (subst (λ n. IsOver n new → ⊥) same a.1) in
     (a.0, subst (GoesPast j) a.0 past)
 
 -- the report of a run that is over is what the job comes to, where it is no shrinking
 pub run_ends : (j k : Job) → k ≡ j → (run : code.Run) → IsRunOf j run → IsOver j.limit run → (r : Report)
     → ((cs : meaning.Choices) → IsRunBy k cs run → IsOver k.limit run
-        → Means (record (job_meant k) { choices = cs }) (report_of r) × (length r.events.items ≡ length run.events.items))
+    → Means (record (job_meant k) { choices = cs }) (report_of r) × (length r.events.items ≡ length run.events.items))
     → EndsBy j (length run.events.items) (shrinking.report (report_of r))
 run_ends j k e run going over r told =
     let h =
-        subst (λ z. (cs : meaning.Choices) → IsRunBy z cs run → IsOver z.limit run
-            → Means (record (job_meant z) { choices = cs }) (report_of r) × (length r.events.items ≡ length run.events.items)) e told j.choices going.1 over in
+    subst (λ z. (cs : meaning.Choices) → IsRunBy z cs run → IsOver z.limit run
+    → Means (record (job_meant z) { choices = cs }) (report_of r) × (length r.events.items ≡ length run.events.items)) e told j.choices going.1 over in
     let same = h.1 in
     let events : length (report_of r).events ≡ length r.events.items = length-map r.events.items event_of in
     (shrinking.plain (report_of r) going.0 h.0, (length (report_of r).events, of_run (report_of r) going.0 h.0, omega arith))
@@ -90,7 +90,7 @@ pub is_over : (j : Job) (before turns limit : ℕ) (new : code.Run) → limit �
     → IsOver j.limit new × (length new.events.items ≤ before + turns)
 is_over j before turns limit new same over on went =
     let a : Advances before (length new.events.items) turns true (IsOver limit new) =
-        subst (λ b. Advances before (length new.events.items) turns b (IsOver limit new)) on went.1 in
+    subst (λ b. Advances before (length new.events.items) turns b (IsOver limit new)) on went.1 in
     (subst (λ n. IsOver n new) same a.2, a.1)
 
 -- what ends by so many events ends by more

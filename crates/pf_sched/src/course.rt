@@ -1,5 +1,7 @@
 //! How far a shrinking came, for whoever watches it.
 
+ghost use Rattle.std.specs.Prelude.{◌≡◌};
+
 use pf_model::report::Report;
 use pf_shrink::Hunt;
 

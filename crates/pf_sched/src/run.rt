@@ -2,7 +2,7 @@
 
 ghost use Rattle.std.specs.Prelude.{◌≡◌, ◌<◌, ◌-◌, IfOk, Some, length, MatchBool};
 ghost use Rattle.rand_pcg.specs.Pcg.{pcg32};
-ghost use Rattle.pf_choice.specs.Choices.{IsAt};
+ghost use Rattle.pf_choice.specs.Choices.{Chooses, IsAt};
 ghost use Rattle.pf_model.specs.Configuration.{Configuration};
 ghost use Rattle.pf_model.specs.Meaning as model;
 ghost use Rattle.pf_model.specs.Meaning.{Means, words_of};
@@ -47,6 +47,14 @@ fn pass(
     }
 }
 
+/// Which of so many the next word chooses, from 0 on. A word is drawn where there is but one, too.
+fn choose(choices: &mut Choices, among: usize) -> usize
+    requires { 0 < among }
+    ensures { Chooses pcg32 choices.old among result choices.new }
+{
+    choices.next(among)
+}
+
 /// The transition of the actor that the next word chooses, within the steps that are left; none where nobody may go.
 fn go(
     alloc: Global,
@@ -63,7 +71,7 @@ fn go(
     if among == 0 {
         return Ok(None);
     }
-    let index = choices.next(among);
+    let index = choose(choices, among);
     let actor = enabled.actor(index);
     let (label, _) = pass(alloc, system, actor, left)?;
     let Ok(choice) = u32::try_from(index) else {

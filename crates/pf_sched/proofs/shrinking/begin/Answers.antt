@@ -17,6 +17,7 @@ returns-in_ok-new-in-Some c =
 pub returns-in_ok-found-in-None : goal.returns-in_ok-found-in-None
 returns-in_ok-found-in-None c =
     let j = c.args.job.now in
-    let e : next_of c.args.hunt ≡ None = opens_none (next_of c.args.hunt) (rw c.in-None.is at c.in_ok-choices.ensures) in
-    (hunt_comes (job_meant j) c.args.hunt c.args.before c.requires.hunt e (result_of c.in_ok-found-in-None.field-0) (c.in_ok-found-in-None.ensures j c.requires.report),
-    (c.args.before, hunt_has (job_meant j) c.args.hunt c.args.before c.requires.hunt e, omega arith))
+    let e : next_of c.args.hunt ≡ None = opens_none (next_of c.args.hunt) (rw c.in-None.is at c.in_ok-choices.ensures) in (
+      hunt_comes (job_meant j) c.args.hunt c.args.before c.requires.hunt e (result_of c.in_ok-found-in-None.field-0) (c.in_ok-found-in-None.ensures j c.requires.report),
+      (c.args.before, hunt_has (job_meant j) c.args.hunt c.args.before c.requires.hunt e, omega arith),
+    )

@@ -1,11 +1,5 @@
-use Rattle.std.proofs.Common.{◌≡◌, inl, length, ap, ◌∙◌, subst, sym, arith}
-use Rattle.std.proofs.lemmas.List.{length-map}
-use Rattle.pf_model.specs.Reports.{event_of, report_of}
-use Rattle.pf_model.specs.Shrinking.{plain, report}
-use Rattle.pf_desks.specs.Desk.{job_meant}
-use Rattle.pf_sched.specs.Events.{of_run}
+use Rattle.std.proofs.Common.{inl, length, ap, subst, sym}
 use Rattle.pf_sched.specs.Slices.{EndsBy}
-use Rattle.pf_sched.specs.Parts.{IsRunBy}
 use Rattle.pf_sched.proofs.Sliced.{run_ends}
 use Rattle.pf_sched.proofs.slice.finish.Goals as goal
 

@@ -3,8 +3,8 @@ use Rattle.pf_sched.proofs.slice.whole.Given as goal
 
 -- it is the job
 abbrev pub invariant-loop-more : goal.invariant-loop-more
-invariant-loop-more l = l.parked.job ≡ l.fn.job.value
+invariant-loop-more g l = l.parked.job ≡ l.fn.job.value
 
 -- the limit of each of its runs bounds its events
 abbrev pub decreases-loop-more : goal.decreases-loop-more
-decreases-loop-more l = max 1 l.parked.job.runs * l.parked.job.limit - l.parked.at
+decreases-loop-more g l = max 1 l.parked.job.runs * l.parked.job.limit - l.parked.at

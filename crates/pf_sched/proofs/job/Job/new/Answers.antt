@@ -24,15 +24,17 @@ returns-then-not-is_within_bounds c =
 pub invariant_of-result : goal.invariant_of-result
 invariant_of-result c =
     let k = c.args.kind in
-    let within : may_be_asked (choices_in k) c.args.limit (runs_asked k) ≡ true = sym c.if-not-is_within_bounds.ensures in
-    (record {
-      name = c.args.root.now;
-      root = sym c.in-Some.ensures;
-      asked = runs_asked k;
-      runs = refl;
-      within = within;
-      shrinks = shrinks k;
-    }, shrinks_within (choices_in k) c.args.limit (runs_asked k) within)
+    let within : may_be_asked (choices_in k) c.args.limit (runs_asked k) ≡ true = sym c.if-not-is_within_bounds.ensures in (
+      record {
+        name = c.args.root.now;
+        root = sym c.in-Some.ensures;
+        asked = runs_asked k;
+        runs = refl;
+        within = within;
+        shrinks = shrinks k;
+      },
+      shrinks_within (choices_in k) c.args.limit (runs_asked k) within,
+    )
 
 pub returns : goal.returns
 returns c =

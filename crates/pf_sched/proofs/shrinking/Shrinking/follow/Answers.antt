@@ -4,16 +4,29 @@ use Rattle.pf_model.specs.Meaning.{schedule}
 use Rattle.pf_model.specs.Shrinking.{is_failure}
 use Rattle.pf_sched.specs.Parts.{events_so_far}
 use Rattle.pf_sched.specs.Slices.{runs_left}
+use Rattle.pf_sched.proofs.Asking.{within_bounds}
+use Rattle.pf_sched.proofs.Hunted.{few_behind}
+use Rattle.pf_sched.proofs.Sliced.{few_so_far}
 use Rattle.pf_sched.proofs.Shrunk.{fewer_runs, follows_so, hunt_goes_on, report_goes_on}
 use Rattle.pf_sched.proofs.shrinking.Shrinking.follow.Goals as goal
+
+pub overflow_add-behind : goal.overflow_add-behind
+overflow_add-behind c =
+    let j = c.args.job.now in
+    let s = c.args.self in
+    let x = c.requires.shrinking in
+    let bounds = within_bounds j c.requires.kept in
+    let behind = few_behind j c.requires.kept s.hunt s.before x.hunt in
+    let events = few_so_far j (schedule x.next) s.run x.run in
+    omega (arith, behind, events, bounds.0, c.len.ensures, s.run.events.ok.0)
 
 pub begin-requires-clause-hunt : goal.begin-requires-clause-hunt
 begin-requires-clause-hunt c =
     let s = c.args.self in
     let x = c.requires.shrinking in
     let told = c.in_ok-ended.ensures (schedule x.next) x.run c.requires.over in
-    let count : c.in-Some.behind ≡ s.before + length s.run.events.items = omega (arith, c.in-Some.ensures.1, c.len.ensures, s.run.events.ok.0) in
-    hunt_goes_on c.args.job.now s x c.in_ok-ended.ended told.0 told.1 c.tell-kept.new.hunt c.tell-kept.ensures.told c.in-Some.behind count
+    let count : s.before + c.len.result ≡ s.before + length s.run.events.items = omega (arith, c.len.ensures, s.run.events.ok.0) in
+    hunt_goes_on c.args.job.now s x c.in_ok-ended.ended told.0 told.1 c.tell-kept.new.hunt c.tell-kept.ensures.told (s.before + c.len.result) count
 
 pub begin-requires-clause-report : goal.begin-requires-clause-report
 begin-requires-clause-report c =
@@ -26,7 +39,7 @@ pub returns : goal.returns
 returns c =
     let s = c.args.self in
     let x = c.requires.shrinking in
-    let count : c.in-Some.behind ≡ s.before + length s.run.events.items = omega (arith, c.in-Some.ensures.1, c.len.ensures, s.run.events.ok.0) in
+    let count : s.before + c.len.result ≡ s.before + length s.run.events.items = omega (arith, c.len.ensures, s.run.events.ok.0) in
     let fewer = fewer_runs s.hunt x.next x.is_next (is_failure c.in_ok-ended.ended.verdict) in
     let left : runs_left c.tell-kept.new.hunt ≤ runs_left s.hunt - 1 = subst (λ h. runs_left h ≤ runs_left s.hunt - 1) (sym c.tell-kept.ensures.told) fewer in
-    IfOk-weaker _ _ _ (follows_so c.args.job.now c.in-Some.behind (events_so_far s) (runs_left c.tell-kept.new.hunt) (runs_left s.hunt - 1) count left) c.begin.ensures
+    IfOk-weaker _ _ _ (follows_so c.args.job.now (s.before + c.len.result) (events_so_far s) (runs_left c.tell-kept.new.hunt) (runs_left s.hunt - 1) count left) c.begin.ensures

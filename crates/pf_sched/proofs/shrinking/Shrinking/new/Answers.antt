@@ -10,5 +10,5 @@ pub returns-clause-shrinking : goal.returns-clause-shrinking
 returns-clause-shrinking c =
     let ns = c.args.schedule.now in
     let first = subst (λ xs. IsAt pcg32 (schedule_word xs) 0 c.schedule-choices.result) c.in_ok-copy.ensures c.schedule-choices.ensures in
-    shrinking_begins c.args.job.now c.new.result c.in_ok-new.field-0 c.new-2.result c.args.runs ns c.in_ok-copy-2.field-0.items c.requires.runs c.requires.job_runs c.requires.job_choices
+    shrinking_begins c.args.job.now c.new.result c.in_ok-new.field-0 _ c.args.runs ns c.in_ok-copy-2.field-0.items c.requires.runs c.requires.job_runs c.requires.job_choices
     c.in_ok-copy-2.ensures c.new.ensures.begins (c.in_ok-new.ensures.run (schedule ns) first)
