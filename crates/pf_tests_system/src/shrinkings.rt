@@ -57,6 +57,7 @@ fn a_race_is_shrunk_within_nineteen_runs_and_known_to_be_least_by_twenty(
 }
 
 /// Keeps what it is told last.
+#[derive(Drop)]
 struct Seen {
     course: Option<Course>,
 }
