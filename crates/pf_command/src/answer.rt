@@ -11,7 +11,7 @@ ghost use Rattle.pf_command.specs.Answers.{Answers, IsModuleOf, Refuses, Tells, 
 use crate::asked::Asked;
 use pf_fault::{Code, NoMemory, OrNoMemory, Refusal};
 use pf_model::report::Report;
-use pf_sched::{Job, JobResult, Scratch, whole};
+use pf_sched::{Job, JobResult, Scratch, Watch, whole};
 use pf_store::{Source, Stored};
 use pf_terms::AtomTable;
 use pf_text::{put, put_byte};
@@ -117,23 +117,28 @@ fn tell_result(alloc: Global, atoms: &AtomTable, told: &JobResult) -> Result<Ans
 }
 
 /// The answer of a job, which is run whole.
-fn answer_job(alloc: Global, job: Job) -> Result<Answer, NoMemory>
+fn answer_job(alloc: Global, job: Job, watch: &mut impl Watch) -> Result<Answer, NoMemory>
     ensures { IfOk result (TellsEnd job) }
 {
-    let finished = whole(alloc, Arc::new(alloc, job)?, &mut Scratch::new(alloc))?;
+    let finished = whole(alloc, Arc::new(alloc, job)?, &mut Scratch::new(alloc), watch)?;
     let atoms = finished.job().module().atoms();
     tell_result(alloc, atoms, finished.result())
 }
 
 /// The answer to a module.
-fn answer_module(alloc: Global, asked: Asked, stored: Stored) -> Result<Answer, NoMemory>
+fn answer_module(
+    alloc: Global,
+    asked: Asked,
+    stored: Stored,
+    watch: &mut impl Watch,
+) -> Result<Answer, NoMemory>
     ensures { IfOk result (λ a. (bytes : List ℕ) → IsModuleOf bytes stored
         → Answers (job_request asked.entry) bytes a.text.items a.status) }
 {
     let root = asked.root.as_bytes();
     let property = asked.property.as_bytes();
     match Job::new(alloc, stored, root, property, asked.kind, asked.limit) {
-        Ok(job) => answer_job(alloc, job),
+        Ok(job) => answer_job(alloc, job, watch),
         Err(OrNoMemory::Fault(refusal)) => refused_by_code(alloc, refusal.code()),
         Err(OrNoMemory::NoMemory) => Err(NoMemory),
     }
@@ -148,12 +153,17 @@ fn read_source(alloc: Global, bytes: Vec<u8>) -> Result<Stored, OrNoMemory<Refus
     Stored::read(alloc, &source)
 }
 
-/// The answer to a source of these bytes.
-pub fn answer_source(alloc: Global, asked: Asked, bytes: Vec<u8>) -> Result<Answer, NoMemory>
+/// The answer to a source of these bytes. Who watches is told how far a shrinking came.
+pub fn answer_source(
+    alloc: Global,
+    asked: Asked,
+    bytes: Vec<u8>,
+    watch: &mut impl Watch,
+) -> Result<Answer, NoMemory>
     ensures { IfOk result (λ a. Answers (job_request asked.entry) bytes.items a.text.items a.status) }
 {
     match read_source(alloc, bytes) {
-        Ok(stored) => answer_module(alloc, asked, stored),
+        Ok(stored) => answer_module(alloc, asked, stored, watch),
         Err(OrNoMemory::Fault(refusal)) => refused_at(alloc, refusal),
         Err(OrNoMemory::NoMemory) => Err(NoMemory),
     }

@@ -11,6 +11,7 @@ use crate::asked::Asked;
 use crate::check::answer_check;
 use crate::words::{CheckWords, RunWords, ShrinkWords};
 use pf_fault::OrNoMemory;
+use pf_sched::{Nobody, Watch};
 use pf_terms::{Counted, StreamFault};
 use pf_tokens::MOST_SOURCE_BYTES;
 use std::alloc::Global;
@@ -26,6 +27,7 @@ fn answer_asked<R: Read, W: Write, L: Ledger, M: Ledger>(
     reader: &mut Counted<R, L>,
     asked: Asked,
     writer: &mut Counted<W, M>,
+    watch: &mut impl Watch,
 ) -> Result<u8, OrNoMemory<StreamFault>>
     ensures answered { IfOk result (λ status. Answered (Answers (job_request asked.entry))
         (R.remaining reader.old.inner) (W.contents writer.old.inner) (W.contents writer.new.inner) status) }
@@ -38,7 +40,7 @@ fn answer_asked<R: Read, W: Write, L: Ledger, M: Ledger>(
         reader.old.failures.total reader.new.failures.total writer.old.failures.total writer.new.failures.total) }
 {
     let source = reader.take_front(alloc, MOST_BYTES)?;
-    let answer = answer_source(alloc, asked, source)?;
+    let answer = answer_source(alloc, asked, source, watch)?;
     writer.put(&answer.text)?;
     Ok(answer.status)
 }
@@ -61,15 +63,17 @@ pub fn run_source<R: Read, W: Write, L: Ledger, M: Ledger>(
         reader.old.failures.total reader.new.failures.total writer.old.failures.total writer.new.failures.total) }
 {
     let asked = words.asked()?;
-    answer_asked(alloc, reader, asked, writer)
+    answer_asked(alloc, reader, asked, writer, &mut Nobody)
 }
 
 /// Answers a source of which a shrinking is asked for: reads at most one byte more than a source may have, writes a text and gives the status.
+/// Who watches is told how far it came, which makes no difference to the answer.
 pub fn shrink_source<R: Read, W: Write, L: Ledger, M: Ledger>(
     alloc: Global,
     reader: &mut Counted<R, L>,
     words: &ShrinkWords,
     writer: &mut Counted<W, M>,
+    watch: &mut impl Watch,
 ) -> Result<u8, OrNoMemory<StreamFault>>
     ensures answered { IfOk result (λ status. Answered (Answers (of_shrinking (shrink_request words.now)))
         (R.remaining reader.old.inner) (W.contents writer.old.inner) (W.contents writer.new.inner) status) }
@@ -82,7 +86,7 @@ pub fn shrink_source<R: Read, W: Write, L: Ledger, M: Ledger>(
         reader.old.failures.total reader.new.failures.total writer.old.failures.total writer.new.failures.total) }
 {
     let asked = words.asked()?;
-    answer_asked(alloc, reader, asked, writer)
+    answer_asked(alloc, reader, asked, writer, watch)
 }
 
 /// Checks a source: reads at most one byte more than a source may have, writes `ok` or its refusal, and gives the status.
