@@ -16,6 +16,8 @@ mod runs;
 #[cfg(test)]
 mod sharing;
 #[cfg(test)]
+mod shrinkings;
+#[cfg(test)]
 mod texts;
 #[cfg(test)]
 mod words;

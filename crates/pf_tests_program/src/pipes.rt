@@ -1,10 +1,10 @@
-//! The work of `run` and of `steps` between a reader and a writer in memory that may fail.
+//! The work of `run`, of `shrink` and of `steps` between a reader and a writer in memory that may fail.
 
 ghost use Rattle.std.specs.Prelude.{◌≡◌, ◌<◌};
 
-use pf_command::{RunWords, run_source};
+use pf_command::{RunWords, ShrinkWords, run_source, shrink_source};
 use pf_fault::OrNoMemory;
-use pf_sched::JobChoices;
+use pf_sched::{JobChoices, Watch};
 use pf_terms::{Counted, FailAt, StreamFault};
 use pf_wire::run_steps;
 use std::alloc::Global;
@@ -103,6 +103,42 @@ pub fn run(alloc: Global, input: &[u8], failing: Failing) -> Worked {
         property: "returns",
     };
     run_by::<Brand, Brand>(alloc, &words, input, failing, Blank::new(1), Blank::new(1))
+}
+
+fn shrink_by<L: Ledger, M: Ledger>(
+    alloc: Global,
+    words: &ShrinkWords,
+    input: &[u8],
+    watch: &mut impl Watch,
+    reads: Blank,
+    writes: Blank,
+) -> Worked
+    requires reads { reads.name ≡ L.name }
+    requires read_parts { reads.parts ≡ L.parts }
+    requires some_reads { 0 < reads.parts }
+    requires writes { writes.name ≡ M.name }
+    requires write_parts { writes.parts ≡ M.parts }
+    requires some_writes { 0 < writes.parts }
+{
+    let narrow = Narrow {
+        taken: Vec::new(alloc),
+    };
+    let mut reader = Counted::<&[u8], L>::new(input, reads);
+    let mut writer = Counted::<Narrow, M>::new(narrow, writes);
+    let ended = end_of(shrink_source(alloc, &mut reader, words, &mut writer, watch));
+    let Counted { inner: narrow, .. } = writer;
+    let Narrow { taken: out } = narrow;
+    Worked { out, ended }
+}
+
+/// Shrinks a schedule of a source in memory.
+pub fn shrink(
+    alloc: Global,
+    words: &ShrinkWords,
+    input: &[u8],
+    watch: &mut impl Watch,
+) -> Worked {
+    shrink_by::<Brand, Brand>(alloc, words, input, watch, Blank::new(1), Blank::new(1))
 }
 
 fn carry_out_by<L: Ledger, M: Ledger>(

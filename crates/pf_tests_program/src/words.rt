@@ -128,7 +128,7 @@ fn values_of_words(rt: HostRuntime) {
                     assert_eq!(rt; run.property, "returns");
                     assert!(rt; is_schedule(&run.choices, numbers), "{schedule}");
                 }
-                Words::Check(_) | Words::Steps(_) => assert!(rt; false, "{schedule}"),
+                _ => assert!(rt; false, "{schedule}"),
             },
             Err(_) => assert!(rt; false, "{schedule}"),
         }
@@ -169,7 +169,7 @@ fn seeds_and_properties(rt: HostRuntime) {
                     assert_eq!(rt; run.property, "never:{a, _}");
                     assert!(rt; is_seed(&run.choices, seed), "{word}");
                 }
-                Words::Check(_) | Words::Steps(_) => assert!(rt; false, "{word}"),
+                _ => assert!(rt; false, "{word}"),
             },
             Err(_) => assert!(rt; false, "{word}"),
         }

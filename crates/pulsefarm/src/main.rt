@@ -4,10 +4,12 @@
 ghost use Rattle.std.specs.Prelude.{◌≡◌, ◌<◌};
 
 mod given;
+mod progress;
 mod shown;
 mod stack;
 
 use crate::given::{Word, given_words, is_text};
+use crate::progress::{Behind, Line, Progress};
 use crate::shown::{Shown, without_tip};
 use crate::stack::{STACK_BYTES, first_thread_has_stack};
 use clap::error::ErrorKind;
@@ -19,7 +21,7 @@ use std::alloc::{AllocError, AllocGlobal};
 use std::env::Env;
 use std::fs::{self, Files};
 use std::hash::RandomState;
-use std::io::{self, Read, Write};
+use std::io::{self, Read, Stderr, Write};
 use std::marker::Brand;
 use std::process::ExitCode;
 use std::random::RandomSource;
@@ -51,12 +53,13 @@ fn answer_steps<R: Read, W: Write, L: Ledger, M: Ledger>(
     }
 }
 
-/// Does what is asked for between a reader and a writer.
+/// Does what is asked for between a reader and a writer; the line tells how far a shrinking came.
 fn answer_by<R: Read + Drop, W: Write + Drop, L: Ledger, M: Ledger>(
     rt: &(impl AllocGlobal + RandomSource),
     asked: &Words,
     reader: R,
     writer: W,
+    line: &Line,
     reads: Blank,
     writes: Blank,
 ) -> Answered
@@ -72,19 +75,32 @@ fn answer_by<R: Read + Drop, W: Write + Drop, L: Ledger, M: Ledger>(
     let mut writer = Counted::<W, M>::new(writer, writes);
     match asked {
         Words::Run(words) => run_source(alloc, &mut reader, words, &mut writer),
-        Words::Shrink(words) => shrink_source(alloc, &mut reader, words, &mut writer),
+        Words::Shrink(words) => {
+            let most = words.runs;
+            let mut progress = Progress { line, most };
+            shrink_source(alloc, &mut reader, words, &mut writer, &mut progress)
+        }
         Words::Check(words) => check_source(alloc, &mut reader, words, &mut writer),
         Words::Steps(_) => answer_steps(rt, &mut reader, &mut writer),
     }
 }
 
+/// The same, with the line empty before anything is written, and at the end.
 fn answer<R: Read + Drop, W: Write + Drop>(
     rt: &(impl AllocGlobal + RandomSource),
     asked: &Words,
     reader: R,
     writer: W,
+    line: &Line,
 ) -> Answered {
-    answer_by::<R, W, Brand, Brand>(rt, asked, reader, writer, Blank::new(1), Blank::new(1))
+    let inner = writer;
+    let behind = Behind { line, inner };
+    let (reads, writes) = (Blank::new(1), Blank::new(1));
+    let answered = answer_by::<R, Behind<'_, W>, Brand, Brand>(
+        rt, asked, reader, behind, line, reads, writes,
+    );
+    line.clear();
+    answered
 }
 
 /// Says that memory ran out.
@@ -175,13 +191,14 @@ fn obey<R: Files + Print + Eprint + AllocGlobal + RandomSource, I: Read + Drop>(
     given: &[Word],
     asked: &Words,
     stdin: I,
+    line: &Line,
 ) -> u8 {
     let Some(name) = asked.file() else {
-        let answered = answer(rt, asked, stdin, io::writer(rt));
+        let answered = answer(rt, asked, stdin, io::writer(rt), line);
         return end(rt, asked, None, answered);
     };
     let answered = match open(rt, given, name) {
-        Ok(file) => answer(rt, asked, file, io::writer(rt)),
+        Ok(file) => answer(rt, asked, file, io::writer(rt), line),
         Err(error) => Err(OrNoMemory::Fault(StreamFault::Read(error))),
     };
     end(rt, asked, Some(name), answered)
@@ -191,6 +208,7 @@ fn obey<R: Files + Print + Eprint + AllocGlobal + RandomSource, I: Read + Drop>(
 fn try_work<R: Env + Files + Print + Eprint + AllocGlobal + RandomSource, I: Read + Drop>(
     rt: &R,
     stdin: I,
+    stderr: Stderr,
 ) -> Result<u8, AllocError> {
     let alloc = rt.alloc();
     let given = given_words(rt)?;
@@ -200,7 +218,7 @@ fn try_work<R: Env + Files + Print + Eprint + AllocGlobal + RandomSource, I: Rea
         words.push(word.text.as_str())?;
     }
     Ok(match read_words(alloc, &words) {
-        Ok(asked) => obey(rt, &given, &asked, stdin),
+        Ok(asked) => obey(rt, &given, &asked, stdin, &Line::new(stderr)),
         Err(error) => no_command(rt, &error),
     })
 }
@@ -209,8 +227,9 @@ fn try_work<R: Env + Files + Print + Eprint + AllocGlobal + RandomSource, I: Rea
 fn work<R: Env + Files + Print + Eprint + AllocGlobal + RandomSource, I: Read + Drop>(
     rt: &R,
     stdin: I,
+    stderr: Stderr,
 ) -> u8 {
-    match try_work(rt, stdin) {
+    match try_work(rt, stdin, stderr) {
         Ok(status) => status,
         Err(AllocError) => no_memory(rt),
     }
@@ -218,11 +237,11 @@ fn work<R: Env + Files + Print + Eprint + AllocGlobal + RandomSource, I: Read + 
 
 fn main(rt: HostRuntime) -> ExitCode {
     if first_thread_has_stack(&rt) {
-        return ExitCode::from(work(&rt, rt.stdin()));
+        return ExitCode::from(work(&rt, rt.stdin(), rt.stderr()));
     }
     let worker = Builder::new()
         .stack_size(STACK_BYTES)
-        .spawn(&rt, move || work(&rt, rt.stdin()));
+        .spawn(&rt, move || work(&rt, rt.stdin(), rt.stderr()));
     match worker {
         Ok(worker) => ExitCode::from(worker.join(&rt)),
         Err(error) => {
