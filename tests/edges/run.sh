@@ -1,6 +1,6 @@
 #!/bin/sh
 # Runs the program at its edges: files and their names, words, streams that are closed, full or end, a client on a pipe
-# that waits for each reply, the deepest sources on 1 MiB of stack, a quarter of what the program takes, and long inputs.
+# that waits for each reply, a terminal, the deepest sources on 1 MiB of stack, a quarter of what the program takes, and long inputs.
 #
 # Usage: run.sh [BINARY]; the program is that of the crate `pulsefarm` where none is named.
 set -u
@@ -246,6 +246,29 @@ client_that_waits() {
   ended 'the last line, once the input has ended' 0 'p2 usage 0 0 0 0 1\n' ''
 }
 
+# How far a shrinking came is told on standard error where that is a terminal, and makes no difference to the output.
+# shellcheck disable=SC2086
+progress() {
+  : > in
+  printf -- '-module(m).\n-export([main/0]).\nmain() -> receive x -> ok end.\n' > m.erl
+  words="shrink m.erl --root main --limit 1000 --schedule $(repeated 0, 299)0 --property nodeadlock --runs 1000"
+  found='schedule none\ncomplete\n0/1 <0> wait\ndeadlock <0>\nsteps 2\nproperty fails\n'
+  told='\r0 of 1000 runs, 300 numbers\033[K\r256 of 1000 runs, 45 numbers\033[K\r\033[K'
+  run $words
+  ended 'shrinking without a terminal' 1 "$found" ''
+  script -qec "timeout 60 '$program' $words < in > out" /dev/null < in > err
+  status=$?
+  ended 'shrinking with errors on a terminal' 1 "$found" "$told"
+  : > err
+  script -qec "timeout 60 '$program' $words < in" /dev/null < in > out
+  status=$?
+  ended 'shrinking on a terminal' 1 "$told$(printf %s "$found" | sed 's/\\n/\\r\\n/g')" ''
+  for words in "run m.erl $asked" "shrink m.erl $asked --property never --runs 5"; do
+    script -qec "timeout 60 '$program' $words < in > out" /dev/null < in > err
+    check "$words tells nothing on a terminal" test ! -s err
+  done
+}
+
 # Writes the nesting of $1 cases into `in`, no more than a source may have.
 nest() {
   {
@@ -362,6 +385,7 @@ files_that_are_not_read
 words
 streams
 client_that_waits
+progress
 cc -O2 -shared -fPIC -o lessen.so "$edges/lessen.c" -ldl || exit 1
 deep_sources
 deepest_of_each_form
