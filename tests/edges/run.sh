@@ -158,7 +158,7 @@ words() {
     run $shrunk --runs 5
     ended 'no schedule to shrink' 2 '' "error: the following required arguments were not provided:\n  --schedule <L>$shrink$more"
     run $shrunk --schedule none --runs 5 --seed 7
-    ended 'a seed to shrink' 2 '' "error: unexpected argument '--seed' found$shrink$more"
+    ended 'a seed to shrink' 2 '' "error: unexpected argument '--seed' found\n\n  tip: a similar argument exists: '--schedule'$shrink$more"
   }
   run steps "$(printf -- '--\033[1m\377')"
   check 'odd bytes in a word' test "$status" = 2

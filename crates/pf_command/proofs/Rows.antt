@@ -1,5 +1,5 @@
 -- The rows of answers, for texts and statuses that are equal to theirs.
-use Rattle.std.proofs.Common.{◌≡◌, ◌++◌, ◌∙◌, ℕ, Bool, List, Ok, Err, ap, refl, inl, inr}
+use Rattle.std.proofs.Common.{◌≡◌, ◌++◌, ◌∙◌, ℕ, Bool, List, Ok, Err, ap, refl, subst, inl, inr}
 use Rattle.std.specs.Prelude.{codes}
 use Rattle.pf_fault.specs.Codes.{code_text, refusal_text}
 use Rattle.pf_fault.specs.declared.code.Code.{Code}
@@ -11,7 +11,7 @@ use Rattle.pf_check.specs.Reads.{Reads, refused, accepted_as}
 use Rattle.pf_desks.specs.Desk.{Stored, Job}
 use Rattle.pf_sched.specs.Asked.{job}
 use Rattle.pf_sched.specs.Parts.{Ends}
-use Rattle.pf_command.specs.Answers.{Answers, AsksOf, IsModuleOf, JobRequest, TellsEnd, told_text, told_status, source_refused, job_refused, told, out_of_memory}
+use Rattle.pf_command.specs.Answers.{Answers, AsksOf, IsModuleOf, JobRequest, Tells, TellsEnd, told_text, told_status, source_refused, job_refused, told, out_of_memory}
 use Rattle.pf_command.specs.Checks.{Checks, explained, is_module, is_refused}
 use Rattle.pf_command.specs.declared.answer.Answer.{Answer}
 
@@ -22,6 +22,12 @@ row_refused r bytes text status code place reads e s = rw (e, s) (source_refused
 pub row_job_refused : (r : JobRequest) (m : Stored) (bytes text : List ℕ) (status : ℕ) (code : Code) → IsModuleOf bytes m → AsksOf r m (Err code)
     → text ≡ line (code_text code) → status ≡ 2 → Answers r bytes text status
 row_job_refused r m bytes text status code is asks e s = rw (e, s) (job_refused m code is asks)
+
+-- what is told of a job is what it ended in
+pub tells_end : (j : Job) (atoms : List (List ℕ)) (x y : shrinking.Result) → Ends j y → x ≡ y → atoms ≡ j.stored.code.atoms → (a : Answer) → Tells atoms x a
+    → TellsEnd j a
+tells_end j atoms x y ends e f a told =
+    (y, ends, subst (λ names. Tells names y a) f (subst (λ z. Tells atoms z a) e told))
 
 -- the job that is asked for is of the module
 stored_of : (r : JobRequest) (m : Stored) (j : Job) → AsksOf r m (Ok j) → j.stored ≡ m

@@ -1,7 +1,7 @@
 //! The commands as the command line takes them, with the texts of their help.
 
 ghost use Rattle.std.specs.Prelude.{◌≡◌, IfOk, false, codes};
-ghost use Rattle.clap.specs.Words.{app_of, rule_of, new_app};
+ghost use Rattle.clap.specs.Words.{app_of, rule_of, new_app, with_subcommand};
 ghost use Rattle.clap.specs.declared.builder.command.Command.TheViews.{out-Command};
 ghost use Rattle.pf_command.specs.Words.{bounded_app, check_app, file_rule, flag_rule, option_rule, pulsefarm, required_rule, run_app, shrink_app, steps_app, top_shape};
 
@@ -181,13 +181,22 @@ fn top<'a>(alloc: Global) -> Command<'a>
         .disable_help_subcommand(true)
 }
 
+/// The program with the commands of runs alone.
+fn commands_of_runs<'a>(alloc: Global) -> Result<Command<'a>, AllocError>
+    ensures { IfOk result (λ c. app_of c ≡ with_subcommand (with_subcommand
+        (record (new_app (codes "pulsefarm")) { top = top_shape }) run_app.top) shrink_app.top) }
+{
+    let some = top(alloc)
+        .subcommand(run_command(alloc)?)?
+        .subcommand(shrink_command(alloc)?)?;
+    Ok(some)
+}
+
 /// The whole command line.
 pub(crate) fn command<'a>(alloc: Global) -> Result<Command<'a>, AllocError>
     ensures { IfOk result (λ c. app_of c ≡ pulsefarm) }
 {
-    let whole = top(alloc)
-        .subcommand(run_command(alloc)?)?
-        .subcommand(shrink_command(alloc)?)?
+    let whole = commands_of_runs(alloc)?
         .subcommand(check_command(alloc)?)?
         .subcommand(steps_command(alloc)?)?;
     Ok(whole)

@@ -7,7 +7,7 @@ use Rattle.pf_command.proofs.Rows.{row_told, row_job_refused}
 use Rattle.pf_command.proofs.answer.answer_module.Goals as goal
 
 pub returns-in-Ok : goal.returns-in-Ok
-returns-in-Ok c =
+returns-in-Ok g c =
     let r = job_request c.args.asked in
     let m = c.args.stored in
     let asks : AsksOf r m (Ok c.in-Ok.job) = rw c.as_bytes-root.ensures.value at (rw c.as_bytes-property.ensures.value at c.in-Ok.ensures) in
@@ -15,7 +15,7 @@ returns-in-Ok c =
     (λ a tells bytes is. row_told r m bytes c.in-Ok.job a is asks tells) c.answer_job.ensures
 
 pub returns-in-Err-Fault : goal.returns-in-Err-Fault
-returns-in-Err-Fault c =
+returns-in-Err-Fault g c =
     let r = job_request c.args.asked in
     let m = c.args.stored in
     let code = code_of c.in-Err-Fault.refusal in

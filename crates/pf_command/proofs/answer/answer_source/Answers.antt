@@ -5,7 +5,7 @@ use Rattle.pf_command.proofs.Rows.{row_refused}
 use Rattle.pf_command.proofs.answer.answer_source.Goals as goal
 
 pub returns-in-Err-Fault : goal.returns-in-Err-Fault
-returns-in-Err-Fault c =
+returns-in-Err-Fault g c =
     let refusal = c.in-Err-Fault.refusal in
     let r = job_request c.args.asked in
     let bytes = c.args.bytes.items in

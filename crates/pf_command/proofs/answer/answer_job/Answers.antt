@@ -1,0 +1,17 @@
+use Rattle.std.proofs.Common.{◌≡◌, subst}
+use Rattle.std.proofs.lemmas.Result.{IfOk-weaker}
+use Rattle.pf_sched.specs.Parts.{Ends}
+use Rattle.pf_sched.specs.Views.{result_of}
+use Rattle.pf_command.specs.Answers.{Tells, TellsEnd}
+use Rattle.pf_command.proofs.Rows.{tells_end}
+use Rattle.pf_command.proofs.answer.answer_job.Goals as goal
+
+pub returns : goal.returns
+returns g c =
+    let j = c.args.job in
+    let f = c.in_ok-finished.finished in
+    let job : f.job ≡ j = search in
+    let ends : Ends j f.result = subst (λ k. Ends k f.result) job c.result.ensures.ends in
+    let atoms : c.atoms-atoms.result.now ≡ j.stored.code.atoms = search in
+    IfOk-weaker c.tell_result.result (Tells c.atoms-atoms.result.now (result_of c.result.result.now)) (TellsEnd j)
+    (tells_end j c.atoms-atoms.result.now (result_of c.result.result.now) f.result ends c.result.ensures.result atoms) c.tell_result.ensures
