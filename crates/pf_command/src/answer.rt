@@ -120,7 +120,12 @@ fn tell_result(alloc: Global, atoms: &AtomTable, told: &JobResult) -> Result<Ans
 fn answer_job(alloc: Global, job: Job, watch: &mut impl Watch) -> Result<Answer, NoMemory>
     ensures { IfOk result (TellsEnd job) }
 {
-    let finished = whole(alloc, Arc::new(alloc, job)?, &mut Scratch::new(alloc), watch)?;
+    let finished = whole(
+        alloc,
+        Arc::new(alloc, job)?,
+        &mut Scratch::new(alloc),
+        watch,
+    )?;
     let atoms = finished.job().module().atoms();
     tell_result(alloc, atoms, finished.result())
 }

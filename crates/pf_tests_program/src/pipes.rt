@@ -132,12 +132,7 @@ fn shrink_by<L: Ledger, M: Ledger>(
 }
 
 /// Shrinks a schedule of a source in memory.
-pub fn shrink(
-    alloc: Global,
-    words: &ShrinkWords,
-    input: &[u8],
-    watch: &mut impl Watch,
-) -> Worked {
+pub fn shrink(alloc: Global, words: &ShrinkWords, input: &[u8], watch: &mut impl Watch) -> Worked {
     shrink_by::<Brand, Brand>(alloc, words, input, watch, Blank::new(1), Blank::new(1))
 }
 
