@@ -26,8 +26,8 @@ row_job_refused r m bytes text status code is asks e s = rw (e, s) (job_refused 
 -- what is told of a job is what it ended in
 pub tells_end : (j : Job) (atoms : List (List ℕ)) (x y : shrinking.Result) → Ends j y → x ≡ y → atoms ≡ j.stored.code.atoms → (a : Answer) → Tells atoms x a
     → TellsEnd j a
-tells_end j atoms x y ends e f a told =
-    (y, ends, subst (λ names. Tells names y a) f (subst (λ z. Tells atoms z a) e told))
+tells_end j atoms x y ends e f a tells =
+    (y, ends, subst (λ names. Tells names y a) f (subst (λ z. Tells atoms z a) e tells))
 
 -- the job that is asked for is of the module
 stored_of : (r : JobRequest) (m : Stored) (j : Job) → AsksOf r m (Ok j) → j.stored ≡ m
@@ -41,7 +41,7 @@ ended r m bytes j x is asks (inr e) = rw e (out_of_memory m j is asks)
 -- where a job is asked for, what it ends in answers
 pub row_told : (r : JobRequest) (m : Stored) (bytes : List ℕ) (j : Job) (a : Answer) → IsModuleOf bytes m → AsksOf r m (Ok j) → TellsEnd j a
     → Answers r bytes a.text.items a.status
-row_told r m bytes j a is asks (x, ends, text, status) =
+row_told r m bytes j a is asks (x, ends, (text, status)) =
     let same : told_text (name_of j.stored.code.atoms) x ≡ told_text (name_of m.code.atoms) x =
     ap (λ (s : Stored). told_text (name_of s.code.atoms) x) (stored_of r m j asks) in
     rw (text ∙ same, status) (ended r m bytes j x is asks ends)
