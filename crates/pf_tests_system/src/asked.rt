@@ -88,12 +88,7 @@ pub(crate) fn text_of(alloc: Global, finished: &Finished) -> Result<String, Fail
 /// The end of a run that is made whole.
 pub(crate) fn run_whole(alloc: Global, job: &Arc<Job>) -> Result<Finished, Fail> {
     let mut scratch = Scratch::new(alloc);
-    Ok(whole(
-        alloc,
-        Arc::try_clone(job)?,
-        &mut scratch,
-        &mut Nobody,
-    )?)
+    Ok(whole(alloc, Arc::try_clone(job)?, &mut scratch, &mut Nobody)?)
 }
 
 /// The end of a run by slices of so many turns, which share their spare nodes.

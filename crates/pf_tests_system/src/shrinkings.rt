@@ -45,13 +45,22 @@ fn a_race_is_shrunk_within_nineteen_runs_and_known_to_be_least_by_twenty(
 ) -> Result<(), Fail> {
     let alloc = rt.alloc();
     for (runs, front) in [
-        (1, "schedule 0,0,0,0,0,0,0,3,1\npartial\n0/1 <0> spawn <1>\n"),
+        (
+            1,
+            "schedule 0,0,0,0,0,0,0,3,1\npartial\n0/1 <0> spawn <1>\n",
+        ),
         (19, "schedule 0,0,0,0,0,0,0,1\npartial\n0/1 <0> spawn <1>\n"),
-        (20, "schedule 0,0,0,0,0,0,0,1\ncomplete\n0/1 <0> spawn <1>\n"),
+        (
+            20,
+            "schedule 0,0,0,0,0,0,0,1\ncomplete\n0/1 <0> spawn <1>\n",
+        ),
     ] {
         let text = shrunk_race(alloc, RandomState::new(&rt)?, runs)?;
         assert!(rt; text.as_str().starts_with(front));
-        assert!(rt; text.as_str().ends_with("finished false\nsteps 22\nproperty fails\n"));
+        assert!(rt;
+            text.as_str()
+                .ends_with("finished false\nsteps 22\nproperty fails\n")
+        );
     }
     Ok(())
 }

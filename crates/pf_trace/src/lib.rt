@@ -6,8 +6,8 @@ mod printing;
 mod report;
 mod shrunk;
 
-pub use pf_model::report::{Actor, Event, Label, Outcome, Report, Suffix};
 pub use labels::put_label;
+pub use pf_model::report::{Actor, Event, Label, Outcome, Report, Suffix};
 pub use printing::print_report;
 pub use report::{put_outcome, put_report};
 pub use shrunk::put_found;
