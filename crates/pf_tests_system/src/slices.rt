@@ -1,7 +1,7 @@
 //! Runs slice by slice.
 
 use crate::asked::{job_of, report_of, run_sliced, run_whole, scheduled, stored, text_of};
-use pf_sched::{JobChoices, Scratch, Slice, run_slice, start};
+use pf_sched::{Finished, JobChoices, Parked, Scratch, Slice, run_slice, start};
 use std::alloc::Global;
 use std::hash::RandomState;
 use std::test::Fail;
@@ -61,18 +61,33 @@ fn the_choices_of_a_seed_come_to_its_report(rt: HostRuntime) -> Result<(), Fail>
     Ok(())
 }
 
+/// The run behind so many events, where it goes on.
+fn gone(alloc: Global, parked: Parked, scratch: &mut Scratch, turns: u32) -> Result<Parked, Fail> {
+    if turns == 0 {
+        return Err(Fail::from("a slice has a turn at least"));
+    }
+    match run_slice(alloc, parked, scratch, turns) {
+        Slice::More(more) => Ok(more),
+        Slice::Done(_) => Err(Fail::from("the run is over too early")),
+    }
+}
+
+/// The end of the run, where one event more is its last.
+fn ended(alloc: Global, parked: Parked, scratch: &mut Scratch) -> Result<Finished, Fail> {
+    match run_slice(alloc, parked, scratch, 1) {
+        Slice::More(_) => Err(Fail::from("the run goes on behind its last event")),
+        Slice::Done(finished) => Ok(finished),
+    }
+}
+
 #[test]
 fn a_run_is_over_behind_its_last_event(rt: HostRuntime) -> Result<(), Fail> {
     let alloc = rt.alloc();
     let stored = stored(alloc, RandomState::new(&rt)?, SWAPPED)?;
     let job = job_of(alloc, &stored, b"returns", scheduled(alloc, &[])?, 1000)?;
     let mut scratch = Scratch::new(alloc);
-    let Slice::More(parked) = run_slice(alloc, start(alloc, job)?, &mut scratch, 14) else {
-        return Err(Fail::from("the run is over behind 14 events"));
-    };
-    let Slice::Done(finished) = run_slice(alloc, parked, &mut scratch, 1) else {
-        return Err(Fail::from("the run goes on behind 15 events"));
-    };
+    let parked = gone(alloc, start(alloc, job)?, &mut scratch, 14)?;
+    let finished = ended(alloc, parked, &mut scratch)?;
     let report = report_of(&finished)?;
     assert_eq!(rt; report.events.len(), 15);
     assert_eq!(rt; report.verdict, Some(true));
