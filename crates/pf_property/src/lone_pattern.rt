@@ -18,12 +18,13 @@ use pf_terms::{AtomId, AtomTable, NoMemory, Term};
 use pf_tokens::{Token, tokens};
 use std::alloc::Global;
 use std::marker::Model;
+use std::sync::Arc;
 
-/// A pattern in a module of its own, which has nothing else. An atom that the run's module doesn't name has a number past its names, and
+/// A pattern in a module of its own, which has nothing else and is shared, never copied. An atom that the run's module doesn't name has a number past its names, and
 /// so fits nothing that the run sends.
 #[derive(Drop)]
 pub struct LonePattern {
-    module: Box<Module>,
+    module: Arc<Module>,
     pattern: PatternId,
 }
 
@@ -58,7 +59,7 @@ fn lowered(alloc: Global, read: &ReadPattern) -> Result<LonePattern, NoMemory>
     let mut module = Module::new(alloc, AtomId::TRUE, AtomTable::new(alloc)?);
     let pattern = pattern_alone(alloc, &read.source, &mut module, read.pattern)?;
     module.shrink_to_fit();
-    let module = Box::new(alloc, module)?;
+    let module = Arc::new(alloc, module)?;
     Ok(LonePattern { module, pattern })
 }
 
@@ -75,6 +76,16 @@ impl LonePattern {
         let found = tokens_of(alloc, text)?;
         let read = read_pattern(alloc, &found, atoms)?;
         Ok(lowered(alloc, &read)?)
+    }
+
+    /// The same pattern once more.
+    pub(crate) fn share(&self) -> Result<LonePattern, NoMemory>
+        ensures { IfOk result (λ p. p ≡ self.now) }
+    {
+        Ok(LonePattern {
+            module: Arc::try_clone(&self.module)?,
+            pattern: self.pattern,
+        })
     }
 
     /// Whether a value fits. It takes no memory.

@@ -1,12 +1,12 @@
 //! Properties that a run may have, and their texts.
 
-ghost use Rattle.std.specs.Prelude.{IfErr, IfOk};
+ghost use Rattle.std.specs.Prelude.{◌≡◌, IfErr, IfOk};
 ghost use Rattle.pf_property.specs.Texts.{IsNoPropertyText, ReadsProperty};
 ghost use Rattle.pf_property.specs.Views.{property_of};
 
 use crate::lone_pattern::LonePattern;
 use pf_fault::{Code, OrNoMemory};
-use pf_terms::AtomTable;
+use pf_terms::{AtomTable, NoMemory};
 use std::alloc::Global;
 use std::sync::Arc;
 
@@ -59,6 +59,20 @@ impl Property {
                 Ok(Property::Never(pattern))
             }
         }
+    }
+
+    /// The same property once more.
+    pub fn share(&self) -> Result<Property, NoMemory>
+        ensures { IfOk result (λ p. property_of p ≡ property_of self.now) }
+    {
+        Ok(match self {
+            Property::Returns => Property::Returns,
+            Property::True => Property::True,
+            Property::NoCrash => Property::NoCrash,
+            Property::NoDeadlock => Property::NoDeadlock,
+            Property::WithinLimit => Property::WithinLimit,
+            Property::Never(pattern) => Property::Never(pattern.share()?),
+        })
     }
 }
 

@@ -6,7 +6,7 @@ use Rattle.pf_fault.specs.declared.fault.OrNoMemory.{OrNoMemory}
 use Rattle.pf_fault.specs.declared.fault.OrNoMemory.TheVariants.{NoMemory, Fault}
 use Rattle.pf_syntax.specs.Root.{root_of}
 use Rattle.pf_model.specs.Limits.{is_in_range}
-use Rattle.pf_model.specs.Meaning.{Choices, schedule}
+use Rattle.pf_model.specs.Meaning.{Choices, schedule, seed}
 use Rattle.pf_model.specs.Properties.{Property}
 use Rattle.pf_property.specs.Texts.{ReadsProperty}
 use Rattle.pf_desks.specs.Desk.{Stored, Job, count_of, runs_of, may_shrink}
@@ -51,3 +51,7 @@ pub record IsKept (j : Job) : Type 0 where
 abbrev pub NoSuch : (atoms : List (List ℕ)) → List ℕ → OrNoMemory JobRefusal → Type 0
 NoSuch atoms bytes NoMemory = Unit {0}
 NoSuch atoms bytes (Fault e) = (code_of e ≡ code.NoProperty) × ((q : Property) → ReadsProperty atoms bytes q → ⊥)
+
+-- the run by a seed in place of a job's own choices
+abbrev pub by_seed : Job → ℕ → Job
+by_seed j s = record j { choices = seed s; runs = zero }

@@ -1,20 +1,21 @@
 //! Runs and shrinkings that may be asked for.
 
-ghost use Rattle.std.specs.Prelude.{◌≡◌, Ok, MatchResult, option_map};
+ghost use Rattle.std.specs.Prelude.{◌≡◌, IfOk, Ok, MatchResult, option_map};
 ghost use Rattle.pf_fault.specs.declared.code.Code.TheVariants as code;
 ghost use Rattle.pf_model.specs.Code.{code_of as code_in};
 ghost use Rattle.pf_property.specs.Texts.{ReadsProperty};
 ghost use Rattle.pf_property.specs.Views.{property_of};
-ghost use Rattle.pf_sched.specs.Asked.{Asks, IsKept, IsRefusal, NoSuch, may_be_asked, root_in};
+ghost use Rattle.pf_sched.specs.Asked.{Asks, IsKept, IsRefusal, NoSuch, by_seed, may_be_asked, root_in};
 ghost use Rattle.pf_sched.specs.Views.{choices_in, runs_asked};
 
-use crate::choices::JobKind;
+use crate::choices::{JobChoices, JobKind};
 use crate::refusal::JobRefusal;
 use pf_fault::OrNoMemory;
 use pf_model::limits::is_in_range;
 use pf_property::Property;
 use pf_store::Stored;
 use pf_syntax::{FunctionId, Module};
+use pf_terms::NoMemory;
 use std::alloc::Global;
 use std::marker::Model;
 use std::sync::Arc;
@@ -107,6 +108,19 @@ impl Job {
         })
     }
 
+    /// The run by a seed in place of this job's own choices. Module and property are shared.
+    pub fn by_seed(&self, seed: u64) -> Result<Job, NoMemory>
+        ensures { IfOk result (λ job. job ≡ by_seed self.now seed) }
+    {
+        Ok(Job {
+            stored: self.stored.share()?,
+            root: self.root,
+            property: self.property.share()?,
+            kind: JobKind::Trial(JobChoices::Seed(seed)),
+            limit: self.limit,
+        })
+    }
+
     /// The module that runs.
     pub fn module(&self) -> &Arc<Module>
         ensures { code_in result.now.value ≡ self.now.stored.code }
@@ -132,3 +146,11 @@ impl Job {
         }
     }
 }
+
+/// A job may go to another thread, and be shared.
+fn crosses_threads(job: &Job, shared: &Arc<Job>) {
+    needs_send(job);
+    needs_send(shared);
+}
+
+fn needs_send<T: Send>(_value: &T) {}

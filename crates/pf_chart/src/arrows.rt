@@ -1,0 +1,79 @@
+//! Signals as arrows.
+
+use pf_model::Signal;
+
+/// What kind of signal it is.
+#[derive(Clone, Copy)]
+pub(crate) enum SignalKind {
+    Message,
+    Link,
+    Unlink,
+    Monitor,
+    Demonitor,
+    Down,
+    Exit,
+}
+
+impl SignalKind {
+    pub(crate) fn of(signal: &Signal) -> SignalKind {
+        match signal {
+            Signal::Message(_) => SignalKind::Message,
+            Signal::Link => SignalKind::Link,
+            Signal::Unlink => SignalKind::Unlink,
+            Signal::Monitor(_) => SignalKind::Monitor,
+            Signal::Demonitor(_) => SignalKind::Demonitor,
+            Signal::Down(..) => SignalKind::Down,
+            Signal::Exit { .. } => SignalKind::Exit,
+        }
+    }
+
+    /// Its number among the kinds.
+    pub(crate) fn number(self) -> u8 {
+        match self {
+            SignalKind::Message => 0,
+            SignalKind::Link => 1,
+            SignalKind::Unlink => 2,
+            SignalKind::Monitor => 3,
+            SignalKind::Demonitor => 4,
+            SignalKind::Down => 5,
+            SignalKind::Exit => 6,
+        }
+    }
+
+    pub(crate) fn word(self) -> &'static str {
+        match self {
+            SignalKind::Message => "message",
+            SignalKind::Link => "link",
+            SignalKind::Unlink => "unlink",
+            SignalKind::Monitor => "monitor",
+            SignalKind::Demonitor => "demonitor",
+            SignalKind::Down => "down",
+            SignalKind::Exit => "exit",
+        }
+    }
+}
+
+/// Where an arrow begins: in the row of the event that sent the signal, or, where no event tells of it, just above its delivery.
+#[derive(Clone, Copy)]
+pub(crate) enum Start {
+    In(usize),
+    Above(usize),
+}
+
+/// Where an arrow ends: nowhere, or in the row of the delivery, where the signal may have been dropped.
+#[derive(Clone, Copy)]
+pub(crate) enum Reach {
+    Nowhere,
+    Taken(usize),
+    Dropped(usize),
+}
+
+/// A signal, from one column to another.
+#[derive(Clone, Copy)]
+pub(crate) struct Arrow {
+    pub(crate) kind: SignalKind,
+    pub(crate) from: usize,
+    pub(crate) to: usize,
+    pub(crate) start: Start,
+    pub(crate) reach: Reach,
+}

@@ -1,0 +1,22 @@
+//! A report of a run, drawn as a message sequence chart in SVG.
+#![tactic(auto)]
+
+mod arrows;
+mod chart;
+mod columns;
+mod escape;
+mod heads;
+mod laws;
+mod layout;
+mod marks;
+mod peers;
+mod pieces;
+mod sheet;
+mod spots;
+mod strokes;
+mod style;
+mod traffic;
+
+pub use chart::put_chart;
+pub use escape::{put_escaped, put_short};
+pub use laws::labels_stay_text;

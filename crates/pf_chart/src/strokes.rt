@@ -1,0 +1,135 @@
+//! Signals on the sheet.
+
+use crate::arrows::{Arrow, Reach, Start};
+use crate::columns::Column;
+use crate::pieces::put_piece;
+use crate::sheet::{HALF_ROW, ROW, Sheet};
+use pf_terms::NoMemory;
+use pf_text::put;
+use std::alloc::Global;
+
+/// How far a signal to oneself swings out.
+const SWING: u64 = 22;
+
+/// Puts a line from place to place; one that ends in its own column swings out.
+fn put_path(
+    alloc: Global,
+    out: &mut Vec<u8>,
+    from: (u64, u64),
+    to: (u64, u64),
+) -> Result<(), NoMemory> {
+    let (x, y) = from;
+    let (end, bottom) = to;
+    if x != end {
+        return put_piece(
+            out,
+            format!(in alloc; "<path d=\"M{x} {y}L{end} {bottom}\"/>")?,
+        );
+    }
+    let out_there = x.saturating_sub(SWING);
+    put_piece(
+        out,
+        format!(in alloc;
+            "<path d=\"M{x} {y}C{out_there} {y} {out_there} {bottom} {end} {bottom}\"/>"
+        )?,
+    )
+}
+
+/// Where a signal ends that is never delivered: half way, a row below.
+fn half_way(from: (u64, u64), to: u64) -> (u64, u64) {
+    let (x, y) = from;
+    let y = y.saturating_add(ROW - 6);
+    if x == to {
+        return (x.saturating_sub(SWING), y);
+    }
+    (x / 2 + to / 2, y)
+}
+
+/// Puts what is told of a signal: its kind, its processes, and what came of it.
+fn put_told(
+    alloc: Global,
+    out: &mut Vec<u8>,
+    arrow: &Arrow,
+    from: u32,
+    to: u32,
+) -> Result<(), NoMemory> {
+    let word = arrow.kind.word();
+    let end = match arrow.reach {
+        Reach::Nowhere => ", never delivered",
+        Reach::Taken(_) => "",
+        Reach::Dropped(_) => ", dropped",
+    };
+    put_piece(
+        out,
+        format!(in alloc; "<title>{word} from &lt;{from}&gt; to &lt;{to}&gt;{end}</title>")?,
+    )
+}
+
+/// Puts the beginning of an arrow: its class, and the events of its ends, counted from 1.
+fn put_opening(alloc: Global, out: &mut Vec<u8>, arrow: &Arrow) -> Result<(), NoMemory> {
+    let word = arrow.kind.word();
+    let end = match arrow.reach {
+        Reach::Nowhere => " lost",
+        Reach::Taken(_) => "",
+        Reach::Dropped(_) => " dropped",
+    };
+    let (Start::In(row) | Start::Above(row)) = arrow.start;
+    let event = row.saturating_add(1);
+    put_piece(
+        out,
+        format!(in alloc; "<g class=\"arrow {word}{end}\" data-event=\"{event}\"")?,
+    )?;
+    if let Reach::Taken(row) | Reach::Dropped(row) = arrow.reach {
+        let event = row.saturating_add(1);
+        put_piece(out, format!(in alloc; " data-delivery=\"{event}\"")?)?;
+    }
+    put(out, b">")
+}
+
+/// Where an arrow begins.
+fn beginning(arrow: &Arrow, sheet: Sheet) -> (u64, u64) {
+    let y = match arrow.start {
+        Start::In(row) => sheet.y(row),
+        Start::Above(row) => sheet.y(row).saturating_sub(HALF_ROW),
+    };
+    (sheet.x(arrow.from), y)
+}
+
+/// Where an arrow ends.
+fn end(arrow: &Arrow, sheet: Sheet) -> (u64, u64) {
+    let x = sheet.x(arrow.to);
+    match arrow.reach {
+        Reach::Nowhere => half_way(beginning(arrow, sheet), x),
+        Reach::Taken(row) | Reach::Dropped(row) => (x, sheet.y(row)),
+    }
+}
+
+fn put_arrow(
+    alloc: Global,
+    out: &mut Vec<u8>,
+    arrow: &Arrow,
+    columns: &[Column],
+    sheet: Sheet,
+) -> Result<(), NoMemory> {
+    let (Some(from), Some(to)) = (columns.get(arrow.from), columns.get(arrow.to)) else {
+        return Ok(());
+    };
+    put_opening(alloc, out, arrow)?;
+    put_told(alloc, out, arrow, from.pid, to.pid)?;
+    put_path(alloc, out, beginning(arrow, sheet), end(arrow, sheet))?;
+    put(out, b"</g>\n")
+}
+
+/// Puts all signals.
+pub(crate) fn put_arrows(
+    alloc: Global,
+    out: &mut Vec<u8>,
+    arrows: &[Arrow],
+    columns: &[Column],
+    sheet: Sheet,
+) -> Result<(), NoMemory> {
+    for arrow in arrows {
+        put_arrow(alloc, out, arrow, columns, sheet)?;
+    }
+    Ok(())
+}

@@ -1,0 +1,4 @@
+pub mod Asking
+pub mod Firsts
+pub mod Counting
+pub mod Places

@@ -1,0 +1,15 @@
+use Rattle.std.proofs.Common.{◌≤◌, ◌-◌}
+use Rattle.pf_desks.specs.Desk.{job_meant}
+use Rattle.pf_hunt.specs.Hunts.{Tallies}
+use Rattle.pf_hunt.specs.Views.{rows_of}
+use Rattle.pf_hunt.proofs.blocks.hunt_all.Given as goal
+
+-- the runs before are counted
+abbrev pub invariant-loop-at : goal.invariant-loop-at
+invariant-loop-at g l = record {
+  behind : l.from ≤ l.at;
+  rows : Tallies (job_meant l.job) l.from l.at (rows_of l.tally);
+}
+
+abbrev pub decreases-loop-at : goal.decreases-loop-at
+decreases-loop-at g l = l.end - l.at

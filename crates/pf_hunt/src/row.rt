@@ -1,0 +1,66 @@
+//! Outcomes that were met, and how often.
+
+ghost use Rattle.std.specs.Prelude.{◌≡◌};
+ghost use Rattle.pf_model.specs.Reports as reports;
+ghost use Rattle.pf_model.specs.Reports.{report_of};
+ghost use Rattle.pf_hunt.specs.Rows as rows;
+ghost use Rattle.pf_hunt.specs.Rows.{met};
+ghost use Rattle.pf_hunt.specs.Views.{row_of};
+
+use pf_model::report::{Outcome, Report};
+use pf_terms::equal;
+
+/// An outcome with the verdict of the property, by how many seeds it was met, and the least of these.
+#[derive(Drop)]
+pub struct Row {
+    pub verdict: Option<bool>,
+    pub outcome: Outcome,
+    pub count: u64,
+    pub least: u64,
+}
+
+/// Whether two outcomes are one.
+fn same_outcome(a: &Outcome, b: &Outcome) -> bool
+    ensures { result ≡ rows.same_outcome (reports.outcome_of a.now) (reports.outcome_of b.now) }
+{
+    match (a, b) {
+        (Outcome::Finished(v), Outcome::Finished(w)) => equal(v, w),
+        (Outcome::Ended(v), Outcome::Ended(w)) => equal(v, w),
+        (Outcome::Deadlock(ps), Outcome::Deadlock(qs)) => ps.as_slice() == qs.as_slice(),
+        (Outcome::Limit, Outcome::Limit) => true,
+        (Outcome::Memory, Outcome::Memory) => true,
+        _ => false,
+    }
+}
+
+/// Whether two verdicts are one.
+fn same_verdict(a: Option<bool>, b: Option<bool>) -> bool
+    ensures { result ≡ rows.same_verdict a b }
+{
+    match (a, b) {
+        (None, None) => true,
+        (Some(a), Some(b)) => a == b,
+        _ => false,
+    }
+}
+
+impl Row {
+    /// The row of the one run by a seed.
+    pub fn met(seed: u64, report: Report) -> Row
+        ensures { row_of result ≡ met seed (report_of report) }
+    {
+        Row {
+            verdict: report.verdict,
+            outcome: report.outcome,
+            count: 1,
+            least: seed,
+        }
+    }
+
+    /// Whether two rows are of one outcome with one verdict.
+    pub fn is_like(&self, other: &Row) -> bool
+        ensures { result ≡ rows.is_like (row_of self.now) (row_of other.now) }
+    {
+        same_verdict(self.verdict, other.verdict) && same_outcome(&self.outcome, &other.outcome)
+    }
+}

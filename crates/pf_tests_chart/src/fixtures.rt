@@ -1,0 +1,65 @@
+//! Reports that are made by hand, and their charts.
+
+use pf_chart::put_chart;
+use pf_model::Signal;
+use pf_terms::{AtomTable, Term};
+use pf_trace::{Actor, Event, Label, Outcome, Report, Suffix};
+use std::alloc::Global;
+use std::test::Fail;
+
+fn event(actor: Actor, label: Label) -> Event {
+    Event {
+        choice: 0,
+        count: 1,
+        actor,
+        label,
+    }
+}
+
+/// What a process did in a turn.
+pub(crate) fn turn(pid: u32, label: Label) -> Event {
+    event(Actor::Process(pid), label)
+}
+
+/// What came of a signal.
+pub(crate) fn delivery(from: u32, to: u32, signal: Signal, suffix: Suffix) -> Event {
+    event(Actor::Channel { from, to }, Label::Delivers(signal, suffix))
+}
+
+/// The message that is a number.
+pub(crate) fn number(number: i64) -> Signal {
+    Signal::Message(Term::Int(number))
+}
+
+pub(crate) fn spawn(pid: u32) -> Label {
+    Label::Spawns { linked: false, pid }
+}
+
+/// A number is sent.
+pub(crate) fn send(to: u32, number: i64) -> Label {
+    Label::Sends {
+        to,
+        message: Term::Int(number),
+    }
+}
+
+/// The chart of a run of `main`.
+pub(crate) fn chart(
+    alloc: Global,
+    atoms: &AtomTable,
+    events: Vec<Event>,
+    outcome: Outcome,
+) -> Result<String, Fail> {
+    let report = Report {
+        events,
+        outcome,
+        steps: 1,
+        verdict: None,
+    };
+    let mut text = Vec::new(alloc);
+    put_chart(alloc, &mut text, atoms, b"main", &report)?;
+    match String::from_utf8(text) {
+        Ok(text) => Ok(text),
+        Err(_) => Err(Fail::from("a chart is no UTF-8")),
+    }
+}

@@ -1,0 +1,7 @@
+//! Tests of charts.
+#![tactic(auto)]
+
+#[cfg(test)]
+mod charts;
+#[cfg(test)]
+mod fixtures;
