@@ -21,7 +21,7 @@ use Rattle.pf_store.specs.Sources.{IsReadAs}
 use Rattle.pf_sched.specs.Asked.{Asks}
 use Rattle.pf_sched.specs.Parts.{Ends}
 use Rattle.pf_sched.specs.Views.{choices_in, memory_report, runs_asked}
-use Rattle.pf_command.specs.Words.{Request, ShrinkRequest}
+use Rattle.pf_words.specs.Words.{Request, ShrinkRequest}
 use Rattle.pf_command.specs.declared.answer.Answer.{Answer}
 use Rattle.pf_command.specs.declared.asked.Asked.{Asked}
 use Rattle.pf_command.specs.declared.source.TheConstants.{MOST_BYTES}

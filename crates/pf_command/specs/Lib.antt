@@ -1,3 +1,3 @@
-pub mod Words
 pub mod Answers
 pub mod Checks
+pub mod Drawn

@@ -23,7 +23,7 @@ use std::sync::Arc;
 const REFUSED: u8 = 2;
 
 /// The status where a property fails.
-const FAILED: u8 = 1;
+pub(crate) const FAILED: u8 = 1;
 
 /// A text that goes out, and the status that the program ends with.
 #[derive(Drop)]
@@ -46,7 +46,7 @@ fn refused(alloc: Global, words: &str) -> Result<Answer, NoMemory>
 }
 
 /// A code, as `B2`.
-fn refused_by_code(alloc: Global, code: Code) -> Result<Answer, NoMemory>
+pub(crate) fn refused_by_code(alloc: Global, code: Code) -> Result<Answer, NoMemory>
     ensures { IfOk result (λ a. Refuses a (code_text code)) }
 {
     let words = format!(in alloc; "{code}")?;
@@ -62,7 +62,7 @@ pub(crate) fn refused_at(alloc: Global, refusal: Refusal) -> Result<Answer, NoMe
 }
 
 /// The status of a run by the verdict of its property: 0 where that holds, 1 where it fails, 2 where there is no verdict.
-fn run_status(verdict: Option<bool>) -> u8
+pub(crate) fn run_status(verdict: Option<bool>) -> u8
     ensures { result ≡ run_status verdict }
 {
     match verdict {
@@ -131,7 +131,7 @@ fn answer_job(alloc: Global, job: Job, watch: &mut impl Watch) -> Result<Answer,
 }
 
 /// The answer to a module.
-fn answer_module(
+pub(crate) fn answer_module(
     alloc: Global,
     asked: Asked,
     stored: Stored,
@@ -150,7 +150,7 @@ fn answer_module(
 }
 
 /// The module that a source of these bytes is, or why it is none.
-fn read_source(alloc: Global, bytes: Vec<u8>) -> Result<Stored, OrNoMemory<Refusal>>
+pub(crate) fn read_source(alloc: Global, bytes: Vec<u8>) -> Result<Stored, OrNoMemory<Refusal>>
     ensures read { IfOk result (λ m. IsModuleOf bytes.items m) }
     ensures fault { IfErr result (IsRefusalOf bytes.items) }
 {

@@ -1,12 +1,12 @@
 //! What is asked for of a module.
 
 ghost use Rattle.std.specs.Prelude.{◌≡◌, IfOk};
-ghost use Rattle.pf_command.specs.Words.{request, shrink_request};
+ghost use Rattle.pf_words.specs.Words.{request, shrink_request};
 ghost use Rattle.pf_command.specs.Answers.{job_request, of_run, of_shrinking};
 
-use crate::words::{RunWords, ShrinkWords};
 use pf_sched::JobKind;
 use pf_terms::NoMemory;
+use pf_words::{RunWords, ShrinkWords};
 use std::sync::Arc;
 
 /// A run or a shrinking, as it is asked for.
@@ -18,33 +18,31 @@ pub struct Asked<'a> {
     pub limit: u32,
 }
 
-impl<'a> RunWords<'a> {
-    /// The run that they ask for.
-    pub(crate) fn asked(&self) -> Result<Asked<'a>, NoMemory>
-        ensures { IfOk result (λ a. job_request a ≡ of_run (request self.now)) }
+impl<'a> Asked<'a> {
+    /// The run that words ask for.
+    pub(crate) fn run(words: &RunWords<'a>) -> Result<Asked<'a>, NoMemory>
+        ensures { IfOk result (λ a. job_request a ≡ of_run (request words.now)) }
     {
         Ok(Asked {
-            root: self.root,
-            property: self.property,
-            kind: JobKind::Trial(self.choices.share()?),
-            limit: self.limit,
+            root: words.root,
+            property: words.property,
+            kind: JobKind::Trial(words.choices.share()?),
+            limit: words.limit,
         })
     }
-}
 
-impl<'a> ShrinkWords<'a> {
-    /// The shrinking that they ask for.
-    pub(crate) fn asked(&self) -> Result<Asked<'a>, NoMemory>
-        ensures { IfOk result (λ a. job_request a ≡ of_shrinking (shrink_request self.now)) }
+    /// The shrinking that words ask for.
+    pub(crate) fn shrinking(words: &ShrinkWords<'a>) -> Result<Asked<'a>, NoMemory>
+        ensures { IfOk result (λ a. job_request a ≡ of_shrinking (shrink_request words.now)) }
     {
         Ok(Asked {
-            root: self.root,
-            property: self.property,
+            root: words.root,
+            property: words.property,
             kind: JobKind::Shrinking {
-                schedule: Arc::try_clone(&self.schedule)?,
-                runs: self.runs,
+                schedule: Arc::try_clone(&words.schedule)?,
+                runs: words.runs,
             },
-            limit: self.limit,
+            limit: words.limit,
         })
     }
 }

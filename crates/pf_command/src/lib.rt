@@ -1,14 +1,12 @@
-//! The words of the program's commands, and the work of `run`, `shrink` and `check` between a reader and a writer.
+//! The work of the commands of a source, `run`, `hunt`, `shrink`, `chart` and `check`, between a reader and a writer.
 #![tactic(auto)]
 
 mod answer;
 mod asked;
+mod chart;
 mod check;
-mod commands;
-mod laws;
+mod hunt;
+mod seeds;
 mod source;
-mod words;
 
-pub use laws::statuses_agree;
-pub use source::{MOST_BYTES, check_source, run_source, shrink_source};
-pub use words::{CheckWords, RunWords, ShrinkWords, StepsWords, Words, read_words, status_of_kind};
+pub use source::{MOST_BYTES, chart_source, check_source, hunt_source, run_source, shrink_source};

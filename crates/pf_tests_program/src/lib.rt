@@ -19,5 +19,3 @@ mod sharing;
 mod shrinkings;
 #[cfg(test)]
 mod texts;
-#[cfg(test)]
-mod words;

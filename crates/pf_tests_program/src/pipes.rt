@@ -2,11 +2,12 @@
 
 ghost use Rattle.std.specs.Prelude.{◌≡◌, ◌<◌};
 
-use pf_command::{RunWords, ShrinkWords, run_source, shrink_source};
+use pf_command::{run_source, shrink_source};
 use pf_fault::OrNoMemory;
 use pf_sched::{JobChoices, Watch};
 use pf_terms::{Counted, FailAt, StreamFault};
 use pf_wire::run_steps;
+use pf_words::{RunWords, ShrinkWords};
 use std::alloc::Global;
 use std::hash::RandomState;
 use std::io;

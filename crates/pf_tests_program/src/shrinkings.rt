@@ -1,8 +1,8 @@
 //! Whole shrinkings: what goes out, the status, and what is told to who watches.
 
 use crate::pipes::{Ended, Worked, shrink};
-use pf_command::ShrinkWords;
 use pf_sched::{Course, Nobody, Watch};
+use pf_words::ShrinkWords;
 use std::alloc::{AllocError, Global};
 use std::sync::Arc;
 use std::test::Fail;

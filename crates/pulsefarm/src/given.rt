@@ -2,6 +2,8 @@
 
 use std::alloc::{AllocError, AllocGlobal, Global};
 use std::env::{Env, FillError};
+use std::fs::{self, Files};
+use std::io;
 
 /// A word as it was given.
 #[derive(Drop)]
@@ -70,4 +72,13 @@ pub fn is_text(given: &[Word], text: &str) -> bool {
     given
         .iter()
         .any(|word| word.is_text && word.text.as_str() == text)
+}
+
+/// Opens a file. Paths are text, so one with another name can't be opened.
+pub fn open<R: Files>(rt: &R, is_text: bool, name: &str) -> io::Result<R::File> {
+    if is_text {
+        return fs::open(rt, name);
+    }
+    let reason = "a name that isn't UTF-8 can't be opened; give the file as standard input";
+    Err(io::Error::new(io::ErrorKind::InvalidInput, reason))
 }

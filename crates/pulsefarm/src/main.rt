@@ -5,28 +5,32 @@ ghost use Rattle.std.specs.Prelude.{◌≡◌, ◌<◌};
 
 mod given;
 mod progress;
+mod schedule;
 mod shown;
 mod stack;
 
-use crate::given::{Word, given_words, is_text};
-use crate::progress::{Behind, Line, Progress};
+use crate::given::{Word, given_words, is_text, open};
+use crate::progress::{Behind, Line, Runs, Seeds};
+use crate::schedule::{Unread, file_at, read_schedules};
 use crate::shown::{Shown, without_tip};
 use crate::stack::{STACK_BYTES, first_thread_has_stack};
 use clap::error::ErrorKind;
-use pf_command::{Words, check_source, read_words, run_source, shrink_source, status_of_kind};
+use pf_command::{chart_source, check_source, hunt_source, run_source, shrink_source};
 use pf_fault::{NoMemory, OrNoMemory};
 use pf_profile::run_steps;
 use pf_terms::{Counted, StreamFault};
+use pf_words::{HuntWords, Sought, Words, read_words, status_of_kind};
 use std::alloc::{AllocError, AllocGlobal};
 use std::env::Env;
-use std::fs::{self, Files};
+use std::fs::Files;
 use std::hash::RandomState;
 use std::io::{self, Read, Stderr, Write};
 use std::marker::Brand;
 use std::process::ExitCode;
 use std::random::RandomSource;
 use std::sync::ledger::{Blank, Ledger};
-use std::thread::Builder;
+use std::thread::{Builder, Threads, available_parallelism};
+use std::time::Clock;
 
 /// The status where something is refused, can't be read or written, or memory runs out.
 const REFUSED: u8 = 2;
@@ -53,9 +57,36 @@ fn answer_steps<R: Read, W: Write, L: Ledger, M: Ledger>(
     }
 }
 
-/// Does what is asked for between a reader and a writer; the line tells how far a shrinking came.
+/// How many threads run the seeds of a hunt: those that are named, or one for each of the machine's processors, at most 64.
+fn workers_of(rt: &impl Threads, words: &HuntWords) -> u64 {
+    match (words.workers, available_parallelism(rt)) {
+        (Some(named), _) => u64::from(named),
+        (None, Ok(count)) => u64::try_from(count.get()).unwrap_or(1).min(64),
+        (None, Err(_)) => 1,
+    }
+}
+
+/// Answers a source whose seeds are run; the line tells how far that came.
+fn answer_hunt<R: Read, W: Write, L: Ledger, M: Ledger>(
+    rt: &(impl AllocGlobal + Clock + Threads + Sync),
+    words: &HuntWords,
+    reader: &mut Counted<R, L>,
+    writer: &mut Counted<W, M>,
+    line: &Line,
+) -> Answered {
+    let workers = workers_of(rt, words);
+    let mut seeds = Seeds::new(line, rt, words.end.saturating_sub(words.first));
+    let most = match words.sought {
+        Sought::Failure { runs: Some(runs) } => runs,
+        Sought::Failure { runs: None } | Sought::Outcomes => 0,
+    };
+    let mut runs = Runs::new(line, most);
+    hunt_source(rt, rt.alloc(), reader, words, workers, writer, &mut seeds, &mut runs)
+}
+
+/// Does what is asked for between a reader and a writer; the line tells how far a hunt or a shrinking came.
 fn answer_by<R: Read + Drop, W: Write + Drop, L: Ledger, M: Ledger>(
-    rt: &(impl AllocGlobal + RandomSource),
+    rt: &(impl AllocGlobal + RandomSource + Clock + Threads + Sync),
     asked: &Words,
     reader: R,
     writer: W,
@@ -75,10 +106,11 @@ fn answer_by<R: Read + Drop, W: Write + Drop, L: Ledger, M: Ledger>(
     let mut writer = Counted::<W, M>::new(writer, writes);
     match asked {
         Words::Run(words) => run_source(alloc, &mut reader, words, &mut writer),
+        Words::Chart(words) => chart_source(alloc, &mut reader, words, &mut writer),
+        Words::Hunt(words) => answer_hunt(rt, words, &mut reader, &mut writer, line),
         Words::Shrink(words) => {
-            let most = words.runs;
-            let mut progress = Progress { line, most };
-            shrink_source(alloc, &mut reader, words, &mut writer, &mut progress)
+            let mut runs = Runs::new(line, words.runs);
+            shrink_source(alloc, &mut reader, words, &mut writer, &mut runs)
         }
         Words::Check(words) => check_source(alloc, &mut reader, words, &mut writer),
         Words::Steps(_) => answer_steps(rt, &mut reader, &mut writer),
@@ -87,7 +119,7 @@ fn answer_by<R: Read + Drop, W: Write + Drop, L: Ledger, M: Ledger>(
 
 /// The same, with the line empty before anything is written, and at the end.
 fn answer<R: Read + Drop, W: Write + Drop>(
-    rt: &(impl AllocGlobal + RandomSource),
+    rt: &(impl AllocGlobal + RandomSource + Clock + Threads + Sync),
     asked: &Words,
     reader: R,
     writer: W,
@@ -136,6 +168,15 @@ fn failed(rt: &(impl Print + Eprint), file: Option<&str>, fault: &StreamFault) -
     REFUSED
 }
 
+/// Says why the file of a schedule can't be read.
+fn unread_file(rt: &(impl Print + Eprint), given: &[Word], unread: Unread) -> u8 {
+    let Unread { at, error } = unread;
+    if error.kind() == io::ErrorKind::OutOfMemory {
+        return no_memory(rt);
+    }
+    failed(rt, file_at(given, at), &StreamFault::Read(error))
+}
+
 /// Prints the text of words that ask for no command: help and the version, or what is wrong with the words.
 fn no_command(rt: &(impl Print + Eprint + AllocGlobal), error: &clap::Error) -> u8 {
     let status = status_of_kind(error.kind());
@@ -170,34 +211,28 @@ fn end(rt: &(impl Print + Eprint), asked: &Words, file: Option<&str>, answered: 
             failed(rt, file, &fault)
         }
         Err(_) => match asked {
-            Words::Run(_) | Words::Shrink(_) | Words::Check(_) => no_memory(rt),
             Words::Steps(_) => no_more_memory(rt),
+            _ => no_memory(rt),
         },
     }
 }
 
-/// Opens a file. Paths are text, so one with another name can't be opened.
-fn open<R: Files>(rt: &R, given: &[Word], name: &str) -> io::Result<R::File> {
-    if is_text(given, name) {
-        return fs::open(rt, name);
-    }
-    let reason = "a name that isn't UTF-8 can't be opened; give the file as standard input";
-    Err(io::Error::new(io::ErrorKind::InvalidInput, reason))
-}
-
 /// Does what the words ask for.
-fn obey<R: Files + Print + Eprint + AllocGlobal + RandomSource, I: Read + Drop>(
+fn obey<R, I: Read + Drop>(
     rt: &R,
     given: &[Word],
     asked: &Words,
     stdin: I,
     line: &Line,
-) -> u8 {
+) -> u8
+where
+    R: Files + Print + Eprint + AllocGlobal + RandomSource + Clock + Threads + Sync,
+{
     let Some(name) = asked.file() else {
         let answered = answer(rt, asked, stdin, io::writer(rt), line);
         return end(rt, asked, None, answered);
     };
-    let answered = match open(rt, given, name) {
+    let answered = match open(rt, is_text(given, name), name) {
         Ok(file) => answer(rt, asked, file, io::writer(rt), line),
         Err(error) => Err(OrNoMemory::Fault(StreamFault::Read(error))),
     };
@@ -205,13 +240,19 @@ fn obey<R: Files + Print + Eprint + AllocGlobal + RandomSource, I: Read + Drop>(
 }
 
 /// Reads the words and does what they ask for.
-fn try_work<R: Env + Files + Print + Eprint + AllocGlobal + RandomSource, I: Read + Drop>(
+fn try_work<R, I: Read + Drop>(
     rt: &R,
     stdin: I,
     stderr: Stderr,
-) -> Result<u8, AllocError> {
+) -> Result<u8, AllocError>
+where
+    R: Env + Files + Print + Eprint + AllocGlobal + RandomSource + Clock + Threads + Sync,
+{
     let alloc = rt.alloc();
-    let given = given_words(rt)?;
+    let mut given = given_words(rt)?;
+    if let Err(unread) = read_schedules(rt, &mut given) {
+        return Ok(unread_file(rt, &given, unread));
+    }
     let mut words = Vec::new(alloc);
     words.push("pulsefarm")?;
     for word in &given {
@@ -224,11 +265,14 @@ fn try_work<R: Env + Files + Print + Eprint + AllocGlobal + RandomSource, I: Rea
 }
 
 /// Does all work; what it gives is the status.
-fn work<R: Env + Files + Print + Eprint + AllocGlobal + RandomSource, I: Read + Drop>(
+fn work<R, I: Read + Drop>(
     rt: &R,
     stdin: I,
     stderr: Stderr,
-) -> u8 {
+) -> u8
+where
+    R: Env + Files + Print + Eprint + AllocGlobal + RandomSource + Clock + Threads + Sync,
+{
     match try_work(rt, stdin, stderr) {
         Ok(status) => status,
         Err(AllocError) => no_memory(rt),

@@ -1,16 +1,17 @@
-//! How far a shrinking came, in a line of the terminal that standard error is.
+//! How far a hunt or a shrinking came, in a line of the terminal that standard error is.
 
 use pf_sched::{Course, Watch};
 use std::cell::Cell;
+use std::fmt;
 use std::io;
 use std::io::{IsTerminal, Stderr, Write};
+use std::time::{Clock, Duration, Instant};
 
 /// A line of the terminal that standard error is, written over again and again; none where that is no terminal. Faults of its writing are ignored.
 #[derive(Drop)]
 pub struct Line {
     terminal: Option<Stderr>,
-    /// The runs that it tells; none where it is empty.
-    shown: Cell<Option<u32>>,
+    is_full: Cell<bool>,
 }
 
 impl Line {
@@ -23,19 +24,17 @@ impl Line {
         };
         Line {
             terminal,
-            shown: Cell::new(None),
+            is_full: Cell::new(false),
         }
     }
 
-    /// Tells how far a shrinking of at most so many runs came, where it tells another number of runs.
-    fn show(&self, course: Course, most: u32) {
+    /// Tells this in place of what it told before.
+    fn show(&self, told: &impl fmt::Display) {
         let Some(terminal) = self.terminal else {
             return;
         };
-        let Course { runs, length } = course;
-        if self.shown.replace(Some(runs)) != Some(runs) {
-            let _printed = eprint!(terminal; "\r{runs} of {most} runs, {length} numbers\x1b[K");
-        }
+        self.is_full.set(true);
+        let _printed = eprint!(terminal; "\r{told}\x1b[K");
     }
 
     /// Empties it.
@@ -43,22 +42,121 @@ impl Line {
         let Some(terminal) = self.terminal else {
             return;
         };
-        if self.shown.replace(None).is_some() {
+        if self.is_full.replace(false) {
             let _printed = eprint!(terminal; "\r\x1b[K");
         }
     }
 }
 
-/// Who watches a shrinking of at most so many runs.
-#[derive(Drop)]
-pub struct Progress<'a> {
-    pub line: &'a Line,
-    pub most: u32,
+/// How far a shrinking of at most so many runs came.
+struct RunsDone {
+    course: Course,
+    most: u32,
 }
 
-impl Watch for Progress<'_> {
+impl fmt::Display for RunsDone {
+    fn fmt<W: fmt::Write>(&self, f: &mut fmt::Formatter<W>) -> fmt::Result {
+        let Course { runs, length } = self.course;
+        write!(f, "{runs} of {} runs, {length} numbers", self.most)
+    }
+}
+
+/// Who watches a shrinking of at most so many runs.
+#[derive(Drop)]
+pub struct Runs<'a> {
+    line: &'a Line,
+    most: u32,
+    /// The runs that it told last.
+    told: Option<u32>,
+}
+
+impl<'a> Runs<'a> {
+    pub fn new(line: &'a Line, most: u32) -> Runs<'a> {
+        let told = None;
+        Runs { line, most, told }
+    }
+}
+
+impl Watch for Runs<'_> {
     fn tell(&mut self, course: Course) {
-        self.line.show(course, self.most);
+        if self.told != Some(course.runs) {
+            self.told = Some(course.runs);
+            let most = self.most;
+            self.line.show(&RunsDone { course, most });
+        }
+    }
+}
+
+/// How far a hunt over so many seeds came, and in what time where that is known.
+struct SeedsDone {
+    done: u64,
+    seeds: u64,
+    failures: u64,
+    time: Option<Duration>,
+}
+
+impl fmt::Display for SeedsDone {
+    fn fmt<W: fmt::Write>(&self, f: &mut fmt::Formatter<W>) -> fmt::Result {
+        let (done, left) = (self.done, self.seeds.saturating_sub(self.done));
+        write!(f, "{done} of {} seeds, ", self.seeds)?;
+        if let Some(time) = self.time {
+            let milliseconds = time.as_millis().max(1);
+            let pace = u128::from(done).saturating_mul(1_000) / milliseconds;
+            let rest = u128::from(left) / pace.max(1);
+            write!(f, "{pace} seeds/s, {rest} s left, ")?;
+        }
+        write!(f, "{} failures", self.failures)
+    }
+}
+
+/// How long what a hunt told stands there at least.
+const PAUSE: Duration = Duration::from_millis(100);
+
+/// Who watches a hunt over so many seeds.
+#[derive(Drop)]
+pub struct Seeds<'a, C> {
+    line: &'a Line,
+    clock: &'a C,
+    seeds: u64,
+    /// When it began, where the clock tells.
+    start: Option<Instant>,
+    /// When it told last, from its start on.
+    told: Option<Duration>,
+}
+
+impl<'a, C: Clock> Seeds<'a, C> {
+    pub fn new(line: &'a Line, clock: &'a C, seeds: u64) -> Seeds<'a, C> {
+        Seeds {
+            line,
+            clock,
+            seeds,
+            start: Instant::now(clock).ok(),
+            told: None,
+        }
+    }
+
+    /// The time since its start, where the clock tells.
+    fn time(&self) -> Option<Duration> {
+        self.start?.elapsed(self.clock).ok()
+    }
+}
+
+impl<C: Clock> pf_hunt::Watch for Seeds<'_, C> {
+    fn tell(&mut self, done: u64, failures: u64) {
+        let time = self.time();
+        if let (Some(now), Some(told)) = (time, self.told) {
+            if now.saturating_sub(told) < PAUSE {
+                return;
+            }
+        }
+        self.told = time;
+        let seeds = self.seeds;
+        self.line.show(&SeedsDone {
+            done,
+            seeds,
+            failures,
+            time,
+        });
     }
 }
 

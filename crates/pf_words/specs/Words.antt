@@ -1,6 +1,6 @@
 -- What the words of the command line ask for.
-use Rattle.std.specs.Prelude.{◌≡◌, ◌⊎◌, ℕ, List, [], ◌∷◌, Option, Some, None, option_map, option_and_then, codes, Bool, true, false, if◌then◌else◌}
-use Rattle.std.specs.List.{list_any}
+use Rattle.std.specs.Prelude.{◌≡◌, ◌⊎◌, ℕ, List, [], ◌∷◌, Option, Some, None, option_map, option_and_then, codes, Bool, true, false, ◌==◌, ◌&&◌, nat_le, nat_lt, if◌then◌else◌}
+use Rattle.std.specs.List.{list_any, before_first, after_first}
 use Rattle.std.specs.Str.{bytes_eq}
 use Rattle.clap.specs.Words.{IsAmong, App, Shape, Rule, Row, Text, new_app, new_rule, with_rule, with_subcommand, Kinds, first_of, subcommand_of, fault_of}
 use Rattle.clap.specs.declared.builder.action.ArgAction.TheVariants.{SetTrue}
@@ -9,10 +9,13 @@ use Rattle.clap.specs.declared.error.kind.ErrorKind.TheVariants as kind
 use Rattle.pf_model.specs.Meaning.{Choices, seed, schedule}
 use Rattle.pf_text.specs.Numbers.{number_of, long_number_of, schedule_of}
 use Rattle.pf_sched.specs.Views.{choices_of}
-use Rattle.pf_command.specs.declared.words.RunWords.{RunWords}
-use Rattle.pf_command.specs.declared.words.ShrinkWords.{ShrinkWords}
-use Rattle.pf_command.specs.declared.words.Words.{Words}
-use Rattle.pf_command.specs.declared.words.Words.TheVariants.{Run, Shrink, Check, Steps}
+use Rattle.pf_words.specs.declared.asked.RunWords.{RunWords}
+use Rattle.pf_words.specs.declared.asked.HuntWords.{HuntWords}
+use Rattle.pf_words.specs.declared.asked.Sought as code
+use Rattle.pf_words.specs.declared.asked.Sought.TheVariants.{Failure, Outcomes}
+use Rattle.pf_words.specs.declared.asked.ShrinkWords.{ShrinkWords}
+use Rattle.pf_words.specs.declared.asked.Words.{Words}
+use Rattle.pf_words.specs.declared.asked.Words.TheVariants.{Run, Hunt, Shrink, Chart, Check, Steps}
 
 -- ---- the words that are taken
 
@@ -36,10 +39,22 @@ flag_rule name = record (new_rule name) { long = Some name; action = Some SetTru
 abbrev pub bounded_app : Text → App
 bounded_app name = with_rule (with_rule (with_rule (new_app name) file_rule) (required_rule (codes "root"))) (required_rule (codes "limit"))
 
--- run [FILE] --root F --limit N [--seed N] [--schedule L] [--property P]
+-- a command of one run: NAME [FILE] --root F --limit N [--seed N] [--schedule L] [--property P]
+abbrev pub one_run_app : Text → App
+one_run_app name =
+    with_rule (with_rule (with_rule (bounded_app name) (option_rule (codes "seed"))) (option_rule (codes "schedule"))) (option_rule (codes "property"))
+
+-- `run` and `chart` take the same words
 abbrev pub run_app : App
-run_app =
-    with_rule (with_rule (with_rule (bounded_app (codes "run")) (option_rule (codes "seed"))) (option_rule (codes "schedule"))) (option_rule (codes "property"))
+run_app = one_run_app (codes "run")
+
+abbrev pub chart_app : App
+chart_app = one_run_app (codes "chart")
+
+-- hunt [FILE] --root F --limit N --property P --seeds A..B [--workers N] [--all] [--shrink N]
+abbrev pub hunt_app : App
+hunt_app =
+    with_rule (with_rule (with_rule (with_rule (with_rule (bounded_app (codes "hunt")) (required_rule (codes "property"))) (required_rule (codes "seeds"))) (option_rule (codes "workers"))) (flag_rule (codes "all"))) (option_rule (codes "shrink"))
 
 -- shrink [FILE] --root F --limit N --schedule L --property P --runs N
 abbrev pub shrink_app : App
@@ -59,10 +74,18 @@ abbrev pub top_shape : Shape
 top_shape =
     record (new_app (codes "pulsefarm")).top { has_version = true; subcommand_required = true; disable_help_subcommand = true }
 
+-- the program without its commands
+abbrev pub bare_app : App
+bare_app = record (new_app (codes "pulsefarm")) { top = top_shape }
+
+-- with the commands of runs alone
+abbrev pub runs_app : App
+runs_app =
+    with_subcommand (with_subcommand (with_subcommand (with_subcommand bare_app run_app.top) hunt_app.top) shrink_app.top) chart_app.top
+
 -- the command line
 abbrev pub pulsefarm : App
-pulsefarm =
-    with_subcommand (with_subcommand (with_subcommand (with_subcommand (record (new_app (codes "pulsefarm")) { top = top_shape }) run_app.top) shrink_app.top) check_app.top) steps_app.top
+pulsefarm = with_subcommand (with_subcommand runs_app check_app.top) steps_app.top
 
 -- ---- what is asked for
 
@@ -81,6 +104,20 @@ pub record ShrinkRequest : Type 0 where
   pub schedule : List ℕ
   pub property : Text
   pub runs : ℕ
+
+-- what is sought among seeds: the least that fails, whose schedule is shrunk within so many runs where that is asked for; or each outcome
+pub data Sought : Type 0 where
+  failure : (runs : Option ℕ) → Sought
+  outcomes : Sought
+
+-- a hunt is asked for: by the seeds from a first to before an end, by so many workers where these are named
+pub record HuntRequest : Type 0 where
+  pub root : Text
+  pub limit : ℕ
+  pub property : Text
+  pub seeds : ℕ × ℕ
+  pub workers : Option ℕ
+  pub sought : Sought
 
 -- the number that the value of an option is
 abbrev pub number_in : Text → List Row → Option ℕ
@@ -122,29 +159,88 @@ shrink_of rows =
     shrinking_asked (first_of (codes "root") rows) (first_of (codes "property") rows) (number_in (codes "limit") rows)
     (number_in (codes "runs") rows) (schedule_in rows)
 
+-- seeds are A..B, with A below B: A is in front of the first dot, B behind one dot more
+abbrev pub is_dot : ℕ → Bool
+is_dot c = c == 46
+
+abbrev pub behind_dot : List ℕ → Option ℕ
+behind_dot [] = None
+behind_dot (c ∷ text) = if is_dot c then long_number_of text else None
+
+abbrev pub seeds_between : (first end : Option ℕ) → Option (ℕ × ℕ)
+seeds_between (Some a) (Some b) = if nat_lt a b then Some (a, b) else None
+seeds_between _ _ = None
+
+abbrev pub seeds_of : Text → Option (ℕ × ℕ)
+seeds_of text = seeds_between (long_number_of (before_first is_dot text)) (behind_dot (after_first is_dot text))
+
+-- workers are 1 to 64
+abbrev pub as_workers : ℕ → Option ℕ
+as_workers n = if nat_le 1 n && nat_le n 64 then Some n else None
+
+-- where none are named it is left open how many there are
+abbrev pub workers_named : Option Text → Option (Option ℕ)
+workers_named None = Some None
+workers_named (Some word) = option_map Some (option_and_then as_workers (number_of word))
+
 -- a flag that is given has the value `true`
 abbrev pub is_given : Option Text → Bool
 is_given None = false
 is_given (Some value) = bytes_eq value (codes "true")
 
+-- each outcome and a shrinking aren't sought together
+abbrev pub sought_named : (all : Bool) → (shrink : Option Text) → Option Sought
+sought_named false None = Some (failure None)
+sought_named false (Some word) = option_map (λ n. failure (Some n)) (number_of word)
+sought_named true None = Some outcomes
+sought_named true (Some word) = None
+
+abbrev pub sought_in : List Row → Option Sought
+sought_in rows = sought_named (is_given (first_of (codes "all") rows)) (first_of (codes "shrink") rows)
+
+abbrev pub hunt_asked : (root property : Option Text) → (limit : Option ℕ) → (seeds : Option (ℕ × ℕ)) → (workers : Option (Option ℕ)) → Option Sought → Option HuntRequest
+hunt_asked (Some root) (Some property) (Some limit) (Some seeds) (Some workers) (Some sought) =
+    Some (record { root = root; limit = limit; property = property; seeds = seeds; workers = workers; sought = sought })
+hunt_asked _ _ _ _ _ _ = None
+
+abbrev pub seeds_in : List Row → Option (ℕ × ℕ)
+seeds_in rows = option_and_then seeds_of (first_of (codes "seeds") rows)
+
+abbrev pub workers_in : List Row → Option (Option ℕ)
+workers_in rows = workers_named (first_of (codes "workers") rows)
+
+abbrev pub hunt_of : List Row → Option HuntRequest
+hunt_of rows =
+    hunt_asked (first_of (codes "root") rows) (first_of (codes "property") rows) (number_in (codes "limit") rows) (seeds_in rows)
+    (workers_in rows) (sought_in rows)
+
 -- whether a refusal is to be explained
 abbrev pub explain_of : List Row → Bool
 explain_of rows = is_given (first_of (codes "explain") rows)
 
--- a command asks for a run, for the shrinking of a schedule, for a check that may explain what it refuses, or for the steps that a file lists
+-- a command asks for a run, for a hunt over seeds, for the shrinking of a schedule, for the chart of a run, for a check that may explain what
+-- it refuses, or for the steps that a file lists
 pub data Wanted : Type 0 where
   run : Request → Wanted
+  hunt : HuntRequest → Wanted
   shrink : ShrinkRequest → Wanted
+  chart : Request → Wanted
   check : (explain : Bool) → Wanted
   steps : Wanted
+
+-- what a command without runs of its own asks for
+abbrev pub of_other : Text → List Row → Option Wanted
+of_other name rows =
+    if bytes_eq name (codes "check") then Some (check (explain_of rows))
+    else (if bytes_eq name (codes "steps") then Some steps else None)
 
 -- what the command of this name asks for by the values of its options
 abbrev pub of_command : Text → List Row → Option Wanted
 of_command name rows =
     if bytes_eq name (codes "run") then option_map run (run_of rows)
-    else (if bytes_eq name (codes "shrink") then option_map shrink (shrink_of rows)
-    else (if bytes_eq name (codes "check") then Some (check (explain_of rows))
-    else (if bytes_eq name (codes "steps") then Some steps else None)))
+    else (if bytes_eq name (codes "chart") then option_map chart (run_of rows)
+    else (if bytes_eq name (codes "hunt") then option_map hunt (hunt_of rows)
+    else (if bytes_eq name (codes "shrink") then option_map shrink (shrink_of rows) else of_other name rows)))
 
 abbrev pub asked : {T : Type 0} → (Text → List Row → Option T) → Option (Text × List Row) → Option T
 asked read None = None
@@ -174,15 +270,34 @@ request w = record { root = w.root.now; limit = w.limit; choices = choices_of w.
 abbrev pub shrink_request : ShrinkWords → ShrinkRequest
 shrink_request w = record { root = w.root.now; limit = w.limit; schedule = w.schedule.value.items; property = w.property.now; runs = w.runs }
 
+abbrev pub sought_by : code.Sought → Sought
+sought_by (Failure runs) = failure runs
+sought_by Outcomes = outcomes
+
+abbrev pub hunt_request : HuntWords → HuntRequest
+hunt_request w =
+    record {
+      root = w.root.now;
+      limit = w.limit;
+      property = w.property.now;
+      seeds = (w.first, w.end);
+      workers = w.workers;
+      sought = sought_by w.sought;
+    }
+
 -- and what the code's own words stand for
 abbrev pub wanted : Words → Wanted
 wanted (Run w) = run (request w)
+wanted (Hunt w) = hunt (hunt_request w)
+wanted (Chart w) = chart (request w)
 wanted (Shrink w) = shrink (shrink_request w)
 wanted (Check w) = check w.explain
 wanted (Steps w) = steps
 
 abbrev pub named_file : Words → Option Text
 named_file (Run w) = option_map (λ s. s.now) w.file
+named_file (Hunt w) = option_map (λ s. s.now) w.file
+named_file (Chart w) = option_map (λ s. s.now) w.file
 named_file (Shrink w) = option_map (λ s. s.now) w.file
 named_file (Check w) = option_map (λ s. s.now) w.file
 named_file (Steps w) = option_map (λ s. s.now) w.file
@@ -208,8 +323,19 @@ values_fault _ _ = kind.InvalidValue
 abbrev pub run_fault : List Row → ErrorKind
 run_fault rows = values_fault (first_of (codes "seed") rows) (first_of (codes "schedule") rows)
 
+-- each outcome beside a shrinking, or else a value that is none
+abbrev pub sought_fault : (all : Bool) → (shrink : Option Text) → ErrorKind
+sought_fault true (Some _) = kind.ArgumentConflict
+sought_fault _ _ = kind.InvalidValue
+
+abbrev pub hunt_fault : List Row → ErrorKind
+hunt_fault rows = sought_fault (is_given (first_of (codes "all") rows)) (first_of (codes "shrink") rows)
+
 abbrev pub fault_under : Text → List Row → ErrorKind
-fault_under name rows = if bytes_eq name (codes "run") then run_fault rows else kind.InvalidValue
+fault_under name rows =
+    if bytes_eq name (codes "run") then run_fault rows
+    else (if bytes_eq name (codes "chart") then run_fault rows
+    else (if bytes_eq name (codes "hunt") then hunt_fault rows else kind.InvalidValue))
 
 abbrev pub own_fault : Option (Text × List Row) → ErrorKind
 own_fault None = kind.InvalidValue

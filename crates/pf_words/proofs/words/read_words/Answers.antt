@@ -1,8 +1,8 @@
 use Rattle.std.proofs.Common.{◌≡◌, None, Some, ap, inl, inr, ◌∙◌, sym, map}
 use Rattle.clap.specs.Words.{found_of, rows_of, subcommand_of}
-use Rattle.pf_command.specs.Words.{own_fault, pulsefarm}
-use Rattle.pf_command.proofs.Parsed.{words_refused, words_none, words_wanted, words_file, values_refused}
-use Rattle.pf_command.proofs.words.read_words.Goals as goal
+use Rattle.pf_words.specs.Words.{own_fault, pulsefarm}
+use Rattle.pf_words.proofs.Parsed.{words_refused, words_none, words_wanted, words_file, values_refused}
+use Rattle.pf_words.proofs.words.read_words.Goals as goal
 
 pub returns-in-Err-clause-err : goal.returns-in-Err-clause-err
 returns-in-Err-clause-err c = words_refused (map (λ w. w.now) c.args.words.now) c.in-Err.e c.in-Err.ensures.kinds

@@ -5,7 +5,7 @@ use Rattle.clap.specs.Words.{Text, Row, Kinds, HasKind, IsAmong, fault_of, first
 use Rattle.clap.specs.declared.error.Error.{Error}
 use Rattle.clap.specs.declared.error.kind.ErrorKind.{ErrorKind}
 use Rattle.clap.specs.declared.error.kind.ErrorKind.TheVariants as kind
-use Rattle.pf_command.specs.Words.{IsFaultOf, own_fault, pulsefarm, of_command, asked, unless_refused, wanted_of, file_named, file_of}
+use Rattle.pf_words.specs.Words.{IsFaultOf, own_fault, pulsefarm, of_command, asked, unless_refused, wanted_of, file_named, file_of}
 
 refused : {T : Type 0} (kinds : Kinds) (k : ErrorKind) (r : Option T) → IsAmong k kinds → unless_refused kinds r ≡ None
 refused [] k r h = absurd h

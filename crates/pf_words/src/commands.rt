@@ -1,9 +1,9 @@
 //! The commands as the command line takes them, with the texts of their help.
 
 ghost use Rattle.std.specs.Prelude.{◌≡◌, IfOk, false, codes};
-ghost use Rattle.clap.specs.Words.{app_of, rule_of, new_app, with_subcommand};
+ghost use Rattle.clap.specs.Words.{app_of, rule_of, new_app};
 ghost use Rattle.clap.specs.declared.builder.command.Command.TheViews.{out-Command};
-ghost use Rattle.pf_command.specs.Words.{bounded_app, check_app, file_rule, flag_rule, option_rule, pulsefarm, required_rule, run_app, shrink_app, steps_app, top_shape};
+ghost use Rattle.pf_words.specs.Words.{bare_app, bounded_app, chart_app, check_app, file_rule, flag_rule, hunt_app, one_run_app, option_rule, pulsefarm, required_rule, run_app, runs_app, shrink_app, steps_app};
 
 use clap::{Arg, ArgAction, Command};
 use std::alloc::{AllocError, Global};
@@ -17,8 +17,14 @@ const SCHEDULE_HELP: &str =
 const FAILING_HELP: &str =
     "Property that fails: `returns`, `true`, `nocrash`, `nodeadlock`, `withinlimit` or `never:PATTERN`";
 
+const JUDGING_HELP: &str =
+    "Property that each run is judged by: `returns`, `true`, `nocrash`, `nodeadlock`, `withinlimit` or `never:PATTERN`";
+
 const RUN_USAGE: &str =
     "pulsefarm run [OPTIONS] --root <F> --limit <N> <--seed <N>|--schedule <L>> [FILE]";
+
+const CHART_USAGE: &str =
+    "pulsefarm chart [OPTIONS] --root <F> --limit <N> <--seed <N>|--schedule <L>> [FILE]";
 
 /// A file that comes without a name before it.
 fn file<'a>(alloc: Global, help: &'a str) -> Arg<'a>
@@ -118,18 +124,59 @@ fn bounded<'a>(alloc: Global, name: &'a str, about: &'a str) -> Result<Command<'
     Ok(bounded)
 }
 
+/// A command of one run.
+fn one_run<'a>(
+    alloc: Global,
+    name: &'a str,
+    about: &'a str,
+    usage: &'a str,
+) -> Result<Command<'a>, AllocError>
+    ensures app { IfOk result (λ c. app_of c ≡ one_run_app name.entry.now) }
+    ensures local { IfOk result (λ c. (out-Command c).has_globals ≡ false) }
+{
+    let run = bounded(alloc, name, about)?
+        .override_usage(usage)
+        .arg(seed(alloc))?
+        .arg(schedule(alloc))?
+        .arg(property(alloc))?;
+    Ok(run)
+}
+
 /// `run`.
 pub(crate) fn run_command<'a>(alloc: Global) -> Result<Command<'a>, AllocError>
     ensures app { IfOk result (λ c. app_of c ≡ run_app) }
     ensures local { IfOk result (λ c. (out-Command c).has_globals ≡ false) }
 {
     let about = "Runs a module by a seed or a schedule and reports each turn and delivery";
-    let run = bounded(alloc, "run", about)?
-        .override_usage(RUN_USAGE)
-        .arg(seed(alloc))?
-        .arg(schedule(alloc))?
-        .arg(property(alloc))?;
-    Ok(run)
+    one_run(alloc, "run", about, RUN_USAGE)
+}
+
+/// `chart`.
+pub(crate) fn chart_command<'a>(alloc: Global) -> Result<Command<'a>, AllocError>
+    ensures app { IfOk result (λ c. app_of c ≡ chart_app) }
+    ensures local { IfOk result (λ c. (out-Command c).has_globals ≡ false) }
+{
+    let about = "Draws a run as a message sequence chart in SVG";
+    one_run(alloc, "chart", about, CHART_USAGE)
+}
+
+/// `hunt`.
+pub(crate) fn hunt_command<'a>(alloc: Global) -> Result<Command<'a>, AllocError>
+    ensures app { IfOk result (λ c. app_of c ≡ hunt_app) }
+    ensures local { IfOk result (λ c. (out-Command c).has_globals ≡ false) }
+{
+    let about = "Runs a module by many seeds and reports the least that fails a property";
+    let seeds = "Seeds from A to before B, each from 0 to 18446744073709551615";
+    let workers = "Threads that run seeds, from 1 to 64 [default: the machine's processors]";
+    let all = "Tells each outcome, by how many seeds and the least of them, and runs all seeds";
+    let shrink = "Shrinks the schedule of the seed that fails, within N runs from 1 to 1,000";
+    let hunt = bounded(alloc, "hunt", about)?
+        .arg(required(alloc, "property", "P", JUDGING_HELP))?
+        .arg(required(alloc, "seeds", "A..B", seeds))?
+        .arg(option(alloc, "workers", "N", workers))?
+        .arg(flag(alloc, "all", all))?
+        .arg(option(alloc, "shrink", "N", shrink))?;
+    Ok(hunt)
 }
 
 /// `shrink`.
@@ -171,7 +218,7 @@ fn steps_command<'a>(alloc: Global) -> Result<Command<'a>, AllocError>
 
 /// The program without its commands.
 fn top<'a>(alloc: Global) -> Command<'a>
-    ensures app { app_of result ≡ record (new_app (codes "pulsefarm")) { top = top_shape } }
+    ensures app { app_of result ≡ bare_app }
     ensures local { (out-Command result).has_globals ≡ false }
 {
     Command::new(alloc, "pulsefarm")
@@ -183,12 +230,14 @@ fn top<'a>(alloc: Global) -> Command<'a>
 
 /// The program with the commands of runs alone.
 fn commands_of_runs<'a>(alloc: Global) -> Result<Command<'a>, AllocError>
-    ensures { IfOk result (λ c. app_of c ≡ with_subcommand (with_subcommand
-        (record (new_app (codes "pulsefarm")) { top = top_shape }) run_app.top) shrink_app.top) }
+    ensures app { IfOk result (λ c. app_of c ≡ runs_app) }
+    ensures local { IfOk result (λ c. (out-Command c).has_globals ≡ false) }
 {
     let some = top(alloc)
         .subcommand(run_command(alloc)?)?
-        .subcommand(shrink_command(alloc)?)?;
+        .subcommand(hunt_command(alloc)?)?
+        .subcommand(shrink_command(alloc)?)?
+        .subcommand(chart_command(alloc)?)?;
     Ok(some)
 }
 

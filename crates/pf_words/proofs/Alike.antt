@@ -22,7 +22,7 @@ use Rattle.clap.specs.declared.builder.action.ArgAction.TheVariants as action
 use Rattle.clap.specs.declared.builder.value_parser.ValueParser.{ValueParser}
 use Rattle.clap.specs.declared.error.kind.ErrorKind.{ErrorKind}
 use Rattle.clap.specs.declared.error.kind.ErrorKind.TheVariants as kind
-use Rattle.pf_command.specs.Words.{IsFaultOf, is_shown, own_fault, pulsefarm, run_fault, status_of_kind, values_fault, words_status}
+use Rattle.pf_words.specs.Words.{IsFaultOf, is_shown, own_fault, pulsefarm, run_fault, status_of_kind, values_fault, words_status}
 
 abbrev AllAre : Bool → Kinds → Type 0
 AllAre b [] = Unit {0}
