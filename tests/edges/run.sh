@@ -178,7 +178,8 @@ unwritten() { ended "$1" 2 '' "pulsefarm: the output can't be written: $2\n"; }
 streams() {
   : > out
   printf -- "$module" > m.erl
-  for words in "run m.erl $asked" 'steps commands' --help --version 'run --help' 'shrink --help'; do
+  for words in "run m.erl $asked" "chart m.erl $asked" "hunt m.erl --root main --limit 9 --property true --seeds 0..9" \
+    'steps commands' --help --version 'run --help' 'hunt --help'; do
     timeout 60 "$program" $words > /dev/full 2> err
     status=$?
     unwritten "$words to a full disk" 'No space left on device (os error 28)'
@@ -266,6 +267,90 @@ progress() {
   for words in "run m.erl $asked" "shrink m.erl $asked --property never --runs 5"; do
     script -qec "timeout 60 '$program' $words < in > out" /dev/null < in > err
     check "$words tells nothing on a terminal" test ! -s err
+  done
+}
+
+# How far a hunt came is told there too, in numbers that no test knows.
+# shellcheck disable=SC2086
+progress_of_a_hunt() {
+  : > in
+  words='hunt m.erl --root main --limit 1000 --property true --seeds 0..60000'
+  printf -- '-module(m).\n-export([main/0]).\nmain() -> true.\n' > m.erl
+  run $words
+  ended 'hunt without a terminal' 0 'no failure in 60000 seeds\n' ''
+  script -qec "timeout 60 '$program' $words < in > out" /dev/null < in > err
+  status=$?
+  printf 'no failure in 60000 seeds\n' > wanted
+  check 'hunt with errors on a terminal' test "$status" = 0
+  check 'hunt with errors on a terminal' cmp -s out wanted
+  check 'hunt tells its seeds on a terminal' \
+    grep -qE "^$(printf '\r')[0-9]+ of 60000 seeds, [0-9]+ seeds/s, [0-9]+ s left, 0 failures$(printf '\033')\[K" err
+  check 'hunt empties its line' test "$(tail -c 4 err)" = "$(printf '\r\033[K')"
+}
+
+# Schedules that stand in files, by themselves and in reports.
+# shellcheck disable=SC2086
+schedules_in_files() {
+  : > in
+  printf -- '-module(m).\n-export([main/0, server/0]).\nmain() -> spawn(m, server, []), server ! hello.\n' > m.erl
+  printf -- 'server() -> register(server, self()), receive hello -> ok end.\n' >> m.erl
+  words='run m.erl --root main --limit 1000'
+  run $words --schedule 0,1
+  cp out first
+  check 'schedule by itself' test "$status" = 0
+  printf '0,1\n' > schedule
+  run $words --schedule @schedule
+  check 'schedule in a file' cmp -s out first
+  run $words --schedule=@schedule
+  check 'schedule in a file, in one word' cmp -s out first
+  printf 'seed 3\nschedule 7,7\nschedule 0,1\ncomplete\n0/1 <0> spawn <1>\n' > 'a report'
+  run $words --schedule '@a report'
+  check 'last schedule of a report' cmp -s out first
+  run hunt m.erl --root main --limit 1000 --property returns --seeds 0..1000
+  check 'hunt' test "$status" = 1
+  cp out schedule
+  tail -n +3 out > first
+  run $words --schedule @schedule
+  check 'schedule of a hunt' cmp -s out first
+  { printf '0,1'; repeated ,4294967295 99998; } > schedule
+  run $words --schedule @schedule
+  check 'schedule that no command line can hold' test "$status" = 0
+  printf ',1\n' >> schedule
+  run $words --schedule @schedule
+  ended 'schedule of a line end before its last number' 2 '' \
+    "error: invalid value '@schedule' for '--schedule <L>': it wants $numbers$usage$more"
+  run $words --schedule @missing
+  ended 'missing file of a schedule' 2 '' "pulsefarm: missing: $missing"
+  mkdir -p folder
+  run $words --schedule=@folder
+  ended 'folder of a schedule' 2 '' 'pulsefarm: folder: Is a directory (os error 21)\n'
+  run $words --schedule "$(printf '@\377')"
+  ended 'schedule in a file whose name is no UTF-8' 2 '' "pulsefarm: \\\\xff: $no_text"
+}
+
+# What bash offers for the word $2 behind the words before it; $1 is the offer.
+offers() {
+  offered=$1
+  shift
+  bash -c '. "$1"; shift; COMP_WORDS=("$@"); COMP_CWORD=$(($# - 1)); _pulsefarm pulsefarm "${COMP_WORDS[-1]}" "${COMP_WORDS[-2]}"; echo "${COMPREPLY[*]}"' \
+    bash "$top/docs/pulsefarm.bash" "$@" > out
+  printf '%s\n' "$offered" > wanted
+  check "completion of $*" cmp -s out wanted
+}
+
+completions() {
+  printf -- "$module" > m.erl
+  offers 'hunt' pulsefarm hu
+  offers '--seeds --shrink' pulsefarm hunt m.erl --s
+  offers 'nocrash nodeadlock' pulsefarm run --property no
+  offers 'main' pulsefarm chart m.erl --root ''
+  offers '@m.erl' pulsefarm run --schedule @m.e
+  # Each option that is offered is one that the command takes.
+  for command in run hunt shrink chart check steps; do
+    run "$command" --help
+    for option in $(bash -c '. "$1"; _pulsefarm_options "$2"' bash "$top/docs/pulsefarm.bash" "$command"); do
+      check "$command takes $option" grep -qe "$option" out
+    done
   done
 }
 
@@ -386,6 +471,9 @@ words
 streams
 client_that_waits
 progress
+progress_of_a_hunt
+schedules_in_files
+completions
 cc -O2 -shared -fPIC -o lessen.so "$edges/lessen.c" -ldl || exit 1
 deep_sources
 deepest_of_each_form

@@ -1,15 +1,18 @@
 #!/bin/sh
-# Runs each module of examples/ by seeds from 0 on, asked for its property: of a race the property has to fail by the seed that the table of
-# examples/README.md names, and to hold by some seed below 1,000; of a mended form it has to hold by each seed below 1,000.
+# Hunts over each module of examples/, asked for its property: of a race the least seed that fails has to be that which the table of
+# examples/README.md names, below 1,000, and the property has to hold by some seed; of a mended form it has to hold by each seed below 10,000.
 #
 # Usage: run.sh [BINARY]; the program is that of the crate `pulsefarm` where none is named.
 set -u
 top=$(cd "$(dirname "$0")/../.." && pwd)
 . "$top/tests/compare.sh"
 
-# Runs the module $1 by the seed $2, asked for the property $3; leaves the status.
-judged() {
-  timeout 60 "$program" run "$top/examples/$1.erl" --root main --limit 2000 --seed "$2" --property "$3" > "$room/out" 2> "$room/err"
+# Hunts over the module $1, asked for the property $2, by the seeds $3, with the words from $4 on; leaves `out` and the status.
+hunts() {
+  module=$1 property=$2 seeds=$3
+  shift 3
+  timeout 300 "$program" hunt "$top/examples/$module.erl" --root main --limit 2000 --property "$property" --seeds "$seeds" "$@" \
+    > "$room/out" 2> "$room/err" < /dev/null
   status=$?
 }
 
@@ -23,26 +26,16 @@ count() {
   fi
 }
 
-# Looks for a seed by which the property $2 of the module $1 has the status $3; leaves it in `found`, or nothing.
-look_for() {
-  found=
-  seed=0
-  while [ -z "$found" ] && [ "$seed" -lt 1000 ]; do
-    judged "$1" "$seed" "$2"
-    [ "$status" != "$3" ] || found=$seed
-    seed=$((seed + 1))
-  done
-}
-
 # A line of the table: the module, its property and the seed.
 sed -n 's/^| `\([a-z_]*\)` | `\([a-z]*\)` | \([0-9]*\) |.*/\1 \2 \3/p' "$top/examples/README.md" > "$room/table"
-while read -r module property named; do
-  judged "$module" "$named" "$property"
-  count "$([ "$status" = 1 ] && echo yes)" "$module" "the property doesn't fail by seed $named"
-  look_for "$module" "$property" 0
-  count "$([ -n "$found" ] && echo yes)" "$module" "no seed lets the property hold"
-  look_for "${module}_mended" "$property" 1
-  count "$([ -z "$found" ] && echo yes)" "${module}_mended" "the property fails by seed $found"
+while read -r race asked named; do
+  hunts "$race" "$asked" 0..1000
+  found=$(sed -n '1s/^seed //p' "$room/out")
+  count "$([ "$status" = 1 ] && [ "$found" = "$named" ] && echo yes)" "$race" "the property fails by seed ${found:-none} first, and not by $named"
+  hunts "$race" "$asked" 0..1000 --all
+  count "$(grep -q '^holds ' "$room/out" && echo yes)" "$race" "no seed lets the property hold"
+  hunts "${race}_mended" "$asked" 0..10000
+  count "$([ "$status" = 0 ] && echo yes)" "${race}_mended" "$(head -n 1 "$room/out")"
 done < "$room/table"
 [ "$passed" = 30 ] || count no examples "there are not ten with their mended forms"
 tell_counts

@@ -1,0 +1,53 @@
+# Completions of pulsefarm for bash: `. docs/pulsefarm.bash`, or a copy in the folder that bash-completion reads.
+
+_pulsefarm_properties='returns true nocrash nodeadlock withinlimit never:'
+
+# The options of the command $1.
+_pulsefarm_options() {
+  case $1 in
+    run | chart) echo '--root --limit --seed --schedule --property --help' ;;
+    hunt) echo '--root --limit --property --seeds --workers --all --shrink --help' ;;
+    shrink) echo '--root --limit --schedule --property --runs --help' ;;
+    check) echo '--explain --help' ;;
+    steps) echo '--help' ;;
+    *) echo '--help --version' ;;
+  esac
+}
+
+# The exported functions without arguments of the files among the words.
+_pulsefarm_roots() {
+  local word
+  for word in "${COMP_WORDS[@]:2}"; do
+    if [ -f "$word" ]; then grep -o '[a-z][A-Za-z0-9_@]*/0' -- "$word" | cut -d/ -f1; fi
+  done | sort -u
+}
+
+_pulsefarm() {
+  local word=$2 before=$3 command=${COMP_WORDS[1]:-}
+  COMPREPLY=()
+  if [ "$COMP_CWORD" = 1 ]; then
+    mapfile -t COMPREPLY < <(compgen -W "run hunt shrink chart check steps $(_pulsefarm_options '')" -- "$word")
+    return
+  fi
+  case $before in
+    --property) mapfile -t COMPREPLY < <(compgen -W "$_pulsefarm_properties" -- "$word") ;;
+    --root) mapfile -t COMPREPLY < <(compgen -W "$(_pulsefarm_roots)" -- "$word") ;;
+    --schedule)
+      if [ "${word:0:1}" = @ ]; then
+        mapfile -t COMPREPLY < <(compgen -f -P @ -- "${word:1}")
+      else
+        mapfile -t COMPREPLY < <(compgen -W 'none @' -- "$word")
+      fi
+      ;;
+    --limit | --seed | --seeds | --workers | --shrink | --runs) ;;
+    *)
+      if [ "${word:0:1}" = - ]; then
+        mapfile -t COMPREPLY < <(compgen -W "$(_pulsefarm_options "$command")" -- "$word")
+      else
+        mapfile -t COMPREPLY < <(compgen -f -- "$word")
+      fi
+      ;;
+  esac
+}
+
+complete -o filenames -F _pulsefarm pulsefarm
