@@ -6,7 +6,7 @@ use Rattle.pf_desks.specs.Desk.{Job, job_meant}
 
 -- a run comes to its report
 pub comes_to_report : (j : Job) (r : Report) → j.runs ≡ zero → IsResult (job_meant j) (report r) → Means (job_meant j) r
-comes_to_report j r e (plain r z h) = h
+comes_to_report j _ e (plain r z h) = h
 
 pub comes_to_no_other : (j : Job) → j.runs ≡ zero → (s : JobResult) → IsResult (job_meant j) s → (r : Report) × (s ≡ report r)
 comes_to_no_other j e _ (plain r z h) = (r, refl)

@@ -1,5 +1,5 @@
 -- Rows: what one more counts, and the rows of two parts.
-use Rattle.std.proofs.Common.{◌≡◌, ◌⊎◌, inl, inr, ◌+◌, ◌-◌, ◌<◌, ◌≤◌, ℕ, suc, Bool, true, false, ◌&&◌, List, [], ◌∷◌, Option, Some, None, refl, sym, ap, ap₂, ◌∙◌, subst, arith}
+use Rattle.std.proofs.Common.{◌≡◌, ◌⊎◌, inl, inr, ◌+◌, ◌-◌, ◌^◌, ◌<◌, ◌≤◌, ℕ, suc, Bool, true, false, ◌&&◌, List, [], ◌∷◌, Option, Some, None, refl, sym, ap, ap₂, ◌∙◌, subst, arith}
 use Rattle.std.specs.Prelude.{if◌then◌else◌, ◌↔◌, nat_eq}
 use Rattle.std.specs.Cmp.Lexicographic.{pointwise, bytes_decides}
 use Rattle.std.proofs.lemmas.Bool.{and_parts}
@@ -181,3 +181,24 @@ module _ (j : Job) where
   one_tally a _ _ _ (and_seed b rows r l t m) (no_seed _ k) = absurd (omega arith)
   one_tally a _ _ _ (and_seed b rows r l t m) (and_seed _ others q k u n) =
       ap₂ (λ zs z. with_row zs (met b z)) (one_tally a b rows others t u) (one_report j b r q m n)
+
+  -- the rows to where the seeds end
+  pub ends_there : (a b s : ℕ) (rows : List Row) → Tallies j a s rows → (s ≡ a) ⊎ (s ≤ b) → b ≤ s → Tallies j a b rows
+  ends_there a b s rows t (inl e) l =
+      let q = one_tally a s rows [] t (no_seed s (omega arith)) in
+      subst (Tallies j a b) (sym q) (no_seed b (omega arith))
+  ends_there a b s rows t (inr k) l = let e : s ≡ b = omega arith in subst (λ n. Tallies j a n rows) e t
+
+  -- one seed more
+  pub one_seed_more : (a s : ℕ) (rows : List Row) (r : Report) → a ≤ s → Tallies j a s rows → Means (by_seed j s) r
+      → Tallies j a (s + 1) (with_row rows (met s r))
+  one_seed_more a s rows r l t m =
+      let e : suc s ≡ s + 1 = omega arith in subst (λ n. Tallies j a n (with_row rows (met s r))) e (and_seed s rows r l t m)
+
+  -- what two parts count, one behind the other, is within bounds
+  pub counted_both : (a c b : ℕ) (xs ys : List Row) → a ≤ c → c ≤ b → b < 2 ^ 64 → Tallies j a c xs → Tallies j c b ys
+      → counted xs + counted ys < 2 ^ 64
+  counted_both a c b xs ys l k fits t u =
+      let first = each_is_counted a c xs t in
+      let second = each_is_counted c b ys u in
+      omega arith

@@ -12,7 +12,7 @@ module _ (y : Row) where
   behind : (x : Row) (xs : List Row) (i : ℕ) → NoneBefore (x ∷ xs) y (suc i) → NoneBefore xs y i
   behind x xs i h k z l e = h (suc k) z (omega arith) e
 
-  pub stands_behind : (xs : List Row) → NoneBefore xs y (length xs) → rows_in xs ++ row_of y ∷ [] ≡ with_row (rows_in xs) (row_of y)
+  pub stands_behind : (xs : List Row) → NoneBefore xs y (length xs) → rows_in (xs ++ y ∷ []) ≡ with_row (rows_in xs) (row_of y)
   stands_behind [] h = refl
   stands_behind (x ∷ xs) h =
       ap (λ zs. row_of x ∷ zs) (stands_behind xs (behind x xs (length xs) h)) ∙ sym (past_unlike (row_of x) (rows_in xs) (row_of y) (h 0 x (omega arith) refl))
@@ -33,3 +33,8 @@ pub counts_within : (xs : List Row) (i : ℕ) (x : Row) → slice_get xs i ≡ S
 counts_within [] i x e = absurd (cc)
 counts_within (w ∷ xs) zero x e = let q : w ≡ x = cc in let c = ap (λ v. v.count) q in omega arith
 counts_within (w ∷ xs) (suc i) x e = let h = counts_within xs i x e in omega arith
+
+-- a list without length is empty
+pub nothing_left : (xs : List Row) → length xs ≡ 0 → xs ≡ []
+nothing_left [] e = refl
+nothing_left (x ∷ xs) e = absurd (omega arith)

@@ -25,6 +25,7 @@ fn edge(from: u64, end: u64, first: u64, workers: u64) -> u64
 }
 
 /// The least seed from a first to before an end whose run fails, by so many workers.
+#[cycle(first)]
 pub fn first_failing<R: Threads + Sync>(
     rt: &R,
     alloc: Global,
@@ -41,17 +42,15 @@ pub fn first_failing<R: Threads + Sync>(
     let low = workers / 2;
     let high = workers - low;
     let middle = edge(from, end, low, workers);
-    let (front, back) = join(
-        rt,
-        move || -> Result<Option<Failure>, NoMemory>
-            requires { IsSync R.row }
-            ensures { IfOk result (λ f. FirstFailing (job_meant job.entry.now) from middle (option_map failure_of f)) }
-        { first_failing(rt, alloc, job, from, middle, low) },
-        move || -> Result<Option<Failure>, NoMemory>
-            requires { IsSync R.row }
-            ensures { IfOk result (λ f. FirstFailing (job_meant job.entry.now) middle end (option_map failure_of f)) }
-        { first_failing(rt, alloc, job, middle, end, high) },
-    );
+    let front_part = move || -> Result<Option<Failure>, NoMemory>
+        requires { IsSync R.row }
+        ensures { IfOk result (λ f. FirstFailing (job_meant job.entry.now) from middle (option_map failure_of f)) }
+    { first_failing(rt, alloc, job, from, middle, low) };
+    let back_part = move || -> Result<Option<Failure>, NoMemory>
+        requires { IsSync R.row }
+        ensures { IfOk result (λ f. FirstFailing (job_meant job.entry.now) middle end (option_map failure_of f)) }
+    { first_failing(rt, alloc, job, middle, end, high) };
+    let (front, back) = join(rt, front_part, back_part);
     match front? {
         Some(failure) => Ok(Some(failure)),
         None => back,
@@ -59,6 +58,7 @@ pub fn first_failing<R: Threads + Sync>(
 }
 
 /// The rows of the runs by the seeds from a first to before an end, by so many workers.
+#[cycle(tallied)]
 pub fn tally_all<R: Threads + Sync>(
     rt: &R,
     alloc: Global,
@@ -75,17 +75,15 @@ pub fn tally_all<R: Threads + Sync>(
     let low = workers / 2;
     let high = workers - low;
     let middle = edge(from, end, low, workers);
-    let (front, back) = join(
-        rt,
-        move || -> Result<Tally, NoMemory>
-            requires { IsSync R.row }
-            ensures { IfOk result (λ t. Tallies (job_meant job.entry.now) from middle (rows_of t)) }
-        { tally_all(rt, alloc, job, from, middle, low) },
-        move || -> Result<Tally, NoMemory>
-            requires { IsSync R.row }
-            ensures { IfOk result (λ t. Tallies (job_meant job.entry.now) middle end (rows_of t)) }
-        { tally_all(rt, alloc, job, middle, end, high) },
-    );
+    let front_part = move || -> Result<Tally, NoMemory>
+        requires { IsSync R.row }
+        ensures { IfOk result (λ t. Tallies (job_meant job.entry.now) from middle (rows_of t)) }
+    { tally_all(rt, alloc, job, from, middle, low) };
+    let back_part = move || -> Result<Tally, NoMemory>
+        requires { IsSync R.row }
+        ensures { IfOk result (λ t. Tallies (job_meant job.entry.now) middle end (rows_of t)) }
+    { tally_all(rt, alloc, job, middle, end, high) };
+    let (front, back) = join(rt, front_part, back_part);
     let mut tally = front?;
     tally.join(back?)?;
     Ok(tally)

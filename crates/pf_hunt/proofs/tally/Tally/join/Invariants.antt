@@ -7,6 +7,7 @@ use Rattle.pf_hunt.proofs.tally.Tally.join.Given as goal
 -- with what is left, the rows come to those of both
 abbrev pub invariant-loop-row : goal.invariant-loop-row
 invariant-loop-row l = record {
-  rows : joined (rows_of l.self) (rows_in (into_iter_items l.row-iterator)) ≡ joined (rows_of l.fn.self.now) (rows_of l.fn.behind);
-  count : counted (rows_of l.self) + counted (rows_in (into_iter_items l.row-iterator)) ≡ counted (rows_of l.fn.self.now) + counted (rows_of l.fn.behind);
+  rows : joined (rows_of l.self) (rows_in (into_iter_items l.row-iterator)) ≡ joined (rows_of l.fn.self) (rows_of l.fn.behind);
+  count :
+    counted (rows_of l.self) + counted (rows_in (into_iter_items l.row-iterator)) ≡ counted (rows_of l.fn.self) + counted (rows_of l.fn.behind);
 }

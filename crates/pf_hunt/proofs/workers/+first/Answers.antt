@@ -1,0 +1,19 @@
+use Rattle.std.proofs.Common.{Ok, ap, ◌∙◌}
+use Rattle.std.specs.Prelude.{option_map}
+use Rattle.std.proofs.lemmas.Result.{IfOk-at_ok, IfOk-weaker}
+use Rattle.pf_desks.specs.Desk.{job_meant}
+use Rattle.pf_hunt.specs.Hunts.{FirstFailing}
+use Rattle.pf_hunt.specs.Views.{failure_of}
+use Rattle.pf_hunt.proofs.Firsts.{in_second, none_of}
+use Rattle.pf_hunt.proofs.workers.+first.Goals as goal
+
+pub returns-in-None : goal.returns-in-None
+returns-in-None g t c =
+    let j = job_meant c.args.job.now in
+    let from = c.args.from in
+    let middle = c.edge-middle.result in
+    let end = c.args.end in
+    let none = c.in_ok-failure.was ∙ ap Ok c.in-None.is in
+    let front = none_of j from middle (IfOk-at_ok (λ f. FirstFailing j from middle (option_map failure_of f)) none c.join-front.ensures.first) in
+    IfOk-weaker c.join-front.result.1 (λ f. FirstFailing j middle end (option_map failure_of f)) (λ f. FirstFailing j from end (option_map failure_of f))
+      (λ f back. in_second j from middle end (option_map failure_of f) c.edge-middle.ensures.0 front back) c.join-front.ensures.second

@@ -1,0 +1,27 @@
+use Rattle.std.proofs.Common.{arith}
+use Rattle.std.proofs.lemmas.Result.{IfOk-at_ok}
+use Rattle.pf_desks.specs.Desk.{job_meant}
+use Rattle.pf_hunt.specs.Hunts.{Tallies}
+use Rattle.pf_hunt.specs.Views.{rows_of}
+use Rattle.pf_hunt.proofs.Counting.{counted_both, parts_are_the_whole}
+use Rattle.pf_hunt.proofs.workers.+tallied.Goals as goal
+
+pub join-requires : goal.join-requires
+join-requires g t c =
+    let j = job_meant c.args.job.now in
+    let from = c.args.from in
+    let middle = c.edge-middle.result in
+    let end = c.args.end in
+    let front = IfOk-at_ok (λ r. Tallies j from middle (rows_of r)) c.in_ok-tally.was c.join-front.ensures.first in
+    let back = IfOk-at_ok (λ r. Tallies j middle end (rows_of r)) c.in_ok-back.was c.join-front.ensures.second in
+    counted_both j from middle end _ _ c.edge-middle.ensures.0 c.edge-middle.ensures.1 c.ranges.end.fits front back
+
+pub returns : goal.returns
+returns g t c =
+    let j = job_meant c.args.job.now in
+    let from = c.args.from in
+    let middle = c.edge-middle.result in
+    let end = c.args.end in
+    let front = IfOk-at_ok (λ r. Tallies j from middle (rows_of r)) c.in_ok-tally.was c.join-front.ensures.first in
+    let back = IfOk-at_ok (λ r. Tallies j middle end (rows_of r)) c.in_ok-back.was c.join-front.ensures.second in
+    rw c.in_ok-join.ensures (parts_are_the_whole j from middle end _ _ c.edge-middle.ensures.0 c.edge-middle.ensures.1 front back)
