@@ -22,7 +22,7 @@ use Rattle.clap.specs.declared.builder.action.ArgAction.TheVariants as action
 use Rattle.clap.specs.declared.builder.value_parser.ValueParser.{ValueParser}
 use Rattle.clap.specs.declared.error.kind.ErrorKind.{ErrorKind}
 use Rattle.clap.specs.declared.error.kind.ErrorKind.TheVariants as kind
-use Rattle.pf_words.specs.Words.{IsFaultOf, is_shown, own_fault, pulsefarm, run_fault, status_of_kind, values_fault, words_status}
+use Rattle.pf_words.specs.Words.{IsFaultOf, fault_under, hunt_fault, is_shown, own_fault, pulsefarm, run_fault, sought_fault, status_of_kind, values_fault, words_status}
 
 abbrev AllAre : Bool → Kinds → Type 0
 AllAre b [] = Unit {0}
@@ -233,7 +233,7 @@ alike_built a e k h words =
     alike_no)
 
 alike_words : (words : List Text) → Alike (fault_of pulsefarm words)
-alike_words words = alike_built (built pulsefarm) refl (refl, (refl, (refl, (refl, tt)))) nothing_held (argument_words (built pulsefarm) words)
+alike_words words = alike_built (built pulsefarm) refl (refl, (refl, (refl, (refl, (refl, (refl, tt)))))) nothing_held (argument_words (built pulsefarm) words)
 
 -- ---- statuses
 
@@ -258,13 +258,27 @@ values_shown None (Some b) = refl
 values_shown (Some a) None = refl
 values_shown (Some a) (Some b) = refl
 
-shown_under : (is_run : Bool) (k : ErrorKind) → is_shown k ≡ false → is_shown (if is_run then k else kind.InvalidValue) ≡ false
-shown_under true k h = h
-shown_under false k h = refl
+-- nor what a hunt seeks
+sought_shown : (all : Bool) (shrink : Option Text) → is_shown (sought_fault all shrink) ≡ false
+sought_shown true None = refl
+sought_shown true (Some w) = refl
+sought_shown false None = refl
+sought_shown false (Some w) = refl
+
+either_shown : (b : Bool) (k l : ErrorKind) → is_shown k ≡ false → is_shown l ≡ false → is_shown (if b then k else l) ≡ false
+either_shown true k l h g = h
+either_shown false k l h g = g
+
+under_shown : (name : Text) (rows : List Row) → is_shown (fault_under name rows) ≡ false
+under_shown name rows =
+    let run : is_shown (run_fault rows) ≡ false = values_shown _ _ in
+    either_shown (bytes_eq name (codes "run")) _ _ run
+    (either_shown (bytes_eq name (codes "chart")) _ _ run
+    (either_shown (bytes_eq name (codes "hunt")) (hunt_fault rows) kind.InvalidValue (sought_shown _ _) refl))
 
 own_shown : (o : Option (Text × List Row)) → is_shown (own_fault o) ≡ false
 own_shown None = refl
-own_shown (Some p) = shown_under (bytes_eq p.0 (codes "run")) (run_fault p.1) (values_shown _ _)
+own_shown (Some p) = under_shown p.0 p.1
 
 status_of : (words : List Text) (k : ErrorKind) → (IsAmong k (fault_of pulsefarm words)) ⊎ ((fault_of pulsefarm words ≡ []) × (k ≡ own_fault (subcommand_of pulsefarm words)))
     → status_of_kind k ≡ (if list_any is_shown (fault_of pulsefarm words) then 0 else 2)

@@ -51,10 +51,13 @@ run_app = one_run_app (codes "run")
 abbrev pub chart_app : App
 chart_app = one_run_app (codes "chart")
 
--- hunt [FILE] --root F --limit N --property P --seeds A..B [--workers N] [--all] [--shrink N]
+-- what must be given of a hunt: hunt [FILE] --root F --limit N --property P --seeds A..B
+abbrev pub seeded_app : App
+seeded_app = with_rule (with_rule (bounded_app (codes "hunt")) (required_rule (codes "property"))) (required_rule (codes "seeds"))
+
+-- and behind it [--workers N] [--all] [--shrink N]
 abbrev pub hunt_app : App
-hunt_app =
-    with_rule (with_rule (with_rule (with_rule (with_rule (bounded_app (codes "hunt")) (required_rule (codes "property"))) (required_rule (codes "seeds"))) (option_rule (codes "workers"))) (flag_rule (codes "all"))) (option_rule (codes "shrink"))
+hunt_app = with_rule (with_rule (with_rule seeded_app (option_rule (codes "workers"))) (flag_rule (codes "all"))) (option_rule (codes "shrink"))
 
 -- shrink [FILE] --root F --limit N --schedule L --property P --runs N
 abbrev pub shrink_app : App
@@ -78,10 +81,12 @@ top_shape =
 abbrev pub bare_app : App
 bare_app = record (new_app (codes "pulsefarm")) { top = top_shape }
 
--- with the commands of runs alone
+-- with the commands that find a run, and then with those that make something of one
+abbrev pub finding_app : App
+finding_app = with_subcommand (with_subcommand bare_app run_app.top) hunt_app.top
+
 abbrev pub runs_app : App
-runs_app =
-    with_subcommand (with_subcommand (with_subcommand (with_subcommand bare_app run_app.top) hunt_app.top) shrink_app.top) chart_app.top
+runs_app = with_subcommand (with_subcommand finding_app shrink_app.top) chart_app.top
 
 -- the command line
 abbrev pub pulsefarm : App

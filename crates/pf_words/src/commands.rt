@@ -3,7 +3,7 @@
 ghost use Rattle.std.specs.Prelude.{◌≡◌, IfOk, false, codes};
 ghost use Rattle.clap.specs.Words.{app_of, rule_of, new_app};
 ghost use Rattle.clap.specs.declared.builder.command.Command.TheViews.{out-Command};
-ghost use Rattle.pf_words.specs.Words.{bare_app, bounded_app, chart_app, check_app, file_rule, flag_rule, hunt_app, one_run_app, option_rule, pulsefarm, required_rule, run_app, runs_app, shrink_app, steps_app};
+ghost use Rattle.pf_words.specs.Words.{bare_app, bounded_app, chart_app, check_app, file_rule, flag_rule, finding_app, hunt_app, one_run_app, option_rule, pulsefarm, required_rule, run_app, runs_app, seeded_app, shrink_app, steps_app};
 
 use clap::{Arg, ArgAction, Command};
 use std::alloc::{AllocError, Global};
@@ -160,19 +160,28 @@ pub(crate) fn chart_command<'a>(alloc: Global) -> Result<Command<'a>, AllocError
     one_run(alloc, "chart", about, CHART_USAGE)
 }
 
+/// What must be given of a hunt.
+fn seeded<'a>(alloc: Global, about: &'a str) -> Result<Command<'a>, AllocError>
+    ensures app { IfOk result (λ c. app_of c ≡ seeded_app) }
+    ensures local { IfOk result (λ c. (out-Command c).has_globals ≡ false) }
+{
+    let seeds = "Seeds from A to before B, each from 0 to 18446744073709551615";
+    let seeded = bounded(alloc, "hunt", about)?
+        .arg(required(alloc, "property", "P", JUDGING_HELP))?
+        .arg(required(alloc, "seeds", "A..B", seeds))?;
+    Ok(seeded)
+}
+
 /// `hunt`.
 pub(crate) fn hunt_command<'a>(alloc: Global) -> Result<Command<'a>, AllocError>
     ensures app { IfOk result (λ c. app_of c ≡ hunt_app) }
     ensures local { IfOk result (λ c. (out-Command c).has_globals ≡ false) }
 {
     let about = "Runs a module by many seeds and reports the least that fails a property";
-    let seeds = "Seeds from A to before B, each from 0 to 18446744073709551615";
     let workers = "Threads that run seeds, from 1 to 64 [default: the machine's processors]";
     let all = "Tells each outcome, by how many seeds and the least of them, and runs all seeds";
     let shrink = "Shrinks the schedule of the seed that fails, within N runs from 1 to 1,000";
-    let hunt = bounded(alloc, "hunt", about)?
-        .arg(required(alloc, "property", "P", JUDGING_HELP))?
-        .arg(required(alloc, "seeds", "A..B", seeds))?
+    let hunt = seeded(alloc, about)?
         .arg(option(alloc, "workers", "N", workers))?
         .arg(flag(alloc, "all", all))?
         .arg(option(alloc, "shrink", "N", shrink))?;
@@ -228,17 +237,26 @@ fn top<'a>(alloc: Global) -> Command<'a>
         .disable_help_subcommand(true)
 }
 
+/// The program with the commands that find a run.
+fn commands_that_find<'a>(alloc: Global) -> Result<Command<'a>, AllocError>
+    ensures app { IfOk result (λ c. app_of c ≡ finding_app) }
+    ensures local { IfOk result (λ c. (out-Command c).has_globals ≡ false) }
+{
+    let some = top(alloc)
+        .subcommand(run_command(alloc)?)?
+        .subcommand(hunt_command(alloc)?)?;
+    Ok(some)
+}
+
 /// The program with the commands of runs alone.
 fn commands_of_runs<'a>(alloc: Global) -> Result<Command<'a>, AllocError>
     ensures app { IfOk result (λ c. app_of c ≡ runs_app) }
     ensures local { IfOk result (λ c. (out-Command c).has_globals ≡ false) }
 {
-    let some = top(alloc)
-        .subcommand(run_command(alloc)?)?
-        .subcommand(hunt_command(alloc)?)?
+    let more = commands_that_find(alloc)?
         .subcommand(shrink_command(alloc)?)?
         .subcommand(chart_command(alloc)?)?;
-    Ok(some)
+    Ok(more)
 }
 
 /// The whole command line.

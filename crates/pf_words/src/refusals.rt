@@ -59,7 +59,13 @@ pub(crate) fn refuse(alloc: Global, valued: Valued, kind: ErrorKind, text: &str)
 }
 
 /// An error that names the value of an option, as `limit <N>`.
-pub(crate) fn refuse_value(alloc: Global, valued: Valued, option: &str, value: &str, wants: &str) -> Error
+pub(crate) fn refuse_value(
+    alloc: Global,
+    valued: Valued,
+    option: &str,
+    value: &str,
+    wants: &str,
+) -> Error
     ensures { (kind_of result ≡ ErrorKind.OutOfMemory) ⊎ (kind_of result ≡ ErrorKind.InvalidValue) }
 {
     match format!(in alloc; "invalid value '{value}' for '--{option}': it wants {wants}") {
@@ -69,7 +75,13 @@ pub(crate) fn refuse_value(alloc: Global, valued: Valued, option: &str, value: &
 }
 
 /// The same of an option whose value is a number.
-pub(crate) fn refuse_number(alloc: Global, valued: Valued, name: &str, value: &str, wants: &str) -> Error
+pub(crate) fn refuse_number(
+    alloc: Global,
+    valued: Valued,
+    name: &str,
+    value: &str,
+    wants: &str,
+) -> Error
     ensures { (kind_of result ≡ ErrorKind.OutOfMemory) ⊎ (kind_of result ≡ ErrorKind.InvalidValue) }
 {
     match format!(in alloc; "{name} <N>") {

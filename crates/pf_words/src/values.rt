@@ -195,7 +195,11 @@ fn seeds_of(text: &str) -> Option<(u64, u64)>
     let (front, back) = text.split_once('.')?;
     let first = long_number_of(front.as_bytes())?;
     let end = behind_dot(back.as_bytes())?;
-    if first < end { Some((first, end)) } else { None }
+    if first < end {
+        Some((first, end))
+    } else {
+        None
+    }
 }
 
 /// The seeds of a hunt.

@@ -8,8 +8,8 @@ use crate::asked::{CheckWords, HuntWords, RunWords, ShrinkWords, StepsWords, Wor
 use crate::commands::command;
 use crate::refusals::{Valued, mistake};
 use crate::values::{
-    RUNS, STEPS, choices, given_schedule, is_given, named_file, named_property, number, seeds, sought,
-    value, workers,
+    RUNS, STEPS, choices, given_schedule, is_given, named_file, named_property, number, seeds,
+    sought, value, workers,
 };
 use clap::error::ErrorKind;
 use clap::{ArgMatches, Error};
