@@ -1,11 +1,12 @@
 -- Why a job isn't asked for, and what is known of one that is.
-use Rattle.std.proofs.Common.{◌≡◌, ◌⊎◌, inl, inr, ℕ, zero, ◌≤◌, true, ◌&&◌, List, Option, Some, None, Err, refl, sym, subst, arith}
+use Rattle.std.proofs.Common.{◌≡◌, ◌⊎◌, inl, inr, ℕ, zero, ◌≤◌, true, ◌&&◌, List, Option, Some, None, Err, refl, sym, ap, ap₂, ◌∙◌, subst, arith}
 use Rattle.std.specs.Prelude.{nat_le}
 use Rattle.std.proofs.lemmas.Bool.{and_parts, leb-true}
 use Rattle.pf_fault.specs.declared.fault.OrNoMemory.{OrNoMemory}
 use Rattle.pf_fault.specs.declared.fault.OrNoMemory.TheVariants.{NoMemory, Fault}
 use Rattle.pf_model.specs.Limits.{is_in_range}
-use Rattle.pf_model.specs.Meaning.{Choices, schedule}
+use Rattle.pf_model.specs.Meaning.{Choices, schedule, seed}
+use Rattle.pf_model.specs.Properties.{Property}
 use Rattle.pf_desks.specs.Desk.{Stored, Job, count_of, may_shrink, runs_of}
 use Rattle.pf_sched.specs.declared.choices.JobKind.{JobKind}
 use Rattle.pf_sched.specs.declared.choices.JobKind.TheVariants.{Trial, Shrinking}
@@ -41,3 +42,19 @@ within_bounds j kept =
     let runs = few_runs kept.asked parts.1 in
     let asked = kept.runs in
     (leb-true j.limit 100000 limit, omega arith)
+
+-- the run by a seed of what is kept is kept
+pub kept_by_seed : (j : Job) (m : Stored) (q : Property) (s : ℕ) → m ≡ j.stored → IsKept j
+    → IsKept (record { stored = m; root = j.root; property = q; choices = seed s; limit = j.limit; runs = zero })
+kept_by_seed j m q s e kept =
+    let parts = and_parts (is_in_range j.limit (count_of j.choices)) (may_shrink kept.asked) kept.within in
+    let range = and_parts (nat_le 1 j.limit) (nat_le j.limit 100000 && nat_le (count_of j.choices) 100000) parts.0 in
+    let most = (and_parts (nat_le j.limit 100000) (nat_le (count_of j.choices) 100000) range.1).0 in
+    record {
+      name = kept.name;
+      root = ap (λ n. root_in n kept.name) e ∙ kept.root;
+      asked = None;
+      runs = refl;
+      within = ap₂ (λ low high. (low && (high && nat_le 0 100000)) && true) range.0 most;
+      shrinks = inl refl;
+    }

@@ -7,3 +7,4 @@ pub mod Sliced
 pub mod Tries
 pub mod Hunted
 pub mod Shrunk
+pub mod Crossing
