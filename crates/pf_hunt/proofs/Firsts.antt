@@ -1,5 +1,5 @@
 -- The least seed that fails: part by part, and no other.
-use Rattle.std.proofs.Common.{◌≡◌, ◌⊎◌, inl, inr, ◌<◌, ◌≤◌, ℕ, suc, Bool, true, false, Option, Some, None, refl, sym, ap, ◌∙◌, subst, arith}
+use Rattle.std.proofs.Common.{◌≡◌, ◌⊎◌, inl, inr, ◌+◌, ◌<◌, ◌≤◌, ℕ, Bool, true, false, Option, Some, None, refl, sym, ap, ◌∙◌, subst, arith}
 use Rattle.std.proofs.lemmas.Bool.{cases_lt, cases_order}
 use Rattle.pf_model.specs.Meaning.{Job, Report, Means}
 use Rattle.pf_model.specs.Shrinking.{is_failure}
@@ -25,15 +25,15 @@ module _ (j : Job) where
     | inr l ↦ k s r l to m
   ]
 
-  none_at : (b : ℕ) (r : Report) → Means (by_seed j b) r → is_failure r.verdict ≡ false → NoneFails j b (suc b)
+  none_at : (b : ℕ) (r : Report) → Means (by_seed j b) r → is_failure r.verdict ≡ false → NoneFails j b (b + 1)
   none_at b r m f s t from to n =
       let e : s ≡ b = omega arith in
       let q = one_report j b t r (subst (λ i. Means (by_seed j i) t) e n) m in
       ap (λ z. is_failure z.verdict) q ∙ f
 
   -- one seed more
-  pub one_more : (a b : ℕ) (r : Report) → NoneFails j a b → Means (by_seed j b) r → is_failure r.verdict ≡ false → NoneFails j a (suc b)
-  one_more a b r h m f = none_in_parts a b (suc b) h (none_at b r m f)
+  pub one_more : (a b : ℕ) (r : Report) → NoneFails j a b → Means (by_seed j b) r → is_failure r.verdict ≡ false → NoneFails j a (b + 1)
+  one_more a b r h m f = none_in_parts a b (b + 1) h (none_at b r m f)
 
   -- the first part has one that fails
   pub in_first : (a c b : ℕ) (p : ℕ × Report) → c ≤ b → FirstFailing j a c (Some p) → FirstFailing j a b (Some p)

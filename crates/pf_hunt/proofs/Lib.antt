@@ -2,3 +2,4 @@ pub mod Asking
 pub mod Firsts
 pub mod Counting
 pub mod Places
+pub mod Crossing

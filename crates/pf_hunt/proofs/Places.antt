@@ -1,6 +1,7 @@
 -- Where a row stands, and what becomes of the rows there.
-use Rattle.std.proofs.Common.{◌≡◌, ◌+◌, ◌<◌, ◌≤◌, ℕ, zero, suc, true, false, List, [], ◌∷◌, ◌++◌, Some, None, refl, sym, ap, ◌∙◌, arith, length, map}
+use Rattle.std.proofs.Common.{◌≡◌, inl, inr, ◌+◌, ◌<◌, ◌≤◌, ℕ, zero, suc, true, false, List, [], ◌∷◌, ◌++◌, Some, None, refl, sym, ap, ◌∙◌, arith, length, map}
 use Rattle.std.specs.Prelude.{slice_get, slice_set}
+use Rattle.std.proofs.lemmas.Bool.{cases_lt}
 use Rattle.pf_hunt.specs.Rows as rows
 use Rattle.pf_hunt.specs.Rows.{counted, is_like, more_often, with_row}
 use Rattle.pf_hunt.specs.Views.{row_of, rows_in, NoneBefore, IsFirstLike}
@@ -11,6 +12,16 @@ module _ (y : Row) where
   -- past the first row
   behind : (x : Row) (xs : List Row) (i : ℕ) → NoneBefore (x ∷ xs) y (suc i) → NoneBefore xs y i
   behind x xs i h k z l e = h (suc k) z (omega arith) e
+
+  -- one row more that is not like it
+  pub one_row_more : (xs : List Row) (i : ℕ) (x : Row) → NoneBefore xs y i → slice_get xs i ≡ Some x → is_like (row_of x) (row_of y) ≡ false → NoneBefore xs y (i + 1)
+  one_row_more xs i x h e l k z m f = elim (cases_lt k i) [
+      inl b ↦ h k z b f
+    | inr b ↦
+        let at : k ≡ i = omega arith in
+        let q : z ≡ x = cc in
+        ap (λ v. is_like (row_of v) (row_of y)) q ∙ l
+  ]
 
   pub stands_behind : (xs : List Row) → NoneBefore xs y (length xs) → rows_in (xs ++ y ∷ []) ≡ with_row (rows_in xs) (row_of y)
   stands_behind [] h = refl

@@ -1,6 +1,29 @@
-use Rattle.std.proofs.Common.{arith}
-use Rattle.pf_hunt.specs.Hunts.{none_fails}
+use Rattle.std.proofs.Common.{Some, ap, subst, arith}
+use Rattle.std.specs.Prelude.{option_map}
+use Rattle.pf_desks.specs.Desk.{job_meant}
+use Rattle.pf_hunt.specs.Hunts.{FirstFailing, none_fails}
+use Rattle.pf_hunt.specs.Views.{failure_of}
+use Rattle.pf_hunt.proofs.Firsts.{in_first, in_second, none_in_parts, none_of}
 use Rattle.pf_hunt.proofs.blocks.hunt.Goals as goal
+
+pub returns-in-Some : goal.returns-in-Some
+returns-in-Some g c =
+    let j = job_meant c.args.job.now in
+    let at = c.loop-at in
+    let next = c.block_end-next.result in
+    let found = subst (λ f. FirstFailing j at.at next (option_map failure_of f)) c.in-Some.is c.in_ok-failure.ensures in
+    in_second j c.args.from at.at c.args.end _ at.invariant.behind at.invariant.none (in_first j at.at next c.args.end _ c.block_end-next.ensures.1 found)
+
+pub loop-at-preserved : goal.loop-at-preserved
+loop-at-preserved g c =
+    let j = job_meant c.args.job.now in
+    let at = c.loop-at in
+    let next = c.block_end-next.result in
+    let none = subst (λ f. FirstFailing j at.at next (option_map failure_of f)) c.in_default.is c.in_ok-failure.ensures in
+    record {
+      behind = omega (arith, c.block_end-next.ensures.0, at.invariant.behind);
+      none = none_in_parts j c.args.from at.at next at.invariant.none (none_of j at.at next none);
+    }
 
 pub returns : goal.returns
 returns g c =

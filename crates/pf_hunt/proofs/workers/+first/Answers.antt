@@ -1,11 +1,29 @@
+use denote.Param.Send.{sendable}
 use Rattle.std.proofs.Common.{Ok, ap, ◌∙◌}
 use Rattle.std.specs.Prelude.{option_map}
 use Rattle.std.proofs.lemmas.Result.{IfOk-at_ok, IfOk-weaker}
 use Rattle.pf_desks.specs.Desk.{job_meant}
 use Rattle.pf_hunt.specs.Hunts.{FirstFailing}
 use Rattle.pf_hunt.specs.Views.{failure_of}
-use Rattle.pf_hunt.proofs.Firsts.{in_second, none_of}
+use Rattle.pf_sched.proofs.Crossing as sched
+use Rattle.pf_hunt.proofs.Crossing.{crosses}
+use Rattle.pf_hunt.proofs.Firsts.{in_first, in_second, none_of}
 use Rattle.pf_hunt.proofs.workers.+first.Goals as goal
+
+pub join-front-requires-send-F : goal.join-front-requires-send-F
+join-front-requires-send-F g t c κs = search (sched.crosses, c.requires, sendable) depth 30
+
+pub join-front-requires-send-A : goal.join-front-requires-send-A
+join-front-requires-send-A g t c κs = search (crosses, sendable) depth 30
+
+pub returns-in-Some : goal.returns-in-Some
+returns-in-Some g t c =
+    let j = job_meant c.args.job.now in
+    let from = c.args.from in
+    let middle = c.edge-middle.result in
+    let some = c.in_ok-failure.was ∙ ap Ok c.in-Some.is in
+    let front = IfOk-at_ok (λ f. FirstFailing j from middle (option_map failure_of f)) some c.join-front.ensures.first in
+    in_first j from middle c.args.end _ c.edge-middle.ensures.1 front
 
 pub returns-in-None : goal.returns-in-None
 returns-in-None g t c =

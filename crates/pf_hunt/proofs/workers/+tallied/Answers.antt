@@ -1,10 +1,15 @@
+use denote.Param.Send.{sendable}
 use Rattle.std.proofs.Common.{arith}
 use Rattle.std.proofs.lemmas.Result.{IfOk-at_ok}
 use Rattle.pf_desks.specs.Desk.{job_meant}
 use Rattle.pf_hunt.specs.Hunts.{Tallies}
 use Rattle.pf_hunt.specs.Views.{rows_of}
+use Rattle.pf_sched.proofs.Crossing as sched
 use Rattle.pf_hunt.proofs.Counting.{counted_both, parts_are_the_whole}
 use Rattle.pf_hunt.proofs.workers.+tallied.Goals as goal
+
+pub join-front-requires-send-F : goal.join-front-requires-send-F
+join-front-requires-send-F g t c κs = search (sched.crosses, c.requires, sendable) depth 30
 
 pub join-requires : goal.join-requires
 join-requires g t c =
