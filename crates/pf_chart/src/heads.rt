@@ -1,6 +1,7 @@
 //! Processes on the sheet: heads, lifelines and feet.
 
 use crate::columns::{Column, column_of};
+use crate::escape::put_escaped;
 use crate::pieces::{put_piece, put_short_text};
 use crate::sheet::{ROW, Sheet, TOP};
 use pf_terms::NoMemory;
@@ -115,6 +116,31 @@ fn put_foot(
     )
 }
 
+/// Puts the tooltip of a process: its pid, and its root function or who spawned it.
+fn put_told(
+    alloc: Global,
+    out: &mut Vec<u8>,
+    column: &Column,
+    root: &[u8],
+) -> Result<(), NoMemory> {
+    let pid = column.pid;
+    put_piece(out, format!(in alloc; "<title>&lt;{pid}&gt; ")?)?;
+    match column.spawned {
+        Some((parent, row)) => {
+            let event = row.saturating_add(1);
+            put_piece(
+                out,
+                format!(in alloc; "spawned by &lt;{parent}&gt; in event {event}")?,
+            )?;
+        }
+        None => {
+            put(out, b"from ")?;
+            put_escaped(alloc, out, root)?;
+        }
+    }
+    put(out, b"</title>")
+}
+
 fn put_column(
     alloc: Global,
     out: &mut Vec<u8>,
@@ -133,6 +159,7 @@ fn put_column(
         out,
         format!(in alloc; "<g class=\"{class}\" data-pid=\"{pid}\">")?,
     )?;
+    put_told(alloc, out, column, root)?;
     put_life(alloc, out, column, sheet, x)?;
     put_box(alloc, out, pid, x, sheet.pitch())?;
     put_origin(alloc, out, column, root, x, sheet.pitch())?;

@@ -35,14 +35,17 @@ fn put_path(
     )
 }
 
-/// Where a signal ends that is never delivered: half way, a row below.
-fn half_way(from: (u64, u64), to: u64) -> (u64, u64) {
+/// Where a signal ends that is never delivered: beside the sender on the side of the receiver, between two lifelines, a row below.
+fn in_the_air(from: (u64, u64), to: u64, pitch: u64) -> (u64, u64) {
     let (x, y) = from;
     let y = y.saturating_add(ROW - 6);
     if x == to {
-        return (x.saturating_sub(SWING), y);
+        (x.saturating_sub(SWING), y)
+    } else if x < to {
+        (x.saturating_add(pitch / 2), y)
+    } else {
+        (x.saturating_sub(pitch / 2), y)
     }
-    (x / 2 + to / 2, y)
 }
 
 /// Puts what is told of a signal: its kind, its processes, and what came of it.
@@ -99,7 +102,7 @@ fn beginning(arrow: &Arrow, sheet: Sheet) -> (u64, u64) {
 fn end(arrow: &Arrow, sheet: Sheet) -> (u64, u64) {
     let x = sheet.x(arrow.to);
     match arrow.reach {
-        Reach::Nowhere => half_way(beginning(arrow, sheet), x),
+        Reach::Nowhere => in_the_air(beginning(arrow, sheet), x, sheet.pitch()),
         Reach::Taken(row) | Reach::Dropped(row) => (x, sheet.y(row)),
     }
 }
