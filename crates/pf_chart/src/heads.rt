@@ -3,7 +3,7 @@
 use crate::columns::{Column, column_of};
 use crate::escape::put_escaped;
 use crate::pieces::{put_piece, put_short_text};
-use crate::sheet::{ROW, Sheet, TOP};
+use crate::sheet::Sheet;
 use pf_terms::NoMemory;
 use pf_text::put;
 use std::alloc::Global;
@@ -14,6 +14,8 @@ const HEAD_TOP: u64 = 12;
 const HEAD_HEIGHT: u64 = 40;
 /// How much of a name goes into the narrowest head.
 const LEAST_OF_NAME: usize = 6;
+/// How far the second line of a foot stands below the first.
+const FOOT_LINE: u64 = 12;
 
 /// Puts the box of a head, with the pid.
 fn put_box(alloc: Global, out: &mut Vec<u8>, pid: u32, x: u64, pitch: u64) -> Result<(), NoMemory> {
@@ -96,7 +98,7 @@ fn put_life(
     }
 }
 
-/// Puts the pid below a lifeline that goes on to the end.
+/// Puts the pid below a lifeline that goes on to the end, and below it whether the process waits in a deadlock.
 fn put_foot(
     alloc: Global,
     out: &mut Vec<u8>,
@@ -109,10 +111,17 @@ fn put_foot(
     }
     let y = sheet.bottom().saturating_add(14);
     let pid = column.pid;
-    let state = if column.deadlocked { " waits" } else { "" };
     put_piece(
         out,
-        format!(in alloc; "<text class=\"foot\" x=\"{x}\" y=\"{y}\">&lt;{pid}&gt;{state}</text>")?,
+        format!(in alloc; "<text class=\"foot\" x=\"{x}\" y=\"{y}\">&lt;{pid}&gt;</text>")?,
+    )?;
+    if !column.deadlocked {
+        return Ok(());
+    }
+    let below = y.saturating_add(FOOT_LINE);
+    put_piece(
+        out,
+        format!(in alloc; "<text class=\"foot\" x=\"{x}\" y=\"{below}\">waits</text>")?,
     )
 }
 

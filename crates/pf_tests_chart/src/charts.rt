@@ -59,6 +59,7 @@ fn who_is_in_a_deadlock_is_red_from_the_last_wait_on(rt: HostRuntime) -> Result<
         &[
             "<g class=\"process deadlocked\" data-pid=\"0\">",
             "<line class=\"life waiting\" x1=\"156\" y1=\"155\" x2=\"156\" y2=\"220\"/>",
+            "<text class=\"foot\" x=\"156\" y=\"234\">&lt;0&gt;</text><text class=\"foot\" x=\"156\" y=\"246\">waits</text>",
             "<g class=\"process\" data-pid=\"1\">",
             "<g class=\"process deadlocked\" data-pid=\"2\">",
             ">deadlock &lt;0&gt; &lt;2&gt;</text>",
