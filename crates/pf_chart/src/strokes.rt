@@ -48,8 +48,8 @@ fn in_the_air(from: (u64, u64), to: u64, pitch: u64) -> (u64, u64) {
     }
 }
 
-/// Puts what is told of a signal: its kind, its processes, and what came of it.
-fn put_told(
+/// Puts the beginning of an arrow: its class, the events of its ends, counted from 1, and in words its kind, its processes and its end.
+fn put_opening(
     alloc: Global,
     out: &mut Vec<u8>,
     arrow: &Arrow,
@@ -57,36 +57,25 @@ fn put_told(
     to: u32,
 ) -> Result<(), NoMemory> {
     let word = arrow.kind.word();
-    let end = match arrow.reach {
-        Reach::Nowhere => ", never delivered",
-        Reach::Taken(_) => "",
-        Reach::Dropped(_) => ", dropped",
-    };
-    put_piece(
-        out,
-        format!(in alloc; "<title>{word} from &lt;{from}&gt; to &lt;{to}&gt;{end}</title>")?,
-    )
-}
-
-/// Puts the beginning of an arrow: its class, and the events of its ends, counted from 1.
-fn put_opening(alloc: Global, out: &mut Vec<u8>, arrow: &Arrow) -> Result<(), NoMemory> {
-    let word = arrow.kind.word();
-    let end = match arrow.reach {
-        Reach::Nowhere => " lost",
-        Reach::Taken(_) => "",
-        Reach::Dropped(_) => " dropped",
+    let (class, end) = match arrow.reach {
+        Reach::Nowhere => (" lost", ", never delivered"),
+        Reach::Taken(_) => ("", ""),
+        Reach::Dropped(_) => (" dropped", ", dropped"),
     };
     let (Start::In(row) | Start::Above(row)) = arrow.start;
     let event = row.saturating_add(1);
     put_piece(
         out,
-        format!(in alloc; "<g class=\"arrow {word}{end}\" data-event=\"{event}\"")?,
+        format!(in alloc; "<g class=\"arrow {word}{class}\" data-event=\"{event}\"")?,
     )?;
     if let Reach::Taken(row) | Reach::Dropped(row) = arrow.reach {
         let event = row.saturating_add(1);
         put_piece(out, format!(in alloc; " data-delivery=\"{event}\"")?)?;
     }
-    put(out, b">")
+    put_piece(
+        out,
+        format!(in alloc; "><title>{word} from &lt;{from}&gt; to &lt;{to}&gt;{end}</title>")?,
+    )
 }
 
 /// Where an arrow begins.
@@ -117,8 +106,7 @@ fn put_arrow(
     let (Some(from), Some(to)) = (columns.get(arrow.from), columns.get(arrow.to)) else {
         return Ok(());
     };
-    put_opening(alloc, out, arrow)?;
-    put_told(alloc, out, arrow, from.pid, to.pid)?;
+    put_opening(alloc, out, arrow, from.pid, to.pid)?;
     put_path(alloc, out, beginning(arrow, sheet), end(arrow, sheet))?;
     put(out, b"</g>\n")
 }

@@ -46,7 +46,7 @@ fn a_dropped_signal_ends_at_a_cross(rt: HostRuntime) -> Result<(), Fail> {
         &text,
         &[
             "<g class=\"arrow message dropped\" data-event=\"3\" data-delivery=\"4\">",
-            "data-event=\"4\" transform=\"translate(556 155)\"><title>deliver message dropped</title><path class=\"cross\"",
+            "data-event=\"4\" transform=\"translate(556 155)\"><title>deliver message dropped</title><path d=\"M-6 -6l12 12M-6 6l12 -12\"/>",
         ],
     )
 }
