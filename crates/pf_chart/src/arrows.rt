@@ -27,19 +27,6 @@ impl SignalKind {
         }
     }
 
-    /// Its number among the kinds.
-    pub(crate) fn number(self) -> u8 {
-        match self {
-            SignalKind::Message => 0,
-            SignalKind::Link => 1,
-            SignalKind::Unlink => 2,
-            SignalKind::Monitor => 3,
-            SignalKind::Demonitor => 4,
-            SignalKind::Down => 5,
-            SignalKind::Exit => 6,
-        }
-    }
-
     pub(crate) fn word(self) -> &'static str {
         match self {
             SignalKind::Message => "message",

@@ -15,8 +15,8 @@ use pf_text::put;
 use pf_trace::{Report, put_outcome};
 use std::alloc::Global;
 
-/// How many bytes of the outcome are shown at least where it is longer.
-const MOST_OF_OUTCOME: usize = 120;
+/// How wide a letter of the outcome is at most, but for a few.
+const LETTER: u64 = 9;
 
 /// The outcome as it prints, without its line end.
 fn outcome_of(alloc: Global, atoms: &AtomTable, report: &Report) -> Result<Vec<u8>, NoMemory> {
@@ -91,9 +91,10 @@ fn put_bottom(
     sheet: Sheet,
 ) -> Result<(), NoMemory> {
     let y = sheet.bottom().saturating_add(42);
+    let most = (sheet.width().saturating_sub(2 * GUTTER) / LETTER) as usize;
     put(out, b"<g>")?;
     put_title(alloc, out, outcome)?;
-    put_short_text(alloc, out, "outcome", (GUTTER, y), outcome, MOST_OF_OUTCOME)?;
+    put_short_text(alloc, out, "outcome", (GUTTER, y), outcome, most)?;
     put(out, b"</g>\n")?;
     let y = y.saturating_add(22);
     put_piece(

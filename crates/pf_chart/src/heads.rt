@@ -1,8 +1,9 @@
 //! Processes on the sheet: heads, lifelines and feet.
 
 use crate::columns::{Column, column_of};
+use crate::escape::put_escaped;
 use crate::pieces::{put_piece, put_short_text};
-use crate::sheet::{ROW, Sheet, TOP};
+use crate::sheet::Sheet;
 use pf_terms::NoMemory;
 use pf_text::put;
 use std::alloc::Global;
@@ -13,6 +14,8 @@ const HEAD_TOP: u64 = 12;
 const HEAD_HEIGHT: u64 = 40;
 /// How much of a name goes into the narrowest head.
 const LEAST_OF_NAME: usize = 6;
+/// How far the second line of a foot stands below the first.
+const FOOT_LINE: u64 = 12;
 
 /// Puts the box of a head, with the pid.
 fn put_box(alloc: Global, out: &mut Vec<u8>, pid: u32, x: u64, pitch: u64) -> Result<(), NoMemory> {
@@ -95,7 +98,7 @@ fn put_life(
     }
 }
 
-/// Puts the pid below a lifeline that goes on to the end.
+/// Puts the pid below a lifeline that goes on to the end, and below it whether the process waits in a deadlock.
 fn put_foot(
     alloc: Global,
     out: &mut Vec<u8>,
@@ -108,11 +111,43 @@ fn put_foot(
     }
     let y = sheet.bottom().saturating_add(14);
     let pid = column.pid;
-    let state = if column.deadlocked { " waits" } else { "" };
     put_piece(
         out,
-        format!(in alloc; "<text class=\"foot\" x=\"{x}\" y=\"{y}\">&lt;{pid}&gt;{state}</text>")?,
+        format!(in alloc; "<text class=\"foot\" x=\"{x}\" y=\"{y}\">&lt;{pid}&gt;</text>")?,
+    )?;
+    if !column.deadlocked {
+        return Ok(());
+    }
+    let below = y.saturating_add(FOOT_LINE);
+    put_piece(
+        out,
+        format!(in alloc; "<text class=\"foot\" x=\"{x}\" y=\"{below}\">waits</text>")?,
     )
+}
+
+/// Puts the tooltip of a process: its pid, and its root function or who spawned it.
+fn put_told(
+    alloc: Global,
+    out: &mut Vec<u8>,
+    column: &Column,
+    root: &[u8],
+) -> Result<(), NoMemory> {
+    let pid = column.pid;
+    put_piece(out, format!(in alloc; "<title>&lt;{pid}&gt; ")?)?;
+    match column.spawned {
+        Some((parent, row)) => {
+            let event = row.saturating_add(1);
+            put_piece(
+                out,
+                format!(in alloc; "spawned by &lt;{parent}&gt; in event {event}")?,
+            )?;
+        }
+        None => {
+            put(out, b"from ")?;
+            put_escaped(alloc, out, root)?;
+        }
+    }
+    put(out, b"</title>")
 }
 
 fn put_column(
@@ -133,6 +168,7 @@ fn put_column(
         out,
         format!(in alloc; "<g class=\"{class}\" data-pid=\"{pid}\">")?,
     )?;
+    put_told(alloc, out, column, root)?;
     put_life(alloc, out, column, sheet, x)?;
     put_box(alloc, out, pid, x, sheet.pitch())?;
     put_origin(alloc, out, column, root, x, sheet.pitch())?;

@@ -2,7 +2,7 @@
 
 use crate::arrows::{Arrow, SignalKind};
 use crate::columns::{Column, column_of, columns_of};
-use crate::marks::{Mark, MarkKind};
+use crate::marks::Mark;
 use crate::traffic::Traffic;
 use pf_model::report::{Actor, Event, Label, Report, Suffix};
 use pf_terms::NoMemory;
@@ -34,12 +34,8 @@ impl Reading {
         })
     }
 
-    fn mark(&mut self, row: usize, column: usize, label: &Label) -> Result<(), NoMemory> {
-        self.marks.push(Mark {
-            kind: MarkKind::of(label),
-            column,
-            row,
-        })?;
+    fn mark(&mut self, row: usize, column: usize) -> Result<(), NoMemory> {
+        self.marks.push(Mark { column, row })?;
         Ok(())
     }
 
@@ -113,7 +109,7 @@ impl Reading {
 
     /// A turn of a process.
     fn turn(&mut self, alloc: Global, row: usize, a: usize, label: &Label) -> Result<(), NoMemory> {
-        self.mark(row, a, label)?;
+        self.mark(row, a)?;
         match label {
             Label::Sends { to, .. } => self.send(row, a, *to, SignalKind::Message),
             Label::Exits { pid, .. } => self.send(row, a, *pid, SignalKind::Exit),
@@ -140,7 +136,7 @@ impl Reading {
         b: usize,
         label: &Label,
     ) -> Result<(), NoMemory> {
-        self.mark(row, b, label)?;
+        self.mark(row, b)?;
         if let Label::Delivers(signal, suffix) = label {
             self.traffic.deliver(row, a, b, signal, suffix)?;
             if let Suffix::EndingWith(_) = suffix {

@@ -1,7 +1,7 @@
 //! Events on the sheet: their numbers, their marks and their labels.
 
 use crate::escape::put_short;
-use crate::marks::{Mark, MarkKind};
+use crate::marks::{Mark, shape_of};
 use crate::pieces::{MOST_OF_LABEL, put_piece, put_title};
 use crate::sheet::{GUTTER, Sheet};
 use pf_terms::{AtomTable, NoMemory};
@@ -28,25 +28,16 @@ pub(crate) fn put_numbers(
     Ok(())
 }
 
-/// The class of an outline, where it has one of its own.
-fn class_of(kind: MarkKind) -> &'static str {
-    match kind {
-        MarkKind::Dropped => " class=\"cross\"",
-        MarkKind::Link | MarkKind::Unlink | MarkKind::Reference | MarkKind::Cut =>
-            " class=\"bare\"",
-        _ => "",
-    }
-}
-
 /// Puts a mark, with the label of its event beside it, shortened, and whole in its tooltip.
 fn put_mark(
     alloc: Global,
     out: &mut Vec<u8>,
     mark: &Mark,
+    shape: (&'static str, &'static str),
     label: &[u8],
     sheet: Sheet,
 ) -> Result<(), NoMemory> {
-    let word = mark.kind.word();
+    let (word, outline) = shape;
     let event = mark.row.saturating_add(1);
     let x = sheet.x(mark.column);
     let y = sheet.y(mark.row);
@@ -57,10 +48,10 @@ fn put_mark(
         )?,
     )?;
     put_title(alloc, out, label)?;
-    let class = class_of(mark.kind);
-    let outline = mark.kind.outline();
-    put_piece(out, format!(in alloc; "<path{class} d=\"{outline}\"/>")?)?;
-    put(out, b"<text x=\"10\" y=\"-4\">")?;
+    put_piece(
+        out,
+        format!(in alloc; "<path d=\"{outline}\"/><text x=\"10\" y=\"-4\">")?,
+    )?;
     put_short(alloc, out, label, MOST_OF_LABEL)?;
     put(out, b"</text></g>\n")
 }
@@ -78,7 +69,7 @@ pub(crate) fn put_marks(
         if let Some(event) = events.get(mark.row) {
             let mut label = Vec::new(alloc);
             put_label(alloc, &mut label, atoms, &event.label)?;
-            put_mark(alloc, out, mark, &label, sheet)?;
+            put_mark(alloc, out, mark, shape_of(&event.label), &label, sheet)?;
         }
     }
     Ok(())

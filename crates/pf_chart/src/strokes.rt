@@ -35,18 +35,21 @@ fn put_path(
     )
 }
 
-/// Where a signal ends that is never delivered: half way, a row below.
-fn half_way(from: (u64, u64), to: u64) -> (u64, u64) {
+/// Where a signal ends that is never delivered: beside the sender on the side of the receiver, between two lifelines, a row below.
+fn in_the_air(from: (u64, u64), to: u64, pitch: u64) -> (u64, u64) {
     let (x, y) = from;
     let y = y.saturating_add(ROW - 6);
     if x == to {
-        return (x.saturating_sub(SWING), y);
+        (x.saturating_sub(SWING), y)
+    } else if x < to {
+        (x.saturating_add(pitch / 2), y)
+    } else {
+        (x.saturating_sub(pitch / 2), y)
     }
-    (x / 2 + to / 2, y)
 }
 
-/// Puts what is told of a signal: its kind, its processes, and what came of it.
-fn put_told(
+/// Puts the beginning of an arrow: its class, the events of its ends, counted from 1, and in words its kind, its processes and its end.
+fn put_opening(
     alloc: Global,
     out: &mut Vec<u8>,
     arrow: &Arrow,
@@ -54,36 +57,25 @@ fn put_told(
     to: u32,
 ) -> Result<(), NoMemory> {
     let word = arrow.kind.word();
-    let end = match arrow.reach {
-        Reach::Nowhere => ", never delivered",
-        Reach::Taken(_) => "",
-        Reach::Dropped(_) => ", dropped",
-    };
-    put_piece(
-        out,
-        format!(in alloc; "<title>{word} from &lt;{from}&gt; to &lt;{to}&gt;{end}</title>")?,
-    )
-}
-
-/// Puts the beginning of an arrow: its class, and the events of its ends, counted from 1.
-fn put_opening(alloc: Global, out: &mut Vec<u8>, arrow: &Arrow) -> Result<(), NoMemory> {
-    let word = arrow.kind.word();
-    let end = match arrow.reach {
-        Reach::Nowhere => " lost",
-        Reach::Taken(_) => "",
-        Reach::Dropped(_) => " dropped",
+    let (class, end) = match arrow.reach {
+        Reach::Nowhere => (" lost", ", never delivered"),
+        Reach::Taken(_) => ("", ""),
+        Reach::Dropped(_) => (" dropped", ", dropped"),
     };
     let (Start::In(row) | Start::Above(row)) = arrow.start;
     let event = row.saturating_add(1);
     put_piece(
         out,
-        format!(in alloc; "<g class=\"arrow {word}{end}\" data-event=\"{event}\"")?,
+        format!(in alloc; "<g class=\"arrow {word}{class}\" data-event=\"{event}\"")?,
     )?;
     if let Reach::Taken(row) | Reach::Dropped(row) = arrow.reach {
         let event = row.saturating_add(1);
         put_piece(out, format!(in alloc; " data-delivery=\"{event}\"")?)?;
     }
-    put(out, b">")
+    put_piece(
+        out,
+        format!(in alloc; "><title>{word} from &lt;{from}&gt; to &lt;{to}&gt;{end}</title>")?,
+    )
 }
 
 /// Where an arrow begins.
@@ -99,7 +91,7 @@ fn beginning(arrow: &Arrow, sheet: Sheet) -> (u64, u64) {
 fn end(arrow: &Arrow, sheet: Sheet) -> (u64, u64) {
     let x = sheet.x(arrow.to);
     match arrow.reach {
-        Reach::Nowhere => half_way(beginning(arrow, sheet), x),
+        Reach::Nowhere => in_the_air(beginning(arrow, sheet), x, sheet.pitch()),
         Reach::Taken(row) | Reach::Dropped(row) => (x, sheet.y(row)),
     }
 }
@@ -114,8 +106,7 @@ fn put_arrow(
     let (Some(from), Some(to)) = (columns.get(arrow.from), columns.get(arrow.to)) else {
         return Ok(());
     };
-    put_opening(alloc, out, arrow)?;
-    put_told(alloc, out, arrow, from.pid, to.pid)?;
+    put_opening(alloc, out, arrow, from.pid, to.pid)?;
     put_path(alloc, out, beginning(arrow, sheet), end(arrow, sheet))?;
     put(out, b"</g>\n")
 }

@@ -27,8 +27,8 @@ text{font-family:Helvetica,Arial,sans-serif;font-size:11px;fill:#111;paint-order
 .arrow.spawn path{stroke:#333;stroke-dasharray:4 4}\n\
 .event path{fill:#fff;stroke:#111;stroke-width:1.5}\n\
 .event.send path,.event.receive path,.event.exit path,.event.end path{fill:#111}\n\
-.event .cross{fill:none;stroke-width:2.5}\n\
-.event .bare{fill:none}\n\
+.event.link path,.event.unlink path,.event.reference path,.event.cut path{fill:none}\n\
+.event.dropped path{fill:none;stroke-width:2.5}\n\
 </style>\n";
 
 /// The ends of arrows, and every other row a little darker; a row is 26 high, and the first begins at 64.

@@ -52,14 +52,14 @@ impl Traffic {
             start: Start::In(row),
             reach: Reach::Nowhere,
         })?;
-        let queue = self.on_way.entry((from, to, kind.number()))?.or_default();
+        let queue = self.on_way.entry((from, to, kind as u8))?.or_default();
         queue.push_back(index)?;
         Ok(())
     }
 
     /// The oldest signal of a kind that is on its way, if there is one.
     fn oldest(&mut self, from: usize, to: usize, kind: SignalKind) -> Option<usize> {
-        let queue = self.on_way.get_mut(&(from, to, kind.number()))?;
+        let queue = self.on_way.get_mut(&(from, to, kind as u8))?;
         queue.pop_front()
     }
 

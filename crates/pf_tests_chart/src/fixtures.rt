@@ -43,6 +43,24 @@ pub(crate) fn send(to: u32, number: i64) -> Label {
     }
 }
 
+/// An atom of this name.
+pub(crate) fn atom(alloc: Global, atoms: &mut AtomTable, name: &[u8]) -> Result<Term, Fail> {
+    if atoms.len() > 1_000 {
+        return Err(Fail::from("there are many atoms"));
+    }
+    Ok(Term::Atom(atoms.enter(alloc, name)?))
+}
+
+/// That a chart has all of these pieces.
+pub(crate) fn has_all(text: &str, pieces: &[&str]) -> Result<(), Fail> {
+    for piece in pieces {
+        if !text.contains(*piece) {
+            return Err(Fail::new(format_args!("the chart lacks {piece}")));
+        }
+    }
+    Ok(())
+}
+
 /// The chart of a run of `main`.
 pub(crate) fn chart(
     alloc: Global,

@@ -5,3 +5,5 @@
 mod charts;
 #[cfg(test)]
 mod fixtures;
+#[cfg(test)]
+mod signals;
