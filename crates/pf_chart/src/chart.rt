@@ -90,7 +90,7 @@ fn put_bottom(
     outcome: &[u8],
     sheet: Sheet,
 ) -> Result<(), NoMemory> {
-    let y = sheet.bottom().saturating_add(42);
+    let y = sheet.bottom().saturating_add(48);
     let most = (sheet.width().saturating_sub(2 * GUTTER) / LETTER) as usize;
     put(out, b"<g>")?;
     put_title(alloc, out, outcome)?;

@@ -21,7 +21,7 @@ fn an_empty_report_has_the_root_and_the_outcome(rt: HostRuntime) -> Result<(), F
             "<title>Run of main</title>",
             "<g class=\"process\" data-pid=\"0\"><title>&lt;0&gt; from main</title>",
             "<text class=\"of\" x=\"156\" y=\"45\">main</text>",
-            "y=\"132\">memory</text>",
+            "y=\"138\">memory</text>",
         ],
     )
 }
