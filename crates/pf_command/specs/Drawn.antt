@@ -1,5 +1,5 @@
 -- What is said of an answer whose text is only tested: charts, and what is told of hunts.
-use Rattle.std.specs.Prelude.{◌≤◌, ℕ, List, Unit}
+use Rattle.std.specs.Prelude.{◌≤◌, ℕ, List}
 use Rattle.pf_command.specs.declared.answer.Answer.{Answer}
 
 -- the status is 0, 1 or 2
