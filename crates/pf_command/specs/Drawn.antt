@@ -3,12 +3,9 @@ use Rattle.std.specs.Prelude.{◌≤◌, ℕ, List}
 use Rattle.pf_command.specs.declared.answer.Answer.{Answer}
 
 -- the status is 0, 1 or 2
-abbrev pub IsStatus : ℕ → Type 0
-IsStatus n = n ≤ 2
-
 abbrev pub HasStatus : Answer → Type 0
-HasStatus a = IsStatus a.status
+HasStatus a = a.status ≤ 2
 
--- some text answers these bytes with this status
-abbrev pub SomeText : (bytes text : List ℕ) → ℕ → Type 0
-SomeText bytes text status = IsStatus status
+-- any text answers these bytes, with one of these statuses
+pub data SomeText (bytes text : List ℕ) : ℕ → Type 0 where
+  some_text : (status : ℕ) → status ≤ 2 → SomeText bytes text status

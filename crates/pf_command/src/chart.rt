@@ -1,7 +1,7 @@
 //! What a source is answered with of which the chart of a run is asked for.
 
 ghost use Rattle.std.specs.Prelude.{IfOk};
-ghost use Rattle.pf_command.specs.Drawn.{HasStatus};
+ghost use Rattle.pf_command.specs.Drawn.{HasStatus, SomeText};
 
 use crate::answer::{Answer, read_source, refused_at, refused_by_code, run_status};
 use crate::asked::Asked;
@@ -56,8 +56,9 @@ fn draw_module(alloc: Global, asked: Asked, stored: Stored) -> Result<Answer, No
 }
 
 /// The answer to a source of these bytes: the chart of its run, or why there is none.
+#[tactic(auto, using(crate::proofs::Drawn::with_status, crate::proofs::Drawn::with_refusal))]
 pub(crate) fn answer_chart(alloc: Global, asked: Asked, bytes: Vec<u8>) -> Result<Answer, NoMemory>
-    ensures { IfOk result HasStatus }
+    ensures { IfOk result (λ a. SomeText bytes.items a.text.items a.status) }
 {
     match read_source(alloc, bytes) {
         Ok(stored) => draw_module(alloc, asked, stored),

@@ -1,7 +1,7 @@
 //! What a source is answered with whose runs by many seeds are asked for.
 
 ghost use Rattle.std.specs.Prelude.{IfOk};
-ghost use Rattle.pf_command.specs.Drawn.{HasStatus};
+ghost use Rattle.pf_command.specs.Drawn.{HasStatus, SomeText};
 
 use crate::answer::{Answer, FAILED, answer_module, read_source, refused_at, refused_by_code};
 use crate::asked::Asked;
@@ -146,6 +146,7 @@ fn hunt_module<T: Threads + Sync>(
 }
 
 /// The answer to a source of these bytes, by so many workers: the least seed that fails, or each outcome; or why no seed was run.
+#[tactic(auto, using(crate::proofs::Drawn::with_status, crate::proofs::Drawn::with_refusal))]
 pub(crate) fn answer_hunt<T: Threads + Sync>(
     rt: &T,
     alloc: Global,
@@ -155,7 +156,7 @@ pub(crate) fn answer_hunt<T: Threads + Sync>(
     seeds: &mut impl pf_hunt::Watch,
     watch: &mut impl pf_sched::Watch,
 ) -> Result<Answer, NoMemory>
-    ensures { IfOk result HasStatus }
+    ensures { IfOk result (λ a. SomeText bytes.items a.text.items a.status) }
 {
     match read_source(alloc, bytes) {
         Ok(stored) => hunt_module(rt, alloc, words, stored, workers, seeds, watch),
