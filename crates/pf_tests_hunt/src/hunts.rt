@@ -1,6 +1,6 @@
 //! Hunts come to the same, by however many workers.
 
-use crate::jobs::{LOST_UPDATE, Told, job_of, rows_of, told};
+use crate::jobs::{LOST_UPDATE, Told, job_of, rows_of, summary};
 use pf_hunt::{first_in, hunt, hunt_all, tally_in};
 use pf_sched::Job;
 use std::alloc::Global;
@@ -15,10 +15,10 @@ fn first_of<R: Threads + Sync>(
     from: u64,
     end: u64,
 ) -> Result<Option<(u64, usize)>, Fail> {
-    let alone = told(&first_in(alloc, job, from, end)?);
+    let alone = summary(&first_in(alloc, job, from, end)?);
     for workers in [1, 2, 3] {
         let hunted = hunt(rt, alloc, job, from, end, workers, &mut Told::new())?;
-        if told(&hunted) != alone {
+        if summary(&hunted) != alone {
             return Err(Fail::from("several workers come to another seed"));
         }
     }
@@ -99,7 +99,7 @@ fn who_watches_is_told_of_all_seeds(rt: HostRuntime) -> Result<(), Fail> {
     let job = job_of(alloc, LOST_UPDATE, "nodeadlock", 2000)?;
     let mut watch = Told::new();
     let none = hunt(&rt, alloc, &job, 10, 60, 2, &mut watch)?;
-    assert_eq!(rt; told(&none), None);
+    assert_eq!(rt; summary(&none), None);
     assert_eq!(rt; watch.done, 50);
     assert_eq!(rt; watch.failures, 0);
     assert!(rt; watch.times > 1, "told once only");

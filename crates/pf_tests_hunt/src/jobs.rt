@@ -31,7 +31,7 @@ pub(crate) fn job_of(
 }
 
 /// The seed of a failure, with how many events its report has.
-pub(crate) fn told(failure: &Option<Failure>) -> Option<(u64, usize)> {
+pub(crate) fn summary(failure: &Option<Failure>) -> Option<(u64, usize)> {
     match failure {
         Some(failure) => Some((failure.seed, failure.report.events.len())),
         None => None,
