@@ -109,8 +109,8 @@ impl fmt::Display for SeedsDone {
     }
 }
 
-/// How long what a hunt told stands there at least.
-const PAUSE: Duration = Duration::from_millis(100);
+/// How many milliseconds what a hunt told stands there at least.
+const PAUSE: u128 = 100;
 
 /// Who watches a hunt over so many seeds.
 #[derive(Drop)]
@@ -145,7 +145,7 @@ impl<C: Clock> pf_hunt::Watch for Seeds<'_, C> {
     fn tell(&mut self, done: u64, failures: u64) {
         let time = self.time();
         if let (Some(now), Some(told)) = (time, self.told) {
-            if now.saturating_sub(told) < PAUSE {
+            if now.saturating_sub(told).as_millis() < PAUSE {
                 return;
             }
         }
