@@ -28,7 +28,12 @@ fn draw_run(alloc: Global, atoms: &AtomTable, root: &str, run: &Report) -> Resul
 fn draw_job(alloc: Global, root: &str, job: Job) -> Result<Answer, NoMemory>
     ensures { IfOk result HasStatus }
 {
-    let finished = whole(alloc, Arc::new(alloc, job)?, &mut Scratch::new(alloc), &mut Nobody)?;
+    let finished = whole(
+        alloc,
+        Arc::new(alloc, job)?,
+        &mut Scratch::new(alloc),
+        &mut Nobody,
+    )?;
     if !finished.is_whole() {
         return Err(NoMemory);
     }

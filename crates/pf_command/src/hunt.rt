@@ -44,7 +44,12 @@ fn tell_failure(alloc: Global, atoms: &AtomTable, failure: &Failure) -> Result<A
     ensures { IfOk result HasStatus }
 {
     let mut text = Vec::new(alloc);
-    put_failure(alloc, &mut text, failure.seed, &schedule_of(alloc, &failure.report)?)?;
+    put_failure(
+        alloc,
+        &mut text,
+        failure.seed,
+        &schedule_of(alloc, &failure.report)?,
+    )?;
     put_report(alloc, &mut text, atoms, &failure.report)?;
     Ok(Answer {
         text,

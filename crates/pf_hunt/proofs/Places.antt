@@ -16,7 +16,7 @@ module _ (y : Row) where
   -- one row more that is not like it
   pub one_row_more : (xs : List Row) (i : ℕ) (x : Row) → NoneBefore xs y i → slice_get xs i ≡ Some x → is_like (row_of x) (row_of y) ≡ false → NoneBefore xs y (i + 1)
   one_row_more xs i x h e l k z m f = elim (cases_lt k i) [
-      inl b ↦ h k z b f
+    | inl b ↦ h k z b f
     | inr b ↦
         let at : k ≡ i = omega arith in
         let q : z ≡ x = cc in

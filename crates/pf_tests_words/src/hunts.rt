@@ -113,10 +113,27 @@ fn wrong_seeds_are_named(rt: HostRuntime) -> Result<(), Fail> {
     let alloc = rt.alloc();
     let wants =
         "two numbers A..B from 0 to 18446744073709551615, without leading zeros, A below B; B is the end and not run";
-    for value in ["", "5", "5..", "..5", "5..5", "6..5", "0...5", "0..=5", "00..5", "0.5", "0..18446744073709551616"] {
+    for value in [
+        "",
+        "5",
+        "5..",
+        "..5",
+        "5..5",
+        "6..5",
+        "0...5",
+        "0..=5",
+        "00..5",
+        "0.5",
+        "0..18446744073709551616",
+    ] {
         let word = format!(in alloc; "--seeds={value}")?;
-        let why = format!(in alloc; "invalid value '{value}' for '--seeds <A..B>': it wants {wants}")?;
-        assert!(rt; is_refused(alloc, &hunt_over(&word, "a.erl"), &why)?, "{value}");
+        let why = format!(in alloc;
+            "invalid value '{value}' for '--seeds <A..B>': it wants {wants}"
+        )?;
+        assert!(rt;
+            is_refused(alloc, &hunt_over(&word, "a.erl"), &why)?,
+            "{value}"
+        );
     }
     Ok(())
 }
@@ -129,7 +146,10 @@ fn wrong_workers_are_named(rt: HostRuntime) -> Result<(), Fail> {
         let why = format!(in alloc;
             "invalid value '{value}' for '--workers <N>': it wants a number of threads from 1 to 64, without leading zeros"
         )?;
-        assert!(rt; is_refused(alloc, &hunt_over("--seeds=0..5", &word), &why)?, "{value}");
+        assert!(rt;
+            is_refused(alloc, &hunt_over("--seeds=0..5", &word), &why)?,
+            "{value}"
+        );
     }
     Ok(())
 }
@@ -154,7 +174,14 @@ fn each_outcome_is_not_sought_with_a_shrinking(rt: HostRuntime) -> Result<(), Fa
 
 #[test]
 fn a_chart_takes_the_words_of_a_run(rt: HostRuntime) {
-    let words = ["pulsefarm", "chart", "a.erl", "--root=main", "--limit=5", "--seed=3"];
+    let words = [
+        "pulsefarm",
+        "chart",
+        "a.erl",
+        "--root=main",
+        "--limit=5",
+        "--seed=3",
+    ];
     match read_words(rt.alloc(), &words) {
         Ok(Words::Chart(run)) => {
             assert_eq!(rt; run.file, Some("a.erl"));

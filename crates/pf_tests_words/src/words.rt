@@ -1,7 +1,7 @@
 //! What words ask for, and what is said of words that ask for nothing.
 
-use pf_words::{Words, read_words, status_of_kind};
 use pf_sched::JobChoices;
+use pf_words::{Words, read_words, status_of_kind};
 use std::alloc::Global;
 use std::test::Fail;
 

@@ -81,7 +81,16 @@ fn answer_hunt<R: Read, W: Write, L: Ledger, M: Ledger>(
         Sought::Failure { runs: None } | Sought::Outcomes => 0,
     };
     let mut runs = Runs::new(line, most);
-    hunt_source(rt, rt.alloc(), reader, words, workers, writer, &mut seeds, &mut runs)
+    hunt_source(
+        rt,
+        rt.alloc(),
+        reader,
+        words,
+        workers,
+        writer,
+        &mut seeds,
+        &mut runs,
+    )
 }
 
 /// Does what is asked for between a reader and a writer; the line tells how far a hunt or a shrinking came.
@@ -218,13 +227,7 @@ fn end(rt: &(impl Print + Eprint), asked: &Words, file: Option<&str>, answered: 
 }
 
 /// Does what the words ask for.
-fn obey<R, I: Read + Drop>(
-    rt: &R,
-    given: &[Word],
-    asked: &Words,
-    stdin: I,
-    line: &Line,
-) -> u8
+fn obey<R, I: Read + Drop>(rt: &R, given: &[Word], asked: &Words, stdin: I, line: &Line) -> u8
 where
     R: Files + Print + Eprint + AllocGlobal + RandomSource + Clock + Threads + Sync,
 {
@@ -240,11 +243,7 @@ where
 }
 
 /// Reads the words and does what they ask for.
-fn try_work<R, I: Read + Drop>(
-    rt: &R,
-    stdin: I,
-    stderr: Stderr,
-) -> Result<u8, AllocError>
+fn try_work<R, I: Read + Drop>(rt: &R, stdin: I, stderr: Stderr) -> Result<u8, AllocError>
 where
     R: Env + Files + Print + Eprint + AllocGlobal + RandomSource + Clock + Threads + Sync,
 {
@@ -265,11 +264,7 @@ where
 }
 
 /// Does all work; what it gives is the status.
-fn work<R, I: Read + Drop>(
-    rt: &R,
-    stdin: I,
-    stderr: Stderr,
-) -> u8
+fn work<R, I: Read + Drop>(rt: &R, stdin: I, stderr: Stderr) -> u8
 where
     R: Env + Files + Print + Eprint + AllocGlobal + RandomSource + Clock + Threads + Sync,
 {

@@ -2,10 +2,9 @@
 
 use pf_sched::{Course, Watch};
 use std::cell::Cell;
-use std::fmt;
-use std::io;
 use std::io::{IsTerminal, Stderr, Write};
 use std::time::{Clock, Duration, Instant};
+use std::{fmt, io};
 
 /// A line of the terminal that standard error is, written over again and again; none where that is no terminal. Faults of its writing are ignored.
 #[derive(Drop)]
@@ -49,6 +48,7 @@ impl Line {
 }
 
 /// How far a shrinking of at most so many runs came.
+#[derive(Drop)]
 struct RunsDone {
     course: Course,
     most: u32,
@@ -88,6 +88,7 @@ impl Watch for Runs<'_> {
 }
 
 /// How far a hunt over so many seeds came, and in what time where that is known.
+#[derive(Drop)]
 struct SeedsDone {
     done: u64,
     seeds: u64,

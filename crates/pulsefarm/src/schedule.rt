@@ -10,6 +10,7 @@ use std::io::{self, Read};
 const MOST_BYTES: u64 = 64 << 20;
 
 /// A word that names a file with a schedule: `@FILE` behind `--schedule`, or both in one word.
+#[derive(Drop)]
 struct Named<'a> {
     /// What stands before the schedule in the word.
     front: &'static str,
@@ -57,7 +58,9 @@ fn schedule_in(text: &str) -> &str {
 /// What stands in a file, where it is text.
 fn contents<R: Files + AllocGlobal>(rt: &R, is_text: bool, file: &str) -> io::Result<String> {
     let mut text = String::new(rt.alloc());
-    open(rt, is_text, file)?.take(MOST_BYTES).read_to_string(&mut text)?;
+    open(rt, is_text, file)?
+        .take(MOST_BYTES)
+        .read_to_string(&mut text)?;
     Ok(text)
 }
 

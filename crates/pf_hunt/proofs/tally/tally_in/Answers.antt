@@ -31,8 +31,8 @@ loop-seed-preserved c =
     let r = report_of c.in_ok-report.report in
     record {
       rows =
-        rw (c.in_ok-add.ensures, c.met.ensures)
-        (one_seed_more j c.args.from at.seed (rows_of at.tally) r (omega (arith, at.auto.seed)) at.invariant.rows c.in_ok-report.ensures);
+          rw (c.in_ok-add.ensures, c.met.ensures)
+          (one_seed_more j c.args.from at.seed (rows_of at.tally) r (omega (arith, at.auto.seed)) at.invariant.rows c.in_ok-report.ensures);
       at = inr (omega (arith, c.loop-seed-test.true));
     }
 
