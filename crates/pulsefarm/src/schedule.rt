@@ -18,7 +18,7 @@ struct Named<'a> {
 }
 
 /// The file that the word at a place names.
-fn named(given: &[Word], at: usize) -> Option<Named<'_>> {
+fn file_named(given: &[Word], at: usize) -> Option<Named<'_>> {
     let text = given.get(at)?.text.as_str();
     if let Some(file) = text.strip_prefix("--schedule=@") {
         let front = "--schedule=";
@@ -34,7 +34,7 @@ fn named(given: &[Word], at: usize) -> Option<Named<'_>> {
 
 /// The name of the file that the word at a place names.
 pub fn file_at(given: &[Word], at: usize) -> Option<&str> {
-    match named(given, at) {
+    match file_named(given, at) {
         Some(named) => Some(named.file),
         None => None,
     }
@@ -66,7 +66,7 @@ fn contents<R: Files + AllocGlobal>(rt: &R, is_text: bool, file: &str) -> io::Re
 
 /// The word at a place with a schedule in place of the file that has it; none where it names no file, or one without a schedule.
 fn replaced<R: Files + AllocGlobal>(rt: &R, given: &[Word], at: usize) -> io::Result<Option<Word>> {
-    let Some(Named { front, file }) = named(given, at) else {
+    let Some(Named { front, file }) = file_named(given, at) else {
         return Ok(None);
     };
     let contents = contents(rt, given[at].is_text, file)?;
