@@ -1,13 +1,12 @@
 -- Rows: what one more counts, and the rows of two parts.
 use Rattle.std.proofs.Common.{◌≡◌, ◌⊎◌, inl, inr, ◌+◌, ◌-◌, ◌^◌, ◌<◌, ◌≤◌, ℕ, suc, Bool, true, false, ◌&&◌, List, [], ◌∷◌, Option, Some, None, refl, sym, ap, ap₂, ◌∙◌, subst, arith}
-use Rattle.std.specs.Prelude.{if◌then◌else◌, ◌↔◌, nat_eq}
-use Rattle.std.specs.Cmp.Lexicographic.{pointwise, bytes_decides}
+use Rattle.std.specs.Prelude.{if◌then◌else◌, ◌↔◌}
+use Rattle.std.specs.Cmp.Lexicographic.{bytes_decides}
 use Rattle.std.proofs.lemmas.Bool.{and_parts}
-use Rattle.pf_terms.specs.Value.{same}
 use Rattle.pf_terms.proofs.SameValues.{same_true, same_itself}
 use Rattle.pf_model.specs.Meaning.{Job, Report, Means}
 use Rattle.pf_model.specs.Properties.{Outcome, finished, ended, deadlock, limit, memory}
-use Rattle.pf_hunt.specs.Rows.{Row, met, same_bool, same_verdict, same_outcome, is_like, more_often, with_row, joined, counted}
+use Rattle.pf_hunt.specs.Rows.{Row, met, same_verdict, same_outcome, is_like, more_often, with_row, joined, counted}
 use Rattle.pf_hunt.specs.Hunts.{by_seed, Tallies, no_seed, and_seed}
 use Rattle.pf_hunt.proofs.Firsts.{one_report}
 
@@ -38,7 +37,6 @@ outcome_itself (ended v) = same_itself v
 outcome_itself (deadlock ps) = (bytes_decides ps ps).1 refl
 outcome_itself limit = refl
 outcome_itself memory = refl
-
 
 pub like_is_same : (x y : Row) → (is_like x y ≡ true) ↔ ((x.verdict ≡ y.verdict) × (x.outcome ≡ y.outcome))
 like_is_same x y = (
@@ -78,7 +76,7 @@ either false = inr refl
 pub counts_more : (xs : List Row) (y : Row) → counted (with_row xs y) ≡ counted xs + y.count
 counts_more [] y = omega arith
 counts_more (x ∷ xs) y = elim (either (is_like x y)) [
-    inl e ↦ ap counted (at_like x xs y e) ∙ omega arith
+  | inl e ↦ ap counted (at_like x xs y e) ∙ omega arith
   | inr e ↦ ap counted (past_unlike x xs y e) ∙ (let h = counts_more xs y in omega arith)
 ]
 
@@ -92,17 +90,17 @@ data HasLike (y : Row) : List Row → Type 0 where
 has_it : (xs : List Row) (y r : Row) → is_like y r ≡ true → HasLike r (with_row xs y)
 has_it [] y r e = here y [] e
 has_it (x ∷ xs) y r e = elim (either (is_like x y)) [
-    inl f ↦ subst (HasLike r) (sym (at_like x xs y f)) (here (more_often x y.count) xs (alike x y r f ∙ e))
+  | inl f ↦ subst (HasLike r) (sym (at_like x xs y f)) (here (more_often x y.count) xs (alike x y r f ∙ e))
   | inr f ↦ subst (HasLike r) (sym (past_unlike x xs y f)) (there x (with_row xs y) (has_it xs y r e))
 ]
 
 still_has : (y r : Row) (xs : List Row) → HasLike r xs → HasLike r (with_row xs y)
 still_has y r _ (here x xs e) = elim (either (is_like x y)) [
-    inl f ↦ subst (HasLike r) (sym (at_like x xs y f)) (here (more_often x y.count) xs e)
+  | inl f ↦ subst (HasLike r) (sym (at_like x xs y f)) (here (more_often x y.count) xs e)
   | inr f ↦ subst (HasLike r) (sym (past_unlike x xs y f)) (here x (with_row xs y) e)
 ]
 still_has y r _ (there x xs h) = elim (either (is_like x y)) [
-    inl f ↦ subst (HasLike r) (sym (at_like x xs y f)) (there (more_often x y.count) xs h)
+  | inl f ↦ subst (HasLike r) (sym (at_like x xs y f)) (there (more_often x y.count) xs h)
   | inr f ↦ subst (HasLike r) (sym (past_unlike x xs y f)) (there x (with_row xs y) (still_has y r xs h))
 ]
 
@@ -115,7 +113,7 @@ more_once x m n = let e : x.count + (m + n) ≡ x.count + m + n = omega arith in
 -- where a row stands already, it makes no difference whether what it counts comes before or behind another
 swapped_at : (y r x : Row) (xs : List Row) → is_like x r ≡ true → with_row (with_row (x ∷ xs) r) y ≡ with_row (with_row (x ∷ xs) y) r
 swapped_at y r x xs e = elim (either (is_like x y)) [
-    inl f ↦ ap (λ zs. with_row zs y) (at_like x xs r e) ∙ at_like (more_often x r.count) xs y f
+  | inl f ↦ ap (λ zs. with_row zs y) (at_like x xs r e) ∙ at_like (more_often x r.count) xs y f
       ∙ ap (λ z. z ∷ xs) (more_twice x r.count y.count)
       ∙ sym (ap (λ zs. with_row zs r) (at_like x xs y f) ∙ at_like (more_often x y.count) xs r e)
   | inr f ↦ ap (λ zs. with_row zs y) (at_like x xs r e) ∙ past_unlike (more_often x r.count) xs y f
@@ -125,14 +123,14 @@ swapped_at y r x xs e = elim (either (is_like x y)) [
 swapped : (y r : Row) (xs : List Row) → HasLike r xs → with_row (with_row xs r) y ≡ with_row (with_row xs y) r
 swapped y r _ (here x xs e) = swapped_at y r x xs e
 swapped y r _ (there x xs h) = elim (either (is_like x r)) [
-    inl e ↦ swapped_at y r x xs e
+  | inl e ↦ swapped_at y r x xs e
   | inr e ↦ elim (either (is_like x y)) [
-      inl f ↦ ap (λ zs. with_row zs y) (past_unlike x xs r e) ∙ at_like x (with_row xs r) y f
+    | inl f ↦ ap (λ zs. with_row zs y) (past_unlike x xs r e) ∙ at_like x (with_row xs r) y f
         ∙ sym (ap (λ zs. with_row zs r) (at_like x xs y f) ∙ past_unlike (more_often x y.count) xs r e)
     | inr f ↦ ap (λ zs. with_row zs y) (past_unlike x xs r e) ∙ past_unlike x (with_row xs r) y f
         ∙ ap (λ zs. x ∷ zs) (swapped y r xs h)
         ∙ sym (ap (λ zs. with_row zs r) (past_unlike x xs y f) ∙ past_unlike x (with_row xs y) r e)
-    ]
+  ]
 ]
 
 joined_behind : (xs ys : List Row) (r : Row) → HasLike r xs → joined (with_row xs r) ys ≡ with_row (joined xs ys) r
@@ -143,7 +141,7 @@ joined_behind xs (y ∷ ys) r h = ap (λ zs. joined zs ys) (swapped y r xs h) �
 counts_behind : (xs : List Row) (y r : Row) → is_like y r ≡ true → with_row xs (more_often y r.count) ≡ with_row (with_row xs y) r
 counts_behind [] y r e = sym (at_like y [] r e)
 counts_behind (x ∷ xs) y r e = elim (either (is_like x y)) [
-    inl f ↦ at_like x xs (more_often y r.count) f ∙ ap (λ z. z ∷ xs) (more_once x y.count r.count)
+  | inl f ↦ at_like x xs (more_often y r.count) f ∙ ap (λ z. z ∷ xs) (more_once x y.count r.count)
       ∙ sym (ap (λ zs. with_row zs r) (at_like x xs y f) ∙ at_like (more_often x y.count) xs r (alike x y r f ∙ e))
   | inr f ↦ past_unlike x xs (more_often y r.count) f ∙ ap (λ zs. x ∷ zs) (counts_behind xs y r e)
       ∙ sym (ap (λ zs. with_row zs r) (past_unlike x xs y f) ∙ past_unlike x (with_row xs y) r (sym (alike_right x y r e) ∙ f))
@@ -153,7 +151,7 @@ counts_behind (x ∷ xs) y r e = elim (either (is_like x y)) [
 pub joined_more : (xs ys : List Row) (r : Row) → joined xs (with_row ys r) ≡ with_row (joined xs ys) r
 joined_more xs [] r = refl
 joined_more xs (y ∷ ys) r = elim (either (is_like y r)) [
-    inl e ↦ ap (joined xs) (at_like y ys r e) ∙ ap (λ zs. joined zs ys) (counts_behind xs y r e)
+  | inl e ↦ ap (joined xs) (at_like y ys r e) ∙ ap (λ zs. joined zs ys) (counts_behind xs y r e)
       ∙ joined_behind (with_row xs y) ys r (has_it xs y r e)
   | inr e ↦ ap (joined xs) (past_unlike y ys r e) ∙ joined_more (with_row xs y) ys r
 ]

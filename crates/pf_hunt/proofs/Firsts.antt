@@ -1,11 +1,10 @@
 -- The least seed that fails: part by part, and no other.
-use Rattle.std.proofs.Common.{◌≡◌, ◌⊎◌, inl, inr, ◌+◌, ◌<◌, ◌≤◌, ℕ, Bool, true, false, Option, Some, None, refl, sym, ap, ◌∙◌, subst, arith}
+use Rattle.std.proofs.Common.{◌≡◌, inl, inr, ◌+◌, ◌<◌, ◌≤◌, ℕ, true, false, Option, Some, None, refl, sym, ap, ◌∙◌, subst, arith}
 use Rattle.std.proofs.lemmas.Bool.{cases_lt, cases_order}
 use Rattle.pf_model.specs.Meaning.{Job, Report, Means}
 use Rattle.pf_model.specs.Shrinking.{is_failure}
 use Rattle.pf_model.proofs.Meanings.{one_meaning}
 use Rattle.pf_hunt.specs.Hunts.{by_seed, NoneFails, FirstFailing, none_fails, first}
-use Rattle.pf_hunt.specs.Laws.{OneFirst}
 
 -- a run by a seed has one report
 pub one_report : (j : Job) (s : ℕ) (r t : Report) → Means (by_seed j s) r → Means (by_seed j s) t → r ≡ t
@@ -21,7 +20,7 @@ module _ (j : Job) where
 
   pub none_in_parts : (a c b : ℕ) → NoneFails j a c → NoneFails j c b → NoneFails j a b
   none_in_parts a c b h k s r from to m = elim (cases_lt s c) [
-      inl l ↦ h s r from l m
+    | inl l ↦ h s r from l m
     | inr l ↦ k s r l to m
   ]
 
@@ -52,7 +51,7 @@ module _ (j : Job) where
   same_first : (a b s t : ℕ) (r q : Report) → a ≤ s → s < b → a ≤ t → t < b → Means (by_seed j s) r → Means (by_seed j t) q
       → is_failure r.verdict ≡ true → is_failure q.verdict ≡ true → NoneFails j a s → NoneFails j a t → s ≡ t
   same_first a b s t r q from to from' to' m n f g before before' = elim (cases_order s t) [
-      inl e ↦ e
+    | inl e ↦ e
     | inr (inl l) ↦ absurd (fails_not s r r m m f (before' s r from l m))
     | inr (inr l) ↦ absurd (fails_not t q q n n g (before t q from' l n))
   ]

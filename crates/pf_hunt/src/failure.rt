@@ -28,12 +28,7 @@ fn fails(report: &Report) -> bool
 }
 
 /// The least seed from a first to before an end whose run fails, with the report of that run.
-pub fn first_in(
-    alloc: Global,
-    job: &Job,
-    from: u64,
-    end: u64,
-) -> Result<Option<Failure>, NoMemory>
+pub fn first_in(alloc: Global, job: &Job, from: u64, end: u64) -> Result<Option<Failure>, NoMemory>
     ensures { IfOk result (λ f. FirstFailing (job_meant job.now) from end (option_map failure_of f)) }
 {
     let mut scratch = Scratch::new(alloc);

@@ -27,7 +27,12 @@ fn report_in(finished: Finished) -> Result<Report, NoMemory>
 }
 
 /// The report that the run of a job by a seed means, in place of the job's own choices. What stands in the scratch makes no difference.
-pub fn run_by_seed(alloc: Global, job: &Job, scratch: &mut Scratch, seed: u64) -> Result<Report, NoMemory>
+pub fn run_by_seed(
+    alloc: Global,
+    job: &Job,
+    scratch: &mut Scratch,
+    seed: u64,
+) -> Result<Report, NoMemory>
     ensures { IfOk result (λ r. Means (by_seed (job_meant job.now) seed) (report_of r)) }
 {
     let run = Arc::new(alloc, job.by_seed(seed)?)?;

@@ -89,7 +89,10 @@ fn one_outcome_has_one_row(rt: HostRuntime) -> Result<(), Fail> {
     let alloc = rt.alloc();
     let source = "-module(m).\n-export([main/0]).\nmain() -> {ok, [self(), 7]}.\n";
     let job = job_of(alloc, source, "returns", 100)?;
-    assert_eq!(rt; tally_of(&rt, alloc, &job, 5, 25)?.as_str(), "holds finished 20 5\n");
+    assert_eq!(rt;
+        tally_of(&rt, alloc, &job, 5, 25)?.as_str(),
+        "holds finished 20 5\n"
+    );
     Ok(())
 }
 

@@ -17,12 +17,7 @@ counter(N) -> receive {read, P} -> P ! {value, N}, counter(N);\n\
 {write, M, P} -> P ! written, counter(M) end.\n";
 
 /// The job of a source from its `main`.
-pub(crate) fn job_of(
-    alloc: Global,
-    source: &str,
-    property: &str,
-    limit: u32,
-) -> Result<Job, Fail> {
+pub(crate) fn job_of(alloc: Global, source: &str, property: &str, limit: u32) -> Result<Job, Fail> {
     let mut bytes = Vec::new(alloc);
     bytes.extend_from_slice(source.as_bytes())?;
     let stored = Stored::read(alloc, &Source::new(alloc, bytes)?)?;

@@ -19,7 +19,7 @@ join-requires g c =
     let at = c.loop-at in
     let next = c.block_end-next.ensures in
     counted_both (job_meant c.args.job.now) c.args.from at.at c.block_end-next.result _ _ at.invariant.behind (omega (arith, next.0))
-      (omega (arith, next.1, c.ranges.end.fits)) at.invariant.rows c.in_ok-tally_all.ensures
+    (omega (arith, next.1, c.ranges.end.fits)) at.invariant.rows c.in_ok-tally_all.ensures
 
 pub loop-at-preserved : goal.loop-at-preserved
 loop-at-preserved g c =
@@ -29,8 +29,8 @@ loop-at-preserved g c =
       behind = omega (arith, next.0, at.invariant.behind);
       within = inr next.1;
       rows =
-        rw c.in_ok-join.ensures
-        (parts_are_the_whole (job_meant c.args.job.now) c.args.from at.at c.block_end-next.result _ _ at.invariant.behind (omega (arith, next.0))
+          rw c.in_ok-join.ensures
+          (parts_are_the_whole (job_meant c.args.job.now) c.args.from at.at c.block_end-next.result _ _ at.invariant.behind (omega (arith, next.0))
           at.invariant.rows c.in_ok-tally_all.ensures);
     }
 

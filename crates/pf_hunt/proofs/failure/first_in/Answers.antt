@@ -14,7 +14,7 @@ pub returns-then-fails : goal.returns-then-fails
 returns-then-fails c =
     let at = c.loop-seed in
     first at.seed (report_of c.in_ok-report.report) (omega (arith, at.auto.seed)) (omega (arith, c.loop-seed-test.true)) c.in_ok-report.ensures
-      (sym c.if-fails.ensures) at.invariant
+    (sym c.if-fails.ensures) at.invariant
 
 pub returns : goal.returns
 returns c =

@@ -15,13 +15,13 @@ loop-row-init c =
     }
 
 pub add-requires : goal.add-requires
-add-requires c = 
+add-requires c =
     let steps : into_iter_items c.loop-row.row-iterator ≡ c.in-Some.row ∷ into_iter_items c.next.new.self = c.in-Some.ensures.steps.0 in
     let all = ap (λ xs. counted (rows_in xs)) steps in
     omega (arith, all, c.loop-row.invariant.count, c.requires)
 
 pub loop-row-preserved : goal.loop-row-preserved
-loop-row-preserved c = 
+loop-row-preserved c =
     let at = c.loop-row in
     let rest = into_iter_items c.next.new.self in
     let steps : into_iter_items at.row-iterator ≡ c.in-Some.row ∷ rest = c.in-Some.ensures.steps.0 in

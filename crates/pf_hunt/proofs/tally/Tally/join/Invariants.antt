@@ -9,5 +9,5 @@ abbrev pub invariant-loop-row : goal.invariant-loop-row
 invariant-loop-row l = record {
   rows : joined (rows_of l.self) (rows_in (into_iter_items l.row-iterator)) ≡ joined (rows_of l.fn.self) (rows_of l.fn.behind);
   count :
-    counted (rows_of l.self) + counted (rows_in (into_iter_items l.row-iterator)) ≡ counted (rows_of l.fn.self) + counted (rows_of l.fn.behind);
+      counted (rows_of l.self) + counted (rows_in (into_iter_items l.row-iterator)) ≡ counted (rows_of l.fn.self) + counted (rows_of l.fn.behind);
 }
