@@ -1,13 +1,12 @@
 -- Rows: what one more counts, and the rows of two parts.
 use Rattle.std.proofs.Common.{◌≡◌, ◌⊎◌, inl, inr, ◌+◌, ◌-◌, ◌^◌, ◌<◌, ◌≤◌, ℕ, suc, Bool, true, false, ◌&&◌, List, [], ◌∷◌, Option, Some, None, refl, sym, ap, ap₂, ◌∙◌, subst, arith}
-use Rattle.std.specs.Prelude.{if◌then◌else◌, ◌↔◌, nat_eq}
-use Rattle.std.specs.Cmp.Lexicographic.{pointwise, bytes_decides}
+use Rattle.std.specs.Prelude.{if◌then◌else◌, ◌↔◌}
+use Rattle.std.specs.Cmp.Lexicographic.{bytes_decides}
 use Rattle.std.proofs.lemmas.Bool.{and_parts}
-use Rattle.pf_terms.specs.Value.{same}
 use Rattle.pf_terms.proofs.SameValues.{same_true, same_itself}
 use Rattle.pf_model.specs.Meaning.{Job, Report, Means}
 use Rattle.pf_model.specs.Properties.{Outcome, finished, ended, deadlock, limit, memory}
-use Rattle.pf_hunt.specs.Rows.{Row, met, same_bool, same_verdict, same_outcome, is_like, more_often, with_row, joined, counted}
+use Rattle.pf_hunt.specs.Rows.{Row, met, same_verdict, same_outcome, is_like, more_often, with_row, joined, counted}
 use Rattle.pf_hunt.specs.Hunts.{by_seed, Tallies, no_seed, and_seed}
 use Rattle.pf_hunt.proofs.Firsts.{one_report}
 

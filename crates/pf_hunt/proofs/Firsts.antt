@@ -1,11 +1,10 @@
 -- The least seed that fails: part by part, and no other.
-use Rattle.std.proofs.Common.{◌≡◌, ◌⊎◌, inl, inr, ◌+◌, ◌<◌, ◌≤◌, ℕ, Bool, true, false, Option, Some, None, refl, sym, ap, ◌∙◌, subst, arith}
+use Rattle.std.proofs.Common.{◌≡◌, inl, inr, ◌+◌, ◌<◌, ◌≤◌, ℕ, true, false, Option, Some, None, refl, sym, ap, ◌∙◌, subst, arith}
 use Rattle.std.proofs.lemmas.Bool.{cases_lt, cases_order}
 use Rattle.pf_model.specs.Meaning.{Job, Report, Means}
 use Rattle.pf_model.specs.Shrinking.{is_failure}
 use Rattle.pf_model.proofs.Meanings.{one_meaning}
 use Rattle.pf_hunt.specs.Hunts.{by_seed, NoneFails, FirstFailing, none_fails, first}
-use Rattle.pf_hunt.specs.Laws.{OneFirst}
 
 -- a run by a seed has one report
 pub one_report : (j : Job) (s : ℕ) (r t : Report) → Means (by_seed j s) r → Means (by_seed j s) t → r ≡ t

@@ -1,10 +1,9 @@
 -- Where a row stands, and what becomes of the rows there.
-use Rattle.std.proofs.Common.{◌≡◌, inl, inr, ◌+◌, ◌<◌, ◌≤◌, ℕ, zero, suc, true, false, List, [], ◌∷◌, ◌++◌, Some, None, refl, sym, ap, ◌∙◌, arith, length, map}
+use Rattle.std.proofs.Common.{◌≡◌, inl, inr, ◌+◌, ◌≤◌, ℕ, zero, suc, true, false, List, [], ◌∷◌, ◌++◌, Some, refl, sym, ap, ◌∙◌, arith, length}
 use Rattle.std.specs.Prelude.{slice_get, slice_set}
 use Rattle.std.proofs.lemmas.Bool.{cases_lt}
-use Rattle.pf_hunt.specs.Rows as rows
 use Rattle.pf_hunt.specs.Rows.{counted, is_like, more_often, with_row}
-use Rattle.pf_hunt.specs.Views.{row_of, rows_in, NoneBefore, IsFirstLike}
+use Rattle.pf_hunt.specs.Views.{row_of, rows_in, NoneBefore}
 use Rattle.pf_hunt.specs.declared.row.Row.{Row}
 use Rattle.pf_hunt.proofs.Counting.{at_like, past_unlike}
 

@@ -1,5 +1,5 @@
 -- Hunts: what the runs by many seeds come to.
-use Rattle.std.specs.Prelude.{◌≡◌, ◌<◌, ◌≤◌, ℕ, zero, suc, Bool, true, false, List, [], ◌∷◌, Option, Some, None}
+use Rattle.std.specs.Prelude.{◌≡◌, ◌<◌, ◌≤◌, ℕ, zero, suc, true, false, List, [], Option, Some, None}
 use Rattle.pf_model.specs.Meaning.{Job, Report, Means, seed}
 use Rattle.pf_model.specs.Shrinking.{is_failure}
 use Rattle.pf_hunt.specs.Rows.{Row, met, with_row}

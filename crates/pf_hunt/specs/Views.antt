@@ -1,5 +1,5 @@
 -- What the code's own failures and rows stand for.
-use Rattle.std.specs.Prelude.{◌≡◌, ◌<◌, ℕ, true, false, List, map, length, slice_get, Some, EachIndex}
+use Rattle.std.specs.Prelude.{◌≡◌, ◌<◌, ℕ, true, false, List, map, slice_get, Some}
 use Rattle.pf_model.specs.Meaning.{Report}
 use Rattle.pf_model.specs.Reports.{outcome_of, report_of}
 use Rattle.pf_hunt.specs.Rows as rows

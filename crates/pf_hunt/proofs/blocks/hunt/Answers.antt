@@ -1,4 +1,4 @@
-use Rattle.std.proofs.Common.{Some, ap, subst, arith}
+use Rattle.std.proofs.Common.{subst, arith}
 use Rattle.std.specs.Prelude.{option_map}
 use Rattle.pf_desks.specs.Desk.{job_meant}
 use Rattle.pf_hunt.specs.Hunts.{FirstFailing, none_fails}

@@ -1,4 +1,4 @@
-use Rattle.std.proofs.Common.{◌≤◌, ◌-◌, ◌⊎◌}
+use Rattle.std.proofs.Common.{◌≤◌, ◌-◌}
 use Rattle.pf_desks.specs.Desk.{job_meant}
 use Rattle.pf_hunt.specs.Hunts.{NoneFails}
 use Rattle.pf_hunt.proofs.blocks.hunt.Given as goal

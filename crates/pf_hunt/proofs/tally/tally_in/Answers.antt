@@ -1,8 +1,7 @@
-use Rattle.std.proofs.Common.{◌≡◌, ◌≤◌, ◌⊎◌, inl, inr, ℕ, [], refl, sym, ap, subst, arith}
+use Rattle.std.proofs.Common.{inl, inr, refl, sym, ap, subst, arith}
 use Rattle.pf_desks.specs.Desk.{job_meant}
 use Rattle.pf_model.specs.Reports.{report_of}
 use Rattle.pf_hunt.specs.Hunts.{Tallies, no_seed}
-use Rattle.pf_hunt.specs.Rows.{with_row}
 use Rattle.pf_hunt.specs.Views.{rows_of}
 use Rattle.pf_hunt.proofs.Counting.{each_is_counted, ends_there, one_seed_more}
 use Rattle.pf_hunt.proofs.tally.tally_in.Goals as goal

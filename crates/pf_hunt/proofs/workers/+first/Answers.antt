@@ -35,3 +35,9 @@ returns-in-None g t c =
     let front = none_of j from middle (IfOk-at_ok (λ f. FirstFailing j from middle (option_map failure_of f)) none c.join-front.ensures.first) in
     IfOk-weaker c.join-front.result.1 (λ f. FirstFailing j middle end (option_map failure_of f)) (λ f. FirstFailing j from end (option_map failure_of f))
     (λ f back. in_second j from middle end (option_map failure_of f) c.edge-middle.ensures.0 front back) c.join-front.ensures.second
+
+pub front_part-returns : goal.front_part-returns
+front_part-returns g t c = c.first_failing.ensures
+
+pub back_part-returns : goal.back_part-returns
+back_part-returns g t c = c.first_failing.ensures

@@ -1,5 +1,4 @@
 use denote.Param.Send.{sendable}
-use Rattle.std.proofs.Common.{arith}
 use Rattle.std.proofs.lemmas.Result.{IfOk-at_ok}
 use Rattle.pf_desks.specs.Desk.{job_meant}
 use Rattle.pf_hunt.specs.Hunts.{Tallies}
@@ -30,3 +29,9 @@ returns g t c =
     let front = IfOk-at_ok (λ r. Tallies j from middle (rows_of r)) c.in_ok-tally.was c.join-front.ensures.first in
     let back = IfOk-at_ok (λ r. Tallies j middle end (rows_of r)) c.in_ok-back.was c.join-front.ensures.second in
     rw c.in_ok-join.ensures (parts_are_the_whole j from middle end _ _ c.edge-middle.ensures.0 c.edge-middle.ensures.1 front back)
+
+pub front_part-returns : goal.front_part-returns
+front_part-returns g t c = c.tally_all.ensures
+
+pub back_part-returns : goal.back_part-returns
+back_part-returns g t c = c.tally_all.ensures

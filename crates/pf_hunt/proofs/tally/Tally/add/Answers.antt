@@ -1,4 +1,4 @@
-use Rattle.std.proofs.Common.{◌≡◌, ap, ◌∙◌, subst, arith, length}
+use Rattle.std.proofs.Common.{ap, ◌∙◌, subst, arith, length}
 use Rattle.std.proofs.lemmas.Option.{get_or_from_slice_get}
 use Rattle.pf_hunt.specs.Rows.{more_often}
 use Rattle.pf_hunt.specs.Views.{NoneBefore, IsFirstLike, row_of, rows_in}
