@@ -15,21 +15,30 @@ struct Named<'a> {
     /// What stands before the schedule in the word.
     front: &'static str,
     file: &'a str,
+    is_text: bool,
 }
 
 /// The file that the word at a place names.
 fn file_named(given: &[Word], at: usize) -> Option<Named<'_>> {
-    let text = given.get(at)?.text.as_str();
-    if let Some(file) = text.strip_prefix("--schedule=@") {
-        let front = "--schedule=";
-        return Some(Named { front, file });
+    let word = given.get(at)?;
+    let is_text = word.is_text;
+    if let Some(file) = word.text.strip_prefix("--schedule=@") {
+        return Some(Named {
+            front: "--schedule=",
+            file,
+            is_text,
+        });
     }
     let before = given.get(at.checked_sub(1)?)?;
     if before.text.as_str() != "--schedule" {
         return None;
     }
-    let file = text.strip_prefix("@")?;
-    Some(Named { front: "", file })
+    let file = word.text.strip_prefix("@")?;
+    Some(Named {
+        front: "",
+        file,
+        is_text,
+    })
 }
 
 /// The name of the file that the word at a place names.
@@ -66,15 +75,15 @@ fn contents<R: Files + AllocGlobal>(rt: &R, is_text: bool, file: &str) -> io::Re
 
 /// The word at a place with a schedule in place of the file that has it; none where it names no file, or one without a schedule.
 fn replaced<R: Files + AllocGlobal>(rt: &R, given: &[Word], at: usize) -> io::Result<Option<Word>> {
-    let Some(Named { front, file }) = file_named(given, at) else {
+    let Some(named) = file_named(given, at) else {
         return Ok(None);
     };
-    let contents = contents(rt, given[at].is_text, file)?;
+    let contents = contents(rt, named.is_text, named.file)?;
     let schedule = schedule_in(&contents);
     if schedule_of(rt.alloc(), schedule.as_bytes())?.is_none() {
         return Ok(None);
     }
-    let mut text = String::from_str(rt.alloc(), front)?;
+    let mut text = String::from_str(rt.alloc(), named.front)?;
     text.push_str(schedule)?;
     let is_text = true;
     Ok(Some(Word { is_text, text }))
@@ -91,7 +100,11 @@ pub struct Unread {
 pub fn read_schedules<R: Files + AllocGlobal>(rt: &R, given: &mut Vec<Word>) -> Result<(), Unread> {
     for at in 0..given.len() {
         match replaced(rt, given, at) {
-            Ok(Some(word)) => given[at] = word,
+            Ok(Some(word)) => {
+                if let Some(place) = given.get_mut(at) {
+                    *place = word;
+                }
+            }
             Ok(None) => {}
             Err(error) => return Err(Unread { at, error }),
         }
