@@ -317,7 +317,10 @@ schedules_in_files() {
   check 'schedule that no command line can hold' test "$status" = 0
   printf ',1\n' >> schedule
   run $words --schedule @schedule
-  ended 'schedule of a line end before its last number' 2 '' \
+  ended 'schedule of a number too many' 2 'B6\n' ''
+  printf '0,1\n,1\n' > schedule
+  run $words --schedule @schedule
+  ended 'schedule with a line end within' 2 '' \
     "error: invalid value '@schedule' for '--schedule <L>': it wants $numbers$usage$more"
   run $words --schedule @missing
   ended 'missing file of a schedule' 2 '' "pulsefarm: missing: $missing"

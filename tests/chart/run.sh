@@ -1,0 +1,94 @@
+#!/bin/bash
+# Draws the race of each module of examples/ by the seed that the table there names, and holds the chart against the report of that run: a head for
+# each process, a row for each event, an arrow for each signal and each spawn. Where a browser is there, or can be installed from the system's packages,
+# the chart is opened in it, and what is checked is what the browser made of it; else it is the file. A source whose atoms have all that markup has stays text.
+#
+# Usage: run.sh [BINARY]; the program is that of the crate `pulsefarm` where none is named.
+set -u
+top=$(cd "$(dirname "$0")/../.." && pwd)
+. "$top/tests/compare.sh"
+
+# A browser, where there is one.
+find_browser() {
+  command -v chromium || command -v chromium-browser || command -v google-chrome
+}
+
+browser=$(find_browser)
+if [ -z "$browser" ] && [ "$(id -u)" = 0 ] && command -v apt-get > /dev/null; then
+  timeout 300 sh -c 'apt-get update && apt-get install -y --no-install-recommends chromium' > "$room/apt" 2>&1
+  browser=$(find_browser)
+fi
+echo "browser: ${browser:-none}"
+
+# What a browser makes of the chart $1.
+opened() {
+  if [ -z "$browser" ]; then
+    cat "$1"
+  else
+    timeout 60 "$browser" --headless --no-sandbox --disable-gpu --dump-dom "file://$1" 2> /dev/null
+  fi
+}
+
+# Counts whether $3 is $2; $1 names it.
+same() {
+  if [ "$2" = "$3" ]; then
+    passed=$((passed + 1))
+  else
+    failed=$((failed + 1))
+    echo "$1: $3 in place of $2"
+  fi
+}
+
+# How often the pattern $1 stands in what was opened.
+times() { grep -oE "$1" "$room/opened" | wc -l; }
+
+# Draws the module $1 by the words from $2 on into `chart.svg`, opens it, and leaves its report in `report`.
+draw() {
+  source=$1
+  shift
+  timeout 60 "$program" run "$source" --root main --limit 2000 "$@" > "$room/report" 2> "$room/err" < /dev/null
+  wanted=$?
+  timeout 60 "$program" chart "$source" --root main --limit 2000 "$@" > "$room/chart.svg" 2> "$room/err" < /dev/null
+  same "status of ${source##*/}" "$wanted" "$?"
+  opened "$room/chart.svg" > "$room/opened"
+}
+
+# Holds the chart against the report, by counts; $1 names it.
+matches() {
+  events=$(grep -cE '^[0-9]+/[0-9]+ ' "$room/report")
+  spawns=$(grep -cE '^[0-9]+/[0-9]+ <[0-9]+> spawn' "$room/report")
+  delivered=$(grep -cE '^[0-9]+/[0-9]+ <[0-9]+>-><[0-9]+> ' "$room/report")
+  dropped=$(grep -cE '^[0-9]+/[0-9]+ <[0-9]+>-><[0-9]+> deliver [a-z]+ dropped$' "$room/report")
+  waiting=$(sed -n 's/^deadlock//p' "$room/report" | wc -w)
+  same "documents of $1" 1 "$(times '<svg ')"
+  same "faults of $1" 0 "$(times 'parsererror')"
+  same "heads of $1" $((spawns + 1)) "$(times '<g class="process[ "]')"
+  same "processes in a deadlock of $1" "$waiting" "$(times '<g class="process deadlocked"')"
+  same "events of $1" "$events" "$(times '<g class="event[ "]')"
+  same "spawns of $1" "$spawns" "$(times '<g class="arrow spawn[ "]')"
+  same "signals of $1 that arrive" "$delivered" $(($(times '<g class="arrow [a-z]+( dropped)?"') - spawns))
+  same "signals of $1 that are dropped" "$dropped" "$(times '<g class="arrow [a-z]+ dropped"')"
+  same "text of $1" yes "$([ "$(times '<text')" -ge "$events" ] && echo yes)"
+}
+
+while read -r module property seed; do
+  draw "$top/examples/$module.erl" --seed "$seed" --property "$property"
+  matches "$module"
+  draw "$top/examples/${module}_mended.erl" --seed "$seed" --property "$property"
+  matches "${module}_mended"
+done < <(sed -n 's/^| `\([a-z_]*\)` | `\([a-z]*\)` | \([0-9]*\) |.*/\1 \2 \3/p' "$top/examples/README.md")
+
+# An atom and a reason of markup.
+cat > "$room/markup.erl" << 'SOURCE'
+-module(markup).
+-export([main/0]).
+main() -> self() ! {'</text><script>alert(1)</script>', '&amp;<g class="event">', '\\'}, exit('<svg onload="x">').
+SOURCE
+draw "$room/markup.erl" --seed 0
+matches markup
+same 'scripts' 0 "$(times '<script')"
+
+# What is refused is told in its words, and no document goes out.
+printf '%s\n' B2 > "$room/wanted"
+compare 'a root that is none' 2 "$room/markup.erl" "$room/wanted" chart --root other --limit 5 --seed 0
+tell_counts
