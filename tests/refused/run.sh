@@ -134,6 +134,16 @@ row_run_refused() {
   run_refused "$1"
 }
 
+# Refuses each growth of a chart in turn, of a race of two senders; the whole chart is the one that comes where none is refused.
+chart_refused() {
+  some_row race_of_two_senders_right_first
+  sed -i 's/^run /chart /' "$room/words"
+  refusing 0
+  cp "$room/out" "$room/chart"
+  whole=$room/chart
+  all_refused chart ended_well
+}
+
 # Sets the words and the input of `pulsefarm steps`, over the calls of two projects and a worker's work, and what it writes.
 some_commands() {
   echo steps > "$room/words"
@@ -167,6 +177,11 @@ row_run_refused exits_kill_who_traps
 row_run_refused seed_of_two_senders
 row_run_refused property_never_of_what_is_sent
 row_run_refused shrink_wait_within_three_runs
+row_refused hunt_of_a_wait ended_well
+printf '%s\n' 'seed 7' 'schedule 0' memory 'steps 0' 'no verdict' > "$room/stopped"
+row_run_refused hunt_of_a_wait_shrunk
+row_refused hunt_of_each_outcome ended_well
+chart_refused
 some_commands
 all_refused steps commands_ended_well
 row_refused steps_race_in_both_orders commands_ended_well

@@ -20,7 +20,7 @@ use std::alloc::Global;
 use std::sync::Arc;
 
 /// The status where something is refused.
-const REFUSED: u8 = 2;
+pub(crate) const REFUSED: u8 = 2;
 
 /// The status where a property fails.
 pub(crate) const FAILED: u8 = 1;

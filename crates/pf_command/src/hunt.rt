@@ -3,7 +3,9 @@
 ghost use Rattle.std.specs.Prelude.{IfOk};
 ghost use Rattle.pf_command.specs.Drawn.{HasStatus, SomeText};
 
-use crate::answer::{Answer, FAILED, answer_module, read_source, refused_at, refused_by_code};
+use crate::answer::{
+    Answer, FAILED, REFUSED, answer_module, read_source, refused_at, refused_by_code,
+};
 use crate::asked::Asked;
 use crate::seeds::{put_failure, put_none, put_rows, schedule_of};
 use pf_fault::{NoMemory, OrNoMemory};
@@ -80,10 +82,9 @@ fn tell_shrunk(
     };
     let shrunk = answer_module(alloc, asked, stored, watch)?;
     put(&mut text, &shrunk.text)?;
-    Ok(Answer {
-        text,
-        status: FAILED,
-    })
+    let found = shrunk.status == FAILED;
+    let status = if found { FAILED } else { REFUSED };
+    Ok(Answer { text, status })
 }
 
 /// The answer of rows: 1 where the property of some run fails, else 0.
