@@ -15,7 +15,7 @@ use std::alloc::Global;
 use std::thread::Threads;
 
 /// How many seeds of a block each worker has at most.
-const MOST: u64 = 512;
+const MOST: u64 = 2_048;
 
 /// Where a block ends that begins here, in which each worker has so many seeds.
 fn block_end(from: u64, end: u64, each: u64, workers: u64) -> u64
