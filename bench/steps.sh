@@ -6,7 +6,11 @@
 #   with their reports,
 # - 100 projects that submit modules of their own take 3 bytes or more for each byte of their sources, reports and logs as these stand in memory,
 # - one more fetch of a report takes as much as a note and a copy of the report,
-# - large sources take 2.5 bytes or more for each byte that is read: the input and the one copy that desk and log share are 2.
+# - large sources take 2.5 bytes or more for each byte that is read: the input and the one copy that desk and log share are 2,
+# - a client's call costs over 1.5 times as much among 10,000 projects as among 10, with a full log as with an empty one, or at the 64th
+#   trial as at the first,
+# - a trial that is run and dropped, and was never fetched, leaves more than its notes, its order and its lines,
+# - modules that are withdrawn leave 3 bytes or more for each byte of their text.
 # It also prints what 100 projects with modules of their own take for each byte that is read and written; by that it doesn't fail.
 # The program is the one that the gate or install.sh built.
 set -eu
@@ -116,4 +120,119 @@ awk 'BEGIN {
 measure
 echo "100 sources of 60,000 bytes: at most $most bytes in blocks, for $text bytes read and written"
 [ $((most * 10)) -lt $((text * 25)) ] || bad=1
+
+# ---- what a call costs: the calls of $room/calls, behind what stands in $room/before
+
+# Sets `each` to the nanoseconds that one of the calls takes.
+cost() {
+  cp "$room/before" "$room/in"
+  took=$(least)
+  cat "$room/calls" >> "$room/in"
+  each=$((($(least) - took) / $(wc -l < "$room/calls")))
+}
+
+# $1 projects with a module and $2 trials each; the module is that of all.
+opened() {
+  awk -v projects="$1" -v trials="$2" 'BEGIN {
+    text = "-module(m).\n-export([main/0]).\nmain() -> 1 + 2 * 3.\n"
+    for (p = 1; p <= projects; p++) printf "submit %d %d\n%s\n", p, length(text), text
+    for (t = 1; t <= trials; t++) for (p = 1; p <= projects; p++) printf "order %d 1 main returns none 1\n", p
+  }'
+}
+
+# $2 rounds of $1 projects that order, ask how far the trial is and for its report, drop it, and ask for usage and log; $3 trials were ordered
+# before.
+rounds() {
+  awk -v projects="$1" -v rounds="$2" -v trials="$3" 'BEGIN {
+    for (r = 1; r <= rounds; r++) {
+      t = trials + r
+      for (p = 1; p <= projects; p++) printf "order %d 1 main returns none 1\n", p
+      for (p = 1; p <= projects; p++) printf "status %d %d\n", p, t
+      for (p = 1; p <= projects; p++) printf "fetch %d %d\n", p, t
+      for (p = 1; p <= projects; p++) printf "drop %d %d\n", p, t
+      for (p = 1; p <= projects; p++) printf "usage %d\nlog %d\n", p, p
+    }
+  }'
+}
+
+# $2 rounds of $1 projects that ask how far their first trial is, for their usage and for their log.
+questions() {
+  awk -v projects="$1" -v rounds="$2" 'BEGIN {
+    for (r = 1; r <= rounds; r++) for (p = 1; p <= projects; p++) printf "status %d 1\nusage %d\nlog %d\n", p, p, p
+  }'
+}
+
+# Tells the costs $2 and $4 of a call in the cases $1 and $3, and marks a second one that is over 1.5 times the first.
+tell_costs() {
+  echo "| $1 | $2 ns |"
+  echo "| $3 | $4 ns |"
+  [ $(($4 * 10)) -le $(($2 * 15)) ] || bad=1
+}
+
+echo
+echo "| a call | costs |"
+echo "|---|---|"
+opened 10 0 > "$room/before"
+rounds 10 1000 0 > "$room/calls"
+cost
+few=$each
+opened 10000 0 > "$room/before"
+rounds 10000 1 0 > "$room/calls"
+cost
+tell_costs 'among 10 projects' "$few" 'among 10,000 projects' "$each"
+
+opened 50 1 > "$room/before"
+questions 50 300 > "$room/calls"
+cost
+early=$each
+questions 50 3000 >> "$room/before"
+cost
+tell_costs 'with an empty log' "$early" 'with a log of over 9,000 calls' "$each"
+
+opened 100 0 > "$room/before"
+rounds 100 100 0 > "$room/calls"
+cost
+first=$each
+opened 100 63 > "$room/before"
+rounds 100 100 63 > "$room/calls"
+cost
+tell_costs 'at the first trial' "$first" 'at the 64th trial' "$each"
+
+# ---- what is given back
+
+# $1 rounds of one project that orders 64 trials with long reports, has them run, and drops them.
+dropped() {
+  awk -v rounds="$1" 'BEGIN {
+    text = "-module(m).\n-export([main/0]).\nmain() -> flood(200).\nflood(0) -> done; flood(N) -> self() ! N, flood(N - 1).\n"
+    printf "submit 1 %d\n%s\n", length(text), text
+    for (r = 0; r < rounds; r++) {
+      for (t = 1; t <= 64; t++) print "order 1 1 main returns none 10000"
+      for (t = 1; t <= 64; t++) printf "once 1 %d\n", 64 * r + t
+      for (t = 1; t <= 64; t++) printf "drop 1 %d\n", 64 * r + t
+    }
+  }'
+}
+
+echo
+dropped 1 > "$room/in"
+measure
+before=$most
+lines=$text
+dropped 20 > "$room/in"
+measure
+each=$(((most - before - (text - lines)) / (19 * 64)))
+echo "a trial that is run and dropped, with a long report: $each bytes, beside its lines"
+[ "$each" -lt $((8 * note + 2 * order)) ] || bad=1
+
+awk 'BEGIN {
+  for (n = 1; n <= 2000; n++) {
+    text = "-module(m).\n-export([main/0]).\nmain() -> " n
+    for (k = 1; k <= 200; k++) text = text " + " k
+    text = text ".\n"
+    printf "submit 1 %d\n%s\nwithdraw 1 %d\n", length(text), text, n
+  }
+}' > "$room/in"
+measure
+echo "2,000 modules that are withdrawn: at most $most bytes in blocks, for $text bytes read and written"
+[ "$most" -lt $((text * 3)) ] || bad=1
 exit "$bad"

@@ -283,16 +283,25 @@ long_mailboxes() {
   run_within '1,000 messages from the last on' 0 100000
 }
 
-# Projects that submit, order, run, fetch and ask for their usage in turns, so many rounds of all of them: each is told what it is told alone.
+# Projects that submit, order, run, fetch and ask for their usage in turns, so many rounds of all of them: each is told what it is told
+# alone. A project holds the modules and trials of its last 16 rounds, and gives up what is older.
 projects_in_turns() {
   awk -v rounds="$1" -v room="$room" 'BEGIN {
     most = split("0 1 2 3 7 4294967295", projects, " ")
     input = room "/in"; wanted = room "/wanted"
     for (r = 1; r <= rounds; r++) {
+      old = r - 16
+      held = old > 0 ? 16 : r
       for (i = 1; i <= most; i++) {
-        source[i] = "-module(m).\n-export([main/0]).\nmain() -> " i " * 1000 + " r ".\n"
-        bytes[i] += length(source[i])
-        printf "submit %s %d\n%s\n", projects[i], length(source[i]), source[i] > input
+        if (old > 0) {
+          printf "drop %s %d\nwithdraw %s %d\n", projects[i], old, projects[i], old > input
+          printf "p%s done\np%s done\n", projects[i], projects[i] > wanted
+          bytes[i] -= size[i, old]
+        }
+        source = "-module(m).\n-export([main/0]).\nmain() -> " i " * 1000 + " r ".\n"
+        size[i, r] = length(source)
+        bytes[i] += length(source)
+        printf "submit %s %d\n%s\n", projects[i], length(source), source > input
         printf "p%s module %d\n", projects[i], r > wanted
       }
       for (i = 1; i <= most; i++) {
@@ -306,11 +315,47 @@ projects_in_turns() {
       for (i = 1; i <= most; i++) {
         printf "fetch %s %d\nusage %s\n", projects[i], r, projects[i] > input
         printf "p%s report 4\n0/1 <0> end normal\nfinished %d\nsteps 4\nproperty holds\n", projects[i], i * 1000 + r > wanted
-        printf "p%s usage %d %d %d %d %d\n", projects[i], r, bytes[i], r, 100 * r, 5 * r - 1 > wanted
+        printf "p%s usage %d %d %d %d %d\n", projects[i], held, bytes[i], held, 100 * held, 5 * r - 1 + 2 * (r - held) > wanted
       }
     }
   }'
   expect "$1 rounds of six projects" 0 steps
+}
+
+# Four sources of 65,536 bytes are as many bytes as a project may hold. What passes that is refused before it is read.
+bytes_of_a_project() {
+  main_is '1 + 2 * 3'
+  pad_to 65535
+  cp "$room/in" "$room/source"
+  {
+    for _ in 1 2 3 4; do echo 'submit 0 65536'; cat "$room/source"; printf ' \n'; done
+    printf 'submit 0 1\n \nsubmit 1 1\n \nusage 0\nwithdraw 0 3\nsubmit 0 65535\n'
+    cat "$room/source"
+    printf '\nsubmit 0 2\n  \nsubmit 0 1\n \nusage 0\n'
+  } > "$room/in"
+  printf '%s\n' 'p0 module 1' 'p0 module 2' 'p0 module 3' 'p0 module 4' 'p0 refused Q2' 'p1 refused E4' 'p0 usage 4 262144 0 0 5' 'p0 done' \
+    'p0 module 5' 'p0 refused Q2' 'p0 refused E4' 'p0 usage 4 262143 0 0 10' > "$room/wanted"
+  expect '262,144 bytes of a project' 0 steps
+}
+
+# A call that is refused is logged too, but none behind the last of 10,000. A worker still runs what was ordered.
+calls_of_a_project() {
+  main_is '1 + 2 * 3'
+  size=$(($(wc -c < "$room/in")))
+  cp "$room/in" "$room/source"
+  {
+    echo "submit 0 $size"; cat "$room/source"; echo; echo 'order 0 1 main returns none 100'
+    repeated 'log 0\nfetch 0 2\n' 4999
+    printf 'log 0\nusage 0\nstatus 0 1\nfetch 0 2\ndrop 0 1\nwithdraw 0 2\nsubmit 0 1\n \norder 0 2 main returns none 0\nshrink 0 2 main returns none 0 0\n'
+    printf 'once 0 1\nonce 0 1\nlog 0\nlog 1\n'
+  } > "$room/in"
+  {
+    printf 'p0 module 1\np0 ticket 1\n'
+    awk 'BEGIN { for (n = 2; n < 10000; n += 2) printf "p0 log %d\np0 refused B3\n", n }'
+    repeated 'p0 refused Q5\n' 9
+    printf 'w0 done\nw0 not now N2\np0 refused Q5\np1 log 0\n'
+  } > "$room/wanted"
+  expect '10,000 calls of a project' 0 steps
 }
 
 lengths_of_sources
@@ -328,4 +373,6 @@ sizes_of_reasons
 long_mailboxes
 projects_in_turns 1
 projects_in_turns 100
+bytes_of_a_project
+calls_of_a_project
 tell_counts

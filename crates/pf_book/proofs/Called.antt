@@ -1,36 +1,128 @@
 -- What a desk keeps is kept by a call.
-use Rattle.std.proofs.Common.{◌≡◌, [], ◌∷◌, ◌++◌, refl, sym, ap, ◌∙◌}
+use Rattle.std.proofs.Common.{◌≡◌, ℕ, List, [], ◌∷◌, ◌++◌, map, Option, Some, None, Ok, refl, sym, ap, ◌∙◌, subst}
+use Rattle.std.specs.Option.{option_map}
+use Rattle.pf_fault.specs.declared.code.Code.{Code}
 use Rattle.pf_quota.specs.declared.usage.Usage.{Usage}
 use Rattle.pf_quota.specs.declared.charges.Charge.TheVariants as charge
-use Rattle.pf_quota.specs.Usage.{usage_of, charged}
-use Rattle.pf_desks.specs.Desk.{Profile, Desk, Call, Reply, called, answered, after_call, with_entry, held_by, calls_in}
+use Rattle.pf_quota.specs.declared.refusals.Refusal.{Refusal as Limit}
+use Rattle.pf_quota.specs.Checks.{refusal_of}
+use Rattle.pf_quota.specs.Refusals as quota
+use Rattle.pf_quota.specs.Usage.{usage_of}
+use Rattle.pf_desks.specs.Desk as desk
+use Rattle.pf_desks.specs.Desk.{Profile, Desk, Stored, Trial, called}
+use Rattle.pf_desks.specs.Calls.{answered, within_limits, noted, passed_by, HasRoom, after_call, reply_to, with_entry, usage_in, held_by}
 use Rattle.pf_desks.specs.History.{IsLegalDesk}
-use Rattle.pf_book.specs.Profile.{ForRight}
-use Rattle.pf_book.specs.declared.plan.Addition.{Addition}
-use Rattle.pf_book.specs.declared.plan.Addition.TheVariants as addition
-use Rattle.pf_book.specs.Plans.{with_addition, used_by}
 use Rattle.pf_desks.proofs.Histories.{desk_more}
-use Rattle.pf_book.proofs.Sums.{calls_more, used_more}
+use Rattle.pf_book.specs.Answers.{DeskAnswers}
+use Rattle.pf_book.specs.Kept.{desk_in, IsKept}
+use Rattle.pf_book.specs.Plans.{with_change, IsPlan}
+use Rattle.pf_book.specs.Profile.{ForRight}
+use Rattle.pf_book.specs.Users.{holding, CountUsers}
+use Rattle.pf_book.specs.View.{reply_seen, entry_seen}
+use Rattle.pf_book.specs.declared.desk.Desk.TheInside.{Inside}
+use Rattle.pf_book.specs.declared.plan.Change.{Change}
+use Rattle.pf_book.specs.declared.plan.Change.TheVariants as change
+use Rattle.pf_book.specs.declared.plan.Plan.{Plan}
+use Rattle.pf_book.specs.declared.reply.Reply.{Reply}
+use Rattle.pf_book.proofs.Sums.{calls_more}
 
-same_history : (d : Desk) (a : Addition) → (with_addition d a).history ≡ d.history
-same_history d addition.Nothing = refl
-same_history d (addition.Module m) = refl
-same_history d (addition.Trial j) = refl
+-- ---- the same desk in other lists
 
-module _ (d d' : Desk) (c : Call) (a : Addition) (r : Reply) (is : d' ≡ with_entry (with_addition d a) (called c r)) where
-  longer : d'.history ≡ d.history ++ called c r ∷ []
-  longer = ap (λ (k : Desk). k.history) is ∙ ap (λ es. es ++ called c r ∷ []) (same_history d a)
+-- what is kept is kept where the lists hold the same
+pub same_kept : (b b' : Inside) → b'.modules.items ≡ b.modules.items → b'.trials.items ≡ b.trials.items → b'.history.items ≡ b.history.items
+    → b'.users.items ≡ b.users.items → b'.usage ≡ b.usage → IsKept b → IsKept b'
+same_kept b b' modules trials history users usage h =
+    let same : desk_in b' ≡ desk_in b = λ i. record { modules = modules i; trials = trials i; history = map entry_seen (history i) } in
+    let counts : CountUsers b.users.items b.modules.items b.trials.items = record { counted = h.counted; exact = h.users; used = h.used } in
+    let one : CountUsers b'.users.items b.modules.items b.trials.items = subst (λ (l : List ℕ). CountUsers l b.modules.items b.trials.items) (sym users) counts in
+    let two : CountUsers b'.users.items b'.modules.items b.trials.items = subst (λ (l : List (Option Stored)). CountUsers b'.users.items l b.trials.items) (sym modules) one in
+    let all : CountUsers b'.users.items b'.modules.items b'.trials.items = subst (λ (l : List (Option Trial)). CountUsers b'.users.items b'.modules.items l) (sym trials) two in
+    record {
+      legal = λ p right. subst (IsLegalDesk p) (sym same) (h.legal p right);
+      sums = usage ∙ h.sums ∙ ap usage_in (sym same);
+      counted = all.counted;
+      users = all.exact;
+      used = all.used;
+    }
 
-  -- the desk after a call, where this is what the call comes to
-  pub called_is : (p : Profile) → ◌≡◌ {A = Desk × Reply} (with_addition d a, r) (answered p d c) → d' ≡ after_call p d c
-  called_is p plan = is ∙ ap (λ (x : Desk × Reply). with_entry x.0 (called c x.1)) plan
+-- ---- a call that the log has room for, or none
 
-  pub called_legal : ForRight (λ p. IsLegalDesk p d) → ForRight (λ p. ◌≡◌ {A = Desk × Reply} (with_addition d a, r) (answered p d c)) → ForRight (λ p. IsLegalDesk p d')
-  called_legal h plan p right =
-      desk_more p d d' (called c r) (h p right) (ap (λ (x : Desk × Reply). x.1) (plan p right), called_is p (plan p right)) longer
+module _ (d : Desk) (u : Usage) (sums : u ≡ usage_in d) where
+  told_limit : (o : Option Limit) → refusal_of u charge.Call ≡ o → passed_by d charge.Call ≡ option_map quota.code_of o
+  told_limit o h = ap (option_map quota.code_of) (ap (λ (v : Usage). refusal_of v charge.Call) (sym sums) ∙ h)
 
-  pub called_sums : (u : Usage) → u ≡ usage_of (held_by d) (calls_in d.history) → charged (used_by u a) charge.Call ≡ usage_of (held_by d') (calls_in d'.history)
-  called_sums u h =
-      used_more d a u (calls_in d.history) h
-      ∙ ap (λ n. usage_of (held_by (with_addition d a)) n) (sym (ap calls_in longer ∙ calls_more d.history c r))
-      ∙ ap (λ (k : Desk). usage_of (held_by k) (calls_in d'.history)) (sym is)
+  pub has_room : refusal_of u charge.Call ≡ None → HasRoom d
+  has_room h = told_limit None h
+
+  -- a call that the log has no room for is answered so, and the desk stays
+  pub full_answers : (limit : Limit) (c : desk.Call) (r : Reply) → refusal_of u charge.Call ≡ Some limit → reply_seen r ≡ desk.refused (quota.code_of limit)
+      → (d' : Desk) → d' ≡ d → DeskAnswers d c (Ok r) d'
+  full_answers limit c r h told d' same p right =
+      let full = told_limit (Some limit) h in (
+        told ∙ sym (ap (λ (o : Option Code). (within_limits d o (noted c (answered p d c))).1) full),
+        same ∙ sym (ap (λ (o : Option Code). (within_limits d o (noted c (answered p d c))).0) full),
+      )
+
+-- ---- a call that is noted
+
+-- a change leaves what was noted, and looks at modules and trials alone
+with_history : (d : Desk) (a : Change) → with_change d a ≡ record (with_change (holding d.modules d.trials) a) { history = d.history }
+with_history d change.Nothing = refl
+with_history d (change.Module m) = refl
+with_history d (change.Trial n j) = refl
+with_history d (change.DropTrial t) = refl
+with_history d (change.Withdraw n) = refl
+
+same_history : (d : Desk) (a : Change) → (with_change d a).history ≡ d.history
+same_history d a = ap (λ (k : Desk). k.history) (with_history d a)
+
+-- the desk of the lists that a change was carried out in, and of what was noted
+pub changed_desk : (d : Desk) (a : Change) (e : desk.Entry) (ms : List (Option Stored)) (ts : List (Option Trial)) (es : List desk.Entry)
+    → holding ms ts ≡ with_change (holding d.modules d.trials) a → es ≡ d.history ++ e ∷ []
+    → ◌≡◌ {A = Desk} (record { modules = ms; trials = ts; history = es }) (with_entry (with_change d a) e)
+changed_desk d a e ms ts es made noted =
+    (λ i. record { modules = (made i).modules; trials = (made i).trials; history = noted i })
+    ∙ ap (λ (k : Desk). with_entry k e) (sym (with_history d a))
+
+module _ (d : Desk) (c : desk.Call) (plan : Plan) (planned : IsPlan d c plan) (room : HasRoom d) (d' : Desk)
+    (is : d' ≡ with_entry (with_change d plan.change) (called c (reply_seen plan.reply))) where
+  abbrev told : desk.Reply
+  told = reply_seen plan.reply
+
+  longer : d'.history ≡ d.history ++ called c told ∷ []
+  longer = ap (λ (k : Desk). k.history) is ∙ ap (λ es. es ++ called c told ∷ []) (same_history d plan.change)
+
+  -- the desk and the reply are those that the call leads to
+  pub called_is : ForRight (λ p. d' ≡ after_call p d c)
+  called_is p right =
+      is
+      ∙ ap (λ (x : Desk × desk.Reply). with_entry x.0 (called c x.1)) (planned.answers p right)
+      ∙ sym (ap (λ (o : Option Code). (within_limits d o (noted c (answered p d c))).0) room)
+
+  reply_is : ForRight (λ p. told ≡ reply_to p d c)
+  reply_is p right =
+      ap (λ (x : Desk × desk.Reply). x.1) (planned.answers p right)
+      ∙ sym (ap (λ (o : Option Code). (within_limits d o (noted c (answered p d c))).1) room)
+
+  pub called_answers : (reply : Reply) → reply ≡ plan.reply → DeskAnswers d c (Ok reply) d'
+  called_answers reply same p right = (ap reply_seen same ∙ reply_is p right, called_is p right)
+
+  called_legal : ForRight (λ p. IsLegalDesk p d) → ForRight (λ p. IsLegalDesk p d')
+  called_legal h p right = desk_more p d d' (called c told) (h p right) (room, reply_is p right, called_is p right) longer
+
+  called_sums : plan.usage ≡ usage_in d'
+  called_sums =
+      planned.usage
+      ∙ ap (usage_of (held_by (with_change d plan.change))) (sym (calls_more (with_change d plan.change).history c told))
+      ∙ ap usage_in (sym is)
+
+  -- what a desk keeps, where it is this desk
+  pub called_kept : (b' : Inside) → desk_in b' ≡ d' → b'.usage ≡ plan.usage → CountUsers b'.users.items b'.modules.items b'.trials.items
+      → ForRight (λ p. IsLegalDesk p d) → IsKept b'
+  called_kept b' here uses counts legal = record {
+    legal = λ p right. subst (IsLegalDesk p) (sym here) (called_legal legal p right);
+    sums = uses ∙ called_sums ∙ ap usage_in (sym here);
+    counted = counts.counted;
+    users = counts.exact;
+    used = counts.used;
+  }

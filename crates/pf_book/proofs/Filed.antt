@@ -1,108 +1,77 @@
 -- What a desk keeps is kept where a worker files what came of a trial.
-use Rattle.std.proofs.Common.{◌≡◌, ℕ, zero, suc, Bool, true, false, List, [], ◌∷◌, ◌++◌, length, map, Option, Some, None, refl, sym, ap, ◌∙◌}
+use Rattle.std.proofs.Common.{◌≡◌, ℕ, zero, suc, Bool, true, false, List, [], ◌∷◌, ◌++◌, length, map, Option, Some, None, refl, sym, ap, ◌∙◌, subst}
 use Rattle.std.specs.Prelude.{if◌then◌else◌, option_and_then, slice_get, slice_set}
+use Rattle.std.specs.Option.{option_map, option_flatten}
 use Rattle.pf_quota.specs.declared.charges.Held.{Held}
 use Rattle.pf_quota.specs.declared.charges.Held.TheVariants as held
 use Rattle.pf_quota.specs.Charges.{steps_of_trial}
 use Rattle.pf_quota.specs.Usage.{usage_of}
 use Rattle.pf_model.specs.Shrinking.{Result}
-use Rattle.pf_desks.specs.Desk.{Profile, Stored, Job, State, queued, running, done, Trial, Desk, claimed, filed, numbered, is_queued_state, is_queued, is_running}
-use Rattle.pf_desks.specs.Desk.{set_trial, with_state, after_claim, after_file, file_step, once, worker_step, held_by, calls_in}
+use Rattle.pf_desks.specs.Desk.{Profile, Stored, Job, State, queued, running, done, Trial, Desk, claimed, filed, marked_whole, held_at, with_held, all_held}
+use Rattle.pf_desks.specs.Calls.{calls_in, usage_in}
+use Rattle.pf_desks.specs.Work.{is_queued_state, is_queued, is_running, in_state, with_state, after_claim, after_file, file_step, once, worker_step}
 use Rattle.pf_book.specs.Queued.{job_in_state, job_of_trial, job_at}
-use Rattle.pf_book.proofs.Sums.{calls_claimed, calls_filed}
+use Rattle.pf_book.specs.Users.{CountUsers}
+use Rattle.pf_book.proofs.Counted.{trial_again}
+use Rattle.pf_book.proofs.Sums.{calls_claimed, calls_filed, trial_same}
 
--- what is set where an item is found, is found there
+-- ---- what is written under a number that holds something
+
 set_found : {X : Type 0} (xs : List X) (i : ℕ) (x y : X) → slice_get xs i ≡ Some x → slice_get (slice_set xs i y) i ≡ Some y
 set_found [] i x y h = absurd (cc)
 set_found (z ∷ xs) zero x y h = refl
 set_found (z ∷ xs) (suc i) x y h = set_found xs i x y h
 
+set_again : {X : Type 0} (xs : List X) (i : ℕ) (y z : X) → slice_set (slice_set xs i y) i z ≡ slice_set xs i z
+set_again [] i y z = refl
+set_again (x ∷ xs) zero y z = refl
+set_again (x ∷ xs) (suc i) y z = ap (λ l. x ∷ l) (set_again xs i y z)
+
+held_found : (ts : List (Option Trial)) (t : ℕ) (x y : Trial) → held_at ts t ≡ Some x → held_at (with_held ts t (Some y)) t ≡ Some y
+held_found ts zero x y h = absurd (cc)
+held_found ts (suc i) x y h = by (slice_get ts i) refl
+  where
+    by : (o : Option (Option Trial)) → slice_get ts i ≡ o → option_flatten (slice_get (slice_set ts i (Some y)) i) ≡ Some y
+    by None e = let no : None ≡ Some x = sym (ap (λ (o : Option (Option Trial)). option_flatten o) e) ∙ h in absurd (cc)
+    by (Some o) e = ap (λ (o : Option (Option Trial)). option_flatten o) (set_found ts i o (Some y) e)
+
+held_again : (ts : List (Option Trial)) (t : ℕ) (y z : Option Trial) → with_held (with_held ts t y) t z ≡ with_held ts t z
+held_again ts zero y z = refl
+held_again ts (suc i) y z = set_again ts i y z
+
 -- ---- trials whose state is set
 
-set_again : (ts : List Trial) (i : ℕ) (y z : Trial) → slice_set (slice_set ts i y) i z ≡ slice_set ts i z
-set_again [] i y z = refl
-set_again (t ∷ ts) zero y z = refl
-set_again (t ∷ ts) (suc i) y z = ap (λ l. t ∷ l) (set_again ts i y z)
+state_set : (ts : List (Option Trial)) (t : ℕ) (x : Trial) (f : Job → State) → held_at ts t ≡ Some x → with_state ts t f ≡ with_held ts t (Some (in_state f x))
+state_set ts t x f h = ap (λ (o : Option Trial). with_held ts t (option_map (in_state f) o)) h
 
-abbrev in_state : Trial → (Job → State) → Trial
-in_state x f = record { job = x.job; state = f x.job }
-
-state_set : (ts : List Trial) (i : ℕ) (x : Trial) (f : Job → State) → slice_get ts i ≡ Some x → with_state ts (suc i) f ≡ slice_set ts i (in_state x f)
-state_set ts i x f h = ap (λ (o : Option Trial). set_trial ts i o f) h
-
-found_set : (ts : List Trial) (i : ℕ) (x : Trial) (f : Job → State) → slice_get ts i ≡ Some x
-    → slice_get (with_state ts (suc i) f) i ≡ Some (in_state x f)
-found_set ts i x f h = ap (λ (l : List Trial). slice_get l i) (state_set ts i x f h) ∙ set_found ts i x (in_state x f) h
+found_set : (ts : List (Option Trial)) (t : ℕ) (x : Trial) (f : Job → State) → held_at ts t ≡ Some x → held_at (with_state ts t f) t ≡ Some (in_state f x)
+found_set ts t x f h = ap (λ (l : List (Option Trial)). held_at l t) (state_set ts t x f h) ∙ held_found ts t x (in_state f x) h
 
 -- a state that is set anew
-state_again : (ts : List Trial) (i : ℕ) (x : Trial) (f g : Job → State) → slice_get ts i ≡ Some x
-    → with_state (with_state ts (suc i) f) (suc i) g ≡ slice_set ts i (in_state x g)
-state_again ts i x f g h =
-    state_set (with_state ts (suc i) f) i (in_state x f) g (found_set ts i x f h)
-    ∙ ap (λ (l : List Trial). slice_set l i (in_state x g)) (state_set ts i x f h)
-    ∙ set_again ts i (in_state x f) (in_state x g)
-
--- no job changes
-abbrev held_module : Stored → Held
-held_module m = held.Module (length m.source)
-
-abbrev held_trial : Trial → Held
-held_trial t = held.Trial (steps_of_trial t.job.limit t.job.runs)
-
-held_set : (ts : List Trial) (i : ℕ) (x : Trial) (f : Job → State) → slice_get ts i ≡ Some x
-    → map held_trial (slice_set ts i (in_state x f)) ≡ map held_trial ts
-held_set [] i x f h = refl
-held_set (t ∷ ts) zero x f h = let same : t ≡ x = cc in ap (λ (y : Trial). held_trial y ∷ map held_trial ts) (sym same)
-held_set (t ∷ ts) (suc i) x f h = ap (λ (l : List Held). held_trial t ∷ l) (held_set ts i x f h)
+state_again : (ts : List (Option Trial)) (t : ℕ) (x : Trial) (f g : Job → State) → held_at ts t ≡ Some x → with_state (with_state ts t f) t g ≡ with_state ts t g
+state_again ts t x f g h =
+    state_set (with_state ts t f) t (in_state f x) g (found_set ts t x f h)
+    ∙ ap (λ (l : List (Option Trial)). with_held l t (Some (in_state g x))) (state_set ts t x f h)
+    ∙ held_again ts t (Some (in_state f x)) (Some (in_state g x))
+    ∙ sym (state_set ts t x g h)
 
 -- ---- a queued trial
 
-abbrev waiting : Job → Trial
-waiting j = record { job = j; state = queued }
+-- a trial is held there, of this job, and it is queued
+record Waits (o : Option Trial) (j : Job) : Type 0 where
+  trial : Trial
+  is : o ≡ Some trial
+  job : trial.job ≡ j
+  state : trial.state ≡ queued
 
-waiting_state : (x : Trial) (s : State) (j : Job) → x.state ≡ s → job_in_state x.job s ≡ Some j → x ≡ waiting j
-waiting_state x queued j e h = let same : x.job ≡ j = cc in λ i. record { job = same i; state = e i }
-waiting_state x running j e h = absurd (cc)
-waiting_state x (done r) j e h = absurd (cc)
+waits_in : (x : Trial) (s : State) (j : Job) → x.state ≡ s → job_in_state x.job s ≡ Some j → Waits (Some x) j
+waits_in x queued j e h = record { trial = x; is = refl; job = cc; state = e }
+waits_in x running j e h = absurd (cc)
+waits_in x (done r) j e h = absurd (cc)
 
-waiting_trial : (o : Option Trial) (j : Job) → job_of_trial o ≡ Some j → o ≡ Some (waiting j)
-waiting_trial None j h = absurd (cc)
-waiting_trial (Some x) j h = ap Some (waiting_state x x.state j refl h)
-
--- ---- claim and file
-
-abbrev pub after_once : Profile → Desk → ℕ → Desk
-after_once p d t = after_file p (after_claim d t) t
-
--- a trial that is queued is claimed, and one that was claimed is filed
-once_can : (p : Profile) (d : Desk) (t : ℕ) → is_queued (numbered d.trials t) ≡ true → is_running (numbered (after_claim d t).trials t) ≡ true
-    → worker_step p d (once t) ≡ Some (after_once p d t)
-once_can p d t waits runs =
-    ap (λ (b : Bool). option_and_then (λ k. file_step p k t) (if b then Some (after_claim d t) else None)) waits
-    ∙ ap (λ (b : Bool). if b then Some (after_once p d t) else None) runs
-
-module _ (d : Desk) (i : ℕ) (j : Job) (r : Result) (waits : slice_get d.trials i ≡ Some (waiting j)) where
-  runs : is_running (slice_get (after_claim d (suc i)).trials i) ≡ true
-  runs = ap is_running (found_set d.trials i (waiting j) (λ _. running) waits)
-
-  filed_trials : (p : Profile) → p.meaning j ≡ r → (after_once p d (suc i)).trials ≡ with_state d.trials (suc i) (λ _. done r)
-  filed_trials p means =
-      state_again d.trials i (waiting j) (λ _. running) (λ k. done (p.meaning k)) waits
-      ∙ ap (λ (s : Result). slice_set d.trials i (record { job = j; state = done s })) means
-      ∙ sym (state_set d.trials i (waiting j) (λ _. done r) waits)
-
-  filed_held : map held_trial (with_state d.trials (suc i) (λ _. done r)) ≡ map held_trial d.trials
-  filed_held =
-      ap (λ (l : List Trial). map held_trial l) (state_set d.trials i (waiting j) (λ _. done r) waits)
-      ∙ held_set d.trials i (waiting j) (λ _. done r) waits
-
-waits_so : (ts : List Trial) (i : ℕ) (j : Job) → job_at ts (suc i) ≡ Some j → is_queued (numbered ts (suc i)) ≡ true
-waits_so ts i j h = ap is_queued (waiting_trial (slice_get ts i) j h)
-
--- a trial that has a job that waits is queued
-pub is_waiting : (ts : List Trial) (t : ℕ) (j : Job) → job_at ts t ≡ Some j → is_queued (numbered ts t) ≡ true
-is_waiting ts zero j h = absurd (cc)
-is_waiting ts (suc i) j h = waits_so ts i j h
+waits_of : (o : Option Trial) (j : Job) → job_of_trial o ≡ Some j → Waits o j
+waits_of None j h = absurd (cc)
+waits_of (Some x) j h = waits_in x x.state j refl h
 
 no_job : (o : Option Trial) → job_of_trial o ≡ None → is_queued o ≡ false
 no_job None h = refl
@@ -113,38 +82,70 @@ no_job (Some x) h = by x.state h
     by running h = refl
     by (done r) h = refl
 
--- a trial that has none isn't
-pub none_waiting : (ts : List Trial) (t : ℕ) → job_at ts t ≡ None → is_queued (numbered ts t) ≡ false
-none_waiting ts t h = no_job (numbered ts t) h
+-- a trial that has none isn't queued
+pub none_waiting : (ts : List (Option Trial)) (t : ℕ) → job_at ts t ≡ None → is_queued (held_at ts t) ≡ false
+none_waiting ts t h = no_job (held_at ts t) h
 
-queued_at : (d : Desk) (i : ℕ) (o : Option Trial) → slice_get d.trials i ≡ o → is_queued o ≡ true → is_running (slice_get (after_claim d (suc i)).trials i) ≡ true
-queued_at d i None e h = absurd (cc)
-queued_at d i (Some x) e h = ap is_running (found_set d.trials i x (λ _. running) e)
+queued_so : (o : Option Trial) (j : Job) → Waits o j → is_queued o ≡ true
+queued_so o j w = ap is_queued w.is ∙ ap is_queued_state w.state
 
--- a trial that is queued can be run whole
-pub queued_can : (p : Profile) (d : Desk) (t : ℕ) → is_queued (numbered d.trials t) ≡ true → worker_step p d (once t) ≡ Some (after_once p d t)
-queued_can p d zero h = absurd (cc)
-queued_can p d (suc i) h = once_can p d (suc i) h (queued_at d i (slice_get d.trials i) refl h)
+-- a trial that has a job that waits is queued
+pub is_waiting : (ts : List (Option Trial)) (t : ℕ) (j : Job) → job_at ts t ≡ Some j → is_queued (held_at ts t) ≡ true
+is_waiting ts t j h = queued_so (held_at ts t) j (waits_of (held_at ts t) j h)
+
+abbrev held_module : Stored → Held
+held_module m = held.Module (length m.source)
+
+abbrev held_trial : Trial → Held
+held_trial t = held.Trial (steps_of_trial t.job.limit t.job.runs)
+
+-- ---- claim and file
+
+abbrev pub after_once : Profile → Desk → ℕ → Desk
+after_once p d t = after_file p (after_claim d t) t marked_whole
+
+-- a trial that is queued is claimed, and one that was claimed is filed
+once_can : (p : Profile) (d : Desk) (t : ℕ) → is_queued (held_at d.trials t) ≡ true → is_running (held_at (after_claim d t).trials t) ≡ true
+    → worker_step p d (once t) ≡ Some (after_once p d t)
+once_can p d t waits runs =
+    ap (λ (b : Bool). option_and_then (λ k. file_step p k t marked_whole) (if b then Some (after_claim d t) else None)) waits
+    ∙ ap (λ (b : Bool). if b then Some (after_once p d t) else None) runs
 
 -- a queued trial of a ticket was run, and what came of it filed: the desk is this one
-module _ (d : Desk) (j : Job) (r : Result) (d' : Desk) (modules : d'.modules ≡ d.modules) where
-  -- it is the one that the worker's step leads to
-  pub once_is : (p : Profile) → p.meaning j ≡ r → (t : ℕ) → job_at d.trials t ≡ Some j → d'.trials ≡ with_state d.trials t (λ _. done r)
-      → d'.history ≡ (d.history ++ claimed t ∷ []) ++ filed t ∷ [] → worker_step p d (once t) ≡ Some d'
-  once_is p means zero h trials history = absurd (cc)
-  once_is p means (suc i) h trials history =
-      let waits = waiting_trial (slice_get d.trials i) j h in
-      let set = trials ∙ sym (filed_trials d i j r waits p means) in
-      let same : d' ≡ after_once p d (suc i) = λ k. record { modules = modules k; trials = set k; history = history k } in
-      once_can p d (suc i) (ap is_queued waits) (runs d i j r waits) ∙ ap Some (sym same)
+module _ (d : Desk) (j : Job) (r : Result) (t : ℕ) (waits : job_at d.trials t ≡ Some j) where
+  abbrev w : Waits (held_at d.trials t) j
+  w = waits_of (held_at d.trials t) j waits
 
-  -- it uses what was used
-  pub once_sums : (t : ℕ) → job_at d.trials t ≡ Some j → d'.trials ≡ with_state d.trials t (λ _. done r)
-      → d'.history ≡ (d.history ++ claimed t ∷ []) ++ filed t ∷ []
-      → usage_of (held_by d') (calls_in d'.history) ≡ usage_of (held_by d) (calls_in d.history)
-  once_sums zero h trials history = absurd (cc)
-  once_sums (suc i) h trials history =
-      let waits = waiting_trial (slice_get d.trials i) j h in
-      let held = ap (map held_trial) trials ∙ filed_held d i j r waits in
-      let calls = ap calls_in history ∙ calls_filed (d.history ++ claimed (suc i) ∷ []) (suc i) ∙ calls_claimed d.history (suc i) in
-      λ k. usage_of (map held_module (modules k) ++ held k) (calls k)
+  abbrev now : Trial
+  now = in_state (λ _. done r) w.trial
+
+  filed_trials : (p : Profile) → p.meaning j ≡ r → (after_once p d t).trials ≡ with_state d.trials t (λ _. done r)
+  filed_trials p means =
+      state_again d.trials t w.trial (λ _. running) (λ k. done (p.meaning k)) w.is
+      ∙ state_set d.trials t w.trial (λ k. done (p.meaning k)) w.is
+      ∙ ap (λ (s : Result). with_held d.trials t (Some (record w.trial { state = done s }))) (ap p.meaning w.job ∙ means)
+      ∙ sym (state_set d.trials t w.trial (λ _. done r) w.is)
+
+  filed_held : with_state d.trials t (λ _. done r) ≡ with_held d.trials t (Some now)
+  filed_held = state_set d.trials t w.trial (λ _. done r) w.is
+
+  module _ (d' : Desk) (modules : d'.modules ≡ d.modules) (trials : d'.trials ≡ with_state d.trials t (λ _. done r))
+      (history : d'.history ≡ (d.history ++ claimed t ∷ []) ++ filed t marked_whole ∷ []) where
+    -- it is the one that the worker's step leads to
+    pub once_is : (p : Profile) → p.meaning j ≡ r → worker_step p d (once t) ≡ Some d'
+    once_is p means =
+        let set = trials ∙ sym (filed_trials p means) in
+        let same : d' ≡ after_once p d t = λ k. record { modules = modules k; trials = set k; history = history k } in
+        let runs = ap is_running (found_set d.trials t w.trial (λ _. running) w.is) in
+        once_can p d t (queued_so (held_at d.trials t) j w) runs ∙ ap Some (sym same)
+
+    -- it uses what was used
+    pub once_sums : usage_in d' ≡ usage_in d
+    once_sums =
+        let held = ap (λ (l : List (Option Trial)). map held_trial (all_held l)) (trials ∙ filed_held) ∙ trial_same d t w.trial w.is now refl in
+        let calls = ap calls_in history ∙ calls_filed (d.history ++ claimed t ∷ []) t marked_whole ∙ calls_claimed d.history t in
+        λ k. usage_of (map held_module (all_held (modules k)) ++ held k) (calls k)
+
+  -- as many held trials use each module
+  pub once_users : (us : List ℕ) (ms : List (Option Stored)) → CountUsers us ms d.trials → CountUsers us ms (with_state d.trials t (λ _. done r))
+  once_users us ms h = subst (λ (l : List (Option Trial)). CountUsers us ms l) (sym filed_held) (trial_again us ms d.trials t w.trial now w.is refl h)

@@ -1,6 +1,11 @@
+pub mod Held
+pub mod Counted
+pub mod Sums
+pub mod Followed
 pub mod Profiles
 pub mod Orders
-pub mod Sums
+pub mod Planned
 pub mod Called
 pub mod Filed
 pub mod Placed
+pub mod Counts

@@ -5,7 +5,9 @@ use Rattle.std.specs.Map.{lookup, set_value}
 use Rattle.std.proofs.lemmas.Map.Steps.{set_value_same}
 use Rattle.indexmap.specs.IndexMap.{insert_entry}
 use Rattle.pf_fault.specs.declared.memory.NoMemory.{NoMemory}
-use Rattle.pf_desks.specs.Desk.{Profile, Desk, no_desk, Call, numbered, is_queued, reply_to, after_call, after_claim, file_step, once, worker_step}
+use Rattle.pf_desks.specs.Desk.{Profile, Desk, no_desk, Call, marked_whole, held_at}
+use Rattle.pf_desks.specs.Calls.{HasRoom, reply_to, after_call}
+use Rattle.pf_desks.specs.Work.{is_queued, after_claim, file_step, once, worker_step}
 use Rattle.pf_desks.specs.History.{IsLegalDesk}
 use Rattle.pf_desks.specs.World.{World, replied, work_done, not_now, desk_at, put_desk, worked}
 use Rattle.pf_book.specs.Profile.{ForRight}
@@ -57,13 +59,13 @@ module _ (q : ℕ) (w : World) (c : Call) (d d' : Desk) (here : desk_at q w ≡ 
 
   pub answers_all : put_desk q d w ≡ w → (r : Result Reply NoMemory) → DeskAnswers d c r d' → Answers w q c r w'
   answers_all same (Ok r) h = answers r h
-  answers_all same (Err e) h = put ∙ ap (λ (k : Desk). put_desk q k w) h ∙ same
+  answers_all same (Err e) h = (subst HasRoom (sym here) h.0, put ∙ ap (λ (k : Desk). put_desk q k w) h.1 ∙ same)
 
-not_queued : (p : Profile) (d : Desk) (t : ℕ) → is_queued (numbered d.trials t) ≡ false → worker_step p d (once t) ≡ None
-not_queued p d t h = ap (λ (b : Bool). option_and_then (λ k. file_step p k t) (if b then Some (after_claim d t) else None)) h
+not_queued : (p : Profile) (d : Desk) (t : ℕ) → is_queued (held_at d.trials t) ≡ false → worker_step p d (once t) ≡ None
+not_queued p d t h = ap (λ (b : Bool). option_and_then (λ k. file_step p k t marked_whole) (if b then Some (after_claim d t) else None)) h
 
 -- a worker who finds a desk where nothing is queued has no work
-pub no_work : (q : ℕ) (w : World) (d : Desk) (t : ℕ) → desk_at q w ≡ d → is_queued (numbered d.trials t) ≡ false → (w' : World) → w' ≡ w → Works w q t (Ok false) w'
+pub no_work : (q : ℕ) (w : World) (d : Desk) (t : ℕ) → desk_at q w ≡ d → is_queued (held_at d.trials t) ≡ false → (w' : World) → w' ≡ w → Works w q t (Ok false) w'
 no_work q w d t here h w' same p right =
     ap (worked q w) (ap (λ (k : Desk). worker_step p k (once t)) here ∙ not_queued p d t h) ∙ ap (λ (v : World). (v, not_now)) (sym same)
 
@@ -74,13 +76,17 @@ works q w t d d' here w' put same (Ok true) h =
     λ p right. ap (worked q w) (ap (λ (k : Desk). worker_step p k (once t)) here ∙ h p right) ∙ ap (λ (v : World). (v, work_done)) (sym put)
 works q w t d d' here w' put same (Ok false) h = no_work q w d t here h.0 w' (put ∙ ap (λ (k : Desk). put_desk q k w) h.1 ∙ same)
 works q w t d d' here w' put same (Err e) h =
-    (ap (λ (k : Desk). is_queued (numbered k.trials t)) here ∙ h.0, put ∙ ap (λ (k : Desk). put_desk q k w) h.1 ∙ same)
+    (ap (λ (k : Desk). is_queued (held_at k.trials t)) here ∙ h.0, put ∙ ap (λ (k : Desk). put_desk q k w) h.1 ∙ same)
 
 -- a project without a desk has no trial
-pub none_queued : (t : ℕ) → is_queued (numbered no_desk.trials t) ≡ false
+pub none_queued : (t : ℕ) → is_queued (held_at no_desk.trials t) ≡ false
 none_queued zero = refl
 none_queued (suc t) = refl
 
 -- an empty desk is legal
 pub empty_legal : (q : ℕ) (w : World) → desk_at q w ≡ no_desk → ForRight (λ p. IsLegalDesk p (desk_at q w))
 empty_legal q w here p right = subst (IsLegalDesk p) (sym here) refl
+
+-- a project without a desk has room for a call
+pub empty_room : (q : ℕ) (w : World) → desk_at q w ≡ no_desk → HasRoom (desk_at q w)
+empty_room q w here = subst HasRoom (sym here) refl

@@ -8,7 +8,8 @@ use Rattle.pf_model.specs.Meaning.{Choices}
 use Rattle.pf_model.specs.Properties.{Property}
 use Rattle.pf_property.specs.Texts.{IsPropertyOf, ReadsProperty}
 use Rattle.pf_desks.specs.Desk as desk
-use Rattle.pf_desks.specs.Desk.{Profile, Stored, Job, job_asking, job_from, runs_of, Desk, Reply, number, submitted}
+use Rattle.pf_desks.specs.Desk.{Profile, Stored, Job, job_asking, job_from, runs_of, Desk, Reply, number}
+use Rattle.pf_desks.specs.Calls.{submitted}
 use Rattle.pf_sched.specs.Asked.{Asks, no_root, no_property, out_of_range, job, may_be_asked, root_in}
 use Rattle.pf_book.specs.Profile.{IsRight}
 
@@ -16,10 +17,10 @@ module _ (p : Profile) (right : IsRight p) where
   -- what a source is answered with that was read as a module
   pub submitted_read : (d : Desk) (bytes : List ℕ) (s : Stored) → s.source ≡ bytes
       → Reads bytes (accepted s.code.name s.code.atoms s.code.functions)
-      → ◌≡◌ {A = Desk × Reply} (record d { modules = d.modules ++ s ∷ [] }, number (length d.modules + 1)) (submitted d bytes (p.reading bytes))
+      → ◌≡◌ {A = Desk × Reply} (record d { modules = d.modules ++ Some s ∷ [] }, number (length d.modules + 1)) (submitted d bytes (p.reading bytes))
   submitted_read d bytes s same h =
       let text : s ≡ record { source = bytes; code = s.code } = λ i. record { source = same i; code = s.code } in
-      ap (λ (m : Stored). (record d { modules = d.modules ++ m ∷ [] }, number (length d.modules + 1))) text
+      ap (λ (m : Stored). (record d { modules = d.modules ++ Some m ∷ [] }, number (length d.modules + 1))) text
       ∙ ap (submitted d bytes) (sym (right.reads bytes (accepted s.code.name s.code.atoms s.code.functions) h))
 
   -- what a source is answered with that was refused

@@ -1,7 +1,10 @@
--- What the fields of a desk stand for, and what is true of them.
-use Rattle.std.specs.Prelude.{◌≡◌, map}
-use Rattle.pf_quota.specs.Usage.{usage_of}
-use Rattle.pf_desks.specs.Desk.{Desk, held_by, calls_in}
+-- What the fields of a desk and of a book stand for, and what is true of them.
+use Rattle.std.specs.Prelude.{◌≡◌, ◌≤◌, ◌+◌, ℕ, suc, List, length, map, All, IfSome, IsSome, slice_get, sum_by, count_by}
+use Rattle.std.specs.Str.{bytes_eq}
+use Rattle.pf_store.specs.Sources.{Kept, holders}
+use Rattle.pf_desks.specs.Desk.{Desk, held_at, all_held}
+use Rattle.pf_desks.specs.Calls.{usage_in, users_of}
+use Rattle.pf_desks.specs.World.{World}
 use Rattle.pf_desks.specs.History.{IsLegalDesk}
 use Rattle.pf_book.specs.Profile.{ForRight}
 use Rattle.pf_book.specs.View.{entry_seen}
@@ -10,7 +13,29 @@ use Rattle.pf_book.specs.declared.desk.Desk.TheInside.{Inside}
 abbrev pub desk_in : Inside → Desk
 desk_in b = record { modules = b.modules.items; trials = b.trials.items; history = map entry_seen b.history.items }
 
--- the desk is what its history makes of an empty one, and the sums are those over what it holds
+-- the desk is what its history makes of an empty one; its sums are those over what it holds; it counts for each module number the held
+-- trials that use it, and each held trial uses a module that is held
 pub record IsKept (b : Inside) : Type 0 where
   pub legal : ForRight (λ p. IsLegalDesk p (desk_in b))
-  pub sums : b.usage ≡ usage_of (held_by (desk_in b)) (calls_in (desk_in b).history)
+  pub sums : b.usage ≡ usage_in (desk_in b)
+  pub counted : length b.users.items ≡ length b.modules.items
+  pub users : (i : ℕ) → IfSome (slice_get b.users.items i) (λ k. k ≡ users_of (desk_in b) (suc i))
+  pub used : All (λ t. IsSome (held_at b.modules.items t.module_number)) (all_held b.trials.items)
+
+-- ---- the store beside the desks
+
+-- how many modules of a desk have a source
+abbrev pub modules_of : List ℕ → Desk → ℕ
+modules_of source d = count_by (λ m. bytes_eq source m.source) (all_held d.modules)
+
+-- of each source the store counts as many holders as there are modules of it at all desks
+abbrev pub CountsAll : Kept → World → Type 0
+CountsAll kept w = (source : List ℕ) → holders kept source ≡ sum_by (λ e. modules_of source e.1) w
+
+-- the store counts at least the modules of a desk
+abbrev pub Counts : Kept → Desk → Type 0
+Counts kept d = (source : List ℕ) → modules_of source d ≤ holders kept source
+
+-- FollowsDesk k d k' d': from one desk to the next the holders of each source change as the desk's modules of it do
+abbrev pub FollowsDesk : Kept → Desk → Kept → Desk → Type 0
+FollowsDesk k d k' d' = (source : List ℕ) → holders k' source + modules_of source d ≡ holders k source + modules_of source d'

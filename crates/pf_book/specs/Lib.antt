@@ -3,6 +3,7 @@ pub mod View
 pub mod Trials
 pub mod Queued
 pub mod Orders
-pub mod Plans
+pub mod Users
 pub mod Kept
+pub mod Plans
 pub mod Answers

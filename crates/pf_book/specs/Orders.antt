@@ -1,9 +1,9 @@
 -- What orders ask for.
-use Rattle.std.specs.Prelude.{◌≡◌, List, Result, Err}
+use Rattle.std.specs.Prelude.{◌≡◌, List, Option, Result, Err}
 use Rattle.pf_fault.specs.declared.code.Code.{Code}
 use Rattle.pf_fault.specs.declared.fault.OrNoMemory.{OrNoMemory}
 use Rattle.pf_fault.specs.declared.fault.OrNoMemory.TheVariants.{NoMemory, Fault}
-use Rattle.pf_desks.specs.Desk.{Stored, Job, job_of, numbered}
+use Rattle.pf_desks.specs.Desk.{Stored, Job, job_of, held_at}
 use Rattle.pf_sched.specs.Views.{choices_in, runs_asked}
 use Rattle.pf_book.specs.declared.call.Order.{Order}
 use Rattle.pf_book.specs.declared.refusal.Refusal.{Refusal}
@@ -11,9 +11,9 @@ use Rattle.pf_book.specs.Profile.{ForRight}
 use Rattle.pf_book.specs.View.{code_of}
 
 -- Asked modules o r: an order to a project with these modules asks for this job, or is refused for this
-abbrev pub Asked : List Stored → Order → Result Job Code → Type 0
+abbrev pub Asked : List (Option Stored) → Order → Result Job Code → Type 0
 Asked modules o r =
-    ForRight (λ p. job_of p (numbered modules o.module) o.root.items o.property.items (choices_in o.kind) o.limit (runs_asked o.kind) ≡ r)
+    ForRight (λ p. job_of p (held_at modules o.module) o.root.items o.property.items (choices_in o.kind) o.limit (runs_asked o.kind) ≡ r)
 
 -- a refusal is one of these; out of memory says nothing of the order
 abbrev pub IsRefusedJob : (Result Job Code → Type 0) → OrNoMemory Refusal → Type 0

@@ -1,34 +1,54 @@
--- What calls come to.
-use Rattle.std.specs.Prelude.{◌≡◌, ◌^◌, ◌≤◌, max, [], ◌∷◌, ◌++◌, length}
+-- What calls come to, before anything is changed.
+use Rattle.std.specs.Prelude.{◌≡◌, [], ◌∷◌, ◌++◌, Some, None, IsSome, Result, Ok, Err}
 use Rattle.pf_quota.specs.declared.usage.Usage.{Usage}
 use Rattle.pf_quota.specs.declared.charges.Charge.TheVariants as charge
-use Rattle.pf_quota.specs.Charges.{steps_of_trial}
 use Rattle.pf_quota.specs.Usage.{charged}
 use Rattle.pf_desks.specs.Desk as desk
-use Rattle.pf_book.specs.declared.plan.Addition.{Addition}
-use Rattle.pf_book.specs.declared.plan.Addition.TheVariants as addition
+use Rattle.pf_fault.specs.declared.memory.NoMemory.{NoMemory}
+use Rattle.pf_desks.specs.Calls.{answered, usage_in, users_of, with_job}
+use Rattle.pf_store.specs.Sources.{Kept}
+use Rattle.pf_book.specs.declared.plan.Change.{Change}
+use Rattle.pf_book.specs.declared.plan.Change.TheVariants as change
 use Rattle.pf_book.specs.declared.plan.Plan.{Plan}
+use Rattle.pf_book.specs.Kept.{FollowsDesk}
 use Rattle.pf_book.specs.Profile.{ForRight}
 use Rattle.pf_book.specs.View.{entry_seen, reply_seen}
 
--- the desk with what a call adds
-abbrev pub with_addition : desk.Desk → Addition → desk.Desk
-with_addition d addition.Nothing = d
-with_addition d (addition.Module m) = record d { modules = d.modules ++ m ∷ [] }
-with_addition d (addition.Trial j) = record d { trials = d.trials ++ record { job = j.value; state = desk.queued } ∷ [] }
+-- the desk with what a call changes
+abbrev pub with_change : desk.Desk → Change → desk.Desk
+with_change d change.Nothing = d
+with_change d (change.Module m) = record d { modules = d.modules ++ Some m ∷ [] }
+with_change d (change.Trial n j) = with_job d n j.value
+with_change d (change.DropTrial t) = record d { trials = desk.with_held d.trials t None }
+with_change d (change.Withdraw n) = record d { modules = desk.with_held d.modules n None }
 
--- what a call to a desk comes to is what it is answered with, and it is noted so
-abbrev pub IsPlan : desk.Desk → desk.Call → Plan → Type 0
-IsPlan d c plan =
-    ForRight (λ p. ◌≡◌ {A = desk.Desk × desk.Reply} (with_addition d plan.addition, reply_seen plan.reply) (desk.answered p d c))
-    × (entry_seen plan.noted ≡ desk.called c (reply_seen plan.reply))
+-- what a call to a desk comes to is what it is answered with, which is noted so; and what is used then, with the call itself
+pub record IsPlan (d : desk.Desk) (c : desk.Call) (plan : Plan) : Type 0 where
+  pub answers : ForRight (λ p. ◌≡◌ {A = desk.Desk × desk.Reply} (with_change d plan.change, reply_seen plan.reply) (answered p d c))
+  pub notes : entry_seen plan.noted ≡ desk.called c (reply_seen plan.reply)
+  pub usage : plan.usage ≡ charged (usage_in (with_change d plan.change)) charge.Call
 
--- what is used with what a call adds
-abbrev pub used_by : Usage → Addition → Usage
-used_by u addition.Nothing = u
-used_by u (addition.Module m) = charged u (charge.Module (length m.source))
-used_by u (addition.Trial j) = charged u (charge.Trial (steps_of_trial j.value.limit j.value.runs))
+-- what is used, with a call that is charged already
+abbrev pub IsCharged : desk.Desk → Usage → Type 0
+IsCharged d u = u ≡ charged (usage_in d) charge.Call
 
--- one of the sums doesn't fit 64 bits
-abbrev pub IsPastSums : Usage → Type 0
-IsPastSums u = 2 ^ 64 ≤ max u.modules (max u.bytes (max u.trials (max u.steps u.calls)))
+-- a change can be carried out: a trial is of a module that is held, and no held trial uses a module that is given up
+abbrev pub CanChange : desk.Desk → Change → Type 0
+CanChange d change.Nothing = Unit {0}
+CanChange d (change.Module m) = Unit {0}
+CanChange d (change.Trial n j) = IsSome (desk.held_at d.modules n)
+CanChange d (change.DropTrial t) = Unit {0}
+CanChange d (change.Withdraw n) = users_of d n ≡ 0
+
+-- the modules stay as they are
+abbrev pub KeepsModules : Change → Type 0
+KeepsModules change.Nothing = Unit {0}
+KeepsModules (change.Module m) = ⊥
+KeepsModules (change.Trial n j) = Unit {0}
+KeepsModules (change.DropTrial t) = Unit {0}
+KeepsModules (change.Withdraw n) = ⊥
+
+-- FollowsPlan k k' d r: the holders of each source change as the modules of the desk will; where memory ran out they are as they were
+abbrev pub FollowsPlan : Kept → Kept → desk.Desk → Result Plan NoMemory → Type 0
+FollowsPlan k k' d (Ok p) = FollowsDesk k d k' (with_change d p.change)
+FollowsPlan k k' d (Err e) = FollowsDesk k d k' d

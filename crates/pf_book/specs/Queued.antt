@@ -1,6 +1,6 @@
 -- The jobs that wait for a worker.
 use Rattle.std.specs.Prelude.{ℕ, List, Option, Some, None}
-use Rattle.pf_desks.specs.Desk.{Job, State, queued, Trial, numbered}
+use Rattle.pf_desks.specs.Desk.{Job, State, queued, Trial, held_at}
 
 abbrev pub job_in_state : Job → State → Option Job
 job_in_state j queued = Some j
@@ -14,5 +14,5 @@ job_of_trial None = None
 job_of_trial (Some t) = queued_job t
 
 -- the job of the trial of a ticket, where it is queued
-abbrev pub job_at : List Trial → ℕ → Option Job
-job_at ts t = job_of_trial (numbered ts t)
+abbrev pub job_at : List (Option Trial) → ℕ → Option Job
+job_at ts t = job_of_trial (held_at ts t)

@@ -38,7 +38,12 @@ impl Model for Book {
 
     ghost coded = { coded_world };
 
+    ghost use Rattle.pf_book.specs.Kept.{CountsAll};
+
     ghost view = { λ b. b.desks.entries };
+
+    // The store counts the modules of all desks.
+    ghost invariant = { λ b. CountsAll b.store b.desks.entries };
 }
 
 impl Book {
@@ -86,6 +91,39 @@ impl Book {
         self.call(alloc, project, Call::Fetch(ticket))
     }
 
+    /// Asks how far the trial of a ticket is.
+    pub fn status(&mut self, alloc: Global, project: u32, ticket: u64) -> Result<Reply, NoMemory>
+        ensures { Answers self.old project (desk.status ticket) result self.new }
+    {
+        self.call(alloc, project, Call::Status(ticket))
+    }
+
+    /// Drops the trial of a ticket, however far it is. Its steps count no more.
+    pub fn drop_trial(
+        &mut self,
+        alloc: Global,
+        project: u32,
+        ticket: u64,
+    ) -> Result<Reply, NoMemory>
+        ensures { Answers self.old project (desk.drop_trial ticket) result self.new }
+    {
+        self.call(alloc, project, Call::DropTrial(ticket))
+    }
+
+    /// Withdraws the module of a number, where no trial that the project holds uses it. Its bytes count no more.
+    pub fn withdraw(&mut self, alloc: Global, project: u32, number: u64) -> Result<Reply, NoMemory>
+        ensures { Answers self.old project (desk.withdraw number) result self.new }
+    {
+        self.call(alloc, project, Call::Withdraw(number))
+    }
+
+    /// Asks how many calls the project logged.
+    pub fn log(&mut self, alloc: Global, project: u32) -> Result<Reply, NoMemory>
+        ensures { Answers self.old project desk.log result self.new }
+    {
+        self.call(alloc, project, Call::Log)
+    }
+
     /// Asks for what the project uses.
     pub fn usage(&mut self, alloc: Global, project: u32) -> Result<Reply, NoMemory>
         ensures { Answers self.old project desk.usage result self.new }
@@ -94,13 +132,14 @@ impl Book {
     }
 
     /// Answers a client's call on the desk of its project, and notes it there with its reply. After running out of memory nothing has
-    /// changed and nothing is noted; a sum of what is used that doesn't fit 64 bits is out of memory too.
+    /// changed and nothing is noted. A new desk gets its place before its first call, which the store then counts.
     fn call(&mut self, alloc: Global, project: u32, call: Call) -> Result<Reply, NoMemory>
         ensures { Answers self.old project (call_seen call) result self.new }
     {
         if let Some(desk) = self.desks.get_mut(&project) {
             return desk.call(alloc, &mut self.store, call);
         }
+        self.desks.reserve(1)?;
         let mut desk = Desk::new(alloc);
         let reply = desk.call(alloc, &mut self.store, call)?;
         self.desks.insert(project, desk)?;

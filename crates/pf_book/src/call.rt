@@ -27,6 +27,14 @@ pub enum Call {
     Order(Order),
     /// What came of the trial of a ticket.
     Fetch(u64),
+    /// How far the trial of a ticket is.
+    Status(u64),
+    /// The trial of a ticket isn't wanted any more.
+    DropTrial(u64),
+    /// The module of a number isn't wanted any more.
+    Withdraw(u64),
     /// What the project uses.
     Usage,
+    /// How many calls the project logged.
+    Log,
 }

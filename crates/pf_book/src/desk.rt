@@ -1,41 +1,48 @@
 //! The desk of one project.
 
-ghost use Rattle.std.specs.Prelude.{◌≡◌, IfOk, MatchResult, length};
+ghost use Rattle.std.specs.Prelude.{◌≡◌, ◌<◌, IfOk, OnOk, length};
 ghost use Rattle.std.specs.Option.{option_map};
+ghost use Rattle.std.specs.Vec.{vec_len, vec_capacity};
 ghost use Rattle.pf_desks.specs.Desk as desk;
-ghost use Rattle.pf_desks.specs.Desk.{no_desk, fetched};
+ghost use Rattle.pf_desks.specs.Desk.{no_desk};
+ghost use Rattle.pf_desks.specs.Work.{with_state};
 ghost use Rattle.pf_desks.specs.History.{IsLegalDesk};
 ghost use Rattle.pf_book.specs.Profile.{ForRight};
-ghost use Rattle.pf_book.specs.View.{call_seen, order_seen, code_of};
+ghost use Rattle.pf_book.specs.View.{call_seen};
 ghost use Rattle.pf_book.specs.Answers.{DeskAnswers, DeskWorks};
-ghost use Rattle.pf_book.specs.Plans.{IsPlan};
+ghost use Rattle.pf_book.specs.Kept.{Counts, FollowsDesk};
+ghost use Rattle.pf_book.specs.Plans.{IsPlan, IsCharged, CanChange, FollowsPlan};
 ghost use Rattle.pf_book.specs.Queued.{job_at};
 ghost use Rattle.pf_book.specs.Trials.{AtomsAt};
 
-use crate::call::{Call, Order};
+mod planning;
+
+use crate::call::Call;
+use crate::change::carry_out;
 use crate::entry::Entry;
-use crate::job::{job_of, run};
+use crate::job::run;
 use crate::numbers::{make_room, numbered};
-use crate::plan::{Addition, Plan};
+use crate::plan::Plan;
 use crate::refusal::Refusal;
 use crate::reply::{FiledResult, Reply};
 use crate::trial::Trial;
-use pf_fault::OrNoMemory;
-use pf_quota::Usage;
+use pf_quota::{Charge, Usage};
 use pf_sched::{Job, Scratch};
-use pf_store::{Source, Store, Stored};
+use pf_store::{Store, Stored};
 use pf_terms::NoMemory;
 use std::alloc::Global;
 use std::marker::Model;
 use std::sync::Arc;
 
-/// The desk of one project: its modules, its trials and what it noted, with the sums of what it uses. Contracts see a desk that is
-/// what its history makes of an empty one.
+/// The desk of one project: its modules and trials by number, with nothing at a number that was given up, and what it noted; with the
+/// sums of what it uses, and for each module the count of the held trials that use it. Contracts see a desk that is what its history
+/// makes of an empty one.
 #[derive(Drop)]
 pub(crate) struct Desk {
-    modules: Vec<Stored>,
-    trials: Vec<Trial>,
+    modules: Vec<Option<Stored>>,
+    trials: Vec<Option<Trial>>,
     history: Vec<Entry>,
+    users: Vec<u64>,
     usage: Usage,
 }
 
@@ -62,6 +69,7 @@ impl Desk {
             modules: Vec::new(alloc),
             trials: Vec::new(alloc),
             history: Vec::new(alloc),
+            users: Vec::new(alloc),
             usage: Usage::new(),
         }
     }
@@ -74,97 +82,58 @@ impl Desk {
         self.history.len()
     }
 
-    /// Answers a call and notes it with its reply; a source that is in store isn't read again. After running out of memory nothing has
-    /// changed; a sum of what is used that doesn't fit is out of memory too.
+    /// Answers a call and notes it with its reply. One for which the log has no room is refused first of all, wants no memory, and isn't
+    /// noted. A source that is in store isn't read again. After running out of memory nothing has changed.
     pub fn call(&mut self, alloc: Global, store: &mut Store, call: Call) -> Result<Reply, NoMemory>
-        ensures { DeskAnswers self.old (call_seen call) result self.new }
+        requires { Counts store.old self.old }
+        ensures answer { DeskAnswers self.old (call_seen call) result self.new }
+        ensures store { FollowsDesk store.old self.old store.new self.new }
     {
+        let mut usage = self.usage;
+        if let Err(limit) = usage.charge(Charge::Call) {
+            return Ok(Reply::Refused(Refusal::PastLimit(limit)));
+        }
+        make_call_room(
+            &mut self.history,
+            &mut self.modules,
+            &mut self.trials,
+            &mut self.users,
+        )?;
         let Plan {
-            addition,
+            change,
             noted,
             reply,
-        } = self.plan(alloc, store, call)?;
-        let usage = addition.usage(&self.usage)?;
-        make_room(&mut self.history, 1)?;
-        match addition {
-            Addition::Nothing => {}
-            Addition::Module(stored) => self.modules.push(stored)?,
-            Addition::Trial(job) => self.trials.push(Trial::new(job))?,
-        }
+            usage,
+        } = self.plan(alloc, store, call, usage)?;
+        carry_out(&mut self.modules, &mut self.trials, &mut self.users, change);
         self.history.push_reserved(noted);
         self.usage = usage;
         Ok(reply)
     }
 
-    /// What a call comes to.
-    fn plan(&self, alloc: Global, store: &mut Store, call: Call) -> Result<Plan, NoMemory>
-        ensures { IfOk result (λ p. IsPlan self.now (call_seen call) p) }
+    /// What a call comes to that is charged already.
+    fn plan(
+        &self,
+        alloc: Global,
+        store: &mut Store,
+        call: Call,
+        usage: Usage,
+    ) -> Result<Plan, NoMemory>
+        requires counts { Counts store.old self.now }
+        requires charged { IsCharged self.now usage }
+        ensures plan { IfOk result (λ p. IsPlan self.now (call_seen call) p) }
+        ensures can { IfOk result (λ p. CanChange self.now p.change) }
+        ensures store { FollowsPlan store.old store.new self.now result }
     {
         match call {
-            Call::Submit(source) => self.submission(alloc, store, source),
-            Call::Order(order) => self.ordering(alloc, order),
-            Call::Fetch(ticket) => self.fetching(ticket),
-            Call::Usage => {
-                let noted = Entry::Used(Box::new(alloc, self.usage)?);
-                Ok(Plan::reply_alone(noted, Reply::Usage(self.usage)))
-            }
-        }
-    }
-
-    fn submission(&self, alloc: Global, store: &mut Store, source: Source) -> Result<Plan, NoMemory>
-        ensures { IfOk result (λ p. IsPlan self.now (desk.submit source) p) }
-    {
-        match store.take_or_read(alloc, &source) {
-            Ok(stored) => {
-                let number = self.modules.len() as u64 + 1;
-                Ok(Plan {
-                    noted: Entry::Submitted(stored.source().share()?, number),
-                    addition: Addition::Module(stored),
-                    reply: Reply::Module(number),
-                })
-            }
-            Err(OrNoMemory::NoMemory) => Err(NoMemory),
-            Err(OrNoMemory::Fault(refused)) => {
-                let refusal = Refusal::Source(refused.code);
-                let noted = Entry::SubmitRefused(source, refusal);
-                Ok(Plan::reply_alone(noted, Reply::Refused(refusal)))
-            }
-        }
-    }
-
-    fn ordering(&self, alloc: Global, order: Order) -> Result<Plan, NoMemory>
-        ensures { IfOk result (λ p. IsPlan self.now (order_seen order) p) }
-    {
-        let order = Arc::new(alloc, order)?;
-        match job_of(alloc, &self.modules, &order) {
-            Ok(job) => {
-                let ticket = self.trials.len() as u64 + 1;
-                Ok(Plan {
-                    noted: Entry::Ordered(order, ticket),
-                    addition: Addition::Trial(job),
-                    reply: Reply::Ticket(ticket),
-                })
-            }
-            Err(OrNoMemory::NoMemory) => Err(NoMemory),
-            Err(OrNoMemory::Fault(refusal)) => {
-                let noted = Entry::OrderRefused(order, refusal);
-                Ok(Plan::reply_alone(noted, Reply::Refused(refusal)))
-            }
-        }
-    }
-
-    fn fetching(&self, ticket: u64) -> Result<Plan, NoMemory>
-        ensures { IfOk result (λ p. IsPlan self.now (desk.fetch ticket) p) }
-    {
-        match filed_result(&self.trials, ticket) {
-            Ok(filed) => {
-                let noted = Entry::Fetched(ticket, filed.share()?);
-                Ok(Plan::reply_alone(noted, Reply::Result(filed.share()?)))
-            }
-            Err(refusal) => {
-                let noted = Entry::FetchRefused(ticket, refusal);
-                Ok(Plan::reply_alone(noted, Reply::Refused(refusal)))
-            }
+            Call::Submit(source) => self.submission(alloc, store, source, usage),
+            Call::Order(order) => self.ordering(alloc, order, usage),
+            Call::Fetch(ticket) => self.fetching(ticket, usage),
+            Call::Status(ticket) => Ok(self.standing(ticket, usage)),
+            Call::DropTrial(ticket) => Ok(self.dropping(ticket, usage)),
+            Call::Withdraw(number) => Ok(self.withdrawal(store, number, usage)),
+            Call::Usage => self.using(alloc, usage),
+            Call::Log => Ok(self.counting(usage)),
         }
     }
 
@@ -176,7 +145,8 @@ impl Desk {
         scratch: &mut Scratch,
         ticket: u64,
     ) -> Result<bool, NoMemory>
-        ensures { DeskWorks self.old ticket result self.new }
+        ensures work { DeskWorks self.old ticket result self.new }
+        ensures modules { self.new.modules ≡ self.old.modules }
     {
         let Some(job) = queued(&self.trials, ticket) else {
             return Ok(false);
@@ -191,29 +161,43 @@ impl Desk {
 }
 
 /// The job of the trial of a ticket, where it is queued.
-fn queued(trials: &[Trial], ticket: u64) -> Option<&Arc<Job>>
+fn queued(trials: &[Option<Trial>], ticket: u64) -> Option<&Arc<Job>>
     ensures { option_map (λ j. j.now.value) result ≡ job_at trials.now ticket }
 {
     numbered(trials, ticket)?.queued()
 }
 
-/// What came of the trial of a ticket, where it is filed.
-fn filed_result(trials: &[Trial], ticket: u64) -> Result<&FiledResult, Refusal>
-    ensures { MatchResult result
-        (λ r. fetched (desk.numbered trials.now ticket) ≡ desk.result r.now.0 r.now.1)
-        (λ e. fetched (desk.numbered trials.now ticket) ≡ desk.refused (code_of e)) }
-{
-    numbered(trials, ticket).ok_or(Refusal::NoTrial)?.filed()
-}
-
 /// Files what came of the trial of a ticket, which speaks of the atoms of its module.
-fn file(trials: &mut Vec<Trial>, ticket: u64, filed: FiledResult)
+fn file(trials: &mut Vec<Option<Trial>>, ticket: u64, filed: FiledResult)
     requires { AtomsAt trials.old.items ticket filed.0 }
-    ensures { trials.new.items ≡ desk.with_state trials.old.items ticket (λ j. desk.done filed.1) }
+    ensures { trials.new.items ≡ with_state trials.old.items ticket (λ j. desk.done filed.1) }
 {
     if ticket == 0 || ticket > trials.len() as u64 {
         return;
     }
-    let trial = &mut trials[ticket as usize - 1];
-    trial.file(filed);
+    if let Some(trial) = &mut trials[ticket as usize - 1] {
+        trial.file(filed);
+    }
+}
+
+/// Makes room for one note, one module with its count of users, and one trial.
+fn make_call_room(
+    history: &mut Vec<Entry>,
+    modules: &mut Vec<Option<Stored>>,
+    trials: &mut Vec<Option<Trial>>,
+    users: &mut Vec<u64>,
+) -> Result<(), NoMemory>
+    ensures history { history.new.items ≡ history.old.items }
+    ensures modules { modules.new.items ≡ modules.old.items }
+    ensures trials { trials.new.items ≡ trials.old.items }
+    ensures users { users.new.items ≡ users.old.items }
+    ensures room { OnOk result ((vec_len history.new < vec_capacity history.new)
+        × (vec_len modules.new < vec_capacity modules.new)
+        × (vec_len trials.new < vec_capacity trials.new)
+        × (vec_len users.new < vec_capacity users.new)) }
+{
+    make_room(history, 1)?;
+    make_room(modules, 1)?;
+    make_room(trials, 1)?;
+    make_room(users, 1)
 }

@@ -2,7 +2,7 @@
 
 use crate::call::Order;
 use crate::refusal::Refusal;
-use crate::reply::FiledResult;
+use crate::reply::{FiledResult, Stage};
 use pf_quota::Usage;
 use pf_store::Source;
 use std::sync::Arc;
@@ -22,8 +22,22 @@ pub(crate) enum Entry {
     Fetched(u64, FiledResult),
     /// What came of the trial of a ticket was refused.
     FetchRefused(u64, Refusal),
+    /// The trial of a ticket stood so far.
+    Stood(u64, Stage),
+    /// How far the trial of a ticket is was refused.
+    StatusRefused(u64, Refusal),
+    /// The trial of a ticket was dropped.
+    Dropped(u64),
+    /// To drop the trial of a ticket was refused.
+    DropRefused(u64, Refusal),
+    /// The module of a number was withdrawn.
+    Withdrawn(u64),
+    /// To withdraw the module of a number was refused.
+    WithdrawRefused(u64, Refusal),
     /// What the project uses was handed out.
     Used(Box<Usage>),
+    /// How many calls were logged was handed out.
+    Counted(u64),
     Claimed(u64),
     Filed(u64),
 }

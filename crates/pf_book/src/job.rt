@@ -1,8 +1,8 @@
 //! Jobs of orders, and their runs.
 
-ghost use Rattle.std.specs.Prelude.{◌≡◌, Ok, IfOk, MatchResult};
+ghost use Rattle.std.specs.Prelude.{◌≡◌, Ok, IfOk, IsSome, MatchResult, OnOk};
 ghost use Rattle.pf_model.specs.Shrinking.{IsResult};
-ghost use Rattle.pf_desks.specs.Desk.{job_meant};
+ghost use Rattle.pf_desks.specs.Desk.{job_meant, held_at};
 ghost use Rattle.pf_sched.specs.Views.{choices_in, runs_asked};
 ghost use Rattle.pf_book.specs.Orders.{Asked, IsRefusedJob};
 
@@ -34,12 +34,13 @@ fn shared(kind: &JobKind) -> Result<JobKind, NoMemory>
 /// The job of an order to a project with these modules.
 pub(crate) fn job_of(
     alloc: Global,
-    modules: &[Stored],
+    modules: &[Option<Stored>],
     order: &Order,
 ) -> Result<Arc<Job>, OrNoMemory<Refusal>>
-    ensures { MatchResult result
+    ensures asked { MatchResult result
         (λ job. Asked modules.now order.now (Ok job.value))
         (IsRefusedJob (Asked modules.now order.now)) }
+    ensures held { OnOk result (IsSome (held_at modules.now order.now.module)) }
 {
     let stored = numbered(modules, order.module).ok_or(OrNoMemory::Fault(Refusal::NoModule))?;
     let root = order.root.as_slice();

@@ -3,6 +3,7 @@
 
 mod book;
 mod call;
+mod change;
 mod desk;
 mod entry;
 mod job;
@@ -15,4 +16,4 @@ mod trial;
 pub use book::Book;
 pub use call::{Call, Order, Word};
 pub use refusal::Refusal;
-pub use reply::{FiledResult, Reply};
+pub use reply::{FiledResult, Reply, Stage};

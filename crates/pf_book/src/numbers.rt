@@ -1,27 +1,31 @@
-//! Numbers, sums and room.
+//! Things by number, and room.
 
-ghost use Rattle.std.specs.Prelude.{◌≡◌, ◌+◌, ◌^◌, ◌<◌, ◌≤◌, MatchResult, OnErr, OnOk};
+ghost use Rattle.std.specs.Prelude.{◌≡◌, ◌+◌, ◌<◌, ◌≤◌, None, OnErr, OnOk};
 ghost use Rattle.std.specs.Option.{option_copied};
 ghost use Rattle.std.specs.Vec.{vec_len, vec_capacity};
-ghost use Rattle.pf_desks.specs.Desk as desk;
+ghost use Rattle.pf_desks.specs.Desk.{held_at, with_held};
 
 use pf_terms::NoMemory;
 
-/// The thing of a number, counted from 1.
-pub(crate) fn numbered<T>(things: &[T], number: u64) -> Option<&T>
-    ensures { option_copied result ≡ desk.numbered things.now number }
+/// What is held under a number, which counts from 1.
+pub(crate) fn numbered<T>(things: &[Option<T>], number: u64) -> Option<&T>
+    ensures { option_copied result ≡ held_at things.now number }
 {
     if number == 0 {
         return None;
     }
-    things.get(number as usize - 1)
+    things.get(number as usize - 1)?.as_ref()
 }
 
-/// The sum, or out of memory where it doesn't fit, which no machine has the room for.
-pub(crate) fn sum(left: u64, right: u64) -> Result<u64, NoMemory>
-    ensures { MatchResult result (λ n. n ≡ left + right) (λ _. 2 ^ 64 ≤ left + right) }
+/// Gives up what is held under a number, and hands it over: nothing is held there then.
+pub(crate) fn give_up<T>(things: &mut Vec<Option<T>>, number: u64) -> Option<T>
+    ensures taken { result ≡ held_at things.old.items number }
+    ensures items { things.new.items ≡ with_held things.old.items number None }
 {
-    left.checked_add(right).ok_or(NoMemory)
+    if number == 0 || number > things.len() as u64 {
+        return None;
+    }
+    things[number as usize - 1].take()
 }
 
 /// Makes room for so many more in a list, and is out of memory only where there was none. Where there is none it grows by a

@@ -1,68 +1,47 @@
 //! What a call comes to, before anything is changed.
 
-ghost use Rattle.std.specs.Prelude.{◌≡◌, MatchResult};
-ghost use Rattle.pf_quota.specs.Usage.{charged};
-ghost use Rattle.pf_quota.specs.declared.charges.Charge.TheVariants as charge;
-ghost use Rattle.pf_book.specs.Plans.{IsPastSums, used_by};
+ghost use Rattle.std.specs.Prelude.{◌≡◌};
 
 use crate::entry::Entry;
-use crate::numbers::sum;
 use crate::reply::Reply;
-use pf_quota::{Usage, trial_steps};
+use pf_quota::Usage;
 use pf_sched::Job;
 use pf_store::Stored;
-use pf_terms::NoMemory;
 use std::sync::Arc;
 
-/// What a call adds to its desk.
+/// What a call changes of what its desk holds.
 #[derive(Drop)]
-pub(crate) enum Addition {
+pub(crate) enum Change {
     Nothing,
+    /// One module more.
     Module(Stored),
-    Trial(Arc<Job>),
+    /// One trial more: of the module of a number, for a job.
+    Trial(u64, Arc<Job>),
+    /// The trial of a ticket is given up.
+    DropTrial(u64),
+    /// The module of a number is given up.
+    Withdraw(u64),
 }
 
-/// What a call comes to: what it adds to its desk, what is noted of it, and its reply.
+/// What a call comes to: what it changes, what is noted of it, its reply, and what is used then.
 #[derive(Drop)]
 pub(crate) struct Plan {
-    pub addition: Addition,
+    pub change: Change,
     pub noted: Entry,
     pub reply: Reply,
+    pub usage: Usage,
 }
 
 impl Plan {
     /// A note and a reply alone.
-    pub fn reply_alone(noted: Entry, reply: Reply) -> Plan
-        ensures { result ≡ record { addition = Addition.Nothing; noted = noted; reply = reply } }
+    pub fn reply_alone(noted: Entry, reply: Reply, usage: Usage) -> Plan
+        ensures { result ≡ record { change = Change.Nothing; noted = noted; reply = reply; usage = usage } }
     {
         Plan {
-            addition: Addition::Nothing,
+            change: Change::Nothing,
             noted,
             reply,
+            usage,
         }
-    }
-}
-
-impl Addition {
-    /// What is used once a call is noted that adds this, or out of memory where a sum doesn't fit.
-    pub fn usage(&self, before: &Usage) -> Result<Usage, NoMemory>
-        ensures { MatchResult result
-            (λ u. u ≡ charged (used_by before.now self.now) charge.Call)
-            (λ _. IsPastSums (charged (used_by before.now self.now) charge.Call)) }
-    {
-        let mut usage = *before;
-        usage.calls = sum(usage.calls, 1)?;
-        match self {
-            Addition::Nothing => {}
-            Addition::Module(stored) => {
-                usage.modules = sum(usage.modules, 1)?;
-                usage.bytes = sum(usage.bytes, stored.size() as u64)?;
-            }
-            Addition::Trial(job) => {
-                usage.trials = sum(usage.trials, 1)?;
-                usage.steps = sum(usage.steps, trial_steps(job.limit(), job.runs()))?;
-            }
-        }
-        Ok(usage)
     }
 }

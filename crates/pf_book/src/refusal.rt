@@ -4,6 +4,7 @@ ghost use Rattle.std.specs.Prelude.{◌≡◌};
 ghost use Rattle.pf_book.specs.View.{code_of};
 
 use pf_fault::Code;
+use pf_quota as quota;
 use pf_sched::JobRefusal;
 use std::fmt;
 
@@ -20,10 +21,14 @@ pub enum Refusal {
     NoProperty,
     /// `B3`: the project has no trial of this ticket.
     NoTrial,
+    /// `B4`: a trial that the project holds uses the module.
+    ModuleInUse,
     /// `B5`: nothing came of the trial yet.
     NotDone,
     /// `B6`: the limit isn't from 1 to 100,000, the schedule has more than 100,000 numbers, or the runs of a shrinking aren't from 1 to 1,000.
     OutOfRange,
+    /// `Q1` to `Q5`: the project would pass a limit.
+    PastLimit(quota::Refusal),
 }
 
 impl Refusal {
@@ -37,8 +42,10 @@ impl Refusal {
             Refusal::NoRoot => Code::NoRoot,
             Refusal::NoProperty => Code::NoProperty,
             Refusal::NoTrial => Code::NoTrial,
+            Refusal::ModuleInUse => Code::ModuleInUse,
             Refusal::NotDone => Code::NotDone,
             Refusal::OutOfRange => Code::OutOfRange,
+            Refusal::PastLimit(limit) => limit.code(),
         }
     }
 }

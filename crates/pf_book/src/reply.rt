@@ -83,6 +83,17 @@ impl FiledResult {
     }
 }
 
+/// How far a trial is.
+#[derive(Clone, Copy, Debug, PartialEq, Eq)]
+pub enum Stage {
+    /// It waits for a worker.
+    Queued,
+    /// A worker has it.
+    Running,
+    /// What came of it is filed.
+    Done,
+}
+
 /// What a client is told.
 #[derive(Drop)]
 pub enum Reply {
@@ -92,6 +103,13 @@ pub enum Reply {
     Ticket(u64),
     /// What came of a trial.
     Result(FiledResult),
+    /// How far a trial is.
+    Stage(Stage),
+    /// What was held is given up.
+    GivenUp,
+    /// What the project uses.
     Usage(Usage),
+    /// How many calls the project logged.
+    Logged(u64),
     Refused(Refusal),
 }

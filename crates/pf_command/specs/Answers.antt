@@ -17,10 +17,11 @@ use Rattle.pf_model.specs.TermText.{line}
 use Rattle.pf_model.specs.Text.{report_text, result_text}
 use Rattle.pf_check.specs.Reads.{Reads, refused}
 use Rattle.pf_desks.specs.Desk.{Stored, Job, job_meant}
+use Rattle.pf_desks.specs.Work.{memory_report}
 use Rattle.pf_store.specs.Sources.{IsReadAs}
 use Rattle.pf_sched.specs.Asked.{Asks}
 use Rattle.pf_sched.specs.Parts.{Ends}
-use Rattle.pf_sched.specs.Views.{choices_in, memory_report, runs_asked}
+use Rattle.pf_sched.specs.Views.{choices_in, runs_asked}
 use Rattle.pf_words.specs.Words.{Request, ShrinkRequest}
 use Rattle.pf_command.specs.declared.answer.Answer.{Answer}
 use Rattle.pf_command.specs.declared.asked.Asked.{Asked}

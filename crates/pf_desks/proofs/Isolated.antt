@@ -2,7 +2,9 @@
 use Rattle.std.proofs.Common.{◌≡◌, ℕ, ◌==◌, Bool, true, false, List, [], ◌∷◌, ◌++◌, Option, Some, None, refl, sym, ap, ◌∙◌, arith}
 use Rattle.std.specs.Prelude.{if◌then◌else◌, unwrap_or}
 use Rattle.std.proofs.lemmas.Bool.Decides.{nat_tests}
-use Rattle.pf_desks.specs.Desk.{Profile, Desk, Call, Reply, after_call, Work, worker_step}
+use Rattle.pf_desks.specs.Desk.{Profile, Desk, Call, Reply}
+use Rattle.pf_desks.specs.Calls.{after_call}
+use Rattle.pf_desks.specs.Work.{Work, worker_step}
 use Rattle.pf_desks.specs.World.{Step, client, worker, Answer, World, desk_at, put_desk, worked, step, answers, whole, named, belongs, replies_in, told, own_steps, desk_after, desk_replies, replies_along, alone}
 
 pub pick : {A : Type 0} (P : A → Type 0) (b : Bool) (x y : A) → P x → P y → P (if b then x else y)

@@ -1,12 +1,16 @@
 -- Legal histories: what a desk noted, replayed on an empty desk, gives its own replies.
 use Rattle.std.specs.Prelude.{◌≡◌, List, [], ◌∷◌, Some}
-use Rattle.pf_desks.specs.Desk.{Profile, Desk, no_desk, Entry, called, claimed, filed, reply_to, after_call, claim, file, worker_step}
+use Rattle.pf_desks.specs.Desk.{Profile, Desk, no_desk, Entry, called, claimed, filed, handed_back}
+use Rattle.pf_desks.specs.Calls.{HasRoom, reply_to, after_call}
+use Rattle.pf_desks.specs.Work.{claim, file, hand_back, worker_step}
 
--- Follows p d e d': what is noted leads from a desk to the next: a reply is the desk's own, and a worker's step can be done
+-- Follows p d e d': what is noted leads from a desk to the next: a call had room in the log, and its reply is the desk's own; what is claimed
+-- was queued, and what is filed or handed back was running
 abbrev pub Follows : Profile → Desk → Entry → Desk → Type 0
-Follows p d (called c r) d' = (r ≡ reply_to p d c) × (d' ≡ after_call p d c)
+Follows p d (called c r) d' = HasRoom d × (r ≡ reply_to p d c) × (d' ≡ after_call p d c)
 Follows p d (claimed t) d' = worker_step p d (claim t) ≡ Some d'
-Follows p d (filed t) d' = worker_step p d (file t) ≡ Some d'
+Follows p d (filed t m) d' = worker_step p d (file t m) ≡ Some d'
+Follows p d (handed_back t) d' = worker_step p d (hand_back t) ≡ Some d'
 
 -- IsLegal p d es d': what is noted leads in turn from a desk to another
 abbrev pub IsLegal : Profile → Desk → List Entry → Desk → Type 0

@@ -1,4 +1,6 @@
 pub mod Desk
+pub mod Calls
+pub mod Work
 pub mod History
 pub mod World
 pub mod Told

@@ -7,9 +7,9 @@ use Rattle.pf_terms.specs.Atoms.{name_of}
 use Rattle.pf_quota.specs.declared.usage.Usage.{Usage}
 use Rattle.pf_model.specs.Meaning.{Report}
 use Rattle.pf_model.specs.TermText.{line}
-use Rattle.pf_model.specs.Shrinking.{Found, Result, report, shrunk_to, nothing_fails}
+use Rattle.pf_model.specs.Shrinking.{Result, report, shrunk_to, nothing_fails}
 use Rattle.pf_model.specs.Text.{complete_text, report_text, schedule_text}
-use Rattle.pf_desks.specs.Desk.{Reply, number, ticket, result, uses, refused}
+use Rattle.pf_desks.specs.Desk.{Stage, at_queue, at_work, at_end, Reply, number, ticket, result, stage, given_up, uses, logged, refused}
 use Rattle.pf_desks.specs.World.{Step, client, worker, Answer, replied, work_done, not_now, named}
 
 -- MODULES BYTES TRIALS STEPS CALLS
@@ -35,11 +35,20 @@ result_rest atoms (report r) = report_text (name_of atoms) r
 result_rest atoms (shrunk_to f r) = report_text (name_of atoms) r
 result_rest atoms nothing_fails = []
 
+-- how far a trial is
+abbrev pub stage_text : Stage → List ℕ
+stage_text at_queue = codes "queued"
+stage_text at_work = codes "running"
+stage_text at_end = codes "done"
+
 -- what the first line of a reply says to the project
 abbrev pub reply_head : Reply → List ℕ
 reply_head (number n) = codes "module " ++ decimal n
 reply_head (ticket n) = codes "ticket " ++ decimal n
 reply_head (result atoms r) = result_head r
+reply_head (stage s) = stage_text s
+reply_head given_up = codes "done"
+reply_head (logged n) = codes "log " ++ decimal n
 reply_head (uses u) = codes "usage " ++ usage_text u
 reply_head (refused c) = codes "refused " ++ code_text c
 

@@ -1,6 +1,8 @@
 -- Worlds: many projects and their workers, and what one project would be told if it were alone.
 use Rattle.std.specs.Prelude.{◌≡◌, ℕ, Bool, true, false, ◌==◌, if◌then◌else◌, List, [], ◌∷◌, ◌++◌, Option, Some, None, unwrap_or}
-use Rattle.pf_desks.specs.Desk.{Profile, Desk, no_desk, Call, Reply, reply_to, after_call, Work, worker_step}
+use Rattle.pf_desks.specs.Desk.{Profile, Desk, no_desk, Call, Reply}
+use Rattle.pf_desks.specs.Calls.{HasRoom, reply_to, after_call}
+use Rattle.pf_desks.specs.Work.{Work, worker_step}
 
 -- a client of a project makes a call, or a worker does something for it
 pub data Step : Type 0 where
@@ -101,11 +103,16 @@ Isolation = (p : Profile) (q : ℕ) (ss : List Step) → told q ss (whole p ss) 
 
 -- ---- where growths are refused
 
+-- a growth may be refused in a call for which the log has room, and in work that can be done
+abbrev pub MayGrow : Profile → World → Step → Type 0
+MayGrow p w (client q c) = HasRoom (desk_at q w)
+MayGrow p w (worker q k) = happened (step p w (worker q k)).1 ≡ true
+
 -- AnswersStep p w s x w': in a world a step is answered so, and leads to a world. Where a growth was refused it is answered by none, and
--- changes nothing; it is then one that would have happened
+-- changes nothing
 abbrev pub AnswersStep : Profile → World → Step → Option Answer → World → Type 0
 AnswersStep p w s (Some a) w' = ◌≡◌ {A = World × Answer} (step p w s) (w', a)
-AnswersStep p w s None w' = (happened (step p w s).1 ≡ true) × (w' ≡ w)
+AnswersStep p w s None w' = MayGrow p w s × (w' ≡ w)
 
 -- from a world, some steps are answered in turn
 abbrev pub AnswersInTurn : Profile → World → List Step → List (Option Answer) → Type 0

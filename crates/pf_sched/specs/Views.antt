@@ -1,5 +1,5 @@
 -- What the code's own choices, jobs, parked runs and finished runs stand for.
-use Rattle.std.specs.Prelude.{ℕ, Bool, true, false, [], Option, Some, None, refl}
+use Rattle.std.specs.Prelude.{ℕ, Bool, true, false, Option, Some, None, refl}
 use Rattle.std.specs.Coded.{Coded, code_by, coded×, coded_ℕ}
 use Rattle.pf_fault.specs.declared.code.Code.{Code}
 use Rattle.pf_fault.specs.declared.code.Code.TheVariants as code
@@ -12,6 +12,7 @@ use Rattle.pf_model.specs.Shrinking.{found}
 use Rattle.pf_desks.specs.Desk.{Job}
 use Rattle.pf_desks.specs.DeskCode.{coded_job}
 use Rattle.pf_desks.specs.ReportCode.{coded_result}
+use Rattle.pf_desks.specs.Work.{memory_report}
 use Rattle.pf_sched.specs.declared.choices.JobChoices.{JobChoices}
 use Rattle.pf_sched.specs.declared.choices.JobChoices.TheVariants.{Seed, Schedule}
 use Rattle.pf_sched.specs.declared.choices.JobKind.{JobKind}
@@ -67,10 +68,6 @@ finished_view j r = record { job = j; result = r }
 
 abbrev pub coded_finished_view : Coded FinishedView
 coded_finished_view = code_by _ (coded× coded_job coded_result) (λ f. (f.job, f.result)) (λ p. finished_view p.0 p.1) (λ _. refl)
-
--- what is told of a job for which memory ran out: no event, and no verdict
-abbrev pub memory_report : Report
-memory_report = record { events = []; outcome = memory; steps = 0; verdict = None }
 
 abbrev pub without_memory : shrinking.Result
 without_memory = shrinking.report memory_report

@@ -1,7 +1,7 @@
--- Sources and the modules that they are read as.
-use Rattle.std.specs.Prelude.{ℕ, List}
+-- Sources, the modules that they are read as, and how many hold each.
+use Rattle.std.specs.Prelude.{◌≡◌, ℕ, ◌+◌, ◌≤◌, if◌then◌else◌, List, All, unwrap_or}
+use Rattle.std.specs.Map.{lookup}
 use Rattle.std.specs.Str.{bytes_eq}
-use Rattle.indexmap.specs.IndexSet.{insert_key}
 use Rattle.pf_check.specs.Reads.{accepted, Reads}
 use Rattle.pf_desks.specs.Desk.{Stored}
 
@@ -9,6 +9,22 @@ use Rattle.pf_desks.specs.Desk.{Stored}
 abbrev pub IsReadAs : List ℕ → Stored → Type 0
 IsReadAs source m = Reads source (accepted m.code.name m.code.atoms m.code.functions)
 
--- the sources with one that goes at the end where it is new
-abbrev pub with_source : List (List ℕ) → List ℕ → List (List ℕ)
-with_source sources source = insert_key bytes_eq sources source
+-- the sources that are kept, each with how many hold its module
+abbrev pub Kept : Type 0
+Kept = List (List ℕ × ℕ)
+
+-- how many hold the module of a source: none where it isn't kept
+abbrev pub holders : Kept → List ℕ → ℕ
+holders kept source = unwrap_or (lookup (bytes_eq source) kept) 0
+
+-- HeldOnceMore source k k': one more holds the module of a source, and each other source as many as before
+abbrev pub HeldOnceMore : List ℕ → Kept → Kept → Type 0
+HeldOnceMore source k k' = (s : List ℕ) → holders k' s ≡ holders k s + (if bytes_eq source s then 1 else 0)
+
+-- HeldOnceLess source k k': one that held it gave it up
+abbrev pub HeldOnceLess : List ℕ → Kept → Kept → Type 0
+HeldOnceLess source k k' = HeldOnceMore source k' k
+
+-- nothing is kept that nobody holds
+abbrev pub IsAllHeld : Kept → Type 0
+IsAllHeld kept = All (λ e. 1 ≤ e.1) kept

@@ -1,43 +1,44 @@
-//! The modules of all sources that were read.
+//! The modules of all sources that were read and are held, each with how many hold it.
 
-ghost use Rattle.std.specs.Prelude.{◌≡◌, [], true, false, IfErr, IfOk, MatchOption, OnErr, OnOk};
-ghost use Rattle.std.specs.List.{list_any};
-ghost use Rattle.std.specs.Str.{bytes_eq};
+ghost use Rattle.std.specs.Prelude.{◌≡◌, ◌≤◌, [], IfErr, IfOk, MatchOption, OnErr, OnOk};
 ghost use Rattle.pf_check.specs.Reads.{IsRefusalOf};
-ghost use Rattle.pf_store.specs.Sources.{IsReadAs, with_source};
+ghost use Rattle.pf_store.specs.Sources.{HeldOnceLess, HeldOnceMore, IsReadAs, holders};
 
 use crate::source::Source;
 use crate::stored::Stored;
 use indexmap::IndexMap;
 use pf_fault::{OrNoMemory, Refusal};
-use pf_syntax::Module;
 use pf_terms::NoMemory;
 use std::alloc::Global;
 use std::hash::RandomState;
 use std::marker::Model;
-use std::sync::Arc;
 
-/// The modules that were read, each under its source. Contracts see the sources, each once, in the order in which they came. Random keys
-/// keep a look-up from being slow for sources that are chosen to be; what is found doesn't depend on them.
+/// A module that is kept with its source, and how many hold it.
+#[derive(Drop)]
+struct Held {
+    stored: Stored,
+    holders: u64,
+}
+
+/// The modules that were read and are held, each under its source. Contracts see the sources, each once, and how many hold each. Random
+/// keys keep a look-up from being slow for sources that are chosen to be; what is found doesn't depend on them.
 #[derive(Drop)]
 pub struct Store {
-    modules: IndexMap<Source, Arc<Module>, RandomState>,
+    modules: IndexMap<Source, Held, RandomState>,
 }
 
 impl Model for Store {
-    ghost use Rattle.std.specs.Prelude.{List, ℕ, IfSome};
-    ghost use Rattle.std.specs.Arc.{arc_value};
-    ghost use Rattle.std.specs.Str.{bytes_eq};
-    ghost use Rattle.indexmap.specs.IndexMap.{get, keys};
-    ghost use Rattle.pf_check.specs.Reads.{Reads, accepted_as};
+    ghost use Rattle.std.specs.Coded.{coded×, coded_list, coded_ℕ};
+    ghost use Rattle.pf_store.specs.Sources.{Kept};
+    ghost use Rattle.pf_store.specs.Held.{IsKept, kept_in};
 
-    ghost Value = { List (List ℕ) };
+    ghost Value = { Kept };
 
-    ghost view = { λ s. keys s.modules };
+    ghost coded = { coded_list (coded× (coded_list coded_ℕ) coded_ℕ) };
 
-    // The module under a source is what the source is read as.
-    ghost invariant = { λ s. (source : List ℕ)
-        → IfSome (get bytes_eq s.modules source) (λ m. Reads source (accepted_as (arc_value m))) };
+    ghost view = { λ s. kept_in s.modules.entries };
+
+    ghost invariant = { λ s. IsKept s.modules.entries };
 }
 
 impl Store {
@@ -50,30 +51,42 @@ impl Store {
         }
     }
 
-    /// The module that is kept under a source, with the bytes under which it is kept.
-    fn kept(&self, source: &Source) -> Result<Option<Stored>, NoMemory>
-        ensures { IfOk result (λ found. MatchOption found
-            (list_any (bytes_eq source.now) self.now ≡ false)
-            (λ s. (list_any (bytes_eq source.now) self.now ≡ true)
-            × (s.source ≡ source.now) × IsReadAs source.now s)) }
-    {
-        match self.modules.get_key_value(source) {
-            Some((kept, module)) => Ok(Some(Stored::of(kept, Arc::try_clone(module)?)?)),
-            None => Ok(None),
-        }
-    }
-
-    /// Keeps a module under its source.
-    fn keep(&mut self, stored: &Stored) -> Result<(), NoMemory>
-        ensures kept { OnOk result (self.new ≡ with_source self.old stored.now.source) }
+    /// One more holds the module that is kept under a source, which comes with the bytes under which it is kept.
+    fn hold_once_more(&mut self, source: &Source) -> Result<Option<Stored>, NoMemory>
+        ensures held { IfOk result (λ found. MatchOption found
+            ((holders self.old source.now ≡ 0) × (self.new ≡ self.old))
+            (λ s. (s.source ≡ source.now) × IsReadAs source.now s × HeldOnceMore source.now self.old self.new)) }
         ensures err { OnErr result (self.new ≡ self.old) }
     {
-        self.modules
-            .insert(stored.source().share()?, Arc::try_clone(stored.module())?)?;
+        let Some(index) = self.modules.get_index_of(source) else {
+            return Ok(None);
+        };
+        let held = &self.modules[index];
+        let Some(holders) = held.holders.checked_add(1) else {
+            return Err(NoMemory);
+        };
+        let stored = held.stored.share()?;
+        self.modules[index].holders = holders;
+        Ok(Some(stored))
+    }
+
+    /// Keeps a module under its source, which one holds.
+    fn keep(&mut self, stored: &Stored) -> Result<(), NoMemory>
+        requires read { IsReadAs stored.now.source stored.now }
+        requires new { holders self.old stored.now.source ≡ 0 }
+        ensures held { OnOk result (HeldOnceMore stored.now.source self.old self.new) }
+        ensures err { OnErr result (self.new ≡ self.old) }
+    {
+        let held = Held {
+            stored: stored.share()?,
+            holders: 1,
+        };
+        self.modules.insert(stored.source().share()?, held)?;
         Ok(())
     }
 
-    /// The module of a source, with the bytes that are kept: read and kept where no module of these bytes is kept yet.
+    /// The module of a source, with the bytes that are kept, and one more holds it: read and kept where no module of these bytes is kept
+    /// yet.
     pub fn take_or_read(
         &mut self,
         alloc: Global,
@@ -81,14 +94,30 @@ impl Store {
     ) -> Result<Stored, OrNoMemory<Refusal>>
         ensures read { IfOk result (λ s. (s.source ≡ source.now) × IsReadAs source.now s) }
         ensures fault { IfErr result (IsRefusalOf source.now) }
-        ensures kept { OnOk result (self.new ≡ with_source self.old source.now) }
+        ensures held { OnOk result (HeldOnceMore source.now self.old self.new) }
         ensures err { OnErr result (self.new ≡ self.old) }
     {
-        if let Some(kept) = self.kept(source)? {
+        if let Some(kept) = self.hold_once_more(source)? {
             return Ok(kept);
         }
         let stored = Stored::read(alloc, source)?;
         self.keep(&stored)?;
         Ok(stored)
+    }
+
+    /// One of those who hold the module of a source gives it up. With the last of them the module leaves the store.
+    pub fn give_up(&mut self, source: &Source)
+        requires { 1 ≤ holders self.old source.now }
+        ensures { HeldOnceLess source.now self.old self.new }
+    {
+        let Some(index) = self.modules.get_index_of(source) else {
+            return;
+        };
+        let holders = self.modules[index].holders;
+        if holders > 1 {
+            self.modules[index].holders = holders - 1;
+        } else {
+            self.modules.swap_remove_index(index);
+        }
     }
 }

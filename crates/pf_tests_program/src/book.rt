@@ -1,6 +1,6 @@
 //! Three projects at the book, project 0 among them: each is told what it is told alone.
 
-use pf_book::{Book, Order, Reply, Word};
+use pf_book::{Book, Order, Reply, Stage, Word};
 use pf_sched::{JobChoices, JobKind, JobResult};
 use pf_store::Source;
 use pf_terms::NoMemory;
@@ -20,12 +20,24 @@ fn came_of(alloc: Global, came: &JobResult) -> Result<String, Fail> {
     Ok(text)
 }
 
+fn stage_of(alloc: Global, stage: Stage) -> Result<String, Fail> {
+    let text = match stage {
+        Stage::Queued => format!(in alloc; "queued")?,
+        Stage::Running => format!(in alloc; "running")?,
+        Stage::Done => format!(in alloc; "done")?,
+    };
+    Ok(text)
+}
+
 /// A reply in words.
 fn described(alloc: Global, reply: Reply) -> Result<String, Fail> {
     let text = match reply {
         Reply::Module(number) => format!(in alloc; "module {number}")?,
         Reply::Ticket(number) => format!(in alloc; "ticket {number}")?,
         Reply::Result(filed) => came_of(alloc, filed.result())?,
+        Reply::Stage(stage) => stage_of(alloc, stage)?,
+        Reply::GivenUp => format!(in alloc; "given up")?,
+        Reply::Logged(count) => format!(in alloc; "{count} calls")?,
         Reply::Usage(used) => {
             format!(in alloc;
                 "{} {} {} {} {}",
@@ -109,23 +121,33 @@ fn projects_are_told_their_own(rt: HostRuntime) -> Result<(), Fail> {
     Ok(())
 }
 
-/// What one project is told in a round with its module and trial of this number.
+/// What one project is told in a round with its module and trial of this number, which it gives up then.
 fn told_in_round(alloc: Global, book: &mut Book, number: u64) -> Result<String, Fail> {
     let module = submitted(alloc, book, 0, SUM)?;
     let ticket = ordered(alloc, book, 0, number)?;
+    let queued = described(alloc, book.status(alloc, 0, number)?)?;
     let done = worked(alloc, book, 0, number)?;
     let report = fetched(alloc, book, 0, number)?;
-    Ok(format!(in alloc; "{module}, {ticket}, {done}, {report}")?)
+    let in_use = described(alloc, book.withdraw(alloc, 0, number)?)?;
+    let dropped = described(alloc, book.drop_trial(alloc, 0, number)?)?;
+    let withdrawn = described(alloc, book.withdraw(alloc, 0, number)?)?;
+    let round = format!(in alloc; "{module}, {ticket}, {queued}, {done}, {report}")?;
+    Ok(format!(in alloc; "{round}, {in_use}, {dropped}, {withdrawn}")?)
 }
 
 #[test]
-fn many_modules_and_trials_of_one_project(rt: HostRuntime) -> Result<(), Fail> {
+fn numbers_are_given_once(rt: HostRuntime) -> Result<(), Fail> {
     let alloc = rt.alloc();
     let mut book = Book::new(alloc, RandomState::new(&rt)?);
     for number in 1..100u64 {
         let told = told_in_round(alloc, &mut book, number)?;
-        let want = format!(in alloc; "module {number}, ticket {number}, true, 4 steps")?;
+        let want = format!(in alloc;
+            "module {number}, ticket {number}, queued, true, 4 steps, refused B4, given up, given up"
+        )?;
         assert_eq!(rt; told.as_str(), want.as_str());
     }
+    let all = used(alloc, &mut book, 0)?;
+    // Each round has 7 calls: a worker's work is none.
+    assert_eq!(rt; all.as_str(), "0 0 0 0 693");
     Ok(())
 }

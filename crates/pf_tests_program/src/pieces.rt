@@ -202,7 +202,7 @@ fn long_lines_and_many_replies_go_out_whole(rt: HostRuntime) -> Result<(), Fail>
     input.extend_from_slice(b"submit 7 300000\n")?;
     input.extend_from_slice(&vec![in alloc; b' '; 300_000]?)?;
     input.extend_from_slice(b"\nusage 7\nusages")?;
-    text.extend_from_slice(b"p7 refused E11\np7 usage 0 0 0 0 1\ncommand 20003 refused C1\n")?;
+    text.extend_from_slice(b"p7 refused Q2\np7 usage 0 0 0 0 1\ncommand 20003 refused C1\n")?;
     for size in [100, 4_096, 65_536, 1_000_000] {
         let told = tell(alloc, keys, &input, size, 0);
         assert!(rt; matches!(&told.answer, Ok(2)), "{size} bytes at once");

@@ -18,6 +18,14 @@ fn take(alloc: Global, store: &mut Store, text: &str) -> Result<Stored, Fail> {
     Ok(store.take_or_read(alloc, &source)?)
 }
 
+/// Takes a source and gives it up at once.
+fn take_and_give_up(alloc: Global, store: &mut Store, text: &str) -> Result<Stored, Fail> {
+    let source = source_of(alloc, text)?;
+    let stored = store.take_or_read(alloc, &source)?;
+    store.give_up(&source);
+    Ok(stored)
+}
+
 /// The refusal of a source, and nothing of one that is taken.
 fn refusal_of(alloc: Global, store: &mut Store, text: &str) -> Result<String, Fail> {
     let source = source_of(alloc, text)?;
@@ -42,6 +50,24 @@ fn same_bytes_share_their_module(rt: HostRuntime) -> Result<(), Fail> {
     assert_eq!(rt; Arc::strong_count(other.module()), 2);
     let third = second.share()?;
     assert_eq!(rt; Arc::strong_count(third.module()), 4);
+    Ok(())
+}
+
+#[test]
+fn a_module_leaves_with_its_last_holder(rt: HostRuntime) -> Result<(), Fail> {
+    let alloc = rt.alloc();
+    let mut store = Store::new(alloc, RandomState::new(&rt)?);
+    let first = take(alloc, &mut store, SUM)?;
+    let second = take_and_give_up(alloc, &mut store, SUM)?;
+    // The store's own share, the first one and the second one.
+    assert_eq!(rt; Arc::strong_count(second.module()), 3);
+    let other = take_and_give_up(alloc, &mut store, "-module(m).")?;
+    assert_eq!(rt; Arc::strong_count(other.module()), 1);
+    let again = take(alloc, &mut store, "-module(m).")?;
+    // It was read anew.
+    assert_eq!(rt; Arc::strong_count(again.module()), 2);
+    assert_eq!(rt; Arc::strong_count(other.module()), 1);
+    assert_eq!(rt; Arc::strong_count(first.module()), 3);
     Ok(())
 }
 

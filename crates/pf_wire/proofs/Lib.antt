@@ -1,4 +1,5 @@
 pub mod Cutting
+pub mod Happens
 pub mod Shorter
 pub mod Wholes
 pub mod Progress

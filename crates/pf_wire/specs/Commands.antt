@@ -5,7 +5,8 @@ use Rattle.std.specs.Option.{option_map}
 use Rattle.std.specs.Str.{bytes_eq}
 use Rattle.pf_text.specs.Numbers.{long_number_of, number_of, schedule_of}
 use Rattle.pf_model.specs.Meaning.{Choices, seed, schedule}
-use Rattle.pf_desks.specs.Desk.{submit, order, order_shrink, fetch, usage, once}
+use Rattle.pf_desks.specs.Desk.{Call, submit, order, order_shrink, fetch, status, drop_trial, withdraw, usage, log}
+use Rattle.pf_desks.specs.Work.{once}
 use Rattle.pf_desks.specs.World.{Step, client, worker}
 
 -- ---- lines and words
@@ -85,6 +86,13 @@ of_shrink (p ∷ m ∷ root ∷ property ∷ numbers ∷ runs ∷ limit ∷ []) 
     else None
 of_shrink _ = None
 
+-- P, or P and a number: a call of a project, which names nothing more or a number
+abbrev pub of_project : Call → List (List ℕ) → Option Asked
+of_project c ws = of_one (λ p. made (client p c)) ws
+
+abbrev pub of_call : (ℕ → Call) → List (List ℕ) → Option Asked
+of_call f ws = of_two (λ p n. made (client p (f n))) ws
+
 -- the first word names the command
 abbrev pub asked_by : List (List ℕ) → Option Asked
 asked_by [] = None
@@ -92,10 +100,14 @@ asked_by (w ∷ ws) =
     if bytes_eq w (codes "submit") then of_two submission ws
     else (if bytes_eq w (codes "order") then of_order ws
     else (if bytes_eq w (codes "shrink") then of_shrink ws
-    else (if bytes_eq w (codes "fetch") then of_two (λ p t. made (client p (fetch t))) ws
-    else (if bytes_eq w (codes "usage") then of_one (λ p. made (client p usage)) ws
+    else (if bytes_eq w (codes "fetch") then of_call fetch ws
+    else (if bytes_eq w (codes "status") then of_call status ws
+    else (if bytes_eq w (codes "drop") then of_call drop_trial ws
+    else (if bytes_eq w (codes "withdraw") then of_call withdraw ws
+    else (if bytes_eq w (codes "usage") then of_project usage ws
+    else (if bytes_eq w (codes "log") then of_project log ws
     else (if bytes_eq w (codes "once") then of_two (λ p t. made (worker p (once t))) ws
-    else None)))))
+    else None)))))))))
 
 -- ---- what some bytes begin with
 

@@ -1,5 +1,5 @@
 -- What the code's own lines and commands stand for.
-use Rattle.pf_desks.specs.Desk.{once}
+use Rattle.pf_desks.specs.Work.{once}
 use Rattle.pf_desks.specs.World.{Step, client, worker}
 use Rattle.pf_book.specs.View.{call_seen}
 use Rattle.pf_wire.specs.Commands as commands

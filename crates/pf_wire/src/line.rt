@@ -3,10 +3,11 @@
 ghost use Rattle.std.specs.Prelude.{◌≡◌, ◌==◌, ◌||◌, ◌∷◌, [], ℕ, None, MatchOption, IfOk};
 ghost use Rattle.std.specs.List.{list_any};
 ghost use Rattle.std.specs.Option.{option_map};
-ghost use Rattle.pf_desks.specs.Desk.{fetch, usage, once};
+ghost use Rattle.pf_desks.specs.Desk.{fetch, status, drop_trial, withdraw, usage, log};
+ghost use Rattle.pf_desks.specs.Work.{once};
 ghost use Rattle.pf_desks.specs.World.{client, worker};
 ghost use Rattle.pf_sched.specs.Views as jobs;
-ghost use Rattle.pf_wire.specs.Commands.{Asked, made, submission, choices_in, is_word, of_one, of_two, of_order, asked_by, words_of};
+ghost use Rattle.pf_wire.specs.Commands.{Asked, made, submission, choices_in, is_word, of_call, of_one, of_order, of_project, of_two, asked_by, words_of};
 ghost use Rattle.pf_wire.specs.View.{request_seen};
 
 use crate::command::Command;
@@ -61,18 +62,45 @@ fn read_submit(words: &[u8]) -> Option<Request>
 }
 
 fn read_fetch(words: &[u8]) -> Option<Request>
-    ensures { option_map request_seen result
-        ≡ of_two (λ p t. made (client p (fetch t))) (words_of words.now) }
+    ensures { option_map request_seen result ≡ of_call fetch (words_of words.now) }
 {
     let (project, ticket) = two_numbers(words)?;
     Some(Request::Made(Command::Client(project, Call::Fetch(u64::from(ticket)))))
 }
 
+fn read_status(words: &[u8]) -> Option<Request>
+    ensures { option_map request_seen result ≡ of_call status (words_of words.now) }
+{
+    let (project, ticket) = two_numbers(words)?;
+    Some(Request::Made(Command::Client(project, Call::Status(u64::from(ticket)))))
+}
+
+fn read_drop(words: &[u8]) -> Option<Request>
+    ensures { option_map request_seen result ≡ of_call drop_trial (words_of words.now) }
+{
+    let (project, ticket) = two_numbers(words)?;
+    Some(Request::Made(Command::Client(project, Call::DropTrial(u64::from(ticket)))))
+}
+
+fn read_withdraw(words: &[u8]) -> Option<Request>
+    ensures { option_map request_seen result ≡ of_call withdraw (words_of words.now) }
+{
+    let (project, module) = two_numbers(words)?;
+    Some(Request::Made(Command::Client(project, Call::Withdraw(u64::from(module)))))
+}
+
 fn read_usage(words: &[u8]) -> Option<Request>
-    ensures { option_map request_seen result ≡ of_one (λ p. made (client p usage)) (words_of words.now) }
+    ensures { option_map request_seen result ≡ of_project usage (words_of words.now) }
 {
     let project = one_number(words)?;
     Some(Request::Made(Command::Client(project, Call::Usage)))
+}
+
+fn read_log(words: &[u8]) -> Option<Request>
+    ensures { option_map request_seen result ≡ of_project log (words_of words.now) }
+{
+    let project = one_number(words)?;
+    Some(Request::Made(Command::Client(project, Call::Log)))
 }
 
 fn read_once(words: &[u8]) -> Option<Request>
@@ -177,8 +205,16 @@ pub(crate) fn read_line(alloc: Global, line: &[u8]) -> Result<Option<Request>, N
         read_shrink(alloc, words)
     } else if name == b"fetch".as_slice() {
         Ok(read_fetch(words))
+    } else if name == b"status".as_slice() {
+        Ok(read_status(words))
+    } else if name == b"drop".as_slice() {
+        Ok(read_drop(words))
+    } else if name == b"withdraw".as_slice() {
+        Ok(read_withdraw(words))
     } else if name == b"usage".as_slice() {
         Ok(read_usage(words))
+    } else if name == b"log".as_slice() {
+        Ok(read_log(words))
     } else if name == b"once".as_slice() {
         Ok(read_once(words))
     } else {

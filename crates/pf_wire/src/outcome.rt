@@ -60,7 +60,11 @@ fn make_call(alloc: Global, book: &mut Book, project: u32, call: Call) -> Result
         Call::Submit(source) => book.submit(alloc, project, source),
         Call::Order(order) => book.order(alloc, project, order),
         Call::Fetch(ticket) => book.fetch(alloc, project, ticket),
+        Call::Status(ticket) => book.status(alloc, project, ticket),
+        Call::DropTrial(ticket) => book.drop_trial(alloc, project, ticket),
+        Call::Withdraw(module) => book.withdraw(alloc, project, module),
         Call::Usage => book.usage(alloc, project),
+        Call::Log => book.log(alloc, project),
     }
 }
 

@@ -5,11 +5,11 @@ ghost use Rattle.std.specs.Fmt.{decimal};
 ghost use Rattle.pf_fault.specs.Codes.{code_text};
 ghost use Rattle.pf_model.specs.Reports.{report_of};
 ghost use Rattle.pf_model.specs.Text.{complete_text};
-ghost use Rattle.pf_desks.specs.Told.{lines_of, reply_head, reply_rest, reply_text, result_head, result_rest, usage_text};
+ghost use Rattle.pf_desks.specs.Told.{lines_of, reply_head, reply_rest, reply_text, result_head, result_rest, stage_text, usage_text};
 ghost use Rattle.pf_sched.specs.Views.{result_of};
-ghost use Rattle.pf_book.specs.View.{reply_seen};
+ghost use Rattle.pf_book.specs.View.{reply_seen, stage_seen};
 
-use pf_book::Reply;
+use pf_book::{Reply, Stage};
 use pf_fault::Code;
 use pf_model::report::Report;
 use pf_quota::Usage;
@@ -114,6 +114,17 @@ fn put_result_rest(
     }
 }
 
+/// Puts how far a trial is.
+fn put_stage(out: &mut Vec<u8>, stage: Stage) -> Result<(), NoMemory>
+    ensures { OnOk result (out.new.items ≡ out.old.items ++ stage_text (stage_seen stage)) }
+{
+    match stage {
+        Stage::Queued => put(out, b"queued"),
+        Stage::Running => put(out, b"running"),
+        Stage::Done => put(out, b"done"),
+    }
+}
+
 /// Puts what the first line of a reply says.
 fn put_head(alloc: Global, out: &mut Vec<u8>, reply: &Reply) -> Result<(), NoMemory>
     ensures { OnOk result (out.new.items ≡ out.old.items ++ reply_head (reply_seen reply.now)) }
@@ -128,9 +139,15 @@ fn put_head(alloc: Global, out: &mut Vec<u8>, reply: &Reply) -> Result<(), NoMem
             put_number(alloc, out, *ticket)
         }
         Reply::Result(told) => put_result_head(alloc, out, told.result()),
+        Reply::Stage(stage) => put_stage(out, *stage),
+        Reply::GivenUp => put(out, b"done"),
         Reply::Usage(usage) => {
             put(out, b"usage ")?;
             put_usage(alloc, out, *usage)
+        }
+        Reply::Logged(count) => {
+            put(out, b"log ")?;
+            put_number(alloc, out, *count)
         }
         Reply::Refused(refusal) => {
             put(out, b"refused ")?;

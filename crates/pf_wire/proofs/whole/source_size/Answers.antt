@@ -3,9 +3,10 @@ use Rattle.std.specs.Prelude.{codes, ◌&&◌, not, if◌then◌else◌}
 use Rattle.std.specs.Str.{bytes_eq}
 use Rattle.pf_text.specs.Numbers.{number_of, schedule_of}
 use Rattle.pf_model.specs.Meaning.{Choices}
-use Rattle.pf_desks.specs.Desk.{fetch, usage, once}
+use Rattle.pf_desks.specs.Desk.{Call, fetch, status, drop_trial, withdraw, usage, log}
+use Rattle.pf_desks.specs.Work.{once}
 use Rattle.pf_desks.specs.World.{Step, client, worker}
-use Rattle.pf_wire.specs.Commands.{Asked, choices_in, made, with_one, with_two, with_order, with_shrink, of_one, of_two, of_order, of_shrink, asked_by, words_of, is_word}
+use Rattle.pf_wire.specs.Commands.{Asked, choices_in, made, with_one, with_two, with_order, with_shrink, of_call, of_one, of_order, of_project, of_shrink, of_two, asked_by, words_of, is_word}
 use Rattle.pf_wire.specs.Whole.{size_in}
 use Rattle.pf_wire.proofs.whole.source_size.Goals as goal
 
@@ -78,22 +79,26 @@ not_true : (b : Bool) → not b ≡ true → b ≡ false
 not_true true h = absurd cc
 not_true false h = refl
 
+-- a line that is a call asks for no source
+project_made : (c : Call) (ws : List (List ℕ)) → size_in (of_project c ws) ≡ None
+project_made c ws = one_made (λ p. client p c) ws
+
+call_made : (f : ℕ → Call) (ws : List (List ℕ)) → size_in (of_call f ws) ≡ None
+call_made f ws = two_made (λ p n. client p (f n)) ws
+
 -- only a submission wants a source
 others_want_none : (w : List ℕ) (ws : List (List ℕ)) → bytes_eq w (codes "submit") ≡ false → size_in (asked_by (w ∷ ws)) ≡ None
 others_want_none w ws h =
-    let fetched = of_two (λ p t. made (client p (fetch t))) ws in
-    let used = of_one (λ p. made (client p usage)) ws in
     let worked = of_two (λ p t. made (worker p (once t))) ws in
-    let is_once = bytes_eq w (codes "once") in
-    let last = pick_none is_once worked None (two_made (λ p t. worker p (once t)) ws) refl in
-    let is_usage = bytes_eq w (codes "usage") in
-    let from_usage = pick_none is_usage used _ (one_made (λ p. client p usage) ws) last in
-    let is_fetch = bytes_eq w (codes "fetch") in
-    let from_fetch = pick_none is_fetch fetched _ (two_made (λ p t. client p (fetch t)) ws) from_usage in
-    let is_order = bytes_eq w (codes "order") in
-    let is_shrink = bytes_eq w (codes "shrink") in
-    let from_shrink = pick_none is_shrink (of_shrink ws) _ (shrink_made ws) from_fetch in
-    let from_order = pick_none is_order (of_order ws) _ (order_made ws) from_shrink in
+    let last = pick_none (bytes_eq w (codes "once")) worked None (two_made (λ p t. worker p (once t)) ws) refl in
+    let from_log = pick_none (bytes_eq w (codes "log")) (of_project log ws) _ (project_made log ws) last in
+    let from_usage = pick_none (bytes_eq w (codes "usage")) (of_project usage ws) _ (project_made usage ws) from_log in
+    let from_withdraw = pick_none (bytes_eq w (codes "withdraw")) (of_call withdraw ws) _ (call_made withdraw ws) from_usage in
+    let from_drop = pick_none (bytes_eq w (codes "drop")) (of_call drop_trial ws) _ (call_made drop_trial ws) from_withdraw in
+    let from_status = pick_none (bytes_eq w (codes "status")) (of_call status ws) _ (call_made status ws) from_drop in
+    let from_fetch = pick_none (bytes_eq w (codes "fetch")) (of_call fetch ws) _ (call_made fetch ws) from_status in
+    let from_shrink = pick_none (bytes_eq w (codes "shrink")) (of_shrink ws) _ (shrink_made ws) from_fetch in
+    let from_order = pick_none (bytes_eq w (codes "order")) (of_order ws) _ (order_made ws) from_shrink in
     rw h from_order
 
 pub returns-then-ne : goal.returns-then-ne

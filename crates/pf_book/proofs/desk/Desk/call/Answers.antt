@@ -1,43 +1,65 @@
-use Rattle.std.proofs.Common.{rules, ◌≡◌, List, [], ◌∷◌, ◌++◌, map, sym, ap, ◌∙◌, subst}
+use Rattle.std.proofs.Common.{rules, ◌≡◌, List, [], ◌∷◌, ◌++◌, map, None, Ok, refl, ap, ◌∙◌, subst}
 use Rattle.std.proofs.lemmas.List.{map_push}
-use Rattle.pf_desks.specs.Desk as desk
-use Rattle.pf_desks.specs.Desk.{Desk, called, with_entry, answered}
-use Rattle.pf_book.specs.Profile.{ForRight}
-use Rattle.pf_book.specs.View.{call_seen, reply_seen, entry_seen}
 use Rattle.pf_quota.specs.declared.charges.Charge.TheVariants as charge
-use Rattle.pf_quota.specs.Usage.{charged}
-use Rattle.pf_book.specs.declared.plan.Addition.{Addition}
-use Rattle.pf_book.specs.Plans.{with_addition, IsPlan, used_by}
+use Rattle.pf_quota.specs.Checks.{refusal_of}
+use Rattle.pf_desks.specs.Desk as desk
+use Rattle.pf_desks.specs.Desk.{Desk, Stored, Trial, called}
+use Rattle.pf_desks.specs.Calls.{HasRoom}
+use Rattle.pf_book.specs.Answers.{DeskAnswers}
 use Rattle.pf_book.specs.Kept.{desk_in}
+use Rattle.pf_book.specs.Plans.{with_change, IsPlan}
+use Rattle.pf_book.specs.Users.{holding}
+use Rattle.pf_book.specs.View.{call_seen, reply_seen, entry_seen}
 use Rattle.pf_book.specs.declared.entry.Entry.{Entry}
-use Rattle.pf_book.proofs.Called.{called_legal, called_sums}
+use Rattle.pf_book.proofs.Called.{has_room, changed_desk, called_answers, called_kept}
 use Rattle.pf_book.proofs.desk.Desk.call.Goals as goal
-use Rattle.pf_book.proofs.desk.Desk.call.Goals.{in-Nothing, in-Module+in_ok-push-in-Module, in-Trial+in_ok-push-in-Trial}
 
-pub invariant_of-self-2 : goal.invariant_of-self-2
-invariant_of-self-2 c =
-    let d = desk_in c.self.inside in
-    let m = c.match-addition-3.self-inside in
-    let a = c.in_ok-addition.addition in
-    let reply = reply_seen c.in_ok-addition.field-0.reply in
+pub invariant_of-self-3 : goal.invariant_of-self-3
+invariant_of-self-3 c =
+    let b = c.self.inside in
+    let d = desk_in b in
     let call = call_seen c.args.call in
-    let added : with_addition d a ≡ record { modules = m.modules.items; trials = m.trials.items; history = d.history } =
-    elim c.match-addition-3.branch [ in-Nothing w ↦ search rules | in-Module+in_ok-push-in-Module w ↦ search rules | in-Trial+in_ok-push-in-Trial w ↦ search rules ] in
-    let kept : m.history.items ≡ c.self.inside.history.items =
-    elim c.match-addition-3.branch [ in-Nothing w ↦ search rules | in-Module+in_ok-push-in-Module w ↦ search rules | in-Trial+in_ok-push-in-Trial w ↦ search rules ] in
-    let planned : IsPlan d call c.in_ok-addition.field-0 = subst (λ k. IsPlan k call c.in_ok-addition.field-0) (sym c.self.view_is) c.in_ok-addition.ensures in
-    let e = c.in_ok-addition.field-0.noted in
-    let longer : c.push_reserved.new.self.items ≡ c.self.inside.history.items ++ e ∷ [] = c.push_reserved.ensures.items ∙ ap (λ (l : List Entry). l ++ e ∷ []) kept in
-    let history : map entry_seen c.push_reserved.new.self.items ≡ d.history ++ called call reply ∷ [] =
-    ap (map entry_seen) longer ∙ map_push entry_seen c.self.inside.history.items e ∙ ap (λ (x : desk.Entry). d.history ++ x ∷ []) planned.1 in
-    let plan : ForRight (λ p. ◌≡◌ {A = Desk × desk.Reply} (with_addition d a, reply) (answered p d call)) =
-    λ p right. ap (λ (x : Addition). (with_addition d x, reply)) (sym c.in_ok-addition.addition-is) ∙ planned.0 p right in
-    let spent : c.in_ok-usage.usage ≡ charged (used_by c.self.inside.usage a) charge.Call = search rules in
-    let d' = desk_in (record { modules = m.modules; trials = m.trials; history = c.push_reserved.new.self; usage = c.in_ok-usage.usage }) in
-    let with_history : List desk.Entry → Desk = λ es. record { modules = m.modules.items; trials = m.trials.items; history = es } in
-    let is : d' ≡ with_entry (with_addition d a) (called call reply) =
-    ap with_history history ∙ ap (λ (k : Desk). with_entry k (called call reply)) (sym added) in
-    record {
-      legal = called_legal d d' call a reply is c.self.invariant.legal plan;
-      sums = spent ∙ called_sums d d' call a reply is c.self.inside.usage c.self.invariant.sums;
-    }
+    let plan = c.in_ok-change.field-0 in
+    let room = c.make_call_room in
+    let grown : Desk = record { modules = room.new.modules.items; trials = room.new.trials.items; history = map entry_seen room.new.history.items } in
+    let same : grown ≡ d = λ i. record { modules = room.ensures.modules i; trials = room.ensures.trials i; history = map entry_seen (room.ensures.history i) } in
+    let planned : IsPlan d call plan = subst (λ (k : Desk). IsPlan k call plan) same c.in_ok-change.ensures.plan in
+    let within : refusal_of b.usage charge.Call ≡ None = search rules in
+    let has : HasRoom d = has_room d b.usage c.self.invariant.sums within in
+    let e = called call (reply_seen plan.reply) in
+    let made : holding c.carry_out.new.modules.items c.carry_out.new.trials.items ≡ with_change (holding d.modules d.trials) plan.change =
+    c.carry_out.ensures.held
+    ∙ (λ i. with_change (holding (room.ensures.modules i) (room.ensures.trials i)) plan.change) in
+    let noted : map entry_seen c.push_reserved.new.self.items ≡ d.history ++ e ∷ [] =
+    ap (map entry_seen) (c.push_reserved.ensures.items ∙ ap (λ (l : List Entry). l ++ plan.noted ∷ []) room.ensures.history)
+    ∙ map_push entry_seen b.history.items plan.noted
+    ∙ ap (λ (x : desk.Entry). d.history ++ x ∷ []) planned.notes in
+    let is = changed_desk d plan.change e c.carry_out.new.modules.items c.carry_out.new.trials.items _ made noted in
+    called_kept d call plan planned has _ is _ refl refl c.carry_out.ensures.counts c.self.invariant.legal
+
+pub returns-clause-answer : goal.returns-clause-answer
+returns-clause-answer c =
+    let b = c.self.inside in
+    let d = desk_in b in
+    let call = call_seen c.args.call in
+    let plan = c.in_ok-change.field-0 in
+    let room = c.make_call_room in
+    let grown : Desk = record { modules = room.new.modules.items; trials = room.new.trials.items; history = map entry_seen room.new.history.items } in
+    let same : grown ≡ d = λ i. record { modules = room.ensures.modules i; trials = room.ensures.trials i; history = map entry_seen (room.ensures.history i) } in
+    let planned : IsPlan d call plan = subst (λ (k : Desk). IsPlan k call plan) same c.in_ok-change.ensures.plan in
+    let within : refusal_of b.usage charge.Call ≡ None = search rules in
+    let has : HasRoom d = has_room d b.usage c.self.invariant.sums within in
+    let e = called call (reply_seen plan.reply) in
+    let made : holding c.carry_out.new.modules.items c.carry_out.new.trials.items ≡ with_change (holding d.modules d.trials) plan.change =
+    c.carry_out.ensures.held
+    ∙ (λ i. with_change (holding (room.ensures.modules i) (room.ensures.trials i)) plan.change) in
+    let noted : map entry_seen c.push_reserved.new.self.items ≡ d.history ++ e ∷ [] =
+    ap (map entry_seen) (c.push_reserved.ensures.items ∙ ap (λ (l : List Entry). l ++ plan.noted ∷ []) room.ensures.history)
+    ∙ map_push entry_seen b.history.items plan.noted
+    ∙ ap (λ (x : desk.Entry). d.history ++ x ∷ []) planned.notes in
+    let is = changed_desk d plan.change e c.carry_out.new.modules.items c.carry_out.new.trials.items _ made noted in
+    let d' =
+    desk_in (record { modules = c.carry_out.new.modules; trials = c.carry_out.new.trials; history = c.push_reserved.new.self; users = c.carry_out.new.users; usage = plan.usage }) in
+    let answers : DeskAnswers d call (Ok plan.reply) d' =
+    called_answers d call plan planned has d' is plan.reply refl in
+    subst (λ (k : Desk). DeskAnswers k call (Ok plan.reply) d') c.self.view_is answers

@@ -1,45 +1,55 @@
-use Rattle.std.proofs.Common.{◌≡◌, ℕ, List, [], ◌∷◌, ◌++◌, map, Some, refl, sym, ap, ◌∙◌}
+use Rattle.std.proofs.Common.{◌≡◌, ℕ, List, [], ◌∷◌, ◌++◌, map, Option, Some, refl, sym, ap, ◌∙◌, subst}
 use Rattle.std.proofs.lemmas.List.{map_push}
-use Rattle.pf_desks.specs.Desk.{Desk, Trial, claimed, filed, once, worker_step}
+use Rattle.pf_desks.specs.Desk.{Desk, Trial, claimed, filed, marked_whole}
+use Rattle.pf_desks.specs.Work.{once, worker_step}
 use Rattle.pf_book.specs.View.{entry_seen}
 use Rattle.pf_book.specs.Queued.{job_at}
 use Rattle.pf_book.specs.Kept.{desk_in}
+use Rattle.pf_book.specs.Users.{CountUsers}
 use Rattle.pf_book.specs.declared.entry.Entry.{Entry}
 use Rattle.pf_book.specs.declared.entry.Entry.TheVariants.{Claimed, Filed}
 use Rattle.pf_desks.proofs.Histories.{legal_work}
-use Rattle.pf_book.proofs.Filed.{once_is, once_sums}
+use Rattle.pf_book.proofs.Filed.{once_is, once_sums, once_users}
 use Rattle.pf_book.proofs.desk.Desk.once.Goals as goal
 
 -- a claim and a file are noted
 noted : (t : ℕ) (es es1 es2 es3 : List Entry) → es1 ≡ es → es2 ≡ es1 ++ Claimed t ∷ [] → es3 ≡ es2 ++ Filed t ∷ []
-    → map entry_seen es3 ≡ (map entry_seen es ++ claimed t ∷ []) ++ filed t ∷ []
+    → map entry_seen es3 ≡ (map entry_seen es ++ claimed t ∷ []) ++ filed t marked_whole ∷ []
 noted t es es1 es2 es3 reserved claims files =
     ap (map entry_seen) (files ∙ ap (λ (l : List Entry). l ++ Filed t ∷ []) (claims ∙ ap (λ (l : List Entry). l ++ Claimed t ∷ []) reserved))
     ∙ map_push entry_seen (es ++ Claimed t ∷ []) (Filed t)
-    ∙ ap (λ l. l ++ filed t ∷ []) (map_push entry_seen es (Claimed t))
+    ∙ ap (λ l. l ++ filed t marked_whole ∷ []) (map_push entry_seen es (Claimed t))
 
 pub invariant_of-self-2 : goal.invariant_of-self-2
 invariant_of-self-2 c =
-    let d = desk_in c.self.inside in
+    let b = c.self.inside in
+    let d = desk_in b in
     let t = c.args.ticket in
     let j = c.in-Some.job.now.value in
     let r = c.in_ok-filed.filed.1 in
-    let waits : job_at d.trials t ≡ Some j = ap (λ (l : List Trial). job_at l t) (sym c.deref.ensures.value) ∙ sym c.in-Some.ensures in
-    let history = noted t c.self.inside.history.items _ _ _ c.make_room.ensures.items c.push_reserved.ensures.items c.push_reserved-2.ensures.items in
-    let d' = desk_in (record { modules = c.self.inside.modules; trials = c.file.new.trials; history = c.push_reserved-2.new.self; usage = c.self.inside.usage }) in
+    let waits : job_at d.trials t ≡ Some j = ap (λ (l : List (Option Trial)). job_at l t) (sym c.deref.ensures.value) ∙ sym c.in-Some.ensures in
+    let history = noted t b.history.items _ _ _ c.make_room.ensures.items c.push_reserved.ensures.items c.push_reserved-2.ensures.items in
+    let d' = desk_in (record { modules = b.modules; trials = c.file.new.trials; history = c.push_reserved-2.new.self; users = b.users; usage = b.usage }) in
+    let counts : CountUsers b.users.items b.modules.items b.trials.items = record { counted = c.self.invariant.counted; exact = c.self.invariant.users; used = c.self.invariant.used } in
+    let users : CountUsers b.users.items b.modules.items c.file.new.trials.items =
+    subst (λ (l : List (Option Trial)). CountUsers b.users.items b.modules.items l) (sym c.file.ensures) (once_users d j r t waits b.users.items b.modules.items counts) in
     record {
       legal = λ p right.
-          legal_work p d d' (once t) (once_is d j r d' refl p (right.means j r c.in_ok-filed.ensures.means) t waits c.file.ensures history) (c.self.invariant.legal p right);
-      sums = c.self.invariant.sums ∙ sym (once_sums d j r d' refl t waits c.file.ensures history);
+          legal_work p d d' (once t) (once_is d j r t waits d' refl c.file.ensures history p (right.means j r c.in_ok-filed.ensures.means)) (c.self.invariant.legal p right);
+      sums = c.self.invariant.sums ∙ sym (once_sums d j r t waits d' refl c.file.ensures history);
+      counted = users.counted;
+      users = users.exact;
+      used = users.used;
     }
 
-pub returns : goal.returns
-returns c =
-    let d = desk_in c.self.inside in
+pub returns-clause-work : goal.returns-clause-work
+returns-clause-work c =
+    let b = c.self.inside in
+    let d = desk_in b in
     let t = c.args.ticket in
     let j = c.in-Some.job.now.value in
     let r = c.in_ok-filed.filed.1 in
-    let waits : job_at d.trials t ≡ Some j = ap (λ (l : List Trial). job_at l t) (sym c.deref.ensures.value) ∙ sym c.in-Some.ensures in
-    let history = noted t c.self.inside.history.items _ _ _ c.make_room.ensures.items c.push_reserved.ensures.items c.push_reserved-2.ensures.items in
+    let waits : job_at d.trials t ≡ Some j = ap (λ (l : List (Option Trial)). job_at l t) (sym c.deref.ensures.value) ∙ sym c.in-Some.ensures in
+    let history = noted t b.history.items _ _ _ c.make_room.ensures.items c.push_reserved.ensures.items c.push_reserved-2.ensures.items in
     λ p right.
-    ap (λ (k : Desk). worker_step p k (once t)) (sym c.self.view_is) ∙ once_is d j r _ refl p (right.means j r c.in_ok-filed.ensures.means) t waits c.file.ensures history
+    ap (λ (k : Desk). worker_step p k (once t)) (sym c.self.view_is) ∙ once_is d j r t waits _ refl c.file.ensures history p (right.means j r c.in_ok-filed.ensures.means)

@@ -1,29 +1,34 @@
-use Rattle.std.proofs.Common.{rules, ◌≡◌, ℕ, ◌+◌, List, [], ◌∷◌, ◌++◌, length, refl, ap, ◌∙◌, subst}
+use Rattle.std.proofs.Common.{rules, ◌≡◌, ℕ, ◌+◌, List, length, None, refl, sym, ap, subst}
+use Rattle.pf_quota.specs.declared.charges.Charge.TheVariants as charge
+use Rattle.pf_quota.specs.Checks.{refusal_of}
+use Rattle.pf_quota.specs.Usage.{charged}
+use Rattle.pf_store.specs.Sources.{Kept, HeldOnceMore}
 use Rattle.pf_desks.specs.Desk as desk
-use Rattle.pf_fault.specs.declared.fault.OrNoMemory.TheVariants.{Fault}
-use Rattle.pf_check.specs.Reads.{IsRefusalOf}
-use Rattle.pf_book.specs.declared.refusal.Refusal.TheVariants as refusal
-use Rattle.pf_book.specs.declared.reply.Reply.TheVariants as reply
-use Rattle.pf_book.specs.declared.entry.Entry.TheVariants.{SubmitRefused}
-use Rattle.pf_book.specs.declared.plan.Addition.TheVariants.{Nothing}
-use Rattle.pf_book.proofs.Profiles.{submitted_read, submitted_refused}
+use Rattle.pf_book.proofs.Followed.{follows_module}
+use Rattle.pf_book.proofs.Planned.{source_planned}
 use Rattle.pf_book.proofs.desk.Desk.submission.Goals as goal
 
-pub returns-in_ok-share-in-Ok : goal.returns-in_ok-share-in-Ok
-returns-in_ok-share-in-Ok c =
+pub returns-in_ok-source_held-in-Ok-clause-plan : goal.returns-in_ok-source_held-in-Ok-clause-plan
+returns-in_ok-source_held-in-Ok-clause-plan c =
     let d = c.args.self.now in
+    let u = c.args.usage in
     let s = c.in-Ok.stored in
+    let text = c.args.source in
     let read = c.in-Ok.ensures.read in
     let many : c.len.result ≡ length d.modules = search rules in
-    let noted : c.in_ok-share-in-Ok.field-0 ≡ c.args.source = search rules in (
-      (λ p right. ap (λ n. (record d { modules = d.modules ++ s ∷ [] }, desk.number (n + 1))) many ∙ submitted_read p right d c.args.source s read.0 read.1),
-      ap (λ (text : List ℕ). desk.called (desk.submit text) (desk.number (c.len.result + 1))) noted,
-    )
+    let size : length c.bytes.result.now ≡ length text = ap length c.bytes.ensures in
+    let within : refusal_of u (charge.Module (length text)) ≡ None = search rules in
+    let uses : c.charge.new.self ≡ charged u (charge.Module (length text)) = search rules in
+    let noted : c.in_ok-source_held-in-Ok.field-0 ≡ text = search rules in
+    source_planned d u c.requires.charged _ text within s read.0 read.1 refl
+    (ap (λ n. desk.number (n + 1)) many) uses
+    (λ i. desk.called (desk.submit (noted i)) (desk.number (many i + 1)))
 
-pub returns-in-Err-Fault : goal.returns-in-Err-Fault
-returns-in-Err-Fault c =
-    let d = c.args.self.now in
-    let r = c.in-Err-Fault.refused in
-    let fault : IsRefusalOf c.args.source (Fault r) = subst (IsRefusalOf c.args.source) c.in-Err-Fault.field-0-is c.in-Err-Fault.ensures.fault in
-    let plan : c.reply_alone.result ≡ record { addition = Nothing; noted = SubmitRefused c.args.source (refusal.Source r.code); reply = reply.Refused (refusal.Source r.code) } = search rules in
-    rw plan (λ p right. submitted_refused p right d c.args.source r.code r.place fault, refl)
+pub returns-in_ok-source_held-in-Ok-clause-store : goal.returns-in_ok-source_held-in-Ok-clause-store
+returns-in_ok-source_held-in-Ok-clause-store c =
+    let s = c.in-Ok.stored in
+    let same : c.source_held.new.store ≡ c.take_or_read.new.self = search rules in
+    let held : HeldOnceMore s.source c.args.store.now c.take_or_read.new.self =
+    subst (λ (l : List ℕ). HeldOnceMore l c.args.store.now c.take_or_read.new.self) (sym c.in-Ok.ensures.read.0) c.in-Ok.ensures.held in
+    follows_module c.args.self.now c.args.store.now c.source_held.new.store s
+    (subst (λ (k : Kept). HeldOnceMore s.source c.args.store.now k) (sym same) held)

@@ -1,0 +1,168 @@
+-- What each call comes to.
+use Rattle.std.proofs.Common.{◌≡◌, ◌<◌, arith, ℕ, zero, suc, ◌+◌, List, [], ◌∷◌, ◌++◌, length, Option, Some, None, Result, Ok, Err, refl, sym, ap, ◌∙◌}
+use Rattle.std.specs.Option.{option_map}
+use Rattle.pf_fault.specs.declared.code.Code.{Code}
+use Rattle.pf_fault.specs.declared.code.Code.TheVariants as fault
+use Rattle.pf_quota.specs.declared.usage.Usage.{Usage}
+use Rattle.pf_quota.specs.declared.charges.Charge.TheVariants as charge
+use Rattle.pf_quota.specs.declared.charges.Held.TheVariants as held
+use Rattle.pf_quota.specs.declared.refusals.Refusal.{Refusal as Limit}
+use Rattle.pf_quota.specs.Charges.{steps_of_trial}
+use Rattle.pf_quota.specs.Checks.{refusal_of}
+use Rattle.pf_quota.specs.Refusals as quota
+use Rattle.pf_quota.specs.Usage.{charged, refunded}
+use Rattle.pf_check.specs.Reads.{accepted, refused, Reads}
+use Rattle.pf_desks.specs.Desk as desk
+use Rattle.pf_desks.specs.Desk.{Profile, Desk, Stored, Job, Trial, job_of, held_at, with_held}
+use Rattle.pf_desks.specs.Calls.{answered, within_limits, passed_by, submitted, ordered, dropped, withdrawn, with_job, users_of, usage_in}
+use Rattle.pf_sched.specs.Views.{choices_in, runs_asked}
+use Rattle.pf_sched.specs.declared.choices.JobKind.{JobKind}
+use Rattle.pf_sched.specs.declared.choices.JobKind.TheVariants as kind
+use Rattle.pf_book.specs.declared.call.Order.{Order}
+use Rattle.pf_book.specs.declared.plan.Plan.{Plan}
+use Rattle.pf_book.specs.Orders.{Asked}
+use Rattle.pf_book.specs.Plans.{with_change, IsPlan, IsCharged}
+use Rattle.pf_book.specs.Profile.{ForRight}
+use Rattle.pf_book.specs.View.{ordered_as, order_seen, entry_seen, reply_seen}
+use Rattle.pf_book.proofs.Profiles.{submitted_read, submitted_refused}
+use Rattle.pf_book.proofs.Sums.{module_charged, module_refunded, trial_charged, trial_refunded}
+
+abbrev Answer : Type 0
+Answer = Desk × desk.Reply
+
+module _ (d : Desk) (u : Usage) (counts : IsCharged d u) (plan : Plan) where
+  -- a plan that changes nothing
+  pub alone : (c : desk.Call) (r : desk.Reply) → with_change d plan.change ≡ d → reply_seen plan.reply ≡ r → plan.usage ≡ u
+      → ForRight (λ p. ◌≡◌ {A = Answer} (answered p d c) (d, r)) → entry_seen plan.noted ≡ desk.called c r → IsPlan d c plan
+  alone c r same told uses so noted = record {
+    answers = λ p right. (λ i. (same i, told i)) ∙ sym (so p right);
+    notes = noted ∙ ap (desk.called c) (sym told);
+    usage = uses ∙ counts ∙ ap (λ (k : Desk). charged (usage_in k) charge.Call) (sym same);
+  }
+
+  -- a plan that leads to another desk
+  changed : (c : desk.Call) (d' : Desk) (r : desk.Reply) → with_change d plan.change ≡ d' → reply_seen plan.reply ≡ r
+      → plan.usage ≡ charged (usage_in d') charge.Call
+      → ForRight (λ p. ◌≡◌ {A = Answer} (answered p d c) (d', r)) → entry_seen plan.noted ≡ desk.called c r → IsPlan d c plan
+  changed c d' r leads told uses so noted = record {
+    answers = λ p right. (λ i. (leads i, told i)) ∙ sym (so p right);
+    notes = noted ∙ ap (desk.called c) (sym told);
+    usage = uses ∙ ap (λ (k : Desk). charged (usage_in k) charge.Call) (sym leads);
+  }
+
+  -- ---- drops and withdrawals
+
+  pub drop_planned : (t : ℕ) (x : Trial) → held_at d.trials t ≡ Some x → with_change d plan.change ≡ record d { trials = with_held d.trials t None }
+      → reply_seen plan.reply ≡ desk.given_up → entry_seen plan.noted ≡ desk.called (desk.drop_trial t) desk.given_up
+      → plan.usage ≡ refunded u (held.Trial (steps_of_trial x.job.limit x.job.runs)) → IsPlan d (desk.drop_trial t) plan
+  drop_planned t x h leads told noted uses =
+      changed (desk.drop_trial t) (record d { trials = with_held d.trials t None }) desk.given_up leads told
+      (uses ∙ ap (λ (v : Usage). refunded v (held.Trial (steps_of_trial x.job.limit x.job.runs))) counts ∙ ap (λ (v : Usage). charged v charge.Call) (trial_refunded d t x h))
+      (λ p right. ap (dropped d t) h) noted
+
+  pub withdrawal_planned : (n : ℕ) (m : Stored) → held_at d.modules n ≡ Some m → users_of d n ≡ 0
+      → with_change d plan.change ≡ record d { modules = with_held d.modules n None }
+      → reply_seen plan.reply ≡ desk.given_up → entry_seen plan.noted ≡ desk.called (desk.withdraw n) desk.given_up
+      → plan.usage ≡ refunded u (held.Module (length m.source)) → IsPlan d (desk.withdraw n) plan
+  withdrawal_planned n m h free leads told noted uses =
+      changed (desk.withdraw n) (record d { modules = with_held d.modules n None }) desk.given_up leads told
+      (uses ∙ ap (λ (v : Usage). refunded v (held.Module (length m.source))) counts ∙ ap (λ (v : Usage). charged v charge.Call) (module_refunded d n m h))
+      (λ p right. ap (λ (o : Option Stored). withdrawn d n o (users_of d n)) h ∙ ap (withdrawn d n (Some m)) free) noted
+
+  -- a module that a held trial uses isn't withdrawn
+  pub withdrawal_in_use : (n : ℕ) (m : Stored) → held_at d.modules n ≡ Some m → 0 < users_of d n → with_change d plan.change ≡ d
+      → reply_seen plan.reply ≡ desk.refused fault.ModuleInUse → plan.usage ≡ u
+      → entry_seen plan.noted ≡ desk.called (desk.withdraw n) (desk.refused fault.ModuleInUse) → IsPlan d (desk.withdraw n) plan
+  withdrawal_in_use n m h some same told uses noted =
+      alone (desk.withdraw n) (desk.refused fault.ModuleInUse) same told uses
+      (λ p right. ap (λ (o : Option Stored). withdrawn d n o (users_of d n)) h ∙ by (users_of d n) some) noted
+    where
+      by : (k : ℕ) → 0 < k → ◌≡◌ {A = Answer} (withdrawn d n (Some m) k) (d, desk.refused fault.ModuleInUse)
+      by zero k = absurd (omega arith)
+      by (suc k) less = refl
+
+  -- ---- limits
+
+  -- a charge passes a limit with the call charged where it does without
+  module_limit : (b : ℕ) (o : Option Limit) → refusal_of u (charge.Module b) ≡ o → passed_by d (charge.Module b) ≡ option_map quota.code_of o
+  module_limit b o h = ap (option_map quota.code_of) (sym (ap (λ (v : Usage). refusal_of v (charge.Module b)) counts) ∙ h)
+
+  trial_limit : (n : ℕ) (o : Option Limit) → refusal_of u (charge.Trial n) ≡ o → passed_by d (charge.Trial n) ≡ option_map quota.code_of o
+  trial_limit n o h = ap (option_map quota.code_of) (sym (ap (λ (v : Usage). refusal_of v (charge.Trial n)) counts) ∙ h)
+
+  -- ---- submissions
+
+  module _ (text : List ℕ) where
+    pub source_past_limit : (limit : Limit) → refusal_of u (charge.Module (length text)) ≡ Some limit → with_change d plan.change ≡ d
+        → reply_seen plan.reply ≡ desk.refused (quota.code_of limit) → plan.usage ≡ u
+        → entry_seen plan.noted ≡ desk.called (desk.submit text) (desk.refused (quota.code_of limit)) → IsPlan d (desk.submit text) plan
+    source_past_limit limit past same told uses noted =
+        alone (desk.submit text) (desk.refused (quota.code_of limit)) same told uses
+        (λ p right. ap (λ (o : Option Code). within_limits d o (submitted d text (p.reading text))) (module_limit (length text) (Some limit) past)) noted
+
+    module _ (within : refusal_of u (charge.Module (length text)) ≡ None) where
+      no_limit : (p : Profile) → ◌≡◌ {A = Answer} (answered p d (desk.submit text)) (submitted d text (p.reading text))
+      no_limit p = ap (λ (o : Option Code). within_limits d o (submitted d text (p.reading text))) (module_limit (length text) None within)
+
+      pub source_no_module : (code : Code) (place : ℕ) → Reads text (refused code place) → with_change d plan.change ≡ d
+          → reply_seen plan.reply ≡ desk.refused code → plan.usage ≡ u
+          → entry_seen plan.noted ≡ desk.called (desk.submit text) (desk.refused code) → IsPlan d (desk.submit text) plan
+      source_no_module code place reads same told uses noted =
+          alone (desk.submit text) (desk.refused code) same told uses
+          (λ p right. no_limit p ∙ sym (submitted_refused p right d text code place reads)) noted
+
+      pub source_planned : (s : Stored) → s.source ≡ text → Reads text (accepted s.code.name s.code.atoms s.code.functions)
+          → with_change d plan.change ≡ record d { modules = d.modules ++ Some s ∷ [] }
+          → reply_seen plan.reply ≡ desk.number (length d.modules + 1) → plan.usage ≡ charged u (charge.Module (length text))
+          → entry_seen plan.noted ≡ desk.called (desk.submit text) (desk.number (length d.modules + 1)) → IsPlan d (desk.submit text) plan
+      source_planned s same reads leads told uses noted =
+          changed (desk.submit text) (record d { modules = d.modules ++ Some s ∷ [] }) (desk.number (length d.modules + 1)) leads told
+          (uses
+          ∙ ap (λ (v : Usage). charged v (charge.Module (length text))) counts
+          ∙ ap (λ (l : List ℕ). charged (charged (usage_in d) (charge.Module (length l))) charge.Call) (sym same)
+          ∙ ap (λ (v : Usage). charged v charge.Call) (module_charged d s))
+          (λ p right. no_limit p ∙ sym (submitted_read p right d text s same reads)) noted
+
+  -- ---- orders
+
+  module _ (o : Order) where
+    -- what an order is answered with, a shrinking too
+    order_answered : (p : Profile) → ◌≡◌ {A = Answer} (answered p d (order_seen o))
+        (ordered d o.module (job_of p (held_at d.modules o.module) o.root.items o.property.items (choices_in o.kind) o.limit (runs_asked o.kind)))
+    order_answered p = by o.kind
+      where
+        by : (k : JobKind) → ◌≡◌ {A = Answer} (answered p d (ordered_as o.module o.root.items o.property.items k o.limit))
+            (ordered d o.module (job_of p (held_at d.modules o.module) o.root.items o.property.items (choices_in k) o.limit (runs_asked k)))
+        by (kind.Trial cs) = refl
+        by (kind.Shrinking numbers runs) = refl
+
+    asked_answered : (r : Result Job Code) → Asked d.modules o r → ForRight (λ p. ◌≡◌ {A = Answer} (answered p d (order_seen o)) (ordered d o.module r))
+    asked_answered r asked p right = order_answered p ∙ ap (ordered d o.module) (asked p right)
+
+    pub order_refused : (code : Code) → Asked d.modules o (Err code) → with_change d plan.change ≡ d
+        → reply_seen plan.reply ≡ desk.refused code → plan.usage ≡ u
+        → entry_seen plan.noted ≡ desk.called (order_seen o) (desk.refused code) → IsPlan d (order_seen o) plan
+    order_refused code asked same told uses noted =
+        alone (order_seen o) (desk.refused code) same told uses (asked_answered (Err code) asked) noted
+
+    module _ (j : Job) (asked : Asked d.modules o (Ok j)) where
+      pub order_past_limit : (limit : Limit) → refusal_of u (charge.Trial (steps_of_trial j.limit j.runs)) ≡ Some limit → with_change d plan.change ≡ d
+          → reply_seen plan.reply ≡ desk.refused (quota.code_of limit) → plan.usage ≡ u
+          → entry_seen plan.noted ≡ desk.called (order_seen o) (desk.refused (quota.code_of limit)) → IsPlan d (order_seen o) plan
+      order_past_limit limit past same told uses noted =
+          alone (order_seen o) (desk.refused (quota.code_of limit)) same told uses
+          (λ p right. asked_answered (Ok j) asked p right
+          ∙ ap (λ (x : Option Code). within_limits d x (with_job d o.module j, desk.ticket (length d.trials + 1)))
+          (trial_limit (steps_of_trial j.limit j.runs) (Some limit) past)) noted
+
+      pub order_planned : refusal_of u (charge.Trial (steps_of_trial j.limit j.runs)) ≡ None → with_change d plan.change ≡ with_job d o.module j
+          → reply_seen plan.reply ≡ desk.ticket (length d.trials + 1) → plan.usage ≡ charged u (charge.Trial (steps_of_trial j.limit j.runs))
+          → entry_seen plan.noted ≡ desk.called (order_seen o) (desk.ticket (length d.trials + 1)) → IsPlan d (order_seen o) plan
+      order_planned within leads told uses noted =
+          changed (order_seen o) (with_job d o.module j) (desk.ticket (length d.trials + 1)) leads told
+          (uses
+          ∙ ap (λ (v : Usage). charged v (charge.Trial (steps_of_trial j.limit j.runs))) counts
+          ∙ ap (λ (v : Usage). charged v charge.Call) (trial_charged d (record { module_number = o.module; job = j; state = desk.queued })))
+          (λ p right. asked_answered (Ok j) asked p right
+          ∙ ap (λ (x : Option Code). within_limits d x (with_job d o.module j, desk.ticket (length d.trials + 1)))
+          (trial_limit (steps_of_trial j.limit j.runs) None within)) noted

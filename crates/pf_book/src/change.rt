@@ -1,0 +1,70 @@
+//! The changes of what a desk holds, for which there is room: they want no memory.
+
+ghost use Rattle.std.specs.Prelude.{◌≡◌, ◌+◌, ◌-◌, ◌<◌, ◌≤◌, ◌^◌, length, slice_index, slice_set};
+ghost use Rattle.std.specs.Vec.{vec_len, vec_capacity};
+ghost use Rattle.pf_book.specs.Plans.{with_change, CanChange};
+ghost use Rattle.pf_book.specs.Users.{holding, CountUsers};
+
+use crate::numbers::give_up;
+use crate::plan::Change;
+use crate::trial::Trial;
+use pf_store::Stored;
+
+/// Changes what a desk holds, with the counts of the held trials that use each module.
+pub(crate) fn carry_out(
+    modules: &mut Vec<Option<Stored>>,
+    trials: &mut Vec<Option<Trial>>,
+    users: &mut Vec<u64>,
+    change: Change,
+)
+    requires modules { vec_len modules.old < vec_capacity modules.old }
+    requires trials { vec_len trials.old < vec_capacity trials.old }
+    requires users { vec_len users.old < vec_capacity users.old }
+    requires counts { CountUsers users.old.items modules.old.items trials.old.items }
+    requires can { CanChange (holding modules.old.items trials.old.items) change }
+    ensures held { holding modules.new.items trials.new.items
+        ≡ with_change (holding modules.old.items trials.old.items) change }
+    ensures counts { CountUsers users.new.items modules.new.items trials.new.items }
+{
+    match change {
+        Change::Nothing => {}
+        Change::Module(stored) => {
+            modules.push_reserved(Some(stored));
+            users.push_reserved(0);
+        }
+        Change::Trial(number, job) => {
+            trials.push_reserved(Some(Trial::new(number, job)));
+            one_more(users, number);
+        }
+        Change::DropTrial(ticket) => {
+            if let Some(trial) = give_up(trials, ticket) {
+                one_less(users, trial.module_number());
+            }
+        }
+        Change::Withdraw(number) => {
+            give_up(modules, number);
+        }
+    }
+}
+
+/// One trial more uses the module of a number.
+fn one_more(users: &mut Vec<u64>, number: u64)
+    requires from { 1 ≤ number }
+    requires to { number ≤ length users.old.items }
+    requires fits { slice_index users.old.items (number - 1) + 1 < 2 ^ 64 }
+    ensures { users.new.items
+        ≡ slice_set users.old.items (number - 1) (slice_index users.old.items (number - 1) + 1) }
+{
+    users[number as usize - 1] += 1;
+}
+
+/// One trial less uses the module of a number.
+fn one_less(users: &mut Vec<u64>, number: u64)
+    requires from { 1 ≤ number }
+    requires to { number ≤ length users.old.items }
+    requires used { 1 ≤ slice_index users.old.items (number - 1) }
+    ensures { users.new.items
+        ≡ slice_set users.old.items (number - 1) (slice_index users.old.items (number - 1) - 1) }
+{
+    users[number as usize - 1] -= 1;
+}

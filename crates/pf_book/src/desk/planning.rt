@@ -1,0 +1,260 @@
+//! What each call to a desk comes to.
+
+ghost use Rattle.std.specs.Prelude.{◌≡◌, ◌≤◌, IfOk, IsSome, MatchResult, OnErr, OnOk, Ok};
+ghost use Rattle.pf_desks.specs.Desk as desk;
+ghost use Rattle.pf_desks.specs.Desk.{held_at};
+ghost use Rattle.pf_desks.specs.Calls.{fetched};
+ghost use Rattle.pf_store.specs.Sources.{holders, HeldOnceLess};
+ghost use Rattle.pf_book.specs.View.{order_seen, code_of};
+ghost use Rattle.pf_book.specs.Kept.{Counts};
+ghost use Rattle.pf_book.specs.Orders.{Asked};
+ghost use Rattle.pf_book.specs.Plans.{IsPlan, IsCharged, CanChange, KeepsModules, FollowsPlan};
+
+use crate::call::Order;
+use crate::desk::Desk;
+use crate::entry::Entry;
+use crate::job::job_of;
+use crate::numbers::numbered;
+use crate::plan::{Change, Plan};
+use crate::refusal::Refusal;
+use crate::reply::{FiledResult, Reply};
+use crate::trial::Trial;
+use pf_fault::OrNoMemory;
+use pf_quota::{Charge, Held, Usage, trial_steps};
+use pf_sched::Job;
+use pf_store::{Source, Store, Stored};
+use pf_terms::NoMemory;
+use std::alloc::Global;
+use std::sync::Arc;
+
+impl Desk {
+    pub(super) fn submission(
+        &self,
+        alloc: Global,
+        store: &mut Store,
+        source: Source,
+        usage: Usage,
+    ) -> Result<Plan, NoMemory>
+        requires charged { IsCharged self.now usage }
+        ensures plan { IfOk result (λ p. IsPlan self.now (desk.submit source) p) }
+        ensures can { IfOk result (λ p. CanChange self.now p.change) }
+        ensures store { FollowsPlan store.old store.new self.now result }
+    {
+        let mut with_module = usage;
+        let bytes = source.bytes().len() as u64;
+        if let Err(limit) = with_module.charge(Charge::Module { bytes }) {
+            return Ok(source_refused(source, Refusal::PastLimit(limit), usage));
+        }
+        match store.take_or_read(alloc, &source) {
+            Ok(stored) => {
+                let number = self.modules.len() as u64 + 1;
+                Ok(Plan {
+                    noted: Entry::Submitted(source_held(store, &stored)?, number),
+                    change: Change::Module(stored),
+                    reply: Reply::Module(number),
+                    usage: with_module,
+                })
+            }
+            Err(OrNoMemory::NoMemory) => Err(NoMemory),
+            Err(OrNoMemory::Fault(refused)) => {
+                Ok(source_refused(source, Refusal::Source(refused.code), usage))
+            }
+        }
+    }
+
+    pub(super) fn ordering(
+        &self,
+        alloc: Global,
+        order: Order,
+        usage: Usage,
+    ) -> Result<Plan, NoMemory>
+        requires charged { IsCharged self.now usage }
+        ensures plan { IfOk result (λ p. IsPlan self.now (order_seen order) p) }
+        ensures can { IfOk result (λ p. CanChange self.now p.change) }
+        ensures modules { IfOk result (λ p. KeepsModules p.change) }
+    {
+        let order = Arc::new(alloc, order)?;
+        match job_of(alloc, &self.modules, &order) {
+            Ok(job) => Ok(self.ordered(order, job, usage)),
+            Err(OrNoMemory::NoMemory) => Err(NoMemory),
+            Err(OrNoMemory::Fault(refusal)) => {
+                let noted = Entry::OrderRefused(order, refusal);
+                Ok(Plan::reply_alone(noted, Reply::Refused(refusal), usage))
+            }
+        }
+    }
+
+    /// A job that was ordered, of a module that is held: one ticket more, where the project passes no limit with it.
+    fn ordered(&self, order: Arc<Order>, job: Arc<Job>, usage: Usage) -> Plan
+        requires charged { IsCharged self.now usage }
+        requires asked { Asked self.now.modules order.value (Ok job.value) }
+        requires held { IsSome (held_at self.now.modules order.value.module) }
+        ensures plan { IsPlan self.now (order_seen order.value) result }
+        ensures can { CanChange self.now result.change }
+        ensures modules { KeepsModules result.change }
+    {
+        let mut with_trial = usage;
+        let steps = trial_steps(job.limit(), job.runs());
+        if let Err(limit) = with_trial.charge(Charge::Trial { steps }) {
+            let refusal = Refusal::PastLimit(limit);
+            let noted = Entry::OrderRefused(order, refusal);
+            return Plan::reply_alone(noted, Reply::Refused(refusal), usage);
+        }
+        let ticket = self.trials.len() as u64 + 1;
+        Plan {
+            change: Change::Trial(order.module, job),
+            noted: Entry::Ordered(order, ticket),
+            reply: Reply::Ticket(ticket),
+            usage: with_trial,
+        }
+    }
+
+    pub(super) fn fetching(&self, ticket: u64, usage: Usage) -> Result<Plan, NoMemory>
+        requires charged { IsCharged self.now usage }
+        ensures plan { IfOk result (λ p. IsPlan self.now (desk.fetch ticket) p) }
+        ensures nothing { IfOk result (λ p. p.change ≡ Change.Nothing) }
+    {
+        match filed_result(&self.trials, ticket) {
+            Ok(filed) => {
+                let noted = Entry::Fetched(ticket, filed.share()?);
+                Ok(Plan::reply_alone(noted, Reply::Result(filed.share()?), usage))
+            }
+            Err(refusal) => {
+                let noted = Entry::FetchRefused(ticket, refusal);
+                Ok(Plan::reply_alone(noted, Reply::Refused(refusal), usage))
+            }
+        }
+    }
+
+    pub(super) fn standing(&self, ticket: u64, usage: Usage) -> Plan
+        requires charged { IsCharged self.now usage }
+        ensures plan { IsPlan self.now (desk.status ticket) result }
+        ensures nothing { result.change ≡ Change.Nothing }
+    {
+        match numbered(&self.trials, ticket) {
+            Some(trial) => {
+                let stage = trial.stage();
+                Plan::reply_alone(Entry::Stood(ticket, stage), Reply::Stage(stage), usage)
+            }
+            None => {
+                let refusal = Refusal::NoTrial;
+                let noted = Entry::StatusRefused(ticket, refusal);
+                Plan::reply_alone(noted, Reply::Refused(refusal), usage)
+            }
+        }
+    }
+
+    pub(super) fn dropping(&self, ticket: u64, usage: Usage) -> Plan
+        requires charged { IsCharged self.now usage }
+        ensures plan { IsPlan self.now (desk.drop_trial ticket) result }
+        ensures can { CanChange self.now result.change }
+        ensures modules { KeepsModules result.change }
+    {
+        let Some(trial) = numbered(&self.trials, ticket) else {
+            let refusal = Refusal::NoTrial;
+            let noted = Entry::DropRefused(ticket, refusal);
+            return Plan::reply_alone(noted, Reply::Refused(refusal), usage);
+        };
+        let mut without = usage;
+        without.refund(trial.held());
+        Plan {
+            change: Change::DropTrial(ticket),
+            noted: Entry::Dropped(ticket),
+            reply: Reply::GivenUp,
+            usage: without,
+        }
+    }
+
+    pub(super) fn withdrawal(&self, store: &mut Store, number: u64, usage: Usage) -> Plan
+        requires counts { Counts store.old self.now }
+        requires charged { IsCharged self.now usage }
+        ensures plan { IsPlan self.now (desk.withdraw number) result }
+        ensures can { CanChange self.now result.change }
+        ensures store { FollowsPlan store.old store.new self.now (Ok result) }
+    {
+        let Some(held) = numbered(&self.modules, number) else {
+            return withdrawal_refused(number, Refusal::NoModule, usage);
+        };
+        if self.users[number as usize - 1] > 0 {
+            return withdrawal_refused(number, Refusal::ModuleInUse, usage);
+        }
+        let mut without = usage;
+        without.refund(Held::Module {
+            bytes: held.size() as u64,
+        });
+        store.give_up(held.source());
+        Plan {
+            change: Change::Withdraw(number),
+            noted: Entry::Withdrawn(number),
+            reply: Reply::GivenUp,
+            usage: without,
+        }
+    }
+
+    pub(super) fn using(&self, alloc: Global, usage: Usage) -> Result<Plan, NoMemory>
+        requires charged { IsCharged self.now usage }
+        ensures plan { IfOk result (λ p. IsPlan self.now desk.usage p) }
+        ensures nothing { IfOk result (λ p. p.change ≡ Change.Nothing) }
+    {
+        let noted = Entry::Used(Box::new(alloc, self.usage)?);
+        Ok(Plan::reply_alone(noted, Reply::Usage(self.usage), usage))
+    }
+
+    pub(super) fn counting(&self, usage: Usage) -> Plan
+        requires charged { IsCharged self.now usage }
+        ensures plan { IsPlan self.now desk.log result }
+        ensures nothing { result.change ≡ Change.Nothing }
+    {
+        let calls = self.usage.calls;
+        Plan::reply_alone(Entry::Counted(calls), Reply::Logged(calls), usage)
+    }
+}
+
+/// What came of the trial of a ticket, where it is filed.
+fn filed_result(trials: &[Option<Trial>], ticket: u64) -> Result<&FiledResult, Refusal>
+    ensures { MatchResult result
+        (λ r. fetched (held_at trials.now ticket) ≡ desk.result r.now.0 r.now.1)
+        (λ e. fetched (held_at trials.now ticket) ≡ desk.refused (code_of e)) }
+{
+    numbered(trials, ticket).ok_or(Refusal::NoTrial)?.filed()
+}
+
+/// A source that is refused.
+fn source_refused(source: Source, refusal: Refusal, usage: Usage) -> Plan
+    ensures { result ≡ record {
+      change = Change.Nothing;
+      noted = Entry.SubmitRefused source refusal;
+      reply = Reply.Refused refusal;
+      usage = usage;
+    } }
+{
+    let noted = Entry::SubmitRefused(source, refusal);
+    Plan::reply_alone(noted, Reply::Refused(refusal), usage)
+}
+
+/// To withdraw a module is refused.
+fn withdrawal_refused(number: u64, refusal: Refusal, usage: Usage) -> Plan
+    ensures { result ≡ record {
+      change = Change.Nothing;
+      noted = Entry.WithdrawRefused number refusal;
+      reply = Reply.Refused refusal;
+      usage = usage;
+    } }
+{
+    let noted = Entry::WithdrawRefused(number, refusal);
+    Plan::reply_alone(noted, Reply::Refused(refusal), usage)
+}
+
+/// The bytes under which a module is kept that the store counts one holder more of. Where memory runs out it counts one less again.
+fn source_held(store: &mut Store, stored: &Stored) -> Result<Source, NoMemory>
+    requires { 1 ≤ holders store.old stored.now.source }
+    ensures source { IfOk result (λ s. s ≡ stored.now.source) }
+    ensures ok { OnOk result (store.new ≡ store.old) }
+    ensures err { OnErr result (HeldOnceLess stored.now.source store.old store.new) }
+{
+    let source = stored.source().share();
+    if source.is_err() {
+        store.give_up(stored.source());
+    }
+    source
+}

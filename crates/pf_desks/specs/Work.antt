@@ -1,0 +1,82 @@
+-- The work of workers at a desk: claims, files and hand-backs, and a trial run whole.
+use Rattle.std.specs.Prelude.{ℕ, Bool, true, false, if◌then◌else◌, List, [], Option, Some, None, option_and_then}
+use Rattle.std.specs.Option.{option_map}
+use Rattle.pf_model.specs.Meaning.{Report}
+use Rattle.pf_model.specs.Properties as properties
+use Rattle.pf_model.specs.Shrinking as shrinking
+use Rattle.pf_desks.specs.Desk.{Job, State, queued, running, done, Trial, Desk, held_at, with_held, Profile, Mark, marked_whole, marked_memory, claimed, filed, handed_back}
+use Rattle.pf_desks.specs.Calls.{with_entry}
+
+abbrev pub is_queued_state : State → Bool
+is_queued_state queued = true
+is_queued_state running = false
+is_queued_state (done r) = false
+
+abbrev pub is_running_state : State → Bool
+is_running_state queued = false
+is_running_state running = true
+is_running_state (done r) = false
+
+abbrev pub is_queued : Option Trial → Bool
+is_queued None = false
+is_queued (Some t) = is_queued_state t.state
+
+abbrev pub is_running : Option Trial → Bool
+is_running None = false
+is_running (Some t) = is_running_state t.state
+
+-- the trial in the state which this makes of its job
+abbrev pub in_state : (Job → State) → Trial → Trial
+in_state f t = record t { state = f t.job }
+
+-- the trials, that of a ticket in the state which this makes of its job
+abbrev pub with_state : List (Option Trial) → ℕ → (Job → State) → List (Option Trial)
+with_state ts t f = with_held ts t (option_map (in_state f) (held_at ts t))
+
+-- what is told of a job for which memory ran out: no event, no step and no verdict
+abbrev pub memory_report : Report
+memory_report = record { events = []; outcome = properties.memory; steps = 0; verdict = None }
+
+-- what a file puts, by its mark
+abbrev pub result_marked : Profile → Mark → Job → shrinking.Result
+result_marked p marked_whole j = p.meaning j
+result_marked p marked_memory j = shrinking.report memory_report
+
+-- a claim: what was queued is running
+abbrev pub after_claim : Desk → ℕ → Desk
+after_claim d t = with_entry (record d { trials = with_state d.trials t (λ j. running) }) (claimed t)
+
+-- a file: what was running is done
+abbrev pub after_file : Profile → Desk → ℕ → Mark → Desk
+after_file p d t m = with_entry (record d { trials = with_state d.trials t (λ j. done (result_marked p m j)) }) (filed t m)
+
+-- a hand-back: what was running is queued again
+abbrev pub after_back : Desk → ℕ → Desk
+after_back d t = with_entry (record d { trials = with_state d.trials t (λ j. queued) }) (handed_back t)
+
+-- what a worker does at the trial of a ticket: it claims it, it files what came of it under a mark, it hands it back, or it runs it
+-- whole, from claim to file
+pub data Work : Type 0 where
+  claim : ℕ → Work
+  file : ℕ → Mark → Work
+  hand_back : ℕ → Work
+  once : ℕ → Work
+
+-- only what is queued is claimed
+abbrev pub claim_step : Desk → ℕ → Option Desk
+claim_step d t = if is_queued (held_at d.trials t) then Some (after_claim d t) else None
+
+-- only what is running is filed
+abbrev pub file_step : Profile → Desk → ℕ → Mark → Option Desk
+file_step p d t m = if is_running (held_at d.trials t) then Some (after_file p d t m) else None
+
+-- only what is running is handed back
+abbrev pub back_step : Desk → ℕ → Option Desk
+back_step d t = if is_running (held_at d.trials t) then Some (after_back d t) else None
+
+-- the desk after a worker's step, where the step can be done
+abbrev pub worker_step : Profile → Desk → Work → Option Desk
+worker_step p d (claim t) = claim_step d t
+worker_step p d (file t m) = file_step p d t m
+worker_step p d (hand_back t) = back_step d t
+worker_step p d (once t) = option_and_then (λ k. file_step p k t marked_whole) (claim_step d t)

@@ -1,0 +1,21 @@
+-- What the fields of the store stand for, and what is true of them.
+use Rattle.std.specs.Prelude.{◌≡◌, ℕ, List, map, IfSome}
+use Rattle.std.specs.Map.{lookup}
+use Rattle.std.specs.Str.{bytes_eq}
+use Rattle.pf_store.specs.Sources.{Kept, IsReadAs, IsAllHeld}
+use Rattle.pf_store.specs.declared.store.Held.{Held}
+
+-- the modules that are kept, each under its source
+abbrev pub Modules : Type 0
+Modules = List (List ℕ × Held)
+
+abbrev pub kept_in : Modules → Kept
+kept_in es = map (λ e. (e.0, e.1.holders)) es
+
+-- the module under a source has it as its source, and is what it is read as
+abbrev pub IsOf : List ℕ → Held → Type 0
+IsOf source h = (h.stored.source ≡ source) × IsReadAs source h.stored
+
+-- each source has its module, and somebody holds it
+abbrev pub IsKept : Modules → Type 0
+IsKept es = ((source : List ℕ) → IfSome (lookup (bytes_eq source) es) (IsOf source)) × IsAllHeld (kept_in es)

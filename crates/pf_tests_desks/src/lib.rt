@@ -1,0 +1,5 @@
+//! Tests of the limits of desks.
+#![tactic(auto)]
+
+#[cfg(test)]
+mod limits;
