@@ -1,8 +1,8 @@
 //! Each limit of a desk is reached at its number, and passed by one more. Memory is ample: no call may want it.
 
-use pf_book::{Book, Order, Reply, Word};
+use crate::told::{described, order_of, source_of};
+use pf_book::{Book, Reply};
 use pf_sched::{JobChoices, JobKind};
-use pf_store::Source;
 use pf_terms::NoMemory;
 use std::alloc::Global;
 use std::hash::RandomState;
@@ -22,23 +22,6 @@ enum Ask {
     Log,
 }
 
-fn source_of(alloc: Global, size: usize) -> Result<Source, Fail> {
-    let sum = "-module(m). -export([main/0]). main() -> 1 + 2 * 3.";
-    let mut bytes = Vec::from_slice(alloc, sum.as_bytes())?;
-    bytes.resize(size, b' ')?;
-    Ok(Source::new(alloc, bytes)?)
-}
-
-fn order_of(alloc: Global, kind: JobKind, limit: u32) -> Result<Order, Fail> {
-    Ok(Order {
-        module: 1,
-        root: Word::from_slice(alloc, b"main")?,
-        property: Word::from_slice(alloc, b"returns")?,
-        kind,
-        limit,
-    })
-}
-
 fn shrinking_of(alloc: Global, runs: u32) -> Result<JobKind, Fail> {
     let schedule = Arc::new(alloc, Vec::new(alloc)).or(Err(NoMemory))?;
     Ok(JobKind::Shrinking { schedule, runs })
@@ -50,34 +33,16 @@ fn replied(alloc: Global, book: &mut Book, project: u32, ask: Ask) -> Result<Rep
         Ask::Submit(size) => book.submit(alloc, project, source_of(alloc, size)?)?,
         Ask::Order(limit) => {
             let kind = JobKind::Trial(JobChoices::Seed(0));
-            book.order(alloc, project, order_of(alloc, kind, limit)?)?
+            book.order(alloc, project, order_of(alloc, 1, kind, limit)?)?
         }
         Ask::Shrink(runs, limit) => {
             let kind = shrinking_of(alloc, runs)?;
-            book.order(alloc, project, order_of(alloc, kind, limit)?)?
+            book.order(alloc, project, order_of(alloc, 1, kind, limit)?)?
         }
         Ask::Usage => book.usage(alloc, project)?,
         Ask::Log => book.log(alloc, project)?,
     };
     Ok(reply)
-}
-
-/// What a reply numbers or counts, or why a call is refused.
-fn described(alloc: Global, reply: Reply) -> Result<String, Fail> {
-    let text = match reply {
-        Reply::Module(number) | Reply::Ticket(number) | Reply::Logged(number) => {
-            format!(in alloc; "{number}")?
-        }
-        Reply::Usage(used) => {
-            format!(in alloc;
-                "{} {} {} {} {}",
-                used.modules, used.bytes, used.trials, used.steps, used.calls
-            )?
-        }
-        Reply::Refused(refusal) => format!(in alloc; "{refusal}")?,
-        Reply::GivenUp | Reply::Result(_) | Reply::Stage(_) => format!(in alloc; "of no limit")?,
-    };
-    Ok(text)
 }
 
 /// What is told last where a project makes a call so many times.
@@ -115,7 +80,8 @@ fn a_project_has_16_modules(rt: HostRuntime) -> Result<(), Fail> {
         (1, 1, Ask::Usage),
         (2, 1, Ask::Submit(60)),
     ];
-    assert_eq!(rt; told(&rt, &rows)?.as_str(), "16, Q1, 16 960 0 0 17, 1, ");
+    let want = "module 16, refused Q1, 16 960 0 0 17, module 1, ";
+    assert_eq!(rt; told(&rt, &rows)?.as_str(), want);
     Ok(())
 }
 
@@ -127,7 +93,8 @@ fn a_project_has_262144_bytes(rt: HostRuntime) -> Result<(), Fail> {
         (1, 1, Ask::Usage),
         (2, 1, Ask::Submit(0)),
     ];
-    assert_eq!(rt; told(&rt, &rows)?.as_str(), "4, Q2, 4 262144 0 0 5, E4, ");
+    let want = "module 4, refused Q2, 4 262144 0 0 5, refused E4, ";
+    assert_eq!(rt; told(&rt, &rows)?.as_str(), want);
     Ok(())
 }
 
@@ -139,7 +106,8 @@ fn a_project_has_64_trials(rt: HostRuntime) -> Result<(), Fail> {
         (1, 1, Ask::Order(1)),
         (1, 1, Ask::Usage),
     ];
-    assert_eq!(rt; told(&rt, &rows)?.as_str(), "1, 64, Q3, 1 60 64 64 66, ");
+    let want = "module 1, ticket 64, refused Q3, 1 60 64 64 66, ";
+    assert_eq!(rt; told(&rt, &rows)?.as_str(), want);
     Ok(())
 }
 
@@ -153,7 +121,8 @@ fn a_project_has_4000000_steps(rt: HostRuntime) -> Result<(), Fail> {
         (1, 1, Ask::Order(1)),
         (1, 1, Ask::Usage),
     ];
-    assert_eq!(rt; told(&rt, &rows)?.as_str(), "1, 39, Q4, 40, Q4, 1 60 40 4000000 43, ");
+    let want = "module 1, ticket 39, refused Q4, ticket 40, refused Q4, 1 60 40 4000000 43, ";
+    assert_eq!(rt; told(&rt, &rows)?.as_str(), want);
     Ok(())
 }
 
@@ -165,6 +134,7 @@ fn a_project_has_10000_calls(rt: HostRuntime) -> Result<(), Fail> {
         (1, 1, Ask::Usage),
         (2, 1, Ask::Log),
     ];
-    assert_eq!(rt; told(&rt, &rows)?.as_str(), "9999, Q5, Q5, 0, ");
+    let want = "9999 calls, refused Q5, refused Q5, 0 calls, ";
+    assert_eq!(rt; told(&rt, &rows)?.as_str(), want);
     Ok(())
 }

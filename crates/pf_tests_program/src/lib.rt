@@ -1,8 +1,6 @@
-//! Tests of the crates of the program: texts, the store, the book, and the work of commands between readers and writers that fail.
+//! Tests of the program's work: texts, orders, whole shrinkings, and commands between readers and writers that fail.
 #![tactic(auto)]
 
-#[cfg(test)]
-mod book;
 #[cfg(test)]
 mod commands;
 #[cfg(test)]
@@ -13,8 +11,6 @@ mod pieces;
 mod pipes;
 #[cfg(test)]
 mod runs;
-#[cfg(test)]
-mod sharing;
 #[cfg(test)]
 mod shrinkings;
 #[cfg(test)]
