@@ -26,6 +26,15 @@ fn take_and_give_up(alloc: Global, store: &mut Store, text: &str) -> Result<Stor
     Ok(stored)
 }
 
+/// How many share the module of each.
+fn shares(alloc: Global, held: &[Stored]) -> Result<Vec<usize>, Fail> {
+    let mut counts = Vec::new(alloc);
+    for stored in held {
+        counts.push(Arc::strong_count(stored.module()))?;
+    }
+    Ok(counts)
+}
+
 /// The refusal of a source, and nothing of one that is taken.
 fn refusal_of(alloc: Global, store: &mut Store, text: &str) -> Result<String, Fail> {
     let source = source_of(alloc, text)?;
@@ -38,36 +47,44 @@ fn refusal_of(alloc: Global, store: &mut Store, text: &str) -> Result<String, Fa
     }
 }
 
+/// A source is taken and shared once more, and then taken again behind another one.
+fn taken_again(alloc: Global, keys: RandomState) -> Result<Vec<usize>, Fail> {
+    let mut store = Store::new(alloc, keys);
+    let mut held = Vec::new(alloc);
+    let first = take(alloc, &mut store, SUM)?;
+    held.push(first.share()?)?;
+    held.push(first)?;
+    for text in ["-module(m).", SUM] {
+        held.push(take(alloc, &mut store, text)?)?;
+    }
+    shares(alloc, &held)
+}
+
 #[test]
 fn same_bytes_share_their_module(rt: HostRuntime) -> Result<(), Fail> {
-    let alloc = rt.alloc();
-    let mut store = Store::new(alloc, RandomState::new(&rt)?);
-    let first = take(alloc, &mut store, SUM)?;
-    let other = take(alloc, &mut store, "-module(m).")?;
-    let second = take(alloc, &mut store, SUM)?;
-    // The store's own share, the first one and the second one.
-    assert_eq!(rt; Arc::strong_count(first.module()), 3);
-    assert_eq!(rt; Arc::strong_count(other.module()), 2);
-    let third = second.share()?;
-    assert_eq!(rt; Arc::strong_count(third.module()), 4);
+    let counts = taken_again(rt.alloc(), RandomState::new(&rt)?)?;
+    // The store has a share of each, too.
+    assert_eq!(rt; counts.as_slice(), [4, 4, 2, 4].as_slice());
     Ok(())
+}
+
+/// A source is held on, and taken and given up; another one is taken and given up, and then taken anew.
+fn given_up(alloc: Global, keys: RandomState) -> Result<Vec<usize>, Fail> {
+    let mut store = Store::new(alloc, keys);
+    let mut held = Vec::new(alloc);
+    held.push(take(alloc, &mut store, SUM)?)?;
+    for text in [SUM, "-module(m)."] {
+        held.push(take_and_give_up(alloc, &mut store, text)?)?;
+    }
+    held.push(take(alloc, &mut store, "-module(m).")?)?;
+    shares(alloc, &held)
 }
 
 #[test]
 fn a_module_leaves_with_its_last_holder(rt: HostRuntime) -> Result<(), Fail> {
-    let alloc = rt.alloc();
-    let mut store = Store::new(alloc, RandomState::new(&rt)?);
-    let first = take(alloc, &mut store, SUM)?;
-    let second = take_and_give_up(alloc, &mut store, SUM)?;
-    // The store's own share, the first one and the second one.
-    assert_eq!(rt; Arc::strong_count(second.module()), 3);
-    let other = take_and_give_up(alloc, &mut store, "-module(m).")?;
-    assert_eq!(rt; Arc::strong_count(other.module()), 1);
-    let again = take(alloc, &mut store, "-module(m).")?;
-    // It was read anew.
-    assert_eq!(rt; Arc::strong_count(again.module()), 2);
-    assert_eq!(rt; Arc::strong_count(other.module()), 1);
-    assert_eq!(rt; Arc::strong_count(first.module()), 3);
+    let counts = given_up(rt.alloc(), RandomState::new(&rt)?)?;
+    // The store has no share of the third one any more: the fourth one was read anew.
+    assert_eq!(rt; counts.as_slice(), [3, 3, 1, 2].as_slice());
     Ok(())
 }
 
