@@ -1,6 +1,7 @@
 #!/usr/bin/env bash
-# Tries wrong bodies: each edit of crates/NAME/wrong/ and crates/NAME/must-fail/ turns what a function means, and the prover has to
-# refuse the crate with it. A crate that has changed is due; so are the two that were seen the longest ago.
+# Tries wrong bodies: each edit of crates/NAME/wrong/ turns what a function means, and the prover has to refuse the crate with it.
+# (One in crates/NAME/must-fail/ is tried by each `rt ci` too, which costs that crate a second proof.)
+# A crate that has changed is due; so are the two that were seen the longest ago.
 #
 #   tests/wrong.sh due          tells which crates are due, and why; tries nothing
 #   tests/wrong.sh              tries the wrong bodies of the crates that are due

@@ -3,7 +3,5 @@
 
 mod hunt;
 mod round;
-#[cfg(test)]
-mod tests;
 
 pub use hunt::{Hunt, MOST_RUNS};

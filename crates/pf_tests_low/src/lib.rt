@@ -1,5 +1,5 @@
-//! Tests of the crates that know nothing of a module: channels, choices, mail, quotas, ties, tokens, values, atoms, and
-//! streams that count and fail.
+//! Tests of the crates that know nothing of a module: channels, choices, mail, quotas, ties, tokens, values, atoms, searches
+//! for a small schedule, and streams that count and fail.
 #![tactic(auto)]
 
 #[cfg(test)]
@@ -14,6 +14,8 @@ mod cutting;
 mod mail;
 #[cfg(test)]
 mod quota;
+#[cfg(test)]
+mod searches;
 #[cfg(test)]
 mod streams;
 #[cfg(test)]

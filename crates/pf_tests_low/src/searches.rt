@@ -1,6 +1,6 @@
-//! Searches by hand.
+//! Searches for a small schedule, by hand.
 
-use crate::Hunt;
+use pf_shrink::Hunt;
 use std::test::Fail;
 
 /// The schedules that are run of 0, 0, 0, 3, where exactly those of two numbers at least fail whose last is not 0.
