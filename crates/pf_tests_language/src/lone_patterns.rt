@@ -70,39 +70,56 @@ fn told(alloc: Global, text: &str) -> Result<String, Fail> {
     Ok(out)
 }
 
+const PATTERNS: [(&str, &str); 16] = [
+    // The fixed names are the first 20 of variables too.
+    (
+        "{ready, X, X}",
+        " tuple of 3 atom 20 variable 20 at 8 variable 20 at 11",
+    ),
+    ("[1, -2 | Rest]", " list of 2 on 1 -2 variable 20 at 9"),
+    ("[]", " list of 0"),
+    ("\"ab\"", " text of 2"),
+    ("_", " _"),
+    // A fixed atom, one of the table, and two that it lacks, one of them twice.
+    (
+        "{kill, ready, done, gone, done}",
+        " tuple of 5 atom 4 atom 20 atom 21 atom 22 atom 21",
+    ),
+    ("?MODULE", "P1"),
+    ("{ready, [?MODULE]}", "P1"),
+    ("ready.", "P1"),
+    ("", "P1"),
+    ("X Y", "P1"),
+    ("X, Y", "P1"),
+    ("1 + 2", "P1"),
+    ("X = 1", "P1"),
+    ("{ready", "P1"),
+    ("[| X]", "P1"),
+];
+
+/// The first of these that is read otherwise.
+fn first_other(alloc: Global) -> Result<Option<usize>, Fail> {
+    for (at, (text, wanted)) in PATTERNS.iter().enumerate() {
+        if told(alloc, text)?.as_str() != *wanted {
+            return Ok(Some(at));
+        }
+    }
+    Ok(None)
+}
+
 #[test]
 fn patterns_alone_are_read_or_refused(rt: HostRuntime) -> Result<(), Fail> {
-    let cases: [(&str, &str); 16] = [
-        // The fixed names are the first 20 of variables too.
-        (
-            "{ready, X, X}",
-            " tuple of 3 atom 20 variable 20 at 8 variable 20 at 11",
-        ),
-        ("[1, -2 | Rest]", " list of 2 on 1 -2 variable 20 at 9"),
-        ("[]", " list of 0"),
-        ("\"ab\"", " text of 2"),
-        ("_", " _"),
-        // A fixed atom, one of the table, and two that it lacks, one of them twice.
-        (
-            "{kill, ready, done, gone, done}",
-            " tuple of 5 atom 4 atom 20 atom 21 atom 22 atom 21",
-        ),
-        ("?MODULE", "P1"),
-        ("{ready, [?MODULE]}", "P1"),
-        ("ready.", "P1"),
-        ("", "P1"),
-        ("X Y", "P1"),
-        ("X, Y", "P1"),
-        ("1 + 2", "P1"),
-        ("X = 1", "P1"),
-        ("{ready", "P1"),
-        ("[| X]", "P1"),
-    ];
-    for (text, want) in cases {
-        let told = told(rt.alloc(), text)?;
-        assert_eq!(rt; told.as_str(), want);
-    }
+    assert_eq!(rt; first_other(rt.alloc())?, None);
     Ok(())
+}
+
+/// Whether a text is read as a pattern, or refused as a property.
+fn is_read(alloc: Global, text: &[u8]) -> Result<bool, Fail> {
+    match read(alloc, text)? {
+        Ok(_) => Ok(true),
+        Err(OrNoMemory::Fault(Code::NoProperty)) => Ok(false),
+        Err(_) => Err(Fail::from("another refusal")),
+    }
 }
 
 fn add(text: &mut Vec<u8>, byte: u8, times: usize) -> Result<(), Fail> {
@@ -123,9 +140,9 @@ fn nested(alloc: Global, depth: usize) -> Result<Vec<u8>, Fail> {
 #[test]
 fn patterns_alone_have_the_depth_of_the_grammar(rt: HostRuntime) -> Result<(), Fail> {
     let alloc = rt.alloc();
-    assert!(rt; read(alloc, &nested(alloc, 256)?)?.is_ok());
-    let refused = read(alloc, &nested(alloc, 257)?)?;
-    assert!(rt; matches!(refused, Err(OrNoMemory::Fault(Code::NoProperty))));
+    for (depth, wanted) in [(256, true), (257, false)] {
+        assert_eq!(rt; is_read(alloc, &nested(alloc, depth)?)?, wanted);
+    }
     Ok(())
 }
 
@@ -141,9 +158,13 @@ fn quoted(alloc: Global, quote: u8, letters: usize) -> Result<Vec<u8>, Fail> {
 #[test]
 fn patterns_alone_have_the_limits_of_names_and_strings(rt: HostRuntime) -> Result<(), Fail> {
     let alloc = rt.alloc();
-    assert!(rt; read(alloc, &quoted(alloc, b'\'', 255)?)?.is_ok());
-    assert!(rt; read(alloc, &quoted(alloc, b'\'', 256)?)?.is_err());
-    assert!(rt; read(alloc, &quoted(alloc, b'"', 4095)?)?.is_ok());
-    assert!(rt; read(alloc, &quoted(alloc, b'"', 4096)?)?.is_err());
+    for (quote, letters, wanted) in [
+        (b'\'', 255, true),
+        (b'\'', 256, false),
+        (b'"', 4095, true),
+        (b'"', 4096, false),
+    ] {
+        assert_eq!(rt; is_read(alloc, &quoted(alloc, quote, letters)?)?, wanted);
+    }
     Ok(())
 }

@@ -36,31 +36,37 @@ fn ran(
     }
 }
 
-#[test]
-fn counts_each_contraction_and_the_end(rt: HostRuntime) -> Result<(), Fail> {
-    let alloc = rt.alloc();
+/// What a run within this limit comes to.
+fn ran_within(alloc: Global, limit: u32) -> Result<(Option<i64>, u32), Fail> {
     let module = module_of(alloc, SUMS)?;
     let root = root_of(&module).ok_or("no root")?;
-    assert_eq!(rt; ran(alloc, &module, root, 5)?, (Some(3), 5));
-    assert_eq!(rt; ran(alloc, &module, root, 4)?, (None, 4));
+    Ok(ran(alloc, &module, root, limit)?)
+}
+
+#[test]
+fn counts_each_contraction_and_the_end(rt: HostRuntime) -> Result<(), Fail> {
+    assert_eq!(rt; ran_within(rt.alloc(), 5)?, (Some(3), 5));
+    assert_eq!(rt; ran_within(rt.alloc(), 4)?, (None, 4));
     Ok(())
+}
+
+/// The pid of a process at `f(5)`, whether it comes to 9, and the steps of its end, behind one step and two more.
+fn resumed(alloc: Global) -> Result<(u32, bool, u32), Fail> {
+    let module = module_of(alloc, SUMS)?;
+    let mut args: SmallVec<Term, 4> = SmallVec::new(alloc);
+    args.push(Term::Int(5))?;
+    let mut machine = Machine::new(alloc, 4, module, FunctionId(1), args)?;
+    let mut inbox = no_mail(alloc);
+    goes_on(alloc, &mut machine, &mut inbox, 1)?;
+    goes_on(alloc, &mut machine, &mut inbox, 2)?;
+    let (end, used) = ended(alloc, &mut machine, &mut inbox)?;
+    Ok((machine.own(), matches!(end, Ok(Term::Int(9))), used))
 }
 
 // The call, the difference and the sum are a step each, and the end is the fourth.
 #[test]
 fn goes_on_from_where_it_stopped(rt: HostRuntime) -> Result<(), Fail> {
-    let alloc = rt.alloc();
-    let module = module_of(alloc, SUMS)?;
-    let mut args: SmallVec<Term, 4> = SmallVec::new(alloc);
-    args.push(Term::Int(5))?;
-    let mut machine = Machine::new(alloc, 4, module, FunctionId(1), args)?;
-    assert_eq!(rt; machine.own(), 4);
-    let mut inbox = no_mail(alloc);
-    goes_on(alloc, &mut machine, &mut inbox, 1)?;
-    goes_on(alloc, &mut machine, &mut inbox, 2)?;
-    let (end, used) = ended(alloc, &mut machine, &mut inbox)?;
-    assert!(rt; matches!(end, Ok(Term::Int(9))));
-    assert_eq!(rt; used, 1);
+    assert_eq!(rt; resumed(rt.alloc())?, (4, true, 1));
     Ok(())
 }
 

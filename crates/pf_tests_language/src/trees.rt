@@ -28,85 +28,88 @@ fn is_negative(node: Option<&Node>) -> bool {
     matches!(node, Some(Node::Negate(Part::Slot(0))))
 }
 
-#[test]
-fn nodes_are_read_back(rt: HostRuntime) -> Result<(), Fail> {
-    let alloc = rt.alloc();
+/// Whether a sum over a negative, and that, are read back as they were added.
+fn nodes_come_back(alloc: Global) -> Result<bool, NoMemory> {
     let mut module = Module::new(alloc, AtomId::KILL, AtomTable::new(alloc)?);
     let seven = module.add_literal(Term::Int(7))?;
     let negative = module.add_node(Node::Negate(Part::Slot(0)))?;
     let sum = Node::Binary(Operator::Plus, Part::Node(negative), Part::Literal(seven));
     let sum = module.add_node(sum)?;
-    assert!(rt; is_sum(module.node(sum), negative, seven));
-    assert!(rt; is_negative(module.node(negative)));
-    Ok(())
+    Ok(is_sum(module.node(sum), negative, seven) && is_negative(module.node(negative)))
 }
 
-#[test]
-fn literals_and_patterns_are_read_back(rt: HostRuntime) -> Result<(), Fail> {
-    let alloc = rt.alloc();
+/// Whether a literal and a pattern are read back as they were added, and there is no second pattern.
+fn leaves_come_back(alloc: Global) -> Result<bool, NoMemory> {
     let mut module = Module::new(alloc, AtomId::KILL, AtomTable::new(alloc)?);
     let seven = module.add_literal(Term::Int(7))?;
     let new = module.add_pattern(PatternNode::New)?;
-    assert!(rt; matches!(module.literal(seven), Some(Term::Int(7))));
-    assert!(rt; matches!(module.pattern(new), Some(PatternNode::New)));
-    assert!(rt; module.pattern(PatternId(1)).is_none());
-    Ok(())
+    let is_there = matches!(module.literal(seven), Some(Term::Int(7)))
+        && matches!(module.pattern(new), Some(PatternNode::New));
+    Ok(is_there && module.pattern(PatternId(1)).is_none())
 }
 
-#[test]
-fn a_module_has_its_name_and_atoms(rt: HostRuntime) -> Result<(), Fail> {
-    let alloc = rt.alloc();
+/// Whether a module without functions has its name and the names of its atoms.
+fn is_named(alloc: Global) -> Result<bool, NoMemory> {
     let mut atoms = AtomTable::new(alloc)?;
     let f = atoms.enter(alloc, b"f")?;
     let module = Module::new(alloc, AtomId::KILL, atoms);
-    assert!(rt; module.find(f, 1).is_none());
-    assert_eq!(rt; module.atoms().name(f), b"f".as_slice());
-    assert!(rt; module.name() == AtomId::KILL);
-    Ok(())
+    let is_f = module.atoms().name(f) == b"f".as_slice();
+    Ok(is_f && module.find(f, 1).is_none() && module.name() == AtomId::KILL)
 }
 
 #[test]
-fn depths_go_by_the_rules(rt: HostRuntime) -> Result<(), Fail> {
-    let alloc = rt.alloc();
+fn a_module_is_read_back(rt: HostRuntime) -> Result<(), Fail> {
+    assert!(rt; nodes_come_back(rt.alloc())?);
+    assert!(rt; leaves_come_back(rt.alloc())?);
+    assert!(rt; is_named(rt.alloc())?);
+    Ok(())
+}
+
+/// The nodes and the depth of `1`, `-1`, `(-1)`, `1 + (-1)` and `-5 = 1 + (-1)`.
+fn sizes(alloc: Global) -> Result<[(u32, u32); 5], NoMemory> {
     let mut source = Source::new(alloc, AtomId::EXIT);
     let one = source.add_written_expression(WrittenExpressionNode::Integer(1))?;
     let minus = source.add_written_expression(WrittenExpressionNode::Negate(one))?;
     let round = source.add_written_expression(WrittenExpressionNode::Parentheses(minus))?;
-    let sum = source.add_written_expression(WrittenExpressionNode::Binary(
-        Operator::Plus,
-        one,
-        round,
-    ))?;
-    assert_eq!(rt; (source.size(one), source.depth(one)), (1, 1));
-    assert_eq!(rt; (source.size(minus), source.depth(minus)), (2, 2));
-    assert_eq!(rt; (source.size(round), source.depth(round)), (3, 3));
-    assert_eq!(rt; (source.size(sum), source.depth(sum)), (5, 4));
+    let sum = WrittenExpressionNode::Binary(Operator::Plus, one, round);
+    let sum = source.add_written_expression(sum)?;
     let five = source.add_written_pattern(WrittenPatternNode::Integer(-5))?;
-    assert_eq!(rt; source.written_pattern_depth(five), 1);
     let bound = source.add_written_expression(WrittenExpressionNode::Match(five, sum))?;
-    assert_eq!(rt; (source.size(bound), source.depth(bound)), (7, 5));
-    Ok(())
+    Ok([one, minus, round, sum, bound].map(|it| (source.size(it), source.depth(it))))
 }
 
 #[test]
-fn parts_may_be_several(rt: HostRuntime) -> Result<(), Fail> {
-    let alloc = rt.alloc();
+fn depths_go_by_the_rules(rt: HostRuntime) -> Result<(), Fail> {
+    assert_eq!(rt;
+        sizes(rt.alloc())?,
+        [(1, 1), (2, 2), (3, 3), (5, 4), (7, 5)]
+    );
+    Ok(())
+}
+
+/// The nodes and the depth of `[1, f(1, 1), 1]`, and how many exports there are with one that was added.
+fn several(alloc: Global) -> Result<(u32, u32, usize), NoMemory> {
     let mut source = Source::new(alloc, AtomId::EXIT);
     let one = source.add_written_expression(WrittenExpressionNode::Integer(1))?;
     let word = Word {
         name: AtomId::DOWN,
         offset: 8,
     };
-    let two = source.add_written_expression(WrittenExpressionNode::Call(
-        word,
-        vec![in alloc; one, one]?,
-    ))?;
-    let list = source.add_written_expression(WrittenExpressionNode::List(vec![in alloc;
-        one, two, one,
-    ]?))?;
-    assert_eq!(rt; (source.size(list), source.depth(list)), (6, 3));
+    let call = WrittenExpressionNode::Call(word, vec![in alloc; one, one]?);
+    let two = source.add_written_expression(call)?;
+    let list = WrittenExpressionNode::List(vec![in alloc; one, two, one]?);
+    let list = source.add_written_expression(list)?;
     source.add_export(Export { word, arity: 2 })?;
-    assert_eq!(rt; source.exports().len(), 1);
+    Ok((
+        source.size(list),
+        source.depth(list),
+        source.exports().len(),
+    ))
+}
+
+#[test]
+fn parts_may_be_several(rt: HostRuntime) -> Result<(), Fail> {
+    assert_eq!(rt; several(rt.alloc())?, (6, 3, 1));
     Ok(())
 }
 
@@ -130,21 +133,24 @@ fn add_identity(alloc: Global, module: &mut Module, name: AtomId) -> Result<Func
     })
 }
 
-#[test]
-fn a_function_is_found_by_name_and_arity(rt: HostRuntime) -> Result<(), Fail> {
-    let alloc = rt.alloc();
+/// Whether the second of two functions with one name is found by its arity, and none of another arity.
+fn is_found(alloc: Global) -> Result<bool, NoMemory> {
     let mut module = Module::new(alloc, AtomId::KILL, AtomTable::new(alloc)?);
-    let clauses = Vec::new(alloc);
     module.add_function(Function {
         name: AtomId::DOWN,
         arity: 0,
         exported: false,
-        clauses,
+        clauses: Vec::new(alloc),
     })?;
     let id = add_identity(alloc, &mut module, AtomId::DOWN)?;
-    assert_eq!(rt; module.find(AtomId::DOWN, 1), Some(id));
-    assert_eq!(rt; module.find(AtomId::DOWN, 2), None);
-    assert!(rt; matches!(module.function(id), Some(f) if f.exported && f.clauses.len() == 1));
+    let is_there = matches!(module.function(id), Some(f) if f.exported && f.clauses.len() == 1);
+    let is_apart = module.find(AtomId::DOWN, 2).is_none();
+    Ok(is_there && is_apart && module.find(AtomId::DOWN, 1) == Some(id))
+}
+
+#[test]
+fn a_function_is_found_by_name_and_arity(rt: HostRuntime) -> Result<(), Fail> {
+    assert!(rt; is_found(rt.alloc())?);
     Ok(())
 }
 

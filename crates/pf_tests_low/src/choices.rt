@@ -57,20 +57,6 @@ fn words_far_on(rt: HostRuntime) {
 }
 
 #[test]
-fn a_long_schedule_is_used_up(rt: HostRuntime) -> Result<(), Fail> {
-    let mut numbers = Vec::new(rt.alloc());
-    for number in 0..100_000u32 {
-        numbers.push(number)?;
-    }
-    let mut choices: Choices = Choices::schedule(numbers);
-    for number in 0..100_000usize {
-        assert!(rt; choices.next(WORDS) == number);
-    }
-    assert_eq!(rt; choices.next(WORDS), 0);
-    Ok(())
-}
-
-#[test]
 fn a_schedule_and_then_zeros(rt: HostRuntime) -> Result<(), Fail> {
     let mut choices: Choices = Choices::schedule(vec![in rt.alloc(); 7, 4294967295, 2]?);
     for (n, choice) in [(3, 1), (WORDS, 4294967295), (2, 0), (5, 0), (1, 0)] {

@@ -1,6 +1,8 @@
 //! One happy path of each call, and each item dropped once.
 use pf_nodes::{MailList, Pool};
+use std::alloc::Global;
 use std::cell::Cell;
+use std::fmt::Write;
 use std::marker::Send;
 use std::test::Fail;
 
@@ -38,70 +40,118 @@ fn receive(
     }
 }
 
+/// What a mailbox comes to by this script, in which `+a` puts the letter at the end, `?a` receives it from the mark on, and `^` goes back to
+/// the front. Each receive tells the position at which it takes the letter, or `-`, and then the mark, the length, how many letters
+/// were tested so far, and the spare nodes.
+fn received(alloc: Global, script: &str) -> Result<String, Fail> {
+    let mut pool = Pool::new(alloc);
+    let mut list = MailList::new(alloc);
+    let tested = Cell::new(0);
+    let mut told = String::new(alloc);
+    let mut asks = false;
+    for letter in script.chars() {
+        match letter {
+            '+' => asks = false,
+            '?' => asks = true,
+            '^' => list.reset_mark(),
+            letter if asks => {
+                match receive(&mut list, &mut pool, letter, &tested) {
+                    Some((at, taken)) => write!(told, "{taken}{at}")?,
+                    None => told.push('-')?,
+                }
+                let (mark, len, spare) = (list.mark(), list.len(), pool.len());
+                write!(told, " {mark} {len} {} {spare}\n", tested.get())?;
+            }
+            letter => push(&mut list, &mut pool, letter)?,
+        }
+    }
+    Ok(told)
+}
+
+const SCRIPT: &str = "+a+b+c?b+d?d?a^?a?z^?c";
+
+const RECEIVED: &str = "b1 1 2 2 1\nd2 2 2 4 1\n- 2 2 4 1\na0 0 1 5 2\n- 1 1 6 2\nc0 0 0 7 3\n";
+
 #[test]
 fn receives_selectively(rt: HostRuntime) -> Result<(), Fail> {
-    let mut pool = Pool::new(rt.alloc());
-    let mut list = MailList::new(rt.alloc());
-    let tested = Cell::new(0);
-    push(&mut list, &mut pool, 'a')?;
-    push(&mut list, &mut pool, 'b')?;
-    push(&mut list, &mut pool, 'c')?;
-    assert_eq!(rt; receive(&mut list, &mut pool, 'b', &tested), Some((1, 'b')));
-    assert_eq!(rt; (list.mark(), list.len(), tested.get()), (1, 2, 2));
-    push(&mut list, &mut pool, 'd')?;
-    assert_eq!(rt; receive(&mut list, &mut pool, 'd', &tested), Some((2, 'd')));
-    assert_eq!(rt; (list.mark(), list.len(), tested.get()), (2, 2, 4));
-    assert_eq!(rt; receive(&mut list, &mut pool, 'a', &tested), None);
-    list.reset_mark();
-    assert_eq!(rt; list.mark(), 0);
-    assert_eq!(rt; receive(&mut list, &mut pool, 'a', &tested), Some((0, 'a')));
-    assert_eq!(rt; receive(&mut list, &mut pool, 'z', &tested), None);
-    assert_eq!(rt; list.mark(), 1);
-    list.reset_mark();
-    assert_eq!(rt; receive(&mut list, &mut pool, 'c', &tested), Some((0, 'c')));
-    assert!(rt; list.is_empty());
-    assert_eq!(rt; (pool.len(), tested.get()), (3, 7));
+    assert_eq!(rt; received(rt.alloc(), SCRIPT)?.as_str(), RECEIVED);
     Ok(())
 }
 
-#[test]
-fn stays_at_a_fault(rt: HostRuntime) -> Result<(), Fail> {
-    let mut pool = Pool::new(rt.alloc());
-    let mut list = MailList::new(rt.alloc());
+/// What a search comes to that fails at a zero, and where the mark is left, in a list of two.
+fn at_zero(alloc: Global) -> Result<(bool, usize, usize), Fail> {
+    let mut pool = Pool::new(alloc);
+    let mut list = MailList::new(alloc);
     push(&mut list, &mut pool, 3)?;
     push(&mut list, &mut pool, 0)?;
     let found = list.find_from_mark(|item: &u32| 12u32
         .checked_div(*item)
         .map(|q| q > 9)
         .ok_or("zero"));
-    assert_eq!(rt; found, Err("zero"));
-    assert_eq!(rt; (list.mark(), list.len()), (1, 2));
+    Ok((found == Err("zero"), list.mark(), list.len()))
+}
+
+#[test]
+fn stays_at_a_fault(rt: HostRuntime) -> Result<(), Fail> {
+    assert_eq!(rt; at_zero(rt.alloc())?, (true, 1, 2));
     Ok(())
+}
+
+/// Puts so many items at the end that count their drops.
+fn add<'a>(
+    list: &mut MailList<Counted<'a>>,
+    pool: &mut Pool<Counted<'a>>,
+    drops: &'a Cell<u32>,
+    count: u32,
+) -> Result<(), &'static str> {
+    for _ in 0..count {
+        push(list, pool, Counted { drops })?;
+    }
+    Ok(())
+}
+
+/// How many items are dropped, and how many nodes are spare, where four are put in and one is taken, where that is dropped, where the
+/// others are drained, where two more are put in, and where the list is dropped.
+fn drops_and_spare(alloc: Global) -> Result<[(u32, usize); 5], Fail> {
+    let drops = Cell::new(0);
+    let mut pool = Pool::new(alloc);
+    let mut list = MailList::new(alloc);
+    add(&mut list, &mut pool, &drops, 4)?;
+    let Ok(Some(spot)) = list.find_from_mark(|_| -> Result<bool, ()> { Ok(true) }) else {
+        return Err(Fail::from("nothing is found"));
+    };
+    let item = list.unlink(&mut pool, spot);
+    let taken = (drops.get(), pool.len());
+    drop(item);
+    let dropped = (drops.get(), pool.len());
+    list.drain_into(&mut pool);
+    let drained = (drops.get(), pool.len());
+    add(&mut list, &mut pool, &drops, 2)?;
+    let filled = (drops.get(), pool.len());
+    drop(list);
+    Ok([taken, dropped, drained, filled, (drops.get(), pool.len())])
 }
 
 #[test]
 fn drops_each_item_once(rt: HostRuntime) -> Result<(), Fail> {
-    let drops = Cell::new(0);
-    let mut pool = Pool::new(rt.alloc());
-    let mut list = MailList::new(rt.alloc());
-    for _ in 0..4 {
-        push(&mut list, &mut pool, Counted { drops: &drops })?;
-    }
-    if let Ok(Some(spot)) = list.find_from_mark(|_| -> Result<bool, ()> { Ok(true) }) {
-        let item = list.unlink(&mut pool, spot);
-        assert_eq!(rt; drops.get(), 0);
-        drop(item);
-    }
-    assert_eq!(rt; (drops.get(), pool.len()), (1, 1));
-    list.drain_into(&mut pool);
-    assert_eq!(rt; (drops.get(), pool.len(), list.len()), (4, 4, 0));
-    push(&mut list, &mut pool, Counted { drops: &drops })?;
-    push(&mut list, &mut pool, Counted { drops: &drops })?;
-    assert_eq!(rt; pool.len(), 2);
-    drop(list);
-    assert_eq!(rt; drops.get(), 6);
+    let wanted = [(0, 1), (1, 1), (4, 4), (4, 2), (6, 2)];
+    assert_eq!(rt; drops_and_spare(rt.alloc())?, wanted);
     Ok(())
 }
+
+/// How many items are put in, whether all are drained then, and the length of the list and the spare nodes behind that.
+const FILLS: [(u32, bool, usize, usize); 10] = [
+    (1000, false, 1000, 0),
+    (0, true, 0, 1000),
+    (1024, false, 1024, 0),
+    (0, true, 0, 1024),
+    (1025, false, 1025, 0),
+    (0, true, 0, 1024),
+    (3000, false, 3000, 0),
+    (0, true, 0, 1024),
+    (1000, false, 1000, 24),
+    (25, false, 1025, 0),
+];
 
 /// Puts so many items at the end.
 fn fill(list: &mut MailList<u32>, pool: &mut Pool<u32>, count: u32) -> Result<(), &'static str> {
@@ -111,36 +161,41 @@ fn fill(list: &mut MailList<u32>, pool: &mut Pool<u32>, count: u32) -> Result<()
     Ok(())
 }
 
+/// The first of these that comes to another length or to other spare nodes.
+fn other_fill(alloc: Global) -> Result<Option<usize>, Fail> {
+    let mut pool = Pool::new(alloc);
+    let mut list = MailList::new(alloc);
+    for (at, (count, drains, len, spare)) in FILLS.iter().enumerate() {
+        fill(&mut list, &mut pool, *count)?;
+        if *drains {
+            list.drain_into(&mut pool);
+        }
+        if (list.len(), pool.len()) != (*len, *spare) {
+            return Ok(Some(at));
+        }
+    }
+    Ok(None)
+}
+
 #[test]
 fn spare_nodes_come_back_and_go_out(rt: HostRuntime) -> Result<(), Fail> {
-    let mut pool = Pool::new(rt.alloc());
-    let mut list = MailList::new(rt.alloc());
-    for count in [1000u32, 1024, 1025, 3000] {
-        fill(&mut list, &mut pool, count)?;
-        assert_eq!(rt; (list.len() as u64, pool.len()), (u64::from(count), 0));
-        list.drain_into(&mut pool);
-        assert_eq!(rt;
-            (list.len(), pool.len() as u64),
-            (0, u64::from(count.min(1024)))
-        );
-    }
-    fill(&mut list, &mut pool, 1000)?;
-    assert_eq!(rt; (list.len(), pool.len()), (1000, 24));
-    fill(&mut list, &mut pool, 25)?;
-    assert_eq!(rt; (list.len(), pool.len()), (1025, 0));
+    assert_eq!(rt; other_fill(rt.alloc())?, None);
     Ok(())
+}
+
+/// How many items are dropped, and how many nodes are spare, where so many are put in and drained.
+fn drained(alloc: Global, count: u32) -> Result<(u32, usize), Fail> {
+    let drops = Cell::new(0);
+    let mut pool = Pool::new(alloc);
+    let mut list = MailList::new(alloc);
+    add(&mut list, &mut pool, &drops, count)?;
+    list.drain_into(&mut pool);
+    Ok((drops.get(), pool.len()))
 }
 
 #[test]
 fn drops_what_a_full_pool_has_no_place_for(rt: HostRuntime) -> Result<(), Fail> {
-    let drops = Cell::new(0);
-    let mut pool = Pool::new(rt.alloc());
-    let mut list = MailList::new(rt.alloc());
-    for _ in 0..1030 {
-        push(&mut list, &mut pool, Counted { drops: &drops })?;
-    }
-    list.drain_into(&mut pool);
-    assert_eq!(rt; (drops.get(), pool.len()), (1030, 1024));
+    assert_eq!(rt; drained(rt.alloc(), 1030)?, (1030, 1024));
     Ok(())
 }
 

@@ -1,47 +1,73 @@
 //! Each call once, to a limit and past it, and the printed codes.
 
 use pf_quota::{Charge, Held, Refusal, Usage, trial_steps};
+use std::alloc::Global;
 use std::test::Fail;
 
-#[test]
-fn fill_a_project(rt: HostRuntime) -> Result<(), Fail> {
+/// A project with 16 modules, as many bytes, and trials of as many steps as it may have.
+fn full() -> Result<Usage, Refusal> {
     let mut usage = Usage::new();
     usage.charge(Charge::Call)?;
     for _ in 0..16 {
         usage.charge(Charge::Module { bytes: 16_384 })?;
     }
-    assert_eq!(rt;
-        usage.charge(Charge::Module { bytes: 1 }),
-        Err(Refusal::Modules)
-    );
-    usage.charge(Charge::Trial {
-        steps: trial_steps(1_000, 0),
-    })?;
-    usage.charge(Charge::Trial {
-        steps: trial_steps(1_000, 3_999),
-    })?;
-    assert_eq!(rt;
-        usage.charge(Charge::Trial { steps: 1 }),
-        Err(Refusal::Steps)
-    );
-    let full = Usage {
+    for runs in [0, 3_999] {
+        let steps = trial_steps(1_000, runs);
+        usage.charge(Charge::Trial { steps })?;
+    }
+    Ok(usage)
+}
+
+#[test]
+fn fill_a_project(rt: HostRuntime) -> Result<(), Fail> {
+    let wanted = Usage {
         modules: 16,
         bytes: 262_144,
         trials: 2,
         steps: 4_000_000,
         calls: 1,
     };
-    assert_eq!(rt; usage, full);
+    assert_eq!(rt; full()?, wanted);
+    Ok(())
+}
+
+/// What a full project is refused, and what it holds then.
+fn refused(charge: Charge) -> Result<(Option<Refusal>, Usage), Refusal> {
+    let mut usage = full()?;
+    Ok((usage.charge(charge).err(), usage))
+}
+
+#[test]
+fn a_refused_charge_changes_nothing(rt: HostRuntime) -> Result<(), Fail> {
+    let module = Charge::Module { bytes: 1 };
+    assert_eq!(rt; refused(module)?, (Some(Refusal::Modules), full()?));
+    let trial = Charge::Trial { steps: 1 };
+    assert_eq!(rt; refused(trial)?, (Some(Refusal::Steps), full()?));
+    Ok(())
+}
+
+/// A project with two modules and two trials that takes back one of each.
+fn lessened() -> Result<Usage, Refusal> {
+    let mut usage = Usage::new();
+    usage.charge(Charge::Module { bytes: 16_384 })?;
+    usage.charge(Charge::Module { bytes: 16_384 })?;
+    usage.charge(Charge::Trial { steps: 1_000 })?;
+    usage.charge(Charge::Trial { steps: 500 })?;
     usage.refund(Held::Module { bytes: 16_384 });
     usage.refund(Held::Trial { steps: 1_000 });
-    let rest = Usage {
-        modules: 15,
-        bytes: 245_760,
+    Ok(usage)
+}
+
+#[test]
+fn what_is_taken_back_is_refunded(rt: HostRuntime) -> Result<(), Fail> {
+    let wanted = Usage {
+        modules: 1,
+        bytes: 16_384,
         trials: 1,
-        steps: 3_999_000,
-        calls: 1,
+        steps: 500,
+        calls: 0,
     };
-    assert_eq!(rt; usage, rest);
+    assert_eq!(rt; lessened()?, wanted);
     Ok(())
 }
 
@@ -71,16 +97,23 @@ fn charges_pass_up_to_the_limits(rt: HostRuntime) {
     }
 }
 
-#[test]
-fn codes(rt: HostRuntime) -> Result<(), Fail> {
-    for (refusal, code) in [
-        (Refusal::Modules, "Q1"),
-        (Refusal::Bytes, "Q2"),
-        (Refusal::Trials, "Q3"),
-        (Refusal::Steps, "Q4"),
-        (Refusal::Calls, "Q5"),
+/// The codes of all refusals.
+fn codes(alloc: Global) -> Result<String, Fail> {
+    let mut text = String::new(alloc);
+    for refusal in [
+        Refusal::Modules,
+        Refusal::Bytes,
+        Refusal::Trials,
+        Refusal::Steps,
+        Refusal::Calls,
     ] {
-        assert_eq!(rt; refusal.to_string(rt.alloc())?.as_str(), code);
+        text.push_str(&refusal.to_string(alloc)?)?;
     }
+    Ok(text)
+}
+
+#[test]
+fn refusals_print_their_codes(rt: HostRuntime) -> Result<(), Fail> {
+    assert_eq!(rt; codes(rt.alloc())?.as_str(), "Q1Q2Q3Q4Q5");
     Ok(())
 }

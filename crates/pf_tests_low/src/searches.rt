@@ -1,6 +1,7 @@
 //! Searches for a small schedule, by hand.
 
 use pf_shrink::Hunt;
+use std::alloc::{AllocError, Global};
 use std::test::Fail;
 
 /// The schedules that are run of 0, 0, 0, 3, where exactly those of two numbers at least fail whose last is not 0.
@@ -30,59 +31,70 @@ fn go(hunt: &mut Hunt, steps: &[(&[u32], bool)]) -> usize {
     steps.len()
 }
 
-/// What a hunt that is at its end found.
-fn at_end(hunt: &Hunt) -> Option<(&[u32], bool)> {
-    if hunt.next().is_some() {
-        return None;
+/// What a hunt of this schedule is that goes by such steps, as far as it has runs: how many it goes by, and, where that is its end,
+/// whether it finds this.
+fn goes_by(
+    schedule: Vec<u32>,
+    runs: u32,
+    steps: &[(&[u32], bool)],
+    found: Option<(&[u32], bool)>,
+) -> (usize, bool) {
+    let mut hunt = Hunt::new(schedule, runs);
+    let gone = go(&mut hunt, steps);
+    (gone, hunt.next().is_none() && hunt.found() == found)
+}
+
+/// What is found within 1 run, 2 runs and so on, and whether it is known to be least.
+const FOUND: [(&[u32], bool); 12] = [
+    (&[0, 0, 0, 3], false),
+    (&[0, 0, 0, 3], false),
+    (&[0, 0, 3], false),
+    (&[0, 0, 3], false),
+    (&[0, 3], false),
+    (&[0, 3], false),
+    (&[0, 3], false),
+    (&[0, 1], false),
+    (&[0, 1], false),
+    (&[0, 1], false),
+    (&[0, 1], true),
+    (&[0, 1], true),
+];
+
+/// The least number of runs within which the hunt goes otherwise.
+fn first_other(alloc: Global) -> Result<Option<u32>, AllocError> {
+    for (runs, found) in (1..).zip(FOUND) {
+        let schedule = vec![in alloc; 0, 0, 0, 3]?;
+        let steps = STEPS.len().min(runs as usize);
+        if goes_by(schedule, runs, &STEPS, Some(found)) != (steps, true) {
+            return Ok(Some(runs));
+        }
     }
-    hunt.found()
+    Ok(None)
 }
 
 #[test]
 fn each_number_of_runs(rt: HostRuntime) -> Result<(), Fail> {
-    let found: [(&[u32], bool); 12] = [
-        (&[0, 0, 0, 3], false),
-        (&[0, 0, 0, 3], false),
-        (&[0, 0, 3], false),
-        (&[0, 0, 3], false),
-        (&[0, 3], false),
-        (&[0, 3], false),
-        (&[0, 3], false),
-        (&[0, 1], false),
-        (&[0, 1], false),
-        (&[0, 1], false),
-        (&[0, 1], true),
-        (&[0, 1], true),
-    ];
-    for runs in 1..13 {
-        let mut hunt = Hunt::new(vec![in rt.alloc(); 0, 0, 0, 3]?, runs);
-        let steps = STEPS.len().min(runs as usize);
-        assert_eq!(rt; go(&mut hunt, &STEPS), steps, "within {runs} runs");
-        let found = found[runs as usize - 1];
-        assert_eq!(rt; at_end(&hunt), Some(found), "within {runs} runs");
-    }
+    assert_eq!(rt; first_other(rt.alloc())?, None);
     Ok(())
 }
 
 #[test]
 fn a_schedule_that_does_not_fail(rt: HostRuntime) -> Result<(), Fail> {
-    let mut hunt = Hunt::new(vec![in rt.alloc(); 5, 7]?, 9);
-    assert_eq!(rt; go(&mut hunt, &[(&[5, 7], false)]), 1);
-    assert!(rt; hunt.next().is_none());
-    assert_eq!(rt; at_end(&hunt), None);
+    let schedule = vec![in rt.alloc(); 5, 7]?;
+    assert_eq!(rt; goes_by(schedule, 9, &[(&[5, 7], false)], None), (1, true));
     Ok(())
 }
 
 // The last candidate takes the last run, or there is no candidate.
 #[test]
 fn runs_that_just_do(rt: HostRuntime) -> Result<(), Fail> {
-    let mut hunt = Hunt::new(Vec::new(rt.alloc()), 1);
-    assert_eq!(rt; go(&mut hunt, &[(&[], true)]), 1);
-    let empty: &[u32] = &[];
-    assert_eq!(rt; at_end(&hunt), Some((empty, true)));
-    let mut hunt = Hunt::new(vec![in rt.alloc(); 0]?, 2);
-    assert_eq!(rt; go(&mut hunt, &[(&[0], true), (&[], false)]), 2);
-    let zero: &[u32] = &[0];
-    assert_eq!(rt; at_end(&hunt), Some((zero, true)));
+    let none = Vec::new(rt.alloc());
+    assert_eq!(rt;
+        goes_by(none, 1, &[(&[], true)], Some((&[], true))),
+        (1, true)
+    );
+    let zero = vec![in rt.alloc(); 0]?;
+    let steps: [(&[u32], bool); 2] = [(&[0], true), (&[], false)];
+    assert_eq!(rt; goes_by(zero, 2, &steps, Some((&[0], true))), (2, true));
     Ok(())
 }

@@ -88,83 +88,77 @@ fn take<R: Read + Drop>(
     take_by::<R, Brand>(alloc, inner, Blank::new(1), limit)
 }
 
+const TEXT: &[u8] = b"0/1 <0> wait";
+
+/// A writer that takes at most 3 bytes a call, and so many in all.
+fn narrow_writer(alloc: Global, room: usize) -> Narrow {
+    Narrow {
+        taken: Vec::new(alloc),
+        most: 3,
+        room,
+    }
+}
+
 #[test]
 fn short_writes_go_on(rt: HostRuntime) {
-    let taken = Vec::new(rt.alloc());
-    let (end, answer) = put(
-        Narrow {
-            taken,
-            most: 3,
-            room: 99,
-        },
-        b"0/1 <0> wait",
-    );
-    assert!(rt; answer.is_ok());
-    assert_eq!(rt; end.taken.as_slice(), b"0/1 <0> wait".as_slice());
+    let (end, answer) = put(narrow_writer(rt.alloc(), 99), TEXT);
+    assert!(rt; answer.is_ok() && end.taken.as_slice() == TEXT);
 }
 
 #[test]
 fn a_write_of_nothing_is_a_fault(rt: HostRuntime) {
-    let taken = Vec::new(rt.alloc());
-    let (end, answer) = put(
-        Narrow {
-            taken,
-            most: 3,
-            room: 5,
-        },
-        b"0/1 <0> wait",
-    );
-    assert!(rt; matches!(answer, Err(StreamFault::Write(e)) if e.kind() == ErrorKind::WriteZero));
-    assert_eq!(rt; end.taken.as_slice(), b"0/1 <".as_slice());
+    let (end, answer) = put(narrow_writer(rt.alloc(), 5), TEXT);
+    let is_fault = matches!(answer, Err(StreamFault::Write(e)) if e.kind() == ErrorKind::WriteZero);
+    assert!(rt; is_fault && end.taken.as_slice() == b"0/1 <".as_slice());
+}
+
+/// What goes out where this call of the writer fails, and whether all is well.
+fn put_failing(alloc: Global, at: u64) -> (Vec<u8>, bool) {
+    let (end, answer) = put(FailAt::new(narrow_writer(alloc, 99), at), TEXT);
+    let FailAt { inner, .. } = end;
+    let Narrow { taken, .. } = inner;
+    (taken, answer.is_ok())
 }
 
 #[test]
 fn a_failing_call_leaves_a_beginning(rt: HostRuntime) {
-    for (at, want) in [
-        (1, "".as_bytes()),
-        (2, b"0/1"),
-        (3, b"0/1 <0"),
-        (9, b"0/1 <0> wait"),
-    ] {
-        let taken = Vec::new(rt.alloc());
-        let (end, answer) = put(
-            FailAt::new(
-                Narrow {
-                    taken,
-                    most: 3,
-                    room: 99,
-                },
-                at,
-            ),
-            b"0/1 <0> wait",
+    for (at, count) in [(1, 0), (2, 3), (3, 6), (9, 12)] {
+        let (taken, is_well) = put_failing(rt.alloc(), at);
+        assert!(rt;
+            taken.as_slice() == &TEXT[..count] && is_well == (at == 9),
+            "call {at}"
         );
-        assert!(rt; answer.is_ok() == (at == 9));
-        assert_eq!(rt; end.inner.taken.as_slice(), want);
+    }
+}
+
+/// How many bytes are read of so many at the most, where this call of the reader fails; none where one does.
+fn count(alloc: Global, fails_at: u64, limit: usize) -> Option<usize> {
+    match take(alloc, FailAt::new(Endless, fails_at), limit) {
+        Ok(bytes) => Some(bytes.len()),
+        Err(_) => None,
     }
 }
 
 #[test]
-fn a_reader_is_read_to_its_end_or_the_limit(rt: HostRuntime) -> Result<(), Fail> {
-    let alloc = rt.alloc();
-    for (limit, want) in [
-        (0, "".as_bytes()),
-        (2, b"ok"),
-        (6, b"ok.yes"),
-        (99, b"ok.yes"),
-    ] {
-        let text = b"ok.yes";
-        let bytes = match take(alloc, text.as_slice(), limit) {
-            Ok(bytes) => bytes,
-            Err(_) => vec![in alloc; 0]?,
-        };
-        assert_eq!(rt; bytes.as_slice(), want);
+fn a_reader_is_read_to_the_limit(rt: HostRuntime) {
+    assert_eq!(rt; count(rt.alloc(), 0, 65_537), Some(65_537));
+    assert_eq!(rt; count(rt.alloc(), 3, 65_537), None);
+}
+
+/// Whether just these bytes are read of a text of six, so many at the most.
+fn reads(alloc: Global, limit: usize, wanted: &[u8]) -> bool {
+    match take(alloc, b"ok.yes".as_slice(), limit) {
+        Ok(bytes) => bytes.as_slice() == wanted,
+        Err(_) => false,
     }
-    assert!(rt; matches!(take(alloc, Endless, 65537), Ok(bytes) if bytes.len() == 65537));
-    assert!(rt;
-        matches!(
-            take(alloc, FailAt::new(Endless, 3), 65537),
-            Err(OrNoMemory::Fault(StreamFault::Read(_)))
-        )
-    );
-    Ok(())
+}
+
+#[test]
+fn a_reader_is_read_to_its_end(rt: HostRuntime) {
+    for (limit, count) in [(0, 0), (2, 2), (6, 6), (99, 6)] {
+        assert!(rt;
+            reads(rt.alloc(), limit, &b"ok.yes"[..count]),
+            "{limit} bytes at most"
+        );
+    }
 }

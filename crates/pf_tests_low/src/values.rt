@@ -7,13 +7,17 @@ use pf_terms::{
 use std::alloc::Global;
 use std::cmp::Ordering;
 use std::test::Fail;
-use std::thread::Builder;
+use std::thread::{Builder, Threads};
 
 fn needs_send<T: Send>(_: &T) {}
 
-/// Whether a value was refused as too large, and for nothing else.
-fn is_too_large<T: Drop>(made: Result<T, OrNoMemory<TooLarge>>) -> bool {
-    matches!(made, Err(OrNoMemory::Fault(TooLarge)))
+/// How many nodes a value has that was made, and none where it was refused as too large.
+fn size(made: Result<Term, OrNoMemory<TooLarge>>) -> Result<Option<u32>, Fail> {
+    match made {
+        Ok(term) => Ok(Some(nodes(&term))),
+        Err(OrNoMemory::Fault(TooLarge)) => Ok(None),
+        Err(OrNoMemory::NoMemory) => Err(Fail::from("no memory")),
+    }
 }
 
 /// So many zeros.
@@ -55,78 +59,113 @@ fn pair(alloc: Global, tag: AtomId, n: i64) -> Result<Term, Fail> {
     Ok(tuple_of(alloc, items)?)
 }
 
+/// `[{true, 7}, #Ref<3>, <4>]`.
+fn each_kind(alloc: Global) -> Result<Term, Fail> {
+    let inner = pair(alloc, AtomId::TRUE, 7)?;
+    let list = list_of(alloc, vec![in alloc; inner, Term::Ref(3), Term::Pid(4)]?)?;
+    Ok(Term::List(list))
+}
+
+/// Nodes and depth.
+fn sizes(term: &Term) -> (u32, u32) {
+    (nodes(term), depth(term))
+}
+
 #[test]
 fn sizes_count_every_part(rt: HostRuntime) -> Result<(), Fail> {
     let alloc = rt.alloc();
-    let inner = pair(alloc, AtomId::TRUE, 7)?;
-    let list = list_of(alloc, vec![in alloc; inner, Term::Ref(3), Term::Pid(4)]?)?;
-    let term = Term::List(list);
-    assert_eq!(rt; nodes(&term), 6);
-    assert_eq!(rt; depth(&term), 3);
-    assert_eq!(rt; nodes(&Term::List(List::Nil)), 1);
-    assert_eq!(rt; depth(&tuple_of(alloc, Vec::new(alloc))?), 1);
-    let again = copy(&term)?;
-    assert!(rt; equal(&term, &again));
-    assert!(rt; !equal(&term, &Term::Ref(3)));
-    needs_send(&term);
+    assert_eq!(rt; sizes(&each_kind(alloc)?), (6, 3));
+    assert_eq!(rt; sizes(&tuple_of(alloc, Vec::new(alloc))?), (1, 1));
+    assert_eq!(rt; sizes(&Term::List(List::Nil)), (1, 1));
     Ok(())
+}
+
+/// Whether a value is equal to its copy, and to another value.
+fn equals(alloc: Global) -> Result<(bool, bool), Fail> {
+    let term = each_kind(alloc)?;
+    needs_send(&term);
+    let again = copy(&term)?;
+    Ok((equal(&term, &again), equal(&term, &Term::Ref(3))))
+}
+
+#[test]
+fn a_copy_is_equal(rt: HostRuntime) -> Result<(), Fail> {
+    assert_eq!(rt; equals(rt.alloc())?, (true, false));
+    Ok(())
+}
+
+fn tuple(alloc: Global, items: Vec<Term>) -> Result<Option<u32>, Fail> {
+    size(tuple_of(alloc, items))
+}
+
+fn list(alloc: Global, items: Vec<Term>) -> Result<Option<u32>, Fail> {
+    match list_of(alloc, items) {
+        Ok(list) => size(Ok(Term::List(list))),
+        Err(refused) => size(Err(refused)),
+    }
 }
 
 // A tuple or a list of n integers has n + 1 nodes.
 #[test]
 fn most_elements_are_4095(rt: HostRuntime) -> Result<(), Fail> {
     let alloc = rt.alloc();
-    assert_eq!(rt; nodes(&tuple_of(alloc, integers(alloc, 4095)?)?), 4096);
-    assert!(rt; is_too_large(tuple_of(alloc, integers(alloc, 4096)?)));
-    assert_eq!(rt;
-        nodes(&Term::List(list_of(alloc, integers(alloc, 4095)?)?)),
-        4096
-    );
-    assert!(rt; is_too_large(list_of(alloc, integers(alloc, 4096)?)));
-    let longest = zeros(alloc, 4095)?;
-    assert!(rt; is_too_large(List::cons(alloc, Term::Int(0), longest)));
+    for (count, wanted) in [(4095, Some(4096)), (4096, None)] {
+        let made = (
+            tuple(alloc, integers(alloc, count)?)?,
+            list(alloc, integers(alloc, count)?)?,
+        );
+        assert_eq!(rt; made, (wanted, wanted));
+    }
     Ok(())
+}
+
+/// How many nodes a list of so many zeros has with one more in front, or a tuple of that list alone.
+fn around(alloc: Global, zeros_within: usize) -> Result<(Option<u32>, Option<u32>), Fail> {
+    let longer = match List::cons(alloc, Term::Int(0), zeros(alloc, zeros_within)?) {
+        Ok(list) => size(Ok(Term::List(list)))?,
+        Err(refused) => size(Err(refused))?,
+    };
+    let within = vec![in alloc; Term::List(zeros(alloc, zeros_within)?)]?;
+    Ok((longer, tuple(alloc, within)?))
 }
 
 #[test]
 fn nodes_count_within_elements(rt: HostRuntime) -> Result<(), Fail> {
-    let alloc = rt.alloc();
-    let mut near = Vec::new(alloc);
-    near.push(Term::List(zeros(alloc, 4094)?))?;
-    assert_eq!(rt; nodes(&tuple_of(alloc, near)?), 4096);
-    let mut past = Vec::new(alloc);
-    past.push(Term::List(zeros(alloc, 4095)?))?;
-    assert!(rt; is_too_large(tuple_of(alloc, past)));
+    assert_eq!(rt; around(rt.alloc(), 4094)?, (Some(4096), Some(4096)));
+    assert_eq!(rt; around(rt.alloc(), 4095)?, (None, None));
     Ok(())
+}
+
+/// How many nodes a list and a tuple have around a value of this depth.
+fn deeper(alloc: Global, levels: usize) -> Result<(Option<u32>, Option<u32>), Fail> {
+    let in_list = list(alloc, vec![in alloc; nest(alloc, levels)?]?)?;
+    Ok((
+        in_list,
+        tuple(alloc, vec![in alloc; nest(alloc, levels)?]?)?,
+    ))
 }
 
 #[test]
 fn greatest_depth_is_64(rt: HostRuntime) -> Result<(), Fail> {
-    let alloc = rt.alloc();
-    let deepest = nest(alloc, 64)?;
-    assert_eq!(rt; depth(&deepest), 64);
-    let mut deeper = Vec::new(alloc);
-    deeper.push(copy(&deepest)?)?;
-    assert!(rt; is_too_large(list_of(alloc, deeper)));
-    let mut deeper = Vec::new(alloc);
-    deeper.push(deepest)?;
-    assert!(rt; is_too_large(tuple_of(alloc, deeper)));
+    assert_eq!(rt; depth(&nest(rt.alloc(), 64)?), 64);
+    assert_eq!(rt; deeper(rt.alloc(), 64)?, (None, None));
     Ok(())
+}
+
+/// Whether `[1, 2]` has the head 1, and a tail that behind 9 makes `[9, 2]`.
+fn splits(alloc: Global) -> Result<bool, Fail> {
+    let list = list_of(alloc, vec![in alloc; Term::Int(1), Term::Int(2)]?)?;
+    let wanted = list_of(alloc, vec![in alloc; Term::Int(9), Term::Int(2)]?)?;
+    let Some((head, tail)) = list.split() else {
+        return Ok(false);
+    };
+    let longer = List::cons(alloc, Term::Int(9), tail.share()?)?;
+    Ok(equal(head, &Term::Int(1)) && equal(&Term::List(longer), &Term::List(wanted)))
 }
 
 #[test]
 fn heads_and_tails_are_shared(rt: HostRuntime) -> Result<(), Fail> {
-    let alloc = rt.alloc();
-    let list = list_of(alloc, vec![in alloc; Term::Int(1), Term::Int(2)]?)?;
-    match list.split() {
-        Some((head, tail)) => {
-            assert!(rt; equal(head, &Term::Int(1)));
-            let longer = List::cons(alloc, Term::Int(9), tail.share()?)?;
-            let want = list_of(alloc, vec![in alloc; Term::Int(9), Term::Int(2)]?)?;
-            assert!(rt; equal(&Term::List(longer), &Term::List(want)));
-        }
-        None => assert!(rt; false),
-    }
+    assert!(rt; splits(rt.alloc())?);
     Ok(())
 }
 
@@ -172,45 +211,58 @@ fn add_lists(alloc: Global, rising: &mut Vec<Term>) -> Result<(), Fail> {
     Ok(())
 }
 
-#[test]
-fn order_goes_by_kind_and_content(rt: HostRuntime) -> Result<(), Fail> {
-    let alloc = rt.alloc();
+/// The first two of these whose order is not that of their places.
+fn out_of_order(rising: &[Term], atoms: &AtomTable) -> Option<(usize, usize)> {
+    for (i, x) in rising.iter().enumerate() {
+        for (j, y) in rising.iter().enumerate() {
+            if order(x, y, atoms) != i.cmp(&j) {
+                return Some((i, j));
+            }
+        }
+    }
+    None
+}
+
+/// The first two values of each kind that are out of order, and how an atom that the table lacks stands to one that it has.
+fn orders(alloc: Global) -> Result<(Option<(usize, usize)>, Ordering), Fail> {
     let mut atoms = AtomTable::new(alloc)?;
     let (b, a) = (atoms.enter(alloc, b"b")?, atoms.enter(alloc, b"a")?);
     let mut rising = rising_leaves(alloc, a, b)?;
     add_tuples(alloc, &mut rising, a, b)?;
     add_lists(alloc, &mut rising)?;
-    for (i, x) in rising.iter().enumerate() {
-        for (j, y) in rising.iter().enumerate() {
-            assert!(rt; order(x, y, &atoms) == i.cmp(&j), "{i} {j}");
-        }
-    }
-    assert!(rt; order(&Term::Atom(AtomId(99)), &Term::Atom(a), &atoms) == Ordering::Less);
+    let unknown = order(&Term::Atom(AtomId(99)), &Term::Atom(a), &atoms);
+    Ok((out_of_order(&rising, &atoms), unknown))
+}
+
+#[test]
+fn order_goes_by_kind_and_content(rt: HostRuntime) -> Result<(), Fail> {
+    assert!(rt; orders(rt.alloc())? == (None, Ordering::Less));
     Ok(())
+}
+
+/// The nodes of a value that a thread with a small stack drops.
+fn dropped_on_a_small_stack<R: Threads>(rt: &R, value: Term) -> Result<u32, Fail> {
+    let small = Builder::new().stack_size(256 * 1024);
+    let dropped = small.spawn(rt, move || -> u32 {
+        let size = nodes(&value);
+        drop(value);
+        size
+    })?;
+    Ok(dropped.join(rt))
 }
 
 #[test]
 fn long_and_deep_values_drop_on_a_small_stack(rt: HostRuntime) -> Result<(), Fail> {
-    let alloc = rt.alloc();
-    let values = vec![in alloc; Term::List(zeros(alloc, 4095)?), nest(alloc, 64)?]?;
-    for value in values {
-        let small = Builder::new().stack_size(256 * 1024);
-        let dropped = small.spawn(&rt, move || -> u32 {
-            let size = nodes(&value);
-            drop(value);
-            size
-        })?;
-        let size = dropped.join(&rt);
-        assert!(rt; size == 64 || size == 4096);
-    }
+    let long = Term::List(zeros(rt.alloc(), 4095)?);
+    assert_eq!(rt; dropped_on_a_small_stack(&rt, long)?, 4096);
+    let deep = nest(rt.alloc(), 64)?;
+    assert_eq!(rt; dropped_on_a_small_stack(&rt, deep)?, 64);
     Ok(())
 }
 
 #[test]
 fn faults_print_their_codes(rt: HostRuntime) -> Result<(), Fail> {
     let large: OrNoMemory<TooLarge> = OrNoMemory::Fault(TooLarge);
-    let memory: OrNoMemory<TooLarge> = OrNoMemory::NoMemory;
-    let text = format!(in rt.alloc(); "{large} {memory}")?;
-    assert_eq!(rt; text.as_str(), "T1 NoMemory");
+    assert_eq!(rt; large.to_string(rt.alloc())?.as_str(), "T1");
     Ok(())
 }

@@ -1,10 +1,8 @@
-//! Tests of the program's work: texts, orders, whole shrinkings, and commands between readers and writers that fail.
+//! Tests of the program's work: a whole shrinking that is watched, and runs and commands between readers and writers that fail.
 #![tactic(auto)]
 
 #[cfg(test)]
 mod commands;
-#[cfg(test)]
-mod orders;
 #[cfg(test)]
 mod pieces;
 #[cfg(test)]
@@ -13,5 +11,3 @@ mod pipes;
 mod runs;
 #[cfg(test)]
 mod shrinkings;
-#[cfg(test)]
-mod texts;

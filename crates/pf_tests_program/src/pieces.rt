@@ -2,8 +2,8 @@
 
 ghost use Rattle.std.specs.Prelude.{◌≡◌, ◌<◌};
 
-use pf_fault::OrNoMemory;
-use pf_terms::{Counted, FailAt, StreamFault};
+use crate::pipes::{Ended, end_of};
+use pf_terms::{Counted, FailAt};
 use pf_wire::run_steps;
 use std::alloc::{AllocError, Global};
 use std::hash::RandomState;
@@ -54,8 +54,14 @@ impl Write for Tally {
 /// What was written, in so many calls, and how the work ended.
 #[derive(Drop)]
 struct Told {
-    answer: Result<u8, OrNoMemory<StreamFault>>,
+    ended: Ended,
     tally: Tally,
+}
+
+impl Told {
+    fn is(&self, ended: Ended, text: &[u8]) -> bool {
+        self.ended == ended && self.tally.taken.as_slice() == text
+    }
 }
 
 fn tell_by<L: Ledger, M: Ledger>(
@@ -81,9 +87,9 @@ fn tell_by<L: Ledger, M: Ledger>(
     };
     let mut reader = Counted::<FailAt<Bites<'_>>, L>::new(FailAt::new(bites, failing), reads);
     let mut writer = Counted::<Tally, M>::new(tally, writes);
-    let answer = run_steps(alloc, keys, &mut reader, &mut writer);
+    let ended = end_of(run_steps(alloc, keys, &mut reader, &mut writer));
     let Counted { inner: tally, .. } = writer;
-    Told { answer, tally }
+    Told { ended, tally }
 }
 
 /// Carries out commands that come in pieces of this size, where call `failing` of the reader fails; none does where it is 0.
@@ -134,79 +140,107 @@ fn until(alloc: Global, read: usize) -> Result<(Vec<u8>, Vec<u8>), AllocError> {
     Ok((input, text))
 }
 
-#[test]
-fn pieces_of_any_size_get_the_same_text(rt: HostRuntime) -> Result<(), Fail> {
-    let alloc = rt.alloc();
-    let keys = RandomState::new(&rt)?;
+/// The size of the first pieces by which the commands aren't answered as they are whole, 0 where there is none.
+fn first_that_differs(alloc: Global, keys: RandomState) -> Result<usize, AllocError> {
     let (input, text) = until(alloc, usize::MAX)?;
     for size in 1..=input.len() {
         let told = tell(alloc, keys, &input, size, 0);
-        assert!(rt; matches!(&told.answer, Ok(0)), "{size} bytes at once");
-        assert_eq!(rt;
-            told.tally.taken.as_slice(),
-            text.as_slice(),
-            "{size} bytes at once"
-        );
+        if !told.is(Ended::Status(0), &text) {
+            return Ok(size);
+        }
     }
-    Ok(())
+    Ok(0)
 }
 
 #[test]
-fn a_reader_that_fails_leaves_what_was_answered(rt: HostRuntime) -> Result<(), Fail> {
-    let alloc = rt.alloc();
+fn pieces_of_any_size_get_the_same_text(rt: HostRuntime) -> Result<(), Fail> {
     let keys = RandomState::new(&rt)?;
+    assert_eq!(rt; first_that_differs(rt.alloc(), keys)?, 0);
+    Ok(())
+}
+
+/// How many bytes are read, one at a time, before the reader fails and what was answered by then is not what goes out.
+fn bytes_before_another_answer(alloc: Global, keys: RandomState) -> Result<usize, AllocError> {
     let (input, _) = until(alloc, 0)?;
     for read in 0..=input.len() {
         // What stands at the end is a command only once the input has ended.
         let (_, text) = until(alloc, read.min(input.len().saturating_sub(1)))?;
         let told = tell(alloc, keys, &input, 1, (read as u64).saturating_add(1));
-        assert!(rt;
-            matches!(&told.answer, Err(OrNoMemory::Fault(StreamFault::Read(_)))),
-            "{read} bytes"
-        );
-        assert_eq!(rt;
-            told.tally.taken.as_slice(),
-            text.as_slice(),
-            "{read} bytes"
-        );
+        if !told.is(Ended::NotRead, &text) {
+            return Ok(read);
+        }
     }
+    Ok(usize::MAX)
+}
+
+#[test]
+fn a_reader_that_fails_leaves_what_was_answered(rt: HostRuntime) -> Result<(), Fail> {
+    let keys = RandomState::new(&rt)?;
+    assert_eq!(rt; bytes_before_another_answer(rt.alloc(), keys)?, usize::MAX);
     Ok(())
+}
+
+/// So many lines that find nothing queued, and their answers.
+fn idle(alloc: Global, lines: usize) -> Result<(Vec<u8>, Vec<u8>), AllocError> {
+    let mut input = Vec::new(alloc);
+    let mut text = Vec::new(alloc);
+    for _ in 0..lines {
+        input.extend_from_slice(b"once 7 1\n")?;
+        text.extend_from_slice(b"w0 not now N2\n")?;
+    }
+    Ok((input, text))
+}
+
+/// In how many writes these are answered; 0 where another text goes out.
+fn writes_of(
+    alloc: Global,
+    keys: RandomState,
+    input: &[u8],
+    text: &[u8],
+    size: usize,
+    ended: Ended,
+) -> usize {
+    let told = tell(alloc, keys, input, size, 0);
+    if told.is(ended, text) {
+        told.tally.calls
+    } else {
+        0
+    }
 }
 
 #[test]
 fn one_write_answers_many_lines(rt: HostRuntime) -> Result<(), Fail> {
-    let alloc = rt.alloc();
     let keys = RandomState::new(&rt)?;
-    let mut input = Vec::new(alloc);
-    let mut text = Vec::new(alloc);
-    for _ in 0..1_000 {
-        input.extend_from_slice(b"once 7 1\n")?;
-        text.extend_from_slice(b"w0 not now N2\n")?;
-    }
-    let told = tell(alloc, keys, &input, usize::MAX, 0);
-    assert_eq!(rt; told.tally.taken.as_slice(), text.as_slice());
-    assert_eq!(rt; told.tally.calls, 1);
+    let (input, text) = idle(rt.alloc(), 1_000)?;
+    let writes = writes_of(
+        rt.alloc(),
+        keys,
+        &input,
+        &text,
+        usize::MAX,
+        Ended::Status(0),
+    );
+    assert_eq!(rt; writes, 1);
     Ok(())
 }
 
-#[test]
-fn long_lines_and_many_replies_go_out_whole(rt: HostRuntime) -> Result<(), Fail> {
-    let alloc = rt.alloc();
-    let keys = RandomState::new(&rt)?;
-    let mut input = Vec::new(alloc);
-    let mut text = Vec::new(alloc);
-    for _ in 0..20_000 {
-        input.extend_from_slice(b"once 7 1\n")?;
-        text.extend_from_slice(b"w0 not now N2\n")?;
-    }
+/// Many lines, one that is long with as long a source, and one that is no command and has no end, with their answers.
+fn long(alloc: Global) -> Result<(Vec<u8>, Vec<u8>), AllocError> {
+    let (mut input, mut text) = idle(alloc, 20_000)?;
     input.extend_from_slice(b"submit 7 300000\n")?;
     input.extend_from_slice(&vec![in alloc; b' '; 300_000]?)?;
     input.extend_from_slice(b"\nusage 7\nusages")?;
     text.extend_from_slice(b"p7 refused Q2\np7 usage 0 0 0 0 1\ncommand 20003 refused C1\n")?;
+    Ok((input, text))
+}
+
+#[test]
+fn long_lines_and_many_replies_go_out_whole(rt: HostRuntime) -> Result<(), Fail> {
+    let keys = RandomState::new(&rt)?;
+    let (input, text) = long(rt.alloc())?;
     for size in [100, 4_096, 65_536, 1_000_000] {
-        let told = tell(alloc, keys, &input, size, 0);
-        assert!(rt; matches!(&told.answer, Ok(2)), "{size} bytes at once");
-        assert!(rt; told.tally.taken == text, "{size} bytes at once");
+        let writes = writes_of(rt.alloc(), keys, &input, &text, size, Ended::Status(2));
+        assert!(rt; writes != 0, "{size} bytes at once");
     }
     Ok(())
 }

@@ -58,7 +58,7 @@ pub struct Failing {
     pub write: u64,
 }
 
-fn end_of(answer: Result<u8, OrNoMemory<StreamFault>>) -> Ended {
+pub fn end_of(answer: Result<u8, OrNoMemory<StreamFault>>) -> Ended {
     match answer {
         Ok(status) => Ended::Status(status),
         Err(OrNoMemory::Fault(StreamFault::Read(_))) => Ended::NotRead,

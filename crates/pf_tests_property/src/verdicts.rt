@@ -38,31 +38,42 @@ fn where_sent(alloc: Global, text: &str, message: Term) -> Result<char, Fail> {
     after(alloc, text, Label::Sends { to: 1, message })
 }
 
-#[test]
-fn never_looks_for_messages_that_fit(rt: HostRuntime) -> Result<(), Fail> {
-    let alloc = rt.alloc();
+/// The verdicts of `never:{X, X}` where `{1, 1}` is sent, and where `{1, 2}` is.
+fn of_pairs(alloc: Global) -> Result<(char, char), Fail> {
     let same = pair(alloc, Term::Int(1), Term::Int(1))?;
     let other = pair(alloc, Term::Int(1), Term::Int(2))?;
-    assert_eq!(rt; where_sent(alloc, "never:{X, X}", same)?, '-');
-    assert_eq!(rt; where_sent(alloc, "never:{X, X}", other)?, '+');
-    assert_eq!(rt; where_sent(alloc, "never:ready", Term::Atom(READY))?, '-');
-    assert_eq!(rt; where_sent(alloc, "never:normal", Term::Atom(READY))?, '+');
-    assert_eq!(rt; where_sent(alloc, "never:gone", Term::Atom(READY))?, '+');
-    assert_eq!(rt; where_sent(alloc, "never:_", Term::Int(0))?, '-');
+    let first = where_sent(alloc, "never:{X, X}", same)?;
+    Ok((first, where_sent(alloc, "never:{X, X}", other)?))
+}
+
+#[test]
+fn never_looks_for_messages_that_fit(rt: HostRuntime) -> Result<(), Fail> {
+    assert_eq!(rt; of_pairs(rt.alloc())?, ('-', '+'));
+    for (text, wanted) in [
+        ("never:ready", '-'),
+        ("never:normal", '+'),
+        ("never:gone", '+'),
+        ("never:_", '-'),
+    ] {
+        assert_eq!(rt; where_sent(rt.alloc(), text, Term::Atom(READY))?, wanted);
+    }
     Ok(())
+}
+
+/// The verdicts of `never:1` where 1 is delivered, where it is taken, and where it is the reason of an exit.
+fn of_other_labels(alloc: Global) -> Result<[char; 3], Fail> {
+    let delivered = Label::Delivers(Signal::Message(Term::Int(1)), Suffix::TookEffect);
+    let reason = Term::Int(1);
+    Ok([
+        after(alloc, "never:1", delivered)?,
+        after(alloc, "never:1", Label::Takes(Term::Int(1)))?,
+        after(alloc, "never:1", Label::Exits { pid: 1, reason })?,
+    ])
 }
 
 #[test]
 fn never_looks_at_what_is_sent_alone(rt: HostRuntime) -> Result<(), Fail> {
-    let alloc = rt.alloc();
-    let delivered = Label::Delivers(Signal::Message(Term::Int(1)), Suffix::TookEffect);
-    assert_eq!(rt; after(alloc, "never:1", delivered)?, '+');
-    assert_eq!(rt; after(alloc, "never:1", Label::Takes(Term::Int(1)))?, '+');
-    let reason = Term::Int(1);
-    assert_eq!(rt;
-        after(alloc, "never:1", Label::Exits { pid: 1, reason })?,
-        '+'
-    );
+    assert_eq!(rt; of_other_labels(rt.alloc())?, ['+', '+', '+']);
     Ok(())
 }
 
@@ -78,22 +89,25 @@ fn exit(suffix: Suffix) -> Label {
     )
 }
 
+/// The verdict of `nocrash` where this is shown.
+fn crash(alloc: Global, label: Label) -> Result<char, Fail> {
+    after(alloc, "nocrash", label)
+}
+
+/// Its verdicts where a process ends with this reason by itself, and at an exit signal.
+fn of_ends(alloc: Global, reason: AtomId) -> Result<(char, char), Fail> {
+    let by_itself = crash(alloc, Label::Ends(Term::Atom(reason)))?;
+    let at_a_signal = exit(Suffix::EndingWith(Term::Atom(reason)));
+    Ok((by_itself, crash(alloc, at_a_signal)?))
+}
+
 #[test]
 fn no_crash_counts_ends_but_normal_ones(rt: HostRuntime) -> Result<(), Fail> {
-    let alloc = rt.alloc();
-    let normal = Term::Atom(AtomId::NORMAL);
-    assert_eq!(rt; after(alloc, "nocrash", Label::Ends(normal))?, '+');
-    let kill = Term::Atom(AtomId::KILL);
-    assert_eq!(rt; after(alloc, "nocrash", Label::Ends(kill))?, '-');
-    let killed = Term::Atom(AtomId::KILLED);
-    let ended = exit(Suffix::EndingWith(killed));
-    assert_eq!(rt; after(alloc, "nocrash", ended)?, '-');
-    let normal = Term::Atom(AtomId::NORMAL);
-    let ended = exit(Suffix::EndingWith(normal));
-    assert_eq!(rt; after(alloc, "nocrash", ended)?, '+');
-    assert_eq!(rt; after(alloc, "nocrash", exit(Suffix::AsMessage))?, '+');
+    assert_eq!(rt; of_ends(rt.alloc(), AtomId::NORMAL)?, ('+', '+'));
+    assert_eq!(rt; of_ends(rt.alloc(), AtomId::KILLED)?, ('-', '-'));
+    assert_eq!(rt; crash(rt.alloc(), exit(Suffix::AsMessage))?, '+');
     let badarith = Term::Atom(AtomId::BADARITH);
-    assert_eq!(rt; after(alloc, "nocrash", Label::Raises(badarith))?, '+');
+    assert_eq!(rt; crash(rt.alloc(), Label::Raises(badarith))?, '+');
     Ok(())
 }
 
@@ -117,17 +131,20 @@ fn all(alloc: Global, outcome: &Outcome) -> Result<String, Fail> {
 #[test]
 fn each_property_has_its_verdict_at_each_outcome(rt: HostRuntime) -> Result<(), Fail> {
     let alloc = rt.alloc();
-    let cases = [
-        (Outcome::Finished(Term::Atom(AtomId::TRUE)), "++++++"),
-        (Outcome::Finished(Term::Int(1)), "+-++++"),
-        (Outcome::Ended(Term::Atom(AtomId::TRUE)), "--++++"),
-        (Outcome::Deadlock(vec![in alloc; 0, 2]?), "--+-++"),
-        (Outcome::Limit, "--++-+"),
-        (Outcome::Memory, "......"),
-    ];
-    for (outcome, want) in cases {
-        let told = all(alloc, &outcome)?;
-        assert_eq!(rt; told.as_str(), want);
-    }
+    let finished = Outcome::Finished(Term::Atom(AtomId::TRUE));
+    assert_eq!(rt; all(alloc, &finished)?.as_str(), "++++++");
+    let other = Outcome::Finished(Term::Int(1));
+    assert_eq!(rt; all(alloc, &other)?.as_str(), "+-++++");
+    let ended = Outcome::Ended(Term::Atom(AtomId::TRUE));
+    assert_eq!(rt; all(alloc, &ended)?.as_str(), "--++++");
+    assert_eq!(rt; all(alloc, &Outcome::Limit)?.as_str(), "--++-+");
+    assert_eq!(rt; all(alloc, &Outcome::Memory)?.as_str(), "......");
+    Ok(())
+}
+
+#[test]
+fn no_deadlock_counts_a_deadlock(rt: HostRuntime) -> Result<(), Fail> {
+    let deadlock = Outcome::Deadlock(vec![in rt.alloc(); 0, 2]?);
+    assert_eq!(rt; all(rt.alloc(), &deadlock)?.as_str(), "--+-++");
     Ok(())
 }

@@ -106,17 +106,3 @@ pub(crate) fn run_sliced(alloc: Global, job: &Arc<Job>, turns: u32) -> Result<Fi
     }
     Err(Fail::from("the run goes on"))
 }
-
-/// The report of a run of `main` by a schedule, asked whether it returns, as it prints.
-pub(crate) fn printed(
-    alloc: Global,
-    keys: RandomState,
-    source: &str,
-    numbers: &[u32],
-    limit: u32,
-) -> Result<String, Fail> {
-    let stored = stored(alloc, keys, source)?;
-    let choices = scheduled(alloc, numbers)?;
-    let job = job_of(alloc, &stored, b"returns", choices, limit)?;
-    text_of(alloc, &run_whole(alloc, &job)?)
-}

@@ -8,8 +8,6 @@ mod driven;
 #[cfg(test)]
 mod refusals;
 #[cfg(test)]
-mod runs;
-#[cfg(test)]
 mod shrinkings;
 #[cfg(test)]
 mod slices;

@@ -18,16 +18,6 @@ fn refused(
     stored: &Stored,
     root: &str,
     property: &str,
-    limit: u32,
-) -> Result<Option<JobRefusal>, Fail> {
-    refused_with(alloc, stored, root, property, JobChoices::Seed(1), limit)
-}
-
-fn refused_with(
-    alloc: Global,
-    stored: &Stored,
-    root: &str,
-    property: &str,
     choices: JobChoices,
     limit: u32,
 ) -> Result<Option<JobRefusal>, Fail> {
@@ -40,85 +30,75 @@ fn refused_with(
     }
 }
 
-#[test]
-fn a_root_is_exported_without_arguments(rt: HostRuntime) -> Result<(), Fail> {
-    let alloc = rt.alloc();
-    let stored = stored(alloc, RandomState::new(&rt)?, MODULE)?;
-    for root in ["other", "hidden", "nothing", ""] {
-        let refusal = refused(alloc, &stored, root, "returns", 1)?;
-        assert_eq!(rt; refusal, Some(JobRefusal::NoRoot));
+const NO_ROOT: Option<JobRefusal> = Some(JobRefusal::NoRoot);
+
+const NO_PROPERTY: Option<JobRefusal> = Some(JobRefusal::NoProperty);
+
+const OUT_OF_RANGE: Option<JobRefusal> = Some(JobRefusal::OutOfRange);
+
+/// Root, property and limit of jobs, and what they are refused for. The last two tell which refusal goes first.
+const JOBS: [(&str, &str, u32, Option<JobRefusal>); 14] = [
+    ("main", "returns", 1, None),
+    ("main", "never:{ok, X}", 100_000, None),
+    ("main", "withinlimit", 1, None),
+    ("other", "returns", 1, NO_ROOT),
+    ("hidden", "returns", 1, NO_ROOT),
+    ("", "returns", 1, NO_ROOT),
+    ("main", "", 1, NO_PROPERTY),
+    ("main", "return", 1, NO_PROPERTY),
+    ("main", "never:", 1, NO_PROPERTY),
+    ("main", "never:ok.", 1, NO_PROPERTY),
+    ("main", "returns", 0, OUT_OF_RANGE),
+    ("main", "returns", 100_001, OUT_OF_RANGE),
+    ("nothing", "return", 0, NO_ROOT),
+    ("main", "return", 0, NO_PROPERTY),
+];
+
+/// The first of these jobs that is refused for something else, or isn't.
+fn other_refusal(alloc: Global, keys: RandomState) -> Result<Option<usize>, Fail> {
+    let stored = stored(alloc, keys, MODULE)?;
+    for (at, (root, property, limit, wanted)) in JOBS.iter().enumerate() {
+        let choices = JobChoices::Seed(1);
+        if refused(alloc, &stored, root, property, choices, *limit)? != *wanted {
+            return Ok(Some(at));
+        }
     }
-    assert_eq!(rt; refused(alloc, &stored, "main", "returns", 1)?, None);
-    Ok(())
+    Ok(None)
 }
 
 #[test]
-fn a_property_is_one_of_six(rt: HostRuntime) -> Result<(), Fail> {
-    let alloc = rt.alloc();
-    let stored = stored(alloc, RandomState::new(&rt)?, MODULE)?;
-    for property in ["", "return", "never", "never:", "never:ok."] {
-        let refusal = refused(alloc, &stored, "main", property, 1)?;
-        assert_eq!(rt; refusal, Some(JobRefusal::NoProperty));
-    }
-    for property in [
-        "true",
-        "nocrash",
-        "nodeadlock",
-        "withinlimit",
-        "never:{ok, X}",
-    ] {
-        assert_eq!(rt; refused(alloc, &stored, "main", property, 1)?, None);
-    }
+fn jobs_are_refused_in_order(rt: HostRuntime) -> Result<(), Fail> {
+    let keys = RandomState::new(&rt)?;
+    assert_eq!(rt; other_refusal(rt.alloc(), keys)?, None);
     Ok(())
 }
 
-#[test]
-fn limits_and_schedules_are_within_bounds(rt: HostRuntime) -> Result<(), Fail> {
-    let alloc = rt.alloc();
-    let stored = stored(alloc, RandomState::new(&rt)?, MODULE)?;
-    for limit in [1, 100_000] {
-        assert_eq!(rt; refused(alloc, &stored, "main", "returns", limit)?, None);
-    }
-    for limit in [0, 100_001, 4_294_967_295] {
-        let refusal = refused(alloc, &stored, "main", "returns", limit)?;
-        assert_eq!(rt; refusal, Some(JobRefusal::OutOfRange));
-    }
-    let mut numbers = Vec::new(alloc);
-    for _ in 0..MOST_CHOICES {
-        numbers.push(0)?;
-    }
-    let most = scheduled(alloc, numbers.as_slice())?;
-    assert_eq!(rt;
-        refused_with(alloc, &stored, "main", "returns", most, 1)?,
-        None
-    );
-    numbers.push(0)?;
-    let more = scheduled(alloc, numbers.as_slice())?;
-    let refusal = refused_with(alloc, &stored, "main", "returns", more, 1)?;
-    assert_eq!(rt; refusal, Some(JobRefusal::OutOfRange));
-    Ok(())
+/// What a job with a schedule of so many zeros is refused for.
+fn of_zeros(alloc: Global, keys: RandomState, count: usize) -> Result<Option<JobRefusal>, Fail> {
+    let zeros = vec![in alloc; 0; count]?;
+    let choices = scheduled(alloc, &zeros)?;
+    let stored = stored(alloc, keys, MODULE)?;
+    refused(alloc, &stored, "main", "returns", choices, 1)
 }
 
 #[test]
-fn the_first_refusal_is_told(rt: HostRuntime) -> Result<(), Fail> {
-    let alloc = rt.alloc();
-    let stored = stored(alloc, RandomState::new(&rt)?, MODULE)?;
-    let first = refused(alloc, &stored, "nothing", "return", 0)?;
-    assert_eq!(rt; first, Some(JobRefusal::NoRoot));
-    let second = refused(alloc, &stored, "main", "return", 0)?;
-    assert_eq!(rt; second, Some(JobRefusal::NoProperty));
+fn schedules_are_within_bounds(rt: HostRuntime) -> Result<(), Fail> {
+    let keys = RandomState::new(&rt)?;
+    let most = MOST_CHOICES as usize;
+    assert_eq!(rt; of_zeros(rt.alloc(), keys, most)?, None);
+    assert_eq!(rt; of_zeros(rt.alloc(), keys, most + 1)?, OUT_OF_RANGE);
     Ok(())
 }
 
 #[test]
 fn refusals_have_codes(rt: HostRuntime) -> Result<(), Fail> {
-    let alloc = rt.alloc();
-    for (refusal, code) in [
-        (JobRefusal::NoRoot, "B2"),
-        (JobRefusal::NoProperty, "P1"),
-        (JobRefusal::OutOfRange, "B6"),
-    ] {
-        assert_eq!(rt; format!(in alloc; "{}", refusal.code())?.as_str(), code);
-    }
+    let codes = [
+        JobRefusal::NoRoot,
+        JobRefusal::NoProperty,
+        JobRefusal::OutOfRange,
+    ]
+    .map(|refusal| refusal.code());
+    let text = format!(in rt.alloc(); "{} {} {}", codes[0], codes[1], codes[2])?;
+    assert_eq!(rt; text.as_str(), "B2 P1 B6");
     Ok(())
 }

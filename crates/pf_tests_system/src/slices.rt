@@ -80,16 +80,20 @@ fn ended(alloc: Global, parked: Parked, scratch: &mut Scratch) -> Result<Finishe
     }
 }
 
-#[test]
-fn a_run_is_over_behind_its_last_event(rt: HostRuntime) -> Result<(), Fail> {
-    let alloc = rt.alloc();
-    let stored = stored(alloc, RandomState::new(&rt)?, SWAPPED)?;
+/// How many events a run has, and whether its property holds, that goes on behind 14 events and is over with one more.
+fn over(alloc: Global, keys: RandomState) -> Result<(usize, Option<bool>), Fail> {
+    let stored = stored(alloc, keys, SWAPPED)?;
     let job = job_of(alloc, &stored, b"returns", scheduled(alloc, &[])?, 1000)?;
     let mut scratch = Scratch::new(alloc);
     let parked = gone(alloc, start(alloc, job)?, &mut scratch, 14)?;
     let finished = ended(alloc, parked, &mut scratch)?;
     let report = report_of(&finished)?;
-    assert_eq!(rt; report.events.len(), 15);
-    assert_eq!(rt; report.verdict, Some(true));
+    Ok((report.events.len(), report.verdict))
+}
+
+#[test]
+fn a_run_is_over_behind_its_last_event(rt: HostRuntime) -> Result<(), Fail> {
+    let keys = RandomState::new(&rt)?;
+    assert_eq!(rt; over(rt.alloc(), keys)?, (15, Some(true)));
     Ok(())
 }

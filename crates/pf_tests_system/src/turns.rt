@@ -1,6 +1,7 @@
 //! A system by hand: each call on its way, and what it shows.
 
 use crate::driven::Driven;
+use std::alloc::Global;
 use std::test::Fail;
 
 /// The root hands its pid to a child and waits for the answer.
@@ -19,41 +20,50 @@ const STOPPED: &str = "0/1 <0> spawn <1>\nlimit\nsteps 2\nno verdict\n";
 /// Who goes in turn.
 const TALK_CHOICES: [usize; 11] = [0, 0, 1, 1, 0, 0, 0, 1, 0, 0, 0];
 
-#[test]
-fn a_system_goes_on_turn_by_turn(rt: HostRuntime) -> Result<(), Fail> {
-    let alloc = rt.alloc();
+/// How many may go and how many steps there are at first, and how many may go behind the last turn, with what is told then.
+fn talk(alloc: Global) -> Result<(usize, u32, usize, String), Fail> {
     let mut run = Driven::started(alloc, TALK)?;
-    assert_eq!(rt; run.system.steps(), 0);
-    assert_eq!(rt; run.system.enabled().len(), 1);
+    let (first, steps) = (run.system.enabled().len(), run.system.steps());
     for choice in TALK_CHOICES {
         run.go(alloc, choice)?;
     }
-    assert_eq!(rt; run.system.enabled().len(), 0);
-    let text = run.printed(alloc)?;
-    assert_eq!(rt; text.as_str(), TALKED);
-    Ok(())
+    let last = run.system.enabled().len();
+    Ok((first, steps, last, run.printed(alloc)?))
 }
 
 #[test]
-fn a_system_goes_on_with_other_spare_nodes(rt: HostRuntime) -> Result<(), Fail> {
-    let alloc = rt.alloc();
+fn a_system_goes_on_turn_by_turn(rt: HostRuntime) -> Result<(), Fail> {
+    let (first, steps, last, told) = talk(rt.alloc())?;
+    assert!(rt; (first, steps, last) == (1, 0, 0) && told.as_str() == TALKED);
+    Ok(())
+}
+
+/// What is told where the spare nodes are taken away for each turn.
+fn talk_without_spare_nodes(alloc: Global) -> Result<String, Fail> {
     let mut run = Driven::started(alloc, TALK)?;
     for choice in TALK_CHOICES {
         let spare = run.system.take_pool(alloc);
         run.go(alloc, choice)?;
         run.system.put_pool(spare);
     }
-    let text = run.printed(alloc)?;
-    assert_eq!(rt; text.as_str(), TALKED);
+    run.printed(alloc)
+}
+
+#[test]
+fn a_system_goes_on_with_other_spare_nodes(rt: HostRuntime) -> Result<(), Fail> {
+    assert_eq!(rt; talk_without_spare_nodes(rt.alloc())?.as_str(), TALKED);
     Ok(())
+}
+
+/// What is told of a run that stops behind its first turn.
+fn stopped(alloc: Global) -> Result<String, Fail> {
+    let mut run = Driven::started(alloc, TALK)?;
+    run.go(alloc, 0)?;
+    run.printed(alloc)
 }
 
 #[test]
 fn a_run_that_stops_early_is_at_its_limit(rt: HostRuntime) -> Result<(), Fail> {
-    let alloc = rt.alloc();
-    let mut run = Driven::started(alloc, TALK)?;
-    run.go(alloc, 0)?;
-    let text = run.printed(alloc)?;
-    assert_eq!(rt; text.as_str(), STOPPED);
+    assert_eq!(rt; stopped(rt.alloc())?.as_str(), STOPPED);
     Ok(())
 }

@@ -6,6 +6,8 @@ mod fixtures;
 #[cfg(test)]
 mod limits;
 #[cfg(test)]
+mod parts;
+#[cfg(test)]
 mod texts;
 #[cfg(test)]
 mod writers;

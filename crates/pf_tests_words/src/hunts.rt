@@ -1,6 +1,6 @@
 //! What the words of `hunt` and of `chart` ask for.
 
-use pf_words::{HuntWords, Sought, Words, read_words, status_of_kind};
+use pf_words::{HuntWords, RunWords, Sought, Words, read_words, status_of_kind};
 use std::alloc::Global;
 use std::test::Fail;
 
@@ -25,63 +25,68 @@ fn hunt_of<'a>(alloc: Global, words: &'a [&'a str]) -> Option<HuntWords<'a>> {
     }
 }
 
+/// The seeds that a hunt is to go over.
+fn seeds_of(alloc: Global, word: &str) -> Option<(u64, u64)> {
+    let words = hunt_over(word, "a.erl");
+    let hunt = hunt_of(alloc, &words)?;
+    Some((hunt.first, hunt.end))
+}
+
 #[test]
 fn seeds_of_a_hunt(rt: HostRuntime) {
     let largest = "--seeds=18446744073709551614..18446744073709551615";
-    for (word, first, end) in [
-        ("--seeds=0..1", 0, 1),
-        ("--seeds=7..1000", 7, 1000),
-        (largest, u64::MAX - 1, u64::MAX),
+    for (word, seeds) in [
+        ("--seeds=0..1", (0, 1)),
+        ("--seeds=7..1000", (7, 1000)),
+        (largest, (u64::MAX - 1, u64::MAX)),
     ] {
-        let words = hunt_over(word, "a.erl");
-        match hunt_of(rt.alloc(), &words) {
-            Some(hunt) => {
-                assert_eq!(rt; hunt.first, first);
-                assert_eq!(rt; hunt.end, end);
-            }
-            None => assert!(rt; false, "{word}"),
-        }
+        assert_eq!(rt; seeds_of(rt.alloc(), word), Some(seeds));
     }
+}
+
+/// Whether a hunt has what it is given, and no more.
+fn is_as_given(hunt: &HuntWords) -> bool {
+    hunt.file == Some("a.erl")
+        && hunt.root == "main"
+        && hunt.limit == 5
+        && hunt.property == "true"
+        && hunt.workers.is_none()
+        && matches!(hunt.sought, Sought::Failure { runs: None })
 }
 
 #[test]
 fn a_hunt_has_what_it_is_given(rt: HostRuntime) {
     let words = hunt_over("--seeds=0..10", "a.erl");
-    match hunt_of(rt.alloc(), &words) {
-        Some(hunt) => {
-            assert_eq!(rt; hunt.file, Some("a.erl"));
-            assert_eq!(rt; hunt.root, "main");
-            assert_eq!(rt; hunt.limit, 5);
-            assert_eq!(rt; hunt.property, "true");
-            assert_eq!(rt; hunt.workers, None);
-            assert!(rt; matches!(hunt.sought, Sought::Failure { runs: None }));
-        }
-        None => assert!(rt; false),
+    assert!(rt; matches!(&hunt_of(rt.alloc(), &words), Some(hunt) if is_as_given(hunt)));
+}
+
+/// Whether a hunt seeks outcomes, or within how many runs it shrinks; none where the word is refused.
+fn sought(alloc: Global, word: &str) -> Option<(bool, Option<u32>)> {
+    let words = hunt_over("--seeds=0..10", word);
+    let hunt = hunt_of(alloc, &words)?;
+    match hunt.sought {
+        Sought::Outcomes => Some((true, None)),
+        Sought::Failure { runs } => Some((false, runs)),
     }
 }
 
 #[test]
 fn what_a_hunt_seeks(rt: HostRuntime) {
-    let all = hunt_over("--seeds=0..10", "--all");
-    let shrink = hunt_over("--seeds=0..10", "--shrink=4294967295");
-    match (hunt_of(rt.alloc(), &all), hunt_of(rt.alloc(), &shrink)) {
-        (Some(all), Some(shrink)) => {
-            assert!(rt; matches!(all.sought, Sought::Outcomes));
-            let runs = Some(4294967295);
-            assert!(rt; matches!(shrink.sought, Sought::Failure { runs: found } if found == runs));
-        }
-        _ => assert!(rt; false),
-    }
+    assert_eq!(rt; sought(rt.alloc(), "--all"), Some((true, None)));
+    let shrinking = sought(rt.alloc(), "--shrink=4294967295");
+    assert_eq!(rt; shrinking, Some((false, Some(4294967295))));
+}
+
+/// How many workers a hunt has; none where the word is refused.
+fn workers(alloc: Global, word: &str) -> Option<u32> {
+    let words = hunt_over("--seeds=0..10", word);
+    hunt_of(alloc, &words)?.workers
 }
 
 #[test]
 fn workers_of_a_hunt(rt: HostRuntime) {
-    for (word, workers) in [("--workers=1", 1), ("--workers=64", 64)] {
-        match hunt_of(rt.alloc(), &hunt_over("--seeds=0..10", word)) {
-            Some(hunt) => assert_eq!(rt; hunt.workers, Some(workers)),
-            None => assert!(rt; false, "{word}"),
-        }
-    }
+    assert_eq!(rt; workers(rt.alloc(), "--workers=1"), Some(1));
+    assert_eq!(rt; workers(rt.alloc(), "--workers=64"), Some(64));
 }
 
 /// What is said of words of `hunt` that are refused for this.
@@ -108,12 +113,32 @@ fn is_refused(alloc: Global, words: &[&str], why: &str) -> Result<bool, Fail> {
     }
 }
 
+/// The first of these values of an option of a hunt, behind another word, that isn't refused as it wants something else.
+fn taken_value<'a>(
+    alloc: Global,
+    other: &str,
+    option: &str,
+    placeholder: &str,
+    values: &[&'a str],
+    wants: &str,
+) -> Result<Option<&'a str>, Fail> {
+    for value in values {
+        let word = format!(in alloc; "{option}={value}")?;
+        let why = format!(in alloc;
+            "invalid value '{value}' for '{option} {placeholder}': it wants {wants}"
+        )?;
+        if !is_refused(alloc, &hunt_over(other, &word), &why)? {
+            return Ok(Some(*value));
+        }
+    }
+    Ok(None)
+}
+
 #[test]
 fn wrong_seeds_are_named(rt: HostRuntime) -> Result<(), Fail> {
-    let alloc = rt.alloc();
     let wants =
         "two numbers A..B from 0 to 18446744073709551615, without leading zeros, A below B; B is the end and not run";
-    for value in [
+    let values = [
         "",
         "5",
         "5..",
@@ -125,32 +150,25 @@ fn wrong_seeds_are_named(rt: HostRuntime) -> Result<(), Fail> {
         "00..5",
         "0.5",
         "0..18446744073709551616",
-    ] {
-        let word = format!(in alloc; "--seeds={value}")?;
-        let why = format!(in alloc;
-            "invalid value '{value}' for '--seeds <A..B>': it wants {wants}"
-        )?;
-        assert!(rt;
-            is_refused(alloc, &hunt_over(&word, "a.erl"), &why)?,
-            "{value}"
-        );
-    }
+    ];
+    let taken = taken_value(rt.alloc(), "a.erl", "--seeds", "<A..B>", &values, wants)?;
+    assert_eq!(rt; taken, None);
     Ok(())
 }
 
 #[test]
 fn wrong_workers_are_named(rt: HostRuntime) -> Result<(), Fail> {
-    let alloc = rt.alloc();
-    for value in ["", "0", "65", "01", "-1"] {
-        let word = format!(in alloc; "--workers={value}")?;
-        let why = format!(in alloc;
-            "invalid value '{value}' for '--workers <N>': it wants a number of threads from 1 to 64, without leading zeros"
-        )?;
-        assert!(rt;
-            is_refused(alloc, &hunt_over("--seeds=0..5", &word), &why)?,
-            "{value}"
-        );
-    }
+    let wants = "a number of threads from 1 to 64, without leading zeros";
+    let values = ["", "0", "65", "01", "-1"];
+    let taken = taken_value(
+        rt.alloc(),
+        "--seeds=0..5",
+        "--workers",
+        "<N>",
+        &values,
+        wants,
+    )?;
+    assert_eq!(rt; taken, None);
     Ok(())
 }
 
@@ -172,6 +190,11 @@ fn each_outcome_is_not_sought_with_a_shrinking(rt: HostRuntime) -> Result<(), Fa
     Ok(())
 }
 
+/// Whether it is a run of `main` of this file, asked whether it returns.
+fn returns_of(run: &RunWords, file: &str) -> bool {
+    run.file == Some(file) && run.root == "main" && run.property == "returns"
+}
+
 #[test]
 fn a_chart_takes_the_words_of_a_run(rt: HostRuntime) {
     let words = [
@@ -182,12 +205,6 @@ fn a_chart_takes_the_words_of_a_run(rt: HostRuntime) {
         "--limit=5",
         "--seed=3",
     ];
-    match read_words(rt.alloc(), &words) {
-        Ok(Words::Chart(run)) => {
-            assert_eq!(rt; run.file, Some("a.erl"));
-            assert_eq!(rt; run.root, "main");
-            assert_eq!(rt; run.property, "returns");
-        }
-        _ => assert!(rt; false),
-    }
+    let asked = read_words(rt.alloc(), &words);
+    assert!(rt; matches!(&asked, Ok(Words::Chart(run)) if returns_of(run, "a.erl")));
 }

@@ -1,7 +1,7 @@
 //! What words ask for, and what is said of words that ask for nothing.
 
 use pf_sched::JobChoices;
-use pf_words::{Words, read_words, status_of_kind};
+use pf_words::{RunWords, ShrinkWords, Words, read_words, status_of_kind};
 use std::alloc::Global;
 use std::test::Fail;
 
@@ -24,12 +24,6 @@ For more information, try '--help'.
     )?)
 }
 
-/// What is said of a value of this option that isn't what the option wants.
-fn refused_value(alloc: Global, option: &str, value: &str, wants: &str) -> Result<String, Fail> {
-    let why = format!(in alloc; "invalid value '{value}' for '{option}': it wants {wants}")?;
-    refused_run(alloc, &why)
-}
-
 /// Whether these words are refused with this text, and the status 2.
 fn are_refused(alloc: Global, words: &[&str], text: &str) -> Result<bool, Fail> {
     match read_words(alloc, words) {
@@ -41,75 +35,112 @@ fn are_refused(alloc: Global, words: &[&str], text: &str) -> Result<bool, Fail> 
     }
 }
 
+/// Whether these words of `run`, beside a root, are refused for this.
+fn is_refused(alloc: Global, words: &[&str; 3], why: &str) -> Result<bool, Fail> {
+    let all = [
+        "pulsefarm",
+        "run",
+        "--root=main",
+        words[0],
+        words[1],
+        words[2],
+    ];
+    let text = refused_run(alloc, why)?;
+    are_refused(alloc, &all, &text)
+}
+
 #[test]
 fn texts_of_refused_words(rt: HostRuntime) -> Result<(), Fail> {
-    let alloc = rt.alloc();
-    let missing = refused_run(
-        alloc,
-        "the following required arguments were not provided:\n  --limit <N>",
-    )?;
-    let unbounded = ["pulsefarm", "run", "--root=main", "--seed=5"];
-    assert!(rt; are_refused(alloc, &unbounded, &missing)?);
-    assert!(rt; are_refused(alloc, &["pulsefarm", "steps", "a", "b"], TWO_FILES)?);
+    let why = "the following required arguments were not provided:\n  --limit <N>";
+    assert!(rt; is_refused(rt.alloc(), &["--seed=5", "--property=true", "a"], why)?);
+    assert!(rt; are_refused(rt.alloc(), &["pulsefarm", "steps", "a", "b"], TWO_FILES)?);
     Ok(())
 }
 
 #[test]
 fn one_of_a_seed_and_a_schedule_is_given(rt: HostRuntime) -> Result<(), Fail> {
-    let alloc = rt.alloc();
-    let neither = refused_run(alloc, "one of '--seed <N>' and '--schedule <L>' is wanted")?;
-    let bounded = ["pulsefarm", "run", "--root=main", "--limit=5"];
-    assert!(rt; are_refused(alloc, &bounded, &neither)?);
-    let both = refused_run(
-        alloc,
-        "the argument '--seed <N>' cannot be used with '--schedule <L>'",
-    )?;
-    let words = [
-        "pulsefarm",
-        "run",
-        "--root=main",
-        "--limit=5",
-        "--schedule=none",
-        "--seed=5",
-    ];
-    assert!(rt; are_refused(alloc, &words, &both)?);
+    let why = "one of '--seed <N>' and '--schedule <L>' is wanted";
+    assert!(rt; is_refused(rt.alloc(), &["--limit=5", "--property=true", "a"], why)?);
+    let why = "the argument '--seed <N>' cannot be used with '--schedule <L>'";
+    assert!(rt;
+        is_refused(
+            rt.alloc(),
+            &["--limit=5", "--schedule=none", "--seed=5"],
+            why
+        )?
+    );
+    Ok(())
+}
+
+/// The first of these values of an option of `run`, beside the others, that isn't refused as it wants something else.
+fn taken_value<'a>(
+    alloc: Global,
+    others: &[&str; 2],
+    option: &str,
+    placeholder: &str,
+    values: &[&'a str],
+    wants: &str,
+) -> Result<Option<&'a str>, Fail> {
+    for value in values {
+        let word = format!(in alloc; "{option}={value}")?;
+        let words = ["pulsefarm", "run", others[0], others[1], &word];
+        let why = format!(in alloc;
+            "invalid value '{value}' for '{option} {placeholder}': it wants {wants}"
+        )?;
+        if !are_refused(alloc, &words, &refused_run(alloc, &why)?)? {
+            return Ok(Some(*value));
+        }
+    }
+    Ok(None)
+}
+
+#[test]
+fn wrong_limits_are_named(rt: HostRuntime) -> Result<(), Fail> {
+    let wants = "a number of steps from 1 to 100000, without leading zeros";
+    let others = ["--root=main", "--schedule=none"];
+    let values = ["007", "+5", "-1", "", "4294967296", "a b"];
+    let taken = taken_value(rt.alloc(), &others, "--limit", "<N>", &values, wants)?;
+    assert_eq!(rt; taken, None);
     Ok(())
 }
 
 #[test]
-fn wrong_values_are_named(rt: HostRuntime) -> Result<(), Fail> {
-    let alloc = rt.alloc();
-    let wants = "a number of steps from 1 to 100000, without leading zeros";
-    for value in ["007", "+5", "-1", "", "4294967296", "a b"] {
-        let word = format!(in alloc; "--limit={value}")?;
-        let words = ["pulsefarm", "run", "--root=main", &word, "--schedule=none"];
-        let text = refused_value(alloc, "--limit <N>", value, wants)?;
-        assert!(rt; are_refused(alloc, &words, &text)?, "{value}");
-    }
+fn wrong_schedules_are_named(rt: HostRuntime) -> Result<(), Fail> {
     let wants = "`none`, or numbers from 0 to 4294967295 with commas between them";
-    for value in ["", "1,02", "1,,2", "all", "-1"] {
-        let word = format!(in alloc; "--schedule={value}")?;
-        let words = ["pulsefarm", "run", "--root=main", "--limit=5", &word];
-        let text = refused_value(alloc, "--schedule <L>", value, wants)?;
-        assert!(rt; are_refused(alloc, &words, &text)?, "{value}");
-    }
-    let wants = "a number from 0 to 18446744073709551615, without leading zeros";
-    for value in ["007", "-1", "", "18446744073709551616", "none"] {
-        let word = format!(in alloc; "--seed={value}")?;
-        let words = ["pulsefarm", "run", "--root=main", "--limit=5", &word];
-        let text = refused_value(alloc, "--seed <N>", value, wants)?;
-        assert!(rt; are_refused(alloc, &words, &text)?, "{value}");
-    }
+    let others = ["--root=main", "--limit=5"];
+    let values = ["", "1,02", "1,,2", "all", "-1"];
+    let taken = taken_value(rt.alloc(), &others, "--schedule", "<L>", &values, wants)?;
+    assert_eq!(rt; taken, None);
     Ok(())
+}
+
+#[test]
+fn wrong_seeds_are_named(rt: HostRuntime) -> Result<(), Fail> {
+    let wants = "a number from 0 to 18446744073709551615, without leading zeros";
+    let others = ["--root=main", "--limit=5"];
+    let values = ["007", "-1", "", "18446744073709551616", "none"];
+    let taken = taken_value(rt.alloc(), &others, "--seed", "<N>", &values, wants)?;
+    assert_eq!(rt; taken, None);
+    Ok(())
+}
+
+/// Whether a run has what it is given, and a schedule of these numbers.
+fn is_as_given(run: &RunWords, numbers: &[u32]) -> bool {
+    run.file == Some("a.erl")
+        && run.root == "main"
+        && run.limit == 0
+        && run.property == "returns"
+        && is_schedule(&run.choices, numbers)
 }
 
 #[test]
 fn values_of_words(rt: HostRuntime) {
-    for (schedule, numbers) in [
-        ("none", [].as_slice()),
-        ("0", [0].as_slice()),
-        ("7,0,4294967295", [7, 0, 4294967295].as_slice()),
-    ] {
+    let cases: [(&str, &[u32]); 3] = [
+        ("none", &[]),
+        ("0", &[0]),
+        ("7,0,4294967295", &[7, 0, 4294967295]),
+    ];
+    for (schedule, numbers) in cases {
         let words = [
             "pulsefarm",
             "run",
@@ -119,19 +150,11 @@ fn values_of_words(rt: HostRuntime) {
             "--schedule",
             schedule,
         ];
-        match read_words(rt.alloc(), &words) {
-            Ok(asked) => match &asked {
-                Words::Run(run) => {
-                    assert_eq!(rt; run.file, Some("a.erl"));
-                    assert_eq!(rt; run.root, "main");
-                    assert_eq!(rt; run.limit, 0);
-                    assert_eq!(rt; run.property, "returns");
-                    assert!(rt; is_schedule(&run.choices, numbers), "{schedule}");
-                }
-                _ => assert!(rt; false, "{schedule}"),
-            },
-            Err(_) => assert!(rt; false, "{schedule}"),
-        }
+        let asked = read_words(rt.alloc(), &words);
+        assert!(rt;
+            matches!(&asked, Ok(Words::Run(run)) if is_as_given(run, numbers)),
+            "{schedule}"
+        );
     }
 }
 
@@ -151,6 +174,11 @@ fn is_seed(choices: &JobChoices, seed: u64) -> bool {
     }
 }
 
+/// Whether a run is by this seed, and judged by a property with a blank in it.
+fn is_seeded(run: &RunWords, seed: u64) -> bool {
+    run.property == "never:{a, _}" && is_seed(&run.choices, seed)
+}
+
 #[test]
 fn seeds_and_properties(rt: HostRuntime) {
     for (word, seed) in [("0", 0), ("18446744073709551615", u64::MAX)] {
@@ -163,16 +191,11 @@ fn seeds_and_properties(rt: HostRuntime) {
             "--seed",
             word,
         ];
-        match read_words(rt.alloc(), &words) {
-            Ok(asked) => match &asked {
-                Words::Run(run) => {
-                    assert_eq!(rt; run.property, "never:{a, _}");
-                    assert!(rt; is_seed(&run.choices, seed), "{word}");
-                }
-                _ => assert!(rt; false, "{word}"),
-            },
-            Err(_) => assert!(rt; false, "{word}"),
-        }
+        let asked = read_words(rt.alloc(), &words);
+        assert!(rt;
+            matches!(&asked, Ok(Words::Run(run)) if is_seeded(run, seed)),
+            "{word}"
+        );
     }
 }
 
@@ -188,11 +211,10 @@ For more information, try '--help'.
     )?)
 }
 
-#[test]
-fn wrong_values_of_shrink_are_named(rt: HostRuntime) -> Result<(), Fail> {
-    let alloc = rt.alloc();
+/// The first of these numbers of runs that isn't refused.
+fn taken_runs<'a>(alloc: Global, values: &[&'a str]) -> Result<Option<&'a str>, Fail> {
     let wants = "a number of runs from 1 to 1000, without leading zeros";
-    for value in ["007", "-1", "", "4294967296", "none"] {
+    for value in values {
         let word = format!(in alloc; "--runs={value}")?;
         let words = [
             "pulsefarm",
@@ -204,10 +226,28 @@ fn wrong_values_of_shrink_are_named(rt: HostRuntime) -> Result<(), Fail> {
             &word,
         ];
         let why = format!(in alloc; "invalid value '{value}' for '--runs <N>': it wants {wants}")?;
-        let text = refused_shrink(alloc, &why)?;
-        assert!(rt; are_refused(alloc, &words, &text)?, "{value}");
+        if !are_refused(alloc, &words, &refused_shrink(alloc, &why)?)? {
+            return Ok(Some(*value));
+        }
     }
+    Ok(None)
+}
+
+#[test]
+fn wrong_values_of_shrink_are_named(rt: HostRuntime) -> Result<(), Fail> {
+    let taken = taken_runs(rt.alloc(), &["007", "-1", "", "4294967296", "none"])?;
+    assert_eq!(rt; taken, None);
     Ok(())
+}
+
+/// Whether a shrinking has what it is given.
+fn is_shrinking(shrink: &ShrinkWords) -> bool {
+    shrink.file == Some("a.erl")
+        && shrink.root == "main"
+        && shrink.limit == 0
+        && shrink.schedule.as_slice() == [7, 0, 4294967295].as_slice()
+        && shrink.property == "never:{a, _}"
+        && shrink.runs == 4294967295
 }
 
 #[test]
@@ -222,17 +262,8 @@ fn values_of_shrink(rt: HostRuntime) {
         "--property=never:{a, _}",
         "--runs=4294967295",
     ];
-    match read_words(rt.alloc(), &words) {
-        Ok(Words::Shrink(shrink)) => {
-            assert_eq!(rt; shrink.file, Some("a.erl"));
-            assert_eq!(rt; shrink.root, "main");
-            assert_eq!(rt; shrink.limit, 0);
-            assert!(rt; shrink.schedule.as_slice() == [7, 0, 4294967295].as_slice());
-            assert_eq!(rt; shrink.property, "never:{a, _}");
-            assert_eq!(rt; shrink.runs, 4294967295);
-        }
-        _ => assert!(rt; false),
-    }
+    let asked = read_words(rt.alloc(), &words);
+    assert!(rt; matches!(&asked, Ok(Words::Shrink(shrink)) if is_shrinking(shrink)));
 }
 
 #[test]
@@ -244,10 +275,8 @@ fn files_of_steps(rt: HostRuntime) {
         (&["pulsefarm", "steps", "a.txt"], Some("a.txt")),
     ];
     for (words, file) in cases {
-        match read_words(rt.alloc(), words) {
-            Ok(Words::Steps(asked)) => assert_eq!(rt; asked.file, file),
-            _ => assert!(rt; false),
-        }
+        let asked = read_words(rt.alloc(), words);
+        assert!(rt; matches!(&asked, Ok(Words::Steps(steps)) if steps.file == file));
     }
 }
 
@@ -264,12 +293,9 @@ fn words_of_check(rt: HostRuntime) {
         ),
     ];
     for (words, file, explain) in cases {
-        match read_words(rt.alloc(), words) {
-            Ok(Words::Check(asked)) => {
-                assert_eq!(rt; asked.file, file);
-                assert_eq!(rt; asked.explain, explain);
-            }
-            _ => assert!(rt; false),
-        }
+        let asked = read_words(rt.alloc(), words);
+        assert!(rt;
+            matches!(&asked, Ok(Words::Check(check)) if check.file == file && check.explain == explain)
+        );
     }
 }
