@@ -1,5 +1,7 @@
 //! Searches for a small schedule, by hand.
 
+ghost use Rattle.std.specs.Prelude.{◌<◌};
+
 use pf_shrink::Hunt;
 use std::alloc::{AllocError, Global};
 use std::test::Fail;
@@ -38,7 +40,9 @@ fn goes_by(
     runs: u32,
     steps: &[(&[u32], bool)],
     found: Option<(&[u32], bool)>,
-) -> (usize, bool) {
+) -> (usize, bool)
+    requires { 0 < runs }
+{
     let mut hunt = Hunt::new(schedule, runs);
     let gone = go(&mut hunt, steps);
     (gone, hunt.next().is_none() && hunt.found() == found)
@@ -62,9 +66,10 @@ const FOUND: [(&[u32], bool); 12] = [
 
 /// The least number of runs within which the hunt goes otherwise.
 fn first_other(alloc: Global) -> Result<Option<u32>, AllocError> {
-    for (runs, found) in (1..).zip(FOUND) {
+    for runs in 1..13u32 {
         let schedule = vec![in alloc; 0, 0, 0, 3]?;
         let steps = STEPS.len().min(runs as usize);
+        let found = FOUND[runs as usize - 1];
         if goes_by(schedule, runs, &STEPS, Some(found)) != (steps, true) {
             return Ok(Some(runs));
         }
