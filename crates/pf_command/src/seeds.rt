@@ -60,7 +60,7 @@ fn put_row(alloc: Global, out: &mut Vec<u8>, atoms: &AtomTable, row: &Row) -> Re
     put(out, b" seeds, least ")?;
     put_number(alloc, out, row.least)?;
     put(out, b": ")?;
-    put_outcome(alloc, out, atoms, &row.outcome)
+    put_outcome(alloc, out, atoms, row.outcome.get())
 }
 
 /// Puts rows, each on a line.

@@ -1,12 +1,14 @@
 -- Rows: what one more counts, and the rows of two parts.
-use Rattle.std.proofs.Common.{◌≡◌, ◌⊎◌, inl, inr, ◌+◌, ◌-◌, ◌^◌, ◌<◌, ◌≤◌, ℕ, suc, Bool, true, false, ◌&&◌, List, [], ◌∷◌, Option, Some, None, refl, sym, ap, ap₂, ◌∙◌, subst, arith}
-use Rattle.std.specs.Prelude.{if◌then◌else◌, ◌↔◌}
+use Rattle.std.proofs.Common.{◌≡◌, ◌≢◌, ◌⊎◌, inl, inr, ◌+◌, ◌-◌, ◌^◌, ◌<◌, ◌≤◌, ℕ, suc, Bool, true, false, ◌&&◌, List, [], ◌∷◌, Option, Some, None, refl, sym, ap, ap₂, ◌∙◌, subst, arith}
+use Rattle.std.specs.Prelude.{if◌then◌else◌, ◌↔◌, nat_eq}
 use Rattle.std.specs.Cmp.Lexicographic.{bytes_decides}
 use Rattle.std.proofs.lemmas.Bool.{and_parts}
+use Rattle.std.proofs.lemmas.Bool.Decides.{eqb_tells}
 use Rattle.pf_terms.proofs.SameValues.{same_true, same_itself}
 use Rattle.pf_model.specs.Meaning.{Job, Report, Means}
 use Rattle.pf_model.specs.Properties.{Outcome, finished, ended, deadlock, limit, memory}
 use Rattle.pf_hunt.specs.Rows.{Row, met, same_verdict, same_outcome, is_like, more_often, with_row, joined, counted}
+use Rattle.pf_hunt.specs.Hashes.{outcome_hash}
 use Rattle.pf_hunt.specs.Hunts.{by_seed, Tallies, no_seed, and_seed}
 use Rattle.pf_hunt.proofs.Firsts.{one_report}
 
@@ -45,6 +47,25 @@ like_is_same x y = (
       (ap (λ b. b && same_outcome x.outcome y.outcome) (verdict_itself x.verdict) ∙ subst (λ o. same_outcome x.outcome o ≡ true) e.1 (outcome_itself x.outcome))),
 )
 
+-- true or false
+either : (b : Bool) → (b ≡ true) ⊎ (b ≡ false)
+either true = inl refl
+either false = inr refl
+
+-- numbers that differ are not equal
+pub unequal : (m n : ℕ) → (m ≢ n) → nat_eq m n ≡ false
+unequal m n d = elim (eqb_tells m n) [
+  | inl p ↦ absurd (d p.1)
+  | inr p ↦ p.0
+]
+
+-- outcomes are told apart by their hashes
+pub told_apart : (a b : Outcome) → (outcome_hash a ≢ outcome_hash b) → same_outcome a b ≡ false
+told_apart a b d = elim (either (same_outcome a b)) [
+  | inl s ↦ absurd (d (ap outcome_hash (outcomes a b s)))
+  | inr e ↦ e
+]
+
 -- what is like one of two that are alike is like the other
 alike : (x y z : Row) → is_like x y ≡ true → is_like x z ≡ is_like y z
 alike x y z e =
@@ -67,11 +88,6 @@ at_like x xs y e = ap (λ b. placed b x xs y) e
 
 pub past_unlike : (x : Row) (xs : List Row) (y : Row) → is_like x y ≡ false → with_row (x ∷ xs) y ≡ x ∷ with_row xs y
 past_unlike x xs y e = ap (λ b. placed b x xs y) e
-
--- true or false
-either : (b : Bool) → (b ≡ true) ⊎ (b ≡ false)
-either true = inl refl
-either false = inr refl
 
 pub counts_more : (xs : List Row) (y : Row) → counted (with_row xs y) ≡ counted xs + y.count
 counts_more [] y = omega arith

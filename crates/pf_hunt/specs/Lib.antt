@@ -1,4 +1,5 @@
 pub mod Hunts
 pub mod Rows
+pub mod Hashes
 pub mod Views
 pub mod Laws

@@ -1,7 +1,7 @@
 -- What the code's own failures and rows stand for.
 use Rattle.std.specs.Prelude.{◌≡◌, ◌<◌, ℕ, true, false, List, map, slice_get, Some}
 use Rattle.pf_model.specs.Meaning.{Report}
-use Rattle.pf_model.specs.Reports.{outcome_of, report_of}
+use Rattle.pf_model.specs.Reports.{report_of}
 use Rattle.pf_hunt.specs.Rows as rows
 use Rattle.pf_hunt.specs.Rows.{is_like}
 use Rattle.pf_hunt.specs.declared.failure.Failure.{Failure}
@@ -12,7 +12,7 @@ abbrev pub failure_of : Failure → ℕ × Report
 failure_of f = (f.seed, report_of f.report)
 
 abbrev pub row_of : Row → rows.Row
-row_of x = record { verdict = x.verdict; outcome = outcome_of x.outcome; count = x.count; least = x.least }
+row_of x = record { verdict = x.verdict; outcome = x.outcome; count = x.count; least = x.least }
 
 abbrev pub rows_in : List Row → List rows.Row
 rows_in xs = map row_of xs

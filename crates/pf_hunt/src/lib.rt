@@ -3,6 +3,7 @@
 
 mod blocks;
 mod failure;
+mod hash;
 pub mod laws;
 mod row;
 mod seeded;
@@ -12,6 +13,7 @@ mod workers;
 
 pub use blocks::{hunt, hunt_all};
 pub use failure::{Failure, first_in};
+pub use hash::HashedOutcome;
 pub use row::Row;
 pub use seeded::run_by_seed;
 pub use tally::{Tally, tally_in};

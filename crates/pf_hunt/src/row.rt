@@ -1,36 +1,21 @@
 //! Outcomes that were met, and how often.
 
 ghost use Rattle.std.specs.Prelude.{◌≡◌};
-ghost use Rattle.pf_model.specs.Reports as reports;
 ghost use Rattle.pf_model.specs.Reports.{report_of};
 ghost use Rattle.pf_hunt.specs.Rows as rows;
 ghost use Rattle.pf_hunt.specs.Rows.{met};
 ghost use Rattle.pf_hunt.specs.Views.{row_of};
 
-use pf_model::report::{Outcome, Report};
-use pf_terms::equal;
+use crate::hash::HashedOutcome;
+use pf_model::report::Report;
 
 /// An outcome with the verdict of the property, by how many seeds it was met, and the least of these.
 #[derive(Drop)]
 pub struct Row {
     pub verdict: Option<bool>,
-    pub outcome: Outcome,
+    pub outcome: HashedOutcome,
     pub count: u64,
     pub least: u64,
-}
-
-/// Whether two outcomes are one.
-fn same_outcome(a: &Outcome, b: &Outcome) -> bool
-    ensures { result ≡ rows.same_outcome (reports.outcome_of a.now) (reports.outcome_of b.now) }
-{
-    match (a, b) {
-        (Outcome::Finished(v), Outcome::Finished(w)) => equal(v, w),
-        (Outcome::Ended(v), Outcome::Ended(w)) => equal(v, w),
-        (Outcome::Deadlock(ps), Outcome::Deadlock(qs)) => ps.as_slice() == qs.as_slice(),
-        (Outcome::Limit, Outcome::Limit) => true,
-        (Outcome::Memory, Outcome::Memory) => true,
-        _ => false,
-    }
 }
 
 /// Whether two verdicts are one.
@@ -51,7 +36,7 @@ impl Row {
     {
         Row {
             verdict: report.verdict,
-            outcome: report.outcome,
+            outcome: HashedOutcome::new(report.outcome),
             count: 1,
             least: seed,
         }
@@ -61,6 +46,6 @@ impl Row {
     pub fn is_like(&self, other: &Row) -> bool
         ensures { result ≡ rows.is_like (row_of self.now) (row_of other.now) }
     {
-        same_verdict(self.verdict, other.verdict) && same_outcome(&self.outcome, &other.outcome)
+        same_verdict(self.verdict, other.verdict) && self.outcome.is(&other.outcome)
     }
 }

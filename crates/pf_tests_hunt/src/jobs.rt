@@ -42,7 +42,7 @@ pub(crate) fn rows_of(alloc: Global, tally: &Tally) -> Result<String, Fail> {
             Some(false) => "fails",
             None => "none",
         };
-        let outcome = match &row.outcome {
+        let outcome = match row.outcome.get() {
             Outcome::Finished(_) => "finished",
             Outcome::Ended(_) => "ended",
             Outcome::Deadlock(_) => "deadlock",
