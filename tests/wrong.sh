@@ -112,6 +112,8 @@ lay_out() {
 note() {
   wanted=$(edits "$1" | wc -l)
   refused=$(grep -c "must-fail $1/[^ ]*: refused, as it must be" "$2")
+  # Such a refusal shows little of a contract: the edit is to be mended.
+  grep "must-fail $1/[^ ]*: refused, as it must be (only" "$2" | cut -c1-200
   if [ -f "$seen" ]; then sed -i "/^$1 /d" "$seen"; fi
   if [ "$refused" = "$wanted" ]; then
     echo "$1 $3 $(date +%s) $wanted" >> "$seen"
