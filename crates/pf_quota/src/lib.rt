@@ -8,6 +8,7 @@ mod usage;
 
 pub use charges::{Charge, Held, trial_steps};
 pub use refusals::{
-    MOST_CALLS, MOST_MODULE_BYTES, MOST_MODULES, MOST_TRIAL_STEPS, MOST_TRIALS, Refusal,
+    MOST_CALLS, MOST_MODULE_BYTES, MOST_MODULES, MOST_MODULES_FIRST, MOST_TRIAL_STEPS, MOST_TRIALS,
+    Refusal,
 };
-pub use usage::{Usage, limits_hold, usage_follows_held};
+pub use usage::{Usage, limits_hold, most_modules, usage_follows_held};

@@ -6,11 +6,12 @@ ghost use Rattle.pf_quota.specs.declared.charges.Charge.{Charge};
 ghost use Rattle.pf_quota.specs.declared.charges.Held.{Held};
 ghost use Rattle.pf_quota.specs.declared.usage.Usage.{Usage};
 ghost use Rattle.pf_quota.specs.Usage.{usage_of, charged, refunded, Covers, charge_of};
-ghost use Rattle.pf_quota.specs.Checks.{refusal_of, IsWithinLimits};
+ghost use Rattle.pf_quota.specs.Checks.{most_modules, refusal_of, IsWithinLimits};
 
 use crate::charges::{Charge, Held};
 use crate::refusals::{
-    MOST_CALLS, MOST_MODULE_BYTES, MOST_MODULES, MOST_TRIAL_STEPS, MOST_TRIALS, Refusal,
+    MOST_CALLS, MOST_MODULE_BYTES, MOST_MODULES, MOST_MODULES_FIRST, MOST_TRIAL_STEPS, MOST_TRIALS,
+    Refusal,
 };
 
 /// What a project uses of its limits.
@@ -38,17 +39,18 @@ impl Usage {
 
     /// Adds what a charge takes, if each sum stays within its limit. The checks are, in this order,
     /// for a call that of the calls, for a module those of the modules and the bytes, for a trial
-    /// those of the trials and the steps. A refused charge changes nothing.
-    pub fn charge(&mut self, charge: Charge) -> Result<(), Refusal>
-        ensures refusal { MatchResult result (λ _. refusal_of self.old charge ≡ None)
-            (λ refusal. refusal_of self.old charge ≡ Some refusal) }
+    /// those of the trials and the steps. How many modules there may be, the edition of the desk says. A refused
+    /// charge changes nothing.
+    pub fn charge(&mut self, edition: u32, charge: Charge) -> Result<(), Refusal>
+        ensures refusal { MatchResult result (λ _. refusal_of edition self.old charge ≡ None)
+            (λ refusal. refusal_of edition self.old charge ≡ Some refusal) }
         ensures ok { OnOk result (self.new ≡ charged self.old charge) }
         ensures err { OnErr result (self.new ≡ self.old) }
     {
         match charge {
             Charge::Call => self.calls = sum_within(self.calls, 1, MOST_CALLS, Refusal::Calls)?,
             Charge::Module { bytes } => {
-                let modules = sum_within(self.modules, 1, MOST_MODULES, Refusal::Modules)?;
+                let modules = sum_within(self.modules, 1, most_modules(edition), Refusal::Modules)?;
                 self.bytes = sum_within(self.bytes, bytes, MOST_MODULE_BYTES, Refusal::Bytes)?;
                 self.modules = modules;
             }
@@ -80,6 +82,17 @@ impl Usage {
     }
 }
 
+/// How many modules a project may hold, by the edition of its desk.
+pub fn most_modules(edition: u32) -> u64
+    ensures { result ≡ most_modules edition }
+{
+    if edition == 1 {
+        MOST_MODULES_FIRST
+    } else {
+        MOST_MODULES
+    }
+}
+
 // The sum of what is used and what is added, or this refusal where the sum passes the limit.
 fn sum_within(used: u64, added: u64, limit: u64, refusal: Refusal) -> Result<u64, Refusal>
     ensures ok { IfOk result (λ sum. (sum ≡ used + added) × (sum ≤ limit)) }
@@ -105,12 +118,13 @@ pub fn usage_follows_held()
         → refunded (usage_of (before ++ thing ∷ after) calls) thing ≡ usage_of (before ++ after) calls }
 {}
 
-/// The law that the limits hold: at first, after each charge that is not refused and after each
-/// refund. It has no code.
+/// The law that the limits hold: at first, after each charge that is not refused, after each refund, and in an edition that
+/// isn't below. It has no code.
 pub fn limits_hold()
-    ensures at_first { IsWithinLimits (usage_of [] 0) }
-    ensures charge { (usage : Usage) (charge : Charge) → IsWithinLimits usage
-        → refusal_of usage charge ≡ None → IsWithinLimits (charged usage charge) }
-    ensures refund { (usage : Usage) (thing : Held) → IsWithinLimits usage
-        → IsWithinLimits (refunded usage thing) }
+    ensures at_first { (edition : ℕ) → IsWithinLimits edition (usage_of [] 0) }
+    ensures charge { (edition : ℕ) (usage : Usage) (charge : Charge) → IsWithinLimits edition usage
+        → refusal_of edition usage charge ≡ None → IsWithinLimits edition (charged usage charge) }
+    ensures refund { (edition : ℕ) (usage : Usage) (thing : Held) → IsWithinLimits edition usage
+        → IsWithinLimits edition (refunded usage thing) }
+    ensures edition { (low high : ℕ) (usage : Usage) → low ≤ high → 1 ≤ low → IsWithinLimits low usage → IsWithinLimits high usage }
 {}
