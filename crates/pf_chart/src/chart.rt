@@ -9,7 +9,7 @@ use crate::pieces::{put_piece, put_short_text, put_title};
 use crate::sheet::{GUTTER, ROW, Sheet, TOP};
 use crate::spots::{put_marks, put_numbers};
 use crate::strokes::put_arrows;
-use crate::style::{DEFINITIONS, LEGEND, STYLE};
+use crate::style::{DEFINITIONS, LEGEND, LEGEND_OF_SPAWNS, STYLE};
 use pf_terms::{AtomTable, NoMemory};
 use pf_text::put;
 use pf_trace::{Report, put_outcome};
@@ -83,6 +83,14 @@ fn put_ground(
     )
 }
 
+/// Puts a line of the legend.
+fn put_legend(alloc: Global, out: &mut Vec<u8>, line: &str, y: u64) -> Result<(), NoMemory> {
+    put_piece(
+        out,
+        format!(in alloc; "<text class=\"legend\" x=\"{GUTTER}\" y=\"{y}\">{line}</text>\n")?,
+    )
+}
+
 /// Puts the outcome and the legend below all.
 fn put_bottom(
     alloc: Global,
@@ -96,11 +104,8 @@ fn put_bottom(
     put_title(alloc, out, outcome)?;
     put_short_text(alloc, out, "outcome", (GUTTER, y), outcome, most)?;
     put(out, b"</g>\n")?;
-    let y = y.saturating_add(22);
-    put_piece(
-        out,
-        format!(in alloc; "<text class=\"legend\" x=\"{GUTTER}\" y=\"{y}\">{LEGEND}</text>\n")?,
-    )
+    put_legend(alloc, out, LEGEND, y.saturating_add(22))?;
+    put_legend(alloc, out, LEGEND_OF_SPAWNS, y.saturating_add(37))
 }
 
 /// Puts what was laid out: what stands behind goes first.

@@ -30,13 +30,21 @@ pub(crate) fn column_of(columns: &[Column], pid: u32) -> Option<usize> {
     columns.binary_search_by_key(&pid, |column| column.pid).ok()
 }
 
+/// Who is spawned in an event of this label.
+fn child_of(label: &Label) -> Option<u32> {
+    match label {
+        Label::Spawns { pid, .. } | Label::SpawnsWatched { pid, .. } => Some(*pid),
+        _ => None,
+    }
+}
+
 /// The root and all that were spawned, by pid.
 fn spawned_in(alloc: Global, events: &[Event]) -> Result<Vec<Column>, NoMemory> {
     let mut columns = Vec::new(alloc);
     columns.push(made_column(0, None))?;
     for (row, event) in events.iter().enumerate() {
-        if let (Actor::Process(parent), Label::Spawns { pid, .. }) = (event.actor, &event.label) {
-            columns.push(made_column(*pid, Some((parent, row))))?;
+        if let (Actor::Process(parent), Some(pid)) = (event.actor, child_of(&event.label)) {
+            columns.push(made_column(pid, Some((parent, row))))?;
         }
     }
     columns.sort_unstable_by_key(|column| column.pid);

@@ -69,6 +69,15 @@ impl Reading {
         Ok(())
     }
 
+    /// A child is watched at once, and no signal goes out.
+    fn spawn_watched(&mut self, a: usize, reference: u64, pid: u32) -> Result<(), NoMemory> {
+        if let Some(b) = column_of(&self.columns, pid) {
+            self.traffic.peers.activate(reference, a, b)?;
+            self.traffic.peers.watch(b, reference, a)?;
+        }
+        Ok(())
+    }
+
     /// A link signal goes out where the link is new, and isn't to oneself.
     fn link(&mut self, row: usize, a: usize, pid: u32) -> Result<(), NoMemory> {
         let Some(b) = column_of(&self.columns, pid) else {
@@ -114,10 +123,11 @@ impl Reading {
             Label::Sends { to, .. } => self.send(row, a, *to, SignalKind::Message),
             Label::Exits { pid, .. } => self.send(row, a, *pid, SignalKind::Exit),
             Label::Spawns { linked: true, pid } => self.spawn_linked(a, *pid),
+            Label::SpawnsWatched { pid, reference } => self.spawn_watched(a, *reference, *pid),
             Label::Links(pid) => self.link(row, a, *pid),
             Label::Unlinks(pid) => self.unlink(row, a, *pid),
             Label::Monitors { reference, pid } => self.monitor(row, a, *reference, *pid),
-            Label::Demonitors(reference) => self.demonitor(row, a, *reference),
+            Label::Demonitors { reference, .. } => self.demonitor(row, a, *reference),
             Label::Ends(_) => self.end(alloc, row, a),
             Label::Waits => {
                 self.wait(row, a);

@@ -35,11 +35,13 @@ pub(crate) fn shape_of(label: &Label) -> (&'static str, &'static str) {
         Label::Sends { .. } => ("send", "M-3 0a3 3 0 1 0 6 0a3 3 0 1 0 -6 0z"),
         // A plus in a square.
         Label::Spawns { .. } => ("spawn", "M-5 -5h10v10h-10zM-3 0h6M0 -3v6"),
+        // A plus in an eye.
+        Label::SpawnsWatched { .. } => ("watched", "M-9 0q9 -11 18 0q-9 11 -18 0zM-3 0h6M0 -3v6"),
         Label::Links(_) => ("link", LINKED),
         Label::Unlinks(_) => ("unlink", UNLINKED),
         // An eye, and one struck through.
         Label::Monitors { .. } => ("monitor", "M-7 0q7 -9 14 0q-7 9 -14 0zM-1 0h2"),
-        Label::Demonitors(_) => ("demonitor", "M-7 0q7 -9 14 0q-7 9 -14 0zM-6 6l12 -12"),
+        Label::Demonitors { .. } => ("demonitor", "M-7 0q7 -9 14 0q-7 9 -14 0zM-6 6l12 -12"),
         // A diamond.
         Label::Exits { .. } => ("exit", "M0 -6l6 6l-6 6l-6 -6z"),
         // A flag on its pole.

@@ -38,6 +38,10 @@ pub(crate) const DEFINITIONS: &str = "<defs>\n\
 <pattern id=\"pf-bands\" x=\"0\" y=\"64\" width=\"8\" height=\"52\" patternUnits=\"userSpaceOnUse\"><rect width=\"8\" height=\"26\" fill=\"#f6f6f4\"/></pattern>\n\
 </defs>\n";
 
+/// How to read the marks of spawns.
+pub(crate) const LEGEND_OF_SPAWNS: &str =
+    "A plus in a square is a spawn, and one in an eye a spawn of a process that is watched from its begin.";
+
 /// How to read the ends of arrows.
 pub(crate) const LEGEND: &str =
     "A signal goes from who sent it to where it was delivered. It ends in a ring where it never was, and at a cross where it was dropped.";
