@@ -25,7 +25,7 @@ enum Answer {
 }
 
 /// What the calls made: nodes of a value, spare nodes of a pool, what came out of a machine's run, signals that were delivered,
-/// and signals that told of an end.
+/// and signals that told of two ends.
 struct Made {
     nodes: u32,
     spare: usize,
@@ -117,7 +117,7 @@ fn main(rt: HostRuntime) -> io::Result<ExitCode> {
             println!(rt; "kept {spare} nodes")?;
             println!(rt; "sent {sent} nodes, took {taken}, ended with {reason}")?;
             println!(rt; "delivered {delivered} signals")?;
-            println!(rt; "told {told} of an end")?;
+            println!(rt; "told {told} of two ends")?;
             Ok(ExitCode::SUCCESS)
         }
         Err(Answer::Refused) => {

@@ -10,8 +10,10 @@ use std::alloc::Global;
 /// The process to which all others are tied.
 const HUB: u32 = 0;
 
-/// How many processes are opened beside it, linked to it and not.
+/// How many processes are opened beside it, linked to it, watched by it, and neither.
 const LINKED: u32 = 5;
+
+const WATCHED: u32 = 5;
 
 const OTHERS: u32 = 6;
 
@@ -64,6 +66,21 @@ fn open_linked(alloc: Global, ties: &mut Ties) -> Result<(), Answer> {
         Err(NoMemory) => {
             let tied = ties.unlink(HUB, next as u32);
             Err(refused(!tied && seen(ties) == before))
+        }
+    }
+}
+
+/// One process more, which the hub watches.
+fn open_watched(alloc: Global, ties: &mut Ties) -> Result<(), Answer> {
+    let before = seen(ties);
+    if ties.len() > 99 || ties.len() == 0 || ties.next_reference() > 99 {
+        return Err(Answer::Changed);
+    }
+    match ties.open_watched(alloc, HUB) {
+        Ok((_pid, _reference)) => Ok(()),
+        Err(NoMemory) => {
+            let watched = ties.demonitor(HUB, before.1).is_some();
+            Err(refused(!watched && seen(ties) == before))
         }
     }
 }
@@ -164,15 +181,15 @@ fn register(alloc: Global, ties: &mut Ties, pid: u32) -> Result<(), Answer> {
     }
 }
 
-/// The end of the hub, and how many signals go out then. Where it is refused, the hub lives.
-fn end_hub(alloc: Global, ties: &mut Ties) -> Result<usize, Answer> {
+/// The end of a process, and how many signals go out then. Where it is refused, the process lives.
+fn end(alloc: Global, ties: &mut Ties, pid: u32) -> Result<usize, Answer> {
     let before = seen(ties);
-    if ties.len() == 0 {
+    if pid as usize >= ties.len() {
         return Err(Answer::Changed);
     }
-    match ties.ended(alloc, HUB, &Term::Atom(AtomId::KILL)) {
+    match ties.ended(alloc, pid, &Term::Atom(AtomId::KILL)) {
         Ok(signals) => Ok(signals.len()),
-        Err(NoMemory) => Err(refused(ties.lives(HUB) && seen(ties) == before)),
+        Err(NoMemory) => Err(refused(ties.lives(pid) && seen(ties) == before)),
     }
 }
 
@@ -187,16 +204,20 @@ fn tie(alloc: Global, ties: &mut Ties, pid: u32) -> Result<(), Answer> {
     register(alloc, ties, pid)
 }
 
-/// How many signals the end of a process sends to those that are tied to it.
+/// How many signals the ends of a process and of one that it watches send to those that are tied to them.
 pub fn told(alloc: Global) -> Result<usize, Answer> {
     let mut ties = Ties::new(alloc);
     open(alloc, &mut ties)?;
     for _ in 0..LINKED {
         open_linked(alloc, &mut ties)?;
     }
+    for _ in 0..WATCHED {
+        open_watched(alloc, &mut ties)?;
+    }
     for number in 0..OTHERS {
         open(alloc, &mut ties)?;
-        tie(alloc, &mut ties, LINKED + 1 + number)?;
+        tie(alloc, &mut ties, LINKED + WATCHED + 1 + number)?;
     }
-    end_hub(alloc, &mut ties)
+    let told = end(alloc, &mut ties, LINKED + 1)?;
+    Ok(usize::saturating_add(told, end(alloc, &mut ties, HUB)?))
 }

@@ -104,6 +104,39 @@ fn an_end_sends_an_exit_to_who_is_linked(rt: HostRuntime) -> Result<(), Fail> {
 }
 
 #[test]
+fn who_is_watched_from_its_begin_has_a_mark_of_its_own(rt: HostRuntime) -> Result<(), Fail> {
+    let alloc = rt.alloc();
+    let atoms = AtomTable::new(alloc)?;
+    let child = Label::SpawnsWatched {
+        pid: 1,
+        reference: 0,
+    };
+    let flush = Label::Demonitors {
+        flushes: true,
+        reference: 0,
+    };
+    let down = Signal::Down(0, Term::Atom(AtomId::NORMAL));
+    // The reference is active no more once the down has come, so that nothing goes out.
+    let events = vec![in alloc;
+        turn(0, child),
+        turn(1, Label::Ends(Term::Atom(AtomId::NORMAL))),
+        delivery(1, 0, down, Suffix::TookEffect),
+        turn(0, flush),
+    ]?;
+    let text = chart(alloc, &atoms, events, Outcome::Limit)?;
+    assert!(rt; !text.contains("arrow monitor") && !text.contains("arrow demonitor"));
+    has_all(
+        &text,
+        &[
+            "<g class=\"event watched\" data-event=\"1\" transform=\"translate(156 77)\"><title>spawn_monitor &lt;1&gt; #Ref&lt;0&gt;</title>",
+            "<g class=\"arrow spawn\" data-event=\"1\"><path d=\"M156 77L356 77\"/></g>",
+            "<g class=\"arrow down\" data-event=\"2\" data-delivery=\"3\">",
+            ">demonitor #Ref&lt;0&gt; flush</text>",
+        ],
+    )
+}
+
+#[test]
 fn a_link_to_who_has_ended_is_answered_by_an_exit(rt: HostRuntime) -> Result<(), Fail> {
     let alloc = rt.alloc();
     let atoms = AtomTable::new(alloc)?;

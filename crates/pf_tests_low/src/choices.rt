@@ -64,3 +64,42 @@ fn a_schedule_and_then_zeros(rt: HostRuntime) -> Result<(), Fail> {
     }
     Ok(())
 }
+
+/// Two processes and three channels by weights 3 and 1: the choices by the first words of seed 0, of which word modulo 9 is each
+/// number from 0 to 8 at least once.
+const THREE_TO_ONE: [usize; 16] = [0, 1, 1, 0, 2, 1, 1, 0, 4, 0, 1, 1, 0, 0, 1, 2];
+
+/// The same of seed 1.
+const THREE_TO_ONE_OF_ONE: [usize; 12] = [0, 1, 1, 0, 0, 4, 1, 1, 4, 3, 3, 4];
+
+/// One process and one channel by weights 1 and 4: the choices by the first words of seed 1.
+const ONE_TO_FOUR: [usize; 12] = [1, 1, 1, 1, 0, 0, 1, 1, 1, 1, 1, 1];
+
+/// Whether choices among so many processes and channels are these.
+fn chooses(choices: &mut Choices, procs: usize, chans: usize, wanted: &[usize]) -> bool
+    requires { 0 < procs }
+{
+    for choice in wanted {
+        if choices.next_of(procs, chans) != *choice {
+            return false;
+        }
+    }
+    true
+}
+
+// From the generator's definition and the rule of weights, worked out apart from this crate.
+#[test]
+fn weights_choose_oftener(rt: HostRuntime) {
+    assert!(rt; chooses(&mut Choices::weighted(0, 3, 1), 2, 3, &THREE_TO_ONE));
+    assert!(rt; chooses(&mut Choices::weighted(1, 3, 1), 2, 3, &THREE_TO_ONE_OF_ONE));
+    assert!(rt; chooses(&mut Choices::weighted(1, 1, 4), 1, 1, &ONE_TO_FOUR));
+}
+
+// From the same: by the words of seed 7, of which modulo 5 the choice is what is chosen alike.
+#[test]
+fn weights_one_choose_alike(rt: HostRuntime) {
+    let wanted = [2, 1, 0, 4, 0, 3, 3, 3];
+    assert!(rt; chooses(&mut Choices::weighted(7, 1, 1), 3, 2, &wanted));
+    assert!(rt; chooses(&mut Choices::seed(7), 3, 2, &wanted));
+    assert!(rt; chooses(&mut Choices::weighted(7, 9, 1), 3, 2, &[2, 0, 1, 0, 2, 2, 2, 1]));
+}

@@ -4,16 +4,21 @@ use pf_quota::{Charge, Held, Refusal, Usage, trial_steps};
 use std::alloc::Global;
 use std::test::Fail;
 
-/// A project with 16 modules, as many bytes, and trials of as many steps as it may have.
+/// The first edition, and the second.
+const FIRST: u32 = 1;
+
+const SECOND: u32 = 2;
+
+/// A project of the first edition with 16 modules, as many bytes, and trials of as many steps as it may have.
 fn full() -> Result<Usage, Refusal> {
     let mut usage = Usage::new();
-    usage.charge(Charge::Call)?;
+    usage.charge(FIRST, Charge::Call)?;
     for _ in 0..16 {
-        usage.charge(Charge::Module { bytes: 16_384 })?;
+        usage.charge(FIRST, Charge::Module { bytes: 16_384 })?;
     }
     for runs in [0, 3_999] {
         let steps = trial_steps(1_000, runs);
-        usage.charge(Charge::Trial { steps })?;
+        usage.charge(FIRST, Charge::Trial { steps })?;
     }
     Ok(usage)
 }
@@ -34,7 +39,7 @@ fn fill_a_project(rt: HostRuntime) -> Result<(), Fail> {
 /// What a full project is refused, and what it holds then.
 fn refused(charge: Charge) -> Result<(Option<Refusal>, Usage), Refusal> {
     let mut usage = full()?;
-    Ok((usage.charge(charge).err(), usage))
+    Ok((usage.charge(FIRST, charge).err(), usage))
 }
 
 #[test]
@@ -49,10 +54,10 @@ fn a_refused_charge_changes_nothing(rt: HostRuntime) -> Result<(), Fail> {
 /// A project with two modules and two trials that takes back one of each.
 fn lessened() -> Result<Usage, Refusal> {
     let mut usage = Usage::new();
-    usage.charge(Charge::Module { bytes: 16_384 })?;
-    usage.charge(Charge::Module { bytes: 16_384 })?;
-    usage.charge(Charge::Trial { steps: 1_000 })?;
-    usage.charge(Charge::Trial { steps: 500 })?;
+    usage.charge(FIRST, Charge::Module { bytes: 16_384 })?;
+    usage.charge(FIRST, Charge::Module { bytes: 16_384 })?;
+    usage.charge(FIRST, Charge::Trial { steps: 1_000 })?;
+    usage.charge(FIRST, Charge::Trial { steps: 500 })?;
     usage.refund(Held::Module { bytes: 16_384 });
     usage.refund(Held::Trial { steps: 1_000 });
     Ok(usage)
@@ -71,12 +76,12 @@ fn what_is_taken_back_is_refunded(rt: HostRuntime) -> Result<(), Fail> {
     Ok(())
 }
 
-/// How often the same charge passes, until it is refused.
-fn passes(charge: Charge) -> u32 {
+/// How often the same charge passes under an edition, until it is refused.
+fn passes(edition: u32, charge: Charge) -> u32 {
     let mut usage = Usage::new();
     let mut count = 0;
     for _ in 0..100_000 {
-        if usage.charge(charge).is_err() {
+        if usage.charge(edition, charge).is_err() {
             return count;
         }
         count = u32::saturating_add(count, 1);
@@ -86,14 +91,15 @@ fn passes(charge: Charge) -> u32 {
 
 #[test]
 fn charges_pass_up_to_the_limits(rt: HostRuntime) {
-    for (charge, count) in [
-        (Charge::Call, 10_000),
-        (Charge::Module { bytes: 0 }, 16),
-        (Charge::Module { bytes: 65_536 }, 4),
-        (Charge::Trial { steps: 1 }, 64),
-        (Charge::Trial { steps: 100_000 }, 40),
+    for (edition, charge, count) in [
+        (FIRST, Charge::Call, 10_000),
+        (FIRST, Charge::Module { bytes: 0 }, 16),
+        (SECOND, Charge::Module { bytes: 0 }, 64),
+        (SECOND, Charge::Module { bytes: 65_536 }, 4),
+        (SECOND, Charge::Trial { steps: 1 }, 64),
+        (FIRST, Charge::Trial { steps: 100_000 }, 40),
     ] {
-        assert_eq!(rt; passes(charge), count, "of {charge:?}");
+        assert_eq!(rt; passes(edition, charge), count, "of {charge:?}");
     }
 }
 

@@ -43,13 +43,21 @@ impl World {
     }
 
     fn open(&mut self, parent: Option<u32>) -> Result<u32, Fail> {
-        if self.ties.len() >= 256 {
+        if self.ties.len() >= 1_024 {
             return Err(Fail::from("no room"));
         }
         if let Some(pid) = parent {
             self.needs(pid)?;
         }
         Ok(self.ties.open(self.alloc, parent)?)
+    }
+
+    fn open_watched(&mut self, watcher: u32) -> Result<(u32, u64), Fail> {
+        if self.ties.len() >= 1_024 || self.ties.next_reference() >= 1_000 {
+            return Err(Fail::from("no room"));
+        }
+        self.needs(watcher)?;
+        Ok(self.ties.open_watched(self.alloc, watcher)?)
     }
 
     fn link(&mut self, from: u32, to: u32) -> Result<bool, Fail> {
@@ -149,6 +157,7 @@ impl World {
     fn ask(&mut self, call: Call) -> Result<Answer, Fail> {
         Ok(match call {
             Call::Open(parent) => Answer::Process(Some(self.open(parent)?)),
+            Call::OpenWatched(watcher) => Answer::Watched(self.open_watched(watcher)?),
             Call::Link(from, to) => Answer::Is(self.link(from, to)?),
             Call::Unlink(from, to) => Answer::Is(self.unlink(from, to)?),
             Call::Monitor(from, to) => Answer::Number(self.monitor(from, to)?),
@@ -213,6 +222,7 @@ fn tells(to: u32, signal: &Signal, crash: &Term, wanted: (u32, Option<u64>)) -> 
 #[derive(Clone, Copy)]
 enum Call {
     Open(Option<u32>),
+    OpenWatched(u32),
     Link(u32, u32),
     Unlink(u32, u32),
     Monitor(u32, u32),
@@ -238,6 +248,8 @@ enum Answer {
     Is(bool),
     Number(u64),
     Process(Option<u32>),
+    /// A pid, and by which reference it is watched.
+    Watched((u32, u64)),
 }
 
 /// What became of a signal.
@@ -318,6 +330,22 @@ fn spawn_links_both(rt: HostRuntime) -> Result<(), Fail> {
     Ok(())
 }
 
+const WATCHED_SPAWNS: [(Call, Answer); 7] = [
+    (Call::MakeReference, Answer::Number(0)),
+    (Call::OpenWatched(1), Answer::Watched((2, 1))),
+    (Call::OpenWatched(1), Answer::Watched((3, 2))),
+    (Call::End(2, &[(1, Some(1))]), YES),
+    (Call::OnDown(1, 1), YES),
+    (Call::Demonitor(1, 2), Answer::Process(Some(3))),
+    (Call::End(1, &[]), YES),
+];
+
+#[test]
+fn a_watched_spawn_has_its_watcher_at_once(rt: HostRuntime) -> Result<(), Fail> {
+    assert_eq!(rt; first_other(rt.alloc(), 2, &WATCHED_SPAWNS)?, None);
+    Ok(())
+}
+
 const LAST_SIGNALS: [(Call, Answer); 14] = [
     (Call::OnLink(3, 1), Answer::Done),
     (Call::OnLink(0, 1), Answer::Done),
@@ -354,12 +382,12 @@ fn last_signals_rise(rt: HostRuntime) -> Result<(), Fail> {
     Ok(())
 }
 
-/// The links of process 0 to 255 others, made from the last of them on, are told at its end, the least first.
+/// The links of process 0 to 1,023 others, made from the last of them on, are told at its end, the least first.
 fn most_links(alloc: Global) -> Result<bool, Fail> {
-    let mut world = World::new(alloc, 256)?;
+    let mut world = World::new(alloc, 1_024)?;
     let mut wanted = Vec::new(alloc);
-    for pid in 1..256u32 {
-        world.link(0, 256 - pid)?;
+    for pid in 1..1_024u32 {
+        world.link(0, 1_024 - pid)?;
         wanted.push((pid, None))?;
     }
     world.end(0, &wanted)
