@@ -101,5 +101,12 @@ fn weights_one_choose_alike(rt: HostRuntime) {
     let wanted = [2, 1, 0, 4, 0, 3, 3, 3];
     assert!(rt; chooses(&mut Choices::weighted(7, 1, 1), 3, 2, &wanted));
     assert!(rt; chooses(&mut Choices::seed(7), 3, 2, &wanted));
-    assert!(rt; chooses(&mut Choices::weighted(7, 9, 1), 3, 2, &[2, 0, 1, 0, 2, 2, 2, 1]));
+    assert!(rt;
+        chooses(
+            &mut Choices::weighted(7, 9, 1),
+            3,
+            2,
+            &[2, 0, 1, 0, 2, 2, 2, 1]
+        )
+    );
 }
