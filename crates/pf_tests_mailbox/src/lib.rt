@@ -6,6 +6,8 @@ mod by_hand;
 #[cfg(test)]
 mod driven;
 #[cfg(test)]
+mod flushes;
+#[cfg(test)]
 mod receives;
 #[cfg(test)]
 mod scripts;
