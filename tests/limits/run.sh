@@ -223,6 +223,61 @@ processes_that_ended() {
   run_within '257 processes one after another' 1 100000
 }
 
+# Puts a module into `$room/in` whose root makes one process after another, each of which ends at once.
+one_spawns_on() { module_is 'main/0, g/0' 'main() -> f().' 'f() -> spawn(m, g, []), f().' 'g() -> ok.'; }
+
+# The lines of its report, where there may be $1 processes and the run has $2 steps.
+spawned_on() {
+  awk -v most="$1" 'BEGIN { for (n = 1; n < most; n++) printf "0/%d <0> spawn <%d>\n", n, n }'
+  printf '0/%d <0> raise system_limit\n0/%d <0> end {system_limit,[]}\n' "$1" "$1"
+  awk -v most="$1" 'BEGIN { for (n = 1; n < most; n++) printf "0/%d <%d> end normal\n", most - n, n }'
+  printf 'ended {system_limit,[]}\nsteps %d\nproperty fails\n' "$2"
+}
+
+# Each process takes 3 steps to make and 2 of its own, and the fault with its end 4.
+processes_by_editions() {
+  one_spawns_on
+  spawned_on 256 1279 > "$room/wanted"
+  run_within '257 processes by default' 1 2000
+  expect '257 processes of edition 1' 1 run --root main --limit 2000 --schedule none --edition 1
+  spawned_on 1024 5119 > "$room/wanted"
+  expect '1,025 processes of edition 2' 1 run --root main --limit 6000 --schedule none --edition 2
+}
+
+# A trial keeps the edition that its desk had when it was ordered.
+trials_keep_their_editions() {
+  one_spawns_on
+  cp "$room/in" "$room/source"
+  {
+    echo "submit 1 $(($(wc -c < "$room/source")))"; cat "$room/source"; echo
+    printf '%s\n' 'order 1 1 main returns none 6000' 'edition 1 2' 'order 1 1 main returns none 6000' 'once 1 1' 'once 1 2' 'fetch 1 1' 'fetch 1 2'
+  } > "$room/in"
+  {
+    printf '%s\n' 'p1 module 1' 'p1 ticket 1' 'p1 done' 'p1 ticket 2' 'w0 done' 'w0 done' 'p1 report 515'
+    spawned_on 256 1279
+    echo 'p1 report 2051'
+    spawned_on 1024 5119
+  } > "$room/wanted"
+  expect 'trials of two editions' 0 steps
+}
+
+# A desk holds 16 modules in edition 1, and 64 in edition 2.
+modules_by_editions() {
+  {
+    repeated 'submit 1 12\n-module(m).\n\n' 17
+    echo 'edition 1 2'
+    repeated 'submit 1 12\n-module(m).\n\n' 49
+    printf '%s\n' 'withdraw 1 1' 'submit 1 12' '-module(m).' '' 'usage 1'
+  } > "$room/in"
+  {
+    awk 'BEGIN { for (n = 1; n <= 16; n++) printf "p1 module %d\n", n }'
+    printf '%s\n' 'p1 refused Q1' 'p1 done'
+    awk 'BEGIN { for (n = 17; n <= 64; n++) printf "p1 module %d\n", n }'
+    printf '%s\n' 'p1 refused Q1' 'p1 done' 'p1 module 65' 'p1 usage 64 768 0 0 69'
+  } > "$room/wanted"
+  expect '65 modules of a project' 0 steps
+}
+
 # What a list of so many letters `a` prints as.
 codes() { printf '[97%s]' "$(repeated ,97 $(($1 - 1)))"; }
 
@@ -368,11 +423,14 @@ schedules
 sizes_of_modules
 processes_that_wait
 processes_that_ended
+processes_by_editions
+trials_keep_their_editions
 sizes_of_messages
 sizes_of_reasons
 long_mailboxes
 projects_in_turns 1
 projects_in_turns 100
 bytes_of_a_project
+modules_by_editions
 calls_of_a_project
 tell_counts

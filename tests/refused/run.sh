@@ -1,7 +1,7 @@
 #!/bin/sh
 # Refuses each growth of three built programs in turn, until a run meets no refusal: of `pf_refused`, of `pf_refused_mailbox`, and
 # of `pulsefarm run` on its stored run and on rows with several processes: three that race by messages, three with links, monitors
-# and names, and one that is killed though it traps exits; by schedules, and one of them by a seed with a property. Each run has to end
+# and names, and one that is killed though it traps exits, and one that watches, stops watching and flushes; by schedules, and one of them by a seed with a property. Each run has to end
 # with the whole text and its status; or with `NoMemory` alone on a line and status 2; or, where the growth was refused within a run of
 # `pulsefarm run` or `pulsefarm shrink`, with the report of a run that memory stopped, and status 2; a growth that is refused before `main` has begun may end the program with a message on standard error
 # and status 1 or 2. Anything else, a signal or a hang fails. Each run of the program itself, refused or not, has to give back each
@@ -174,6 +174,7 @@ run_refused pulsefarm
 row_run_refused race_of_two_senders_right_first
 row_run_refused together_the_worker_ends_and_is_watched
 row_run_refused exits_kill_who_traps
+row_run_refused flush_takes_the_oldest_that_tells
 row_run_refused seed_of_two_senders
 row_run_refused property_never_of_what_is_sent
 row_run_refused shrink_wait_within_three_runs
