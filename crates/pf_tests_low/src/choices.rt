@@ -65,8 +65,8 @@ fn a_schedule_and_then_zeros(rt: HostRuntime) -> Result<(), Fail> {
     Ok(())
 }
 
-/// Two processes and three channels by weights 3 and 1: the choices by the first words of seed 0, of which word modulo 9 is each
-/// number from 0 to 8 at least once.
+/// Two processes and three channels by weights 3 and 1: the choices by the first words of seed 0. These and those of seed 1 below are
+/// each number from 0 to 8, modulo 9.
 const THREE_TO_ONE: [usize; 16] = [0, 1, 1, 0, 2, 1, 1, 0, 4, 0, 1, 1, 0, 0, 1, 2];
 
 /// The same of seed 1.
