@@ -127,20 +127,19 @@ try_all() {
   says note "$1" "${chosen[@]/#/$room/log.}"
 }
 
-# Makes the plan for the crates $@, or for those that are due.
+# Makes the plan for the crates $@, or for those that are due, and tells it.
 make_plan() {
   for name in "$@"; do is_crate "$name" || fail "crates.txt lists no crate $name"; done
-  says plan "$@" > "$room/plan" || fail "no plan was made"
+  says plan "$room/plan" "$@" || fail "no plan was made"
 }
 
 case "${1:-}" in
 apply) says apply ;;
-due) make_plan && says tell "$room/plan" ;;
+due) make_plan ;;
 lay)
   make_plan
   clone "$2"
   lay_out "$2" "$room/plan"
-  says tell "$room/plan"
   cp "$room/plan" "$2/.git/wrong.plan"
   ;;
 read)

@@ -1,9 +1,9 @@
 """Says which wrong bodies are due, whether each can be applied, and notes what was refused; tests/wrong.sh tells how.
 
     due.py TOP apply              tells the edits that can't be applied
-    due.py TOP plan [NAME..]      prints a line for each edit of the crates that are due, or of these crates: its crate and name, the
-                                  crate's own sum and its sum below, the edit's sum, and why it is tried, or `seen` or `waits`
-    due.py TOP tell PLAN          tells what is due by such a plan, and why
+    due.py TOP plan PLAN [NAME..] tells what is due and why, or these crates, and writes a line for each of their edits to PLAN: its crate
+                                  and name, the crate's own sum and its sum below, the edit's sum, and why it is tried, or `seen` or
+                                  `waits`
     due.py TOP note PLAN LOG..    notes by such a plan what the logs of `rt` say
 
 KIT is the kit's name, TURNS (2) how many crates are due in turn, and MOST_EDITS (100) how many edits of crates that are as they were
@@ -67,7 +67,14 @@ def plan(tree, noted):
     return [it for lines in told for it in lines]
 
 
-WHY = {"new": "new", "changed": "changed", "below": "names below changed", "turn": "in turn", "waits": "wait for a later gate: names below changed"}
+WHY = {
+    "new": "new",
+    "changed": "changed",
+    "below": "names below changed",
+    "turn": "in turn",
+    "asked": "asked for",
+    "waits": "wait for a later gate: names below changed",
+}
 
 
 def tell(lines):
@@ -96,7 +103,7 @@ def read_plan(path):
 def note_crate(noted, crate, lines, log):
     """Notes of a crate what the log says of the edits that were tried, and returns whether all were refused."""
     tried = [it for it in lines if it.why not in LEFT]
-    said = {it[1]: it[0] for it in re.finditer(rf"^must-fail ({crate}/[^ :]+): .*$", log, re.M)}
+    said = {it[1]: it[0] for it in re.finditer(rf"^(?:rt: )?must-fail ({crate}/[^ :]+): .*$", log, re.M)}
     refused = [it for it in tried if ": refused, as it must be" in said.get(it.key(), "")]
     # Such a refusal shows little of a contract: the edit is to be mended.
     for it in refused:
@@ -146,17 +153,16 @@ def main(top, command, *words):
     """Runs a command, and returns the exit status."""
     if command == "note":
         return 0 if note(top, words[0], words[1:]) else 1
-    if command == "tell":
-        tell([it for lines in read_plan(words[0]).values() for it in lines])
-        return 0
     tree = names.Tree(top)
     if command == "apply":
         found = edits.faults(tree)
         print("\n".join([*found, f"{len(found)} wrong bodies can't be applied"]))
         return 1 if found else 0
-    noted = notes.Notes(top)
-    lines = plan(tree, noted) if not words else [line for it in words for line in lines_of_crate(tree, it, noted, "asked")]
-    print("".join(f"{it.told()}\n" for it in lines), end="")
+    noted, path, chosen = notes.Notes(top), words[0], words[1:]
+    lines = [line for it in chosen for line in lines_of_crate(tree, it, noted, "asked")] if chosen else plan(tree, noted)
+    with open(path, "w", encoding="utf-8") as file:
+        file.writelines(f"{it.told()}\n" for it in lines)
+    tell(lines)
     return 0
 
 

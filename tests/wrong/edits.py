@@ -66,7 +66,7 @@ def faults(tree):
     for crate in tree.crates:
         edits, seen = edits_of(tree, crate), set()
         for it in edits:
-            why = f"it stands in wrong/ and in must-fail/" if it.name in seen else fault(tree, it)
+            why = "it stands in wrong/ and in must-fail/" if it.name in seen else fault(tree, it)
             seen.add(it.name)
             if why:
                 lines.append(f"{it.key()}: BAD EDIT: {why}")

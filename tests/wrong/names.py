@@ -13,6 +13,7 @@ INLINE = re.compile(r"Rattle\.(\w+)\.(specs|proofs)((?:\.[^\s.(){}\[\],;]+)+)")
 TYPE = re.compile(r"\b[A-Z]\w*")
 METHOD = re.compile(r"\.\s*([a-z_]\w*)\s*(?:::<[^()]*?>)?\s*\(")
 PATH = re.compile(r"\b(\w+)\s*(?:::\s*<[^<>()]*>)?\s*::\s*([a-z_]\w*)")
+QUALIFIED = re.compile(r"\b([a-z_]\w*)\s*::\s*(?:[a-z_]\w*\s*::\s*)*([A-Z]\w*)")
 PLAIN = re.compile(r"(?<![\w.:])([a-z_]\w*)")
 USES = re.compile(r"^[ \t]*(?:pub(?:\([^)]*\))?\s+)?use\s+([^;]*);", re.M)
 
@@ -35,6 +36,7 @@ class Tree:
                 if it:
                     self.flags[it[1]], self.lines[it[1]] = it[2].split(), it[3].split()
         self.crates = list(self.lines)
+        self.views = {name: [name, *(it for it in below if it in self.lines)] for name, below in self.lines.items()}
         self.sources = {name: self.files(name) for name in self.crates}
         for name in self.crates:
             for path in self.sources[name]:
@@ -67,7 +69,7 @@ class Tree:
 
     def seen_from(self, crate):
         """Returns the crates of the repository that a crate may name."""
-        return [crate, *(it for it in self.lines[crate] if it in self.lines)]
+        return self.views[crate]
 
     # What a file imports.
 
@@ -127,7 +129,8 @@ class Tree:
             if file in self.sources[crate]:
                 break
         else:
-            return set()
+            files = [it for it in self.sources[crate] if it.startswith(f"crates/{crate}/{part}/") and it.endswith(".antt")]
+            return {("antt", it, item) for it in files for item in self.file(it).items}
         items = self.file(file)
         for word in [it for it in (name, *reversed(path[size:])) if it]:
             if items.find(word):
@@ -157,6 +160,16 @@ class Tree:
                 homes = [crate]
             keys |= {("type", it, name) for it in homes or self.seen_from(crate) if (it, name) in self.types}
         return keys
+
+    def qualified_keys(self, path, first, name):
+        """Returns the keys of the types, traits and constants that a name may mean behind a path that begins with this word."""
+        crate = path.split("/")[1]
+        words, other, _ = self.rust_uses(path)
+        homes = {first} & self.lines.keys() | ({crate} if first in ("crate", "self", "super") else set())
+        for word in {first} | other.get(first, set()):
+            homes |= words.get(word, set())
+        found = {("type", it, name) for it in homes if (it, name) in self.types}
+        return found or {("type", it, name) for it in self.seen_from(crate) if (it, name) in self.types}
 
     def free_keys(self, path, word, module=None):
         """Returns the keys of the functions outside `impl` that a word of a Rust file may mean, behind a module or by itself."""
@@ -206,6 +219,7 @@ class Tree:
                 keys |= self.resolve((crate, part, tuple(rest.split(".")[1:])), None)
         if path.endswith(".rt"):
             keys |= {key for word in set(TYPE.findall(text)) for key in self.type_keys(path, word)}
+            keys |= {key for entry in set(QUALIFIED.findall(text)) for key in self.qualified_keys(path, *entry)}
         else:
             found = (self.file(path).find(word) for word in words)
             keys |= {("antt", path, item) for item in found if item}
@@ -231,15 +245,16 @@ class Tree:
     def closure(self, crate, seeds, methods):
         """Returns all keys that are reached from these. A method of one of these names is, where its type is reached."""
         seen, todo = set(seeds), list(seeds)
+        homes = self.seen_from(crate)
         while todo:
             key = todo.pop()
-            keys = set(self.reaches(key)[0])
+            new = self.reaches(key)[0] - seen
             if key[0] == "type":
-                for home in self.seen_from(crate):
-                    there = self.owned.get((home, key[2]), {})
-                    keys |= {("fn", home, key[2], name) for name in methods & there.keys()}
-            todo.extend(keys - seen)
-            seen |= keys
+                for home in homes:
+                    there = self.owned.get((home, key[2]))
+                    new |= {("fn", home, key[2], name) for name in methods & there.keys()} - seen if there else set()
+            todo.extend(new)
+            seen |= new
         return seen
 
     def home(self, key):

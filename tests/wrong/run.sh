@@ -20,7 +20,8 @@ version) cat "$stand_in/kit" ;;
 must-fail)
   for edit in crates/"$2"/must-fail/*.edit; do
     name=$2/$(basename "$edit")
-    if grep -qx "$name" "$stand_in/passing"; then echo "must-fail $name: NOT REFUSED"; else echo "must-fail $name: refused, as it must be"; fi
+    if grep -qx "$name" "$stand_in/passing"; then says="NOT REFUSED: it is still proved"; else says="refused, as it must be: src/lib.rt:1:1: error"; fi
+    echo "rt: must-fail $name: $says"
   done
   ;;
 esac
@@ -44,6 +45,9 @@ base = 1
 
 abbrev pub lonely : ℕ
 lonely = 7
+
+abbrev pub shown : ℕ → ℕ
+shown n = n
 END
   cat > crates/low/src/lib.rt << 'END'
 //! Numbers.
@@ -102,6 +106,16 @@ END
 ghost use Rattle.mid.specs.Twice.{twice};
 use low::{Count, MOST, nothing, step};
 
+pub struct Held {
+    number: u32,
+}
+
+impl Model for Held {
+    ghost use Rattle.low.specs.Numbers.{shown};
+
+    ghost view = { λ h. shown h.number };
+}
+
 /// Two steps.
 pub fn two(n: u32) -> u32
     requires { 0 < n }
@@ -125,13 +139,13 @@ pub fn most() -> u32 {
 pub fn same(n: u32) -> u32
     ensures { result ≡ n }
 {
-    n
+    n + 0
 }
 END
   printf 'file: src/lib.rt\nold: step(step(n))\nnew: step(n)\n' > crates/mid/wrong/two_is_one.edit
   printf 'file: src/lib.rt\nold: count.add();\nnew: count.add(); count.add();\n' > crates/mid/wrong/many_twice.edit
   printf 'file: src/lib.rt\nold:     MOST\nnew:     MOST - 1\n' > crates/mid/wrong/most_is_less.edit
-  printf 'file: src/lib.rt\nold:     n\nnew:     nothing(n) + 1\n' > crates/mid/wrong/same_is_more.edit
+  printf 'file: src/lib.rt\nold: n + 0\nnew: nothing(n) + 1\n' > crates/mid/wrong/same_is_more.edit
 }
 
 make_top() {
@@ -226,6 +240,8 @@ case_of "a body below" 's/    n + 1/    1 + n/; s/old: n + 1/old: 1 + n/' "$low"
 case_of "an ensures of a method below" 's/self.old + 1 }/self.old + 2 }/' "$low" \
   "$(printf 'low 1 of 1, changed\nmid 1 of 4, %s many_twice' "$below")"
 case_of "a Model below" 's/λ c. c.number/λ c. 0/' "$low" "$(printf 'low 1 of 1, changed\nmid 1 of 4, %s many_twice' "$below")"
+case_of "what a Model in the file names" 's/^shown n = n/shown n = n + 1/' "$numbers" \
+  "$(printf 'low 1 of 1, changed\nmid 4 of 4, %s many_twice most_is_less same_is_more two_is_one' "$below")"
 case_of "a constant below" 's/MOST: u32 = 10/MOST: u32 = 11/' "$low" "$(printf 'low 1 of 1, changed\nmid 1 of 4, %s most_is_less' "$below")"
 case_of "a contract that a new text names" 's/ensures { result ≡ n }/ensures { n ≡ result }/' "$low" \
   "$(printf 'low 1 of 1, changed\nmid 1 of 4, %s same_is_more' "$below")"

@@ -25,7 +25,12 @@ def plain_rust(text):
 
 def plain_antt(text):
     """Returns an antt text without comments, a line for each that begins at its margin and the lines below it."""
-    return ANTT.sub(lambda it: it["literal"] or ("\n" if it["space"].endswith("\n") else " "), text).strip()
+    parts = []
+    for line in text.split("\n"):
+        words = ANTT.sub(lambda it: it["literal"] or " ", line).strip() if "--" in line or '"' in line else " ".join(line.split())
+        if words:
+            parts += [" " if line[0].isspace() else "\n", words]
+    return "".join(parts).strip()
 
 
 def plain(path, text):
@@ -207,8 +212,9 @@ class AnttFile:
 
     def note_part(self, part, name):
         """Notes that an item has a name, which may be an operator around its places."""
-        for word in {part, *part.split("◌")} - {"", name}:
-            self.part_of.setdefault(word, name)
+        for word in (part, *part.split("◌")):
+            if word not in ("", name):
+                self.part_of.setdefault(word, name)
 
     def note_parts(self, line, name):
         """Notes the constructors, fields or names of a group that stand in a line within an item."""
