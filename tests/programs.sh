@@ -1,5 +1,5 @@
 #!/bin/sh
-# The tests of the built programs: each folder of tests/ with a `run.sh`, whose last line is `N passed, M failed`.
+# The tests of the built programs, and of `tests/wrong.sh`: each folder of tests/ with a `run.sh`, whose last line is `N passed, M failed`.
 set -u
 cd "$(dirname "$0")/.." || exit 2
 room=$(mktemp -d) || exit 2

@@ -1,27 +1,37 @@
 #!/usr/bin/env bash
 # Tries wrong bodies: each edit of crates/NAME/wrong/ turns what a function means, and the prover has to refuse the crate with it.
 # (One in crates/NAME/must-fail/ is tried by each `rt ci` too, which costs that crate a second proof.)
-# A crate that has changed is due; so are the two that were seen the longest ago.
 #
-#   tests/wrong.sh due          tells which crates are due, and why; tries nothing
-#   tests/wrong.sh              tries the wrong bodies of the crates that are due
+#   tests/wrong.sh apply        tells the edits that can't be applied, and fails where there are any
+#   tests/wrong.sh due          tells which wrong bodies are due, and why; tries nothing
+#   tests/wrong.sh              tries those that are due
 #   tests/wrong.sh all          tries those of every crate
 #   tests/wrong.sh NAME..       tries those of these crates
-#   tests/wrong.sh lay FOLDER   makes a clone in FOLDER in which the wrong bodies that are due stand in must-fail/, for `rt ci`
-#   tests/wrong.sh read LOG     takes from the output of `rt ci` in such a clone what was refused
+#   tests/wrong.sh lay FOLDER   makes a clone in FOLDER in which those that are due stand in must-fail/, for `rt ci`
+#   tests/wrong.sh read LOG [FOLDER]
+#                               takes from the output of `rt ci` in such a clone what was refused: of those that were laid in FOLDER, or
+#                               else of those that are due now
 #
-# What was seen refused is noted in tests/wrong.seen, a line a crate: its name, a fingerprint, the second at which it was seen, and
-# how many wrong bodies it has. A crate with an edit that can't be read, or isn't refused, loses its line, and the run fails.
+# A crate has two sums. Its own is of its sources, specs and proofs without comments and layout, its edits, the flags of its line of
+# crates.txt, and the kit. Its sum below is of what its sources, specs and edits reach by name in the crates below it: definitions,
+# and in src/ what is declared and each contract, but no body of a function. Each edit has a sum below of its own: of what is reached
+# from the contract and the body of the function that it changes, from its new texts, from the Models in that file and from the
+# contracts of what is called. One that changes anything but the body of a function has all that its crate reaches.
 #
-# The fingerprint is of all that decides whether a wrong body is refused: the crate's own sources, specs, proofs and edits, the specs
-# of the crates below it, its line of crates.txt, and the kit.
+# Where the own sum of a crate changed, all its edits are due; where only the sum below did, those whose own sums changed, at most
+# MOST_EDITS (100) at once, the ones first that were seen the longest ago; and all edits of the TURNS (2) crates that were seen the
+# longest ago.
 #
-# LANES (the processors) is how many crates are tried at once; TURNS (2) how many crates are due in turn.
+# What was seen refused is noted in tests/wrong.seen, a line a crate: its name, its own sum, its sum below, the second at which it was
+# seen, and how many wrong bodies it has; and in tests/wrong.edits, a line an edit: its crate and name, its sum, and the second at which
+# it was seen. A crate keeps its line until all of its edits are seen with the sums that they have now. One with an edit that can't be
+# read, or isn't refused, loses its line, and the run fails.
+#
+# LANES (the processors) is how many crates are tried at once.
 set -uo pipefail
 export LC_ALL=C
 top=$(cd "$(dirname "$0")/.." && pwd)
 cd "$top" || exit 2
-seen=$top/tests/wrong.seen
 room=$(mktemp -d) || exit 2
 trap 'rm -rf "$room"' EXIT
 trap 'exit 130' INT TERM HUP
@@ -29,6 +39,11 @@ trap 'exit 130' INT TERM HUP
 fail() {
   echo "wrong.sh: $*" >&2
   exit 2
+}
+
+# Says what is due and notes what was refused (tests/wrong/due.py).
+says() {
+  KIT=$kit python3 -B tests/wrong/due.py "$top" "$@"
 }
 
 kit=$(rt version) || fail "there is no rt"
@@ -49,46 +64,6 @@ below() {
   done
 }
 
-edits() {
-  find "crates/$1/wrong" "crates/$1/must-fail" -maxdepth 1 -name '*.edit' 2> /dev/null | sort
-}
-
-# What decides whether the wrong bodies of crate $1 are refused, as one word.
-fingerprint() {
-  {
-    echo "$kit"
-    grep -E "^$1[ :]" crates.txt
-    {
-      find "crates/$1/src" "crates/$1/specs" "crates/$1/proofs" -type f -print0 2> /dev/null
-      for name in $(below "$1"); do find "crates/$name/specs" -type f -print0 2> /dev/null; done
-    } | sort -z | xargs -0 -r sha256sum
-    # An edit may move between the two folders.
-    for edit in $(edits "$1"); do echo "${edit##*/} $(sha256sum < "$edit")"; done | sort
-  } | sha256sum | cut -c1-32
-}
-
-# The line of crate $1 in the notes.
-noted() {
-  if [ -f "$seen" ]; then sed -n "/^$1 /p" "$seen"; fi
-}
-
-# Tells the crates that are due, each with a word of why.
-due() {
-  : > "$room/others"
-  for name in $(crates); do
-    [ -n "$(edits "$name")" ] || continue
-    read -r _ sum time _ <<< "$(noted "$name") - - -"
-    if [ "$sum" = - ]; then
-      echo "$name new"
-    elif [ "$sum" != "$(fingerprint "$name")" ]; then
-      echo "$name changed"
-    else
-      echo "$time $name" >> "$room/others"
-    fi
-  done
-  sort -n "$room/others" | head -n "${TURNS:-2}" | sed 's/^[0-9]* \(.*\)/\1 in turn/'
-}
-
 # Copies the files of the repository, as they stand here, into the folder $1.
 clone() {
   git init -q "$1" || fail "no clone can be made in $1"
@@ -97,38 +72,23 @@ clone() {
   done | tar --null -T - -cf - | tar -xf - -C "$1" || fail "no clone can be made in $1"
 }
 
-# Puts each wrong body of crate $2 into must-fail/ of the clone $1.
-lay_out() {
-  mkdir -p "$1/crates/$2/must-fail"
-  for edit in "$1/crates/$2/wrong"/*.edit; do
-    [ -e "$edit" ] || continue
-    [ ! -e "$1/crates/$2/must-fail/${edit##*/}" ] || fail "$2: ${edit##*/} stands in wrong/ and in must-fail/"
-    mv "$edit" "$1/crates/$2/must-fail/"
-  done
+# Prints the lines of the plan $1 that are to be tried.
+to_try() {
+  grep -vE ' (seen|waits)$' "$1"
 }
 
-# Notes of crate $1 that all its wrong bodies were refused, where the log $2 says so of each; else it loses its line. Its fingerprint
-# is $3.
-note() {
-  wanted=$(edits "$1" | wc -l)
-  refused=$(grep -c "must-fail $1/[^ ]*: refused, as it must be" "$2")
-  # Such a refusal shows little of a contract: the edit is to be mended.
-  grep "must-fail $1/[^ ]*: refused, as it must be (only" "$2" | cut -c1-200
-  if [ -f "$seen" ]; then sed -i "/^$1 /d" "$seen"; fi
-  if [ "$refused" = "$wanted" ]; then
-    echo "$1 $3 $(date +%s) $wanted" >> "$seen"
-    sort -o "$seen" "$seen"
-    echo "$1: $wanted wrong bodies refused"
-  else
-    echo "$1: FAILED: $refused of $wanted wrong bodies refused"
-    grep "must-fail $1/" "$2" | grep -v ': refused, as it must be'
-    return 1
-  fi
+# Moves the wrong bodies that the plan $2 tries into must-fail/ of the clone $1.
+lay_out() {
+  to_try "$2" | while read -r crate edit _; do
+    folder=$1/crates/$crate
+    mkdir -p "$folder/must-fail"
+    if [ -e "$folder/wrong/$edit" ]; then mv "$folder/wrong/$edit" "$folder/must-fail/"; fi
+  done
 }
 
 # Tries the wrong bodies of crate $1 in the clone; what is told goes to a file.
 try() {
-  (cd "$room/clone" && rt must-fail "$1") > "$room/$1.log" 2>&1
+  (cd "$room/clone" && rt must-fail "$1") > "$room/log.$1" 2>&1
   echo "$1: tried"
 }
 export -f try
@@ -151,49 +111,42 @@ build_below() {
   done
 }
 
-# Tries the wrong bodies of the crates $@, the longest work first, and notes what was refused.
+# Tries the wrong bodies of the plan $1, the longest work first, and notes what was refused.
 # The name goes to the shells that xargs starts.
 # shellcheck disable=SC2016
 try_all() {
-  for name in "$@"; do
-    is_crate "$name" || fail "crates.txt lists no crate $name"
-    fingerprint "$name" > "$room/$name.sum"
-  done
-  clone "$room/clone"
-  for name in "$@"; do lay_out "$room/clone" "$name"; done
-  build_below "$@"
-  for name in "$@"; do
-    echo "$(($(edits "$name" | wc -l) * $(cat "crates/$name/src/"*.rt | wc -l))) $name"
-  done | sort -rn | cut -d' ' -f2 | xargs -P "${LANES:-$(nproc)}" -I{} bash -c 'try "$1"' _ {}
-  bad=0
-  for name in "$@"; do note "$name" "$room/$name.log" "$(cat "$room/$name.sum")" || bad=$((bad + 1)); done
-  echo "$(($# - bad)) crates passed, $bad failed"
-  [ "$bad" = 0 ]
+  mapfile -t chosen < <(to_try "$1" | cut -d' ' -f1 | uniq)
+  if [ "${#chosen[@]}" -gt 0 ]; then
+    clone "$room/clone"
+    lay_out "$room/clone" "$1"
+    build_below "${chosen[@]}"
+  fi
+  for name in "${chosen[@]}"; do
+    echo "$(($(to_try "$1" | grep -c "^$name ") * $(cat "crates/$name/src/"*.rt | wc -l))) $name"
+  done | sort -rn | cut -d' ' -f2 | xargs -r -P "${LANES:-$(nproc)}" -I{} bash -c 'try "$1"' _ {}
+  says note "$1" "${chosen[@]/#/$room/log.}"
 }
 
-with_edits() {
-  for name in $(crates); do
-    if [ -n "$(edits "$name")" ]; then echo "$name"; fi
-  done
+# Makes the plan for the crates $@, or for those that are due, and tells it.
+make_plan() {
+  for name in "$@"; do is_crate "$name" || fail "crates.txt lists no crate $name"; done
+  says plan "$room/plan" "$@" || fail "no plan was made"
 }
 
 case "${1:-}" in
-due) due ;;
+apply) says apply ;;
+due) make_plan ;;
 lay)
+  make_plan
   clone "$2"
-  due > "$room/due"
-  while read -r name why; do
-    echo "wrong bodies of $name: all ($why)"
-    lay_out "$2" "$name"
-  done < "$room/due"
+  lay_out "$2" "$room/plan"
+  cp "$room/plan" "$2/.git/wrong.plan"
   ;;
 read)
-  bad=0
-  # Those whose wrong bodies lay in must-fail/ together are the ones that are due still.
-  for name in $(due | cut -d' ' -f1); do note "$name" "$2" "$(fingerprint "$name")" || bad=$((bad + 1)); done
-  [ "$bad" = 0 ]
+  if [ -n "${3:-}" ]; then cp "$3/.git/wrong.plan" "$room/plan" || fail "nothing was laid in $3"; else make_plan; fi
+  says note "$room/plan" "$2"
   ;;
-all) mapfile -t chosen < <(with_edits) && try_all "${chosen[@]}" ;;
-"") mapfile -t chosen < <(due | cut -d' ' -f1) && try_all "${chosen[@]}" ;;
-*) try_all "$@" ;;
+all) mapfile -t every < <(crates) && make_plan "${every[@]}" && try_all "$room/plan" ;;
+"") make_plan && try_all "$room/plan" ;;
+*) make_plan "$@" && try_all "$room/plan" ;;
 esac

@@ -1,0 +1,170 @@
+"""Says which wrong bodies are due, whether each can be applied, and notes what was refused; tests/wrong.sh tells how.
+
+    due.py TOP apply              tells the edits that can't be applied
+    due.py TOP plan PLAN [NAME..] tells what is due and why, or these crates, and writes a line for each of their edits to PLAN: its crate
+                                  and name, the crate's own sum and its sum below, the edit's sum, and why it is tried, or `seen` or
+                                  `waits`
+    due.py TOP note PLAN LOG..    notes by such a plan what the logs of `rt` say
+
+KIT is the kit's name, TURNS (2) how many crates are due in turn, and MOST_EDITS (100) how many edits of crates that are as they were
+and stand on names that changed below them."""
+import os
+import re
+import sys
+import time
+
+import edits
+import names
+import notes
+
+LEFT = ("seen", "waits")
+
+
+class Line:
+    """An edit in a plan."""
+
+    def __init__(self, crate, name, own, below, total, why):
+        self.crate, self.name, self.own, self.below, self.total, self.why = crate, name, own, below, total, why
+
+    def key(self):
+        """Returns its crate and name, as the notes have them."""
+        return f"{self.crate}/{self.name}"
+
+    def told(self):
+        """Returns it as a line."""
+        return f"{self.crate} {self.name} {self.own} {self.below} {self.total} {self.why}"
+
+
+def lines_of_crate(tree, crate, noted, why=None):
+    """Returns a line for each edit of a crate: with this word of why, or else with that of a new crate, a changed one or `below`."""
+    wanted = edits.Wanted(tree, crate)
+    own, below = wanted.own_sum(os.environ["KIT"]), wanted.below_sum()
+    of_crate, lines = noted.crates.get(crate), []
+    for it in wanted.edits:
+        line = Line(crate, it.name, own, below, wanted.edit_sum(it), why)
+        if why is None:
+            known = noted.edits.get(line.key(), ("", 0))[0]
+            line.why = "new" if not of_crate else "changed" if of_crate[0] != own else "below" if known != line.total else "seen"
+        lines.append(line)
+    return lines
+
+
+def plan(tree, noted):
+    """Returns the lines of the crates that are due."""
+    by_crate = {crate: lines_of_crate(tree, crate, noted) for crate in tree.crates}
+    by_crate = {crate: lines for crate, lines in by_crate.items() if lines}
+    below = [it for lines in by_crate.values() for it in lines if it.why == "below"]
+    below.sort(key=lambda it: (noted.edits.get(it.key(), ("", 0))[1], it.crate, it.name))
+    for it in below[int(os.environ.get("MOST_EDITS", "100")) :]:
+        it.why = "waits"
+    rest = [crate for crate, lines in by_crate.items() if all(it.why == "seen" for it in lines)]
+    rest.sort(key=lambda it: (noted.crates[it][2], it))
+    for crate in rest[: int(os.environ.get("TURNS", "2"))]:
+        for it in by_crate[crate]:
+            it.why = "turn"
+    # A crate whose sum below changed while no edit's did gets its line anew.
+    told = [lines for crate, lines in by_crate.items() if any(it.why != "seen" for it in lines) or noted.crates[crate][1] != lines[0].below]
+    return [it for lines in told for it in lines]
+
+
+WHY = {
+    "new": "new",
+    "changed": "changed",
+    "below": "names below changed",
+    "turn": "in turn",
+    "asked": "asked for",
+    "waits": "wait for a later gate: names below changed",
+}
+
+
+def tell(lines):
+    """Prints a plan, a line for each crate and why."""
+    groups = {}
+    for it in lines:
+        groups.setdefault((it.crate, it.why), []).append(it.name.removesuffix(".edit"))
+    for (crate, why), found in groups.items():
+        if why in WHY:
+            count = sum(1 for it in lines if it.crate == crate)
+            which = f": {' '.join(found)}" if why in ("below", "waits") else ""
+            print(f"{crate} {len(found)} of {count}, {WHY[why]}{which}")
+    waiting = sum(1 for it in lines if it.why == "waits")
+    print(f"{sum(1 for it in lines if it.why not in LEFT)} wrong bodies are due, and {waiting} wait for a later gate")
+
+
+def read_plan(path):
+    """Returns the lines of a plan, by crate."""
+    by_crate = {}
+    with open(path, encoding="utf-8") as file:
+        for words in map(str.split, file):
+            by_crate.setdefault(words[0], []).append(Line(*words))
+    return by_crate
+
+
+def note_crate(noted, crate, lines, log):
+    """Notes of a crate what the log says of the edits that were tried, and returns whether all were refused."""
+    tried = [it for it in lines if it.why not in LEFT]
+    said = {it[1]: it[0] for it in re.finditer(rf"^(?:rt: )?must-fail ({crate}/[^ :]+): .*$", log, re.M)}
+    refused = [it for it in tried if ": refused, as it must be" in said.get(it.key(), "")]
+    # Such a refusal shows little of a contract: the edit is to be mended.
+    for it in refused:
+        if ": refused, as it must be (only" in said[it.key()]:
+            print(said[it.key()][:200])
+    if len(refused) < len(tried):
+        noted.drop(crate)
+        print(f"{crate}: FAILED: {len(refused)} of {len(tried)} wrong bodies refused")
+        for it in tried:
+            if it not in refused:
+                print(said.get(it.key(), f"must-fail {it.key()}: not tried"))
+        return False
+    settle(noted, crate, lines, tried)
+    if tried:
+        print(f"{crate}: {len(tried)} wrong bodies refused")
+    return True
+
+
+def settle(noted, crate, lines, tried):
+    """Notes the edits that were tried and refused. The crate keeps its line until all stand on the names as they are."""
+    if len(tried) == len(lines):
+        kept = noted.crates.get(crate)
+        noted.drop(crate)
+        if kept:
+            noted.crates[crate] = kept
+    now = int(time.time())
+    for it in tried:
+        noted.edits[it.key()] = (it.total, now)
+    if all(noted.edits.get(it.key(), ("", 0))[0] == it.total for it in lines):
+        oldest = min(noted.edits[it.key()][1] for it in lines)
+        noted.crates[crate] = (lines[0].own, lines[0].below, oldest, len(lines))
+
+
+def note(top, path, logs):
+    """Notes by a plan what the logs say; returns whether all that was tried was refused."""
+    noted, log = notes.Notes(top), ""
+    for it in logs:
+        with open(it, encoding="utf-8", errors="replace") as file:
+            log += file.read()
+    done = [note_crate(noted, crate, lines, log) for crate, lines in read_plan(path).items()]
+    noted.write()
+    print(f"{done.count(True)} crates passed, {done.count(False)} failed")
+    return all(done)
+
+
+def main(top, command, *words):
+    """Runs a command, and returns the exit status."""
+    if command == "note":
+        return 0 if note(top, words[0], words[1:]) else 1
+    tree = names.Tree(top)
+    if command == "apply":
+        found = edits.faults(tree)
+        print("\n".join([*found, f"{len(found)} wrong bodies can't be applied"]))
+        return 1 if found else 0
+    noted, path, chosen = notes.Notes(top), words[0], words[1:]
+    lines = [line for it in chosen for line in lines_of_crate(tree, it, noted, "asked")] if chosen else plan(tree, noted)
+    with open(path, "w", encoding="utf-8") as file:
+        file.writelines(f"{it.told()}\n" for it in lines)
+    tell(lines)
+    return 0
+
+
+if __name__ == "__main__":
+    sys.exit(main(*sys.argv[1:]))
