@@ -5,9 +5,9 @@ _pulsefarm_properties='returns true nocrash nodeadlock withinlimit never:'
 # The options of the command $1.
 _pulsefarm_options() {
   case $1 in
-    run | chart) echo '--root --limit --seed --schedule --property --help' ;;
-    hunt) echo '--root --limit --property --seeds --workers --all --shrink --help' ;;
-    shrink) echo '--root --limit --schedule --property --runs --help' ;;
+    run | chart) echo '--root --limit --edition --seed --weights --schedule --property --help' ;;
+    hunt) echo '--root --limit --edition --property --seeds --weights --workers --all --shrink --help' ;;
+    shrink) echo '--root --limit --edition --schedule --property --runs --help' ;;
     check) echo '--explain --help' ;;
     steps) echo '--help' ;;
     *) echo '--help --version' ;;
@@ -39,7 +39,8 @@ _pulsefarm() {
         mapfile -t COMPREPLY < <(compgen -W 'none @' -- "$word")
       fi
       ;;
-    --limit | --seed | --seeds | --workers | --shrink | --runs) ;;
+    --edition) mapfile -t COMPREPLY < <(compgen -W '1 2' -- "$word") ;;
+    --limit | --seed | --seeds | --weights | --workers | --shrink | --runs) ;;
     *)
       if [ "${word:0:1}" = - ]; then
         mapfile -t COMPREPLY < <(compgen -W "$(_pulsefarm_options "$command")" -- "$word")

@@ -123,6 +123,7 @@ number='a number of steps from 1 to 100000, without leading zeros'
 numbers='`none`, or numbers from 0 to 4294967295 with commas between them'
 runs='a number of runs from 1 to 1000, without leading zeros'
 seed='a number from 0 to 18446744073709551615, without leading zeros'
+weights='two numbers R:D from 1 to 9, R of a process and D of a channel'
 
 words() {
   : > in
@@ -142,11 +143,17 @@ words() {
   ended 'leading zeros of a seed' 2 '' "error: invalid value '007' for '--seed <N>': it wants $seed$usage$more"
   run run --root main --limit 5 --seed 18446744073709551616
   ended 'seed past 64 bits' 2 '' "error: invalid value '18446744073709551616' for '--seed <N>': it wants $seed$usage$more"
+  run run --root main --limit 5 --seed 7 --weights 0:1
+  ended 'weight of 0' 2 '' "error: invalid value '0:1' for '--weights <R:D>': it wants $weights$usage$more"
+  run run --root main --limit 5 --schedule none --weights 3:1
+  ended 'weights of a schedule' 2 '' "error: the argument '--weights <R:D>' cannot be used with '--schedule <L>'$usage$more"
+  run run --root main --limit 5 --seed 7 --edition 3
+  ended 'edition past 2' 2 '' "error: invalid value '3' for '--edition <E>': it wants 1 or 2$usage$more"
   run run --root main --limit 5 --seed 7 --property true --property true
   ended 'two properties' 2 '' "error: the argument '--property <P>' cannot be used multiple times$usage$more"
   run run --root main --limit 5 --seed 7 --property
   ended 'property without a value' 2 '' "error: a value is required for '--property <P>' but none was supplied\n$more"
-  shrink='\n\nUsage: pulsefarm shrink --root <F> --limit <N> --schedule <L> --property <P> --runs <N> [FILE]\n'
+  shrink='\n\nUsage: pulsefarm shrink [OPTIONS] --root <F> --limit <N> --schedule <L> --property <P> --runs <N> [FILE]\n'
   shrunk='shrink --root main --limit 5 --property true'
   # The words in `$shrunk` have no blanks in them.
   # shellcheck disable=SC2086
@@ -346,6 +353,7 @@ completions() {
   offers 'hunt' pulsefarm hu
   offers '--seeds --shrink' pulsefarm hunt m.erl --s
   offers 'nocrash nodeadlock' pulsefarm run --property no
+  offers '1 2' pulsefarm run m.erl --edition ''
   offers 'main' pulsefarm chart m.erl --root ''
   offers '@m.erl' pulsefarm run --schedule @m.e
   # Each option that is offered is one that the command takes.

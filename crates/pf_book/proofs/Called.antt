@@ -8,6 +8,7 @@ use Rattle.pf_quota.specs.declared.refusals.Refusal.{Refusal as Limit}
 use Rattle.pf_quota.specs.Checks.{refusal_of}
 use Rattle.pf_quota.specs.Refusals as quota
 use Rattle.pf_quota.specs.Usage.{usage_of}
+use Rattle.pf_model.specs.Limits.{IsEdition}
 use Rattle.pf_desks.specs.Desk as desk
 use Rattle.pf_desks.specs.Desk.{Profile, Desk, Stored, Trial, called}
 use Rattle.pf_desks.specs.Calls.{answered, within_limits, noted, passed_by, HasRoom, after_call, reply_to, with_entry, usage_in, held_by}
@@ -29,16 +30,17 @@ use Rattle.pf_book.proofs.Sums.{calls_more}
 -- ---- the same desk in other lists
 
 -- what is kept is kept where the lists hold the same
-pub same_kept : (b b' : Inside) → b'.modules.items ≡ b.modules.items → b'.trials.items ≡ b.trials.items → b'.history.items ≡ b.history.items
+pub same_kept : (b b' : Inside) → b'.edition ≡ b.edition → b'.modules.items ≡ b.modules.items → b'.trials.items ≡ b.trials.items → b'.history.items ≡ b.history.items
     → b'.users.items ≡ b.users.items → b'.usage ≡ b.usage → IsKept b → IsKept b'
-same_kept b b' modules trials history users usage h =
-    let same : desk_in b' ≡ desk_in b = λ i. record { modules = modules i; trials = trials i; history = map entry_seen (history i) } in
+same_kept b b' edition modules trials history users usage h =
+    let same : desk_in b' ≡ desk_in b = λ i. record { edition = edition i; modules = modules i; trials = trials i; history = map entry_seen (history i) } in
     let counts : CountUsers b.users.items b.modules.items b.trials.items = record { counted = h.counted; exact = h.users; used = h.used } in
     let one : CountUsers b'.users.items b.modules.items b.trials.items = subst (λ (l : List ℕ). CountUsers l b.modules.items b.trials.items) (sym users) counts in
     let two : CountUsers b'.users.items b'.modules.items b.trials.items = subst (λ (l : List (Option Stored)). CountUsers b'.users.items l b.trials.items) (sym modules) one in
     let all : CountUsers b'.users.items b'.modules.items b'.trials.items = subst (λ (l : List (Option Trial)). CountUsers b'.users.items b'.modules.items l) (sym trials) two in
     record {
       legal = λ p right. subst (IsLegalDesk p) (sym same) (h.legal p right);
+      edition = subst IsEdition (sym edition) h.edition;
       sums = usage ∙ h.sums ∙ ap usage_in (sym same);
       counted = all.counted;
       users = all.exact;
@@ -48,14 +50,14 @@ same_kept b b' modules trials history users usage h =
 -- ---- a call that the log has room for, or none
 
 module _ (d : Desk) (u : Usage) (sums : u ≡ usage_in d) where
-  told_limit : (o : Option Limit) → refusal_of u charge.Call ≡ o → passed_by d charge.Call ≡ option_map quota.code_of o
-  told_limit o h = ap (option_map quota.code_of) (ap (λ (v : Usage). refusal_of v charge.Call) (sym sums) ∙ h)
+  told_limit : (o : Option Limit) → refusal_of d.edition u charge.Call ≡ o → passed_by d charge.Call ≡ option_map quota.code_of o
+  told_limit o h = ap (option_map quota.code_of) (ap (λ (v : Usage). refusal_of d.edition v charge.Call) (sym sums) ∙ h)
 
-  pub has_room : refusal_of u charge.Call ≡ None → HasRoom d
+  pub has_room : refusal_of d.edition u charge.Call ≡ None → HasRoom d
   has_room h = told_limit None h
 
   -- a call that the log has no room for is answered so, and the desk stays
-  pub full_answers : (limit : Limit) (c : desk.Call) (r : Reply) → refusal_of u charge.Call ≡ Some limit → reply_seen r ≡ desk.refused (quota.code_of limit)
+  pub full_answers : (limit : Limit) (c : desk.Call) (r : Reply) → refusal_of d.edition u charge.Call ≡ Some limit → reply_seen r ≡ desk.refused (quota.code_of limit)
       → (d' : Desk) → d' ≡ d → DeskAnswers d c (Ok r) d'
   full_answers limit c r h told d' same p right =
       let full = told_limit (Some limit) h in (
@@ -66,22 +68,23 @@ module _ (d : Desk) (u : Usage) (sums : u ≡ usage_in d) where
 -- ---- a call that is noted
 
 -- a change leaves what was noted, and looks at modules and trials alone
-with_history : (d : Desk) (a : Change) → with_change d a ≡ record (with_change (holding d.modules d.trials) a) { history = d.history }
+with_history : (d : Desk) (a : Change) → with_change d a ≡ record (with_change (holding d.edition d.modules d.trials) a) { history = d.history }
 with_history d change.Nothing = refl
 with_history d (change.Module m) = refl
 with_history d (change.Trial n j) = refl
 with_history d (change.DropTrial t) = refl
 with_history d (change.Withdraw n) = refl
+with_history d (change.Edition e) = refl
 
 same_history : (d : Desk) (a : Change) → (with_change d a).history ≡ d.history
 same_history d a = ap (λ (k : Desk). k.history) (with_history d a)
 
 -- the desk of the lists that a change was carried out in, and of what was noted
-pub changed_desk : (d : Desk) (a : Change) (e : desk.Entry) (ms : List (Option Stored)) (ts : List (Option Trial)) (es : List desk.Entry)
-    → holding ms ts ≡ with_change (holding d.modules d.trials) a → es ≡ d.history ++ e ∷ []
-    → ◌≡◌ {A = Desk} (record { modules = ms; trials = ts; history = es }) (with_entry (with_change d a) e)
-changed_desk d a e ms ts es made noted =
-    (λ i. record { modules = (made i).modules; trials = (made i).trials; history = noted i })
+pub changed_desk : (d : Desk) (a : Change) (e : desk.Entry) (edition : ℕ) (ms : List (Option Stored)) (ts : List (Option Trial)) (es : List desk.Entry)
+    → holding edition ms ts ≡ with_change (holding d.edition d.modules d.trials) a → es ≡ d.history ++ e ∷ []
+    → ◌≡◌ {A = Desk} (record { edition = edition; modules = ms; trials = ts; history = es }) (with_entry (with_change d a) e)
+changed_desk d a e edition ms ts es made noted =
+    (λ i. record { edition = (made i).edition; modules = (made i).modules; trials = (made i).trials; history = noted i })
     ∙ ap (λ (k : Desk). with_entry k e) (sym (with_history d a))
 
 module _ (d : Desk) (c : desk.Call) (plan : Plan) (planned : IsPlan d c plan) (room : HasRoom d) (d' : Desk)
@@ -117,10 +120,11 @@ module _ (d : Desk) (c : desk.Call) (plan : Plan) (planned : IsPlan d c plan) (r
       ∙ ap usage_in (sym is)
 
   -- what a desk keeps, where it is this desk
-  pub called_kept : (b' : Inside) → desk_in b' ≡ d' → b'.usage ≡ plan.usage → CountUsers b'.users.items b'.modules.items b'.trials.items
+  pub called_kept : (b' : Inside) → desk_in b' ≡ d' → b'.usage ≡ plan.usage → IsEdition b'.edition → CountUsers b'.users.items b'.modules.items b'.trials.items
       → ForRight (λ p. IsLegalDesk p d) → IsKept b'
-  called_kept b' here uses counts legal = record {
+  called_kept b' here uses edition counts legal = record {
     legal = λ p right. subst (IsLegalDesk p) (sym here) (called_legal legal p right);
+    edition = edition;
     sums = uses ∙ called_sums ∙ ap usage_in (sym here);
     counted = counts.counted;
     users = counts.exact;

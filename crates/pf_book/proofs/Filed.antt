@@ -129,13 +129,13 @@ module _ (d : Desk) (j : Job) (r : Result) (t : ℕ) (waits : job_at d.trials t 
   filed_held : with_state d.trials t (λ _. done r) ≡ with_held d.trials t (Some now)
   filed_held = state_set d.trials t w.trial (λ _. done r) w.is
 
-  module _ (d' : Desk) (modules : d'.modules ≡ d.modules) (trials : d'.trials ≡ with_state d.trials t (λ _. done r))
+  module _ (d' : Desk) (edition : d'.edition ≡ d.edition) (modules : d'.modules ≡ d.modules) (trials : d'.trials ≡ with_state d.trials t (λ _. done r))
       (history : d'.history ≡ (d.history ++ claimed t ∷ []) ++ filed t marked_whole ∷ []) where
     -- it is the one that the worker's step leads to
     pub once_is : (p : Profile) → p.meaning j ≡ r → worker_step p d (once t) ≡ Some d'
     once_is p means =
         let set = trials ∙ sym (filed_trials p means) in
-        let same : d' ≡ after_once p d t = λ k. record { modules = modules k; trials = set k; history = history k } in
+        let same : d' ≡ after_once p d t = λ k. record { edition = edition k; modules = modules k; trials = set k; history = history k } in
         let runs = ap is_running (found_set d.trials t w.trial (λ _. running) w.is) in
         once_can p d t (queued_so (held_at d.trials t) j w) runs ∙ ap Some (sym same)
 

@@ -72,3 +72,4 @@ module _ (d : Desk) where
   follows_kept k k' (change.Trial n j) h same = follows_none k k' same
   follows_kept k k' (change.DropTrial t) h same = follows_none k k' same
   follows_kept k k' (change.Withdraw n) h same = absurd h
+  follows_kept k k' (change.Edition e) h same = follows_none k k' same

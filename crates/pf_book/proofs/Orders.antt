@@ -10,10 +10,10 @@ use Rattle.pf_book.specs.Orders.{Asked}
 use Rattle.pf_book.proofs.Profiles.{asked_so}
 
 -- it is what the order asks for
-pub order_asks : (modules : List (Option Stored)) (o : Order) (m : Stored) (root property : List ℕ) (cs : Choices) (k : Option ℕ) (r : Result Job Code)
+pub order_asks : (e : ℕ) (modules : List (Option Stored)) (o : Order) (m : Stored) (root property : List ℕ) (cs : Choices) (k : Option ℕ) (r : Result Job Code)
     → held_at modules o.module ≡ Some m → root ≡ o.root.items → property ≡ o.property.items → cs ≡ choices_in o.kind → k ≡ runs_asked o.kind
-    → Asks m root property cs o.limit k r → Asked modules o r
-order_asks modules o m root property cs k r found of_root of_property of_choices of_runs asks p right =
-    ap (λ (x : Option Stored). job_of p x o.root.items o.property.items (choices_in o.kind) o.limit (runs_asked o.kind)) found
-    ∙ sym (λ i. job_from p m (root_in m (of_root i)) (of_property i) (of_choices i) o.limit (of_runs i))
-    ∙ asked_so p right m root property cs o.limit k r asks
+    → Asks m root property cs o.limit k e r → Asked e modules o r
+order_asks e modules o m root property cs k r found of_root of_property of_choices of_runs asks p right =
+    ap (λ (x : Option Stored). job_of p e x o.root.items o.property.items (choices_in o.kind) o.limit (runs_asked o.kind)) found
+    ∙ sym (λ i. job_from p e m (root_in m (of_root i)) (of_property i) (of_choices i) o.limit (of_runs i))
+    ∙ asked_so p right m root property cs o.limit k e r asks

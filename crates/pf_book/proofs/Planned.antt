@@ -1,6 +1,8 @@
 -- What each call comes to.
-use Rattle.std.proofs.Common.{◌≡◌, ◌<◌, arith, ℕ, zero, suc, ◌+◌, List, [], ◌∷◌, ◌++◌, length, Option, Some, None, Result, Ok, Err, refl, sym, ap, ◌∙◌}
+use Rattle.std.proofs.Common.{◌≡◌, ◌<◌, ◌==◌, arith, inl, inr, Bool, true, false, ℕ, zero, suc, ◌+◌, List, [], ◌∷◌, ◌++◌, length, Option, Some, None, Result, Ok, Err, refl, sym, ap, ◌∙◌}
+use Rattle.std.specs.Prelude.{◌||◌, nat_lt, if◌then◌else◌}
 use Rattle.std.specs.Option.{option_map}
+use Rattle.std.proofs.lemmas.Bool.{eqb-true}
 use Rattle.pf_fault.specs.declared.code.Code.{Code}
 use Rattle.pf_fault.specs.declared.code.Code.TheVariants as fault
 use Rattle.pf_quota.specs.declared.usage.Usage.{Usage}
@@ -12,9 +14,10 @@ use Rattle.pf_quota.specs.Checks.{refusal_of}
 use Rattle.pf_quota.specs.Refusals as quota
 use Rattle.pf_quota.specs.Usage.{charged, refunded}
 use Rattle.pf_check.specs.Reads.{accepted, refused, Reads}
+use Rattle.pf_model.specs.Limits.{IsEdition}
 use Rattle.pf_desks.specs.Desk as desk
 use Rattle.pf_desks.specs.Desk.{Profile, Desk, Stored, Job, Trial, job_of, held_at, with_held}
-use Rattle.pf_desks.specs.Calls.{answered, within_limits, passed_by, submitted, ordered, dropped, withdrawn, with_job, users_of, usage_in}
+use Rattle.pf_desks.specs.Calls.{answered, within_limits, passed_by, submitted, ordered, dropped, withdrawn, with_job, users_of, is_edition, in_edition, usage_in}
 use Rattle.pf_sched.specs.Views.{choices_in, runs_asked}
 use Rattle.pf_sched.specs.declared.choices.JobKind.{JobKind}
 use Rattle.pf_sched.specs.declared.choices.JobKind.TheVariants as kind
@@ -84,23 +87,23 @@ module _ (d : Desk) (u : Usage) (counts : IsCharged d u) (plan : Plan) where
   -- ---- limits
 
   -- a charge passes a limit with the call charged where it does without
-  module_limit : (b : ℕ) (o : Option Limit) → refusal_of u (charge.Module b) ≡ o → passed_by d (charge.Module b) ≡ option_map quota.code_of o
-  module_limit b o h = ap (option_map quota.code_of) (sym (ap (λ (v : Usage). refusal_of v (charge.Module b)) counts) ∙ h)
+  module_limit : (b : ℕ) (o : Option Limit) → refusal_of d.edition u (charge.Module b) ≡ o → passed_by d (charge.Module b) ≡ option_map quota.code_of o
+  module_limit b o h = ap (option_map quota.code_of) (sym (ap (λ (v : Usage). refusal_of d.edition v (charge.Module b)) counts) ∙ h)
 
-  trial_limit : (n : ℕ) (o : Option Limit) → refusal_of u (charge.Trial n) ≡ o → passed_by d (charge.Trial n) ≡ option_map quota.code_of o
-  trial_limit n o h = ap (option_map quota.code_of) (sym (ap (λ (v : Usage). refusal_of v (charge.Trial n)) counts) ∙ h)
+  trial_limit : (n : ℕ) (o : Option Limit) → refusal_of d.edition u (charge.Trial n) ≡ o → passed_by d (charge.Trial n) ≡ option_map quota.code_of o
+  trial_limit n o h = ap (option_map quota.code_of) (sym (ap (λ (v : Usage). refusal_of d.edition v (charge.Trial n)) counts) ∙ h)
 
   -- ---- submissions
 
   module _ (text : List ℕ) where
-    pub source_past_limit : (limit : Limit) → refusal_of u (charge.Module (length text)) ≡ Some limit → with_change d plan.change ≡ d
+    pub source_past_limit : (limit : Limit) → refusal_of d.edition u (charge.Module (length text)) ≡ Some limit → with_change d plan.change ≡ d
         → reply_seen plan.reply ≡ desk.refused (quota.code_of limit) → plan.usage ≡ u
         → entry_seen plan.noted ≡ desk.called (desk.submit text) (desk.refused (quota.code_of limit)) → IsPlan d (desk.submit text) plan
     source_past_limit limit past same told uses noted =
         alone (desk.submit text) (desk.refused (quota.code_of limit)) same told uses
         (λ p right. ap (λ (o : Option Code). within_limits d o (submitted d text (p.reading text))) (module_limit (length text) (Some limit) past)) noted
 
-    module _ (within : refusal_of u (charge.Module (length text)) ≡ None) where
+    module _ (within : refusal_of d.edition u (charge.Module (length text)) ≡ None) where
       no_limit : (p : Profile) → ◌≡◌ {A = Answer} (answered p d (desk.submit text)) (submitted d text (p.reading text))
       no_limit p = ap (λ (o : Option Code). within_limits d o (submitted d text (p.reading text))) (module_limit (length text) None within)
 
@@ -128,25 +131,25 @@ module _ (d : Desk) (u : Usage) (counts : IsCharged d u) (plan : Plan) where
   module _ (o : Order) where
     -- what an order is answered with, a shrinking too
     order_answered : (p : Profile) → ◌≡◌ {A = Answer} (answered p d (order_seen o))
-        (ordered d o.module (job_of p (held_at d.modules o.module) o.root.items o.property.items (choices_in o.kind) o.limit (runs_asked o.kind)))
+        (ordered d o.module (job_of p d.edition (held_at d.modules o.module) o.root.items o.property.items (choices_in o.kind) o.limit (runs_asked o.kind)))
     order_answered p = by o.kind
       where
         by : (k : JobKind) → ◌≡◌ {A = Answer} (answered p d (ordered_as o.module o.root.items o.property.items k o.limit))
-            (ordered d o.module (job_of p (held_at d.modules o.module) o.root.items o.property.items (choices_in k) o.limit (runs_asked k)))
+            (ordered d o.module (job_of p d.edition (held_at d.modules o.module) o.root.items o.property.items (choices_in k) o.limit (runs_asked k)))
         by (kind.Trial cs) = refl
         by (kind.Shrinking numbers runs) = refl
 
-    asked_answered : (r : Result Job Code) → Asked d.modules o r → ForRight (λ p. ◌≡◌ {A = Answer} (answered p d (order_seen o)) (ordered d o.module r))
+    asked_answered : (r : Result Job Code) → Asked d.edition d.modules o r → ForRight (λ p. ◌≡◌ {A = Answer} (answered p d (order_seen o)) (ordered d o.module r))
     asked_answered r asked p right = order_answered p ∙ ap (ordered d o.module) (asked p right)
 
-    pub order_refused : (code : Code) → Asked d.modules o (Err code) → with_change d plan.change ≡ d
+    pub order_refused : (code : Code) → Asked d.edition d.modules o (Err code) → with_change d plan.change ≡ d
         → reply_seen plan.reply ≡ desk.refused code → plan.usage ≡ u
         → entry_seen plan.noted ≡ desk.called (order_seen o) (desk.refused code) → IsPlan d (order_seen o) plan
     order_refused code asked same told uses noted =
         alone (order_seen o) (desk.refused code) same told uses (asked_answered (Err code) asked) noted
 
-    module _ (j : Job) (asked : Asked d.modules o (Ok j)) where
-      pub order_past_limit : (limit : Limit) → refusal_of u (charge.Trial (steps_of_trial j.limit j.runs)) ≡ Some limit → with_change d plan.change ≡ d
+    module _ (j : Job) (asked : Asked d.edition d.modules o (Ok j)) where
+      pub order_past_limit : (limit : Limit) → refusal_of d.edition u (charge.Trial (steps_of_trial j.limit j.runs)) ≡ Some limit → with_change d plan.change ≡ d
           → reply_seen plan.reply ≡ desk.refused (quota.code_of limit) → plan.usage ≡ u
           → entry_seen plan.noted ≡ desk.called (order_seen o) (desk.refused (quota.code_of limit)) → IsPlan d (order_seen o) plan
       order_past_limit limit past same told uses noted =
@@ -155,7 +158,7 @@ module _ (d : Desk) (u : Usage) (counts : IsCharged d u) (plan : Plan) where
           ∙ ap (λ (x : Option Code). within_limits d x (with_job d o.module j, desk.ticket (length d.trials + 1)))
           (trial_limit (steps_of_trial j.limit j.runs) (Some limit) past)) noted
 
-      pub order_planned : refusal_of u (charge.Trial (steps_of_trial j.limit j.runs)) ≡ None → with_change d plan.change ≡ with_job d o.module j
+      pub order_planned : refusal_of d.edition u (charge.Trial (steps_of_trial j.limit j.runs)) ≡ None → with_change d plan.change ≡ with_job d o.module j
           → reply_seen plan.reply ≡ desk.ticket (length d.trials + 1) → plan.usage ≡ charged u (charge.Trial (steps_of_trial j.limit j.runs))
           → entry_seen plan.noted ≡ desk.called (order_seen o) (desk.ticket (length d.trials + 1)) → IsPlan d (order_seen o) plan
       order_planned within leads told uses noted =
@@ -166,3 +169,44 @@ module _ (d : Desk) (u : Usage) (counts : IsCharged d u) (plan : Plan) where
           (λ p right. asked_answered (Ok j) asked p right
           ∙ ap (λ (x : Option Code). within_limits d x (with_job d o.module j, desk.ticket (length d.trials + 1)))
           (trial_limit (steps_of_trial j.limit j.runs) None within)) noted
+
+  -- ---- editions
+
+  -- an edition is answered so, whether there is such a one and whether it is below the desk's own
+  edition_so : (e : ℕ) (b low : Bool) → is_edition e ≡ b → nat_lt e d.edition ≡ low
+      → ◌≡◌ {A = Answer} (in_edition d e)
+      (if b
+      then (if low then (d, desk.refused fault.EditionTooLow) else (record d { edition = e }, desk.has_edition))
+      else (d, desk.refused fault.NoEdition))
+  edition_so e b low there below = λ i.
+      if there i
+      then (if below i then (d, desk.refused fault.EditionTooLow) else (record d { edition = e }, desk.has_edition))
+      else (d, desk.refused fault.NoEdition)
+
+  module _ (e : ℕ) where
+    pub no_such_edition : is_edition e ≡ false → with_change d plan.change ≡ d → reply_seen plan.reply ≡ desk.refused fault.NoEdition
+        → plan.usage ≡ u → entry_seen plan.noted ≡ desk.called (desk.edition e) (desk.refused fault.NoEdition) → IsPlan d (desk.edition e) plan
+    no_such_edition there same told uses noted =
+        alone (desk.edition e) (desk.refused fault.NoEdition) same told uses (λ p right. edition_so e false (nat_lt e d.edition) there refl) noted
+
+    module _ (there : is_edition e ≡ true) where
+      pub edition_below : nat_lt e d.edition ≡ true → with_change d plan.change ≡ d → reply_seen plan.reply ≡ desk.refused fault.EditionTooLow
+          → plan.usage ≡ u → entry_seen plan.noted ≡ desk.called (desk.edition e) (desk.refused fault.EditionTooLow) → IsPlan d (desk.edition e) plan
+      edition_below below same told uses noted =
+          alone (desk.edition e) (desk.refused fault.EditionTooLow) same told uses (λ p right. edition_so e true true there below) noted
+
+      pub edition_planned : nat_lt e d.edition ≡ false → with_change d plan.change ≡ record d { edition = e }
+          → reply_seen plan.reply ≡ desk.has_edition → plan.usage ≡ u
+          → entry_seen plan.noted ≡ desk.called (desk.edition e) desk.has_edition → IsPlan d (desk.edition e) plan
+      edition_planned above leads told uses noted =
+          changed (desk.edition e) (record d { edition = e }) desk.has_edition leads told (uses ∙ counts)
+          (λ p right. edition_so e true false there above) noted
+
+-- there is an edition that is 1 or 2
+pub edition_there : (e : ℕ) → is_edition e ≡ true → IsEdition e
+edition_there e h = by (e == 1) (e == 2) refl refl h
+  where
+    by : (b c : Bool) → (e == 1) ≡ b → (e == 2) ≡ c → (b || c) ≡ true → IsEdition e
+    by true c is other k = inl (eqb-true e 1 is)
+    by false true is other k = inr (eqb-true e 2 other)
+    by false false is other k = absurd cc

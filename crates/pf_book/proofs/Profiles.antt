@@ -8,9 +8,9 @@ use Rattle.pf_model.specs.Meaning.{Choices}
 use Rattle.pf_model.specs.Properties.{Property}
 use Rattle.pf_property.specs.Texts.{IsPropertyOf, ReadsProperty}
 use Rattle.pf_desks.specs.Desk as desk
-use Rattle.pf_desks.specs.Desk.{Profile, Stored, Job, job_asking, job_from, runs_of, Desk, Reply, number}
+use Rattle.pf_desks.specs.Desk.{Profile, Stored, Job, job_asking, job_from, runs_of, may_weigh, Desk, Reply, number}
 use Rattle.pf_desks.specs.Calls.{submitted}
-use Rattle.pf_sched.specs.Asked.{Asks, no_root, no_property, out_of_range, job, may_be_asked, root_in}
+use Rattle.pf_sched.specs.Asked.{Asks, no_root, no_property, out_of_range, bad_weights, job, may_be_asked, root_in}
 use Rattle.pf_book.specs.Profile.{IsRight}
 
 module _ (p : Profile) (right : IsRight p) where
@@ -29,24 +29,33 @@ module _ (p : Profile) (right : IsRight p) where
   submitted_refused d bytes code place h = ap (submitted d bytes) (sym (right.reads bytes (refused code place) h))
 
   -- what job is asked for, or what it is refused for
-  module _ (m : Stored) (root property : List ℕ) (cs : Choices) (limit : ℕ) (k : Option ℕ) where
-    with_root : (o : Option ℕ) → root_in m root ≡ o → job_from p m (root_in m root) property cs limit k ≡ job_from p m o property cs limit k
-    with_root o e = ap (λ (x : Option ℕ). job_from p m x property cs limit k) e
+  module _ (m : Stored) (root property : List ℕ) (cs : Choices) (limit : ℕ) (k : Option ℕ) (e : ℕ) where
+    with_root : (o : Option ℕ) → root_in m root ≡ o → job_from p e m (root_in m root) property cs limit k ≡ job_from p e m o property cs limit k
+    with_root o is = ap (λ (x : Option ℕ). job_from p e m x property cs limit k) is
 
     with_property : (i : ℕ) (o : Option Property) → root_in m root ≡ Some i → IsPropertyOf m.code.atoms property o
-        → job_from p m (root_in m root) property cs limit k ≡ job_asking m i o cs limit k
-    with_property i o e is =
-        with_root (Some i) e ∙ ap (λ (x : Option Property). job_asking m i x cs limit k) (right.properties m.code.atoms property o is)
+        → job_from p e m (root_in m root) property cs limit k ≡ job_asking e m i o cs limit k
+    with_property i o is reads =
+        with_root (Some i) is ∙ ap (λ (x : Option Property). job_asking e m i x cs limit k) (right.properties m.code.atoms property o reads)
+
+    abbrev made : (i : ℕ) → Property → Result Job Code
+    made i q = Ok (record { stored = m; root = i; property = q; choices = cs; limit = limit; runs = runs_of k; edition = e })
+
+    abbrev weighed : (i : ℕ) → Property → Bool → Result Job Code
+    weighed i q b = if b then made i q else Err code.WeightsOutOfRange
 
     in_range : (i : ℕ) (q : Property) (b : Bool) → root_in m root ≡ Some i → ReadsProperty m.code.atoms property q → may_be_asked cs limit k ≡ b
-        → job_from p m (root_in m root) property cs limit k
-        ≡ (if b then Ok (record { stored = m; root = i; property = q; choices = cs; limit = limit; runs = runs_of k }) else Err code.OutOfRange)
-    in_range i q b e reads range =
-        let made : Result Job Code = Ok (record { stored = m; root = i; property = q; choices = cs; limit = limit; runs = runs_of k }) in
-        with_property i (Some q) e reads ∙ ap (λ (x : Bool). if x then made else Err code.OutOfRange) range
+        → job_from p e m (root_in m root) property cs limit k ≡ (if b then weighed i q (may_weigh cs) else Err code.OutOfRange)
+    in_range i q b is reads range =
+        with_property i (Some q) is reads ∙ ap (λ (x : Bool). if x then weighed i q (may_weigh cs) else Err code.OutOfRange) range
 
-    pub asked_so : (r : Result Job Code) → Asks m root property cs limit k r → job_from p m (root_in m root) property cs limit k ≡ r
-    asked_so _ (no_root e) = with_root None e
-    asked_so _ (no_property i e none) = with_property i None e none
-    asked_so _ (out_of_range i q e reads range) = in_range i q false e reads range
-    asked_so _ (job i q e reads range) = in_range i q true e reads range
+    weighs : (i : ℕ) (q : Property) (b : Bool) → root_in m root ≡ Some i → ReadsProperty m.code.atoms property q → may_be_asked cs limit k ≡ true
+        → may_weigh cs ≡ b → job_from p e m (root_in m root) property cs limit k ≡ weighed i q b
+    weighs i q b is reads range weights = in_range i q true is reads range ∙ ap (weighed i q) weights
+
+    pub asked_so : (r : Result Job Code) → Asks m root property cs limit k e r → job_from p e m (root_in m root) property cs limit k ≡ r
+    asked_so _ (no_root is) = with_root None is
+    asked_so _ (no_property i is none) = with_property i None is none
+    asked_so _ (out_of_range i q is reads range) = in_range i q false is reads range
+    asked_so _ (bad_weights i q is reads range weights) = weighs i q false is reads range weights
+    asked_so _ (job i q is reads range weights) = weighs i q true is reads range weights

@@ -2,6 +2,7 @@
 use Rattle.std.specs.Prelude.{◌≡◌, ◌≤◌, ◌+◌, ℕ, suc, List, length, map, All, IfSome, IsSome, slice_get, sum_by, count_by}
 use Rattle.std.specs.Str.{bytes_eq}
 use Rattle.pf_store.specs.Sources.{Kept, holders}
+use Rattle.pf_model.specs.Limits.{IsEdition}
 use Rattle.pf_desks.specs.Desk.{Desk, held_at, all_held}
 use Rattle.pf_desks.specs.Calls.{usage_in, users_of}
 use Rattle.pf_desks.specs.World.{World}
@@ -11,12 +12,13 @@ use Rattle.pf_book.specs.View.{entry_seen}
 use Rattle.pf_book.specs.declared.desk.Desk.TheInside.{Inside}
 
 abbrev pub desk_in : Inside → Desk
-desk_in b = record { modules = b.modules.items; trials = b.trials.items; history = map entry_seen b.history.items }
+desk_in b = record { edition = b.edition; modules = b.modules.items; trials = b.trials.items; history = map entry_seen b.history.items }
 
--- the desk is what its history makes of an empty one; its sums are those over what it holds; it counts for each module number the held
--- trials that use it, and each held trial uses a module that is held
+-- the desk is what its history makes of an empty one, in an edition that there is; its sums are those over what it holds; it counts for each
+-- module number the held trials that use it, and each held trial uses a module that is held
 pub record IsKept (b : Inside) : Type 0 where
   pub legal : ForRight (λ p. IsLegalDesk p (desk_in b))
+  pub edition : IsEdition b.edition
   pub sums : b.usage ≡ usage_in (desk_in b)
   pub counted : length b.users.items ≡ length b.modules.items
   pub users : (i : ℕ) → IfSome (slice_get b.users.items i) (λ k. k ≡ users_of (desk_in b) (suc i))

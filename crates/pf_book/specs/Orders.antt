@@ -1,5 +1,5 @@
 -- What orders ask for.
-use Rattle.std.specs.Prelude.{◌≡◌, List, Option, Result, Err}
+use Rattle.std.specs.Prelude.{◌≡◌, ℕ, List, Option, Result, Err}
 use Rattle.pf_fault.specs.declared.code.Code.{Code}
 use Rattle.pf_fault.specs.declared.fault.OrNoMemory.{OrNoMemory}
 use Rattle.pf_fault.specs.declared.fault.OrNoMemory.TheVariants.{NoMemory, Fault}
@@ -10,10 +10,10 @@ use Rattle.pf_book.specs.declared.refusal.Refusal.{Refusal}
 use Rattle.pf_book.specs.Profile.{ForRight}
 use Rattle.pf_book.specs.View.{code_of}
 
--- Asked modules o r: an order to a project with these modules asks for this job, or is refused for this
-abbrev pub Asked : List (Option Stored) → Order → Result Job Code → Type 0
-Asked modules o r =
-    ForRight (λ p. job_of p (held_at modules o.module) o.root.items o.property.items (choices_in o.kind) o.limit (runs_asked o.kind) ≡ r)
+-- Asked e modules o r: an order to a desk of an edition with these modules asks for this job, or is refused for this
+abbrev pub Asked : (edition : ℕ) → List (Option Stored) → Order → Result Job Code → Type 0
+Asked e modules o r =
+    ForRight (λ p. job_of p e (held_at modules o.module) o.root.items o.property.items (choices_in o.kind) o.limit (runs_asked o.kind) ≡ r)
 
 -- a refusal is one of these; out of memory says nothing of the order
 abbrev pub IsRefusedJob : (Result Job Code → Type 0) → OrNoMemory Refusal → Type 0

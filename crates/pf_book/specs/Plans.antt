@@ -3,6 +3,7 @@ use Rattle.std.specs.Prelude.{◌≡◌, [], ◌∷◌, ◌++◌, Some, None, Is
 use Rattle.pf_quota.specs.declared.usage.Usage.{Usage}
 use Rattle.pf_quota.specs.declared.charges.Charge.TheVariants as charge
 use Rattle.pf_quota.specs.Usage.{charged}
+use Rattle.pf_model.specs.Limits.{IsEdition}
 use Rattle.pf_desks.specs.Desk as desk
 use Rattle.pf_fault.specs.declared.memory.NoMemory.{NoMemory}
 use Rattle.pf_desks.specs.Calls.{answered, usage_in, users_of, with_job}
@@ -21,6 +22,7 @@ with_change d (change.Module m) = record d { modules = d.modules ++ Some m ∷ [
 with_change d (change.Trial n j) = with_job d n j.value
 with_change d (change.DropTrial t) = record d { trials = desk.with_held d.trials t None }
 with_change d (change.Withdraw n) = record d { modules = desk.with_held d.modules n None }
+with_change d (change.Edition e) = record d { edition = e }
 
 -- what a call to a desk comes to is what it is answered with, which is noted so; and what is used then, with the call itself
 pub record IsPlan (d : desk.Desk) (c : desk.Call) (plan : Plan) : Type 0 where
@@ -32,13 +34,14 @@ pub record IsPlan (d : desk.Desk) (c : desk.Call) (plan : Plan) : Type 0 where
 abbrev pub IsCharged : desk.Desk → Usage → Type 0
 IsCharged d u = u ≡ charged (usage_in d) charge.Call
 
--- a change can be carried out: a trial is of a module that is held, and no held trial uses a module that is given up
+-- a change can be carried out: a trial is of a module that is held, no held trial uses a module that is given up, and there is the edition
 abbrev pub CanChange : desk.Desk → Change → Type 0
 CanChange d change.Nothing = Unit {0}
 CanChange d (change.Module m) = Unit {0}
 CanChange d (change.Trial n j) = IsSome (desk.held_at d.modules n)
 CanChange d (change.DropTrial t) = Unit {0}
 CanChange d (change.Withdraw n) = users_of d n ≡ 0
+CanChange d (change.Edition e) = IsEdition e
 
 -- the modules stay as they are
 abbrev pub KeepsModules : Change → Type 0
@@ -47,6 +50,7 @@ KeepsModules (change.Module m) = ⊥
 KeepsModules (change.Trial n j) = Unit {0}
 KeepsModules (change.DropTrial t) = Unit {0}
 KeepsModules (change.Withdraw n) = ⊥
+KeepsModules (change.Edition e) = Unit {0}
 
 -- FollowsPlan k k' d r: the holders of each source change as the modules of the desk will; where memory ran out they are as they were
 abbrev pub FollowsPlan : Kept → Kept → desk.Desk → Result Plan NoMemory → Type 0

@@ -38,6 +38,7 @@ call_seen (call.DropTrial t) = desk.drop_trial t
 call_seen (call.Withdraw n) = desk.withdraw n
 call_seen call.Usage = desk.usage
 call_seen call.Log = desk.log
+call_seen (call.Edition e) = desk.edition e
 
 abbrev pub code_of : Refusal → Code
 code_of (refusal.Source c) = c
@@ -48,6 +49,9 @@ code_of refusal.NoTrial = code.NoTrial
 code_of refusal.ModuleInUse = code.ModuleInUse
 code_of refusal.NotDone = code.NotDone
 code_of refusal.OutOfRange = code.OutOfRange
+code_of refusal.WeightsOutOfRange = code.WeightsOutOfRange
+code_of refusal.NoEdition = code.NoEdition
+code_of refusal.EditionTooLow = code.EditionTooLow
 code_of (refusal.PastLimit q) = quota.code_of q
 
 abbrev pub stage_seen : Stage → desk.Stage
@@ -63,6 +67,7 @@ reply_seen (reply.Stage s) = desk.stage (stage_seen s)
 reply_seen reply.GivenUp = desk.given_up
 reply_seen (reply.Usage u) = desk.uses u
 reply_seen (reply.Logged n) = desk.logged n
+reply_seen reply.HasEdition = desk.has_edition
 reply_seen (reply.Refused e) = desk.refused (code_of e)
 
 abbrev pub entry_seen : Entry → desk.Entry
@@ -80,6 +85,8 @@ entry_seen (entry.Withdrawn n) = desk.called (desk.withdraw n) desk.given_up
 entry_seen (entry.WithdrawRefused n e) = desk.called (desk.withdraw n) (desk.refused (code_of e))
 entry_seen (entry.Used u) = desk.called desk.usage (desk.uses u.value)
 entry_seen (entry.Counted n) = desk.called desk.log (desk.logged n)
+entry_seen (entry.Moved e) = desk.called (desk.edition e) desk.has_edition
+entry_seen (entry.MoveRefused e r) = desk.called (desk.edition e) (desk.refused (code_of r))
 entry_seen (entry.Claimed t) = desk.claimed t
 entry_seen (entry.Filed t) = desk.filed t desk.marked_whole
 

@@ -131,6 +131,13 @@ impl Book {
         self.call(alloc, project, Call::Usage)
     }
 
+    /// Asks that the project's desk has this edition from now on, which isn't below the one that it has. What the project holds stays.
+    pub fn edition(&mut self, alloc: Global, project: u32, edition: u32) -> Result<Reply, NoMemory>
+        ensures { Answers self.old project (desk.edition edition) result self.new }
+    {
+        self.call(alloc, project, Call::Edition(edition))
+    }
+
     /// Answers a client's call on the desk of its project, and notes it there with its reply. After running out of memory nothing has
     /// changed and nothing is noted. A new desk gets its place before its first call, which the store then counts.
     fn call(&mut self, alloc: Global, project: u32, call: Call) -> Result<Reply, NoMemory>

@@ -37,4 +37,6 @@ pub enum Call {
     Usage,
     /// How many calls the project logged.
     Log,
+    /// The project's desk has this edition from now on.
+    Edition(u32),
 }

@@ -2,6 +2,7 @@
 
 ghost use Rattle.std.specs.Prelude.{◌≡◌, ◌+◌, ◌-◌, ◌<◌, ◌≤◌, ◌^◌, length, slice_index, slice_set};
 ghost use Rattle.std.specs.Vec.{vec_len, vec_capacity};
+ghost use Rattle.pf_model.specs.Limits.{IsEdition};
 ghost use Rattle.pf_book.specs.Plans.{with_change, CanChange};
 ghost use Rattle.pf_book.specs.Users.{holding, CountUsers};
 
@@ -10,8 +11,9 @@ use crate::plan::Change;
 use crate::trial::Trial;
 use pf_store::Stored;
 
-/// Changes what a desk holds, with the counts of the held trials that use each module.
+/// Changes what a desk holds, with the counts of the held trials that use each module, or its edition.
 pub(crate) fn carry_out(
+    edition: &mut u32,
     modules: &mut Vec<Option<Stored>>,
     trials: &mut Vec<Option<Trial>>,
     users: &mut Vec<u64>,
@@ -20,10 +22,12 @@ pub(crate) fn carry_out(
     requires modules { vec_len modules.old < vec_capacity modules.old }
     requires trials { vec_len trials.old < vec_capacity trials.old }
     requires users { vec_len users.old < vec_capacity users.old }
+    requires edition { IsEdition edition.old }
     requires counts { CountUsers users.old.items modules.old.items trials.old.items }
-    requires can { CanChange (holding modules.old.items trials.old.items) change }
-    ensures held { holding modules.new.items trials.new.items
-        ≡ with_change (holding modules.old.items trials.old.items) change }
+    requires can { CanChange (holding edition.old modules.old.items trials.old.items) change }
+    ensures held { holding edition.new modules.new.items trials.new.items
+        ≡ with_change (holding edition.old modules.old.items trials.old.items) change }
+    ensures edition { IsEdition edition.new }
     ensures counts { CountUsers users.new.items modules.new.items trials.new.items }
 {
     match change {
@@ -44,6 +48,7 @@ pub(crate) fn carry_out(
         Change::Withdraw(number) => {
             give_up(modules, number);
         }
+        Change::Edition(new) => *edition = new,
     }
 }
 

@@ -3,6 +3,7 @@
 ghost use Rattle.std.specs.Prelude.{◌≡◌, ◌<◌, IfOk, OnOk, length};
 ghost use Rattle.std.specs.Option.{option_map};
 ghost use Rattle.std.specs.Vec.{vec_len, vec_capacity};
+ghost use Rattle.pf_model.specs.Limits.{IsEdition};
 ghost use Rattle.pf_desks.specs.Desk as desk;
 ghost use Rattle.pf_desks.specs.Desk.{no_desk};
 ghost use Rattle.pf_desks.specs.Work.{with_state};
@@ -34,11 +35,12 @@ use std::alloc::Global;
 use std::marker::Model;
 use std::sync::Arc;
 
-/// The desk of one project: its modules and trials by number, with nothing at a number that was given up, and what it noted; with the
+/// The desk of one project: its edition, its modules and trials by number, with nothing at a number that was given up, and what it noted; with the
 /// sums of what it uses, and for each module the count of the held trials that use it. Contracts see a desk that is what its history
 /// makes of an empty one.
 #[derive(Drop)]
 pub(crate) struct Desk {
+    edition: u32,
     modules: Vec<Option<Stored>>,
     trials: Vec<Option<Trial>>,
     history: Vec<Entry>,
@@ -66,6 +68,7 @@ impl Desk {
         ensures { result ≡ no_desk }
     {
         Desk {
+            edition: 1,
             modules: Vec::new(alloc),
             trials: Vec::new(alloc),
             history: Vec::new(alloc),
@@ -82,6 +85,14 @@ impl Desk {
         self.history.len()
     }
 
+    /// The edition, 1 or 2, whose limits what is submitted and ordered has.
+    fn edition(&self) -> u32
+        ensures edition { result ≡ self.now.edition }
+        ensures kept { IsEdition self.now.edition }
+    {
+        self.edition
+    }
+
     /// Answers a call and notes it with its reply. One for which the log has no room is refused first of all, wants no memory, and isn't
     /// noted. A source that is in store isn't read again. After running out of memory nothing has changed.
     pub fn call(&mut self, alloc: Global, store: &mut Store, call: Call) -> Result<Reply, NoMemory>
@@ -90,7 +101,7 @@ impl Desk {
         ensures store { FollowsDesk store.old self.old store.new self.new }
     {
         let mut usage = self.usage;
-        if let Err(limit) = usage.charge(Charge::Call) {
+        if let Err(limit) = usage.charge(self.edition, Charge::Call) {
             return Ok(Reply::Refused(Refusal::PastLimit(limit)));
         }
         make_call_room(
@@ -105,7 +116,13 @@ impl Desk {
             reply,
             usage,
         } = self.plan(alloc, store, call, usage)?;
-        carry_out(&mut self.modules, &mut self.trials, &mut self.users, change);
+        carry_out(
+            &mut self.edition,
+            &mut self.modules,
+            &mut self.trials,
+            &mut self.users,
+            change,
+        );
         self.history.push_reserved(noted);
         self.usage = usage;
         Ok(reply)
@@ -134,6 +151,7 @@ impl Desk {
             Call::Withdraw(number) => Ok(self.withdrawal(store, number, usage)),
             Call::Usage => self.using(alloc, usage),
             Call::Log => Ok(self.counting(usage)),
+            Call::Edition(edition) => Ok(self.moving(edition, usage)),
         }
     }
 

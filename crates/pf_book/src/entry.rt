@@ -38,6 +38,10 @@ pub(crate) enum Entry {
     Used(Box<Usage>),
     /// How many calls were logged was handed out.
     Counted(u64),
+    /// The desk has this edition.
+    Moved(u32),
+    /// This edition was refused.
+    MoveRefused(u32, Refusal),
     Claimed(u64),
     Filed(u64),
 }

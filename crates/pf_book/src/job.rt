@@ -1,6 +1,7 @@
 //! Jobs of orders, and their runs.
 
 ghost use Rattle.std.specs.Prelude.{◌≡◌, Ok, IfOk, IsSome, MatchResult, OnOk};
+ghost use Rattle.pf_model.specs.Limits.{IsEdition};
 ghost use Rattle.pf_model.specs.Shrinking.{IsResult};
 ghost use Rattle.pf_desks.specs.Desk.{job_meant, held_at};
 ghost use Rattle.pf_sched.specs.Views.{choices_in, runs_asked};
@@ -31,15 +32,17 @@ fn shared(kind: &JobKind) -> Result<JobKind, NoMemory>
     }
 }
 
-/// The job of an order to a project with these modules.
+/// The job of an order to a desk of an edition with these modules.
 pub(crate) fn job_of(
     alloc: Global,
+    edition: u32,
     modules: &[Option<Stored>],
     order: &Order,
 ) -> Result<Arc<Job>, OrNoMemory<Refusal>>
+    requires edition { IsEdition edition }
     ensures asked { MatchResult result
-        (λ job. Asked modules.now order.now (Ok job.value))
-        (IsRefusedJob (Asked modules.now order.now)) }
+        (λ job. Asked edition modules.now order.now (Ok job.value))
+        (IsRefusedJob (Asked edition modules.now order.now)) }
     ensures held { OnOk result (IsSome (held_at modules.now order.now.module)) }
 {
     let stored = numbered(modules, order.module).ok_or(OrNoMemory::Fault(Refusal::NoModule))?;
@@ -52,6 +55,7 @@ pub(crate) fn job_of(
         property,
         shared(&order.kind)?,
         order.limit,
+        edition,
     ) {
         Ok(job) => Ok(Arc::new(alloc, job)?),
         Err(OrNoMemory::NoMemory) => Err(OrNoMemory::NoMemory),

@@ -21,6 +21,8 @@ pub(crate) enum Change {
     DropTrial(u64),
     /// The module of a number is given up.
     Withdraw(u64),
+    /// The desk has this edition.
+    Edition(u32),
 }
 
 /// What a call comes to: what it changes, what is noted of it, its reply, and what is used then.

@@ -27,6 +27,12 @@ pub enum Refusal {
     NotDone,
     /// `B6`: the limit isn't from 1 to 100,000, the schedule has more than 100,000 numbers, or the runs of a shrinking aren't from 1 to 1,000.
     OutOfRange,
+    /// `B7`: a weight isn't from 1 to 9.
+    WeightsOutOfRange,
+    /// `B8`: there is no such edition.
+    NoEdition,
+    /// `B9`: the project's desk has a later edition.
+    EditionTooLow,
     /// `Q1` to `Q5`: the project would pass a limit.
     PastLimit(quota::Refusal),
 }
@@ -45,6 +51,9 @@ impl Refusal {
             Refusal::ModuleInUse => Code::ModuleInUse,
             Refusal::NotDone => Code::NotDone,
             Refusal::OutOfRange => Code::OutOfRange,
+            Refusal::WeightsOutOfRange => Code::WeightsOutOfRange,
+            Refusal::NoEdition => Code::NoEdition,
+            Refusal::EditionTooLow => Code::EditionTooLow,
             Refusal::PastLimit(limit) => limit.code(),
         }
     }
@@ -60,6 +69,7 @@ impl From<JobRefusal> for Refusal {
             JobRefusal::NoRoot => Refusal::NoRoot,
             JobRefusal::NoProperty => Refusal::NoProperty,
             JobRefusal::OutOfRange => Refusal::OutOfRange,
+            JobRefusal::WeightsOutOfRange => Refusal::WeightsOutOfRange,
         }
     }
 }

@@ -111,5 +111,7 @@ pub enum Reply {
     Usage(Usage),
     /// How many calls the project logged.
     Logged(u64),
+    /// The project's desk has the edition.
+    HasEdition,
     Refused(Refusal),
 }

@@ -31,7 +31,7 @@ tells_end j atoms x y ends e f a tells =
 
 -- the job that is asked for is of the module
 stored_of : (r : JobRequest) (m : Stored) (j : Job) → AsksOf r m (Ok j) → j.stored ≡ m
-stored_of r m j (job i q root property within) = refl
+stored_of r m j (job i q root property within weighs) = refl
 
 ended : (r : JobRequest) (m : Stored) (bytes : List ℕ) (j : Job) (x : shrinking.Result) → IsModuleOf bytes m → AsksOf r m (Ok j) → Ends j x
     → Answers r bytes (told_text (name_of m.code.atoms) x) (told_status x)

@@ -22,7 +22,7 @@ use Rattle.pf_store.specs.Sources.{IsReadAs}
 use Rattle.pf_sched.specs.Asked.{Asks}
 use Rattle.pf_sched.specs.Parts.{Ends}
 use Rattle.pf_sched.specs.Views.{choices_in, runs_asked}
-use Rattle.pf_words.specs.Words.{Request, ShrinkRequest}
+use Rattle.pf_words.specs.Words.{HuntRequest, Request, ShrinkRequest, edition_number, seeded}
 use Rattle.pf_command.specs.declared.answer.Answer.{Answer}
 use Rattle.pf_command.specs.declared.asked.Asked.{Asked}
 use Rattle.pf_command.specs.declared.source.TheConstants.{MOST_BYTES}
@@ -31,29 +31,56 @@ use Rattle.pf_command.specs.declared.source.TheConstants.{MOST_BYTES}
 abbrev pub IsModuleOf : List ℕ → Stored → Type 0
 IsModuleOf bytes m = (m.source ≡ bytes) × IsReadAs bytes m
 
--- what is asked for of a module: a run, from the function of this name, whether the property of these bytes holds, by these choices and within
--- this limit; or with runs the shrinking of its schedule
+-- what is asked for of a module: a run, from the function of this name, whether the property of these bytes holds, by these choices, within
+-- this limit and in this edition; or with runs the shrinking of its schedule
 pub record JobRequest : Type 0 where
   pub root : List ℕ
   pub property : List ℕ
   pub choices : Choices
   pub limit : ℕ
   pub runs : Option ℕ
+  pub edition : ℕ
 
 abbrev pub of_run : Request → JobRequest
-of_run r = record { root = r.root; property = r.property; choices = r.choices; limit = r.limit; runs = None }
+of_run r =
+    record { root = r.root; property = r.property; choices = r.choices; limit = r.limit; runs = None; edition = r.edition }
 
 abbrev pub of_shrinking : ShrinkRequest → JobRequest
-of_shrinking r = record { root = r.root; property = r.property; choices = schedule r.schedule; limit = r.limit; runs = Some r.runs }
+of_shrinking r =
+    record {
+      root = r.root;
+      property = r.property;
+      choices = schedule r.schedule;
+      limit = r.limit;
+      runs = Some r.runs;
+      edition = r.edition;
+    }
+
+-- of a hunt the run by the seed 0, in whose place those by its seeds go, by its weights
+abbrev pub of_hunt : HuntRequest → JobRequest
+of_hunt r =
+    record { root = r.root; property = r.property; choices = seeded r.weights 0; limit = r.limit; runs = None; edition = r.edition }
+
+-- and the shrinking of the schedule of a run that it finds
+abbrev pub of_hunted : HuntRequest → (numbers : List ℕ) → (runs : ℕ) → JobRequest
+of_hunted r numbers runs =
+    record { root = r.root; property = r.property; choices = schedule numbers; limit = r.limit; runs = Some runs; edition = r.edition }
 
 -- what the code's own stands for
 abbrev pub job_request : Asked → JobRequest
 job_request a =
-    record { root = a.root.now; property = a.property.now; choices = choices_in a.kind; limit = a.limit; runs = runs_asked a.kind }
+    record {
+      root = a.root.now;
+      property = a.property.now;
+      choices = choices_in a.kind;
+      limit = a.limit;
+      runs = runs_asked a.kind;
+      edition = edition_number a.edition;
+    }
 
 -- what is asked for of a module is this job, or refused for this
 abbrev pub AsksOf : JobRequest → Stored → Result Job Code → Type 0
-AsksOf r m = Asks m r.root r.property r.choices r.limit r.runs
+AsksOf r m = Asks m r.root r.property r.choices r.limit r.runs r.edition
 
 -- the status of a run: 0 where its property holds, 1 where it fails, 2 where memory ran out and nothing is known
 abbrev pub run_status : Option Bool → ℕ

@@ -140,9 +140,7 @@ pub(crate) fn answer_module(
     ensures { IfOk result (λ a. (bytes : List ℕ) → IsModuleOf bytes stored
         → Answers (job_request asked.entry) bytes a.text.items a.status) }
 {
-    let root = asked.root.as_bytes();
-    let property = asked.property.as_bytes();
-    match Job::new(alloc, stored, root, property, asked.kind, asked.limit) {
+    match asked.job(alloc, stored) {
         Ok(job) => answer_job(alloc, job, watch),
         Err(OrNoMemory::Fault(refusal)) => refused_by_code(alloc, refusal.code()),
         Err(OrNoMemory::NoMemory) => Err(NoMemory),

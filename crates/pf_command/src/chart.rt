@@ -50,11 +50,9 @@ fn draw_job(alloc: Global, root: &str, job: Job) -> Result<Answer, NoMemory>
 fn draw_module(alloc: Global, asked: Asked, stored: Stored) -> Result<Answer, NoMemory>
     ensures { IfOk result HasStatus }
 {
-    let name = asked.root;
-    let root = name.as_bytes();
-    let property = asked.property.as_bytes();
-    match Job::new(alloc, stored, root, property, asked.kind, asked.limit) {
-        Ok(job) => draw_job(alloc, name, job),
+    let root = asked.root;
+    match asked.job(alloc, stored) {
+        Ok(job) => draw_job(alloc, root, job),
         Err(OrNoMemory::Fault(refusal)) => refused_by_code(alloc, refusal.code()),
         Err(OrNoMemory::NoMemory) => Err(NoMemory),
     }

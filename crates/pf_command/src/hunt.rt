@@ -1,6 +1,8 @@
 //! What a source is answered with whose runs by many seeds are asked for.
 
-ghost use Rattle.std.specs.Prelude.{IfOk};
+ghost use Rattle.std.specs.Prelude.{IfOk, Ok};
+ghost use Rattle.pf_words.specs.Words.{hunt_request};
+ghost use Rattle.pf_command.specs.Answers.{AsksOf, of_hunt};
 ghost use Rattle.pf_command.specs.Drawn.{HasStatus, SomeText};
 
 use crate::answer::{
@@ -10,7 +12,7 @@ use crate::asked::Asked;
 use crate::seeds::{put_failure, put_none, put_rows, schedule_of};
 use pf_fault::{NoMemory, OrNoMemory};
 use pf_hunt::{Failure, Tally, hunt, hunt_all};
-use pf_sched::{Job, JobChoices, JobKind};
+use pf_sched::{Job, JobRefusal};
 use pf_store::Stored;
 use pf_terms::AtomTable;
 use pf_text::put;
@@ -20,16 +22,16 @@ use std::alloc::Global;
 use std::sync::Arc;
 use std::thread::Threads;
 
-/// The runs that are sought through. Where a schedule is to be shrunk they are those of a shrinking, so that its number of runs is refused
-/// before any seed is run.
-fn kind_of(alloc: Global, sought: Sought) -> Result<JobKind, NoMemory> {
-    Ok(match sought {
-        Sought::Failure { runs: Some(runs) } => JobKind::Shrinking {
-            schedule: Arc::new(alloc, Vec::new(alloc))?,
-            runs,
-        },
-        Sought::Failure { runs: None } | Sought::Outcomes => JobKind::Trial(JobChoices::Seed(0)),
-    })
+/// The job in whose place those of the seeds go. Where a schedule is to be shrunk, so that its number of runs is refused before any seed is
+/// run, the shrinking of the empty one is made first.
+fn job_of(alloc: Global, words: &HuntWords, stored: &Stored) -> Result<Job, OrNoMemory<JobRefusal>>
+    ensures { IfOk result (λ job. AsksOf (of_hunt (hunt_request words.now)) stored.now (Ok job)) }
+{
+    if let Sought::Failure { runs: Some(runs) } = words.sought {
+        let schedule = Arc::new(alloc, Vec::new(alloc))?;
+        let _shrinking = Asked::hunted(words, schedule, runs).job(alloc, stored.share()?)?;
+    }
+    Asked::hunt(words).job(alloc, stored.share()?)
 }
 
 /// The answer where no run fails.
@@ -74,13 +76,7 @@ fn tell_shrunk(
     let schedule = schedule_of(alloc, &failure.report)?;
     put_failure(alloc, &mut text, failure.seed, &schedule)?;
     let schedule = Arc::new(alloc, schedule)?;
-    let asked = Asked {
-        root: words.root,
-        property: words.property,
-        kind: JobKind::Shrinking { schedule, runs },
-        limit: words.limit,
-    };
-    let shrunk = answer_module(alloc, asked, stored, watch)?;
+    let shrunk = answer_module(alloc, Asked::hunted(words, schedule, runs), stored, watch)?;
     put(&mut text, &shrunk.text)?;
     let found = shrunk.status == FAILED;
     let status = if found { FAILED } else { REFUSED };
@@ -133,9 +129,7 @@ fn hunt_module<T: Threads + Sync>(
 ) -> Result<Answer, NoMemory>
     ensures { IfOk result HasStatus }
 {
-    let (root, property) = (words.root.as_bytes(), words.property.as_bytes());
-    let kind = kind_of(alloc, words.sought)?;
-    let job = match Job::new(alloc, stored.share()?, root, property, kind, words.limit) {
+    let job = match job_of(alloc, words, &stored) {
         Ok(job) => job,
         Err(OrNoMemory::Fault(refusal)) => return refused_by_code(alloc, refusal.code()),
         Err(OrNoMemory::NoMemory) => return Err(NoMemory),

@@ -3,12 +3,12 @@ use Rattle.std.proofs.Common.{◌≡◌, inl, inr, ◌+◌, ◌<◌, ◌≤◌, 
 use Rattle.std.proofs.lemmas.Bool.{cases_lt, cases_order}
 use Rattle.pf_model.specs.Meaning.{Job, Report, Means}
 use Rattle.pf_model.specs.Shrinking.{is_failure}
-use Rattle.pf_model.proofs.Meanings.{one_meaning}
+use Rattle.pf_model.proofs.Meanings.{only_evaluated}
 use Rattle.pf_hunt.specs.Hunts.{by_seed, NoneFails, FirstFailing, none_fails, first}
 
 -- a run by a seed has one report
 pub one_report : (j : Job) (s : ℕ) (r t : Report) → Means (by_seed j s) r → Means (by_seed j s) t → r ≡ t
-one_report j s r t h k = let m = one_meaning (by_seed j s) in m.2 r h ∙ sym (m.2 t k)
+one_report j s r t h k = only_evaluated (by_seed j s) r h ∙ sym (only_evaluated (by_seed j s) t k)
 
 module _ (j : Job) where
   -- a failure and none

@@ -1,12 +1,13 @@
 -- Hunts: what the runs by many seeds come to.
 use Rattle.std.specs.Prelude.{◌≡◌, ◌<◌, ◌≤◌, ℕ, zero, suc, true, false, List, [], Option, Some, None}
-use Rattle.pf_model.specs.Meaning.{Job, Report, Means, seed}
+use Rattle.pf_model.specs.Meaning.{Job, Report, Means}
 use Rattle.pf_model.specs.Shrinking.{is_failure}
+use Rattle.pf_sched.specs.Asked.{reseeded}
 use Rattle.pf_hunt.specs.Rows.{Row, met, with_row}
 
--- the run of a job by a seed
+-- the run of a job by a seed, by the weights of its choices
 abbrev pub by_seed : Job → ℕ → Job
-by_seed j s = record j { choices = seed s; runs = zero }
+by_seed j s = record j { choices = reseeded j.choices s; runs = zero }
 
 -- of the seeds from a to before b the run of none fails
 abbrev pub NoneFails : Job → (a b : ℕ) → Type 0

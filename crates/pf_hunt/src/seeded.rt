@@ -26,7 +26,7 @@ fn report_in(finished: Finished) -> Result<Report, NoMemory>
     }
 }
 
-/// The report that the run of a job by a seed means, in place of the job's own choices. What stands in the scratch makes no difference.
+/// The report that the run of a job by a seed means, in place of the job's own choices and by their weights. What stands in the scratch makes no difference.
 pub fn run_by_seed(
     alloc: Global,
     job: &Job,

@@ -6,7 +6,8 @@ use Rattle.pf_check.proofs.Same.{same_outcome}
 use Rattle.pf_model.specs.Meaning as model
 use Rattle.pf_model.specs.Shrinking.{Result, report, shrunk_to, IsResult, plain, smaller, no_failure, TellsFailures, by_schedule, shrunk}
 use Rattle.pf_desks.specs.Desk.{readable, faulty, Job, job_meant}
-use Rattle.pf_model.proofs.Meanings.{one_meaning}
+use Rattle.pf_model.specs.Evaluation.{evaluated}
+use Rattle.pf_model.proofs.Meanings.{evaluation_is_the_meaning, only_evaluated}
 use Rattle.pf_model.specs.Properties.{Property}
 use Rattle.pf_property.specs.Texts.{IsPropertyOf}
 use Rattle.pf_property.proofs.AnyProperty.{any_property}
@@ -36,18 +37,18 @@ property_is names bytes o h = let any = any_property names bytes in same_propert
 
 -- a function that tells which schedules fail tells what the one report of each does
 same_failures : (j : model.Job) (fails : List ℕ → Bool) → TellsFailures j fails → fails_by j ≡ fails
-same_failures j fails tells = λ i ns. sym (tells ns (one_meaning (by_schedule j ns)).0 (one_meaning (by_schedule j ns)).1) i
+same_failures j fails tells = λ i ns. sym (tells ns (evaluated (by_schedule j ns)) (evaluation_is_the_meaning (by_schedule j ns) tt)) i
 
 meaning_is : (j : Job) (r : Result) → IsResult (job_meant j) r → profile.meaning j ≡ r
 unfolding profile
 meaning_is j _ (plain r no_runs means) =
-    ap (λ (n : ℕ). comes_to (job_meant j) n j.choices) no_runs ∙ ap report (sym ((one_meaning (job_meant j)).2 r means))
+    ap (λ (n : ℕ). comes_to (job_meant j) n j.choices) no_runs ∙ ap report (sym (only_evaluated (job_meant j) r means))
 meaning_is j _ (smaller k ns fails f r runs choices tells found means) =
     let m = job_meant j in
     (λ i. comes_to m (runs i) (choices i))
     ∙ ap (λ (g : List ℕ → Bool). shrunk_so m (shrunk g (suc k) ns)) (same_failures m fails tells)
     ∙ ap (shrunk_so m) found
-    ∙ ap (shrunk_to f) (sym ((one_meaning (by_schedule m f.schedule)).2 r means))
+    ∙ ap (shrunk_to f) (sym (only_evaluated (by_schedule m f.schedule) r means))
 meaning_is j _ (no_failure k ns fails runs choices tells none) =
     let m = job_meant j in
     (λ i. comes_to m (runs i) (choices i))

@@ -2,27 +2,28 @@
 use Rattle.std.specs.Prelude.{ℕ, zero, suc, Bool, List, Option, Some, None}
 use Rattle.pf_check.proofs.AnyOutcome.{any_outcome}
 use Rattle.pf_desks.specs.Desk.{job_meant, Profile}
-use Rattle.pf_model.proofs.Meanings.{one_meaning}
-use Rattle.pf_model.specs.Meaning.{Job, Choices, seed, schedule}
+use Rattle.pf_model.specs.Evaluation.{evaluated}
+use Rattle.pf_model.specs.Meaning.{Job, Choices, seed, schedule, weighted_seed}
 use Rattle.pf_model.specs.Shrinking.{Found, Result, report, shrunk_to, nothing_fails, by_schedule, is_failure, shrunk}
 use Rattle.pf_property.proofs.AnyProperty.{any_property}
 use Rattle.pf_book.specs.Profile.{reading_from}
 
--- whether a job fails by a schedule: by the one report that it means
+-- whether a job fails by a schedule: by what its run comes to
 abbrev pub fails_by : Job → List ℕ → Bool
-fails_by j ns = is_failure (one_meaning (by_schedule j ns)).0.verdict
+fails_by j ns = is_failure (evaluated (by_schedule j ns)).verdict
 
 -- what a shrinking comes to that ends so
 abbrev pub shrunk_so : Job → Option Found → Result
 shrunk_so j None = nothing_fails
-shrunk_so j (Some f) = shrunk_to f (one_meaning (by_schedule j f.schedule)).0
+shrunk_so j (Some f) = shrunk_to f (evaluated (by_schedule j f.schedule))
 
--- what a job comes to: its one report, or with runs the shrinking of its schedule. A seed isn't shrunk: no such job is made, and what it comes to
--- is left open
+-- what a job comes to: what its run comes to, worked out, which is its one report; or with runs the shrinking of its schedule. A seed isn't
+-- shrunk, nor are there weights but from 1 to 9: no such job is made, and what it comes to is left open
 abbrev pub comes_to : Job → (runs : ℕ) → Choices → Result
-comes_to j zero cs = report (one_meaning j).0
+comes_to j zero cs = report (evaluated j)
 comes_to j (suc k) (schedule ns) = shrunk_so j (shrunk (fails_by j) (suc k) ns)
 comes_to j (suc k) (seed n) = nothing_fails
+comes_to j (suc k) (weighted_seed n run deliver) = nothing_fails
 
 -- a source is read as the rules of reading say; bytes are the property that their text says, or none; a job comes to the one result that it
 -- has in the language

@@ -2,7 +2,8 @@
 use Rattle.std.proofs.Common.{◌≡◌, ◌⊎◌, inl, inr, ℕ, zero, suc, ◌+◌, ◌*◌, ◌<◌, ◌≤◌, Bool, true, false, List, [], ◌∷◌, ◌++◌, length, max, Option, Some, None, refl, sym, ap, ◌∙◌, subst, arith, append_assoc, if◌then◌else◌}
 use Rattle.std.proofs.lemmas.List.{append-nil, length-append}
 use Rattle.std.proofs.lemmas.Nat.{mul-le}
-use Rattle.pf_model.specs.Meaning.{Job, Report, Means, schedule}
+use Rattle.pf_choice.specs.Chosen.{IsProfile}
+use Rattle.pf_model.specs.Meaning.{Job, Report, Means, profile_of, schedule}
 use Rattle.pf_model.specs.Shrinking.{by_schedule, candidates, Found, is_failure, search, shrunk, Result, IsResult, smaller, no_failure}
 use Rattle.pf_model.proofs.Meanings.{one_meaning}
 use Rattle.pf_shrink.specs.Hunts.{Hunting, begins, searches, ended, searching, next_of, told_of, found_of, comes_to}
@@ -14,7 +15,7 @@ use Rattle.pf_sched.specs.Asked.{IsKept}
 use Rattle.pf_sched.specs.Events.{RunsHave, no_runs, HasEvents, of_run, of_shrinking}
 use Rattle.pf_sched.specs.Parts.{IsHuntOf, stands_at}
 use Rattle.pf_sched.specs.Slices.{GoesPast, TellsFound}
-use Rattle.pf_sched.proofs.Asking.{within_bounds}
+use Rattle.pf_sched.proofs.Asking.{is_profile, within_bounds}
 use Rattle.pf_sched.proofs.Tries.{fails_in, tells_failures, only_fails, few_events, first_run, only_so_many, so_many, few, one_more, parts}
 
 same_some : {X : Type 0} (x y : X) → Some x ≡ Some y → x ≡ y
@@ -154,12 +155,12 @@ module _ (j : Job) where
   -- ---- how many events there can be
 
   -- a job has some number of events, which its limit and its runs bound
-  pub bounded : (j.runs ≡ zero) ⊎ ((ns : List ℕ) × (j.choices ≡ schedule ns)) → (m : ℕ) × HasEvents j m × (m ≤ max 1 j.runs * j.limit)
-  bounded kept = by j.runs refl kept
+  pub bounded : IsProfile (profile_of j.choices) → (j.runs ≡ zero) ⊎ ((ns : List ℕ) × (j.choices ≡ schedule ns)) → (m : ℕ) × HasEvents j m × (m ≤ max 1 j.runs * j.limit)
+  bounded weighs kept = by j.runs refl kept
     where
       plain : j.runs ≡ zero → (m : ℕ) × HasEvents j m × (m ≤ max 1 j.runs * j.limit)
       plain e =
-          let m = one_meaning j in
+          let m = one_meaning j weighs in
           let one = few_events j m.0 m.1 in
           (length m.0.events, of_run m.0 e m.1, subst (λ k. length m.0.events ≤ max 1 k * j.limit) (sym e) (omega arith))
 
@@ -182,7 +183,7 @@ module _ (j : Job) where
 -- so more events can't be left than that
 pub past_bound : (j : desk.Job) → IsKept j → (n : ℕ) → GoesPast j n → n < max 1 j.runs * j.limit
 past_bound j kept n past =
-    let b = bounded (job_meant j) kept.shrinks in
+    let b = bounded (job_meant j) (is_profile j.choices kept.weighs) kept.shrinks in
     let more = past b.0 b.1 in
     let most = b.2 in
     omega arith

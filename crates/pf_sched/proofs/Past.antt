@@ -1,19 +1,19 @@
 -- A run that goes on has more transitions to come, and no run has more than its steps.
-use Rattle.std.proofs.Common.{◌≡◌, ◌⊎◌, inl, inr, ℕ, zero, suc, ◌+◌, ◌-◌, ◌<◌, ◌≤◌, ◌%◌, List, [], ◌∷◌, length, Some, refl, sym, ap, ◌∙◌, subst, arith}
+use Rattle.std.proofs.Common.{◌≡◌, ◌⊎◌, inl, inr, ℕ, zero, suc, ◌+◌, ◌-◌, ◌<◌, ◌≤◌, List, [], ◌∷◌, length, Some, refl, sym, ap, ◌∙◌, subst, arith}
 use Rattle.std.specs.Prelude.{slice_get}
 use Rattle.std.proofs.Math.Nat.{sub-zero}
 use Rattle.pf_model.specs.Code.{Code}
 use Rattle.pf_model.specs.Configuration.{Configuration}
 use Rattle.pf_model.specs.Evaluation.{pass_of}
-use Rattle.pf_model.specs.Runs.{Actor, Passed, Passes, Transition, Words, later, Goes, stays, more, Stops, enabled}
+use Rattle.pf_model.specs.Runs.{Actor, Passed, Passes, Transition, Picks, later, first_pick, Goes, stays, more, Stops, enabled}
 use Rattle.pf_model.proofs.Turned.{pass_only, pass_uses}
 
 -- each transition takes a step at least
-pub within_steps : (m : Code) (ws : Words) (n : ℕ) (c : Configuration) (ts : List Transition) (d : Configuration) (k : ℕ) → Goes m ws n c ts d k → length ts ≤ n
-within_steps m _ _ _ _ _ _ (stays ws n c) = omega arith
-within_steps m _ _ _ _ _ _ (more ws n c x p ts d k e pass rest) =
+pub within_steps : (m : Code) (ps : Picks) (n : ℕ) (c : Configuration) (ts : List Transition) (d : Configuration) (k : ℕ) → Goes m ps n c ts d k → length ts ≤ n
+within_steps m _ _ _ _ _ _ (stays ps n c) = omega arith
+within_steps m _ _ _ _ _ _ (more ps n c x p ts d k e pass rest) =
     let one = pass_uses m n c x p pass in
-    let more = within_steps m (later ws) (suc n - p.used) p.after ts d k rest in
+    let more = within_steps m (later ps) (suc n - p.used) p.after ts d k rest in
     omega arith
 
 module _ (m : Code) where
@@ -23,7 +23,7 @@ module _ (m : Code) where
     unused : k ≡ zero
 
   -- one was made, and then others
-  record First (ws : Words) (n : ℕ) (c : Configuration) (ts : List Transition) (d : Configuration) (k : ℕ) : Type 0 where
+  record First (ps : Picks) (n : ℕ) (c : Configuration) (ts : List Transition) (d : Configuration) (k : ℕ) : Type 0 where
     left : ℕ
     actor : Actor
     passed : Passed
@@ -32,14 +32,14 @@ module _ (m : Code) where
     some : n ≡ suc left
     counts : length ts ≡ suc (length others)
     sums : k ≡ passed.used + steps
-    chosen : slice_get (enabled c) (ws zero % length (enabled c)) ≡ Some actor
+    chosen : slice_get (enabled c) (first_pick ps c) ≡ Some actor
     passes : Passes m n c actor passed
-    rest : Goes m (later ws) (n - passed.used) passed.after others d steps
+    rest : Goes m (later ps) (n - passed.used) passed.after others d steps
 
-  first_of : (ws : Words) (n : ℕ) (c : Configuration) (ts : List Transition) (d : Configuration) (k : ℕ) → Goes m ws n c ts d k
-      → None n c d k ⊎ First ws n c ts d k
-  first_of _ _ _ _ _ _ (stays ws n c) = inl (record { same = refl; unused = refl })
-  first_of _ _ _ _ _ _ (more ws n c x p ts d k e pass rest) = inr (record {
+  first_of : (ps : Picks) (n : ℕ) (c : Configuration) (ts : List Transition) (d : Configuration) (k : ℕ) → Goes m ps n c ts d k
+      → None n c d k ⊎ First ps n c ts d k
+  first_of _ _ _ _ _ _ (stays ps n c) = inl (record { same = refl; unused = refl })
+  first_of _ _ _ _ _ _ (more ps n c x p ts d k e pass rest) = inr (record {
     left = n;
     actor = x;
     passed = p;
@@ -61,15 +61,15 @@ module _ (m : Code) where
   nobody (y ∷ ys) k x e h = cc
 
   -- where a run does not stop, a run by the same words that stops has more transitions
-  pub longer : (ws : Words) (n : ℕ) (c : Configuration) (ts : List Transition) (d : Configuration) (k : ℕ) → Goes m ws n c ts d k → (Stops (n - k) d → ⊥)
-      → (us : List Transition) (e : Configuration) (l : ℕ) → Goes m ws n c us e l → Stops (n - l) e → length ts < length us
-  longer _ _ _ _ _ _ (stays ws n c) goes us e l whole stops = by (first_of ws n c us e l whole)
+  pub longer : (ps : Picks) (n : ℕ) (c : Configuration) (ts : List Transition) (d : Configuration) (k : ℕ) → Goes m ps n c ts d k → (Stops (n - k) d → ⊥)
+      → (us : List Transition) (e : Configuration) (l : ℕ) → Goes m ps n c us e l → Stops (n - l) e → length ts < length us
+  longer _ _ _ _ _ _ (stays ps n c) goes us e l whole stops = by (first_of ps n c us e l whole)
     where
-      by : None n c e l ⊎ First ws n c us e l → 0 < length us
+      by : None n c e l ⊎ First ps n c us e l → 0 < length us
       by (inl none) = absurd (goes (subst (λ z. Stops (n - z) c) none.unused (subst (λ z. Stops (n - l) z) none.same stops)))
       by (inr first) = let h = first.counts in omega arith
-  longer _ _ _ _ _ _ (more ws n c x p ts d k chosen pass rest) goes us e l whole stops =
-      by (first_of ws (suc n) c us e l whole) (longer (later ws) (suc n - p.used) p.after ts d k rest goes_behind)
+  longer _ _ _ _ _ _ (more ps n c x p ts d k chosen pass rest) goes us e l whole stops =
+      by (first_of ps (suc n) c us e l whole) (longer (later ps) (suc n - p.used) p.after ts d k rest goes_behind)
     where
       goes_behind : Stops (suc n - p.used - k) d → ⊥
       goes_behind h = goes (let q : suc n - p.used - k ≡ suc n - (p.used + k) = omega arith in subst (λ z. Stops z d) q h)
@@ -78,11 +78,11 @@ module _ (m : Code) where
       stands none = subst (λ z. Stops z c) (sub-zero (suc n)) (subst (λ z. Stops (suc n - z) c) none.unused (subst (λ z. Stops (suc n - l) z) none.same stops))
 
       never : Stops (suc n) c → ⊥
-      never (inl h) = nobody (enabled c) (ws zero % length (enabled c)) x chosen h
+      never (inl h) = nobody (enabled c) (first_pick ps c) x chosen h
       never (inr h) = omega arith
 
-      by : None (suc n) c e l ⊎ First ws (suc n) c us e l
-          → ((vs : List Transition) (f : Configuration) (i : ℕ) → Goes m (later ws) (suc n - p.used) p.after vs f i → Stops (suc n - p.used - i) f → length ts < length vs)
+      by : None (suc n) c e l ⊎ First ps (suc n) c us e l
+          → ((vs : List Transition) (f : Configuration) (i : ℕ) → Goes m (later ps) (suc n - p.used) p.after vs f i → Stops (suc n - p.used - i) f → length ts < length vs)
           → suc (length ts) < length us
       by (inl none) further = absurd (never (stands none))
       by (inr first) further =
@@ -93,7 +93,7 @@ module _ (m : Code) where
           let left : suc n - l ≡ suc n - first.passed.used - first.steps = (let s = first.sums in omega arith) in
           let behind =
           further first.others e first.steps
-          (subst (λ z. Goes m (later ws) (suc n - z.used) z.after first.others e first.steps) same first.rest)
+          (subst (λ z. Goes m (later ps) (suc n - z.used) z.after first.others e first.steps) same first.rest)
           (subst (λ z. Stops (suc n - z.used - first.steps) e) same (subst (λ z. Stops z e) left stops)) in
           let counts = first.counts in
           omega arith

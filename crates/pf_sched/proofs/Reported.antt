@@ -4,7 +4,7 @@ use Rattle.pf_choice.specs.declared.choices.Choices.{Choices}
 use Rattle.rand_pcg.specs.Lcg.{Lcg}
 use Rattle.pf_model.specs.Configuration.{Configuration}
 use Rattle.pf_model.specs.Meaning as meaning
-use Rattle.pf_model.specs.Meaning.{Means, words_of}
+use Rattle.pf_model.specs.Meaning.{Means, picks_of, profile_of, words_of}
 use Rattle.pf_model.specs.Properties as property
 use Rattle.pf_model.specs.Reports.{event_of, outcome_of, report_of}
 use Rattle.pf_model.specs.Runs.{Run, Stops, start}
@@ -20,7 +20,7 @@ use Rattle.pf_sched.specs.Traces.{Going}
 pub one_stands : (o : Option Configuration) (c d : Configuration) → o ≡ Some c → o ≡ Some d → c ≡ d
 one_stands o c d a b = cc
 
-module _ (j : Job) (cs : meaning.Choices) (es : List Event) (s : SystemView) (q : Choices Lcg) (g : Going j.stored.code (words_of cs) j.limit (start j.root) es s q) where
+module _ (j : Job) (cs : meaning.Choices) (es : List Event) (s : SystemView) (q : Choices Lcg) (g : Going j.stored.code (profile_of cs) (words_of cs) j.limit (start j.root j.edition) es s q) where
   -- the report with the events of a whole run and what it came to is what the job means by its choices
   pub means : (c : Configuration) → s.standing ≡ Some c → Stops (j.limit - s.steps) c → (r : Report) → r.events.items ≡ es
       → ((d : Configuration) → s.standing ≡ Some d → outcome_of r.outcome ≡ meaning.outcome_of d) → r.steps ≡ s.steps
@@ -30,7 +30,7 @@ module _ (j : Job) (cs : meaning.Choices) (es : List Event) (s : SystemView) (q 
       record {
         transitions = g.transitions;
         last = g.last;
-        run = subst (Run j.stored.code (words_of cs) j.limit (start j.root) g.transitions g.last) (sym steps) (record { goes = g.goes; stops = stops_there });
+        run = subst (Run j.stored.code (picks_of cs) j.limit (start j.root j.edition) g.transitions g.last) (sym steps) (record { goes = g.goes; stops = stops_there });
         report = ap (λ xs. reported (map event_of xs) (outcome_of r.outcome) r.verdict) same ∙ ap (λ xs. reported xs (outcome_of r.outcome) r.verdict) g.events
             ∙ ap (λ o. reported events o r.verdict) (out g.last g.stands) ∙ ap (reported events (meaning.outcome_of g.last)) v;
       }

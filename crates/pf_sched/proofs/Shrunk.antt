@@ -1,11 +1,9 @@
 -- Shrinkings as far as they came.
 use Rattle.std.proofs.Common.{◌≡◌, ℕ, zero, suc, ◌+◌, ◌-◌, ◌<◌, ◌≤◌, Bool, true, false, List, [], ◌∷◌, length, Option, Some, None, refl, sym, ap, ◌∙◌, subst, arith, if◌then◌else◌}
 use Rattle.std.proofs.lemmas.List.{length-map}
-use Rattle.rand_pcg.specs.Pcg.{pcg32}
 use Rattle.rand_pcg.specs.Lcg.{Lcg}
-use Rattle.pf_choice.specs.Choices.{IsAt}
 use Rattle.pf_choice.specs.declared.choices.Choices.{Choices}
-use Rattle.pf_model.specs.Meaning.{Means, schedule, words_of}
+use Rattle.pf_model.specs.Meaning.{Means, schedule}
 use Rattle.pf_model.specs.Meaning as meaning
 use Rattle.pf_model.specs.Reports.{event_of, report_of}
 use Rattle.pf_model.specs.Shrinking.{by_schedule, candidates, is_failure}
@@ -19,6 +17,7 @@ use Rattle.pf_sched.specs.declared.shrinking.Progress.TheVariants as progress
 use Rattle.pf_sched.specs.declared.shrinking.Shrinking.{Shrinking}
 use Rattle.pf_sched.specs.Parts.{IsHuntOf, IsRunBy, IsShrinkingOf, KeepsReport, events_so_far, stands_at}
 use Rattle.pf_sched.specs.Slices.{Advances, EndsBy, Follows, GoesOn, GoesPast, IsOver, OpensNext, RunAdvances, runs_left}
+use Rattle.pf_sched.specs.Traces.{Makes}
 use Rattle.pf_sched.specs.Views.{result_of}
 use Rattle.pf_sched.proofs.Sliced.{run_goes_past}
 use Rattle.pf_sched.proofs.Hunted.{hunt_begins, hunt_told, hunt_goes_past, stands_at_failed, stands_as_it_was}
@@ -26,7 +25,7 @@ use Rattle.pf_sched.proofs.Hunted.{hunt_begins, hunt_told, hunt_goes_past, stand
 -- ---- the next schedule
 
 -- what is opened is the next schedule
-pub opens_next : (o : Option (List ℕ)) (q : Choices Lcg) → OpensNext o (Some q) → (ns : List ℕ) × (o ≡ Some ns) × IsAt pcg32 (words_of (schedule ns)) 0 q
+pub opens_next : (o : Option (List ℕ)) (q : Choices Lcg) → OpensNext o (Some q) → (ns : List ℕ) × (o ≡ Some ns) × Makes (schedule ns) q
 opens_next None q h = absurd h
 opens_next (Some ns) q h = (ns, refl, h)
 

@@ -4,7 +4,7 @@ use Rattle.std.specs.Prelude.{MatchBool}
 use Rattle.std.proofs.lemmas.List.{length-map}
 use Rattle.pf_model.specs.Configuration.{Configuration}
 use Rattle.pf_model.specs.Meaning as meaning
-use Rattle.pf_model.specs.Meaning.{Means, words_of}
+use Rattle.pf_model.specs.Meaning.{Means, picks_of}
 use Rattle.pf_model.specs.Reports.{event_of, report_of}
 use Rattle.pf_model.specs.Runs.{Stops, start}
 use Rattle.pf_model.specs.Shrinking as shrinking
@@ -30,7 +30,7 @@ run_goes_past j cs r g going report h = omega (arith, more, made j cs r g, all)
   where
     more : length g.transitions < length h.transitions
     more =
-        longer j.stored.code (words_of cs) j.limit (start j.root) g.transitions g.last r.system.steps g.goes (λ stops. going (g.last, g.stands, stops))
+        longer j.stored.code (picks_of cs) j.limit (start j.root j.edition) g.transitions g.last r.system.steps g.goes (λ stops. going (g.last, g.stands, stops))
         h.transitions h.last report.steps h.run.goes h.run.stops
 
     all : length report.events ≡ length h.transitions
@@ -41,7 +41,7 @@ pub few_so_far : (j : Job) (cs : meaning.Choices) (r : code.Run) → IsRunBy j c
 few_so_far j cs r g = omega (arith, made j cs r g, within)
   where
     within : length g.transitions ≤ j.limit
-    within = within_steps j.stored.code (words_of cs) j.limit (start j.root) g.transitions g.last r.system.steps g.goes
+    within = within_steps j.stored.code (picks_of cs) j.limit (start j.root j.edition) g.transitions g.last r.system.steps g.goes
 
 -- so has the job, where it is no shrinking
 goes_past : (j : Job) (r : code.Run) → IsRunOf j r → (IsOver j.limit r → ⊥) → GoesPast j (length r.events.items)

@@ -1,16 +1,16 @@
 -- The runs of a job by schedules: how many events they have in all, and which of them fail.
 use Rattle.std.proofs.Common.{◌≡◌, ℕ, zero, ◌+◌, ◌*◌, ◌≤◌, Bool, List, [], ◌∷◌, ◌++◌, length, refl, sym, ap, ◌∙◌, subst, arith}
 use Rattle.std.proofs.lemmas.List.{length-map}
-use Rattle.pf_model.specs.Meaning.{Job, Report, Means, event_of, words_of}
+use Rattle.pf_model.specs.Meaning.{Job, Report, Means, event_of, picks_of}
 use Rattle.pf_model.specs.Runs.{start}
 use Rattle.pf_model.specs.Shrinking.{by_schedule, is_failure, TellsFailures}
-use Rattle.pf_model.proofs.Meanings.{one_meaning}
+use Rattle.pf_model.proofs.Meanings.{one_meaning, only_evaluated}
 use Rattle.pf_sched.specs.Events.{RunsHave, no_runs, and_run}
 use Rattle.pf_sched.proofs.Past.{within_steps}
 
 -- a job means one report
 only_report : (j : Job) (r s : Report) → Means j r → Means j s → r ≡ s
-only_report j r s h k = let m = one_meaning j in m.2 r h ∙ sym (m.2 s k)
+only_report j r s h k = only_evaluated j r h ∙ sym (only_evaluated j s k)
 
 -- a run has no more events than its limit has steps
 pub few_events : (j : Job) (r : Report) → Means j r → length r.events ≤ j.limit
@@ -20,24 +20,24 @@ few_events j r h = omega (arith, all, within)
     all = ap (λ z. length z.events) h.report ∙ length-map h.transitions event_of
 
     within : length h.transitions ≤ j.limit
-    within = within_steps j.code (words_of j.choices) j.limit (start j.root) h.transitions h.last r.steps h.run.goes
+    within = within_steps j.code (picks_of j.choices) j.limit (start j.root j.edition) h.transitions h.last r.steps h.run.goes
 
 module _ (j : Job) where
   -- ---- which fail
 
   pub fails_in : List ℕ → Bool
-  fails_in ns = is_failure (one_meaning (by_schedule j ns)).0.verdict
+  fails_in ns = is_failure (one_meaning (by_schedule j ns) tt).0.verdict
 
   pub tells_failures : TellsFailures j fails_in
   unfolding fails_in
-  tells_failures ns r h = ap (λ s. is_failure s.verdict) (sym ((one_meaning (by_schedule j ns)).2 r h))
+  tells_failures ns r h = ap (λ s. is_failure s.verdict) (sym ((one_meaning (by_schedule j ns) tt).2 r h))
 
   -- one function tells so
   pub only_fails : (f g : List ℕ → Bool) → TellsFailures j f → TellsFailures j g → f ≡ g
   only_fails f g a b = λ i ns. same ns i
     where
       same : (ns : List ℕ) → f ns ≡ g ns
-      same ns = let m = one_meaning (by_schedule j ns) in a ns m.0 m.1 ∙ sym (b ns m.0 m.1)
+      same ns = let m = one_meaning (by_schedule j ns) tt in a ns m.0 m.1 ∙ sym (b ns m.0 m.1)
 
   -- ---- how many events
 
@@ -68,7 +68,7 @@ module _ (j : Job) where
   pub so_many : (nss : List (List ℕ)) → (m : ℕ) × RunsHave j nss m
   so_many [] = (zero, no_runs)
   so_many (ns ∷ nss) =
-      let m = one_meaning (by_schedule j ns) in
+      let m = one_meaning (by_schedule j ns) tt in
       let rest = so_many nss in
       (length m.0.events + rest.0, and_run ns nss m.0 rest.0 m.1 rest.1)
 

@@ -15,6 +15,7 @@ job_in j =
       choices = choices_in j.kind;
       limit = j.limit;
       runs = runs_of (runs_asked j.kind);
+      edition = j.edition;
     }
 
 -- it is kept as a job, and where it is a shrinking its runs are within their bounds

@@ -1,7 +1,7 @@
 -- What is true of a run, of a shrinking as far as it came, and of the end of a job.
 use Rattle.std.specs.Prelude.{◌≡◌, ◌⊎◌, ℕ, zero, suc, ◌+◌, Bool, List, ◌++◌, length, Option, Some, None}
 use Rattle.pf_model.specs.Meaning as meaning
-use Rattle.pf_model.specs.Meaning.{Choices, schedule, Means, words_of}
+use Rattle.pf_model.specs.Meaning.{Choices, schedule, Means, profile_of, words_of}
 use Rattle.pf_model.specs.Reports.{report_of}
 use Rattle.pf_model.specs.Runs.{start}
 use Rattle.pf_model.specs.Shrinking as shrinking
@@ -18,7 +18,7 @@ use Rattle.pf_sched.specs.Traces.{Going}
 
 -- a run of a job's module by these choices, as far as it came
 abbrev pub IsRunBy : Job → Choices → Run → Type 0
-IsRunBy j cs r = Going j.stored.code (words_of cs) j.limit (start j.root) r.events.items r.system r.choices
+IsRunBy j cs r = Going j.stored.code (profile_of cs) (words_of cs) j.limit (start j.root j.edition) r.events.items r.system r.choices
 
 -- the run of a job that is no shrinking
 abbrev pub IsRunOf : Job → Run → Type 0

@@ -1,14 +1,12 @@
 -- What a slice makes of a parked job.
 use Rattle.std.specs.Prelude.{◌≡◌, ◌⊎◌, ◌+◌, ◌-◌, ◌<◌, ◌≤◌, ℕ, zero, suc, Bool, true, false, List, length, Option, Some, None}
-use Rattle.rand_pcg.specs.Pcg.{pcg32}
 use Rattle.rand_pcg.specs.Lcg.{Lcg}
-use Rattle.pf_choice.specs.Choices.{IsAt}
 use Rattle.pf_choice.specs.declared.choices.Choices.{Choices}
 use Rattle.pf_model.specs.Configuration.{Configuration}
 use Rattle.pf_model.specs.Shrinking as shrinking
 use Rattle.pf_model.specs.Shrinking.{by_schedule, Found, IsResult, nothing_fails, shrunk_to}
 use Rattle.pf_model.specs.Meaning as meaning
-use Rattle.pf_model.specs.Meaning.{Means, Report, schedule, words_of}
+use Rattle.pf_model.specs.Meaning.{Means, Report, schedule}
 use Rattle.pf_model.specs.Runs.{Stops}
 use Rattle.pf_shrink.specs.Hunts.{Hunting, begins, searches, ended}
 use Rattle.pf_desks.specs.Desk.{Job, job_meant}
@@ -20,6 +18,7 @@ use Rattle.pf_sched.specs.declared.slice.Slice.TheVariants.{More, Done}
 use Rattle.pf_sched.specs.Views.{ParkedView, parked_view, result_of, without_memory}
 use Rattle.pf_sched.specs.Events.{HasEvents}
 use Rattle.pf_sched.specs.Parts.{IsRunBy, IsShrinkingOf, events_so_far}
+use Rattle.pf_sched.specs.Traces.{Makes}
 
 -- a job has more events than so many
 abbrev pub GoesPast : Job → ℕ → Type 0
@@ -59,7 +58,7 @@ abbrev pub OpensNext : (next : Option (List ℕ)) → Option (Choices Lcg) → T
 OpensNext None None = Unit {0}
 OpensNext None (Some q) = ⊥
 OpensNext (Some ns) None = ⊥
-OpensNext (Some ns) (Some q) = IsAt pcg32 (words_of (schedule ns)) 0 q
+OpensNext (Some ns) (Some q) = Makes (schedule ns) q
 
 -- what a hunt found, with the report of its schedule; or that nothing fails
 abbrev pub TellsFound : meaning.Job → Option Found → shrinking.Result → Type 0

@@ -14,7 +14,7 @@ use Rattle.pf_desks.specs.DeskCode.{coded_job}
 use Rattle.pf_desks.specs.ReportCode.{coded_result}
 use Rattle.pf_desks.specs.Work.{memory_report}
 use Rattle.pf_sched.specs.declared.choices.JobChoices.{JobChoices}
-use Rattle.pf_sched.specs.declared.choices.JobChoices.TheVariants.{Seed, Schedule}
+use Rattle.pf_sched.specs.declared.choices.JobChoices.TheVariants.{Seed, Schedule, Weighted}
 use Rattle.pf_sched.specs.declared.choices.JobKind.{JobKind}
 use Rattle.pf_sched.specs.declared.choices.JobKind.TheVariants.{Trial, Shrinking}
 use Rattle.pf_sched.specs.declared.result.JobResult.{JobResult}
@@ -25,6 +25,7 @@ use Rattle.pf_sched.specs.declared.refusal.JobRefusal.TheVariants as refusal
 abbrev pub choices_of : JobChoices → model.Choices
 choices_of (Seed n) = model.seed n
 choices_of (Schedule numbers) = model.schedule numbers.value.items
+choices_of (Weighted n run deliver) = model.weighted_seed n run deliver
 
 -- the choices of a run, or of the schedule that is shrunk
 abbrev pub choices_in : JobKind → model.Choices
@@ -46,6 +47,7 @@ abbrev pub code_of : JobRefusal → Code
 code_of refusal.NoRoot = code.NoRoot
 code_of refusal.NoProperty = code.NoProperty
 code_of refusal.OutOfRange = code.OutOfRange
+code_of refusal.WeightsOutOfRange = code.WeightsOutOfRange
 
 -- a job that is parked: its run, or all runs of a shrinking one after another, behind so many events
 pub record ParkedView : Type 0 where

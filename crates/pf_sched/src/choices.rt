@@ -1,11 +1,10 @@
 //! Where the choices of a job come from, and what kind of job it is.
 
-ghost use Rattle.std.specs.Prelude.{◌≡◌, IfOk};
-ghost use Rattle.rand_pcg.specs.Pcg.{pcg32};
-ghost use Rattle.pf_choice.specs.Choices.{IsAt};
+ghost use Rattle.std.specs.Prelude.{◌≡◌, true, IfOk};
 ghost use Rattle.pf_model.specs.Meaning as model;
-ghost use Rattle.pf_model.specs.Meaning.{words_of};
-ghost use Rattle.pf_desks.specs.Desk.{count_of, may_shrink};
+ghost use Rattle.pf_desks.specs.Desk.{count_of, may_shrink, may_weigh};
+ghost use Rattle.pf_sched.specs.Traces.{Makes};
+ghost use Rattle.pf_sched.specs.Asked.{reseeded};
 ghost use Rattle.pf_sched.specs.Views.{choices_in, choices_of, runs_asked};
 
 use pf_choice::Choices;
@@ -21,6 +20,8 @@ pub enum JobChoices {
     Seed(u64),
     /// These numbers, and then 0 for ever.
     Schedule(Arc<Vec<u32>>),
+    /// The words of the generator of this seed, by the weight of a process and that of a channel, which are from 1 to 9 in a job.
+    Weighted { seed: u64, run: u32, deliver: u32 },
 }
 
 impl JobChoices {
@@ -36,8 +37,34 @@ impl JobChoices {
         ensures { result ≡ count_of (choices_of self.now) }
     {
         match self {
-            JobChoices::Seed(_) => 0,
+            JobChoices::Seed(_) | JobChoices::Weighted { .. } => 0,
             JobChoices::Schedule(numbers) => numbers.len(),
+        }
+    }
+
+    /// Whether the weights, where there are any, are from 1 to 9.
+    pub fn may_weigh(&self) -> bool
+        ensures { result ≡ may_weigh (choices_of self.now) }
+    {
+        match self {
+            JobChoices::Weighted { run, deliver, .. } => {
+                1 <= *run && *run <= 9 && 1 <= *deliver && *deliver <= 9
+            }
+            JobChoices::Seed(_) | JobChoices::Schedule(_) => true,
+        }
+    }
+
+    /// The choices of a seed, by the weights that these have.
+    pub(crate) fn reseeded(&self, seed: u64) -> JobChoices
+        ensures { choices_of result ≡ reseeded (choices_of self.now) seed }
+    {
+        match self {
+            JobChoices::Weighted { run, deliver, .. } => JobChoices::Weighted {
+                seed,
+                run: *run,
+                deliver: *deliver,
+            },
+            JobChoices::Seed(_) | JobChoices::Schedule(_) => JobChoices::Seed(seed),
         }
     }
 
@@ -48,15 +75,24 @@ impl JobChoices {
         match self {
             JobChoices::Seed(seed) => Ok(JobChoices::Seed(*seed)),
             JobChoices::Schedule(numbers) => Ok(JobChoices::Schedule(Arc::try_clone(numbers)?)),
+            JobChoices::Weighted { seed, run, deliver } => Ok(JobChoices::Weighted {
+                seed: *seed,
+                run: *run,
+                deliver: *deliver,
+            }),
         }
     }
 
     /// The choices from the first on.
     pub(crate) fn open(&self, alloc: Global) -> Result<Choices, NoMemory>
-        ensures { IfOk result (λ q. IsAt pcg32 (words_of (choices_of self.now)) 0 q) }
+        requires { may_weigh (choices_of self.now) ≡ true }
+        ensures { IfOk result (λ q. Makes (choices_of self.now) q) }
     {
         match self {
             JobChoices::Seed(seed) => Ok(Choices::seed(*seed)),
+            JobChoices::Weighted { seed, run, deliver } => {
+                Ok(Choices::weighted(*seed, *run as u8, *deliver as u8))
+            }
             JobChoices::Schedule(numbers) => {
                 let mut own = Vec::new(alloc);
                 own.extend_from_slice(numbers.as_slice())?;
@@ -83,6 +119,26 @@ impl JobKind {
         match self {
             JobKind::Trial(choices) => choices.count(),
             JobKind::Shrinking { schedule, .. } => schedule.len(),
+        }
+    }
+
+    /// Whether the weights, where there are any, are from 1 to 9.
+    pub fn may_weigh(&self) -> bool
+        ensures { result ≡ may_weigh (choices_in self.now) }
+    {
+        match self {
+            JobKind::Trial(choices) => choices.may_weigh(),
+            JobKind::Shrinking { .. } => true,
+        }
+    }
+
+    /// The choices of a seed in place of those that are given, by the weights that these have.
+    pub(crate) fn reseeded(&self, seed: u64) -> JobChoices
+        ensures { choices_of result ≡ reseeded (choices_in self.now) seed }
+    {
+        match self {
+            JobKind::Trial(choices) => choices.reseeded(seed),
+            JobKind::Shrinking { .. } => JobChoices::Seed(seed),
         }
     }
 

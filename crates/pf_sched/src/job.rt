@@ -3,12 +3,13 @@
 ghost use Rattle.std.specs.Prelude.{◌≡◌, IfOk, Ok, MatchResult, option_map};
 ghost use Rattle.pf_fault.specs.declared.code.Code.TheVariants as code;
 ghost use Rattle.pf_model.specs.Code.{code_of as code_in};
+ghost use Rattle.pf_model.specs.Limits.{IsEdition};
 ghost use Rattle.pf_property.specs.Texts.{ReadsProperty};
 ghost use Rattle.pf_property.specs.Views.{property_of};
 ghost use Rattle.pf_sched.specs.Asked.{Asks, IsKept, IsRefusal, NoSuch, by_seed, may_be_asked, root_in};
 ghost use Rattle.pf_sched.specs.Views.{choices_in, runs_asked};
 
-use crate::choices::{JobChoices, JobKind};
+use crate::choices::JobKind;
 use crate::refusal::JobRefusal;
 use pf_fault::OrNoMemory;
 use pf_model::limits::is_in_range;
@@ -21,8 +22,8 @@ use std::marker::Model;
 use std::sync::Arc;
 
 /// A run that may be asked for: of a module from one of its exported functions without arguments, whether a property holds, by choices and
-/// within a limit of steps; or the shrinking of a schedule of such runs. The module is what its source is read as; the limit, the schedule
-/// and the runs of a shrinking are within their bounds.
+/// within a limit of steps, in an edition; or the shrinking of a schedule of such runs. The module is what its source is read as; the
+/// limit, the schedule, the weights and the runs of a shrinking are within their bounds.
 #[derive(Drop)]
 pub struct Job {
     stored: Stored,
@@ -30,6 +31,7 @@ pub struct Job {
     pub(crate) property: Property,
     pub(crate) kind: JobKind,
     limit: u32,
+    edition: u32,
 }
 
 impl Model for Job {
@@ -79,7 +81,7 @@ fn is_within_bounds(kind: &JobKind, limit: u32) -> bool
 
 impl Job {
     /// The job of a run or of a shrinking: of a module from the function of this name; or the first of its refusals: of the root, of the
-    /// property, of the limit, the schedule and the runs.
+    /// property, of the limit, the schedule and the runs, of the weights.
     pub fn new(
         alloc: Global,
         stored: Stored,
@@ -87,10 +89,12 @@ impl Job {
         property: &[u8],
         kind: JobKind,
         limit: u32,
+        edition: u32,
     ) -> Result<Job, OrNoMemory<JobRefusal>>
+        requires { IsEdition edition }
         ensures { MatchResult result
-            (λ job. Asks stored root.now property.now (choices_in kind) limit (runs_asked kind) (Ok job))
-            (IsRefusal (Asks stored root.now property.now (choices_in kind) limit (runs_asked kind))) }
+            (λ job. Asks stored root.now property.now (choices_in kind) limit (runs_asked kind) edition (Ok job))
+            (IsRefusal (Asks stored root.now property.now (choices_in kind) limit (runs_asked kind) edition)) }
     {
         let Some(root) = find_root(&stored, root) else {
             return Err(OrNoMemory::Fault(JobRefusal::NoRoot));
@@ -99,16 +103,20 @@ impl Job {
         if !is_within_bounds(&kind, limit) {
             return Err(OrNoMemory::Fault(JobRefusal::OutOfRange));
         }
+        if !kind.may_weigh() {
+            return Err(OrNoMemory::Fault(JobRefusal::WeightsOutOfRange));
+        }
         Ok(Job {
             stored,
             root,
             property,
             kind,
             limit,
+            edition,
         })
     }
 
-    /// The run by a seed in place of this job's own choices. Module and property are shared.
+    /// The run by a seed in place of this job's own choices, by the weights that they have. Module and property are shared.
     pub fn by_seed(&self, seed: u64) -> Result<Job, NoMemory>
         ensures { IfOk result (λ job. job ≡ by_seed self.now seed) }
     {
@@ -116,8 +124,9 @@ impl Job {
             stored: self.stored.share()?,
             root: self.root,
             property: self.property.share()?,
-            kind: JobKind::Trial(JobChoices::Seed(seed)),
+            kind: JobKind::Trial(self.kind.reseeded(seed)),
             limit: self.limit,
+            edition: self.edition,
         })
     }
 
@@ -134,6 +143,14 @@ impl Job {
         ensures kept { IsKept self.now }
     {
         self.limit
+    }
+
+    /// The edition, 1 or 2, whose limits its runs have.
+    pub fn edition(&self) -> u32
+        ensures edition { result ≡ self.now.edition }
+        ensures kept { IsEdition self.now.edition }
+    {
+        self.edition
     }
 
     /// How many runs a shrinking may have, from 1 to 1,000; 0 where the job is one run.

@@ -14,6 +14,8 @@ pub enum JobRefusal {
     NoProperty,
     /// `B6`: the limit isn't from 1 to 100,000, or the schedule has more than 100,000 numbers.
     OutOfRange,
+    /// `B7`: a weight isn't from 1 to 9.
+    WeightsOutOfRange,
 }
 
 impl JobRefusal {
@@ -25,6 +27,7 @@ impl JobRefusal {
             JobRefusal::NoRoot => Code::NoRoot,
             JobRefusal::NoProperty => Code::NoProperty,
             JobRefusal::OutOfRange => Code::OutOfRange,
+            JobRefusal::WeightsOutOfRange => Code::WeightsOutOfRange,
         }
     }
 }

@@ -2,22 +2,22 @@
 
 ghost use Rattle.std.specs.Prelude.{◌≡◌, ◌<◌, ◌-◌, IfOk, Some, length, MatchBool};
 ghost use Rattle.rand_pcg.specs.Pcg.{pcg32};
-ghost use Rattle.pf_choice.specs.Choices.{Chooses, IsAt};
+ghost use Rattle.pf_choice.specs.Choices.{Chooses};
 ghost use Rattle.pf_model.specs.Configuration.{Configuration};
 ghost use Rattle.pf_model.specs.Meaning as model;
-ghost use Rattle.pf_model.specs.Meaning.{Means, words_of};
+ghost use Rattle.pf_model.specs.Meaning.{Means};
 ghost use Rattle.pf_model.specs.Reports.{actor_of, label_of, report_of};
 ghost use Rattle.pf_model.specs.Runs.{Stops};
-ghost use Rattle.pf_system.specs.Steps.{MayGo, PassesTo};
+ghost use Rattle.pf_system.specs.Steps.{IsNoteOf, MayGo, PassesTo, noted};
 ghost use Rattle.pf_desks.specs.Desk.{job_meant};
 ghost use Rattle.pf_sched.specs.Parts.{IsRunBy};
 ghost use Rattle.pf_sched.specs.Slices.{IsOver, RunAdvances};
-ghost use Rattle.pf_sched.specs.Traces.{MayHaveGone};
+ghost use Rattle.pf_sched.specs.Traces.{Makes, MayHaveGone, heads_in, ready_in};
 
 use crate::job::Job;
 use pf_choice::Choices;
 use pf_model::report::{Actor, Event, Label, Report};
-use pf_system::System;
+use pf_system::{Enabled, System};
 use pf_terms::NoMemory;
 use std::alloc::Global;
 
@@ -47,12 +47,14 @@ fn pass(
     }
 }
 
-/// Which of so many the next word chooses, from 0 on. A word is drawn where there is but one, too.
-fn choose(choices: &mut Choices, among: usize) -> usize
-    requires { 0 < among }
-    ensures { Chooses pcg32 choices.old among result choices.new }
+/// Which of the actors that may go the next word chooses, from 0 on. A word is drawn where there is but one, too.
+fn choose(choices: &mut Choices, enabled: &Enabled<'_>) -> usize
+    requires { 0 < length (noted enabled.now) }
+    ensures chooses { (c : Configuration) → IsNoteOf enabled.now c
+        → Chooses pcg32 choices.old (ready_in c) (heads_in c) result choices.new }
+    ensures one { result < length (noted enabled.now) }
 {
-    choices.next(among)
+    choices.next_of(enabled.processes(), enabled.channels())
 }
 
 /// The transition of the actor that the next word chooses, within the steps that are left; none where nobody may go.
@@ -71,7 +73,7 @@ fn go(
     if among == 0 {
         return Ok(None);
     }
-    let index = choose(choices, among);
+    let index = choose(choices, &enabled);
     let actor = enabled.actor(index);
     let (label, _) = pass(alloc, system, actor, left)?;
     let Ok(choice) = u32::try_from(index) else {
@@ -99,12 +101,12 @@ fn is_over(system: &System, limit: u32) -> bool
 impl Run {
     /// The run of a job by these choices, before its first event.
     pub fn new(alloc: Global, job: &Job, choices: Choices) -> Result<Run, NoMemory>
-        ensures run { (cs : model.Choices) → IsAt pcg32 (words_of cs) 0 choices
+        ensures run { (cs : model.Choices) → Makes cs choices
             → IfOk result (λ r. IsRunBy job.now cs r) }
         ensures first { IfOk result (λ r. length r.events.items ≡ 0) }
     {
         Ok(Run {
-            system: System::new(alloc, job.module(), job.root)?,
+            system: System::new(alloc, job.module(), job.root, job.edition())?,
             choices,
             events: Vec::new(alloc),
         })

@@ -9,13 +9,13 @@ use Rattle.pf_terms.specs.declared.term.Term.TheVariants as term
 use Rattle.pf_ops.specs.Operations.{truth}
 use Rattle.pf_ops.specs.Guards.{truth_of}
 use Rattle.pf_model.specs.Maps.{got, has, put, without}
-use Rattle.pf_model.specs.Contraction.{send, link, unlink, monitor, demonitor, exit_other, set_flag, register, unregister, whereis, make_ref}
+use Rattle.pf_model.specs.Contraction.{send, link, unlink, monitor, exit_other, set_flag, register, unregister, whereis, make_ref}
 use Rattle.pf_model.specs.Channels as signal
 use Rattle.pf_model.specs.Channels.{Signal, Channels, sent}
 use Rattle.pf_model.specs.Configuration.{Process, Core, of, process_at, posted}
 use Rattle.pf_model.specs.Labels as label
 use Rattle.pf_model.specs.Reports.{label_of}
-use Rattle.pf_model.specs.Actions.{Acted, acted, gives, raising, given, only_if, as_pid, as_atom, as_reference, receiver, linked_to, linked_with, unlinked_from, monitored, demonitored, flag_set, may_register, registered, unregistered, pid_or_undefined}
+use Rattle.pf_model.specs.Actions.{Acted, acted, gives, raising, given, only_if, as_pid, as_atom, as_reference, receiver, linked_to, linked_with, unlinked_from, monitored, demonitored, demonitored_so, flag_set, may_register, registered, unregistered, pid_or_undefined}
 use Rattle.pf_ties.specs.Ties as ties
 use Rattle.pf_ties.specs.Laws as law
 use Rattle.pf_ties.specs.Laws.{ties_of}
@@ -51,7 +51,7 @@ not_atom (term.Pid p) h = refl
 not_atom (term.Tuple vs) h = refl
 not_atom (term.List l) h = refl
 
-given_none : {T : Type 0} (c : Core) (o : Option T) (go : T → Acted) → o ≡ None → given c o go ≡ raising c badarg
+pub given_none : {T : Type 0} (c : Core) (o : Option T) (go : T → Acted) → o ≡ None → given c o go ≡ raising c badarg
 given_none c o go e = ap (λ q. given c q go) e
 
 -- a signal that goes out on a condition
@@ -104,10 +104,6 @@ module _ (a : ℕ) (b b' : Bonds) (r : Answer) where
   kind_refused v w p e f k q m c t =
       raised (acted m c a (monitor v w)) c t
       (ap (λ z. given c (as_pid z) (λ p. only_if c (same v process) (monitored c a p))) e ∙ ap (λ z. only_if c z (monitored c a p)) f) k q
-
-  pub demonitor_refused : (v : Value) → as_reference v ≡ None → Refuses → b' ≡ b → ActsAs a (demonitor v) b r b'
-  demonitor_refused v e k q m c t =
-      raised (acted m c a (demonitor v)) c t (given_none c (as_reference v) (λ x. demonitored c a x (got x (of c a).active)) e) k q
 
   pub exit_refused : (v w : Value) → as_pid v ≡ None → Refuses → b' ≡ b → ActsAs a (exit_other v w) b r b'
   exit_refused v w e k q m c t =
@@ -207,20 +203,28 @@ module _ (a : ℕ) (b b' : Bonds) (r : Answer) where
   demonitored_sent c k None = refl
   demonitored_sent c k (Some p) = refl
 
-  demonitored_answers : (c : Core) (k : ℕ) (o : Option ℕ) → GivesTrue (label.demonitors k) → Answers r (demonitored c a k o)
+  demonitored_answers : (c : Core) (k : ℕ) (o : Option ℕ) → GivesTrue (label.demonitors false k) → Answers r (demonitored c a k o)
   demonitored_answers c k None x = x _ _
   demonitored_answers c k (Some p) x = x _ _
 
-  pub demonitors_so : (v : Value) (k : ℕ) (o : Option ℕ) → v ≡ ref k → o ≡ got k (ties.of b.ties a).active → b'.ties ≡ ties.demonitored b.ties a k
-      → b'.channels ≡ posted a (to_watched k o) b.channels → GivesTrue (label.demonitors k) → ActsAs a (demonitor v) b r b'
-  demonitors_so v k o e n q s x m c t =
-      let f : o ≡ got k (of c a).active = n ∙ ap (λ z. got k (ties.of z a).active) (sym t) ∙ ap (λ z. got k z.active) (ties_at_of a c.processes) in
-      subst (λ z. ActedSo (given c (as_reference z) (λ x. demonitored c a x (got x (of c a).active))) a b r b') (sym e)
-      (record {
-        ties = follow_actions.demonitor c a k ∙ ap (λ z. ties.demonitored z a k) t ∙ sym q;
-        channels = s ∙ ap (λ z. posted a (to_watched k z) b.channels) f ∙ ap (λ z. posted a z b.channels) (sym (demonitored_sent c k (got k (of c a).active)));
-        answers = demonitored_answers c k (got k (of c a).active) x;
-      })
+  so_sent : (c : Core) (k : ℕ) (f : Bool) → (demonitored_so c a k f).left.sent ≡ to_watched k (got k (of c a).active)
+  so_sent c k false = demonitored_sent c k (got k (of c a).active)
+  so_sent c k true = demonitored_sent c k (got k (of c a).active)
+
+  so_answers : (c : Core) (k : ℕ) (f : Bool) → GivesTrue (label.demonitors f k) → Answers r (demonitored_so c a k f)
+  so_answers c k false x = demonitored_answers c k (got k (of c a).active) x
+  so_answers c k true x = x _ _
+
+  pub demonitors_so : (k : ℕ) (f : Bool) (o : Option ℕ) → o ≡ got k (ties.of b.ties a).active → b'.ties ≡ ties.demonitored b.ties a k
+      → b'.channels ≡ posted a (to_watched k o) b.channels → GivesTrue (label.demonitors f k)
+      → (c : Core) → ties_of c ≡ b.ties → ActedSo (demonitored_so c a k f) a b r b'
+  demonitors_so k f o n q s x c t =
+      let g : o ≡ got k (of c a).active = n ∙ ap (λ z. got k (ties.of z a).active) (sym t) ∙ ap (λ z. got k z.active) (ties_at_of a c.processes) in
+      record {
+        ties = follow_actions.demonitor_with c a k f ∙ ap (λ z. ties.demonitored z a k) t ∙ sym q;
+        channels = s ∙ ap (λ z. posted a (to_watched k z) b.channels) g ∙ ap (λ z. posted a z b.channels) (sym (so_sent c k f));
+        answers = so_answers c k f x;
+      }
 
   pub makes_so : (k : ℕ) → k ≡ b.ties.next_reference → b'.ties ≡ ties.reference_made b.ties → b'.channels ≡ b.channels → told_of r.value ≡ Ok (ref k)
       → label_of r.label ≡ label.makes_reference k → ActsAs a make_ref b r b'

@@ -80,6 +80,8 @@ called_goes own b.register (more n (more p none)) = tt
 called_goes own b.unregister (more n none) = tt
 called_goes own b.whereis (more n none) = tt
 called_goes own b.make_ref none = tt
+called_goes own b.spawn_monitor (more m (more f (more vs none))) = tt
+called_goes own b.demonitor_with (more r (more o none)) = tt
 called_goes own f vs = computed_goes (computed own f vs)
 
 module _ (m : Code) (own : ℕ) where

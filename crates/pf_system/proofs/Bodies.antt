@@ -46,11 +46,12 @@ joined_again [] = refl
 joined_again (p ∷ ps) = ap (λ z. p ∷ z) (joined_again ps)
 
 abbrev with_list : Core → List Process → Core
-with_list c ps = record { processes = ps; names = c.names; next_reference = c.next_reference }
+with_list c ps = record { processes = ps; names = c.names; next_reference = c.next_reference; most = c.most }
 
-pub core_again : (c : Core) (bs : List Body) (t : AllTies) → bodies_of c ≡ bs → ties_of c ≡ t → core_with bs t ≡ c
-core_again c bs t e f =
-    ap (λ b. core_with b t) (sym e) ∙ ap (core_with (bodies_of c)) (sym f) ∙ ap (with_list c) (joined_again c.processes)
+pub core_again : (c : Core) (bs : List Body) (t : AllTies) (n : ℕ) → bodies_of c ≡ bs → ties_of c ≡ t → c.most ≡ n → core_with bs t n ≡ c
+core_again c bs t n e f g =
+    ap (λ b. core_with b t n) (sym e) ∙ ap (λ z. core_with (bodies_of c) z n) (sym f) ∙ ap (core_with (bodies_of c) (ties_of c)) (sym g)
+    ∙ ap (with_list c) (joined_again c.processes)
 
 -- ---- one process
 

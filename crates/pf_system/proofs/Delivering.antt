@@ -40,7 +40,7 @@ at_map (suc a) (p ∷ ps) = at_map a ps
 pub ties_here : (w : World) (c : Core) (b : ℕ) → Stands w c → ties.of w.bonds.ties b ≡ process_ties (of c b)
 ties_here w c b h = ap (λ z. ties.of z b) (sym h.ties) ∙ at_map b c.processes
 
-at_set : (b : ℕ) (ps : List Process) (q : Process) → b < length ps → process_at b (slice_set ps b q) ≡ q
+pub at_set : (b : ℕ) (ps : List Process) (q : Process) → b < length ps → process_at b (slice_set ps b q) ≡ q
 at_set b [] q l = absurd (omega arith)
 at_set zero (p ∷ ps) q l = refl
 at_set (suc b) (p ∷ ps) q l = at_set b ps q (omega arith)
@@ -57,7 +57,7 @@ shaped w c b h e =
     let there = lives_there b w.bonds.ties.processes e in
     let rows = h.room.rows in
     let few = h.room.few in
-    record { there = omega arith; ties = omega arith; rows = omega arith; few = omega arith }
+    record { there = omega arith; ties = omega arith; rows = omega arith; few = omega arith; within = h.room.within }
 
 -- ---- a signal at a process that ended
 
@@ -66,7 +66,7 @@ pub dropped_there : (w : World) (c : Core) (b : ℕ) (s : Signal) (l : Label) �
 dropped_there w c b s l h e = record { done = done_so w w b (leaving c []) h h.room.rows refl refl; label = e }
 
 -- one signal goes back
-pub replied : (w w' : World) (c : Core) (b to : ℕ) (s : Signal) → Stands w c → w'.slots.items ≡ w.slots.items → w'.ready ≡ w.ready → w'.module ≡ w.module
+pub replied : (w w' : World) (c : Core) (b to : ℕ) (s : Signal) → Stands w c → w'.slots.items ≡ w.slots.items → w'.ready ≡ w.ready → w'.basis ≡ w.basis
     → w'.bonds.ties ≡ w.bonds.ties → w'.bonds.channels ≡ sent b to s w.bonds.channels → Done b (leaving c ((to, s) ∷ [])) w.bonds.channels w w'
 replied w w' c b to s h e r m t k =
     let n = sent_length b to s w.bonds.channels in
@@ -77,15 +77,15 @@ replied w w' c b to s h e r m t k =
 
 -- a message, after its ties were changed
 pub with_mail : (w w1 w' : World) (c : Core) (b : ℕ) (v : Value) → PlacedSo c b v w1 w' → length c.processes ≤ length w.bonds.channels
-    → w1.bonds.channels ≡ w.bonds.channels → w1.module ≡ w.module
+    → w1.bonds.channels ≡ w.bonds.channels → w1.basis ≡ w.basis
     → Done b (leaving (with_process c b (with_message (of c b) v)) []) w.bonds.channels w w'
 with_mail w w1 w' c b v h n e m =
     let k = set_length b c.processes (with_message (of c b) v) in
-    done_so w w' b (leaving (with_process c b (with_message (of c b) v)) []) h.stands (omega arith) (ap (λ z. z.channels) h.bonds ∙ e) (h.code ∙ m)
+    done_so w w' b (leaving (with_process c b (with_message (of c b) v)) []) h.stands (omega arith) (ap (λ z. z.channels) h.bonds ∙ e) (h.basis ∙ m)
 
 -- ties alone
 pub tied_so : (w w' : World) (c : Core) (b : ℕ) (p : Process) → Stands w c → process_body p ≡ process_body (of c b)
-    → w'.slots.items ≡ w.slots.items → w'.ready ≡ w.ready → w'.module ≡ w.module
+    → w'.slots.items ≡ w.slots.items → w'.ready ≡ w.ready → w'.basis ≡ w.basis
     → ties_of (with_process c b p) ≡ w'.bonds.ties → w'.bonds.channels ≡ w.bonds.channels → Done b (leaving (with_process c b p) []) w.bonds.channels w w'
 tied_so w w' c b p h y e r m t k =
     let n = set_length b c.processes p in
@@ -102,7 +102,7 @@ abbrev forgets : Core → ℕ → ℕ → Core
 forgets c b r = with_process c b (record (of c b) { active = without r (of c b).active })
 
 module _ (w w1 w' : World) (c : Core) (a b r : ℕ) (v : Value) (x : Suffix) (h : Stands w c)
-    (slots : w1.slots.items ≡ w.slots.items) (ready : w1.ready ≡ w.ready) (code : w1.module ≡ w.module)
+    (slots : w1.slots.items ≡ w.slots.items) (ready : w1.ready ≡ w.ready) (basis : w1.basis ≡ w.basis)
     (changed : w1.bonds.ties ≡ ties.demonitored w.bonds.ties b r) (rows : w1.bonds.channels ≡ w.bonds.channels) where
   active_here : (t : Bool) → t ≡ is_some (got r (ties.of w.bonds.ties b).active) → is_some (got r (of c b).active) ≡ t
   active_here t e = sym (e ∙ ap (λ z. is_some (got r z.active)) (ties_here w c b h))
@@ -117,7 +117,7 @@ module _ (w w1 w' : World) (c : Core) (a b r : ℕ) (v : Value) (x : Suffix) (h 
       let n = ap length rows in
       subst (λ z. SuffixShown b (signal.down r v) z w x w1) (sym d)
       (record {
-        done = done_so w w1 b (leaving c []) (rows_more w w1 c slots ready code h t (omega arith)) h.room.rows rows code;
+        done = done_so w w1 b (leaving c []) (rows_more w w1 c slots ready basis h t (omega arith)) h.room.rows rows basis;
         label = ap (delivers (signal.down r v)) q;
       })
 
@@ -126,7 +126,7 @@ module _ (w w1 w' : World) (c : Core) (a b r : ℕ) (v : Value) (x : Suffix) (h 
       let t : ties_of (forgets c b r) ≡ w1.bonds.ties =
       ap (λ o. ties_of (actions.demonitored c b r o).left.core) (sym e) ∙ follow_actions.demonitor c b r
       ∙ ap (λ z. ties.demonitored z b r) h.ties ∙ sym changed in
-      tied w w1 c slots ready code b (record (of c b) { active = without r (of c b).active }) h refl t rows
+      tied w w1 c slots ready basis b (record (of c b) { active = without r (of c b).active }) h refl t rows
 
   down_by : (o : Option ℕ) → got r (of c b).active ≡ o → is_some o ≡ true → b < length c.processes → is_alive (of c b).state ≡ true
       → suffix_of x ≡ label.took_effect → Places b (deliveries.down_message r a v) w1 w'
@@ -143,7 +143,7 @@ module _ (w w1 w' : World) (c : Core) (a b r : ℕ) (v : Value) (x : Suffix) (h 
       let n = set_length b c.processes y in
       let size = h.room.rows in
       record {
-        done = subst (λ z. Done b (leaving z []) w.bonds.channels w w') same (with_mail w w1 w' (forgets c b r) b m put (omega arith) rows code);
+        done = subst (λ z. Done b (leaving z []) w.bonds.channels w w') same (with_mail w w1 w' (forgets c b r) b m put (omega arith) rows basis);
         label = ap (delivers (signal.down r v)) q;
       }
 
@@ -157,14 +157,14 @@ module _ (w w1 w' : World) (c : Core) (a b r : ℕ) (v : Value) (x : Suffix) (h 
 -- ---- exit signals
 
 module _ (w w1 w' : World) (c : Core) (a b : ℕ) (by_link : Bool) (r : Value) (x : Suffix) (h : Stands w c) (l : b < length w.slots.items)
-    (slots : w1.slots.items ≡ w.slots.items) (ready : w1.ready ≡ w.ready) (code : w1.module ≡ w.module)
+    (slots : w1.slots.items ≡ w.slots.items) (ready : w1.ready ≡ w.ready) (basis : w1.basis ≡ w.basis)
     (changed : w1.bonds.ties ≡ ties.exit_placed w.bonds.ties a b by_link) (rows : w1.bonds.channels ≡ w.bonds.channels) where
   abbrev given : Bool → Core
   given t = if t then with_process c b (record (of c b) { links = without_number a (of c b).links }) else c
 
   given_stands : (t : Bool) → ties_of (given t) ≡ w1.bonds.ties → Stands w1 (given t)
-  given_stands true e = tied w w1 c slots ready code b (record (of c b) { links = without_number a (of c b).links }) h refl e rows
-  given_stands false e = let n = ap length rows in rows_more w w1 c slots ready code h e (omega arith)
+  given_stands true e = tied w w1 c slots ready basis b (record (of c b) { links = without_number a (of c b).links }) h refl e rows
+  given_stands false e = let n = ap length rows in rows_more w w1 c slots ready basis h e (omega arith)
 
   pub unlinked_stands : Stands w1 (without_link c a b by_link)
   unlinked_stands =
@@ -202,7 +202,7 @@ module _ (w w1 w' : World) (c : Core) (a b : ℕ) (by_link : Bool) (r : Value) (
       by_fate fates.drops e
       (record {
         done = subst (Done b (leaving (without_link c a b by_link) []) w.bonds.channels w) (sym same)
-            (done_so w w1 b (leaving (without_link c a b by_link) []) unlinked_stands rows_enough rows code);
+            (done_so w w1 b (leaving (without_link c a b by_link) []) unlinked_stands rows_enough rows basis);
         label = ap (delivers (signal.exit by_link r)) q;
       })
 
@@ -213,7 +213,7 @@ module _ (w w1 w' : World) (c : Core) (a b : ℕ) (by_link : Bool) (r : Value) (
       by_fate fates.becomes_message e
       (record {
         done = with_mail w w1 w' (without_link c a b by_link) b (deliveries.exit_message a r)
-            (places (without_link c a b by_link) unlinked_stands (alive_still alive)) rows_enough rows code;
+            (places (without_link c a b by_link) unlinked_stands (alive_still alive)) rows_enough rows basis;
         label = ap (delivers (signal.exit by_link r)) q;
       })
 
@@ -226,7 +226,7 @@ module _ (w w1 w' : World) (c : Core) (a b : ℕ) (by_link : Bool) (r : Value) (
         done = record {
           stands = k.stands;
           channels = k.channels ∙ ap (λ cs. posted b (ended_by (without_link c a b by_link) b (failed v)).sent (with_senders (length (ended_by (without_link c a b by_link) b (failed v)).core.processes) cs)) rows;
-          code = k.code ∙ code;
+          basis = k.basis ∙ basis;
         };
         label = ap (delivers (signal.exit by_link r)) q;
       })
@@ -234,13 +234,13 @@ module _ (w w1 w' : World) (c : Core) (a b : ℕ) (by_link : Bool) (r : Value) (
 -- ---- a signal that was taken from its channel
 
 pub delivered_so : (w w1 w' : World) (c : Core) (from to : ℕ) (s : Signal) (l : Label) → taken from to w.bonds.channels ≡ Some (s, w1.bonds.channels)
-    → w1.module ≡ w.module → Shown to (delivered c from to s) w1.bonds.channels w1 l w' → Delivered c from to w l w'
+    → w1.basis ≡ w.basis → Shown to (delivered c from to s) w1.bonds.channels w1 l w' → Delivered c from to w l w'
 delivered_so w w1 w' c from to s l e m h =
     record {
       signal = s;
       others = w1.bonds.channels;
       is_taken = e;
-      shown = record { done = record { stands = h.done.stands; channels = h.done.channels; code = h.done.code ∙ m }; label = h.label };
+      shown = record { done = record { stands = h.done.stands; channels = h.done.channels; basis = h.done.basis ∙ m }; label = h.label };
     }
 
 pub by_life : (c : Core) (a b : ℕ) (s : Signal) (t : Bool) → t ≡ is_alive (of c b).state → delivered c a b s ≡ (if t then at_living c a b s else at_ended c a s)

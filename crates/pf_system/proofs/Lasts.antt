@@ -75,7 +75,7 @@ module _ (w : World) (c : Core) (a : ℕ) (x : Standing) (s : Slot) (but : Stand
         done = record {
           stands = subst (λ z. Stands w (in_state c a t z)) k (goes_in t e g);
           channels = quiet_channels t (of c a).mailbox;
-          code = refl;
+          basis = refl;
         };
         label = q;
       }
@@ -92,7 +92,7 @@ module _ (w : World) (c : Core) (a : ℕ) (x : Standing) (s : Slot) (but : Stand
           done = record {
             stands = goes_in (running (fill h.frames h.body)) h.stands refl;
             channels = quiet_channels (running (fill h.frames h.body)) s.mailbox.messages;
-            code = refl;
+            basis = refl;
           };
           label = q;
         };

@@ -13,6 +13,7 @@ pub mod Spawning
 pub mod Shown
 pub mod Delivering
 pub mod Receiving
+pub mod Flushes
 pub mod Going
 pub mod Passing
 pub mod Beginning

@@ -25,11 +25,11 @@ pub stands_itself : (w : World) (c : Core) → Stands w c → Stands w (core_of 
 stands_itself w c h = subst (Stands w) (sym (again w c h)) h
 
 -- the world of a system is kept where the code of another stays
-pub kept_after : (m : Code) (w w' : World) (c : Core) → IsWorldOf m w → Stands w' c → w'.module ≡ w.module → IsWorldOf m w'
-kept_after m w w' c h s e = record { stands = stands_itself w' c s; code = ap (λ z. code_of z.value) e ∙ h.code }
+pub kept_after : (m : Code) (w w' : World) (c : Core) → IsWorldOf m w → Stands w' c → w'.basis ≡ w.basis → IsWorldOf m w'
+kept_after m w w' c h s e = record { stands = stands_itself w' c s; code = ap (λ z. code_of z.module.value) e ∙ h.code }
 
 pub still_kept : (m : Code) (w w' : World) (from to : ℕ) (l : Label) → IsWorldOf m w → Delivered (core_of w) from to w l w' → IsWorldOf m w'
-still_kept m w w' from to l k h = kept_after m w w' (delivered (core_of w) from to h.signal).left.core k h.shown.done.stands h.shown.done.code
+still_kept m w w' from to l k h = kept_after m w w' (delivered (core_of w) from to h.signal).left.core k h.shown.done.stands h.shown.done.basis
 
 pub delivery_passes : (m : Code) (w w' : World) (k from to : ℕ) (l : Label) → Delivered (core_of w) from to w l w'
     → PassesTo 1 (system_view m k (Some (configuration_of w))) (channel from to) (label_of l) 1

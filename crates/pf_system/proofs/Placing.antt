@@ -60,7 +60,7 @@ module _ (w w' : World) (b : ℕ) (v : Value) (s s' : Slot) where
   pub placed : (t : Bool) → slice_get w.slots.items b ≡ Some s
       → ((m : Code) (own : ℕ) → SlotIsSound m own s → PutsIn m own (with_one v (slot_body s)) s')
       → ((m : Code) (own : ℕ) → SlotIsSound m own s → t ≡ is_waiting (state_of s.life))
-      → w'.slots.items ≡ slice_set w.slots.items b s' → w'.bonds ≡ w.bonds → w'.module ≡ w.module
+      → w'.slots.items ≡ slice_set w.slots.items b s' → w'.bonds ≡ w.bonds → w'.basis ≡ w.basis
       → w'.ready ≡ (if t then with_number b w.ready else w.ready) → Places b v w w'
   placed t at puts waits e k m r c h alive =
       let l = get_within b w.slots.items s at in
@@ -74,5 +74,5 @@ module _ (w w' : World) (b : ℕ) (v : Value) (s s' : Slot) where
         stands = put_back w w' c b s' (with_message (of c b) v) (stands_but w c b h l) (ap (with_one v) y ∙ sym put.is) (message_ties (of c b) v) put.sound
             e k m (ready_so c t h n q r);
         bonds = k;
-        code = m;
+        basis = m;
       }

@@ -36,7 +36,7 @@ drops_there w c a b (code.Exit l t) x y h = dropped_there w c b (signal.exit l (
 
 -- the ties and all else stay, and one signal goes back
 module _ (w w' : World) (c : Core) (a b : ℕ) (s reply : Program) (h : Stands w c) (slots : w'.slots.items ≡ w.slots.items) (ready : w'.ready ≡ w.ready)
-    (same : w'.module ≡ w.module) (ties : w'.bonds.ties ≡ w.bonds.ties) (goes : w'.bonds.channels ≡ sent b a (signal_of reply) w.bonds.channels) where
+    (same : w'.basis ≡ w.basis) (ties : w'.bonds.ties ≡ w.bonds.ties) (goes : w'.bonds.channels ≡ sent b a (signal_of reply) w.bonds.channels) where
   pub link_answered : s ≡ code.Link → signal_of reply ≡ signal.exit true noproc
       → Shown b (at_ended c a (signal_of s)) w.bonds.channels w (shows.Delivers s suffix.NoProcess) w'
   link_answered e f =

@@ -6,27 +6,30 @@ use Rattle.pf_terms.specs.Fixed.{undefined, process, trap_exit}
 use Rattle.pf_terms.specs.Term.{value_of}
 use Rattle.pf_ops.specs.Guards.{truth_of}
 use Rattle.pf_syntax.specs.Tree.{Tree}
-use Rattle.pf_model.specs.Maps.{got, put, without, has, with_number, without_number}
+use Rattle.pf_model.specs.Maps.{put, without, has, with_number, without_number}
 use Rattle.pf_model.specs.Code.{Code, code_of}
 use Rattle.pf_model.specs.Contraction.{Act}
-use Rattle.pf_model.specs.Channels.{with_senders}
+use Rattle.pf_model.specs.Channels.{Signal, Channels, with_senders}
 use Rattle.pf_model.specs.Configuration.{Process, Core, of, with_process, with_state, process_at, posted, is_alive}
-use Rattle.pf_model.specs.Actions.{Acted, acted, given, only_if, as_pid, as_atom, as_reference, receiver, linked_to, unlinked_from, monitored, demonitored, flag_set, may_register, registered, unregistered}
+use Rattle.pf_model.specs.Actions.{Acted, acted, raising, given, only_if, as_pid, as_atom, receiver, linked_to, unlinked_from, monitored, demonitored, flag_set, may_register, registered, unregistered}
 use Rattle.pf_model.specs.Place.{State, running, waiting, ending, ended, failed}
 use Rattle.pf_model.specs.Runs.{can_go}
 use Rattle.pf_model.specs.Turns.{answered}
-use Rattle.pf_ties.specs.Laws.{process_ties}
+use Rattle.pf_model.specs.declared.limits.TheConstants.{MOST_PROCESSES}
+use Rattle.pf_ties.specs.Laws.{process_ties, ties_of}
 use Rattle.pf_stepper.specs.Acts.{act_of}
-use Rattle.pf_stepper.specs.MachineView.{goes, asking}
+use Rattle.pf_stepper.specs.MachineView.{Standing, goes, asking}
 use Rattle.pf_stepper.specs.Turns.{told_of}
 use Rattle.pf_stepper.specs.declared.act.Act.{Act as Asked}
 use Rattle.pf_stepper.specs.declared.act.Act.TheVariants as a
 use Rattle.pf_system.specs.Bodies.{Body, body, process_body, bodies_of}
-use Rattle.pf_system.specs.Slots.{slot_body, SlotIsSound, SlotsAreSound, AnswersIn, PutsIn, SlotIsLeft}
+use Rattle.pf_system.specs.Slots.{slot_body, SlotIsSound, SlotsAreSound, AnswersIn, PutsIn, LifeIsLeft, SlotIsLeft}
 use Rattle.pf_system.specs.Worlds.{Stands, StandsBut, code_in, bodies_in}
-use Rattle.pf_system.specs.Acts.{ActsAs, ActsIn, IsBetween, KeepsSlot, ShowsAct}
+use Rattle.pf_system.specs.Acts.{Answers, ActedSo, ActsAs, ActedIn, ActsIn, IsBetween, KeepsLife, KeepsSlot, ShowsAct}
 use Rattle.pf_system.specs.Settled.{WaitsIn}
 use Rattle.pf_system.specs.declared.bonds.Answer.{Answer}
+use Rattle.pf_system.specs.declared.slot.Life.{Life}
+use Rattle.pf_system.specs.declared.slot.Life.TheVariants as life
 use Rattle.pf_system.specs.declared.slot.Slot.{Slot}
 use Rattle.pf_system.specs.declared.world.World.{World}
 use Rattle.pf_system.proofs.Bodies.{bodies_same, length_of, map_length, set_length}
@@ -34,56 +37,61 @@ use Rattle.pf_system.proofs.Ready.{numbers_alike, numbers_kept}
 use Rattle.pf_system.proofs.Rows.{enough_senders, posted_length}
 use Rattle.pf_system.proofs.Worlds.{put_back, goes_no_more}
 
--- ---- actions that make no process keep all bodies
+-- ---- actions that make no process, and take no message out, keep all bodies
 
-given_bodies : {T : Type 0} (c : Core) (o : Option T) (go : T → Acted) → ((x : T) → bodies_of (go x).left.core ≡ bodies_of c) → bodies_of (given c o go).left.core ≡ bodies_of c
-given_bodies c None go h = refl
-given_bodies c (Some x) go h = h x
+-- all bodies stay, and how many processes there may be
+abbrev pub Keeps : Core → Core → Type 0
+Keeps c d = (bodies_of d ≡ bodies_of c) × (d.most ≡ c.most)
 
-only_bodies : (c : Core) (t : Bool) (x : Acted) → bodies_of x.left.core ≡ bodies_of c → bodies_of (only_if c t x).left.core ≡ bodies_of c
-only_bodies c true x h = h
-only_bodies c false x h = refl
+given_keeps : {T : Type 0} (c : Core) (o : Option T) (go : T → Acted) → ((x : T) → Keeps c (go x).left.core) → Keeps c (given c o go).left.core
+given_keeps c None go h = (refl, refl)
+given_keeps c (Some x) go h = h x
 
-either_bodies : (c : Core) (t : Bool) (x y : Acted) → bodies_of x.left.core ≡ bodies_of c → bodies_of y.left.core ≡ bodies_of c
-    → bodies_of (if t then x else y).left.core ≡ bodies_of c
-either_bodies c true x y h k = h
-either_bodies c false x y h k = k
+only_keeps : (c : Core) (t : Bool) (x : Acted) → Keeps c x.left.core → Keeps c (only_if c t x).left.core
+only_keeps c true x h = h
+only_keeps c false x h = (refl, refl)
+
+either_keeps : (c : Core) (t : Bool) (x y : Acted) → Keeps c x.left.core → Keeps c y.left.core → Keeps c (if t then x else y).left.core
+either_keeps c true x y h k = h
+either_keeps c false x y h k = k
 
 module _ (m : Code) (c : Core) (n : ℕ) where
-  links_bodies : (ls : List ℕ) → bodies_of (with_process c n (record (of c n) { links = ls })) ≡ bodies_of c
-  links_bodies ls = bodies_same c n (record (of c n) { links = ls }) refl
+  links_keep : (ls : List ℕ) → Keeps c (with_process c n (record (of c n) { links = ls }))
+  links_keep ls = (bodies_same c n (record (of c n) { links = ls }) refl, refl)
 
   active_bodies : (rs : List (ℕ × ℕ)) → bodies_of (with_process c n (record (of c n) { active = rs })) ≡ bodies_of c
   active_bodies rs = bodies_same c n (record (of c n) { active = rs }) refl
 
-  link_bodies : (p : ℕ) → bodies_of (linked_to c n p).left.core ≡ bodies_of c
-  link_bodies p = either_bodies c ((p == n) || has p (of c n).links) _ _ refl (links_bodies (with_number p (of c n).links))
+  link_keeps : (p : ℕ) → Keeps c (linked_to c n p).left.core
+  link_keeps p = either_keeps c ((p == n) || has p (of c n).links) _ _ (refl, refl) (links_keep (with_number p (of c n).links))
 
-  unlink_bodies : (p : ℕ) → bodies_of (unlinked_from c n p).left.core ≡ bodies_of c
-  unlink_bodies p = either_bodies c (has p (of c n).links) _ _ (links_bodies (without_number p (of c n).links)) refl
+  unlink_keeps : (p : ℕ) → Keeps c (unlinked_from c n p).left.core
+  unlink_keeps p = either_keeps c (has p (of c n).links) _ _ (links_keep (without_number p (of c n).links)) (refl, refl)
 
-  demonitor_bodies : (r : ℕ) (o : Option ℕ) → bodies_of (demonitored c n r o).left.core ≡ bodies_of c
-  demonitor_bodies r None = refl
-  demonitor_bodies r (Some p) = active_bodies (without r (of c n).active)
+  pub demonitor_keeps : (r : ℕ) (o : Option ℕ) → Keeps c (demonitored c n r o).left.core
+  demonitor_keeps r None = (refl, refl)
+  demonitor_keeps r (Some p) = (active_bodies (without r (of c n).active), refl)
 
-  flag_bodies : (b : Bool) → bodies_of (flag_set c n b).left.core ≡ bodies_of c
-  flag_bodies b = bodies_same c n (record (of c n) { traps_exits = b }) refl
+  flag_keeps : (b : Bool) → Keeps c (flag_set c n b).left.core
+  flag_keeps b = (bodies_same c n (record (of c n) { traps_exits = b }) refl, refl)
 
-  acted_bodies : (x : Asked) → IsBetween x → bodies_of (acted m c n (act_of x)).left.core ≡ bodies_of c
-  acted_bodies (a.Send to v) h = given_bodies c (receiver c (value_of to)) _ (λ p. refl)
-  acted_bodies (a.Spawn l w f vs) h = absurd h
-  acted_bodies (a.Link p) h = given_bodies c (as_pid (value_of p)) (linked_to c n) link_bodies
-  acted_bodies (a.Unlink p) h = given_bodies c (as_pid (value_of p)) (unlinked_from c n) unlink_bodies
-  acted_bodies (a.Monitor k p) h =
-      given_bodies c (as_pid (value_of p)) _ (λ b. only_bodies c (same (value_of k) process) (monitored c n b) (active_bodies (put c.next_reference b (of c n).active)))
-  acted_bodies (a.Demonitor r) h = given_bodies c (as_reference (value_of r)) _ (λ k. demonitor_bodies k (got k (of c n).active))
-  acted_bodies (a.ExitOther p r) h = given_bodies c (as_pid (value_of p)) _ (λ b. refl)
-  acted_bodies (a.SetFlag k v) h = given_bodies c (truth_of (value_of v)) _ (λ b. only_bodies c (same (value_of k) trap_exit) (flag_set c n b) (flag_bodies b))
-  acted_bodies (a.Register x p) h =
-      given_bodies c (as_atom (value_of x)) _ (λ k. given_bodies c (as_pid (value_of p)) (registered c k) (λ q. only_bodies c (may_register c k q) _ refl))
-  acted_bodies (a.Unregister x) h = given_bodies c (as_atom (value_of x)) (unregistered c) (λ k. only_bodies c _ _ refl)
-  acted_bodies (a.Whereis x) h = given_bodies c (as_atom (value_of x)) _ (λ k. refl)
-  acted_bodies a.MakeRef h = refl
+  acted_keeps : (x : Asked) → IsBetween x → Keeps c (acted m c n (act_of x)).left.core
+  acted_keeps (a.Send to v) h = given_keeps c (receiver c (value_of to)) _ (λ p. (refl, refl))
+  acted_keeps (a.Spawn b w f vs) h = absurd h
+  acted_keeps (a.Link p) h = given_keeps c (as_pid (value_of p)) (linked_to c n) link_keeps
+  acted_keeps (a.Unlink p) h = given_keeps c (as_pid (value_of p)) (unlinked_from c n) unlink_keeps
+  acted_keeps (a.Monitor k p) h =
+      given_keeps c (as_pid (value_of p)) _
+      (λ b. only_keeps c (same (value_of k) process) (monitored c n b) (active_bodies (put c.next_reference b (of c n).active), refl))
+  acted_keeps (a.Demonitor r o) h = absurd h
+  acted_keeps (a.ExitOther p r) h = given_keeps c (as_pid (value_of p)) _ (λ b. (refl, refl))
+  acted_keeps (a.SetFlag k v) h = given_keeps c (truth_of (value_of v)) _ (λ b. only_keeps c (same (value_of k) trap_exit) (flag_set c n b) (flag_keeps b))
+  acted_keeps (a.Register x p) h =
+      given_keeps c (as_atom (value_of x)) _
+      (λ k. given_keeps c (as_pid (value_of p)) (registered c k) (λ q. only_keeps c (may_register c k q) _ (refl, refl)))
+  acted_keeps (a.Unregister x) h = given_keeps c (as_atom (value_of x)) (unregistered c) (λ k. only_keeps c _ _ (refl, refl))
+  acted_keeps (a.Whereis x) h = given_keeps c (as_atom (value_of x)) _ (λ k. (refl, refl))
+  acted_keeps a.MakeRef h = (refl, refl)
 
 -- the body of one process is that of it among all
 abbrev body_in : ℕ → List Body → Body
@@ -101,32 +109,77 @@ one_body n c d e = body_of_in n c.processes ∙ ap (body_in n) e ∙ sym (body_o
 
 -- ---- an action in a world
 
-pub acts_between : (n : ℕ) (x : Asked) (w w' : World) (r : Answer) → IsBetween x → ActsAs n (act_of x) w.bonds r w'.bonds
-    → w'.slots ≡ w.slots → w'.ready ≡ w.ready → w'.module ≡ w.module → ActsIn n (act_of x) w r w'
-acts_between n x w w' r b h s q f c k =
-    let g = h (code_in w) c k.ties in
-    let d : Core = (acted (code_in w) c n (act_of x)).left.core in
-    let e : bodies_of d ≡ bodies_of c = acted_bodies (code_in w) c n x b in
-    let i : length d.processes ≡ length c.processes = length_of d ∙ ap length e ∙ sym (length_of c) in
+pub slot_is : (s t : Slot) → ◌≡◌ {A = Option Slot} (Some s) (Some t) → s ≡ t
+slot_is s t e = cc
+
+-- the slot of a process stays as it was
+pub keeps_slot : (n : ℕ) (w w' : World) → slice_get w'.slots.items n ≡ slice_get w.slots.items n → KeepsSlot n w w'
+keeps_slot n w w' e s h = (s, e ∙ h, record { life = refl; ahead = λ k z. z })
+
+-- nothing but ties and channels is changed
+pub between : (n : ℕ) (c d : Core) (w w' : World) → Keeps c d → ties_of d ≡ w'.bonds.ties → length w.bonds.channels ≤ length w'.bonds.channels
+    → w'.slots ≡ w.slots → w'.ready ≡ w.ready → w'.basis ≡ w.basis → StandsBut w c n → StandsBut w' d n
+between n c d w w' e t y s q f k =
+    let i : length d.processes ≡ length c.processes = length_of d ∙ ap length e.0 ∙ sym (length_of c) in
     let j = k.room.rows in
-    let o = posted_length n (acted (code_in w) c n (act_of x)).left.sent w.bonds.channels in
-    let u : length d.processes ≤ length w.bonds.channels = omega arith in
-    let y = ap length g.channels in
     record {
-      stands = record {
-        there = subst (λ z. n < length z.items) (sym s) k.there;
-        bodies = λ z. ap (λ bs. slice_set bs n z) e ∙ k.bodies z ∙ ap (λ ss. slice_set (map slot_body ss.items) n z) (sym s);
-        ties = g.ties;
-        ready = q ∙ k.ready ∙ numbers_alike can_go zero c d (sym e);
-        slots = λ t z.
-            subst (λ v. SlotsAreSound (code_in w') zero (slice_set v.items n t)) (sym s)
-            (subst (λ v. SlotsAreSound (code_of v.value) zero (slice_set w.slots.items n t)) (sym f) (k.slots t (subst (λ v. SlotIsSound (code_of v.value) n t) f z)));
-        room = record { rows = omega arith; few = let v = k.room.few in omega arith };
+      there = subst (λ z. n < length z.items) (sym s) k.there;
+      bodies = λ z. ap (λ bs. slice_set bs n z) e.0 ∙ k.bodies z ∙ ap (λ ss. slice_set (map slot_body ss.items) n z) (sym s);
+      ties = t;
+      ready = q ∙ k.ready ∙ numbers_alike can_go zero c d (sym e.0);
+      slots = λ t z.
+          subst (λ v. SlotsAreSound (code_in w') zero (slice_set v.items n t)) (sym s)
+          (subst (λ v. SlotsAreSound (code_of v.module.value) zero (slice_set w.slots.items n t)) (sym f) (k.slots t (subst (λ v. SlotIsSound (code_of v.module.value) n t) f z)));
+      room = record {
+        rows = omega arith;
+        few = let v = k.room.few in omega arith;
+        most = e.1 ∙ k.room.most ∙ ap (λ z. z.most) (sym f);
+        within = subst (λ z. z.most ≤ MOST_PROCESSES) (sym f) k.room.within;
       };
-      same = one_body n d c e;
-      channels = g.channels ∙ ap (posted n (acted (code_in w) c n (act_of x)).left.sent) (sym (enough_senders (length d.processes) w.bonds.channels u));
+    }
+
+-- there are rows for all of a core
+pub posted_rows : (n : ℕ) (d : Core) (ss : List (ℕ × Signal)) (cs cs' : Channels) → length d.processes ≤ length cs → cs' ≡ posted n ss cs
+    → cs' ≡ posted n ss (with_senders (length d.processes) cs)
+posted_rows n d ss cs cs' l e = e ∙ ap (posted n ss) (sym (enough_senders (length d.processes) cs l))
+
+pub same_size : (c d : Core) → Keeps c d → length d.processes ≡ length c.processes
+same_size c d e = length_of d ∙ ap length e.0 ∙ sym (length_of c)
+
+pub acted_in : (n : ℕ) (c : Core) (x : Acted) (w w' : World) (r : Answer) → Keeps c x.left.core → ActedSo x n w.bonds r w'.bonds
+    → w'.slots ≡ w.slots → w'.ready ≡ w.ready → w'.basis ≡ w.basis → StandsBut w c n → ActedIn c x n w r w'
+acted_in n c x w w' r e g s q f k =
+    let d : Core = x.left.core in
+    let y = one_body n d c e.0 in
+    let o = posted_length n x.left.sent w.bonds.channels in
+    let l = ap length g.channels in
+    let i = same_size c d e in
+    let j = k.room.rows in
+    record {
+      stands = between n c d w w' e g.ties (omega arith) s q f k;
+      state = ap (λ z. z.state) y;
+      mail = λ t t' h h' m. ap (λ z. z.mailbox.messages) (slot_is t' t (sym h' ∙ ap (λ z. slice_get z.items n) s ∙ h)) ∙ m ∙ ap (λ z. z.mailbox) (sym y);
+      channels = posted_rows n d x.left.sent w.bonds.channels w'.bonds.channels (omega arith) g.channels;
       answers = g.answers;
-      code = f;
+      basis = f;
+    }
+
+pub acts_between : (n : ℕ) (x : Asked) (w w' : World) (r : Answer) → IsBetween x → ActsAs n (act_of x) w.bonds r w'.bonds
+    → w'.slots ≡ w.slots → w'.ready ≡ w.ready → w'.basis ≡ w.basis → ActsIn n (act_of x) w r w'
+acts_between n x w w' r b h s q f c k =
+    acted_in n c (acted (code_in w) c n (act_of x)) w w' r (acted_keeps (code_in w) c n x b) (h (code_in w) c k.ties) s q f k
+
+-- what raises leaves all as it was
+pub raised_in : (n : ℕ) (w : World) (r : Answer) (c : Core) (e : Value) → Answers r (raising c e) → StandsBut w c n → ActedIn c (raising c e) n w r w
+raised_in n w r c e k but =
+    let j = but.room.rows in
+    record {
+      stands = but;
+      state = refl;
+      mail = λ t t' h h' m. ap (λ z. z.mailbox.messages) (slot_is t' t (sym h' ∙ h)) ∙ m;
+      channels = sym (enough_senders (length c.processes) w.bonds.channels (omega arith));
+      answers = k;
+      basis = refl;
     }
 
 -- ---- the process has its slot again
@@ -150,7 +203,7 @@ state_only c n s vs e = ap (in_state c n s) e
 
 module _ (w w' : World) (c : Core) (n : ℕ) (s' : Slot) (state : State) (mail : List Value) where
   abbrev Changes : Type 0
-  Changes = (w'.slots.items ≡ slice_set w.slots.items n s') × (w'.bonds ≡ w.bonds) × (w'.module ≡ w.module)
+  Changes = (w'.slots.items ≡ slice_set w.slots.items n s') × (w'.bonds ≡ w.bonds) × (w'.basis ≡ w.basis)
 
   -- a process that could go still can
   pub goes_again : StandsBut w c n → can_go (of c n).state ≡ true → can_go state ≡ true → PutsIn (code_in w) n (body state mail) s' → Changes → w'.ready ≡ w.ready
@@ -177,31 +230,39 @@ none_sent w w' c d n e h b =
 
 -- ---- an action and its answer
 
-slot_is : (s t : Slot) → ◌≡◌ {A = Option Slot} (Some s) (Some t) → s ≡ t
-slot_is s t e = cc
+-- the machine stands as it did
+left_still : (m : Code) (own : ℕ) (x : Standing) (s s' : Slot) → KeepsLife s s' → SlotIsLeft m own x s → SlotIsLeft m own x s'
+left_still m own x s s' k h = subst (λ l. LifeIsLeft m own x l s'.mailbox) (sym k.life) (by s.life h)
+  where
+    by : (l : Life) → LifeIsLeft m own x l s.mailbox → LifeIsLeft m own x l s'.mailbox
+    by (life.Lives machine waits) h = (h.0, h.1, h.2, k.ahead machine h.3)
+    by (life.Ends r) h = h
+    by (life.Ended e) h = h
 
 pub shows_act : (n : ℕ) (x : Act) (w w1 w' : World) (r : Answer) (s1 s' : Slot) → ActsIn n x w r w1 → KeepsSlot n w w1 → slice_get w1.slots.items n ≡ Some s1
     → ((m : Code) (own : ℕ) (fs : _) → SlotIsLeft m own (asking fs) s1 → AnswersIn m own fs (told_of r.value) s1 s')
-    → w'.slots.items ≡ slice_set w1.slots.items n s' → w'.bonds ≡ w1.bonds → w'.ready ≡ w1.ready → w'.module ≡ w1.module → ShowsAct n x w r.label w'
+    → w'.slots.items ≡ slice_set w1.slots.items n s' → w'.bonds ≡ w1.bonds → w'.ready ≡ w1.ready → w'.basis ≡ w1.basis → ShowsAct n x w r.label w'
 shows_act n x w w1 w' r s1 s' h keeps at ans e b q f c fs s but can left mail =
     let g = h c but in
     let v = acted (code_in w) c n x in
     let d = v.left.core in
-    let same : s1 ≡ s = slot_is s1 s (sym at ∙ keeps ∙ left.at) in
+    let k = keeps s left.at in
+    let same : k.0 ≡ s1 = slot_is k.0 s1 (sym k.1 ∙ at) in
     let state = answered fs v.answer in
-    let own_mail : s1.mailbox.messages ≡ (of d n).mailbox = ap (λ z. z.mailbox.messages) same ∙ mail ∙ ap (λ z. z.mailbox) (sym g.same) in
+    let own_mail : s1.mailbox.messages ≡ (of d n).mailbox = g.mail s s1 left.at at mail in
     let there : SlotIsLeft (code_in w1) n (asking fs) s1 =
-    subst (λ z. SlotIsLeft (code_of z.value) n (asking fs) s1) (sym g.code) (subst (SlotIsLeft (code_in w) n (asking fs)) (sym same) left.leaves) in
+    subst (λ z. SlotIsLeft (code_of z.module.value) n (asking fs) s1) (sym g.basis)
+    (subst (SlotIsLeft (code_in w) n (asking fs)) same (left_still (code_in w) n (asking fs) s k.0 k.2 left.leaves)) in
     let puts0 = ans (code_in w1) n fs there in
     let puts : PutsIn (code_in w1) n (body state (of d n).mailbox) s' =
     record { sound = puts0.sound; is = puts0.is ∙ ap (λ z. body (answered fs z) s1.mailbox.messages) g.answers.value ∙ ap (body state) own_mail } in
-    let can' : can_go (of d n).state ≡ true = ap (λ z. can_go z.state) g.same ∙ can in
+    let can' : can_go (of d n).state ≡ true = ap can_go g.state ∙ can in
     let i : length (with_state d n state).processes ≡ length d.processes = set_length n d.processes _ in
     record {
       done = record {
         stands = goes_again w1 w' d n s' state (of d n).mailbox g.stands can' (answers_go fs v.answer) puts (e, b, f) q;
         channels = ap (λ z. z.channels) b ∙ g.channels ∙ ap (λ z. posted n v.left.sent (with_senders z w.bonds.channels)) (sym i);
-        code = f ∙ g.code;
+        basis = f ∙ g.basis;
       };
       label = g.answers.label;
     }
@@ -221,7 +282,7 @@ but_there w c n h =
 
 pub waits_in : (n : ℕ) (w w' : World) (s1 s' : Slot) → slice_get w.slots.items n ≡ Some s1
     → ((m : Code) (own : ℕ) (t : Tree) → SlotIsLeft m own (goes (running t)) s1 → PutsIn m own (body (waiting t) s1.mailbox.messages) s')
-    → w'.slots.items ≡ slice_set w.slots.items n s' → w'.bonds ≡ w.bonds → w'.module ≡ w.module → w'.ready ≡ without_number n w.ready → WaitsIn n w w'
+    → w'.slots.items ≡ slice_set w.slots.items n s' → w'.bonds ≡ w.bonds → w'.basis ≡ w.basis → w'.ready ≡ without_number n w.ready → WaitsIn n w w'
 waits_in n w w' s1 s' at ans e b f q c t s but can left mail =
     let same : s1 ≡ s = slot_is s1 s (sym at ∙ left.at) in
     let puts0 = ans (code_in w) n t (subst (SlotIsLeft (code_in w) n (goes (running t))) (sym same) left.leaves) in
@@ -231,5 +292,5 @@ waits_in n w w' s1 s' at ans e b f q c t s but can left mail =
     record {
       stands = waits_now w w' c n s' (waiting t) (of c n).mailbox but (but_there w c n but) (sym (alive_going (of c n).state can)) refl puts (e, b, f) q;
       channels = none_sent w w' c (with_state c n (waiting t)) n i but b;
-      code = f;
+      basis = f;
     }

@@ -9,6 +9,7 @@ use Rattle.pf_model.specs.Channels.{Signal}
 use Rattle.pf_model.specs.Configuration.{Process, Core, Left, fresh, of, with_process, posted}
 use Rattle.pf_model.specs.Ends.{reason_of, ended_by}
 use Rattle.pf_model.specs.Runs.{can_go}
+use Rattle.pf_model.specs.declared.limits.TheConstants.{MOST_PROCESSES}
 use Rattle.pf_ties.specs.Ties as ties
 use Rattle.pf_ties.specs.Laws.{ties_of}
 use Rattle.pf_ties.proofs.Followed.{follow_ends}
@@ -24,16 +25,16 @@ use Rattle.pf_system.proofs.Worlds.{goes_no_more}
 
 -- there are rows enough for what is sent
 pub done_so : (w w' : World) (a : ℕ) (d : Left) → Stands w' d.core → length d.core.processes ≤ length w.bonds.channels
-    → w'.bonds.channels ≡ posted a d.sent w.bonds.channels → w'.module ≡ w.module → Done a d w.bonds.channels w w'
+    → w'.bonds.channels ≡ posted a d.sent w.bonds.channels → w'.basis ≡ w.basis → Done a d w.bonds.channels w w'
 done_so w w' a d h n e m =
-    record { stands = h; channels = e ∙ ap (posted a d.sent) (sym (enough_senders (length d.core.processes) w.bonds.channels n)); code = m }
+    record { stands = h; channels = e ∙ ap (posted a d.sent) (sym (enough_senders (length d.core.processes) w.bonds.channels n)); basis = m }
 
 -- a world in which nothing but ties and channels is changed
-module _ (w w' : World) (c : Core) (slots : w'.slots.items ≡ w.slots.items) (ready : w'.ready ≡ w.ready) (code : w'.module ≡ w.module) where
+module _ (w w' : World) (c : Core) (slots : w'.slots.items ≡ w.slots.items) (ready : w'.ready ≡ w.ready) (basis : w'.basis ≡ w.basis) where
   kept_slots : Stands w c → SlotsAreSound (code_in w') zero w'.slots.items
   kept_slots h =
       subst (λ ss. SlotsAreSound (code_in w') zero ss) (sym slots)
-      (subst (λ z. SlotsAreSound (code_of z.value) zero w.slots.items) (sym code) h.slots)
+      (subst (λ z. SlotsAreSound (code_of z.module.value) zero w.slots.items) (sym basis) h.slots)
 
   pub rows_more : Stands w c → ties_of c ≡ w'.bonds.ties → length w.bonds.channels ≤ length w'.bonds.channels → Stands w' c
   rows_more h t n =
@@ -42,7 +43,12 @@ module _ (w w' : World) (c : Core) (slots : w'.slots.items ≡ w.slots.items) (r
         ties = t;
         ready = ready ∙ h.ready;
         slots = kept_slots h;
-        room = record { rows = let k = h.room.rows in omega arith; few = h.room.few };
+        room = record {
+          rows = let k = h.room.rows in omega arith;
+          few = h.room.few;
+          most = h.room.most ∙ ap (λ z. z.most) (sym basis);
+          within = subst (λ z. z.most ≤ MOST_PROCESSES) (sym basis) h.room.within;
+        };
       }
 
   pub tied : (b : ℕ) (p : Process) → Stands w c → process_body p ≡ process_body (of c b) → ties_of (with_process c b p) ≡ w'.bonds.ties
@@ -57,6 +63,8 @@ module _ (w w' : World) (c : Core) (slots : w'.slots.items ≡ w.slots.items) (r
         room = record {
           rows = let q = subst (λ z. length c.processes ≤ length z) (sym r) h.room.rows in omega arith;
           few = let q = h.room.few in omega arith;
+          most = h.room.most ∙ ap (λ z. z.most) (sym basis);
+          within = subst (λ z. z.most ≤ MOST_PROCESSES) (sym basis) h.room.within;
         };
       }
 
@@ -64,7 +72,7 @@ module _ (w w' : World) (c : Core) (slots : w'.slots.items ≡ w.slots.items) (r
 
 module _ (w w' : World) (a : ℕ) (e : Result Term Term) (s' : Slot) (ss : List (ℕ × Signal)) where
   pub ends_so : slot_body s' ≡ body (ended (end_of e)) [] → ((m : _) → SlotIsSound m a s') → w'.slots.items ≡ slice_set w.slots.items a s'
-      → w'.bonds.ties ≡ ties.ended w.bonds.ties a → w'.ready ≡ without_number a w.ready → w'.module ≡ w.module
+      → w'.bonds.ties ≡ ties.ended w.bonds.ties a → w'.ready ≡ without_number a w.ready → w'.basis ≡ w.basis
       → ss ≡ ties.last_signals_of (ties.of w.bonds.ties a) (reason_of (end_of e)) → w'.bonds.channels ≡ posted a ss w.bonds.channels
       → length w.slots.items ≡ length w.bonds.ties.processes
       → (c : Core) → StandsBut w c a → EndsSo c a e w w'
@@ -87,7 +95,12 @@ module _ (w w' : World) (a : ℕ) (e : Result Term Term) (s' : Slot) (ss : List 
         ties = follow_ends.ended c a x ∙ ap (λ z. ties.ended z a) h.ties ∙ sym t;
         ready = r ∙ ap (without_number a) h.ready ∙ sym (goes_no_more c a p size refl);
         slots = subst (λ z. SlotsAreSound (code_in w') zero z) (sym slots)
-            (subst (λ z. SlotsAreSound (code_of z.value) zero (slice_set w.slots.items a s')) (sym m) (h.slots s' (sound (code_in w))));
-        room = record { rows = omega arith; few = omega arith };
+            (subst (λ z. SlotsAreSound (code_of z.module.value) zero (slice_set w.slots.items a s')) (sym m) (h.slots s' (sound (code_in w))));
+        room = record {
+          rows = omega arith;
+          few = omega arith;
+          most = h.room.most ∙ ap (λ z. z.most) (sym m);
+          within = subst (λ z. z.most ≤ MOST_PROCESSES) (sym m) h.room.within;
+        };
       })
       (omega arith) (sent ∙ ap (λ z. posted a z w.bonds.channels) (sym all)) m

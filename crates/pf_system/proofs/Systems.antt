@@ -1,10 +1,12 @@
 -- A system that begins, and the turn of one of its processes, as a transition.
-use Rattle.std.proofs.Common.{◌≡◌, ◌⊎◌, inl, inr, ℕ, zero, suc, ◌+◌, Bool, true, false, List, [], ◌∷◌, ◌++◌, Some, None, if◌then◌else◌, refl, sym, ap, ◌∙◌, subst, arith, length, map}
+use Rattle.std.proofs.Common.{◌≡◌, ◌⊎◌, inl, inr, ℕ, zero, suc, ◌+◌, ◌==◌, ◌≤◌, Bool, true, false, List, [], ◌∷◌, ◌++◌, Some, None, if◌then◌else◌, refl, sym, ap, ◌∙◌, subst, arith, length, map}
 use Rattle.pf_terms.specs.Value.{none}
 use Rattle.pf_syntax.specs.Tree.{call, no_trees}
 use Rattle.pf_model.specs.Code.{Code, code_of}
 use Rattle.pf_model.specs.Place.{running}
+use Rattle.pf_model.specs.Limits.{most_processes}
 use Rattle.pf_model.specs.Maps.{with_number}
+use Rattle.pf_model.specs.declared.limits.TheConstants.{MOST_PROCESSES, MOST_PROCESSES_FIRST}
 use Rattle.pf_model.specs.Channels.{heads, with_senders}
 use Rattle.pf_model.specs.Configuration.{Process, Core, Configuration, of, process_at}
 use Rattle.pf_model.specs.Runs.{process, channel, enabled, start, can_go, numbers_of, Passed, Passes, passed, turn}
@@ -74,7 +76,7 @@ can_go_of a c h = by (in_either (process a) (map process ps) (map (λ h. channel
 -- ---- a turn
 
 pub turn_kept : (m : Code) (w w' : World) (c : Core) (a left used : ℕ) (l : Label) → IsWorldOf m w → Turned c a left w l used w' → IsWorldOf m w'
-turn_kept m w w' c a left used l k h = kept_after m w w' h.deed.left.core k h.shown.done.stands h.shown.done.code
+turn_kept m w w' c a left used l k h = kept_after m w w' h.deed.left.core k h.shown.done.stands h.shown.done.basis
 
 pub turn_passes : (m : Code) (w w' : World) (k a left used : ℕ) (l : Label) → IsWorldOf m w → Turned (core_of w) a left w l used w'
     → PassesTo left (system_view m k (Some (configuration_of w))) (process a) (label_of l) used (system_view m (k + used) (Some (configuration_of w')))
@@ -96,6 +98,14 @@ turn_passes m w w' k a left used l i h =
 
 -- ---- the beginning
 
+-- no edition has more processes than may be stored
+most_within : (edition : ℕ) → most_processes edition ≤ MOST_PROCESSES
+most_within edition = by (edition == 1)
+  where
+    by : (t : Bool) → (if t then MOST_PROCESSES_FIRST else MOST_PROCESSES) ≤ MOST_PROCESSES
+    by true = omega arith
+    by false = omega arith
+
 -- nothing is there yet
 pub record IsEmpty (w : World) : Type 0 where
   pub slots : w.slots.items ≡ []
@@ -104,7 +114,7 @@ pub record IsEmpty (w : World) : Type 0 where
   pub ready : w.ready ≡ []
 
 module _ (w w' : World) (k : MachineView) (root : ℕ) (none' : IsEmpty w) (at : k ≡ at_call 0 (code_in w) root none)
-    (o : Opens None w (life.Lives k false) w') where
+    (o : Opens (opened w.bonds.ties None) w (life.Lives k false) w') (edition : ℕ) (most : w.basis.most ≡ most_processes edition) where
   abbrev first : Slot
   first = record { life = life.Lives k false; mailbox = o.slots.0 }
 
@@ -121,27 +131,29 @@ module _ (w w' : World) (k : MachineView) (root : ℕ) (none' : IsEmpty w) (at :
   first_is_sound =
       record {
         ready = ((running (call root no_trees), stood, refl), o.slots.2 k);
-        is_of = (ap (λ z. z.own) at, ap (λ z. z.code) at ∙ ap (λ z. code_of z.value) (sym o.code));
+        is_of = (ap (λ z. z.own) at, ap (λ z. z.code) at ∙ ap (λ z. code_of z.module.value) (sym o.basis));
       }
 
-  pub begins : Stands w' (start root).core
+  pub begins : Stands w' (start root edition).core
   begins =
       record {
         bodies = sym (ap (map slot_body) one_slot ∙ ap (λ z. record { state = z; mailbox = o.slots.0.messages } ∷ []) (ap state_in stood)
             ∙ ap (λ z. record { state = running (call root no_trees); mailbox = z } ∷ []) o.slots.1);
-        ties = sym (o.ties ∙ ap (λ z. opened z None) none'.ties);
+        ties = sym (o.tied ∙ ap (λ z. opened z None) none'.ties);
         ready = o.ready ∙ ap (λ z. with_number (length z) w.ready) none'.slots ∙ ap (with_number 0) none'.ready;
         slots = subst (SlotsAreSound (code_in w') zero) (sym one_slot) (first_is_sound, tt);
         room = record {
           rows = let e = ap length one_row in omega arith;
           few = omega arith;
+          most = sym most ∙ ap (λ z. z.most) (sym o.basis);
+          within = subst (λ z. z.most ≤ MOST_PROCESSES) (sym o.basis) (subst (λ z. z ≤ MOST_PROCESSES) (sym most) (most_within edition));
         };
       }
 
   pub begins_kept : (m : Code) → code_in w ≡ m → IsWorldOf m w'
-  begins_kept m e = record { stands = stands_itself w' (start root).core begins; code = ap (λ z. code_of z.value) o.code ∙ e }
+  begins_kept m e = record { stands = stands_itself w' (start root edition).core begins; code = ap (λ z. code_of z.module.value) o.basis ∙ e }
 
-  pub begins_so : (m : Code) → system_view m 0 (Some (configuration_of w')) ≡ system_view m 0 (Some (start root))
+  pub begins_so : (m : Code) → system_view m 0 (Some (configuration_of w')) ≡ system_view m 0 (Some (start root edition))
   begins_so m =
-      ap (λ c. system_view m 0 (Some (both c w'.bonds.channels))) (again w' (start root).core begins)
-      ∙ ap (λ cs. system_view m 0 (Some (both (start root).core cs))) one_row
+      ap (λ c. system_view m 0 (Some (both c w'.bonds.channels))) (again w' (start root edition).core begins)
+      ∙ ap (λ cs. system_view m 0 (Some (both (start root edition).core cs))) one_row

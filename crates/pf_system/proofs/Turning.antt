@@ -1,5 +1,5 @@
 -- A turn, from what a machine ran and what its last step did.
-use Rattle.std.proofs.Common.{◌≡◌, ℕ, zero, suc, ◌+◌, ◌<◌, true, List, [], ◌∷◌, Some, refl, sym, ap, ◌∙◌, subst, arith, length, slice_set}
+use Rattle.std.proofs.Common.{◌≡◌, ℕ, zero, suc, ◌+◌, ◌<◌, ◌≤◌, true, List, [], ◌∷◌, Some, refl, sym, ap, ◌∙◌, subst, arith, length, slice_set}
 use Rattle.std.specs.Prelude.{slice_get}
 use Rattle.pf_terms.specs.Value.{Value}
 use Rattle.pf_syntax.specs.Tree.{Tree}
@@ -12,6 +12,7 @@ use Rattle.pf_model.specs.Configuration.{Process, Core, of, process_at, posted}
 use Rattle.pf_model.specs.Deliveries.{Deed}
 use Rattle.pf_model.specs.Turns.{Turn, cut_running, cut_ending}
 use Rattle.pf_model.specs.Runs.{can_go}
+use Rattle.pf_model.specs.declared.limits.TheConstants.{MOST_PROCESSES}
 use Rattle.pf_model.specs.declared.report.Label.{Label}
 use Rattle.pf_stepper.specs.MicroSteps.{Contracts}
 use Rattle.pf_stepper.specs.Advanced.{Steps, no_step, one_more}
@@ -98,8 +99,8 @@ module _ (w : World) (c : Core) (a : ℕ) (s : Slot) (h : Stands w c) (at : slic
   pub slot_can : can_go (of c a).state ≡ true → can_go (state_of s.life) ≡ true
   slot_can e = ap (λ z. can_go z.state) (sym (body_at w c a s h at)) ∙ e
 
-  pub still_shaped : (w1 : World) (s1 : Slot) → w1.slots.items ≡ slice_set w.slots.items a s1 → w1.bonds ≡ w.bonds → IsShaped a w1
-  still_shaped w1 s1 e b =
+  pub still_shaped : (w1 : World) (s1 : Slot) → w1.slots.items ≡ slice_set w.slots.items a s1 → w1.bonds ≡ w.bonds → w1.basis ≡ w.basis → IsShaped a w1
+  still_shaped w1 s1 e b m =
       let n : length w1.slots.items ≡ length w.slots.items = ap length e ∙ set_length a w.slots.items s1 in
       let l = get_within a w.slots.items s at in
       let i = slots_length w c h in
@@ -108,7 +109,13 @@ module _ (w : World) (c : Core) (a : ℕ) (s : Slot) (h : Stands w c) (at : slic
       let f = h.room.few in
       let t = ap (λ z. length z.ties.processes) b in
       let k = ap (λ z. length z.channels) b in
-      record { there = omega arith; ties = omega arith; rows = omega arith; few = omega arith }
+      record {
+        there = omega arith;
+        ties = omega arith;
+        rows = omega arith;
+        few = omega arith;
+        within = subst (λ z. z.most ≤ MOST_PROCESSES) (sym m) h.room.within;
+      }
 
 asks_in : (m : Code) (own : ℕ) (x : Standing) (l : Life) (mail : MailView) (fs : List Frame) → LifeIsLeft m own x l mail → x ≡ asking fs → LifeAsks l
 asks_in m own x (life.Lives k w) mail fs h e = subst CanAnswer (sym (h.0 ∙ e)) tt
@@ -125,18 +132,18 @@ asks_for m own left used s s1 (v.End e) r = tt
 
 -- ---- the turn of a world
 
-shown_from : (w w1 w' : World) (a : ℕ) (l : Label) (d : Deed) → w1.bonds ≡ w.bonds → w1.module ≡ w.module → Shown a d w1.bonds.channels w1 l w' → Shown a d w.bonds.channels w l w'
+shown_from : (w w1 w' : World) (a : ℕ) (l : Label) (d : Deed) → w1.bonds ≡ w.bonds → w1.basis ≡ w.basis → Shown a d w1.bonds.channels w1 l w' → Shown a d w.bonds.channels w l w'
 shown_from w w1 w' a l d e f h =
     record {
       done = record {
         stands = h.done.stands;
         channels = h.done.channels ∙ ap (λ b. posted a d.left.sent (with_senders (length d.left.core.processes) b.channels)) e;
-        code = h.done.code ∙ f;
+        basis = h.done.basis ∙ f;
       };
       label = h.label;
     }
 
-module _ (w w1 w' : World) (c : Core) (a left used : ℕ) (l : Label) (e : w1.bonds ≡ w.bonds) (f : w1.module ≡ w.module) (can : can_go (of c a).state ≡ true)
+module _ (w w1 w' : World) (c : Core) (a left used : ℕ) (l : Label) (e : w1.bonds ≡ w.bonds) (f : w1.basis ≡ w.basis) (can : can_go (of c a).state ≡ true)
     (x : Standing) (mail : List Value) where
   cut_so : Ran (code_in w) a left (of c a).state (of c a).mailbox v.Pure x used mail → Settles c a v.Pure x mail w1 l w' → Turned c a left w l used w'
   cut_so r k =
@@ -154,13 +161,13 @@ module _ (w w1 w' : World) (c : Core) (a left used : ℕ) (l : Label) (e : w1.bo
       record {
         deed = k.deed;
         turn = turn_behind (code_in w) a c left used r.before (of c a).state r.middle k.deed r.counted r.within r.steps
-            (λ n. subst (λ z. Turn (code_of z.value) a c (suc n) r.middle k.deed 1) f (k.last n));
+            (λ n. subst (λ z. Turn (code_of z.module.value) a c (suc n) r.middle k.deed 1) f (k.last n));
         within = r.within;
         shown = shown_from w w1 w' a l k.deed e f k.shown;
       }
 
   moved_from : (y : State) (move : Move) → Moved (code_in w) a y (of c a).mailbox move x mail → Moved (code_in w1) a y (of c a).mailbox move x mail
-  moved_from y move h = subst (λ z. Moved (code_of z.value) a y (of c a).mailbox move x mail) (sym f) h
+  moved_from y move h = subst (λ z. Moved (code_of z.module.value) a y (of c a).mailbox move x mail) (sym f) h
 
   turned_by : (move : Move) → Ran (code_in w) a left (of c a).state (of c a).mailbox move x used mail → Settles c a move x mail w1 l w' → Turned c a left w l used w'
   turned_by v.Pure r k = cut_so r k
@@ -171,7 +178,7 @@ module _ (w w1 w' : World) (c : Core) (a left used : ℕ) (l : Label) (e : w1.bo
 
 pub turned : (w w1 w' : World) (c : Core) (a left used : ℕ) (s s1 : Slot) (move : Move) (l : Label) → Stands w c → can_go (of c a).state ≡ true
     → slice_get w.slots.items a ≡ Some s → RanInSlot (code_in w) a left s move used s1 → w1.slots.items ≡ slice_set w.slots.items a s1 → w1.bonds ≡ w.bonds
-    → w1.ready ≡ w.ready → w1.module ≡ w.module → SettlesAs a move w1 l w' → Turned c a left w l used w'
+    → w1.ready ≡ w.ready → w1.basis ≡ w.basis → SettlesAs a move w1 l w' → Turned c a left w l used w'
 turned w w1 w' c a left used s s1 move l h can at r e b q f k =
     let n = get_within a w.slots.items s at in
     let y = body_at w c a s h at in

@@ -5,6 +5,7 @@ use Rattle.pf_model.specs.Code.{Code, code_of}
 use Rattle.pf_model.specs.Maps.{with_number, without_number}
 use Rattle.pf_model.specs.Configuration.{Process, Core, of, with_process, process_at}
 use Rattle.pf_model.specs.Runs.{can_go, numbers_of}
+use Rattle.pf_model.specs.declared.limits.TheConstants.{MOST_PROCESSES}
 use Rattle.pf_ties.specs.Laws.{process_ties}
 use Rattle.pf_stepper.specs.MachineView.{Standing}
 use Rattle.pf_system.specs.Bodies.{process_body, bodies_of}
@@ -55,7 +56,7 @@ sound_set m n (suc a) (x ∷ ss) s h k =
 -- ---- worlds
 
 pub again : (w : World) (c : Core) → Stands w c → core_of w ≡ c
-again w c h = core_again c (bodies_in w) w.bonds.ties h.bodies h.ties
+again w c h = core_again c (bodies_in w) w.bonds.ties w.basis.most h.bodies h.ties h.room.most
 
 -- a process whose slot is there has its body
 pub body_at : (w : World) (c : Core) (a : ℕ) (s : Slot) → Stands w c → slice_get w.slots.items a ≡ Some s → process_body (of c a) ≡ slot_body s
@@ -70,7 +71,7 @@ ties_length_in w c h = ap (λ t. length t.processes) (sym h.ties) ∙ ties_lengt
 -- a slot of a world is changed, and all else stays
 module _ (w w' : World) (c : Core) (a : ℕ) (s' : Slot) where
   pub ran_but : Stands w c → a < length w.slots.items → w'.slots.items ≡ slice_set w.slots.items a s' → w'.bonds ≡ w.bonds → w'.ready ≡ w.ready
-      → w'.module ≡ w.module → StandsBut w' c a
+      → w'.basis ≡ w.basis → StandsBut w' c a
   ran_but h l e b r m =
       record {
         there = let k = ap length e ∙ set_length a w.slots.items s' in omega arith;
@@ -80,20 +81,25 @@ module _ (w w' : World) (c : Core) (a : ℕ) (s' : Slot) where
         ready = r ∙ h.ready;
         slots = λ x k.
             let j : a ≡ zero + a = omega arith in
-            let g : SlotIsSound (code_in w) (zero + a) x = subst (λ z. SlotIsSound (code_in w) z x) j (subst (λ z. SlotIsSound (code_of z.value) a x) m k) in
+            let g : SlotIsSound (code_in w) (zero + a) x = subst (λ z. SlotIsSound (code_in w) z x) j (subst (λ z. SlotIsSound (code_of z.module.value) a x) m k) in
             let d : slice_set w'.slots.items a x ≡ slice_set w.slots.items a x = ap (λ ss. slice_set ss a x) e ∙ set_twice a w.slots.items s' x in
             subst (λ ss. SlotsAreSound (code_in w') zero ss) (sym d)
-            (subst (λ z. SlotsAreSound (code_of z.value) zero (slice_set w.slots.items a x)) (sym m) (sound_set (code_in w) zero a w.slots.items x h.slots g));
-        room = record { rows = subst (λ k. length c.processes ≤ length k.channels) (sym b) h.room.rows; few = h.room.few };
+            (subst (λ z. SlotsAreSound (code_of z.module.value) zero (slice_set w.slots.items a x)) (sym m) (sound_set (code_in w) zero a w.slots.items x h.slots g));
+        room = record {
+          rows = subst (λ k. length c.processes ≤ length k.channels) (sym b) h.room.rows;
+          few = h.room.few;
+          most = h.room.most ∙ ap (λ z. z.most) (sym m);
+          within = subst (λ z. z.most ≤ MOST_PROCESSES) (sym m) h.room.within;
+        };
       }
 
-  pub left_at : (x : Standing) → SlotIsLeft (code_in w) a x s' → a < length w.slots.items → w'.slots.items ≡ slice_set w.slots.items a s' → w'.module ≡ w.module → IsLeftAt w' a x s'
+  pub left_at : (x : Standing) → SlotIsLeft (code_in w) a x s' → a < length w.slots.items → w'.slots.items ≡ slice_set w.slots.items a s' → w'.basis ≡ w.basis → IsLeftAt w' a x s'
   left_at x h l e m =
-      record { at = ap (λ ss. slice_get ss a) e ∙ get_set a w.slots.items s' l; leaves = subst (λ z. SlotIsLeft (code_of z.value) a x s') (sym m) h }
+      record { at = ap (λ ss. slice_get ss a) e ∙ get_set a w.slots.items s' l; leaves = subst (λ z. SlotIsLeft (code_of z.module.value) a x s') (sym m) h }
 
   -- the process has its slot again
   pub put_back : (p : Process) → StandsBut w c a → process_body p ≡ slot_body s' → process_ties p ≡ process_ties (of c a) → SlotIsSound (code_in w) a s'
-      → w'.slots.items ≡ slice_set w.slots.items a s' → w'.bonds ≡ w.bonds → w'.module ≡ w.module
+      → w'.slots.items ≡ slice_set w.slots.items a s' → w'.bonds ≡ w.bonds → w'.basis ≡ w.basis
       → w'.ready ≡ numbers_of can_go zero (with_process c a p).processes → Stands w' (with_process c a p)
   put_back p h y t k e b m r =
       let n : length (with_process c a p).processes ≡ length c.processes = set_length a c.processes p in
@@ -103,10 +109,12 @@ module _ (w w' : World) (c : Core) (a : ℕ) (s' : Slot) where
         ties = ties_same c a p t ∙ h.ties ∙ ap (λ z. z.ties) (sym b);
         ready = r;
         slots = subst (λ ss. SlotsAreSound (code_in w') zero ss) (sym e)
-            (subst (λ z. SlotsAreSound (code_of z.value) zero (slice_set w.slots.items a s')) (sym m) (h.slots s' k));
+            (subst (λ z. SlotsAreSound (code_of z.module.value) zero (slice_set w.slots.items a s')) (sym m) (h.slots s' k));
         room = record {
           rows = let q = subst (λ z. length c.processes ≤ length z.channels) (sym b) h.room.rows in omega arith;
           few = let q = h.room.few in omega arith;
+          most = h.room.most ∙ ap (λ z. z.most) (sym m);
+          within = subst (λ z. z.most ≤ MOST_PROCESSES) (sym m) h.room.within;
         };
       }
 

@@ -1,17 +1,18 @@
 -- What the actions of a process do.
-use Rattle.std.specs.Prelude.{◌≡◌, ◌<◌, ◌≤◌, ℕ, ◌+◌, true, List, [], ◌∷◌, ◌++◌, Option, Some, None, length, slice_get, if◌then◌else◌, ◌==◌}
+use Rattle.std.specs.Prelude.{◌≡◌, ◌<◌, ◌≤◌, ℕ, ◌+◌, true, List, [], ◌∷◌, ◌++◌, Option, Some, None, Ok, length, slice_get, if◌then◌else◌, ◌==◌}
 use Rattle.pf_model.specs.Maps.{with_number}
 use Rattle.pf_model.specs.Place.{Frame, State}
 use Rattle.pf_model.specs.Runs.{can_go}
 use Rattle.pf_model.specs.Turns.{after_act}
 use Rattle.pf_model.specs.Code.{Code, exported_as}
-use Rattle.pf_model.specs.Contraction.{Act}
+use Rattle.pf_model.specs.Contraction.{Bond, unbound, linking, watching, Act}
 use Rattle.pf_model.specs.Channels.{with_senders}
 use Rattle.pf_model.specs.Configuration.{Core, of, posted}
-use Rattle.pf_model.specs.Actions.{Acted, acted}
+use Rattle.pf_model.specs.Actions.{Acted, acted, given_for, shown_for}
+use Rattle.pf_model.specs.Flush.{flushed}
 use Rattle.pf_model.specs.Reports.{label_of}
 use Rattle.pf_model.specs.declared.report.Label.{Label}
-use Rattle.pf_ties.specs.Ties.{opened}
+use Rattle.pf_ties.specs.Ties.{AllTies, opened, opened_watched}
 use Rattle.pf_ties.specs.Laws.{ties_of}
 use Rattle.pf_stepper.specs.MachineView.{MachineView, asking}
 use Rattle.pf_mailbox.specs.MailView.{MailView}
@@ -19,7 +20,6 @@ use Rattle.pf_mailbox.specs.Tests.{IsAheadOf}
 use Rattle.pf_stepper.specs.Turns.{told_of}
 use Rattle.pf_stepper.specs.declared.act.Act.{Act as Asked}
 use Rattle.pf_stepper.specs.declared.act.Act.TheVariants as asked
-use Rattle.pf_system.specs.Bodies.{process_body}
 use Rattle.pf_system.specs.Slots.{LifeAsks, LifeIsReady, LifeIsOf, state_of}
 use Rattle.pf_system.specs.Worlds.{StandsBut, IsLeftAt, Shown, code_in}
 use Rattle.pf_system.specs.declared.slot.Life.{Life}
@@ -48,14 +48,14 @@ pub record ActedSo (x : Acted) (a : ℕ) (b : Bonds) (r : Answer) (b' : Bonds) :
 abbrev pub ActsAs : ℕ → Act → Bonds → Answer → Bonds → Type 0
 ActsAs a act b r b' = (m : Code) (c : Core) → ties_of c ≡ b.ties → ActedSo (acted m c a act) a b r b'
 
--- all actions but those that make a process
+-- all actions but those that make a process, or may take a message out
 abbrev pub IsBetween : Asked → Type 0
 IsBetween (asked.Send to message) = Unit {0}
-IsBetween (asked.Spawn linked home function arguments) = ⊥
+IsBetween (asked.Spawn bond home function arguments) = ⊥
 IsBetween (asked.Link other) = Unit {0}
 IsBetween (asked.Unlink other) = Unit {0}
 IsBetween (asked.Monitor kind other) = Unit {0}
-IsBetween (asked.Demonitor reference) = Unit {0}
+IsBetween (asked.Demonitor reference options) = ⊥
 IsBetween (asked.ExitOther other reason) = Unit {0}
 IsBetween (asked.SetFlag flag setting) = Unit {0}
 IsBetween (asked.Register name other) = Unit {0}
@@ -66,17 +66,26 @@ IsBetween asked.MakeRef = Unit {0}
 -- the world is what an action of process a makes of it, but for the slot of that process, which waits for the answer
 pub record ActedIn (c : Core) (x : Acted) (a : ℕ) (w : World) (r : Answer) (w' : World) : Type 0 where
   pub stands : StandsBut w' x.left.core a
-  pub same : process_body (of x.left.core a) ≡ process_body (of c a)
+  pub state : (of x.left.core a).state ≡ (of c a).state
+  -- a slot that holds the messages of the process holds them still
+  pub mail : (s s' : Slot) → slice_get w.slots.items a ≡ Some s → slice_get w'.slots.items a ≡ Some s' → s.mailbox.messages ≡ (of c a).mailbox
+      → s'.mailbox.messages ≡ (of x.left.core a).mailbox
   pub channels : w'.bonds.channels ≡ posted a x.left.sent (with_senders (length x.left.core.processes) w.bonds.channels)
   pub answers : Answers r x
-  pub code : w'.module ≡ w.module
+  pub basis : w'.basis ≡ w.basis
 
 abbrev pub ActsIn : ℕ → Act → World → Answer → World → Type 0
 ActsIn a act w r w' = (c : Core) → StandsBut w c a → ActedIn c (acted (code_in w) c a act) a w r w'
 
--- the slot of a process stays as it was
+-- a slot stays as it was, but for its messages; what its mailbox was ready for it still is
+pub record KeepsLife (s s' : Slot) : Type 0 where
+  pub life : s'.life ≡ s.life
+  pub ahead : (k : MachineView) → IsAheadOf k s.mailbox → IsAheadOf k s'.mailbox
+
+-- so does the slot of a process
 abbrev pub KeepsSlot : ℕ → World → World → Type 0
-KeepsSlot a w w' = slice_get w'.slots.items a ≡ slice_get w.slots.items a
+KeepsSlot a w w' =
+    (s : Slot) → slice_get w.slots.items a ≡ Some s → (s' : Slot) × (slice_get w'.slots.items a ≡ Some s') × KeepsLife s s'
 
 -- the slot of a process that may be answered
 pub record IsAsking (a : ℕ) (w : World) : Type 0 where
@@ -91,6 +100,13 @@ ShowsAct a act w l w' =
     → s.mailbox.messages ≡ (of c a).mailbox
     → Shown a (after_act a fs (acted (code_in w) c a act)) w.bonds.channels w l w'
 
+-- ---- a flush
+
+-- the oldest message that tells of a reference is taken out of a slot
+pub record FlushesIn (reference : ℕ) (s s' : Slot) : Type 0 where
+  pub keeps : KeepsLife s s'
+  pub mail : s'.mailbox.messages ≡ flushed reference s.mailbox.messages
+
 -- ---- a new process
 
 -- the function of this name and so many arguments of a module, which is the own one or none
@@ -104,10 +120,26 @@ pub record LifeBegins (m : Code) (own : ℕ) (s : State) (l : Life) : Type 0 whe
   pub state : state_of l ≡ s
   pub goes : can_go s ≡ true
 
--- one process more, with no message, that can go
-pub record Opens (parent : Option ℕ) (w : World) (l : Life) (w' : World) : Type 0 where
-  pub ties : w'.bonds.ties ≡ opened w.bonds.ties parent
+-- one process more, with no message, that can go, and then these ties
+pub record Opens (ties : AllTies) (w : World) (l : Life) (w' : World) : Type 0 where
+  pub tied : w'.bonds.ties ≡ ties
   pub channels : w'.bonds.channels ≡ with_senders (length w.slots.items + 1) w.bonds.channels
   pub slots : (mail : MailView) × (mail.messages ≡ []) × ((k : MachineView) → IsAheadOf k mail) × (w'.slots.items ≡ w.slots.items ++ record { life = l; mailbox = mail } ∷ [])
   pub ready : w'.ready ≡ with_number (length w.slots.items) w.ready
-  pub code : w'.module ≡ w.module
+  pub basis : w'.basis ≡ w.basis
+
+-- the ties behind it, by the bond of the new process to another
+abbrev pub opened_by : Bond → (other : ℕ) → AllTies → AllTies
+opened_by unbound a t = opened t None
+opened_by linking a t = opened t (Some a)
+opened_by watching a t = opened_watched t a
+
+-- an answer gives and shows a new process, by its bond
+pub record Tells (b : Bond) (own reference : ℕ) (r : Answer) : Type 0 where
+  pub value : told_of r.value ≡ Ok (given_for b own reference)
+  pub label : label_of r.label ≡ shown_for b own reference
+
+-- one process more by its bond to another, and what is given and shown
+pub record OpensSo (b : Bond) (other : ℕ) (w : World) (l : Life) (r : Answer) (w' : World) : Type 0 where
+  pub opens : Opens (opened_by b other w.bonds.ties) w l w'
+  pub tells : Tells b (length w.slots.items) w.bonds.ties.next_reference r

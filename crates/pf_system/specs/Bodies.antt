@@ -1,5 +1,5 @@
 -- Processes without their ties, and the processes that bodies and ties make.
-use Rattle.std.specs.Prelude.{List, [], ◌∷◌, ◌++◌, map}
+use Rattle.std.specs.Prelude.{ℕ, List, [], ◌∷◌, ◌++◌, map}
 use Rattle.pf_terms.specs.Value.{Value}
 use Rattle.pf_model.specs.Place.{State}
 use Rattle.pf_model.specs.Configuration.{Process, Core}
@@ -34,6 +34,6 @@ joined [] ts = []
 joined (b ∷ bs) [] = []
 joined (b ∷ bs) (t ∷ ts) = process_with b t ∷ joined bs ts
 
--- the core of these bodies and ties
-abbrev pub core_with : List Body → AllTies → Core
-core_with bs t = record { processes = joined bs t.processes; names = t.names; next_reference = t.next_reference }
+-- the core of these bodies and ties, with so many processes at most
+abbrev pub core_with : List Body → AllTies → (most : ℕ) → Core
+core_with bs t n = record { processes = joined bs t.processes; names = t.names; next_reference = t.next_reference; most = n }

@@ -52,8 +52,9 @@ coded_process =
 
 abbrev pub coded_core : Coded Core
 coded_core =
-    code_by _ (coded× (coded_list coded_process) (coded× (coded_list (coded× coded_ℕ coded_ℕ)) coded_ℕ))
-    (λ c. (c.processes, (c.names, c.next_reference))) (λ p. record { processes = p.0; names = p.1.0; next_reference = p.1.1 }) (λ _. refl)
+    code_by _ (coded× (coded× (coded_list coded_process) (coded_list (coded× coded_ℕ coded_ℕ))) (coded× coded_ℕ coded_ℕ))
+    (λ c. ((c.processes, c.names), (c.next_reference, c.most)))
+    (λ p. record { processes = p.0.0; names = p.0.1; next_reference = p.1.0; most = p.1.1 }) (λ _. refl)
 
 abbrev pub coded_configuration : Coded Configuration
 coded_configuration =

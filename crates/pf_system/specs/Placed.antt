@@ -16,7 +16,7 @@ use Rattle.pf_system.specs.declared.world.World.{World}
 pub record PlacedSo (c : Core) (b : ℕ) (v : Value) (w w' : World) : Type 0 where
   pub stands : Stands w' (with_process c b (with_message (of c b) v))
   pub bonds : w'.bonds ≡ w.bonds
-  pub code : w'.module ≡ w.module
+  pub basis : w'.basis ≡ w.basis
 
 abbrev pub Places : ℕ → Value → World → World → Type 0
 Places b v w w' = (c : Core) → Stands w c → is_alive (of c b).state ≡ true → PlacedSo c b v w w'

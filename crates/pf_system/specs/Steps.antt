@@ -1,10 +1,10 @@
 -- What a turn and a delivery do to a system.
-use Rattle.std.specs.Prelude.{◌≡◌, ◌≤◌, ℕ, ◌+◌, Bool, true, false, List, ◌∷◌, ◌++◌, Option, Some, None, map}
+use Rattle.std.specs.Prelude.{◌≡◌, ◌≤◌, ℕ, zero, ◌+◌, Bool, true, false, List, ◌∷◌, ◌++◌, Option, Some, None, map}
 use Rattle.pf_model.specs.Code.{Code, code_of}
 use Rattle.pf_model.specs.Labels.{Label}
 use Rattle.pf_model.specs.Channels.{heads}
 use Rattle.pf_model.specs.Configuration.{Configuration}
-use Rattle.pf_model.specs.Runs.{Actor, process, channel, Passed, Passes, enabled}
+use Rattle.pf_model.specs.Runs.{Actor, process, channel, Passed, Passes, enabled, can_go, numbers_of}
 use Rattle.pf_system.specs.View.{SystemView, system_view}
 use Rattle.pf_system.specs.Worlds.{code_in, core_of, configuration_of, Stands}
 use Rattle.pf_system.specs.declared.enabled.Enabled.{Enabled}
@@ -14,6 +14,11 @@ use Rattle.pf_system.specs.declared.world.World.{World}
 -- the actors that may go, as those that are noted
 abbrev pub noted : Enabled → List Actor
 noted e = map process e.ready.now ++ map (λ h. channel h.0 h.1) (heads e.channels.now)
+
+-- the processes and the channels that are noted are those of a configuration
+pub record IsNoteOf (e : Enabled) (c : Configuration) : Type 0 where
+  pub processes : e.ready.now ≡ numbers_of can_go zero c.core.processes
+  pub channels : heads e.channels.now ≡ heads c.channels
 
 -- an actor is among others
 abbrev pub IsAmong : Actor → List Actor → Type 0

@@ -19,21 +19,23 @@ use Rattle.pf_system.specs.declared.slot.Slot.{Slot}
 use Rattle.pf_system.specs.declared.world.World.{World}
 
 abbrev pub code_in : World → Code
-code_in w = code_of w.module.value
+code_in w = code_of w.basis.module.value
 
 abbrev pub bodies_in : World → List Body
 bodies_in w = map slot_body w.slots.items
 
 abbrev pub core_of : World → Core
-core_of w = core_with (bodies_in w) w.bonds.ties
+core_of w = core_with (bodies_in w) w.bonds.ties w.basis.most
 
 abbrev pub configuration_of : World → Configuration
 configuration_of w = record { core = core_of w; channels = w.bonds.channels }
 
--- there is a row of channels for each process, and not too many processes
+-- there is a row of channels for each process, and not too many processes; how many there may be is no more than may be stored
 pub record IsRoomy (w : World) (c : Core) : Type 0 where
   pub rows : length c.processes ≤ length w.bonds.channels
   pub few : length c.processes ≤ MOST_PROCESSES
+  pub most : c.most ≡ w.basis.most
+  pub within : w.basis.most ≤ MOST_PROCESSES
 
 -- the world stands for this core, with any channels, and those processes are noted that can go
 pub record Stands (w : World) (c : Core) : Type 0 where
@@ -63,7 +65,7 @@ pub record IsLeftAt (w : World) (a : ℕ) (x : Standing) (s : Slot) : Type 0 whe
 pub record Done (a : ℕ) (d : Left) (cs : Channels) (w w' : World) : Type 0 where
   pub stands : Stands w' d.core
   pub channels : w'.bonds.channels ≡ posted a d.sent (with_senders (length d.core.processes) cs)
-  pub code : w'.module ≡ w.module
+  pub basis : w'.basis ≡ w.basis
 
 pub record Shown (a : ℕ) (d : Deed) (cs : Channels) (w : World) (l : Label) (w' : World) : Type 0 where
   pub done : Done a d.left cs w w'
@@ -95,6 +97,7 @@ pub record IsShaped (a : ℕ) (w : World) : Type 0 where
   pub ties : length w.bonds.ties.processes ≡ length w.slots.items
   pub rows : length w.slots.items ≤ length w.bonds.channels
   pub few : length w.slots.items ≤ MOST_PROCESSES
+  pub within : w.basis.most ≤ MOST_PROCESSES
 
 abbrev pub IsShapedFor : Option ℕ → World → Type 0
 IsShapedFor None w = length w.bonds.ties.processes ≡ length w.slots.items

@@ -13,7 +13,7 @@ use pf_terms::NoMemory;
 use std::alloc::Global;
 
 impl Bonds {
-    /// An action that makes no process.
+    /// An action that makes no process, and takes no message out.
     pub(crate) fn act(&mut self, alloc: Global, pid: u32, act: Act) -> Result<Answer, NoMemory>
         requires between { IsBetween act }
         requires member { IsMember pid self.old }
@@ -25,7 +25,7 @@ impl Bonds {
             Act::Link(other) => self.link(alloc, pid, other),
             Act::Unlink(other) => self.unlink(alloc, pid, other),
             Act::Monitor { kind, other } => self.monitor(alloc, pid, kind, other),
-            Act::Demonitor(reference) => self.demonitor(alloc, pid, reference),
+            Act::Demonitor { .. } => unreachable!(),
             Act::ExitOther { other, reason } => self.exit_other(alloc, pid, other, reason),
             Act::SetFlag { flag, setting } => Ok(self.set_flag(pid, flag, setting)),
             Act::Register { name, other } => self.register(alloc, pid, name, other),
@@ -37,7 +37,7 @@ impl Bonds {
 }
 
 impl World {
-    /// An action that makes no process leaves the slots as they are.
+    /// An action that makes no process, and takes no message out, leaves the slots as they are.
     fn act_between(&mut self, alloc: Global, pid: u32, act: Act) -> Result<Answer, NoMemory>
         requires between { IsBetween act }
         requires shaped { IsShaped pid self.old }
@@ -55,11 +55,14 @@ impl World {
     {
         match act {
             Act::Spawn {
-                linked,
+                bond,
                 home,
                 function,
                 arguments,
-            } => self.spawn(alloc, pid, linked, home, function, arguments),
+            } => self.spawn(alloc, pid, bond, home, function, arguments),
+            Act::Demonitor { reference, options } => {
+                self.demonitor(alloc, pid, reference, options)
+            }
             other => self.act_between(alloc, pid, other),
         }
     }

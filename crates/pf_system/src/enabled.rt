@@ -1,6 +1,7 @@
 //! Who may go.
 
 ghost use Rattle.std.specs.Prelude.{◌≡◌, ◌<◌, length, slice_get, Some};
+ghost use Rattle.pf_model.specs.Channels.{heads};
 ghost use Rattle.pf_model.specs.Reports.{actor_of};
 ghost use Rattle.pf_system.specs.Steps.{noted};
 
@@ -22,6 +23,22 @@ impl Enabled<'_> {
         ensures { result ≡ length (noted self.now) }
     {
         self.ready.as_slice().len() + self.channels.len()
+    }
+
+    /// How many processes are among them.
+    pub fn processes(&self) -> usize
+        ensures { result ≡ length self.now.ready.now }
+    {
+        let pids = self.ready.as_slice();
+        pids.len()
+    }
+
+    /// How many channels are among them.
+    pub fn channels(&self) -> usize
+        ensures { result ≡ length (heads self.now.channels.now) }
+    {
+        let lines = self.channels;
+        lines.len()
     }
 
     /// The k-th of them, counted from 0.

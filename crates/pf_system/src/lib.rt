@@ -7,6 +7,7 @@ mod deliver;
 mod enabled;
 mod ending;
 mod exits;
+mod flush;
 mod links;
 mod messages;
 mod monitors;

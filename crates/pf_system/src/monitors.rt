@@ -2,8 +2,8 @@
 
 ghost use Rattle.std.specs.Prelude.{◌≡◌, IfOk};
 ghost use Rattle.pf_terms.specs.Term.{value_of};
-ghost use Rattle.pf_model.specs.Contraction.{demonitor, make_ref, monitor};
-ghost use Rattle.pf_model.specs.Actions.{monitored};
+ghost use Rattle.pf_model.specs.Contraction.{make_ref, monitor};
+ghost use Rattle.pf_model.specs.Actions.{demonitored_so, monitored};
 ghost use Rattle.pf_ties.specs.Laws.{ties_of};
 ghost use Rattle.pf_system.specs.Acts.{ActedSo, ActsAs, IsMember};
 
@@ -56,25 +56,23 @@ impl Bonds {
         })
     }
 
-    /// `demonitor/1`. A signal goes out where the reference was active.
+    /// A reference watches no more. A signal goes out where it was active.
     pub(crate) fn demonitor(
         &mut self,
         alloc: Global,
         pid: u32,
-        reference: Term,
+        reference: u64,
+        flushes: bool,
     ) -> Result<Answer, NoMemory>
         requires { IsMember pid self.old }
-        ensures { IfOk result
-            (λ r. ActsAs pid (demonitor (value_of reference)) self.old r self.new) }
+        ensures { IfOk result (λ r. (c : _) → ties_of c ≡ self.old.ties
+            → ActedSo (demonitored_so c pid reference flushes) pid self.old r self.new) }
     {
-        let Term::Ref(reference) = reference else {
-            return Ok(raising(AtomId::BADARG));
-        };
         if let Some(other) = self.ties.demonitor(pid, reference) {
             self.channels
                 .send(alloc, pid, other, Signal::Demonitor(reference))?;
         }
-        Ok(giving_true(Label::Demonitors(reference)))
+        Ok(giving_true(Label::Demonitors { flushes, reference }))
     }
 
     /// `make_ref/0`.

@@ -1,24 +1,26 @@
 //! The action that makes a process.
 
-ghost use Rattle.std.specs.Prelude.{◌≡◌, ◌<◌, length, option_map, IfOk, OnOk};
+ghost use Rattle.std.specs.Prelude.{◌≡◌, ◌<◌, if◌then◌else◌, length, option_map, IfOk, OnOk};
 ghost use Rattle.pf_terms.specs.Term.{elements_of, value_of, values_of};
 ghost use Rattle.pf_model.specs.Actions.{start_of};
 ghost use Rattle.pf_model.specs.Code.{code_of};
-ghost use Rattle.pf_model.specs.Contraction.{spawn};
+ghost use Rattle.pf_model.specs.Contraction.{linking, spawn, unbound, watching};
 ghost use Rattle.pf_model.specs.declared.limits.TheConstants.{MOST_PROCESSES};
-ghost use Rattle.pf_system.specs.Acts.{ActsIn, KeepsSlot, LifeBegins, Opens, home_function};
+ghost use Rattle.pf_ties.specs.Ties.{opened};
+ghost use Rattle.pf_stepper.specs.Acts.{bond_of};
+ghost use Rattle.pf_system.specs.Acts.{ActsIn, KeepsSlot, LifeBegins, Opens, OpensSo, Tells, home_function};
 ghost use Rattle.pf_system.specs.Worlds.{IsShaped, IsShapedFor};
 
 use crate::bonds::{Answer, raising};
 use crate::slot::{Life, Slot};
 use crate::world::World;
+use pf_fault::OrNoMemory;
 use pf_mailbox::Mailbox;
-use pf_model::limits::MOST_PROCESSES;
 use pf_model::report::Label;
 use pf_ops::ending_reason;
-use pf_stepper::Machine;
+use pf_stepper::{Bond, Machine};
 use pf_syntax::{FunctionId, Module};
-use pf_terms::{AtomId, List, NoMemory, Term, copy};
+use pf_terms::{AtomId, List, NoMemory, Term, TooLarge, copy, tuple_of};
 use smallvec::SmallVec;
 use std::alloc::Global;
 use std::sync::Arc;
@@ -83,19 +85,38 @@ fn begun(
     }
 }
 
+/// What a process that isn't watched gives and shows.
+fn told(linked: bool, pid: u32) -> Answer
+    ensures { (reference : _) → Tells (if linked then linking else unbound) pid reference result }
+{
+    Answer {
+        value: Ok(Term::Pid(pid)),
+        label: Label::Spawns { linked, pid },
+    }
+}
+
+/// What a process that is watched gives and shows.
+fn told_watched(alloc: Global, pid: u32, reference: u64) -> Result<Answer, NoMemory>
+    ensures { IfOk result (Tells watching pid reference) }
+{
+    let items = vec![in alloc; Term::Pid(pid), Term::Ref(reference)]?;
+    match tuple_of(alloc, items) {
+        Ok(pair) => Ok(Answer {
+            value: Ok(pair),
+            label: Label::SpawnsWatched { pid, reference },
+        }),
+        Err(OrNoMemory::NoMemory) => Err(NoMemory),
+        Err(OrNoMemory::Fault(TooLarge)) => unreachable!(),
+    }
+}
+
 impl World {
-    /// One process more, which may be linked to another, and its pid.
-    pub(crate) fn open(
-        &mut self,
-        alloc: Global,
-        parent: Option<u32>,
-        life: Life,
-    ) -> Result<(), NoMemory>
-        requires shaped { IsShapedFor parent self.old }
+    /// The slot of a process whose ties are there, and a row for its signals.
+    fn enter(&mut self, alloc: Global, pid: u32, life: Life) -> Result<(), NoMemory>
+        requires pid { pid ≡ length self.old.slots.items }
         requires room { length self.old.slots.items < MOST_PROCESSES }
-        ensures { OnOk result (Opens parent self.old life self.new) }
+        ensures { OnOk result (Opens self.old.bonds.ties self.old life self.new) }
     {
-        let pid = self.bonds.ties.open(alloc, parent)?;
         self.bonds.open_to(alloc, pid)?;
         self.slots.push(Slot {
             life,
@@ -104,19 +125,74 @@ impl World {
         self.ready.insert(pid)
     }
 
-    /// `spawn/3` and `spawn_link/3`.
+    /// One process more, which may be linked to another.
+    pub(crate) fn open(
+        &mut self,
+        alloc: Global,
+        parent: Option<u32>,
+        life: Life,
+    ) -> Result<(), NoMemory>
+        requires shaped { IsShapedFor parent self.old }
+        requires room { length self.old.slots.items < MOST_PROCESSES }
+        ensures { OnOk result (Opens (opened self.old.bonds.ties parent) self.old life self.new) }
+    {
+        let pid = self.bonds.ties.open(alloc, parent)?;
+        self.enter(alloc, pid, life)
+    }
+
+    /// One process more, which another watches from its begin; it gives its pid and the reference.
+    fn open_watched(&mut self, alloc: Global, watcher: u32, life: Life) -> Result<Answer, NoMemory>
+        requires shaped { IsShaped watcher self.old }
+        requires room { length self.old.slots.items < MOST_PROCESSES }
+        ensures { IfOk result (λ r. OpensSo watching watcher self.old life r self.new) }
+    {
+        if self.bonds.ties.next_reference() == u64::MAX {
+            return Err(NoMemory);
+        }
+        let (pid, reference) = self.bonds.ties.open_watched(alloc, watcher)?;
+        self.enter(alloc, pid, life)?;
+        told_watched(alloc, pid, reference)
+    }
+
+    /// One process more, by its bond to another, and what it gives and shows.
+    fn open_by(
+        &mut self,
+        alloc: Global,
+        other: u32,
+        bond: Bond,
+        life: Life,
+    ) -> Result<Answer, NoMemory>
+        requires shaped { IsShaped other self.old }
+        requires room { length self.old.slots.items < MOST_PROCESSES }
+        ensures { IfOk result (λ r. OpensSo (bond_of bond) other self.old life r self.new) }
+    {
+        let pid = self.slots.len() as u32;
+        match bond {
+            Bond::Unbound => {
+                self.open(alloc, None, life)?;
+                Ok(told(false, pid))
+            }
+            Bond::Linking => {
+                self.open(alloc, Some(other), life)?;
+                Ok(told(true, pid))
+            }
+            Bond::Watching => self.open_watched(alloc, other, life),
+        }
+    }
+
+    /// `spawn/3`, `spawn_link/3` and `spawn_monitor/3`.
     pub(crate) fn spawn(
         &mut self,
         alloc: Global,
         pid: u32,
-        linked: bool,
+        bond: Bond,
         home: Term,
         function: Term,
         arguments: Term,
     ) -> Result<Answer, NoMemory>
         requires { IsShaped pid self.old }
-        ensures acts { IfOk result (λ r. ActsIn pid
-            (spawn linked (value_of home) (value_of function) (value_of arguments)) self.old r self.new) }
+        ensures acts { IfOk result (λ r. ActsIn pid (spawn (bond_of bond) (value_of home)
+            (value_of function) (value_of arguments)) self.old r self.new) }
         ensures keeps { OnOk result (KeepsSlot pid self.old self.new) }
     {
         let Term::Atom(home) = home else {
@@ -128,15 +204,11 @@ impl World {
         let Term::List(arguments) = arguments else {
             return Ok(raising(AtomId::BADARG));
         };
-        if self.slots.len() >= MOST_PROCESSES as usize {
+        if self.slots.len() >= self.basis.most as usize {
             return Ok(raising(AtomId::SYSTEM_LIMIT));
         }
         let new = self.slots.len() as u32;
-        let life = begun(alloc, &self.module, new, home, name, &arguments)?;
-        self.open(alloc, if linked { Some(pid) } else { None }, life)?;
-        Ok(Answer {
-            value: Ok(Term::Pid(new)),
-            label: Label::Spawns { linked, pid: new },
-        })
+        let life = begun(alloc, &self.basis.module, new, home, name, &arguments)?;
+        self.open_by(alloc, pid, bond, life)
     }
 }

@@ -2,17 +2,19 @@
 
 ghost use Rattle.std.specs.Prelude.{◌≡◌, ◌<◌, ◌≤◌, Some, None, IfOk, IsErr, OnErr};
 ghost use Rattle.pf_model.specs.Code.{code_of};
+ghost use Rattle.pf_model.specs.Limits.{IsEdition};
 ghost use Rattle.pf_model.specs.Meaning.{outcome_of as outcome_where};
 ghost use Rattle.pf_model.specs.Reports.{label_of, outcome_of};
 ghost use Rattle.pf_model.specs.Runs.{process, channel, enabled, start};
 ghost use Rattle.pf_system.specs.View.{system_view};
-ghost use Rattle.pf_system.specs.Steps.{MayGo, PassesTo, noted};
+ghost use Rattle.pf_system.specs.Steps.{IsNoteOf, MayGo, PassesTo, noted};
 
 use crate::bonds::Bonds;
 use crate::enabled::Enabled;
 use crate::slot::Life;
-use crate::world::World;
+use crate::world::{Basis, World};
 use pf_channels::Channels;
+use pf_model::limits::most_processes;
 use pf_model::report::{Label, Outcome};
 use pf_nodes::Pool;
 use pf_stepper::Machine;
@@ -51,15 +53,24 @@ impl Model for System {
 }
 
 impl System {
-    /// One process, at the call of a function without arguments, and nothing on its way.
-    pub fn new(alloc: Global, module: &Arc<Module>, root: FunctionId) -> Result<System, NoMemory>
+    /// One process, at the call of a function without arguments, within the limits of an edition, and nothing on its way.
+    pub fn new(
+        alloc: Global,
+        module: &Arc<Module>,
+        root: FunctionId,
+        edition: u32,
+    ) -> Result<System, NoMemory>
+        requires { IsEdition edition }
         ensures { IfOk result (λ s.
-            s ≡ system_view (code_of «module».now.value) 0 (Some (start root.0))) }
+            s ≡ system_view (code_of «module».now.value) 0 (Some (start root.0 edition))) }
     {
         let shared = Arc::try_clone(module)?;
         let machine = Machine::new(alloc, 0, shared, root, SmallVec::new(alloc))?;
         let mut world = World {
-            module: Arc::try_clone(module)?,
+            basis: Basis {
+                module: Arc::try_clone(module)?,
+                most: most_processes(edition),
+            },
             slots: Vec::new(alloc),
             bonds: Bonds {
                 ties: Ties::new(alloc),
@@ -93,7 +104,8 @@ impl System {
 
     /// Who may go. Nothing is searched for it, and it takes no memory.
     pub fn enabled(&self) -> Enabled<'_>
-        ensures { (c : _) → self.now.standing ≡ Some c → noted result ≡ enabled c }
+        ensures actors { (c : _) → self.now.standing ≡ Some c → noted result ≡ enabled c }
+        ensures both { (c : _) → self.now.standing ≡ Some c → IsNoteOf result c }
     {
         Enabled {
             ready: &self.world.ready,

@@ -3,6 +3,7 @@
 use crate::told::{SUM_BYTES, described, order_of, submitted, used};
 use pf_book::Book;
 use pf_sched::{JobChoices, JobKind};
+use pf_store::Source;
 use pf_terms::NoMemory;
 use std::alloc::Global;
 use std::hash::RandomState;
@@ -90,5 +91,41 @@ fn numbers_are_given_once(rt: HostRuntime) -> Result<(), Fail> {
     let all = used(alloc, &mut book, 0)?;
     // Each round has 7 calls: a worker's work is none.
     assert_eq!(rt; all.as_str(), "0 0 0 0 693");
+    Ok(())
+}
+
+/// A module whose run has one process more with each turn of its root.
+const SPAWNER: &str = "-module(m).\n-export([main/0, f/0, g/0]).\nmain() -> f().\nf() -> spawn(m, g, []), f().\ng() -> ok.\n";
+
+/// Orders a run of that module within 6,000 steps, without a schedule.
+fn spawning(alloc: Global, book: &mut Book) -> Result<String, Fail> {
+    let kind = JobKind::Trial(JobChoices::schedule(alloc, Vec::new(alloc))?);
+    let order = order_of(alloc, 1, kind, 6_000)?;
+    described(alloc, book.order(alloc, 0, order)?)
+}
+
+/// What a project is told that orders the same before and after it has edition 2, and lets a worker run both then.
+fn told_in_editions(alloc: Global, book: &mut Book) -> Result<String, Fail> {
+    let source = Source::new(alloc, Vec::from_slice(alloc, SPAWNER.as_bytes())?)?;
+    let module = described(alloc, book.submit(alloc, 0, source)?)?;
+    let ticket = spawning(alloc, book)?;
+    let edition = described(alloc, book.edition(alloc, 0, 2)?)?;
+    let other = spawning(alloc, book)?;
+    let done = worked(alloc, book, 0, 1)?;
+    let other_done = worked(alloc, book, 0, 2)?;
+    let report = fetched(alloc, book, 0, 1)?;
+    let other_report = fetched(alloc, book, 0, 2)?;
+    let ordered = format!(in alloc; "{module}, {ticket}, {edition}, {other}")?;
+    Ok(format!(in alloc; "{ordered}, {done}, {report}, {other_done}, {other_report}")?)
+}
+
+#[test]
+fn a_held_trial_keeps_its_edition(rt: HostRuntime) -> Result<(), Fail> {
+    let alloc = rt.alloc();
+    let mut book = Book::new(alloc, RandomState::new(&rt)?);
+    let told = told_in_editions(alloc, &mut book)?;
+    // A run of edition 1 has at most 256 processes, and one of edition 2 has 1,024.
+    let want = "module 1, ticket 1, has edition, ticket 2, true, 1279 steps, true, 5119 steps";
+    assert_eq!(rt; told.as_str(), want);
     Ok(())
 }

@@ -18,6 +18,9 @@ enum Ask {
     Order(u32),
     /// Orders a shrinking of the empty schedule, in so many runs of so many steps each.
     Shrink(u32, u32),
+    /// Orders a trial by these weights, of a run and of a delivery, within so many steps.
+    Weigh(u32, u32, u32),
+    Edition(u32),
     Usage,
     Log,
 }
@@ -39,6 +42,19 @@ fn replied(alloc: Global, book: &mut Book, project: u32, ask: Ask) -> Result<Rep
             let kind = shrinking_of(alloc, runs)?;
             book.order(alloc, project, order_of(alloc, 1, kind, limit)?)?
         }
+        Ask::Weigh(run, deliver, limit) => {
+            let choices = JobChoices::Weighted {
+                seed: 5,
+                run,
+                deliver,
+            };
+            book.order(
+                alloc,
+                project,
+                order_of(alloc, 1, JobKind::Trial(choices), limit)?,
+            )?
+        }
+        Ask::Edition(edition) => book.edition(alloc, project, edition)?,
         Ask::Usage => book.usage(alloc, project)?,
         Ask::Log => book.log(alloc, project)?,
     };
@@ -82,6 +98,44 @@ fn a_project_has_16_modules(rt: HostRuntime) -> Result<(), Fail> {
     ];
     let want = "module 16, refused Q1, 16 960 0 0 17, module 1, ";
     assert_eq!(rt; told(&rt, &rows)?.as_str(), want);
+    Ok(())
+}
+
+#[test]
+fn a_project_of_edition_2_has_64_modules(rt: HostRuntime) -> Result<(), Fail> {
+    let rows = [
+        (1, 17, Ask::Submit(52)),
+        (1, 1, Ask::Edition(2)),
+        (1, 1, Ask::Submit(52)),
+        (1, 1, Ask::Edition(1)),
+        (1, 1, Ask::Edition(3)),
+        (1, 1, Ask::Usage),
+        (1, 47, Ask::Submit(52)),
+        (1, 1, Ask::Submit(52)),
+        (2, 17, Ask::Submit(52)),
+    ];
+    let first = "refused Q1, has edition, module 17, refused B9, refused B8, 17 884 0 0 21, ";
+    let want = format!(in rt.alloc(); "{first}module 64, refused Q1, refused Q1, ")?;
+    assert_eq!(rt; told(&rt, &rows)?.as_str(), want.as_str());
+    Ok(())
+}
+
+#[test]
+fn a_weight_is_from_1_to_9(rt: HostRuntime) -> Result<(), Fail> {
+    let rows = [
+        (1, 1, Ask::Submit(60)),
+        (1, 1, Ask::Weigh(0, 3, 0)),
+        (1, 1, Ask::Weigh(0, 3, 100)),
+        (1, 1, Ask::Weigh(3, 10, 100)),
+        (1, 1, Ask::Weigh(9, 1, 100)),
+        (1, 63, Ask::Order(1)),
+        (1, 1, Ask::Weigh(10, 1, 100)),
+        (1, 1, Ask::Weigh(1, 9, 100)),
+        (1, 1, Ask::Usage),
+    ];
+    let first = "module 1, refused B6, refused B7, refused B7, ticket 1, ticket 64, ";
+    let want = format!(in rt.alloc(); "{first}refused B7, refused Q3, 1 60 64 163 70, ")?;
+    assert_eq!(rt; told(&rt, &rows)?.as_str(), want.as_str());
     Ok(())
 }
 

@@ -62,6 +62,7 @@ pub(crate) fn described(alloc: Global, reply: Reply) -> Result<String, Fail> {
         Reply::Stage(stage) => stage_of(alloc, stage)?,
         Reply::GivenUp => format!(in alloc; "given up")?,
         Reply::Logged(count) => format!(in alloc; "{count} calls")?,
+        Reply::HasEdition => format!(in alloc; "has edition")?,
         Reply::Usage(used) => {
             format!(in alloc;
                 "{} {} {} {} {}",

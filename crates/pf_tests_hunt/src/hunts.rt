@@ -1,8 +1,8 @@
 //! Hunts come to the same, by however many workers.
 
-use crate::jobs::{LOST_UPDATE, Told, job_of, rows_of, summary};
+use crate::jobs::{LOST_UPDATE, Told, job_by, job_of, rows_of, summary};
 use pf_hunt::{first_in, hunt, hunt_all, tally_in};
-use pf_sched::Job;
+use pf_sched::{Job, JobChoices};
 use std::alloc::Global;
 use std::test::Fail;
 use std::thread::Threads;
@@ -93,6 +93,27 @@ fn one_outcome_has_one_row(rt: HostRuntime) -> Result<(), Fail> {
         tally_of(&rt, alloc, &job, 5, 25)?.as_str(),
         "holds finished 20 5\n"
     );
+    Ok(())
+}
+
+/// A message to itself. Where it is delivered before the process waits for it, the run has a step less.
+const TO_ITSELF: &str = "-module(m).\n-export([main/0]).\n\
+main() -> self() ! hi, receive hi -> ok end.\n";
+
+/// The rows of its runs within 7 steps by the seeds from 0 to 9. Where the two may go no word of these seeds is 9 modulo 10.
+fn to_itself(alloc: Global, run: u32, deliver: u32) -> Result<String, Fail> {
+    let choices = JobChoices::Weighted {
+        seed: 5,
+        run,
+        deliver,
+    };
+    let job = job_by(alloc, TO_ITSELF, "withinlimit", choices, 7)?;
+    rows_of(alloc, &tally_in(alloc, &job, 0, 10)?)
+}
+
+#[test]
+fn a_hunt_keeps_the_weights(rt: HostRuntime) -> Result<(), Fail> {
+    assert_eq!(rt; to_itself(rt.alloc(), 9, 1)?.as_str(), "fails limit 10 0\n");
     Ok(())
 }
 

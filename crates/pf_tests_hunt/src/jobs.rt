@@ -18,11 +18,23 @@ counter(N) -> receive {read, P} -> P ! {value, N}, counter(N);\n\
 
 /// The job of a source from its `main`.
 pub(crate) fn job_of(alloc: Global, source: &str, property: &str, limit: u32) -> Result<Job, Fail> {
+    job_by(alloc, source, property, JobChoices::Seed(0), limit)
+}
+
+/// The same by these choices.
+pub(crate) fn job_by(
+    alloc: Global,
+    source: &str,
+    property: &str,
+    choices: JobChoices,
+    limit: u32,
+) -> Result<Job, Fail> {
     let mut bytes = Vec::new(alloc);
     bytes.extend_from_slice(source.as_bytes())?;
     let stored = Stored::read(alloc, &Source::new(alloc, bytes)?)?;
-    let kind = JobKind::Trial(JobChoices::Seed(0));
-    Ok(Job::new(alloc, stored, b"main", property.as_bytes(), kind, limit)?)
+    let kind = JobKind::Trial(choices);
+    let property = property.as_bytes();
+    Ok(Job::new(alloc, stored, b"main", property, kind, limit, 1)?)
 }
 
 /// The seed of a failure, with how many events its report has.

@@ -7,7 +7,7 @@ use pf_fault::OrNoMemory;
 use pf_sched::{JobChoices, Watch};
 use pf_terms::{Counted, FailAt, StreamFault};
 use pf_wire::run_steps;
-use pf_words::{RunWords, ShrinkWords};
+use pf_words::{Edition, RunWords, ShrinkWords};
 use std::alloc::Global;
 use std::hash::RandomState;
 use std::io;
@@ -100,6 +100,7 @@ pub fn run(alloc: Global, input: &[u8], failing: Failing) -> Worked {
         file: None,
         root: "main",
         limit: 1_000,
+        edition: Edition::First,
         choices: JobChoices::Seed(0),
         property: "returns",
     };

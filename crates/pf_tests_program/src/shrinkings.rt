@@ -2,7 +2,7 @@
 
 use crate::pipes::{Ended, shrink};
 use pf_sched::{Course, Watch};
-use pf_words::ShrinkWords;
+use pf_words::{Edition, ShrinkWords};
 use std::alloc::Global;
 use std::sync::Arc;
 use std::test::Fail;
@@ -35,6 +35,7 @@ fn shrunk(alloc: Global) -> Result<String, Fail> {
         file: None,
         root: "main",
         limit: 1_000,
+        edition: Edition::First,
         schedule: Arc::new(alloc, numbers)?,
         property: "nodeadlock",
         runs: 1_000,

@@ -48,7 +48,7 @@ pub(crate) fn job_of_kind(
     kind: JobKind,
     limit: u32,
 ) -> Result<Arc<Job>, Fail> {
-    let job = Job::new(alloc, stored.share()?, b"main", property, kind, limit)?;
+    let job = Job::new(alloc, stored.share()?, b"main", property, kind, limit, 1)?;
     Ok(Arc::new(alloc, job)?)
 }
 

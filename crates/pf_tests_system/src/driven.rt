@@ -43,7 +43,7 @@ impl Driven {
     pub(crate) fn started(alloc: Global, source: &str) -> Result<Driven, Fail> {
         let (module, root) = read_main(alloc, source)?;
         Ok(Driven {
-            system: System::new(alloc, &module, root)?,
+            system: System::new(alloc, &module, root, 1)?,
             module,
             events: Vec::new(alloc),
         })

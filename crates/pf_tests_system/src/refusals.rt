@@ -23,7 +23,7 @@ fn refused(
 ) -> Result<Option<JobRefusal>, Fail> {
     let (root, property) = (root.as_bytes(), property.as_bytes());
     let kind = JobKind::Trial(choices);
-    match Job::new(alloc, stored.share()?, root, property, kind, limit) {
+    match Job::new(alloc, stored.share()?, root, property, kind, limit, 1) {
         Ok(_) => Ok(None),
         Err(OrNoMemory::Fault(refusal)) => Ok(Some(refusal)),
         Err(OrNoMemory::NoMemory) => Err(Fail::from("memory ran out")),
@@ -35,6 +35,8 @@ const NO_ROOT: Option<JobRefusal> = Some(JobRefusal::NoRoot);
 const NO_PROPERTY: Option<JobRefusal> = Some(JobRefusal::NoProperty);
 
 const OUT_OF_RANGE: Option<JobRefusal> = Some(JobRefusal::OutOfRange);
+
+const BAD_WEIGHTS: Option<JobRefusal> = Some(JobRefusal::WeightsOutOfRange);
 
 /// Root, property and limit of jobs, and what they are refused for. The last two tell which refusal goes first.
 const JOBS: [(&str, &str, u32, Option<JobRefusal>); 14] = [
@@ -73,6 +75,55 @@ fn jobs_are_refused_in_order(rt: HostRuntime) -> Result<(), Fail> {
     Ok(())
 }
 
+/// The weights and the limit of jobs, and what they are refused for. The last tells which refusal goes first.
+const WEIGHED: [(u32, u32, u32, Option<JobRefusal>); 7] = [
+    (1, 9, 1, None),
+    (9, 1, 1, None),
+    (0, 1, 1, BAD_WEIGHTS),
+    (1, 0, 1, BAD_WEIGHTS),
+    (10, 1, 1, BAD_WEIGHTS),
+    (1, 10, 1, BAD_WEIGHTS),
+    (0, 1, 0, OUT_OF_RANGE),
+];
+
+/// The first of these jobs that is refused for something else, or isn't.
+fn other_weights(alloc: Global, keys: RandomState) -> Result<Option<usize>, Fail> {
+    let stored = stored(alloc, keys, MODULE)?;
+    for (at, (run, deliver, limit, wanted)) in WEIGHED.iter().enumerate() {
+        let choices = JobChoices::Weighted {
+            seed: 1,
+            run: *run,
+            deliver: *deliver,
+        };
+        if refused(alloc, &stored, "main", "returns", choices, *limit)? != *wanted {
+            return Ok(Some(at));
+        }
+    }
+    Ok(None)
+}
+
+#[test]
+fn weights_are_within_bounds_and_refused_last(rt: HostRuntime) -> Result<(), Fail> {
+    let keys = RandomState::new(&rt)?;
+    assert_eq!(rt; other_weights(rt.alloc(), keys)?, None);
+    Ok(())
+}
+
+/// The edition of a job of the second, and that of its run by a seed.
+fn editions(alloc: Global, keys: RandomState) -> Result<(u32, u32), Fail> {
+    let stored = stored(alloc, keys, MODULE)?;
+    let kind = JobKind::Trial(JobChoices::Seed(1));
+    let job = Job::new(alloc, stored, b"main", b"returns", kind, 1, 2)?;
+    Ok((job.edition(), job.by_seed(7)?.edition()))
+}
+
+#[test]
+fn a_job_keeps_its_edition(rt: HostRuntime) -> Result<(), Fail> {
+    let keys = RandomState::new(&rt)?;
+    assert_eq!(rt; editions(rt.alloc(), keys)?, (2, 2));
+    Ok(())
+}
+
 /// What a job with a schedule of so many zeros is refused for.
 fn of_zeros(alloc: Global, keys: RandomState, count: usize) -> Result<Option<JobRefusal>, Fail> {
     let zeros = vec![in alloc; 0; count]?;
@@ -96,9 +147,10 @@ fn refusals_have_codes(rt: HostRuntime) -> Result<(), Fail> {
         JobRefusal::NoRoot,
         JobRefusal::NoProperty,
         JobRefusal::OutOfRange,
+        JobRefusal::WeightsOutOfRange,
     ]
     .map(|refusal| refusal.code());
-    let text = format!(in rt.alloc(); "{} {} {}", codes[0], codes[1], codes[2])?;
-    assert_eq!(rt; text.as_str(), "B2 P1 B6");
+    let text = format!(in rt.alloc(); "{} {} {} {}", codes[0], codes[1], codes[2], codes[3])?;
+    assert_eq!(rt; text.as_str(), "B2 P1 B6 B7");
     Ok(())
 }

@@ -52,6 +52,52 @@ fn slices_by_a_seed_agree(rt: HostRuntime) -> Result<(), Fail> {
 }
 
 #[test]
+fn slices_by_weights_agree(rt: HostRuntime) -> Result<(), Fail> {
+    let alloc = rt.alloc();
+    for (run, deliver) in [(9, 1), (1, 9)] {
+        let choices = JobChoices::Weighted {
+            seed: 3,
+            run,
+            deliver,
+        };
+        slices_agree(alloc, RandomState::new(&rt)?, &choices)?;
+    }
+    Ok(())
+}
+
+/// A message to itself, which is on its way when word 1 chooses between the process and the channel.
+const TO_ITSELF: &str = "-module(m).\n-export([main/0]).\n\
+main() -> self() ! hi, receive hi -> ok end.\n";
+
+/// Whether the run by seed 7 and these weights is the run by this schedule. Word 1 of seed 7 is 6 modulo 10.
+fn is_by(
+    alloc: Global,
+    keys: RandomState,
+    (run, deliver): (u32, u32),
+    schedule: &[u32],
+) -> Result<bool, Fail> {
+    let stored = stored(alloc, keys, TO_ITSELF)?;
+    let weighted = JobChoices::Weighted {
+        seed: 7,
+        run,
+        deliver,
+    };
+    let by_weights = job_of(alloc, &stored, b"returns", weighted, 1000)?;
+    let by_numbers = job_of(alloc, &stored, b"returns", scheduled(alloc, schedule)?, 1000)?;
+    let told = text_of(alloc, &run_whole(alloc, &by_weights)?)?;
+    let wanted = text_of(alloc, &run_whole(alloc, &by_numbers)?)?;
+    Ok(told.as_str() == wanted.as_str())
+}
+
+#[test]
+fn the_heavier_goes_first(rt: HostRuntime) -> Result<(), Fail> {
+    let (alloc, keys) = (rt.alloc(), RandomState::new(&rt)?);
+    let waits = is_by(alloc, keys, (9, 1), &[])?;
+    assert!(rt; waits && is_by(alloc, keys, (1, 9), &[0, 1])?);
+    Ok(())
+}
+
+#[test]
 fn the_choices_of_a_seed_come_to_its_report(rt: HostRuntime) -> Result<(), Fail> {
     let alloc = rt.alloc();
     let (text, numbers) = slices_agree(alloc, RandomState::new(&rt)?, &JobChoices::Seed(7))?;

@@ -1,11 +1,11 @@
 //! What the words of `hunt` and of `chart` ask for.
 
-use pf_words::{HuntWords, RunWords, Sought, Words, read_words, status_of_kind};
+use pf_words::{Edition, HuntWords, RunWords, Sought, Words, read_words, status_of_kind};
 use std::alloc::Global;
 use std::test::Fail;
 
 /// The words of a hunt over these seeds, with one more.
-fn hunt_over<'a>(seeds: &'a str, more: &'a str) -> [&'a str; 7] {
+pub fn hunt_over<'a>(seeds: &'a str, more: &'a str) -> [&'a str; 7] {
     [
         "pulsefarm",
         "hunt",
@@ -18,7 +18,7 @@ fn hunt_over<'a>(seeds: &'a str, more: &'a str) -> [&'a str; 7] {
 }
 
 /// What these words ask for, where it is a hunt.
-fn hunt_of<'a>(alloc: Global, words: &'a [&'a str]) -> Option<HuntWords<'a>> {
+pub fn hunt_of<'a>(alloc: Global, words: &'a [&'a str]) -> Option<HuntWords<'a>> {
     match read_words(alloc, words) {
         Ok(Words::Hunt(hunt)) => Some(hunt),
         _ => None,
@@ -49,6 +49,8 @@ fn is_as_given(hunt: &HuntWords) -> bool {
     hunt.file == Some("a.erl")
         && hunt.root == "main"
         && hunt.limit == 5
+        && matches!(hunt.edition, Edition::First)
+        && hunt.weights.is_none()
         && hunt.property == "true"
         && hunt.workers.is_none()
         && matches!(hunt.sought, Sought::Failure { runs: None })
@@ -166,6 +168,21 @@ fn wrong_workers_are_named(rt: HostRuntime) -> Result<(), Fail> {
         "--workers",
         "<N>",
         &values,
+        wants,
+    )?;
+    assert_eq!(rt; taken, None);
+    Ok(())
+}
+
+#[test]
+fn wrong_weights_are_named(rt: HostRuntime) -> Result<(), Fail> {
+    let wants = "two numbers R:D from 1 to 9, R of a process and D of a channel";
+    let taken = taken_value(
+        rt.alloc(),
+        "--seeds=0..5",
+        "--weights",
+        "<R:D>",
+        &["3", "0:1", "1:10"],
         wants,
     )?;
     assert_eq!(rt; taken, None);

@@ -4,4 +4,6 @@
 #[cfg(test)]
 mod hunts;
 #[cfg(test)]
+mod weights;
+#[cfg(test)]
 mod words;

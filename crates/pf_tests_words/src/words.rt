@@ -1,7 +1,7 @@
 //! What words ask for, and what is said of words that ask for nothing.
 
 use pf_sched::JobChoices;
-use pf_words::{RunWords, ShrinkWords, Words, read_words, status_of_kind};
+use pf_words::{Edition, RunWords, ShrinkWords, Words, read_words, status_of_kind};
 use std::alloc::Global;
 use std::test::Fail;
 
@@ -36,7 +36,7 @@ fn are_refused(alloc: Global, words: &[&str], text: &str) -> Result<bool, Fail> 
 }
 
 /// Whether these words of `run`, beside a root, are refused for this.
-fn is_refused(alloc: Global, words: &[&str; 3], why: &str) -> Result<bool, Fail> {
+pub fn is_refused(alloc: Global, words: &[&str; 3], why: &str) -> Result<bool, Fail> {
     let all = [
         "pulsefarm",
         "run",
@@ -73,9 +73,9 @@ fn one_of_a_seed_and_a_schedule_is_given(rt: HostRuntime) -> Result<(), Fail> {
 }
 
 /// The first of these values of an option of `run`, beside the others, that isn't refused as it wants something else.
-fn taken_value<'a>(
+pub fn taken_value<'a>(
     alloc: Global,
-    others: &[&str; 2],
+    others: &[&str; 3],
     option: &str,
     placeholder: &str,
     values: &[&'a str],
@@ -83,7 +83,7 @@ fn taken_value<'a>(
 ) -> Result<Option<&'a str>, Fail> {
     for value in values {
         let word = format!(in alloc; "{option}={value}")?;
-        let words = ["pulsefarm", "run", others[0], others[1], &word];
+        let words = ["pulsefarm", "run", others[0], others[1], others[2], &word];
         let why = format!(in alloc;
             "invalid value '{value}' for '{option} {placeholder}': it wants {wants}"
         )?;
@@ -97,7 +97,7 @@ fn taken_value<'a>(
 #[test]
 fn wrong_limits_are_named(rt: HostRuntime) -> Result<(), Fail> {
     let wants = "a number of steps from 1 to 100000, without leading zeros";
-    let others = ["--root=main", "--schedule=none"];
+    let others = ["--root=main", "--schedule=none", "a"];
     let values = ["007", "+5", "-1", "", "4294967296", "a b"];
     let taken = taken_value(rt.alloc(), &others, "--limit", "<N>", &values, wants)?;
     assert_eq!(rt; taken, None);
@@ -107,7 +107,7 @@ fn wrong_limits_are_named(rt: HostRuntime) -> Result<(), Fail> {
 #[test]
 fn wrong_schedules_are_named(rt: HostRuntime) -> Result<(), Fail> {
     let wants = "`none`, or numbers from 0 to 4294967295 with commas between them";
-    let others = ["--root=main", "--limit=5"];
+    let others = ["--root=main", "--limit=5", "a"];
     let values = ["", "1,02", "1,,2", "all", "-1"];
     let taken = taken_value(rt.alloc(), &others, "--schedule", "<L>", &values, wants)?;
     assert_eq!(rt; taken, None);
@@ -117,7 +117,7 @@ fn wrong_schedules_are_named(rt: HostRuntime) -> Result<(), Fail> {
 #[test]
 fn wrong_seeds_are_named(rt: HostRuntime) -> Result<(), Fail> {
     let wants = "a number from 0 to 18446744073709551615, without leading zeros";
-    let others = ["--root=main", "--limit=5"];
+    let others = ["--root=main", "--limit=5", "a"];
     let values = ["007", "-1", "", "18446744073709551616", "none"];
     let taken = taken_value(rt.alloc(), &others, "--seed", "<N>", &values, wants)?;
     assert_eq!(rt; taken, None);
@@ -129,6 +129,7 @@ fn is_as_given(run: &RunWords, numbers: &[u32]) -> bool {
     run.file == Some("a.erl")
         && run.root == "main"
         && run.limit == 0
+        && matches!(run.edition, Edition::First)
         && run.property == "returns"
         && is_schedule(&run.choices, numbers)
 }
@@ -162,7 +163,7 @@ fn values_of_words(rt: HostRuntime) {
 fn is_schedule(choices: &JobChoices, numbers: &[u32]) -> bool {
     match choices {
         JobChoices::Schedule(given) => given.as_slice() == numbers,
-        JobChoices::Seed(_) => false,
+        JobChoices::Seed(_) | JobChoices::Weighted { .. } => false,
     }
 }
 
@@ -170,7 +171,7 @@ fn is_schedule(choices: &JobChoices, numbers: &[u32]) -> bool {
 fn is_seed(choices: &JobChoices, seed: u64) -> bool {
     match choices {
         JobChoices::Seed(given) => *given == seed,
-        JobChoices::Schedule(_) => false,
+        JobChoices::Schedule(_) | JobChoices::Weighted { .. } => false,
     }
 }
 
@@ -204,7 +205,7 @@ fn refused_shrink(alloc: Global, why: &str) -> Result<String, Fail> {
     Ok(format!(in alloc;
         "error: {why}
 
-Usage: pulsefarm shrink --root <F> --limit <N> --schedule <L> --property <P> --runs <N> [FILE]
+Usage: pulsefarm shrink [OPTIONS] --root <F> --limit <N> --schedule <L> --property <P> --runs <N> [FILE]
 
 For more information, try '--help'.
 "
@@ -245,6 +246,7 @@ fn is_shrinking(shrink: &ShrinkWords) -> bool {
     shrink.file == Some("a.erl")
         && shrink.root == "main"
         && shrink.limit == 0
+        && matches!(shrink.edition, Edition::Second)
         && shrink.schedule.as_slice() == [7, 0, 4294967295].as_slice()
         && shrink.property == "never:{a, _}"
         && shrink.runs == 4294967295
@@ -258,6 +260,7 @@ fn values_of_shrink(rt: HostRuntime) {
         "a.erl",
         "--root=main",
         "--limit=0",
+        "--edition=2",
         "--schedule=7,0,4294967295",
         "--property=never:{a, _}",
         "--runs=4294967295",

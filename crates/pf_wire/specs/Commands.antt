@@ -4,8 +4,8 @@ use Rattle.std.specs.List.{list_any, slice_split}
 use Rattle.std.specs.Option.{option_map}
 use Rattle.std.specs.Str.{bytes_eq}
 use Rattle.pf_text.specs.Numbers.{long_number_of, number_of, schedule_of}
-use Rattle.pf_model.specs.Meaning.{Choices, seed, schedule}
-use Rattle.pf_desks.specs.Desk.{Call, submit, order, order_shrink, fetch, status, drop_trial, withdraw, usage, log}
+use Rattle.pf_model.specs.Meaning.{Choices, seed, schedule, weighted_seed}
+use Rattle.pf_desks.specs.Desk.{Call, submit, order, order_shrink, fetch, status, drop_trial, withdraw, usage, log, edition}
 use Rattle.pf_desks.specs.Work.{once}
 use Rattle.pf_desks.specs.World.{Step, client, worker}
 
@@ -29,8 +29,12 @@ abbrev pub is_word : List ℕ → Bool
 is_word [] = false
 is_word (b ∷ bs) = not (list_any (λ c. (c == 9) || (c == 13)) (b ∷ bs))
 
+-- what stands between such bytes, in front of them and behind them
+abbrev pub parts_at : ℕ → List ℕ → List (List ℕ)
+parts_at at text = slice_split (λ b. b == at) text
+
 abbrev pub words_of : List ℕ → List (List ℕ)
-words_of text = slice_split (λ b. b == 32) text
+words_of text = parts_at 32 text
 
 -- ---- what a line asks for
 
@@ -56,10 +60,20 @@ abbrev pub of_one : (ℕ → Asked) → List (List ℕ) → Option Asked
 of_one f (a ∷ []) = with_one f (number_of a)
 of_one f _ = None
 
--- choices are `seed:N`, a seed that is a long number, or else a schedule
+abbrev pub with_weights : (number run deliver : Option ℕ) → Option Choices
+with_weights (Some n) (Some run) (Some deliver) = Some (weighted_seed n run deliver)
+with_weights _ _ _ = None
+
+-- N, or N:R:D: a long number, and by weights two numbers more, the weight of a process and that of a channel
+abbrev pub of_seed : List (List ℕ) → Option Choices
+of_seed (n ∷ []) = option_map seed (long_number_of n)
+of_seed (n ∷ run ∷ deliver ∷ []) = with_weights (long_number_of n) (number_of run) (number_of deliver)
+of_seed _ = None
+
+-- choices are `seed:`, a seed and maybe its weights, parted by colons, or else a schedule
 abbrev pub choices_in : List ℕ → Option Choices
 choices_in text =
-    if bytes_eq (take 5 text) (codes "seed:") then option_map seed (long_number_of (drop 5 text)) else option_map schedule (schedule_of text)
+    if bytes_eq (take 5 text) (codes "seed:") then of_seed (parts_at 58 (drop 5 text)) else option_map schedule (schedule_of text)
 
 abbrev pub with_order : (root property : List ℕ) → (project n : Option ℕ) → Option Choices → Option ℕ → Option Asked
 with_order root property (Some project) (Some n) (Some cs) (Some limit) = Some (made (client project (order n root property cs limit)))
@@ -106,8 +120,9 @@ asked_by (w ∷ ws) =
     else (if bytes_eq w (codes "withdraw") then of_call withdraw ws
     else (if bytes_eq w (codes "usage") then of_project usage ws
     else (if bytes_eq w (codes "log") then of_project log ws
+    else (if bytes_eq w (codes "edition") then of_call edition ws
     else (if bytes_eq w (codes "once") then of_two (λ p t. made (worker p (once t))) ws
-    else None)))))))))
+    else None))))))))))
 
 -- ---- what some bytes begin with
 

@@ -1,7 +1,7 @@
 //! Cuts bytes into lines and words.
 
 ghost use Rattle.std.specs.Prelude.{◌≡◌, ◌++◌, ◌∷◌, [], List, ℕ, MatchOption};
-ghost use Rattle.pf_wire.specs.Commands.{first_line, words_of};
+ghost use Rattle.pf_wire.specs.Commands.{first_line, parts_at, words_of};
 ghost use Rattle.pf_wire.specs.Cuts.{Lacks};
 ghost use Rattle.pf_wire.specs.View.{line_seen};
 
@@ -41,13 +41,34 @@ pub(crate) fn first_line(bytes: &[u8]) -> Line<'_>
     }
 }
 
+/// What stands before the first of these bytes, and the text of the parts that follow, where some do.
+pub(crate) fn first_part(text: &[u8], at: u8) -> Option<(&[u8], &[u8])>
+    ensures { MatchOption result
+        (parts_at at text.now ≡ text.now ∷ [])
+        (λ parts. parts_at at text.now ≡ parts.0.now ∷ parts_at at parts.1.now) }
+{
+    cut(text, at)
+}
+
+/// The part of a text that has none of these bytes.
+pub(crate) fn only_part(text: &[u8], at: u8) -> Option<&[u8]>
+    ensures { MatchOption result
+        ((a : List ℕ) × (b : List ℕ) × (others : List (List ℕ)) × (parts_at at text.now ≡ a ∷ b ∷ others))
+        (λ part. parts_at at text.now ≡ part.now ∷ []) }
+{
+    match first_part(text, at) {
+        Some(_) => None,
+        None => Some(text),
+    }
+}
+
 /// The first word of a text, and the text of those that follow, where some do.
 pub(crate) fn first_word(text: &[u8]) -> Option<(&[u8], &[u8])>
     ensures { MatchOption result
         (words_of text.now ≡ text.now ∷ [])
         (λ parts. words_of text.now ≡ parts.0.now ∷ words_of parts.1.now) }
 {
-    cut(text, b' ')
+    first_part(text, b' ')
 }
 
 /// The word of a text that has no other.
@@ -56,8 +77,5 @@ pub(crate) fn only_word(text: &[u8]) -> Option<&[u8]>
         ((a : List ℕ) × (b : List ℕ) × (others : List (List ℕ)) × (words_of text.now ≡ a ∷ b ∷ others))
         (λ word. words_of text.now ≡ word.now ∷ []) }
 {
-    match first_word(text) {
-        Some(_) => None,
-        None => Some(text),
-    }
+    only_part(text, b' ')
 }

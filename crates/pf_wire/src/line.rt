@@ -3,15 +3,15 @@
 ghost use Rattle.std.specs.Prelude.{◌≡◌, ◌==◌, ◌||◌, ◌∷◌, [], ℕ, None, MatchOption, IfOk};
 ghost use Rattle.std.specs.List.{list_any};
 ghost use Rattle.std.specs.Option.{option_map};
-ghost use Rattle.pf_desks.specs.Desk.{fetch, status, drop_trial, withdraw, usage, log};
+ghost use Rattle.pf_desks.specs.Desk.{fetch, status, drop_trial, withdraw, usage, log, edition};
 ghost use Rattle.pf_desks.specs.Work.{once};
 ghost use Rattle.pf_desks.specs.World.{client, worker};
 ghost use Rattle.pf_sched.specs.Views as jobs;
-ghost use Rattle.pf_wire.specs.Commands.{Asked, made, submission, choices_in, is_word, of_call, of_one, of_order, of_project, of_two, asked_by, words_of};
+ghost use Rattle.pf_wire.specs.Commands.{Asked, made, submission, choices_in, is_word, of_call, of_one, of_order, of_project, of_seed, of_two, asked_by, parts_at, words_of};
 ghost use Rattle.pf_wire.specs.View.{request_seen};
 
 use crate::command::Command;
-use crate::cut::{first_word, only_word};
+use crate::cut::{first_part, first_word, only_part, only_word};
 use crate::shrink::read_shrink;
 use pf_book::{Call, Order, Word};
 use pf_sched::{JobChoices, JobKind};
@@ -103,6 +103,13 @@ fn read_log(words: &[u8]) -> Option<Request>
     Some(Request::Made(Command::Client(project, Call::Log)))
 }
 
+fn read_edition(words: &[u8]) -> Option<Request>
+    ensures { option_map request_seen result ≡ of_call edition (words_of words.now) }
+{
+    let (project, edition) = two_numbers(words)?;
+    Some(Request::Made(Command::Client(project, Call::Edition(edition))))
+}
+
 fn read_once(words: &[u8]) -> Option<Request>
     ensures { option_map request_seen result ≡ of_two (λ p t. made (worker p (once t))) (words_of words.now) }
 {
@@ -146,12 +153,28 @@ fn order_words(words: &[u8]) -> Option<OrderWords<'_>>
     })
 }
 
+/// The choices of a seed, by weights where the text has any.
+fn seed_of(text: &[u8]) -> Option<JobChoices>
+    ensures { option_map jobs.choices_of result ≡ of_seed (parts_at 58 text.now) }
+{
+    let Some((number, weights)) = first_part(text, b':') else {
+        return long_number_of(text).map(JobChoices::Seed);
+    };
+    let (run, others) = first_part(weights, b':')?;
+    let deliver = only_part(others, b':')?;
+    Some(JobChoices::Weighted {
+        seed: long_number_of(number)?,
+        run: number_of(run)?,
+        deliver: number_of(deliver)?,
+    })
+}
+
 /// The choices of an order: of a seed, or of a schedule.
 fn choices_of(alloc: Global, text: &[u8]) -> Result<Option<JobChoices>, NoMemory>
     ensures { IfOk result (λ cs. option_map jobs.choices_of cs ≡ choices_in text.now) }
 {
-    if let Some(number) = text.strip_prefix(b"seed:".as_slice()) {
-        return Ok(long_number_of(number).map(JobChoices::Seed));
+    if let Some(seed) = text.strip_prefix(b"seed:".as_slice()) {
+        return Ok(seed_of(seed));
     }
     match schedule_of(alloc, text)? {
         Some(numbers) => Ok(Some(JobChoices::schedule(alloc, numbers)?)),
@@ -215,6 +238,8 @@ pub(crate) fn read_line(alloc: Global, line: &[u8]) -> Result<Option<Request>, N
         Ok(read_usage(words))
     } else if name == b"log".as_slice() {
         Ok(read_log(words))
+    } else if name == b"edition".as_slice() {
+        Ok(read_edition(words))
     } else if name == b"once".as_slice() {
         Ok(read_once(words))
     } else {

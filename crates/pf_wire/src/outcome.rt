@@ -65,6 +65,7 @@ fn make_call(alloc: Global, book: &mut Book, project: u32, call: Call) -> Result
         Call::Withdraw(module) => book.withdraw(alloc, project, module),
         Call::Usage => book.usage(alloc, project),
         Call::Log => book.log(alloc, project),
+        Call::Edition(edition) => book.edition(alloc, project, edition),
     }
 }
 

@@ -140,7 +140,7 @@ fn put_head(alloc: Global, out: &mut Vec<u8>, reply: &Reply) -> Result<(), NoMem
         }
         Reply::Result(told) => put_result_head(alloc, out, told.result()),
         Reply::Stage(stage) => put_stage(out, *stage),
-        Reply::GivenUp => put(out, b"done"),
+        Reply::GivenUp | Reply::HasEdition => put(out, b"done"),
         Reply::Usage(usage) => {
             put(out, b"usage ")?;
             put_usage(alloc, out, *usage)

@@ -252,11 +252,13 @@ any_is true [] k h g = absurd g
 any_is true (x ∷ xs) k h g = ap (λ (b : Bool). b || list_any is_shown xs) h.0
 
 -- the values of a run are refused by no kind that asks for a text
-values_shown : (s t : Option Text) → is_shown (values_fault s t) ≡ false
-values_shown None None = refl
-values_shown None (Some b) = refl
-values_shown (Some a) None = refl
-values_shown (Some a) (Some b) = refl
+values_shown : (s w t : Option Text) → is_shown (values_fault s w t) ≡ false
+values_shown None None None = refl
+values_shown None None (Some b) = refl
+values_shown None (Some v) None = refl
+values_shown None (Some v) (Some b) = refl
+values_shown (Some a) w None = refl
+values_shown (Some a) w (Some b) = refl
 
 -- nor what a hunt seeks
 sought_shown : (all : Bool) (shrink : Option Text) → is_shown (sought_fault all shrink) ≡ false
@@ -271,7 +273,7 @@ either_shown false k l h g = g
 
 under_shown : (name : Text) (rows : List Row) → is_shown (fault_under name rows) ≡ false
 under_shown name rows =
-    let run : is_shown (run_fault rows) ≡ false = values_shown _ _ in
+    let run : is_shown (run_fault rows) ≡ false = values_shown _ _ _ in
     either_shown (bytes_eq name (codes "run")) _ _ run
     (either_shown (bytes_eq name (codes "chart")) _ _ run
     (either_shown (bytes_eq name (codes "hunt")) (hunt_fault rows) kind.InvalidValue (sought_shown _ _) refl))

@@ -1,14 +1,17 @@
 -- What the words of the command line ask for.
-use Rattle.std.specs.Prelude.{◌≡◌, ◌⊎◌, ℕ, List, [], ◌∷◌, Option, Some, None, option_map, option_and_then, codes, Bool, true, false, ◌==◌, ◌&&◌, nat_le, nat_lt, if◌then◌else◌}
+use Rattle.std.specs.Prelude.{◌≡◌, ◌⊎◌, ℕ, List, [], ◌∷◌, Option, Some, None, option_map, option_and_then, codes, Bool, true, false, ◌==◌, ◌&&◌, ◌||◌, nat_le, nat_lt, if◌then◌else◌}
 use Rattle.std.specs.List.{list_any, before_first, after_first}
 use Rattle.std.specs.Str.{bytes_eq}
 use Rattle.clap.specs.Words.{IsAmong, App, Shape, Rule, Row, Text, new_app, new_rule, with_rule, with_subcommand, Kinds, first_of, subcommand_of, fault_of}
 use Rattle.clap.specs.declared.builder.action.ArgAction.TheVariants.{SetTrue}
 use Rattle.clap.specs.declared.error.kind.ErrorKind.{ErrorKind}
 use Rattle.clap.specs.declared.error.kind.ErrorKind.TheVariants as kind
-use Rattle.pf_model.specs.Meaning.{Choices, seed, schedule}
+use Rattle.pf_model.specs.Meaning.{Choices, seed, schedule, weighted_seed}
 use Rattle.pf_text.specs.Numbers.{number_of, long_number_of, schedule_of}
 use Rattle.pf_sched.specs.Views.{choices_of}
+use Rattle.pf_words.specs.declared.asked.Edition.{Edition}
+use Rattle.pf_words.specs.declared.asked.Edition.TheVariants.{First, Second}
+use Rattle.pf_words.specs.declared.asked.Weights.{Weights}
 use Rattle.pf_words.specs.declared.asked.RunWords.{RunWords}
 use Rattle.pf_words.specs.declared.asked.HuntWords.{HuntWords}
 use Rattle.pf_words.specs.declared.asked.Sought as code
@@ -35,14 +38,21 @@ required_rule name = record (option_rule name) { required = true }
 abbrev pub flag_rule : Text → Rule
 flag_rule name = record (new_rule name) { long = Some name; action = Some SetTrue }
 
--- what must be given of all runs, whatever their choices are: NAME [FILE] --root F --limit N
-abbrev pub bounded_app : Text → App
-bounded_app name = with_rule (with_rule (with_rule (new_app name) file_rule) (required_rule (codes "root"))) (required_rule (codes "limit"))
+-- all runs have a source and a root: NAME [FILE] --root F
+abbrev pub rooted_app : Text → App
+rooted_app name = with_rule (with_rule (new_app name) file_rule) (required_rule (codes "root"))
 
--- a command of one run: NAME [FILE] --root F --limit N [--seed N] [--schedule L] [--property P]
+-- and bounds, whatever their choices are: --limit N [--edition E]
+abbrev pub bounded_app : Text → App
+bounded_app name = with_rule (with_rule (rooted_app name) (required_rule (codes "limit"))) (option_rule (codes "edition"))
+
+-- a command of one run: behind these [--seed N] [--weights R:D]
+abbrev pub weighted_app : Text → App
+weighted_app name = with_rule (with_rule (bounded_app name) (option_rule (codes "seed"))) (option_rule (codes "weights"))
+
+-- and then [--schedule L] [--property P]
 abbrev pub one_run_app : Text → App
-one_run_app name =
-    with_rule (with_rule (with_rule (bounded_app name) (option_rule (codes "seed"))) (option_rule (codes "schedule"))) (option_rule (codes "property"))
+one_run_app name = with_rule (with_rule (weighted_app name) (option_rule (codes "schedule"))) (option_rule (codes "property"))
 
 -- `run` and `chart` take the same words
 abbrev pub run_app : App
@@ -51,15 +61,19 @@ run_app = one_run_app (codes "run")
 abbrev pub chart_app : App
 chart_app = one_run_app (codes "chart")
 
--- what must be given of a hunt: hunt [FILE] --root F --limit N --property P --seeds A..B
+-- what is hunted: hunt [FILE] --root F --limit N [--edition E] --property P --seeds A..B
 abbrev pub seeded_app : App
 seeded_app = with_rule (with_rule (bounded_app (codes "hunt")) (required_rule (codes "property"))) (required_rule (codes "seeds"))
 
--- and behind it [--workers N] [--all] [--shrink N]
-abbrev pub hunt_app : App
-hunt_app = with_rule (with_rule (with_rule seeded_app (option_rule (codes "workers"))) (flag_rule (codes "all"))) (option_rule (codes "shrink"))
+-- and how: behind these [--weights R:D] [--workers N]
+abbrev pub working_app : App
+working_app = with_rule (with_rule seeded_app (option_rule (codes "weights"))) (option_rule (codes "workers"))
 
--- shrink [FILE] --root F --limit N --schedule L --property P --runs N
+-- and what is told: [--all] [--shrink N]
+abbrev pub hunt_app : App
+hunt_app = with_rule (with_rule working_app (flag_rule (codes "all"))) (option_rule (codes "shrink"))
+
+-- shrink [FILE] --root F --limit N [--edition E] --schedule L --property P --runs N
 abbrev pub shrink_app : App
 shrink_app =
     with_rule (with_rule (with_rule (bounded_app (codes "shrink")) (required_rule (codes "schedule"))) (required_rule (codes "property"))) (required_rule (codes "runs"))
@@ -94,18 +108,21 @@ pulsefarm = with_subcommand (with_subcommand runs_app check_app.top) steps_app.t
 
 -- ---- what is asked for
 
--- a run is asked for: of the function of this name, within so many steps, by these choices; whether the property of this text holds
+-- a run is asked for: of the function of this name, within so many steps and in this edition, by these choices; whether the property of this
+-- text holds
 pub record Request : Type 0 where
   pub root : Text
   pub limit : ℕ
+  pub edition : ℕ
   pub choices : Choices
   pub property : Text
 
--- the shrinking of a schedule is asked for, within so many runs: from the function of this name, each within so many steps; a run fails where
--- the property of this text does
+-- the shrinking of a schedule is asked for, within so many runs: from the function of this name, each within so many steps and in this
+-- edition; a run fails where the property of this text does
 pub record ShrinkRequest : Type 0 where
   pub root : Text
   pub limit : ℕ
+  pub edition : ℕ
   pub schedule : List ℕ
   pub property : Text
   pub runs : ℕ
@@ -115,12 +132,15 @@ pub data Sought : Type 0 where
   failure : (runs : Option ℕ) → Sought
   outcomes : Sought
 
--- a hunt is asked for: by the seeds from a first to before an end, by so many workers where these are named
+-- a hunt is asked for: by the seeds from a first to before an end, by the weight of a process and that of a channel where these are named,
+-- and by so many workers where these are
 pub record HuntRequest : Type 0 where
   pub root : Text
   pub limit : ℕ
+  pub edition : ℕ
   pub property : Text
   pub seeds : ℕ × ℕ
+  pub weights : Option (ℕ × ℕ)
   pub workers : Option ℕ
   pub sought : Sought
 
@@ -128,31 +148,76 @@ pub record HuntRequest : Type 0 where
 abbrev pub number_in : Text → List Row → Option ℕ
 number_in name rows = option_and_then number_of (first_of name rows)
 
--- the choices of a seed or of a schedule; one of the two is given, and not both
-abbrev pub choices_named : (seeded scheduled : Option Text) → Option Choices
-choices_named (Some word) None = option_map seed (long_number_of word)
-choices_named None (Some word) = option_map schedule (schedule_of word)
-choices_named _ _ = None
+abbrev pub both : Option ℕ → Option ℕ → Option (ℕ × ℕ)
+both (Some a) (Some b) = Some (a, b)
+both _ _ = None
+
+-- the edition is 1 or 2
+abbrev pub as_edition : ℕ → Option ℕ
+as_edition n = if n == 1 || n == 2 then Some n else None
+
+-- where none is named it is 1
+abbrev pub edition_named : Option Text → Option ℕ
+edition_named None = Some 1
+edition_named (Some word) = option_and_then as_edition (number_of word)
+
+-- the limit and the edition
+abbrev pub bounds_in : List Row → Option (ℕ × ℕ)
+bounds_in rows = both (number_in (codes "limit") rows) (edition_named (first_of (codes "edition") rows))
+
+-- a weight is 1 to 9
+abbrev pub as_weight : ℕ → Option ℕ
+as_weight n = if nat_le 1 n && nat_le n 9 then Some n else None
+
+abbrev pub weight_of : Text → Option ℕ
+weight_of text = option_and_then as_weight (number_of text)
+
+-- weights are R:D: that of a process is in front of the first colon, that of a channel behind it
+abbrev pub is_colon : ℕ → Bool
+is_colon c = c == 58
+
+abbrev pub weights_of : Text → Option (ℕ × ℕ)
+weights_of text = both (weight_of (before_first is_colon text)) (weight_of (after_first is_colon text))
+
+-- where none are named it is left open which they are
+abbrev pub weights_named : Option Text → Option (Option (ℕ × ℕ))
+weights_named None = Some None
+weights_named (Some word) = option_map Some (weights_of word)
+
+-- the choices of a seed, by weights where there are any
+abbrev pub seeded : Option (ℕ × ℕ) → ℕ → Choices
+seeded None n = seed n
+seeded (Some w) n = weighted_seed n w.0 w.1
+
+abbrev pub seeded_by : (weights : Option (Option (ℕ × ℕ))) → (number : Option ℕ) → Option Choices
+seeded_by (Some weights) (Some n) = Some (seeded weights n)
+seeded_by _ _ = None
+
+-- the choices of a seed or of a schedule; one of the two is given, and not both; weights are given beside a seed alone
+abbrev pub choices_named : (seeded weighted scheduled : Option Text) → Option Choices
+choices_named (Some word) weights None = seeded_by (weights_named weights) (long_number_of word)
+choices_named None None (Some word) = option_map schedule (schedule_of word)
+choices_named _ _ _ = None
 
 -- the property that a word names; `returns` where there is none
 abbrev pub property_named : Option Text → Text
 property_named None = codes "returns"
 property_named (Some word) = word
 
-abbrev pub run_asked : (root : Option Text) → (limit : Option ℕ) → Option Choices → (property : Text) → Option Request
-run_asked (Some root) (Some limit) (Some choices) property = Some (record { root = root; limit = limit; choices = choices; property = property })
+abbrev pub run_asked : (root : Option Text) → (bounds : Option (ℕ × ℕ)) → Option Choices → (property : Text) → Option Request
+run_asked (Some root) (Some bounds) (Some choices) property =
+    Some (record { root = root; limit = bounds.0; edition = bounds.1; choices = choices; property = property })
 run_asked _ _ _ property = None
 
 abbrev pub choices_in : List Row → Option Choices
-choices_in rows = choices_named (first_of (codes "seed") rows) (first_of (codes "schedule") rows)
+choices_in rows = choices_named (first_of (codes "seed") rows) (first_of (codes "weights") rows) (first_of (codes "schedule") rows)
 
 abbrev pub run_of : List Row → Option Request
-run_of rows =
-    run_asked (first_of (codes "root") rows) (number_in (codes "limit") rows) (choices_in rows) (property_named (first_of (codes "property") rows))
+run_of rows = run_asked (first_of (codes "root") rows) (bounds_in rows) (choices_in rows) (property_named (first_of (codes "property") rows))
 
-abbrev pub shrinking_asked : (root property : Option Text) → (limit runs : Option ℕ) → (schedule : Option (List ℕ)) → Option ShrinkRequest
-shrinking_asked (Some root) (Some property) (Some limit) (Some runs) (Some numbers) =
-    Some (record { root = root; limit = limit; schedule = numbers; property = property; runs = runs })
+abbrev pub shrinking_asked : (root property : Option Text) → (bounds : Option (ℕ × ℕ)) → (runs : Option ℕ) → (schedule : Option (List ℕ)) → Option ShrinkRequest
+shrinking_asked (Some root) (Some property) (Some bounds) (Some runs) (Some numbers) =
+    Some (record { root = root; limit = bounds.0; edition = bounds.1; schedule = numbers; property = property; runs = runs })
 shrinking_asked _ _ _ _ _ = None
 
 -- the numbers that the schedule is
@@ -161,8 +226,8 @@ schedule_in rows = option_and_then schedule_of (first_of (codes "schedule") rows
 
 abbrev pub shrink_of : List Row → Option ShrinkRequest
 shrink_of rows =
-    shrinking_asked (first_of (codes "root") rows) (first_of (codes "property") rows) (number_in (codes "limit") rows)
-    (number_in (codes "runs") rows) (schedule_in rows)
+    shrinking_asked (first_of (codes "root") rows) (first_of (codes "property") rows) (bounds_in rows) (number_in (codes "runs") rows)
+    (schedule_in rows)
 
 -- seeds are A..B, with A below B: A is in front of the first dot, B behind one dot more
 abbrev pub is_dot : ℕ → Bool
@@ -203,21 +268,33 @@ sought_named true (Some word) = None
 abbrev pub sought_in : List Row → Option Sought
 sought_in rows = sought_named (is_given (first_of (codes "all") rows)) (first_of (codes "shrink") rows)
 
-abbrev pub hunt_asked : (root property : Option Text) → (limit : Option ℕ) → (seeds : Option (ℕ × ℕ)) → (workers : Option (Option ℕ)) → Option Sought → Option HuntRequest
-hunt_asked (Some root) (Some property) (Some limit) (Some seeds) (Some workers) (Some sought) =
-    Some (record { root = root; limit = limit; property = property; seeds = seeds; workers = workers; sought = sought })
-hunt_asked _ _ _ _ _ _ = None
+abbrev pub hunt_asked : Option Sought → (root property : Option Text) → (bounds seeds : Option (ℕ × ℕ)) → (weights : Option (Option (ℕ × ℕ))) → (workers : Option (Option ℕ)) → Option HuntRequest
+hunt_asked (Some sought) (Some root) (Some property) (Some bounds) (Some seeds) (Some weights) (Some workers) =
+    Some (record {
+      root = root;
+      limit = bounds.0;
+      edition = bounds.1;
+      property = property;
+      seeds = seeds;
+      weights = weights;
+      workers = workers;
+      sought = sought;
+    })
+hunt_asked _ _ _ _ _ _ _ = None
 
 abbrev pub seeds_in : List Row → Option (ℕ × ℕ)
 seeds_in rows = option_and_then seeds_of (first_of (codes "seeds") rows)
+
+abbrev pub weights_in : List Row → Option (Option (ℕ × ℕ))
+weights_in rows = weights_named (first_of (codes "weights") rows)
 
 abbrev pub workers_in : List Row → Option (Option ℕ)
 workers_in rows = workers_named (first_of (codes "workers") rows)
 
 abbrev pub hunt_of : List Row → Option HuntRequest
 hunt_of rows =
-    hunt_asked (first_of (codes "root") rows) (first_of (codes "property") rows) (number_in (codes "limit") rows) (seeds_in rows)
-    (workers_in rows) (sought_in rows)
+    hunt_asked (sought_in rows) (first_of (codes "root") rows) (first_of (codes "property") rows) (bounds_in rows) (seeds_in rows)
+    (weights_in rows) (workers_in rows)
 
 -- whether a refusal is to be explained
 abbrev pub explain_of : List Row → Bool
@@ -268,12 +345,35 @@ file_named (Some name) = if bytes_eq name (codes "-") then None else Some name
 unfoldable pub file_of : List Text → Option Text
 file_of words = asked (λ name rows. file_named (first_of (codes "file") rows)) (subcommand_of pulsefarm words)
 
+-- the number of an edition
+abbrev pub edition_number : Edition → ℕ
+edition_number First = 1
+edition_number Second = 2
+
 -- the request that the code's own stands for
 abbrev pub request : RunWords → Request
-request w = record { root = w.root.now; limit = w.limit; choices = choices_of w.choices; property = w.property.now }
+request w =
+    record {
+      root = w.root.now;
+      limit = w.limit;
+      edition = edition_number w.edition;
+      choices = choices_of w.choices;
+      property = w.property.now;
+    }
 
 abbrev pub shrink_request : ShrinkWords → ShrinkRequest
-shrink_request w = record { root = w.root.now; limit = w.limit; schedule = w.schedule.value.items; property = w.property.now; runs = w.runs }
+shrink_request w =
+    record {
+      root = w.root.now;
+      limit = w.limit;
+      edition = edition_number w.edition;
+      schedule = w.schedule.value.items;
+      property = w.property.now;
+      runs = w.runs;
+    }
+
+abbrev pub weights_by : Weights → ℕ × ℕ
+weights_by w = (w.run, w.deliver)
 
 abbrev pub sought_by : code.Sought → Sought
 sought_by (Failure runs) = failure runs
@@ -284,8 +384,10 @@ hunt_request w =
     record {
       root = w.root.now;
       limit = w.limit;
+      edition = edition_number w.edition;
       property = w.property.now;
       seeds = (w.first, w.end);
+      weights = option_map weights_by w.weights;
       workers = w.workers;
       sought = sought_by w.sought;
     }
@@ -319,14 +421,15 @@ is_shown _ = false
 abbrev pub status_of_kind : ErrorKind → ℕ
 status_of_kind k = if is_shown k then 0 else 2
 
--- a seed beside a schedule, neither of the two, or else a value that is no number or no schedule
-abbrev pub values_fault : (seeded scheduled : Option Text) → ErrorKind
-values_fault (Some _) (Some _) = kind.ArgumentConflict
-values_fault None None = kind.MissingRequiredArgument
-values_fault _ _ = kind.InvalidValue
+-- a seed or weights beside a schedule, neither a seed nor a schedule, or else a value that is none
+abbrev pub values_fault : (seeded weighted scheduled : Option Text) → ErrorKind
+values_fault (Some _) _ (Some _) = kind.ArgumentConflict
+values_fault None (Some _) (Some _) = kind.ArgumentConflict
+values_fault None _ None = kind.MissingRequiredArgument
+values_fault _ _ _ = kind.InvalidValue
 
 abbrev pub run_fault : List Row → ErrorKind
-run_fault rows = values_fault (first_of (codes "seed") rows) (first_of (codes "schedule") rows)
+run_fault rows = values_fault (first_of (codes "seed") rows) (first_of (codes "weights") rows) (first_of (codes "schedule") rows)
 
 -- each outcome beside a shrinking, or else a value that is none
 abbrev pub sought_fault : (all : Bool) → (shrink : Option Text) → ErrorKind

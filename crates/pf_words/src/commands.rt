@@ -3,7 +3,7 @@
 ghost use Rattle.std.specs.Prelude.{◌≡◌, IfOk, false, codes};
 ghost use Rattle.clap.specs.Words.{app_of, rule_of, new_app};
 ghost use Rattle.clap.specs.declared.builder.command.Command.TheViews.{out-Command};
-ghost use Rattle.pf_words.specs.Words.{bare_app, bounded_app, chart_app, check_app, file_rule, flag_rule, finding_app, hunt_app, one_run_app, option_rule, pulsefarm, required_rule, run_app, runs_app, seeded_app, shrink_app, steps_app};
+ghost use Rattle.pf_words.specs.Words.{bare_app, bounded_app, chart_app, check_app, file_rule, flag_rule, finding_app, hunt_app, one_run_app, option_rule, pulsefarm, required_rule, rooted_app, run_app, runs_app, seeded_app, shrink_app, steps_app, weighted_app, working_app};
 
 use clap::{Arg, ArgAction, Command};
 use std::alloc::{AllocError, Global};
@@ -80,12 +80,29 @@ fn limit<'a>(alloc: Global) -> Arg<'a>
     required(alloc, "limit", "N", help)
 }
 
+fn edition<'a>(alloc: Global) -> Arg<'a>
+    ensures rule { rule_of result ≡ option_rule (codes "edition") }
+    ensures local { result.global ≡ false }
+{
+    let help = "Edition, 1 with at most 256 processes in a run or 2 with 1,024 [default: 1]";
+    option(alloc, "edition", "E", help)
+}
+
 fn seed<'a>(alloc: Global) -> Arg<'a>
     ensures rule { rule_of result ≡ option_rule (codes "seed") }
     ensures local { result.global ≡ false }
 {
     let help = "Seed of the scheduler's numbers, from 0 to 18446744073709551615";
     option(alloc, "seed", "N", help)
+}
+
+fn weights<'a>(alloc: Global) -> Arg<'a>
+    ensures rule { rule_of result ≡ option_rule (codes "weights") }
+    ensures local { result.global ≡ false }
+{
+    let help =
+        "Weight of a process and that of a channel where a seed chooses, each from 1 to 9 [default: 1:1]";
+    option(alloc, "weights", "R:D", help)
 }
 
 fn schedule<'a>(alloc: Global) -> Arg<'a>
@@ -112,16 +129,43 @@ fn bare<'a>(alloc: Global, name: &'a str, about: &'a str) -> Command<'a>
     Command::new(alloc, name).about(about)
 }
 
-/// A command of runs without the options of its choices and its property.
+/// A command of runs without the options of its bounds, its choices and its property.
+fn rooted<'a>(alloc: Global, name: &'a str, about: &'a str) -> Result<Command<'a>, AllocError>
+    ensures app { IfOk result (λ c. app_of c ≡ rooted_app name.entry.now) }
+    ensures local { IfOk result (λ c. (out-Command c).has_globals ≡ false) }
+{
+    let rooted = bare(alloc, name, about)
+        .arg(file(alloc, SOURCE_HELP))?
+        .arg(root(alloc))?;
+    Ok(rooted)
+}
+
+/// The same with the options of its bounds.
 fn bounded<'a>(alloc: Global, name: &'a str, about: &'a str) -> Result<Command<'a>, AllocError>
     ensures app { IfOk result (λ c. app_of c ≡ bounded_app name.entry.now) }
     ensures local { IfOk result (λ c. (out-Command c).has_globals ≡ false) }
 {
-    let bounded = bare(alloc, name, about)
-        .arg(file(alloc, SOURCE_HELP))?
-        .arg(root(alloc))?
-        .arg(limit(alloc))?;
+    let bounded = rooted(alloc, name, about)?
+        .arg(limit(alloc))?
+        .arg(edition(alloc))?;
     Ok(bounded)
+}
+
+/// A command of one run without its schedule and its property.
+fn weighted<'a>(
+    alloc: Global,
+    name: &'a str,
+    about: &'a str,
+    usage: &'a str,
+) -> Result<Command<'a>, AllocError>
+    ensures app { IfOk result (λ c. app_of c ≡ weighted_app name.entry.now) }
+    ensures local { IfOk result (λ c. (out-Command c).has_globals ≡ false) }
+{
+    let weighted = bounded(alloc, name, about)?
+        .override_usage(usage)
+        .arg(seed(alloc))?
+        .arg(weights(alloc))?;
+    Ok(weighted)
 }
 
 /// A command of one run.
@@ -134,9 +178,7 @@ fn one_run<'a>(
     ensures app { IfOk result (λ c. app_of c ≡ one_run_app name.entry.now) }
     ensures local { IfOk result (λ c. (out-Command c).has_globals ≡ false) }
 {
-    let run = bounded(alloc, name, about)?
-        .override_usage(usage)
-        .arg(seed(alloc))?
+    let run = weighted(alloc, name, about, usage)?
         .arg(schedule(alloc))?
         .arg(property(alloc))?;
     Ok(run)
@@ -160,7 +202,7 @@ pub(crate) fn chart_command<'a>(alloc: Global) -> Result<Command<'a>, AllocError
     one_run(alloc, "chart", about, CHART_USAGE)
 }
 
-/// What must be given of a hunt.
+/// A hunt without the options of how it is done and of what it tells.
 fn seeded<'a>(alloc: Global, about: &'a str) -> Result<Command<'a>, AllocError>
     ensures app { IfOk result (λ c. app_of c ≡ seeded_app) }
     ensures local { IfOk result (λ c. (out-Command c).has_globals ≡ false) }
@@ -172,17 +214,27 @@ fn seeded<'a>(alloc: Global, about: &'a str) -> Result<Command<'a>, AllocError>
     Ok(seeded)
 }
 
+/// A hunt without the options of what it tells.
+fn working<'a>(alloc: Global, about: &'a str) -> Result<Command<'a>, AllocError>
+    ensures app { IfOk result (λ c. app_of c ≡ working_app) }
+    ensures local { IfOk result (λ c. (out-Command c).has_globals ≡ false) }
+{
+    let workers = "Threads that run seeds, from 1 to 64 [default: the machine's processors]";
+    let working = seeded(alloc, about)?
+        .arg(weights(alloc))?
+        .arg(option(alloc, "workers", "N", workers))?;
+    Ok(working)
+}
+
 /// `hunt`.
 pub(crate) fn hunt_command<'a>(alloc: Global) -> Result<Command<'a>, AllocError>
     ensures app { IfOk result (λ c. app_of c ≡ hunt_app) }
     ensures local { IfOk result (λ c. (out-Command c).has_globals ≡ false) }
 {
     let about = "Runs a module by many seeds and reports the least that fails a property";
-    let workers = "Threads that run seeds, from 1 to 64 [default: the machine's processors]";
     let all = "Tells each outcome, by how many seeds and the least of them, and runs all seeds";
     let shrink = "Shrinks the schedule of the seed that fails, within N runs from 1 to 1,000";
-    let hunt = seeded(alloc, about)?
-        .arg(option(alloc, "workers", "N", workers))?
+    let hunt = working(alloc, about)?
         .arg(flag(alloc, "all", all))?
         .arg(option(alloc, "shrink", "N", shrink))?;
     Ok(hunt)

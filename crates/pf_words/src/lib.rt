@@ -8,6 +8,8 @@ mod refusals;
 mod values;
 mod words;
 
-pub use asked::{CheckWords, HuntWords, RunWords, ShrinkWords, Sought, StepsWords, Words};
+pub use asked::{
+    CheckWords, Edition, HuntWords, RunWords, ShrinkWords, Sought, StepsWords, Weights, Words,
+};
 pub use laws::statuses_agree;
 pub use words::{read_words, status_of_kind};

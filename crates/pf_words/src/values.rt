@@ -1,13 +1,14 @@
 //! The values of options.
 
-ghost use Rattle.std.specs.Prelude.{◌≡◌, ◌⊎◌, IfOk, IfErr, Some, None, codes, option_map, option_and_then};
+ghost use Rattle.std.specs.Prelude.{◌≡◌, ◌⊎◌, true, IfOk, IfErr, Some, None, codes, option_map, option_and_then};
 ghost use Rattle.clap.specs.Words.{kind_of, first_of, rows_of, found_of};
-ghost use Rattle.pf_model.specs.Meaning.{seed, schedule};
+ghost use Rattle.pf_model.specs.Meaning.{schedule};
 ghost use Rattle.pf_text.specs.Numbers.{long_number_of, number_of, schedule_of};
+ghost use Rattle.pf_desks.specs.Desk.{may_weigh};
 ghost use Rattle.pf_sched.specs.Views.{choices_of};
-ghost use Rattle.pf_words.specs.Words.{as_workers, behind_dot, choices_in, file_named, hunt_fault, is_given, number_in, property_named, run_fault, schedule_in, seeds_in, seeds_of, sought_by, sought_in, workers_in};
+ghost use Rattle.pf_words.specs.Words.{as_edition, as_workers, behind_dot, bounds_in, choices_in, edition_named, edition_number, file_named, hunt_fault, is_given, number_in, property_named, run_fault, schedule_in, seeded_by, seeds_in, seeds_of, sought_by, sought_in, weight_of, weights_by, weights_in, weights_of, workers_in};
 
-use crate::asked::Sought;
+use crate::asked::{Edition, Sought, Weights};
 use crate::refusals::{Valued, mistake, refuse, refuse_number, refuse_value};
 use clap::error::ErrorKind;
 use clap::{ArgMatches, Error};
@@ -46,7 +47,7 @@ pub(crate) fn named_file<'a>(rows: &ArgMatches<'a>) -> Option<&'a str>
 }
 
 /// What a limit wants.
-pub(crate) const STEPS: &str = "a number of steps from 1 to 100000, without leading zeros";
+const STEPS: &str = "a number of steps from 1 to 100000, without leading zeros";
 
 /// What the number of runs wants.
 pub(crate) const RUNS: &str = "a number of runs from 1 to 1000, without leading zeros";
@@ -54,6 +55,12 @@ pub(crate) const RUNS: &str = "a number of runs from 1 to 1000, without leading 
 /// What seeds want.
 const SEEDS: &str =
     "two numbers A..B from 0 to 18446744073709551615, without leading zeros, A below B; B is the end and not run";
+
+/// What weights want.
+const WEIGHTS: &str = "two numbers R:D from 1 to 9, R of a process and D of a channel";
+
+/// What an edition wants.
+const EDITIONS: &str = "1 or 2";
 
 /// What the number of workers wants.
 const WORKERS: &str = "a number of threads from 1 to 64, without leading zeros";
@@ -80,14 +87,113 @@ pub(crate) fn number(
     }
 }
 
-/// The choices of the seed that a word is.
-fn choices_by_seed(alloc: Global, valued: Valued, word: &str) -> Result<JobChoices, Error>
-    ensures ok { IfOk result (λ cs. option_map seed (long_number_of word.now) ≡ Some (choices_of cs)) }
-    ensures err { IfErr result (λ e. (kind_of e ≡ ErrorKind.OutOfMemory)
-        ⊎ ((kind_of e ≡ ErrorKind.InvalidValue) × (long_number_of word.now ≡ None))) }
+/// The edition that a word is.
+fn as_edition(word: &str) -> Option<Edition>
+    ensures { option_map edition_number result ≡ option_and_then as_edition (number_of word.now) }
 {
+    match number_of(word.as_bytes()) {
+        Some(1) => Some(Edition::First),
+        Some(2) => Some(Edition::Second),
+        _ => None,
+    }
+}
+
+/// The edition that is named; the first where none is.
+fn edition(alloc: Global, valued: Valued, rows: &ArgMatches) -> Result<Edition, Error>
+    ensures ok { IfOk result (λ e. edition_named (first_of (codes "edition") (rows_of (found_of rows.now)))
+        ≡ Some (edition_number e)) }
+    ensures err { IfErr result (λ e. (kind_of e ≡ ErrorKind.OutOfMemory)
+        ⊎ ((kind_of e ≡ ErrorKind.InvalidValue)
+        × (edition_named (first_of (codes "edition") (rows_of (found_of rows.now))) ≡ None))) }
+{
+    let Some(word) = value(rows, "edition") else {
+        return Ok(Edition::First);
+    };
+    match as_edition(word) {
+        Some(edition) => Ok(edition),
+        None => Err(refuse_value(alloc, valued, "edition <E>", word, EDITIONS)),
+    }
+}
+
+/// The limit of steps and the edition.
+pub(crate) fn bounds(
+    alloc: Global,
+    valued: Valued,
+    rows: &ArgMatches,
+) -> Result<(u32, Edition), Error>
+    ensures ok { IfOk result (λ b. bounds_in (rows_of (found_of rows.now)) ≡ Some (b.0, edition_number b.1)) }
+    ensures err { IfErr result (λ e. (kind_of e ≡ ErrorKind.OutOfMemory)
+        ⊎ ((kind_of e ≡ ErrorKind.InvalidValue) × (bounds_in (rows_of (found_of rows.now)) ≡ None))) }
+{
+    let limit = match number(alloc, valued, rows, "limit", STEPS) {
+        Ok(limit) => limit,
+        Err(e) => return Err(e),
+    };
+    match edition(alloc, valued, rows) {
+        Ok(edition) => Ok((limit, edition)),
+        Err(e) => Err(e),
+    }
+}
+
+/// The weight that a word is.
+fn weight_of(word: &str) -> Option<u32>
+    ensures { result ≡ weight_of word.now }
+{
+    match number_of(word.as_bytes()) {
+        Some(number @ 1..=9) => Some(number),
+        _ => None,
+    }
+}
+
+/// The weights that a text names: that of a process and that of a channel.
+fn weights_of(text: &str) -> Option<Weights>
+    ensures { option_map weights_by result ≡ weights_of text.now }
+{
+    let (front, back) = text.split_once(':')?;
+    let run = weight_of(front)?;
+    let deliver = weight_of(back)?;
+    Some(Weights { run, deliver })
+}
+
+/// The weights that are named, if any are.
+pub(crate) fn weights(
+    alloc: Global,
+    valued: Valued,
+    rows: &ArgMatches,
+) -> Result<Option<Weights>, Error>
+    ensures ok { IfOk result (λ w. weights_in (rows_of (found_of rows.now)) ≡ Some (option_map weights_by w)) }
+    ensures err { IfErr result (λ e. (kind_of e ≡ ErrorKind.OutOfMemory)
+        ⊎ ((kind_of e ≡ ErrorKind.InvalidValue) × (weights_in (rows_of (found_of rows.now)) ≡ None))) }
+{
+    let Some(word) = value(rows, "weights") else {
+        return Ok(None);
+    };
+    match weights_of(word) {
+        Some(weights) => Ok(Some(weights)),
+        None => Err(refuse_value(alloc, valued, "weights <R:D>", word, WEIGHTS)),
+    }
+}
+
+/// The choices of the seed that a word is, by the weights that are named.
+fn choices_by_seed(
+    alloc: Global,
+    valued: Valued,
+    rows: &ArgMatches,
+    word: &str,
+) -> Result<JobChoices, Error>
+    ensures ok { IfOk result (λ cs.
+        seeded_by (weights_in (rows_of (found_of rows.now))) (long_number_of word.now) ≡ Some (choices_of cs)) }
+    ensures weighs { IfOk result (λ cs. may_weigh (choices_of cs) ≡ true) }
+    ensures err { IfErr result (λ e. (kind_of e ≡ ErrorKind.OutOfMemory)
+        ⊎ ((kind_of e ≡ ErrorKind.InvalidValue)
+        × (seeded_by (weights_in (rows_of (found_of rows.now))) (long_number_of word.now) ≡ None))) }
+{
+    let weights = match weights(alloc, valued, rows) {
+        Ok(weights) => weights,
+        Err(e) => return Err(e),
+    };
     match long_number_of(word.as_bytes()) {
-        Some(seed) => Ok(JobChoices::Seed(seed)),
+        Some(seed) => Ok(Weights::seeded(weights, seed)),
         None => {
             let wants = "a number from 0 to 18446744073709551615, without leading zeros";
             Err(refuse_value(alloc, valued, "seed <N>", word, wants))
@@ -114,6 +220,7 @@ fn numbers(alloc: Global, valued: Valued, word: &str) -> Result<Vec<u32>, Error>
 /// The choices of the schedule that a word is.
 fn choices_by_schedule(alloc: Global, valued: Valued, word: &str) -> Result<JobChoices, Error>
     ensures ok { IfOk result (λ cs. option_map schedule (schedule_of word.now) ≡ Some (choices_of cs)) }
+    ensures weighs { IfOk result (λ cs. may_weigh (choices_of cs) ≡ true) }
     ensures err { IfErr result (λ e. (kind_of e ≡ ErrorKind.OutOfMemory)
         ⊎ ((kind_of e ≡ ErrorKind.InvalidValue) × (schedule_of word.now ≡ None))) }
 {
@@ -127,21 +234,30 @@ fn choices_by_schedule(alloc: Global, valued: Valued, word: &str) -> Result<JobC
     }
 }
 
-/// The choices of a seed or of a schedule, of which one is given.
+/// The choices of a seed or of a schedule, of which one is given; weights are given beside a seed alone.
 pub(crate) fn choices(alloc: Global, valued: Valued, rows: &ArgMatches) -> Result<JobChoices, Error>
     ensures ok { IfOk result (λ cs. choices_in (rows_of (found_of rows.now)) ≡ Some (choices_of cs)) }
+    ensures weighs { IfOk result (λ cs. may_weigh (choices_of cs) ≡ true) }
     ensures err { IfErr result (λ e. (kind_of e ≡ ErrorKind.OutOfMemory)
         ⊎ ((kind_of e ≡ run_fault (rows_of (found_of rows.now)))
         × (choices_in (rows_of (found_of rows.now)) ≡ None))) }
 {
-    match (value(rows, "seed"), value(rows, "schedule")) {
-        (Some(word), None) => choices_by_seed(alloc, valued, word),
-        (None, Some(word)) => choices_by_schedule(alloc, valued, word),
-        (Some(_), Some(_)) => {
+    match (
+        value(rows, "seed"),
+        value(rows, "weights"),
+        value(rows, "schedule"),
+    ) {
+        (Some(word), _, None) => choices_by_seed(alloc, valued, rows, word),
+        (None, None, Some(word)) => choices_by_schedule(alloc, valued, word),
+        (Some(_), _, Some(_)) => {
             let text = "the argument '--seed <N>' cannot be used with '--schedule <L>'";
             Err(refuse(alloc, valued, ErrorKind::ArgumentConflict, text))
         }
-        (None, None) => {
+        (None, Some(_), Some(_)) => {
+            let text = "the argument '--weights <R:D>' cannot be used with '--schedule <L>'";
+            Err(refuse(alloc, valued, ErrorKind::ArgumentConflict, text))
+        }
+        (None, _, None) => {
             let text = "one of '--seed <N>' and '--schedule <L>' is wanted";
             Err(refuse(alloc, valued, ErrorKind::MissingRequiredArgument, text))
         }

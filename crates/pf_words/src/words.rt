@@ -8,8 +8,8 @@ use crate::asked::{CheckWords, HuntWords, RunWords, ShrinkWords, StepsWords, Wor
 use crate::commands::command;
 use crate::refusals::{Valued, mistake};
 use crate::values::{
-    RUNS, STEPS, choices, given_schedule, is_given, named_file, named_property, number, seeds,
-    sought, value, workers,
+    RUNS, bounds, choices, given_schedule, is_given, named_file, named_property, number, seeds,
+    sought, value, weights, workers,
 };
 use clap::error::ErrorKind;
 use clap::{ArgMatches, Error};
@@ -42,14 +42,15 @@ fn run_words<'a>(
     let Some(root) = value(rows, "root") else {
         return Err(mistake(alloc, "--root is missing"));
     };
-    let limit = match number(alloc, valued, rows, "limit", STEPS) {
-        Ok(limit) => limit,
+    let (limit, edition) = match bounds(alloc, valued, rows) {
+        Ok(bounds) => bounds,
         Err(e) => return Err(e),
     };
     Ok(RunWords {
         file: named_file(rows),
         root,
         limit,
+        edition,
         choices,
         property: named_property(rows),
     })
@@ -74,12 +75,16 @@ fn hunt_words<'a>(alloc: Global, rows: &ArgMatches<'a>) -> Result<HuntWords<'a>,
     let Some(property) = value(rows, "property") else {
         return Err(mistake(alloc, "--property is missing"));
     };
-    let limit = match number(alloc, Valued::Hunt, rows, "limit", STEPS) {
-        Ok(limit) => limit,
+    let (limit, edition) = match bounds(alloc, Valued::Hunt, rows) {
+        Ok(bounds) => bounds,
         Err(e) => return Err(e),
     };
     let (first, end) = match seeds(alloc, rows) {
         Ok(seeds) => seeds,
+        Err(e) => return Err(e),
+    };
+    let weights = match weights(alloc, Valued::Hunt, rows) {
+        Ok(weights) => weights,
         Err(e) => return Err(e),
     };
     let workers = match workers(alloc, rows) {
@@ -90,9 +95,11 @@ fn hunt_words<'a>(alloc: Global, rows: &ArgMatches<'a>) -> Result<HuntWords<'a>,
         file: named_file(rows),
         root,
         limit,
+        edition,
         property,
         first,
         end,
+        weights,
         workers,
         sought,
     })
@@ -112,8 +119,8 @@ fn shrink_words<'a>(alloc: Global, rows: &ArgMatches<'a>) -> Result<ShrinkWords<
     let Some(property) = value(rows, "property") else {
         return Err(mistake(alloc, "--property is missing"));
     };
-    let limit = match number(alloc, Valued::Shrink, rows, "limit", STEPS) {
-        Ok(limit) => limit,
+    let (limit, edition) = match bounds(alloc, Valued::Shrink, rows) {
+        Ok(bounds) => bounds,
         Err(e) => return Err(e),
     };
     let runs = match number(alloc, Valued::Shrink, rows, "runs", RUNS) {
@@ -128,6 +135,7 @@ fn shrink_words<'a>(alloc: Global, rows: &ArgMatches<'a>) -> Result<ShrinkWords<
         file: named_file(rows),
         root,
         limit,
+        edition,
         schedule,
         property,
         runs,

@@ -3,7 +3,7 @@
 ghost use Rattle.std.specs.Prelude.{◌≡◌, ◌≤◌, IfOk, IsSome, MatchResult, OnErr, OnOk, Ok};
 ghost use Rattle.pf_desks.specs.Desk as desk;
 ghost use Rattle.pf_desks.specs.Desk.{held_at};
-ghost use Rattle.pf_desks.specs.Calls.{fetched};
+ghost use Rattle.pf_desks.specs.Calls.{fetched, is_edition};
 ghost use Rattle.pf_store.specs.Sources.{holders, HeldOnceLess};
 ghost use Rattle.pf_book.specs.View.{order_seen, code_of};
 ghost use Rattle.pf_book.specs.Kept.{Counts};
@@ -42,7 +42,7 @@ impl Desk {
     {
         let mut with_module = usage;
         let bytes = source.bytes().len() as u64;
-        if let Err(limit) = with_module.charge(Charge::Module { bytes }) {
+        if let Err(limit) = with_module.charge(self.edition(), Charge::Module { bytes }) {
             return Ok(source_refused(source, Refusal::PastLimit(limit), usage));
         }
         match store.take_or_read(alloc, &source) {
@@ -74,7 +74,7 @@ impl Desk {
         ensures modules { IfOk result (λ p. KeepsModules p.change) }
     {
         let order = Arc::new(alloc, order)?;
-        match job_of(alloc, &self.modules, &order) {
+        match job_of(alloc, self.edition(), &self.modules, &order) {
             Ok(job) => Ok(self.ordered(order, job, usage)),
             Err(OrNoMemory::NoMemory) => Err(NoMemory),
             Err(OrNoMemory::Fault(refusal)) => {
@@ -87,7 +87,7 @@ impl Desk {
     /// A job that was ordered, of a module that is held: one ticket more, where the project passes no limit with it.
     fn ordered(&self, order: Arc<Order>, job: Arc<Job>, usage: Usage) -> Plan
         requires charged { IsCharged self.now usage }
-        requires asked { Asked self.now.modules order.value (Ok job.value) }
+        requires asked { Asked self.now.edition self.now.modules order.value (Ok job.value) }
         requires held { IsSome (held_at self.now.modules order.value.module) }
         ensures plan { IsPlan self.now (order_seen order.value) result }
         ensures can { CanChange self.now result.change }
@@ -95,7 +95,7 @@ impl Desk {
     {
         let mut with_trial = usage;
         let steps = trial_steps(job.limit(), job.runs());
-        if let Err(limit) = with_trial.charge(Charge::Trial { steps }) {
+        if let Err(limit) = with_trial.charge(self.edition(), Charge::Trial { steps }) {
             let refusal = Refusal::PastLimit(limit);
             let noted = Entry::OrderRefused(order, refusal);
             return Plan::reply_alone(noted, Reply::Refused(refusal), usage);
@@ -208,6 +208,27 @@ impl Desk {
         let calls = self.usage.calls;
         Plan::reply_alone(Entry::Counted(calls), Reply::Logged(calls), usage)
     }
+
+    pub(super) fn moving(&self, edition: u32, usage: Usage) -> Plan
+        requires charged { IsCharged self.now usage }
+        ensures plan { IsPlan self.now (desk.edition edition) result }
+        ensures can { CanChange self.now result.change }
+        ensures modules { KeepsModules result.change }
+    {
+        if !is_edition(edition) {
+            return move_refused(edition, Refusal::NoEdition, usage);
+        }
+        let own = self.edition();
+        if edition < own {
+            return move_refused(edition, Refusal::EditionTooLow, usage);
+        }
+        Plan {
+            change: Change::Edition(edition),
+            noted: Entry::Moved(edition),
+            reply: Reply::HasEdition,
+            usage,
+        }
+    }
 }
 
 /// What came of the trial of a ticket, where it is filed.
@@ -242,6 +263,26 @@ fn withdrawal_refused(number: u64, refusal: Refusal, usage: Usage) -> Plan
     } }
 {
     let noted = Entry::WithdrawRefused(number, refusal);
+    Plan::reply_alone(noted, Reply::Refused(refusal), usage)
+}
+
+/// There are editions 1 and 2.
+fn is_edition(edition: u32) -> bool
+    ensures { result ≡ is_edition edition }
+{
+    edition == 1 || edition == 2
+}
+
+/// An edition is refused.
+fn move_refused(edition: u32, refusal: Refusal, usage: Usage) -> Plan
+    ensures { result ≡ record {
+      change = Change.Nothing;
+      noted = Entry.MoveRefused edition refusal;
+      reply = Reply.Refused refusal;
+      usage = usage;
+    } }
+{
+    let noted = Entry::MoveRefused(edition, refusal);
     Plan::reply_alone(noted, Reply::Refused(refusal), usage)
 }
 

@@ -12,7 +12,7 @@ pub one_more-requires-clause-fits : goal.one_more-requires-clause-fits
 one_more-requires-clause-fits c =
     let v = c.args.trials.now in
     let ms = c.args.modules.now.items in
-    let can : IsSome (held_at ms c.in-Trial.number) = subst (CanChange (holding ms v.items)) c.in-Trial.is c.requires.can in
+    let can : IsSome (held_at ms c.in-Trial.number) = subst (CanChange (holding c.args.edition.now ms v.items)) c.in-Trial.is c.requires.can in
     let fits = counted_fits c.args.users.now.items ms v.items c.in-Trial.number can c.requires.counts in
     omega (arith, fits, v.ok.0, v.ok.1, v.small)
 
@@ -55,7 +55,7 @@ returns-in-Trial-clause-counts c =
     let ms = c.args.modules.now.items in
     let ts = c.args.trials.now.items in
     let t : Trial = record { module_number = c.in-Trial.number; job = c.in-Trial.job.value; state = desk.queued } in
-    let can : IsSome (held_at ms c.in-Trial.number) = subst (CanChange (holding ms ts)) c.in-Trial.is c.requires.can in
+    let can : IsSome (held_at ms c.in-Trial.number) = subst (CanChange (holding c.args.edition.now ms ts)) c.in-Trial.is c.requires.can in
     let made = trial_more us ms ts t can c.requires.counts in
     let pushed : c.push_reserved-in-Trial.new.self.items ≡ ts ++ Some t ∷ [] = search rules in
     let one : CountUsers c.one_more.new.users.items ms (ts ++ Some t ∷ []) =
@@ -92,5 +92,5 @@ returns-in-Withdraw-clause-counts c =
     let ms = c.args.modules.now.items in
     let ts = c.args.trials.now.items in
     let n = c.in-Withdraw.number in
-    let can : users_of (holding ms ts) n ≡ 0 = subst (CanChange (holding ms ts)) c.in-Withdraw.is c.requires.can in
+    let can : users_of (holding c.args.edition.now ms ts) n ≡ 0 = subst (CanChange (holding c.args.edition.now ms ts)) c.in-Withdraw.is c.requires.can in
     subst (λ (l : List (Option Stored)). CountUsers us l ts) (sym c.give_up-in-Withdraw.ensures.items) (module_less us ms ts n can c.requires.counts)

@@ -17,9 +17,9 @@ returns-in_ok-new-in-Ok-clause-asked c =
     let cs = choices_in c.in_ok-shared.field-0 in
     let k = runs_asked c.in_ok-shared.field-0 in
     let found : held_at c.args.modules.now c.args.order.now.module ≡ Some m = search rules in
-    let asks : Asks m root property cs c.args.order.now.limit k (Ok c.in_ok-new-in-Ok.field-0.value) =
-    subst (λ (j : Job). Asks m root property cs c.args.order.now.limit k (Ok j)) (sym c.in_ok-new-in-Ok.ensures.ok) c.in-Ok.ensures in
-    order_asks c.args.modules.now c.args.order.now m root property cs k _ found c.as_slice-root.ensures c.as_slice-property.ensures c.in_ok-shared.ensures.choices c.in_ok-shared.ensures.runs asks
+    let asks : Asks m root property cs c.args.order.now.limit k c.args.edition (Ok c.in_ok-new-in-Ok.field-0.value) =
+    subst (λ (j : Job). Asks m root property cs c.args.order.now.limit k c.args.edition (Ok j)) (sym c.in_ok-new-in-Ok.ensures.ok) c.in-Ok.ensures in
+    order_asks c.args.edition c.args.modules.now c.args.order.now m root property cs k _ found c.as_slice-root.ensures c.as_slice-property.ensures c.in_ok-shared.ensures.choices c.in_ok-shared.ensures.runs asks
 
 pub returns-in-Err-Fault-clause-asked : goal.returns-in-Err-Fault-clause-asked
 returns-in-Err-Fault-clause-asked c =
@@ -29,8 +29,8 @@ returns-in-Err-Fault-clause-asked c =
     let cs = choices_in c.in_ok-shared.field-0 in
     let k = runs_asked c.in_ok-shared.field-0 in
     let found : held_at c.args.modules.now c.args.order.now.module ≡ Some m = search rules in
-    let asks : Asks m root property cs c.args.order.now.limit k (Err (job.code_of c.in-Err-Fault.refusal)) =
-    subst (IsRefusal (Asks m root property cs c.args.order.now.limit k)) c.in-Err-Fault.field-0-is c.in-Err-Fault.ensures in
+    let asks : Asks m root property cs c.args.order.now.limit k c.args.edition (Err (job.code_of c.in-Err-Fault.refusal)) =
+    subst (IsRefusal (Asks m root property cs c.args.order.now.limit k c.args.edition)) c.in-Err-Fault.field-0-is c.in-Err-Fault.ensures in
     let same : code_of c.from.result ≡ job.code_of c.in-Err-Fault.refusal = search rules in
-    subst (λ (e : Code). Asked c.args.modules.now c.args.order.now (Err e)) (sym same)
-    (order_asks c.args.modules.now c.args.order.now m root property cs k _ found c.as_slice-root.ensures c.as_slice-property.ensures c.in_ok-shared.ensures.choices c.in_ok-shared.ensures.runs asks)
+    subst (λ (e : Code). Asked c.args.edition c.args.modules.now c.args.order.now (Err e)) (sym same)
+    (order_asks c.args.edition c.args.modules.now c.args.order.now m root property cs k _ found c.as_slice-root.ensures c.as_slice-property.ensures c.in_ok-shared.ensures.choices c.in_ok-shared.ensures.runs asks)

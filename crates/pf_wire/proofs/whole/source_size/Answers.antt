@@ -3,7 +3,7 @@ use Rattle.std.specs.Prelude.{codes, ◌&&◌, not, if◌then◌else◌}
 use Rattle.std.specs.Str.{bytes_eq}
 use Rattle.pf_text.specs.Numbers.{number_of, schedule_of}
 use Rattle.pf_model.specs.Meaning.{Choices}
-use Rattle.pf_desks.specs.Desk.{Call, fetch, status, drop_trial, withdraw, usage, log}
+use Rattle.pf_desks.specs.Desk.{Call, fetch, status, drop_trial, withdraw, usage, log, edition}
 use Rattle.pf_desks.specs.Work.{once}
 use Rattle.pf_desks.specs.World.{Step, client, worker}
 use Rattle.pf_wire.specs.Commands.{Asked, choices_in, made, with_one, with_two, with_order, with_shrink, of_call, of_one, of_order, of_project, of_shrink, of_two, asked_by, words_of, is_word}
@@ -91,7 +91,8 @@ others_want_none : (w : List ℕ) (ws : List (List ℕ)) → bytes_eq w (codes "
 others_want_none w ws h =
     let worked = of_two (λ p t. made (worker p (once t))) ws in
     let last = pick_none (bytes_eq w (codes "once")) worked None (two_made (λ p t. worker p (once t)) ws) refl in
-    let from_log = pick_none (bytes_eq w (codes "log")) (of_project log ws) _ (project_made log ws) last in
+    let from_edition = pick_none (bytes_eq w (codes "edition")) (of_call edition ws) _ (call_made edition ws) last in
+    let from_log = pick_none (bytes_eq w (codes "log")) (of_project log ws) _ (project_made log ws) from_edition in
     let from_usage = pick_none (bytes_eq w (codes "usage")) (of_project usage ws) _ (project_made usage ws) from_log in
     let from_withdraw = pick_none (bytes_eq w (codes "withdraw")) (of_call withdraw ws) _ (call_made withdraw ws) from_usage in
     let from_drop = pick_none (bytes_eq w (codes "drop")) (of_call drop_trial ws) _ (call_made drop_trial ws) from_withdraw in

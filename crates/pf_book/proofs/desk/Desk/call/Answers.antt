@@ -21,21 +21,21 @@ invariant_of-self-3 c =
     let call = call_seen c.args.call in
     let plan = c.in_ok-change.field-0 in
     let room = c.make_call_room in
-    let grown : Desk = record { modules = room.new.modules.items; trials = room.new.trials.items; history = map entry_seen room.new.history.items } in
-    let same : grown ≡ d = λ i. record { modules = room.ensures.modules i; trials = room.ensures.trials i; history = map entry_seen (room.ensures.history i) } in
+    let grown : Desk = record { edition = b.edition; modules = room.new.modules.items; trials = room.new.trials.items; history = map entry_seen room.new.history.items } in
+    let same : grown ≡ d = λ i. record { edition = b.edition; modules = room.ensures.modules i; trials = room.ensures.trials i; history = map entry_seen (room.ensures.history i) } in
     let planned : IsPlan d call plan = subst (λ (k : Desk). IsPlan k call plan) same c.in_ok-change.ensures.plan in
-    let within : refusal_of b.usage charge.Call ≡ None = search rules in
+    let within : refusal_of b.edition b.usage charge.Call ≡ None = search rules in
     let has : HasRoom d = has_room d b.usage c.self.invariant.sums within in
     let e = called call (reply_seen plan.reply) in
-    let made : holding c.carry_out.new.modules.items c.carry_out.new.trials.items ≡ with_change (holding d.modules d.trials) plan.change =
+    let made : holding c.carry_out.new.edition c.carry_out.new.modules.items c.carry_out.new.trials.items ≡ with_change (holding d.edition d.modules d.trials) plan.change =
     c.carry_out.ensures.held
-    ∙ (λ i. with_change (holding (room.ensures.modules i) (room.ensures.trials i)) plan.change) in
+    ∙ (λ i. with_change (holding b.edition (room.ensures.modules i) (room.ensures.trials i)) plan.change) in
     let noted : map entry_seen c.push_reserved.new.self.items ≡ d.history ++ e ∷ [] =
     ap (map entry_seen) (c.push_reserved.ensures.items ∙ ap (λ (l : List Entry). l ++ plan.noted ∷ []) room.ensures.history)
     ∙ map_push entry_seen b.history.items plan.noted
     ∙ ap (λ (x : desk.Entry). d.history ++ x ∷ []) planned.notes in
-    let is = changed_desk d plan.change e c.carry_out.new.modules.items c.carry_out.new.trials.items _ made noted in
-    called_kept d call plan planned has _ is _ refl refl c.carry_out.ensures.counts c.self.invariant.legal
+    let is = changed_desk d plan.change e c.carry_out.new.edition c.carry_out.new.modules.items c.carry_out.new.trials.items _ made noted in
+    called_kept d call plan planned has _ is _ refl refl c.carry_out.ensures.edition c.carry_out.ensures.counts c.self.invariant.legal
 
 pub returns-clause-answer : goal.returns-clause-answer
 returns-clause-answer c =
@@ -44,22 +44,22 @@ returns-clause-answer c =
     let call = call_seen c.args.call in
     let plan = c.in_ok-change.field-0 in
     let room = c.make_call_room in
-    let grown : Desk = record { modules = room.new.modules.items; trials = room.new.trials.items; history = map entry_seen room.new.history.items } in
-    let same : grown ≡ d = λ i. record { modules = room.ensures.modules i; trials = room.ensures.trials i; history = map entry_seen (room.ensures.history i) } in
+    let grown : Desk = record { edition = b.edition; modules = room.new.modules.items; trials = room.new.trials.items; history = map entry_seen room.new.history.items } in
+    let same : grown ≡ d = λ i. record { edition = b.edition; modules = room.ensures.modules i; trials = room.ensures.trials i; history = map entry_seen (room.ensures.history i) } in
     let planned : IsPlan d call plan = subst (λ (k : Desk). IsPlan k call plan) same c.in_ok-change.ensures.plan in
-    let within : refusal_of b.usage charge.Call ≡ None = search rules in
+    let within : refusal_of b.edition b.usage charge.Call ≡ None = search rules in
     let has : HasRoom d = has_room d b.usage c.self.invariant.sums within in
     let e = called call (reply_seen plan.reply) in
-    let made : holding c.carry_out.new.modules.items c.carry_out.new.trials.items ≡ with_change (holding d.modules d.trials) plan.change =
+    let made : holding c.carry_out.new.edition c.carry_out.new.modules.items c.carry_out.new.trials.items ≡ with_change (holding d.edition d.modules d.trials) plan.change =
     c.carry_out.ensures.held
-    ∙ (λ i. with_change (holding (room.ensures.modules i) (room.ensures.trials i)) plan.change) in
+    ∙ (λ i. with_change (holding b.edition (room.ensures.modules i) (room.ensures.trials i)) plan.change) in
     let noted : map entry_seen c.push_reserved.new.self.items ≡ d.history ++ e ∷ [] =
     ap (map entry_seen) (c.push_reserved.ensures.items ∙ ap (λ (l : List Entry). l ++ plan.noted ∷ []) room.ensures.history)
     ∙ map_push entry_seen b.history.items plan.noted
     ∙ ap (λ (x : desk.Entry). d.history ++ x ∷ []) planned.notes in
-    let is = changed_desk d plan.change e c.carry_out.new.modules.items c.carry_out.new.trials.items _ made noted in
+    let is = changed_desk d plan.change e c.carry_out.new.edition c.carry_out.new.modules.items c.carry_out.new.trials.items _ made noted in
     let d' =
-    desk_in (record { modules = c.carry_out.new.modules; trials = c.carry_out.new.trials; history = c.push_reserved.new.self; users = c.carry_out.new.users; usage = plan.usage }) in
+    desk_in (record { edition = c.carry_out.new.edition; modules = c.carry_out.new.modules; trials = c.carry_out.new.trials; history = c.push_reserved.new.self; users = c.carry_out.new.users; usage = plan.usage }) in
     let answers : DeskAnswers d call (Ok plan.reply) d' =
     called_answers d call plan planned has d' is plan.reply refl in
     subst (λ (k : Desk). DeskAnswers k call (Ok plan.reply) d') c.self.view_is answers

@@ -29,14 +29,15 @@ invariant_of-self-2 c =
     let r = c.in_ok-filed.filed.1 in
     let waits : job_at d.trials t ≡ Some j = ap (λ (l : List (Option Trial)). job_at l t) (sym c.deref.ensures.value) ∙ sym c.in-Some.ensures in
     let history = noted t b.history.items _ _ _ c.make_room.ensures.items c.push_reserved.ensures.items c.push_reserved-2.ensures.items in
-    let d' = desk_in (record { modules = b.modules; trials = c.file.new.trials; history = c.push_reserved-2.new.self; users = b.users; usage = b.usage }) in
+    let d' = desk_in (record { edition = b.edition; modules = b.modules; trials = c.file.new.trials; history = c.push_reserved-2.new.self; users = b.users; usage = b.usage }) in
     let counts : CountUsers b.users.items b.modules.items b.trials.items = record { counted = c.self.invariant.counted; exact = c.self.invariant.users; used = c.self.invariant.used } in
     let users : CountUsers b.users.items b.modules.items c.file.new.trials.items =
     subst (λ (l : List (Option Trial)). CountUsers b.users.items b.modules.items l) (sym c.file.ensures) (once_users d j r t waits b.users.items b.modules.items counts) in
     record {
       legal = λ p right.
-          legal_work p d d' (once t) (once_is d j r t waits d' refl c.file.ensures history p (right.means j r c.in_ok-filed.ensures.means)) (c.self.invariant.legal p right);
-      sums = c.self.invariant.sums ∙ sym (once_sums d j r t waits d' refl c.file.ensures history);
+          legal_work p d d' (once t) (once_is d j r t waits d' refl refl c.file.ensures history p (right.means j r c.in_ok-filed.ensures.means)) (c.self.invariant.legal p right);
+      sums = c.self.invariant.sums ∙ sym (once_sums d j r t waits d' refl refl c.file.ensures history);
+      edition = c.self.invariant.edition;
       counted = users.counted;
       users = users.exact;
       used = users.used;
@@ -52,4 +53,4 @@ returns-clause-work c =
     let waits : job_at d.trials t ≡ Some j = ap (λ (l : List (Option Trial)). job_at l t) (sym c.deref.ensures.value) ∙ sym c.in-Some.ensures in
     let history = noted t b.history.items _ _ _ c.make_room.ensures.items c.push_reserved.ensures.items c.push_reserved-2.ensures.items in
     λ p right.
-    ap (λ (k : Desk). worker_step p k (once t)) (sym c.self.view_is) ∙ once_is d j r t waits _ refl c.file.ensures history p (right.means j r c.in_ok-filed.ensures.means)
+    ap (λ (k : Desk). worker_step p k (once t)) (sym c.self.view_is) ∙ once_is d j r t waits _ refl refl c.file.ensures history p (right.means j r c.in_ok-filed.ensures.means)

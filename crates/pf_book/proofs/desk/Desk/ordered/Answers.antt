@@ -16,7 +16,8 @@ returns-clause-plan c =
     let j = c.args.job.value in
     let steps = steps_of_trial j.limit j.runs in
     let many : c.len.result ≡ length d.trials = search rules in
-    let within : refusal_of u (charge.Trial steps) ≡ None = search rules in
+    let own : c.edition.result ≡ d.edition = c.edition.ensures.edition in
+    let within : refusal_of d.edition u (charge.Trial steps) ≡ None = search rules in
     let uses : c.charge.new.self ≡ charged u (charge.Trial steps) = search rules in
     let number : c.deref-3.result.now.module ≡ c.args.order.value.module = search rules in
     order_planned d u c.requires.charged _ c.args.order.value j c.requires.asked within (ap (λ (n : ℕ). with_job d n j) number)

@@ -17,7 +17,8 @@ returns-in_ok-source_held-in-Ok-clause-plan c =
     let read = c.in-Ok.ensures.read in
     let many : c.len.result ≡ length d.modules = search rules in
     let size : length c.bytes.result.now ≡ length text = ap length c.bytes.ensures in
-    let within : refusal_of u (charge.Module (length text)) ≡ None = search rules in
+    let own : c.edition.result ≡ d.edition = c.edition.ensures.edition in
+    let within : refusal_of d.edition u (charge.Module (length text)) ≡ None = search rules in
     let uses : c.charge.new.self ≡ charged u (charge.Module (length text)) = search rules in
     let noted : c.in_ok-source_held-in-Ok.field-0 ≡ text = search rules in
     source_planned d u c.requires.charged _ text within s read.0 read.1 refl

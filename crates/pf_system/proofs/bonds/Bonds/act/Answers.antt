@@ -19,10 +19,6 @@ pub returns-in-Monitor : goal.returns-in-Monitor
 returns-in-Monitor c =
     subst (λ x. IfOk c.monitor.result (λ r. ActsAs c.args.pid (act_of x) c.args.self.now r c.monitor.new.self)) (sym c.in-Monitor.is) c.monitor.ensures
 
-pub returns-in-Demonitor : goal.returns-in-Demonitor
-returns-in-Demonitor c =
-    subst (λ x. IfOk c.demonitor.result (λ r. ActsAs c.args.pid (act_of x) c.args.self.now r c.demonitor.new.self)) (sym c.in-Demonitor.is) c.demonitor.ensures
-
 pub returns-in-ExitOther : goal.returns-in-ExitOther
 returns-in-ExitOther c =
     subst (λ x. IfOk c.exit_other.result (λ r. ActsAs c.args.pid (act_of x) c.args.self.now r c.exit_other.new.self)) (sym c.in-ExitOther.is) c.exit_other.ensures

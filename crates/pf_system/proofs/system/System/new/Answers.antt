@@ -20,7 +20,7 @@ invariant_of-result c _ =
     begins_kept _ c.open.new.self c.in_ok-machine.machine c.args.root.0
     (record { slots = c.new-3.ensures.items; ties = c.new-4.ensures; channels = c.new-5.ensures; ready = c.new-6.ensures })
     (at_root _ c.args.module.now.value _ _ c.args.root.0 _ c.in_ok-machine.ensures c.in_ok-shared.ensures c.in_ok-try_clone.ensures c.new.ensures.items)
-    c.in_ok-open.ensures _ (ap code_of (c.in_ok-try_clone.ensures ∙ sym c.in_ok-try_clone-2.ensures))
+    c.in_ok-open.ensures c.args.edition c.most_processes.ensures _ (ap code_of (c.in_ok-try_clone.ensures ∙ sym c.in_ok-try_clone-2.ensures))
 
 pub returns : goal.returns
 returns c =
@@ -28,4 +28,4 @@ returns c =
     begins_so _ c.open.new.self c.in_ok-machine.machine c.args.root.0
     (record { slots = c.new-3.ensures.items; ties = c.new-4.ensures; channels = c.new-5.ensures; ready = c.new-6.ensures })
     (at_root _ c.args.module.now.value _ _ c.args.root.0 _ c.in_ok-machine.ensures c.in_ok-shared.ensures c.in_ok-try_clone.ensures c.new.ensures.items)
-    c.in_ok-open.ensures k ∙ ap (λ z. system_view (code_of z) 0 (Some (start c.args.root.0))) c.in_ok-try_clone-2.ensures
+    c.in_ok-open.ensures c.args.edition c.most_processes.ensures k ∙ ap (λ z. system_view (code_of z) 0 (Some (start c.args.root.0 c.args.edition))) c.in_ok-try_clone-2.ensures

@@ -17,7 +17,7 @@ alive_by w c b t h e = e ∙ ap (λ z. z.lives) (ties_here w c b h)
 taken_so : (w w1 : World) (c : Core) → w1 ≡ record w { bonds = record w.bonds { channels = w1.bonds.channels } } → length w1.bonds.channels ≡ length w.bonds.channels
     → Stands w c → Stands w1 c
 taken_so w w1 c e n h =
-    rows_more w w1 c (ap (λ z. z.slots.items) e) (ap (λ z. z.ready) e) (ap (λ z. z.module) e) h (h.ties ∙ sym (ap (λ z. z.bonds.ties) e)) (omega arith)
+    rows_more w w1 c (ap (λ z. z.slots.items) e) (ap (λ z. z.ready) e) (ap (λ z. z.basis) e) h (h.ties ∙ sym (ap (λ z. z.bonds.ties) e)) (omega arith)
 
 pub at_living-requires : goal.at_living-requires
 at_living-requires c =
@@ -25,7 +25,7 @@ at_living-requires c =
     let s = shaped w (core_of w) c.args.to c.requires.sound (sym c.if-lives.ensures) in
     let n = c.deliver.ensures.senders in
     let rows = s.rows in
-    record { there = s.there; ties = s.ties; rows = omega arith; few = s.few }
+    record { there = s.there; ties = s.ties; rows = omega arith; few = s.few; within = s.within }
 
 pub returns-then-lives : goal.returns-then-lives
 returns-then-lives c =

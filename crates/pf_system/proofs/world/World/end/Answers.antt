@@ -43,7 +43,7 @@ untied c =
 
 ended_so : {E : Type 0} (r : Result (Unit {0}) E) (w w1 w' : World) (a : ℕ) (e : Result Term Term) (m : MailView) (ss : List (ℕ × Signal)) → Untied w w1 a e ss
     → m ≡ empty → w'.slots.items ≡ slice_set w1.slots.items a (record { life = life.Ended e; mailbox = m }) → w'.bonds.ties ≡ w1.bonds.ties
-    → w'.ready ≡ without_number a w1.ready → w'.module ≡ w1.module → length w.slots.items ≡ length w.bonds.ties.processes
+    → w'.ready ≡ without_number a w1.ready → w'.basis ≡ w1.basis → length w.slots.items ≡ length w.bonds.ties.processes
     → OnOk r (w'.bonds.channels ≡ posted a ss w1.bonds.channels) → OnOk r ((c : Core) → StandsBut w c a → EndsSo c a e w w')
 ended_so r w w1 w' a e m ss u none slots t k code even =
     let s' : Slot = record { life = life.Ended e; mailbox = m } in
@@ -54,7 +54,7 @@ ended_so r w w1 w' a e m ss u none slots t k code even =
     (slots ∙ ap (λ z. slice_set z.slots.items a s') u.rest)
     (t ∙ ap (λ z. z.bonds.ties) u.rest)
     (k ∙ ap (λ z. without_number a z.ready) u.rest)
-    (code ∙ ap (λ z. z.module) u.rest)
+    (code ∙ ap (λ z. z.basis) u.rest)
     u.last
     (sent ∙ ap (λ z. posted a ss z.bonds.channels) u.rest)
     even)

@@ -34,7 +34,7 @@ settle-requires-clause-shaped c =
     let l = slot_there w (core_of w) c.args.pid c.requires.sound c.requires.enabled in
     let w1 : World = record w { slots = with_item w.slots c.args.pid c.run.new.self; pool = c.run.new.pool } in
     still_shaped w (core_of w) c.args.pid s c.requires.sound (slice_get_read w.slots.items _ c.args.pid s refl l c.index_mut-slot.ensures.value)
-    w1 c.run.new.self refl refl
+    w1 c.run.new.self refl refl refl
 
 pub settle-requires-clause-can : goal.settle-requires-clause-can
 settle-requires-clause-can c =

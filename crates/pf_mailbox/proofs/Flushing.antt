@@ -1,0 +1,104 @@
+-- A flush of a list from its front.
+use Rattle.std.proofs.Common.{◌≡◌, ℕ, zero, suc, ◌<◌, ◌==◌, Bool, true, false, List, [], ◌∷◌, length, map, refl, ap, ◌∙◌, Some, None, arith}
+use Rattle.std.specs.Prelude.{slice_get, remove, Option, Result, Ok}
+use Rattle.std.specs.List.{list_any}
+use Rattle.std.specs.Fn.{FnReturnsAt, Shared}
+use denote.Ref.{Bor}
+use Rattle.pf_fault.specs.declared.memory.NoMemory.{NoMemory}
+use Rattle.pf_terms.specs.Value.{Value, none, more, int, atom, ref, pid, tuple, list}
+use Rattle.pf_terms.specs.Term.{value_of, values_of}
+use Rattle.pf_terms.specs.declared.term.Term.{Term}
+use Rattle.pf_model.specs.Flush.{flushed, tells_of}
+use Rattle.pf_nodes.specs.Find.{PassesRefused, EndsAs}
+use Rattle.pf_nodes.specs.Mail.{Mail}
+use Rattle.pf_nodes.specs.declared.mail.Spot.{Spot}
+
+-- ---- whether one message tells
+
+-- no pair of first elements tells with other than three behind it
+quiet_pair : (r : ℕ) (v b : Value) (ts : List Term) → (length ts ≡ 3 → ⊥) → tells_of r (tuple (more v (more b (values_of ts)))) ≡ false
+quiet_pair r v (ref x) [] n = refl
+quiet_pair r v (ref x) (p ∷ []) n = refl
+quiet_pair r v (ref x) (p ∷ q ∷ []) n = refl
+quiet_pair r v (ref x) (p ∷ q ∷ s ∷ []) n = absurd (n refl)
+quiet_pair r v (ref x) (p ∷ q ∷ s ∷ t ∷ ts) n = refl
+quiet_pair r v (int z) ts n = refl
+quiet_pair r v (atom a) ts n = refl
+quiet_pair r v (pid p) ts n = refl
+quiet_pair r v (tuple vs) ts n = refl
+quiet_pair r v (list vs) ts n = refl
+
+pub quiet_unless_five : (r : ℕ) (ts : List Term) → (length ts ≡ 5 → ⊥) → tells_of r (tuple (values_of ts)) ≡ false
+quiet_unless_five r [] n = refl
+quiet_unless_five r (a ∷ []) n = refl
+quiet_unless_five r (a ∷ b ∷ ts) n = quiet_pair r (value_of a) (value_of b) ts (λ e. n (omega (arith, e)))
+
+abbrev pub second_tells : ℕ → Value → Bool
+second_tells r (ref x) = r == x
+second_tells r v = false
+
+-- five elements tell by the second
+pub tells_by_second : (r : ℕ) (ts : List Term) (x : Term) → length ts ≡ 5 → slice_get ts 1 ≡ Some x
+    → tells_of r (tuple (values_of ts)) ≡ second_tells r (value_of x)
+tells_by_second r [] x n s = absurd (omega arith)
+tells_by_second r (a ∷ []) x n s = absurd (omega arith)
+tells_by_second r (a ∷ b ∷ []) x n s = absurd (omega arith)
+tells_by_second r (a ∷ b ∷ c ∷ []) x n s = absurd (omega arith)
+tells_by_second r (a ∷ b ∷ c ∷ d ∷ []) x n s = absurd (omega arith)
+tells_by_second r (a ∷ b ∷ c ∷ d ∷ e ∷ f ∷ ts) x n s = absurd (omega arith)
+tells_by_second r (a ∷ b ∷ c ∷ d ∷ e ∷ []) x n s = let same : b ≡ x = cc in by (value_of b) ∙ ap (λ t. second_tells r (value_of t)) same
+  where
+    by : (v : Value) → tells_of r (tuple (more (value_of a) (more v (more (value_of c) (more (value_of d) (more (value_of e) none)))))) ≡ second_tells r v
+    by (int z) = refl
+    by (atom y) = refl
+    by (ref y) = refl
+    by (pid p) = refl
+    by (tuple vs) = refl
+    by (list vs) = refl
+
+-- ---- among messages
+
+module _ (r : ℕ) where
+  abbrev pub Tells : Bool → Term → Type 0
+  Tells b x = tells_of r (value_of x) ≡ b
+
+  -- the first k are quiet
+  abbrev pub QuietTo : ℕ → List Term → Type 0
+  QuietTo k xs = (j : ℕ) (y : Term) → j < k → slice_get xs j ≡ Some y → Tells false y
+
+  pub flushed_at : (xs : List Term) (k : ℕ) (x : Term) → QuietTo k xs → slice_get xs k ≡ Some x → Tells true x
+      → map value_of (remove xs k) ≡ flushed r (map value_of xs)
+  flushed_at [] k x q s t = absurd cc
+  flushed_at (y ∷ ys) zero x q s t = let e : y ≡ x = cc in rw (e, t) refl
+  flushed_at (y ∷ ys) (suc k) x q s t =
+      rw (q zero y (omega arith) refl) (ap (λ l. value_of y ∷ l) (flushed_at ys k x (λ j z l. q (suc j) z (omega arith)) s t))
+
+  pub told_at : (xs : List Term) (k : ℕ) (x : Term) → QuietTo k xs → slice_get xs k ≡ Some x → Tells true x
+      → true ≡ list_any (tells_of r) (map value_of xs)
+  told_at [] k x q s t = absurd cc
+  told_at (y ∷ ys) zero x q s t = let e : y ≡ x = cc in rw (e, t) refl
+  told_at (y ∷ ys) (suc k) x q s t = rw (q zero y (omega arith) refl) (told_at ys k x (λ j z l. q (suc j) z (omega arith)) s t)
+
+  pub flushed_none : (xs : List Term) → QuietTo (length xs) xs → map value_of xs ≡ flushed r (map value_of xs)
+  flushed_none [] q = refl
+  flushed_none (y ∷ ys) q =
+      rw (q zero y (omega arith) refl) (ap (λ l. value_of y ∷ l) (flushed_none ys (λ j z l. q (suc j) z (omega arith))))
+
+  pub told_none : (xs : List Term) → QuietTo (length xs) xs → false ≡ list_any (tells_of r) (map value_of xs)
+  told_none [] q = refl
+  told_none (y ∷ ys) q = rw (q zero y (omega arith) refl) (told_none ys (λ j z l. q (suc j) z (omega arith)))
+
+  -- what a search told
+  module _ {F : Type 0} (g : Shared F (Bor Term × Unit {0}) (Result Bool NoMemory)) (f : F) (old new : Mail Term) (front : old.mark ≡ 0)
+      (p : PassesRefused (FnReturnsAt g f) old new) (says : (x : Term) (o : Result Bool NoMemory) → FnReturnsAt g f x o → o ≡ Ok (tells_of r (value_of x))) where
+    pub quiet : QuietTo new.mark old.items
+    quiet j y l s =
+        let a : ◌≡◌ {A = Result Bool NoMemory} (Ok false) (Ok (tells_of r (value_of y))) = says y (Ok false) (p.1 j y (omega arith) l s) in
+        cc
+
+    pub tells : (o : Option Spot) (spot : Spot) → o ≡ Some spot → EndsAs (FnReturnsAt g f) old new (Ok o)
+        → (x : Term) × (slice_get old.items new.mark ≡ Some x) × Tells true x
+    tells None spot e h = absurd cc
+    tells (Some other) spot e h =
+        let a : ◌≡◌ {A = Result Bool NoMemory} (Ok true) (Ok (tells_of r (value_of h.1.0))) = says h.1.0 (Ok true) h.1.2 in
+        (h.1.0, h.1.1, cc)
