@@ -95,7 +95,8 @@ fn numbers_are_given_once(rt: HostRuntime) -> Result<(), Fail> {
 }
 
 /// A module whose run has one process more with each turn of its root.
-const SPAWNER: &str = "-module(m).\n-export([main/0, f/0, g/0]).\nmain() -> f().\nf() -> spawn(m, g, []), f().\ng() -> ok.\n";
+const SPAWNER: &str =
+    "-module(m).\n-export([main/0, f/0, g/0]).\nmain() -> f().\nf() -> spawn(m, g, []), f().\ng() -> ok.\n";
 
 /// Orders a run of that module within 6,000 steps, without a schedule.
 fn spawning(alloc: Global, book: &mut Book) -> Result<String, Fail> {
