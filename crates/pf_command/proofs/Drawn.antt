@@ -1,5 +1,5 @@
 -- Answers whose text is only tested.
-use Rattle.std.proofs.Common.{◌≡◌, ◌≤◌, ℕ, List, IfOk, arith}
+use Rattle.std.proofs.Common.{ℕ, List, IfOk, arith}
 use Rattle.std.specs.Prelude.{Result}
 use Rattle.std.proofs.lemmas.Result.{IfOk-weaker}
 use Rattle.pf_fault.specs.declared.memory.NoMemory.{NoMemory}

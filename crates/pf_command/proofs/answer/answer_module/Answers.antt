@@ -10,7 +10,7 @@ pub returns-in-Ok : goal.returns-in-Ok
 returns-in-Ok g c =
     let r = job_request c.args.asked in
     let m = c.args.stored in
-    let asks : AsksOf r m (Ok c.in-Ok.job) = rw c.as_bytes-root.ensures.value at (rw c.as_bytes-property.ensures.value at c.in-Ok.ensures) in
+    let asks : AsksOf r m (Ok c.in-Ok.job) = c.in-Ok.ensures in
     IfOk-weaker c.answer_job.result (TellsEnd c.in-Ok.job) (λ a. (bytes : List ℕ) → IsModuleOf bytes m → Answers r bytes a.text.items a.status)
     (λ a tells bytes is. row_told r m bytes c.in-Ok.job a is asks tells) c.answer_job.ensures
 
@@ -19,7 +19,6 @@ returns-in-Err-Fault g c =
     let r = job_request c.args.asked in
     let m = c.args.stored in
     let code = code_of c.in-Err-Fault.refusal in
-    let asks : AsksOf r m (Err code) =
-    rw c.as_bytes-root.ensures.value at (rw c.as_bytes-property.ensures.value at (rw c.in-Err-Fault.field-0-is at c.in-Err-Fault.ensures)) in
+    let asks : AsksOf r m (Err code) = rw c.in-Err-Fault.field-0-is at c.in-Err-Fault.ensures in
     IfOk-weaker c.refused_by_code.result (λ a. Refuses a (code_text code)) (λ a. (bytes : List ℕ) → IsModuleOf bytes m → Answers r bytes a.text.items a.status)
     (λ a told bytes is. row_job_refused r m bytes a.text.items a.status code is asks told.0 told.1) (rw c.code.ensures at c.refused_by_code.ensures)
