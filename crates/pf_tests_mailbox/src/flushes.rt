@@ -13,8 +13,12 @@ use std::test::Fail;
 
 /// `{NUMBER, #Ref<r>, 0, 0, 0}`, or without the last element.
 fn message(alloc: Global, number: i64, reference: u64, is_whole: bool) -> Result<Term, Fail> {
-    let mut items =
-        vec![in alloc; Term::Int(number), Term::Ref(reference), Term::Int(0), Term::Int(0)]?;
+    let mut items = vec![in alloc;
+        Term::Int(number),
+        Term::Ref(reference),
+        Term::Int(0),
+        Term::Int(0),
+    ]?;
     if is_whole {
         items.push(Term::Int(0))?;
     }
