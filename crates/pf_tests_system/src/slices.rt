@@ -83,7 +83,13 @@ fn is_by(
         deliver,
     };
     let by_weights = job_of(alloc, &stored, b"returns", weighted, 1000)?;
-    let by_numbers = job_of(alloc, &stored, b"returns", scheduled(alloc, schedule)?, 1000)?;
+    let by_numbers = job_of(
+        alloc,
+        &stored,
+        b"returns",
+        scheduled(alloc, schedule)?,
+        1000,
+    )?;
     let told = text_of(alloc, &run_whole(alloc, &by_weights)?)?;
     let wanted = text_of(alloc, &run_whole(alloc, &by_numbers)?)?;
     Ok(told.as_str() == wanted.as_str())
