@@ -100,7 +100,7 @@ bind(Variables, Value, Body, Env, Mode) ->
     case {ValueMode, Last} of
         {plain, _} when Pattern =:= {var, "_"} -> Elements ++ body(Body, Inside, Mode);
         {plain, _} -> Before ++ [{match, Pattern, Last} | body(Body, Inside, Mode)];
-        {_, {tuple, [{atom, v}, _]}} when Pattern =:= {var, "_"} -> Before ++ body(Body, Inside, Mode);
+        {_, {tuple, [{atom, v}, Known]}} when Pattern =:= {var, "_"} -> Before ++ [Known || is_tuple(Known), element(1, Known) =:= call] ++ body(Body, Inside, Mode);
         {_, {tuple, [{atom, v}, Known]}} -> Before ++ [{match, Pattern, Known} | body(Body, Inside, Mode)];
         {_, {tuple, [{atom, x} | _]}} -> Elements;
         _ ->

@@ -25,7 +25,7 @@ known(prim, raw, [{lit, Function, _} | Arguments], Env, Mode) ->
     [plain_body:returned(plain_trace:action(Function, plain_value:values(Arguments, Env)), Mode)];
 known(Module, Function, Arguments, Env, Mode) ->
     Arity = length(Arguments),
-    plain_encodings:note(Module),
+    plain_encodings:note(Module, Function, Arity),
     case plain_modules:find(Module, Function, Arity) of
         none ->
             case lists:member(Module, plain_state:get(users)) of

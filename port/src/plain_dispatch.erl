@@ -70,5 +70,5 @@ of_modules({Wanted, Arity, Mode}) ->
 
 %% @doc An error in text.
 -spec failing(plain_reach:mode(), string()) -> iodata().
-failing(plain, Reason) -> ["exit({", Reason, ",[]})"];
+failing(plain, Reason) -> [case plain_trace:traced() of true -> "exit@m('@0',{"; false -> "exit({" end, Reason, ",[]})"];
 failing(_, Reason) -> ["{x,error,", Reason, case plain_trace:traced() of true -> ",[]}"; false -> "}" end].

@@ -1,10 +1,12 @@
 %% @doc Notes on the encodings that a source is seen to use: each is told once, with what it adds or loses.
 -module(plain_encodings).
--export([note/1]).
+-export([note/3]).
 
-%% @doc A note on a module of OTP, where a source calls it.
--spec note(module()) -> ok.
-note(Module) ->
+%% @doc A note on a function of OTP, where a source calls it.
+-spec note(module(), atom(), arity()) -> ok.
+note(gen_server, Function, Arity) when {Function, Arity} =/= {call, 2} -> ok;
+note(io_lib, Function, _) when Function =/= format, Function =/= fwrite -> ok;
+note(Module, _, _) ->
     case sentence(Module) of
         none -> ok;
         {Subject, Text} -> plain_refusal:note_once(Subject, Text)

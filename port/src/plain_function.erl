@@ -17,7 +17,7 @@ write(Key) ->
 write_key({function, Module, Function, Arity, Mode}) ->
     {Kind, Core, File} = plain_modules:find(Module, Function, Arity),
     Name = plain_reach:name(Module, Function, Arity),
-    stand(#{file => File, module => Module, kind => Kind, base => Name}),
+    stand(#{file => File, module => Module, kind => Kind, base => Name, function => {Module, Function, Arity}}),
     plain_state:put(line, 0),
     {fn, _, Variables, Body, Line} = tree({Module, Function, Arity}, Core),
     write(Name, [], {Variables, Body, Line}, #{}, Mode);

@@ -12,7 +12,7 @@
 -spec name(module(), atom(), arity()) -> atom().
 name(Module, Function, Arity) ->
     Own = Module =:= plain_state:get(main) andalso not lists:member({Function, Arity}, built_in())
-        andalso not (is_root(Function, Arity) andalso plain_services:any()),
+        andalso not (is_root(Function, Arity) andalso (plain_services:any() orelse plain_trace:traced())),
     case Own of
         true -> Function;
         false -> list_to_atom(lists:concat([Module, "@", Function]))

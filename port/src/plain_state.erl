@@ -19,7 +19,7 @@
   | notes | refusals
   | counter | clock | marks       % the last number; whether a time is waited for; what the marks of a traced module say
   | short                         % whether names are short
-  | file | module | kind | base | line | mode % where the translation stands
+  | file | module | kind | base | function | line | mode % where the translation stands
   | names | shapes.               % of the function that is written: names of variables, tuples that are known
 -export_type([key/0]).
 
@@ -30,7 +30,7 @@ start(Options, {Services, Short}) ->
     Lists = [users, roots, defines, queue, functions, notes, refusals],
     [put(Key, #{}) || Key <- Maps],
     [put(Key, []) || Key <- Lists],
-    [put(Key, Value) || {Key, Value} <- [{options, Options}, {services, Services}, {short, Short}, {main, none}, {counter, 0},
+    [put(Key, Value) || {Key, Value} <- [{options, Options}, {services, Services}, {short, Short}, {main, none}, {counter, 0}, {function, none},
                                          {clock, false}, {file, ""}, {module, none}, {kind, user}, {base, none}, {line, 0}, {mode, plain}]],
     ok.
 

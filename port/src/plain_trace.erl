@@ -26,7 +26,7 @@ helper(Function) -> list_to_atom(atom_to_list(Function) ++ "@m").
 %% @doc The mark of the place where the translation stands.
 -spec mark() -> plain_text:expression().
 mark() ->
-    Place = {plain_state:get(kind), plain_state:get(file), plain_state:get(line), plain_state:get(base)},
+    Place = {plain_state:get(kind), plain_state:get(file), plain_state:get(line), plain_state:get(function)},
     Number = case plain_state:find_in(marks, Place) of
         {ok, Known} -> Known;
         error ->

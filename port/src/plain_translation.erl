@@ -6,9 +6,11 @@
 -type options() :: #{includes := [file:filename()], defines := [atom() | {atom(), term()}], library_defines := [atom() | {atom(), term()}],
                      root := atom() | none, never := non_neg_integer() | infinity, lax := boolean(), traced := boolean()}.
 -type refusal() :: {file:filename(), non_neg_integer(), string()}.
--type translation() :: #{text := binary(), map := [plain_map:row()], notes := [string()], roots := [atom()], marks := #{pos_integer() => tuple()},
-                         funs := #{atom() => tuple()}, main := module()}.
--export_type([options/0, translation/0, refusal/0]).
+%% A place of the sources: what kind of module, file, line, and the function there, or a fun in it.
+-type place() :: {plain_modules:kind(), file:filename(), non_neg_integer(), {module(), atom(), arity()} | {'fun', {module(), atom(), arity()}}}.
+-type translation() :: #{text := binary(), map := [plain_map:row()], notes := [string()], roots := [atom()], marks := #{pos_integer() => place()},
+                         names := #{atom() => place()}, main := module(), exports := #{module() => [{atom(), arity()}]}}.
+-export_type([options/0, translation/0, refusal/0, place/0]).
 
 %% @doc The options where none is given.
 -spec defaults() -> options().
@@ -88,8 +90,19 @@ written(Roots) ->
     {Texts, Rows} = plain_map:number(lists:reverse(plain_state:get(functions)) ++ Extra, 3),
     #{text => iolist_to_binary([Head, Texts]), map => Rows, notes => [Text || {_, Text} <- lists:reverse(plain_state:get(notes))], roots => Roots,
       marks => maps:from_list([{Number, Place} || {Place, Number} <- maps:to_list(plain_state:get(marks))]),
-      funs => maps:map(fun(_, #{where := #{module := Module, file := File, base := Base}, line := Line}) -> {Module, File, Line, Base} end, plain_state:get(lifted)),
-      main => Main}.
+      names => names(), main => Main, exports => maps:from_list([{Module, plain_modules:exported(Module, user)} || Module <- plain_state:get(users)])}.
+
+%% What each name of the text stands for: a function of a module, or a fun in one.
+-spec names() -> #{atom() => place()}.
+names() ->
+    Functions = [{plain_reach:name(Module, Function, Arity), {kind(Module, Function, Arity), "", 0, {Module, Function, Arity}}}
+                 || {function, Module, Function, Arity, _} <- plain_state:keys(wanted)],
+    Funs = [{Name, {Kind, File, Line, {'fun', Function}}}
+            || {Name, #{where := #{kind := Kind, file := File, function := Function}, line := Line}} <- maps:to_list(plain_state:get(lifted))],
+    maps:from_list(Functions ++ Funs).
+
+-spec kind(module(), atom(), arity()) -> plain_modules:kind().
+kind(Module, Function, Arity) -> element(1, plain_modules:find(Module, Function, Arity)).
 
 %% A root starts the services first.
 -spec roots(module(), [atom()]) -> [{string(), iodata()}].

@@ -62,7 +62,7 @@ lift(Name, Variables, Body, Line, Env, Whole) ->
         error ->
             Free = plain_tree:free(Whole, Env),
             Local = maps:filter(fun({lref, _}, _) -> true; (_, _) -> false end, Env),
-            Where = maps:from_list([{Key, plain_state:get(Key)} || Key <- [file, module, kind, base]]),
+            Where = maps:from_list([{Key, plain_state:get(Key)} || Key <- [file, module, kind, base, function]]),
             plain_state:set_in(lifted, Name, #{free => Free, variables => Variables, body => Body, line => Line, env => Local, where => Where}),
             Free
     end.

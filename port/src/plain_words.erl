@@ -1,6 +1,6 @@
 %% @doc The words of the command line.
 -module(plain_words).
--export([read/1]).
+-export([read/1, of_farm/3, base/5, limit/1, value/3, with_choice/2]).
 
 -type asked() :: #{command := translate | check | run | hunt | shrink | chart, files := [file:filename()], out := file:filename() | none,
                    options := plain_translation:options(), words := [string()], property := string() | none, limit := string() | none}.
@@ -73,6 +73,36 @@ term(Text) ->
         _ -> list_to_atom(Text)
     end.
 
+%% @doc The words for pulsefarm.
+-spec of_farm(file:filename(), asked(), plain_translation:translation()) -> [string()].
+of_farm(File, #{command := check, words := Words}, _) -> ["check", File | Words];
+of_farm(File, #{command := Command, property := Property, words := Words} = Asked, Translation) ->
+    Judged = case Property of none -> "nocrash"; _ -> Property end,
+    base(atom_to_list(Command), File, Asked, Translation, Judged) ++ with_choice(Command, Words).
+
+%% @doc The words that all runs have.
+-spec base(string(), file:filename(), asked(), plain_translation:translation(), string()) -> [string()].
+base(Command, File, Asked, #{roots := [Root | _]}, Property) ->
+    [Command, File, "--root", atom_to_list(Root), "--limit", limit(Asked), "--property", Property].
+
+%% @doc The limit of steps.
+-spec limit(asked()) -> string().
+limit(#{limit := none}) -> "100000";
+limit(#{limit := Limit}) -> Limit.
+
+%% @doc The words with seeds or a schedule, where none was given.
+-spec with_choice(atom(), [string()]) -> [string()].
+with_choice(hunt, Words) -> Words ++ lists:append([["--seeds", "0..1000"] || not lists:member("--seeds", Words)]);
+with_choice(Command, Words) when Command =:= run; Command =:= chart ->
+    Words ++ lists:append([["--seed", "0"] || not lists:member("--seed", Words), not lists:member("--schedule", Words)]);
+with_choice(shrink, Words) -> Words ++ lists:append([["--runs", "300"] || not lists:member("--runs", Words)]).
+
+%% @doc The value of a word.
+-spec value(string(), [string()], Default) -> string() | Default.
+value(Name, [Name, Value | _], _) -> Value;
+value(Name, [_ | Words], Default) -> value(Name, Words, Default);
+value(_, [], Default) -> Default.
+
 -spec help() -> iodata().
 help() ->
     "Plain Erlang for pulsefarm: modules are translated into its profile by Erlang's own compiler, and its answers are told in\n"
@@ -88,7 +118,7 @@ help() ->
     "\n"
     "The first file has the root: a function without arguments, main where there is one.\n"
     "WORDS are those of pulsefarm (pulsefarm --help). Where one isn't given: --limit 100000, --property nocrash, of hunt\n"
-    "--seeds 0..1000, and of run and chart --seed 0.\n"
+    "--seeds 0..1000, of run and chart --seed 0, and of shrink --runs 300.\n"
     "\n"
     "  --root F            begins with the function F of the first file\n"
     "  -I DIR, -D NAME[=VALUE]   as erlc has them\n"

@@ -1,0 +1,118 @@
+%% @doc Where a run was at each event: the run once more, in the traced form, by the choices of its report. The traced form tells a place
+%% before each action, so each such choice is taken twice. What comes is held against the report, event by event; where it differs in
+%% anything but places, nothing is told.
+-module(plain_replay).
+-export([places/4]).
+
+-type place() :: plain_translation:place().
+%% For each event the mark before it; for each process the mark at its beginning.
+-type told() :: #{events := [binary() | none], begins := #{non_neg_integer() => binary()}}.
+-type step() :: {mark | start | event, plain_report:event(), boolean()}.
+-export_type([told/0, place/0]).
+
+%% @doc The marks of a run, by its events.
+-spec places([file:filename()], plain_translation:options(), string(), [plain_report:event()]) ->
+    {ok, told(), plain_translation:translation()} | unknown.
+places(Files, Options, Root, Events) ->
+    case plain_translation:translate(Files, Options#{traced := true}) of
+        {ok, #{text := Text} = Traced} ->
+            case plain_farm:with_file(Text, fun(File) -> replay(File, Root, Events, [], 8) end) of
+                {ok, Told} -> {ok, Told, Traced};
+                unknown -> unknown
+            end;
+        {refused, _} -> unknown
+    end.
+
+%% An error that the library runs into has no mark before the end of its process; which ends have none is found by trying.
+-spec replay(file:filename(), string(), [plain_report:event()], [non_neg_integer()], non_neg_integer()) -> {ok, told()} | unknown.
+replay(_, _, _, _, 0) -> unknown;
+replay(File, Root, Events, Unmarked, Tries) ->
+    Steps = steps(Events, Unmarked),
+    Schedule = lists:join(",", [integer_to_list(Choice) || {_, #{choice := Choice}, _} <- Steps]),
+    case run(File, Root, Schedule) of
+        {ok, Seen} ->
+            case compare(Steps, Seen, 0) of
+                same -> {ok, told(Steps, Seen, #{events => [], begins => #{}}, none)};
+                {differ, Number} when is_integer(Number) ->
+                    case lists:member(Number, Unmarked) of
+                        true -> unknown;
+                        false -> replay(File, Root, Events, [Number | Unmarked], Tries - 1)
+                    end;
+                {differ, none} -> unknown
+            end;
+        unknown -> unknown
+    end.
+
+-spec run(file:filename(), string(), iolist()) -> {ok, [plain_report:event()]} | unknown.
+run(File, Root, Schedule) ->
+    Words = fun(Given) -> ["run", File, "--root", Root, "--limit", "100000", "--schedule", Given] end,
+    Answer = plain_farm:with_file(["schedule ", Schedule, "\n"], fun(Named) -> plain_farm:call(Words("@" ++ Named)) end),
+    case Answer of
+        {Text, Status} when Status < 2 ->
+            #{events := Seen} = plain_report:read(binary:split(Text, <<"\n">>, [global])),
+            {ok, Seen};
+        _ -> unknown
+    end.
+
+%% The events of the traced run that are to come: marks, and the events of the report.
+-spec steps([plain_report:event()], [non_neg_integer()]) -> [step()].
+steps(Events, Unmarked) ->
+    {Steps, _} = lists:foldl(fun(Event, {Before, State}) ->
+        {New, After} = step(Event, Unmarked, State),
+        {[New | Before], After}
+    end, {[], #{number => 0, last => #{0 => begun}}}, Events),
+    lists:append(lists:reverse(Steps)).
+
+-spec step(plain_report:event(), [non_neg_integer()], map()) -> {[step()], map()}.
+step(#{subject := {delivery, _, _}} = Event, _, #{number := Number} = State) -> {[{event, Event, false}], State#{number := Number + 1}};
+step(#{subject := {turn, Process}, label := Label} = Event, Unmarked, #{number := Number, last := Last} = State) ->
+    Kind = kind(Label),
+    Before = maps:get(Process, Last, none),
+    Marked = case {Kind, Before} of
+        {'end', raise} -> false;
+        {'end', _} -> not lists:member(Number, Unmarked);
+        {cut, _} -> false;
+        {_, wait} -> false;
+        _ -> true
+    end,
+    Steps = [{start, Event, false} || Before =:= none] ++ [{mark, Event, false} || Marked] ++ [{event, Event, Kind =:= 'end'}],
+    {Steps, State#{number := Number + 1, last := Last#{Process => Kind}}}.
+
+-spec kind(binary()) -> atom().
+kind(<<"end ", _/binary>>) -> 'end';
+kind(<<"raise ", _/binary>>) -> raise;
+kind(<<"wait">>) -> wait;
+kind(<<"cut">>) -> cut;
+kind(_) -> action.
+
+%% Whether what came is what was to come; else the number of the event before which it differs, where that is an end.
+-spec compare([step()], [plain_report:event()], non_neg_integer()) -> same | {differ, non_neg_integer() | none}.
+compare([], _, _) -> same;
+compare([{What, Wanted, End} | Steps], [Seen | Later], Number) ->
+    case same(What, Wanted, Seen) of
+        true -> compare(Steps, Later, case What of event -> Number + 1; _ -> Number end);
+        false -> {differ, differing(What, Wanted, End, Number)}
+    end;
+compare([{What, Wanted, End} | _], [], Number) -> {differ, differing(What, Wanted, End, Number)}.
+
+-spec differing(mark | start | event, plain_report:event(), boolean(), non_neg_integer()) -> non_neg_integer() | none.
+differing(mark, #{label := <<"end ", _/binary>>}, _, Number) -> Number;
+differing(_, _, _, _) -> none.
+
+-spec same(mark | start | event, plain_report:event(), plain_report:event()) -> boolean().
+same(event, #{choice := Choice, among := Among, subject := Subject, label := Label}, Seen) ->
+    #{choice := SeenChoice, among := SeenAmong, subject := SeenSubject, label := SeenLabel} = Seen,
+    {Choice, Among, Subject, Label} =:= {SeenChoice, SeenAmong, SeenSubject, without_places(SeenLabel)};
+same(_, #{choice := Choice, among := Among, subject := Subject}, #{choice := SeenChoice, among := SeenAmong, subject := SeenSubject, label := Label}) ->
+    {Choice, Among, Subject} =:= {SeenChoice, SeenAmong, SeenSubject} andalso binary:part(Label, 0, min(8, byte_size(Label))) =:= <<"whereis ">>.
+
+%% The stack traces of the traced form are places; those of the plain form are empty.
+-spec without_places(binary()) -> binary().
+without_places(Label) -> iolist_to_binary(re:replace(Label, <<"\\['@[0-9]+'\\]">>, <<"[]">>, [global])).
+
+-spec told([step()], [plain_report:event()], told(), binary() | none) -> told().
+told([], _, #{events := Events} = Told, _) -> Told#{events := lists:reverse(Events)};
+told([{start, #{subject := {turn, Process}}, _} | Steps], [#{label := <<"whereis ", Mark/binary>>} | Seen], #{begins := Begins} = Told, Last) ->
+    told(Steps, Seen, Told#{begins := Begins#{Process => Mark}}, Last);
+told([{mark, _, _} | Steps], [#{label := <<"whereis ", Mark/binary>>} | Seen], Told, _) -> told(Steps, Seen, Told, Mark);
+told([{event, _, _} | Steps], [_ | Seen], #{events := Events} = Told, Last) -> told(Steps, Seen, Told#{events := [Last | Events]}, none).
