@@ -119,12 +119,12 @@ crashes(Events, Told, #{names := Names}) ->
 -spec crash({non_neg_integer(), non_neg_integer(), binary(), own | {by, non_neg_integer()}}, [plain_report:event()], told(), map()) -> iodata().
 crash({_, P, Reason, {by, A}}, _, _, Names) -> io_lib:format("ended <~w> by a signal of <~w>: ~ts~n", [P, A, plain_words_back:line(Reason, Names)]);
 crash({Number, P, Reason, own}, Events, Told, Names) ->
-    io_lib:format("crash <~w> ~ts~ts~n", [P, where(Number, P, Events, Told), reason(Reason, Names)]).
+    io_lib:format("crash <~w> ~ts~ts~n", [P, where(Number, P, Reason, Events, Told), reason(Reason, Names)]).
 
 %% The place of an end: its own mark; or that of the action that raised; else the last place of the source that the process came by.
--spec where(pos_integer(), non_neg_integer(), [plain_report:event()], told()) -> iodata().
-where(_, _, _, unknown) -> "";
-where(Number, P, Events, {ok, #{events := Marks}, #{marks := Places}}) ->
+-spec where(pos_integer(), non_neg_integer(), binary(), [plain_report:event()], told()) -> iodata().
+where(_, _, _, _, unknown) -> "";
+where(Number, P, Reason, Events, {ok, #{events := Marks}, #{marks := Places, atoms := Atoms}} = Told) ->
     Own = [{N, Label, place_of(Mark, Places)} || {N, {#{subject := {turn, Q}, label := Label}, Mark}} <- lists:zip(lists:seq(1, length(Events)), lists:zip(Events, Marks)),
                                                  Q =:= P, N =< Number],
     Placed = [{N, Label, Place} || {N, Label, {user, _, _, _} = Place} <- lists:reverse(Own)],
@@ -132,6 +132,18 @@ where(Number, P, Events, {ok, #{events := Marks}, #{marks := Places}}) ->
     case Placed of
         [{N, _, Place} | _] when N =:= Number; N =:= Raised -> ["at ", plain_words_back:place(Place), ": "];
         [{_, _, Place} | _] -> ["behind ", plain_words_back:place(Place), ": "];
+        [] -> ["in ", role(P, Told), stands(Reason, Atoms), ": "]
+    end.
+
+%% Where the first word of a reason stands in the sources, which a callback returned.
+-spec stands(binary(), #{atom() => [plain_translation:place()]}) -> iodata().
+stands(Reason, Atoms) ->
+    Words = case re:run(Reason, <<"[a-z][A-Za-z0-9_@]*">>, [global, {capture, first, binary}]) of
+        {match, Found} -> [binary_to_atom(Word) || [Word] <- Found];
+        nomatch -> []
+    end,
+    case [{Word, lists:last(Places)} || Word <- Words, {ok, Places} <- [maps:find(Word, Atoms)]] of
+        [{Word, Place} | _] -> io_lib:format(", ~w stands at ~ts", [Word, plain_words_back:place(Place)]);
         [] -> ""
     end.
 

@@ -149,9 +149,13 @@ primitive(match_fail, [Reason], Line, Env, Mode) ->
         _ -> plain_value:value(Reason, Env)
     end,
     [failure(error, Told, Mode)];
-primitive(raise, [Stack, Reason], _, Env, Mode) -> raised(plain_value:value(Stack, Env), Reason, maps:get({stack, Stack}, Env, nil), Env, Mode);
+primitive(raise, [Raw, Reason], _, Env, Mode) ->
+    {Class, Stack} = plain_trace:raw_parts(plain_value:value(Raw, Env)),
+    raised(Class, Reason, Stack, Env, Mode);
 primitive(raw_raise, [Class, Reason, Stack], _, Env, Mode) -> raised(plain_value:value(Class, Env), Reason, plain_value:value(Stack, Env), Env, Mode);
-primitive(build_stacktrace, [Stack], _, Env, Mode) -> [returned(plain_trace:stack_of(maps:get({stack, Stack}, Env, nil)), Mode)];
+primitive(build_stacktrace, [Raw], _, Env, Mode) ->
+    {_, Stack} = plain_trace:raw_parts(plain_value:value(Raw, Env)),
+    [returned(Stack, Mode)];
 primitive(bs_init_writable, _, Line, _, _) -> plain_refusal:refuse(Line, "a binary comprehension is not translated; take a list comprehension", []);
 primitive(Name, _, Line, _, _) -> plain_refusal:refuse(Line, "the primitive ~w has no translation; write it by other constructs", [Name]).
 
@@ -172,8 +176,7 @@ raised(Class, Reason, Stack, Env, _) -> [plain_trace:thrown(Class, plain_value:v
     Name = plain_names:variable(Variable),
     [ClassName, ReasonName, StackName] = [plain_names:variable(V) || V <- [Class, Reason, Stack]],
     InValue = bound(Variable, Name, Env),
-    Shown = plain_trace:stack_of(StackName),
-    InHandler = Env#{Class => ClassName, Reason => ReasonName, Stack => ClassName, {stack, Stack} => Shown},
+    InHandler = Env#{Class => ClassName, Reason => ReasonName, Stack => plain_trace:raw(ClassName, StackName)},
     lists:droplast(Elements) ++
         [{'case', lists:last(Elements),
           [{{tuple, [{atom, v}, Name]}, [], body(Value, InValue, Mode)},

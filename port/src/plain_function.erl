@@ -17,7 +17,7 @@ write(Key) ->
 write_key({function, Module, Function, Arity, Mode}) ->
     {Kind, Core, File} = plain_modules:find(Module, Function, Arity),
     Name = plain_reach:name(Module, Function, Arity),
-    stand(#{file => File, module => Module, kind => Kind, base => Name, function => {Module, Function, Arity}}),
+    stand(#{file => File, module => Module, kind => Kind, base => plain_reach:base(Module, Function), function => {Module, Function, Arity}}),
     plain_state:put(line, 0),
     {fn, _, Variables, Body, Line} = tree({Module, Function, Arity}, Core),
     write(Name, [], {Variables, Body, Line}, #{}, Mode);
@@ -46,7 +46,7 @@ write(Name, Free, {Variables, Body, Line}, Env, Mode) ->
     plain_state:put(mode, Mode),
     plain_state:put(line, Line),
     Text = case Mode =:= plain andalso plain_trace:traced() andalso plain_state:get(kind) =:= user of
-        true -> entered(Name, Arity, Free, Variables);
+        true -> entered(Name, Arity);
         false -> clauses(Written, Free, {Variables, Body, Line}, Env, Mode)
     end,
     keep(Line, Written, Arity, [Text, ".\n"]).
@@ -57,25 +57,18 @@ keep(Line, Name, Arity, Text) ->
     plain_state:put(functions, [{plain_state:get(file), Line, Label, Text} | plain_state:get(functions)]).
 
 %% In a traced module a function of the source has one body, whose errors are values; where it is called plainly they end the process.
--spec entered(atom(), arity(), [plain_tree:tree()], [plain_tree:variable()]) -> iodata().
-entered(Name, Arity, Free, Variables) ->
-    plain_reach:need(case Free =:= [] andalso plain_state:find_in(lifted, Name) =:= error of
-        true -> {function, plain_state:get(module), source_name(Name), length(Variables), traced};
+-spec entered(atom(), arity()) -> iodata().
+entered(Name, Parameters) ->
+    plain_reach:need(case plain_state:find_in(lifted, Name) =:= error of
+        true ->
+            {Module, Function, Arity} = plain_state:get(function),
+            {function, Module, Function, Arity, traced};
         false -> {lifted, Name, traced}
     end),
     plain_reach:use(raise),
     plain_reach:use(enter),
-    Arguments = lists:join(",", ["A" ++ integer_to_list(I) || I <- lists:seq(1, Arity)]),
+    Arguments = lists:join(",", ["A" ++ integer_to_list(I) || I <- lists:seq(1, Parameters)]),
     [plain_text:atom(Name), "(", Arguments, ")->enter@(", plain_text:atom(plain_reach:in_mode(Name, traced)), "(", Arguments, "))"].
-
-%% The name in its module of a function by its name in the text.
--spec source_name(atom()) -> atom().
-source_name(Name) ->
-    Prefix = atom_to_list(plain_state:get(module)) ++ "@",
-    case lists:prefix(Prefix, atom_to_list(Name)) of
-        true -> list_to_atom(lists:nthtail(length(Prefix), atom_to_list(Name)));
-        false -> Name
-    end.
 
 -spec clauses(atom(), [plain_tree:tree()], {[plain_tree:variable()], plain_tree:tree(), plain_tree:line()}, environment(), plain_reach:mode()) -> iodata().
 clauses(Name, Free, {Variables, Body, Line}, Env, Mode) ->

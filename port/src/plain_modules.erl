@@ -52,7 +52,7 @@ load(Module, Kind, File) ->
     case filelib:is_regular(File) of
         true ->
             #{library_defines := Own} = plain_state:get(options),
-            keep(Module, Kind, File, plain_source:read(File, Own ++ lists:usort(plain_state:get(defines))));
+            keep(Module, Kind, File, plain_source:read_library(File, Own ++ lists:usort(plain_state:get(defines))));
         false -> ok
     end.
 

@@ -1,7 +1,7 @@
 %% @doc What is reached from the root: each function is written when it is first needed, in the mode that it is needed in.
 %% A fun, or a module that only a run knows, reaches all that it may be: so dispatchers have a clause for each.
 -module(plain_reach).
--export([need/1, export/2, use/1, work/0, name/3, in_mode/2, dispatcher/2, remote_dispatcher/3, remote_name/2, spread/1, exported_functions/0, remote_targets/2, tag/1, client/1]).
+-export([need/1, export/2, use/1, work/0, name/3, base/2, in_mode/2, dispatcher/2, remote_dispatcher/3, remote_name/2, spread/1, exported_functions/0, remote_targets/2, tag/1, client/1]).
 
 -type mode() :: plain | checked | traced.
 %% A function of a module, or one that a fun became.
@@ -13,7 +13,27 @@
 name(Module, Function, Arity) ->
     Own = Module =:= plain_state:get(main) andalso not lists:member({Function, Arity}, built_in())
         andalso not (is_root(Function, Arity) andalso (plain_services:any() orelse plain_trace:traced())),
-    case Own of
+    case {Own, plain_state:get(short)} of
+        {true, _} -> Function;
+        {false, false} -> list_to_atom(lists:concat([Module, "@", Function]));
+        {false, true} -> short_name({Module, Function, Arity})
+    end.
+
+%% Where the text would be too long, functions are numbered.
+-spec short_name({module(), atom(), arity()}) -> atom().
+short_name(Key) ->
+    case plain_state:find_in(short_names, Key) of
+        {ok, Name} -> Name;
+        error ->
+            Name = list_to_atom("z@" ++ integer_to_list(map_size(plain_state:get(short_names)))),
+            plain_state:set_in(short_names, Key, Name),
+            Name
+    end.
+
+%% @doc The name before the number of what stands in a function.
+-spec base(module(), atom()) -> atom().
+base(Module, Function) ->
+    case Module =:= plain_state:get(main) of
         true -> Function;
         false -> list_to_atom(lists:concat([Module, "@", Function]))
     end.

@@ -2,7 +2,7 @@
 %% before each action, so each such choice is taken twice. What comes is held against the report, event by event; where it differs in
 %% anything but places, nothing is told.
 -module(plain_replay).
--export([places/4]).
+-export([places/4, steps/2, same/3]).
 
 -type place() :: plain_translation:place().
 %% For each event the mark before it; for each process the mark at its beginning.
@@ -102,17 +102,24 @@ differing(_, _, _, _) -> none.
 -spec same(mark | start | event, plain_report:event(), plain_report:event()) -> boolean().
 same(event, #{choice := Choice, among := Among, subject := Subject, label := Label}, Seen) ->
     #{choice := SeenChoice, among := SeenAmong, subject := SeenSubject, label := SeenLabel} = Seen,
-    {Choice, Among, Subject, Label} =:= {SeenChoice, SeenAmong, SeenSubject, without_places(SeenLabel)};
+    {Choice, Among, Subject, bare(Label)} =:= {SeenChoice, SeenAmong, SeenSubject, bare(SeenLabel)};
 same(_, #{choice := Choice, among := Among, subject := Subject}, #{choice := SeenChoice, among := SeenAmong, subject := SeenSubject, label := Label}) ->
     {Choice, Among, Subject} =:= {SeenChoice, SeenAmong, SeenSubject} andalso binary:part(Label, 0, min(8, byte_size(Label))) =:= <<"whereis ">>.
 
-%% The stack traces of the traced form are places; those of the plain form are empty.
--spec without_places(binary()) -> binary().
-without_places(Label) -> iolist_to_binary(re:replace(Label, <<"\\['@[0-9]+'\\]">>, <<"[]">>, [global])).
+%% A label without stack traces, which are places in the traced form, and without the names of funs, which are numbered in each form.
+-spec bare(binary()) -> binary().
+bare(Label) ->
+    Empty = re:replace(Label, <<"\\['@[0-9]+'\\]">>, <<"[]">>, [global, {return, binary}]),
+    re:replace(Empty, <<"{'#fun',([0-9]+),('[^']*'|[A-Za-z0-9_@]+)">>, <<"{'#fun',\\1,f">>, [global, {return, binary}]).
 
 -spec told([step()], [plain_report:event()], told(), binary() | none) -> told().
 told([], _, #{events := Events} = Told, _) -> Told#{events := lists:reverse(Events)};
 told([{start, #{subject := {turn, Process}}, _} | Steps], [#{label := <<"whereis ", Mark/binary>>} | Seen], #{begins := Begins} = Told, Last) ->
     told(Steps, Seen, Told#{begins := Begins#{Process => Mark}}, Last);
 told([{mark, _, _} | Steps], [#{label := <<"whereis ", Mark/binary>>} | Seen], Told, _) -> told(Steps, Seen, Told, Mark);
-told([{event, _, _} | Steps], [_ | Seen], #{events := Events} = Told, Last) -> told(Steps, Seen, Told#{events := [Last | Events]}, none).
+told([{event, _, End} | Steps], [#{label := Label} | Seen], #{events := Events} = Told, Last) ->
+    Mark = case End andalso re:run(Label, <<"\\[('@[0-9]+')\\]">>, [{capture, [1], binary}]) of
+        {match, [Place]} -> Place;
+        _ -> Last
+    end,
+    told(Steps, Seen, Told#{events := [Mark | Events]}, none).

@@ -1,10 +1,10 @@
 %% @doc Reading: a file through epp and Erlang's compiler, up to Core Erlang; and what a source is seen to use.
 -module(plain_source).
--export([read/2, wants/1]).
+-export([read/2, read_library/2, wants/1]).
 -export_type([source/0]).
 
 -type source() :: #{name := module(), functions := #{{atom(), arity()} => cerl:cerl()}, exports := [{atom(), arity()}],
-                    forms := [erl_parse:abstract_form()]}.
+                    forms => [erl_parse:abstract_form()]}.
 
 %% @doc A file as Core Erlang. What the compiler refuses is refused in its words.
 -spec read(file:filename(), [term()]) -> source().
@@ -17,6 +17,18 @@ read(File, Defines) ->
       functions => maps:from_list([{cerl:var_name(Name), Function} || {Name, Function} <- cerl:module_defs(Core)]),
       exports => [cerl:var_name(Name) || Name <- cerl:module_exports(Core)],
       forms => Forms}.
+
+%% @doc A file of the library or of OTP, which doesn't change while this program runs, and so is read once for all passes.
+-spec read_library(file:filename(), [term()]) -> source().
+read_library(File, Defines) ->
+    Key = {?MODULE, File, Defines, maps:get(includes, plain_state:get(options))},
+    case persistent_term:get(Key, none) of
+        none ->
+            Source = maps:remove(forms, read(File, Defines)),
+            persistent_term:put(Key, Source),
+            Source;
+        Source -> Source
+    end.
 
 -spec forms(file:filename(), [term()]) -> [term()].
 forms(File, Defines) ->

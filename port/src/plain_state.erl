@@ -15,10 +15,11 @@
   | lifted | lifted_names         % funs that became functions: their bodies, their names
   | funs                          % all funs that are made, with their number of arguments
   | calls | remote_calls          % dispatchers for funs, and for modules that are known at run time
-  | exports | prelude | atoms
+  | exports | prelude
+  | atoms | atom_places           % the atoms of the module; where those of the sources stand
   | notes | refusals
   | counter | clock | marks       % the last number; whether a time is waited for; what the marks of a traced module say
-  | short                         % whether names are short
+  | short | short_names           % whether names are short; those that are
   | file | module | kind | base | function | line | mode % where the translation stands
   | names | shapes.               % of the function that is written: names of variables, tuples that are known
 -export_type([key/0]).
@@ -26,7 +27,7 @@
 %% @doc Begins anew. What the pass before found stays in `Services', and `Short' asks for short names.
 -spec start(map(), {map(), boolean()}) -> ok.
 start(Options, {Services, Short}) ->
-    Maps = [modules, wanted, trees, lifted, lifted_names, funs, calls, remote_calls, exports, prelude, atoms, names, shapes, marks],
+    Maps = [modules, wanted, trees, lifted, lifted_names, funs, calls, remote_calls, exports, prelude, short_names, atoms, atom_places, names, shapes, marks],
     Lists = [users, roots, defines, queue, functions, notes, refusals],
     [put(Key, #{}) || Key <- Maps],
     [put(Key, []) || Key <- Lists],

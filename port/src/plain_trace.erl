@@ -2,7 +2,7 @@
 %% choices, with two things more: before each action stands a look for a name that nobody has, which tells the place as an event
 %% of its own; and an error carries its place as its stack trace.
 -module(plain_trace).
--export([traced/0, action/2, mark/0, marked/1, here/0, thrown/2, thrown/3, caught/3, stack_of/1, begin_clause/3]).
+-export([traced/0, action/2, mark/0, marked/1, here/0, thrown/2, thrown/3, caught/3, stack_of/1, raw/2, raw_parts/1, begin_clause/3]).
 
 %% @doc Whether the traced form is written.
 -spec traced() -> boolean().
@@ -69,6 +69,23 @@ stack_of(Variable) ->
     case traced() of
         true -> Variable;
         false -> nil
+    end.
+
+%% @doc What a handler has of an error beside its reason, to raise it again: its class, and in the traced form its place.
+-spec raw(plain_text:expression(), plain_text:expression()) -> plain_text:expression().
+raw(Class, Stack) ->
+    case traced() of
+        true -> {tuple, [Class, Stack]};
+        false -> Class
+    end.
+
+%% @doc The class and the stack trace in such a value.
+-spec raw_parts(plain_text:expression()) -> {plain_text:expression(), plain_text:expression()}.
+raw_parts(Raw) ->
+    case {traced(), Raw} of
+        {true, {tuple, [Class, Stack]}} -> {Class, Stack};
+        {true, _} -> {{call, element, [{int, 1}, Raw]}, {call, element, [{int, 2}, Raw]}};
+        {false, _} -> {Raw, nil}
     end.
 
 %% @doc The beginning of a process in the traced form: which fun it runs, told by a mark.

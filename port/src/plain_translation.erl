@@ -9,7 +9,7 @@
 %% A place of the sources: what kind of module, file, line, and the function there, or a fun in it.
 -type place() :: {plain_modules:kind(), file:filename(), non_neg_integer(), {module(), atom(), arity()} | {'fun', {module(), atom(), arity()}}}.
 -type translation() :: #{text := binary(), map := [plain_map:row()], notes := [string()], roots := [atom()], marks := #{pos_integer() => place()},
-                         names := #{atom() => place()}, main := module(), exports := #{module() => [{atom(), arity()}]}}.
+                         names := #{atom() => place()}, main := module(), atoms := #{atom() => [place()]}, exports := #{module() => [{atom(), arity()}]}}.
 -export_type([options/0, translation/0, refusal/0, place/0]).
 
 %% @doc The options where none is given.
@@ -90,7 +90,7 @@ written(Roots) ->
     {Texts, Rows} = plain_map:number(lists:reverse(plain_state:get(functions)) ++ Extra, 3),
     #{text => iolist_to_binary([Head, Texts]), map => Rows, notes => [Text || {_, Text} <- lists:reverse(plain_state:get(notes))], roots => Roots,
       marks => maps:from_list([{Number, Place} || {Place, Number} <- maps:to_list(plain_state:get(marks))]),
-      names => names(), main => Main, exports => maps:from_list([{Module, plain_modules:exported(Module, user)} || Module <- plain_state:get(users)])}.
+      names => names(), main => Main, atoms => plain_state:get(atom_places), exports => maps:from_list([{Module, plain_modules:exported(Module, user)} || Module <- plain_state:get(users)])}.
 
 %% What each name of the text stands for: a function of a module, or a fun in one.
 -spec names() -> #{atom() => place()}.

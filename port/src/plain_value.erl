@@ -93,6 +93,12 @@ literal(Term, Line) -> plain_refusal:refuse(Line, "the profile has no value ~p; 
 atom(Atom, Line) when Atom =:= '#map'; Atom =:= '#bin'; Atom =:= '#fun' ->
     plain_state:get(kind) =:= user andalso plain_refusal:refuse(Line, "the atom ~p marks an encoding; rename it", [Atom]),
     {atom, Atom};
-atom(Atom, _) ->
+atom(Atom, Line) ->
     plain_state:set_in(atoms, Atom, true),
+    Known = maps:get(Atom, plain_state:get(atom_places), []),
+    Place = {user, plain_state:get(file), Line, plain_state:get(function)},
+    case plain_state:get(kind) =:= user andalso Line > 0 andalso not lists:member(Place, Known) of
+        true -> plain_state:set_in(atom_places, Atom, [Place | Known]);
+        false -> ok
+    end,
     {atom, Atom}.
