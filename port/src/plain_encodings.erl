@@ -6,6 +6,7 @@
 -spec note(module(), atom(), arity()) -> ok.
 note(gen_server, Function, Arity) when {Function, Arity} =/= {call, 2} -> ok;
 note(io_lib, Function, _) when Function =/= format, Function =/= fwrite -> ok;
+note(timer, tc, _) -> plain_refusal:note_once(measured, "timer:tc measures nothing, and tells 0");
 note(Module, _, _) ->
     case sentence(Module) of
         none -> ok;
@@ -23,4 +24,6 @@ sentence(Module) when Module =:= logger; Module =:= error_logger; Module =:= io 
 sentence(global) -> {global, "global names are names of the one node"};
 sentence(gen_server) -> {calls, "a call without a time of its own never times out; -D CALL_TIMEOUTS lets it"};
 sentence(io_lib) -> {formats, "~p, ~w, ~s, ~b, ~c and ~n are formatted without widths, and pids and references without numbers"};
+sentence(application) -> {application, "no application has an environment here, so get_env answers the default; starting one does nothing"};
+sentence(net_kernel) -> {nodes, "there is one node; nothing tells of others"};
 sentence(_) -> none.

@@ -69,14 +69,13 @@ lift(Name, Variables, Body, Line, Env, Whole) ->
 
 %% @doc A term that stands in the source.
 -spec literal(term(), plain_tree:line()) -> plain_text:expression().
-literal({'$refused', Line, Sentence}, _) -> plain_refusal:refuse(Line, "~ts", [Sentence]);
-literal(Integer, Line) when is_integer(Integer) ->
-    (Integer > 16#7fffffffffffffff orelse Integer < -16#8000000000000000)
-        andalso plain_refusal:refuse(Line, "the integer ~w has more than 64 bits; count in a larger unit", [Integer]),
-    {int, Integer};
+literal({'$refused', Line, Sentence}, _) -> refused(Line, "~ts", [Sentence]);
+literal(Integer, Line) when is_integer(Integer), Integer > 16#7fffffffffffffff orelse Integer < -16#8000000000000000 ->
+    refused(Line, "the integer ~w has more than 64 bits; count in a larger unit", [Integer]);
+literal(Integer, _) when is_integer(Integer) -> {int, Integer};
 literal(Atom, Line) when is_atom(Atom) -> atom(Atom, Line);
 literal([], _) -> nil;
-literal([_ | Tail], Line) when not is_list(Tail) -> plain_refusal:refuse(Line, "the profile has no improper lists; take a tuple {Head, Tail}", []);
+literal([_ | Tail], Line) when not is_list(Tail) -> refused(Line, "the profile has no improper lists; take a tuple {Head, Tail}", []);
 literal([Head | Tail], Line) -> {cons, literal(Head, Line), literal(Tail, Line)};
 literal(Tuple, Line) when is_tuple(Tuple) -> {tuple, [literal(X, Line) || X <- tuple_to_list(Tuple)]};
 literal(Binary, Line) when is_binary(Binary) -> {tuple, [{atom, '#bin'}, literal(binary_to_list(Binary), Line)]};
@@ -85,14 +84,26 @@ literal(Fun, Line) when is_function(Fun) ->
     [Module, Name, Arity] = [element(2, erlang:fun_info(Fun, Item)) || Item <- [module, name, arity]],
     plain_state:put(line, Line),
     remote_fun(Module, Name, Arity);
-literal(Float, Line) when is_float(Float) -> plain_refusal:refuse(Line, "the float ~w: the profile has no floats; count in integers", [Float]);
-literal(Term, Line) -> plain_refusal:refuse(Line, "the profile has no value ~p; take a tuple or a list", [Term]).
+literal(Float, Line) when is_float(Float) -> refused(Line, "the float ~w: the profile has no floats; count in integers", [Float]);
+literal(Term, Line) -> refused(Line, "the profile has no value ~p; take a tuple or a list", [Term]).
+
+%% A literal that is refused: the translation goes on behind it, so that what else is refused is told too. In the library it ends the function.
+-spec refused(plain_tree:line(), io:format(), [term()]) -> plain_text:expression().
+refused(Line, Format, Arguments) ->
+    case plain_state:get(kind) of
+        user ->
+            plain_refusal:record(plain_state:get(file), Line, io_lib:format(Format, Arguments)),
+            {atom, refused};
+        _ -> plain_refusal:refuse(Line, Format, Arguments)
+    end.
 
 %% The tags of maps, binaries and funs stand in no program, so that no tuple of one can be taken for them.
 -spec atom(atom(), plain_tree:line()) -> plain_text:expression().
 atom(Atom, Line) when Atom =:= '#map'; Atom =:= '#bin'; Atom =:= '#fun' ->
-    plain_state:get(kind) =:= user andalso plain_refusal:refuse(Line, "the atom ~p marks an encoding; rename it", [Atom]),
-    {atom, Atom};
+    case plain_state:get(kind) of
+        lib -> {atom, Atom};
+        _ -> refused(Line, "the atom ~p marks an encoding; rename it", [Atom])
+    end;
 atom(Atom, Line) ->
     plain_state:set_in(atoms, Atom, true),
     Known = maps:get(Atom, plain_state:get(atom_places), []),
