@@ -10,8 +10,17 @@
 -spec write(plain_reach:key()) -> ok.
 write(Key) ->
     try write_key(Key)
-    catch throw:{refuse, File, Line, Sentence} -> plain_refusal:record(File, Line, Sentence)
+    catch
+        throw:{refuse, File, Line, Sentence} -> plain_refusal:record(File, Line, Sentence);
+        error:Reason:Stack -> failed(Reason, Stack)
     end.
+
+%% An error of the translator itself is told as one, at the place where it came to it.
+-spec failed(term(), [tuple()]) -> ok.
+failed(Reason, Stack) ->
+    [{Module, Function, _, _} | _] = [Frame || {Name, _, _, _} = Frame <- Stack, lists:prefix("plain_", atom_to_list(Name))],
+    plain_refusal:record(plain_state:get(file), plain_state:get(line),
+                         io_lib:format("the translator has an error here (~0P in ~w:~w); please report it, and write this function otherwise", [Reason, 8, Module, Function])).
 
 -spec write_key(plain_reach:key()) -> ok.
 write_key({function, Module, Function, Arity, Mode}) ->

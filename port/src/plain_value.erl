@@ -69,7 +69,7 @@ lift(Name, Variables, Body, Line, Env, Whole) ->
 
 %% @doc A term that stands in the source.
 -spec literal(term(), plain_tree:line()) -> plain_text:expression().
-literal({'$refused', Line, Sentence}, _) -> refused(Line, "~ts", [Sentence]);
+literal({'$refused', Line, Sentence}, _) -> plain_refusal:refuse(Line, "~ts", [Sentence]);
 literal(Integer, Line) when is_integer(Integer), Integer > 16#7fffffffffffffff orelse Integer < -16#8000000000000000 ->
     refused(Line, "the integer ~w has more than 64 bits; count in a larger unit", [Integer]);
 literal(Integer, _) when is_integer(Integer) -> {int, Integer};
