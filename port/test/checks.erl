@@ -1,7 +1,7 @@
 %% @doc The checks of this part that take more than a unit test: they run the translator in this node and call pulsefarm.
 %% Each check counts what passed and failed, and tells each failure on a line.
 -module(checks).
--export([main/0, main/1, pass/1, expect/3, expect/2, folder/1, room/1, translate/2, translate/1, hunt/4, run/3, value_on_erlang/2, load/2, normal/1, bare/1, status/2]).
+-export([main/0, main/1, pass/1, expect/3, expect/2, folder/1, room/1, translate/2, translate/1, hunt/4, run/3, value_on_erlang/2, value_on_erlang/3, load/2, normal/1, bare/1, status/2]).
 
 -spec main() -> no_return().
 main() -> main([check_language, check_refused, check_random, check_calls, check_facts, check_otp, check_programs, check_command, check_speed]).
@@ -104,8 +104,11 @@ load(File, Options) ->
 
 %% @doc The value of a function on Erlang, in a process of its own.
 -spec value_on_erlang(file:filename(), atom()) -> term().
-value_on_erlang(File, Root) ->
-    Module = load(File, []),
+value_on_erlang(File, Root) -> value_on_erlang(File, Root, []).
+
+-spec value_on_erlang(file:filename(), atom(), [term()]) -> term().
+value_on_erlang(File, Root, Options) ->
+    Module = load(File, Options),
     {Pid, Monitor} = spawn_monitor(fun() -> exit({value, Module:Root()}) end),
     receive
         {'DOWN', Monitor, process, Pid, {value, Value}} -> Value;
