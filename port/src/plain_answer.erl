@@ -1,7 +1,7 @@
 %% @doc Answers of pulsefarm in the words of the source: each event with its place, each process with the function that it runs, and
 %% each crash with file, line and function.
 -module(plain_answer).
--export([tell/3, ends/1, replayed/3, role/2, event_place/2, starts_report/1]).
+-export([tell/3, ends/1, orderly/1, replayed/3, role/2, event_place/2, starts_report/1]).
 -export_type([told/0]).
 
 -type asked() :: plain_words:asked().
@@ -19,7 +19,7 @@ tell(Answer, Asked, #{names := Names} = Translation) ->
         #{events := Events, rest := Rest} ->
             Told = replayed(Asked, Translation, Events),
             [[[Line, "\n"] || Line <- Before], events(Events, Told, Names), [[plain_words_back:line(Line, Names), "\n"] || Line <- Rest],
-             processes(Events, Told, Translation), crashes(Events, Told, Translation)]
+             processes(Events, Told, Translation), waits(Events, Rest, Told), crashes(Events, Told, Translation)]
     end.
 
 %% @doc Whether a report begins with this line.
@@ -112,6 +112,17 @@ ending(Number, #{subject := {turn, P}, label := <<"end ", Reason/binary>>}) -> [
 ending(Number, #{subject := {delivery, A, B}, label := <<"deliver exit ends ", Reason/binary>>}) -> [{Number, B, Reason, {by, A}}];
 ending(_, _) -> [].
 
+%% Where the processes of a deadlock wait.
+-spec waits([plain_report:event()], [binary()], told()) -> iodata().
+waits(Events, [<<"deadlock ", Pids/binary>> | _], {ok, #{events := Marks}, #{marks := Places}} = Told) ->
+    Last = maps:from_list([{P, place_of(Mark, Places)} || {#{subject := {turn, P}, label := <<"wait">>}, Mark} <- lists:zip(Events, Marks), Mark =/= none]),
+    [wait(P, maps:get(P, Last, none), Told) || Pid <- binary:split(Pids, <<" ">>, [global, trim]), {P, _} <- [string:to_integer(binary:part(Pid, 1, byte_size(Pid) - 2))]];
+waits(_, _, _) -> [].
+
+-spec wait(non_neg_integer(), plain_translation:place() | none, told()) -> iodata().
+wait(P, {user, _, _, _} = Place, _) -> io_lib:format("waits <~w> at ~ts~n", [P, plain_words_back:place(Place)]);
+wait(P, _, Told) -> io_lib:format("waits <~w> in ~ts~n", [P, role(P, Told)]).
+
 -spec crashes([plain_report:event()], told(), translation()) -> iodata().
 crashes(Events, Told, #{names := Names}) ->
     [crash(End, Events, Told, Names) || {_, _, Reason, _} = End <- ends(Events), Reason =/= <<"normal">>].
@@ -119,7 +130,15 @@ crashes(Events, Told, #{names := Names}) ->
 -spec crash({non_neg_integer(), non_neg_integer(), binary(), own | {by, non_neg_integer()}}, [plain_report:event()], told(), map()) -> iodata().
 crash({_, P, Reason, {by, A}}, _, _, Names) -> io_lib:format("ended <~w> by a signal of <~w>: ~ts~n", [P, A, plain_words_back:line(Reason, Names)]);
 crash({Number, P, Reason, own}, Events, Told, Names) ->
-    io_lib:format("crash <~w> ~ts~ts~n", [P, where(Number, P, Reason, Events, Told), reason(Reason, Names)]).
+    Word = case orderly(Reason) of true -> "ended"; false -> "crash" end,
+    io_lib:format("~s <~w> ~ts~ts~n", [Word, P, where(Number, P, Reason, Events, Told), reason(Reason, Names)]).
+
+%% @doc Whether a process ends in order by this reason, as supervisors have it.
+-spec orderly(binary()) -> boolean().
+orderly(<<"normal">>) -> true;
+orderly(<<"shutdown">>) -> true;
+orderly(<<"{shutdown,", _/binary>> = Reason) -> plain_words_back:size(Reason) =:= 2;
+orderly(_) -> false.
 
 %% The place of an end: its own mark; or that of the action that raised; else the last place of the source that the process came by.
 -spec where(pos_integer(), non_neg_integer(), binary(), [plain_report:event()], told()) -> iodata().

@@ -86,7 +86,9 @@ defined(Definitions, Env) ->
     Bodies = [{Variables, Body} || {_, Variables, Body, _} <- Definitions],
     Free = plain_tree:free(Bodies, Env),
     Inside = lists:foldl(fun({Identity, _, _, _}, Known) -> Known#{{lref, Identity} => {plain_value:lifted_name(Identity), Free}} end, Env, Definitions),
-    [plain_value:lift(element(1, maps:get({lref, Identity}, Inside)), Variables, Body, Line, Inside, Bodies) || {Identity, Variables, Body, Line} <- Definitions],
+    lists:foreach(fun({Identity, Variables, Body, Line}) ->
+        plain_value:lift(element(1, maps:get({lref, Identity}, Inside)), Variables, Body, Line, Inside, Bodies)
+    end, Definitions),
     Inside.
 
 %% Variables = Value, then Body.

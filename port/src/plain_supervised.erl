@@ -93,13 +93,8 @@ fails(Events, Asked, Translation) ->
     end.
 
 -spec crash(binary(), own | {by, non_neg_integer()}) -> yes | no | {killed_by, non_neg_integer()}.
-crash(<<"normal">>, _) -> no;
-crash(<<"shutdown">>, _) -> no;
-crash(<<"{shutdown,", _/binary>> = Reason, _) ->
-    %% {shutdown, T} is an orderly end; {{shutdown, T}, []} and larger tuples are not.
-    case plain_words_back:size(Reason) of 2 -> no; _ -> yes end;
 crash(<<"killed">>, {by, A}) -> {killed_by, A};
-crash(_, _) -> yes.
+crash(Reason, _) -> case plain_answer:orderly(Reason) of true -> no; false -> yes end.
 
 -spec found(non_neg_integer(), [plain_report:event()], file:filename(), asked(), translation()) -> 1.
 found(Seed, Events, File, #{words := Words} = Asked, Translation) ->

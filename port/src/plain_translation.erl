@@ -57,8 +57,7 @@ measured(Files, Options, Services, Short, #{text := Text} = Translation) ->
 %% Reads the files and asks for the roots.
 -spec begin_with([file:filename()], options()) -> [atom()].
 begin_with(Files, #{root := Root}) ->
-    Modules = [plain_modules:give(File) || File <- Files],
-    Main = hd(Modules),
+    [Main | _] = Modules = [plain_modules:give(File) || File <- Files],
     plain_state:put(main, Main),
     plain_state:put(users, Modules),
     Entries = [Name || {Name, 0} <- plain_modules:exported(Main, user)],

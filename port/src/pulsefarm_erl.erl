@@ -9,7 +9,7 @@ main(Words) -> halt(run(Words)).
 %% @doc Does what the words ask for; its status.
 -spec run([string()]) -> 0..255.
 run(Words) ->
-    io:setopts([{encoding, unicode}]),
+    _ = io:setopts([{encoding, unicode}]),
     case plain_words:read(Words) of
         {help, Text} ->
             io:put_chars(Text),

@@ -1,7 +1,7 @@
 %% @doc The checks of this part that take more than a unit test: they run the translator in this node and call pulsefarm.
 %% Each check counts what passed and failed, and tells each failure on a line.
 -module(checks).
--export([main/0, main/1, pass/1, expect/3, expect/2, folder/1, room/1, translate/2, translate/1, hunt/4, run/3, value_on_erlang/2, value_on_erlang/3, load/2, normal/1, bare/1, status/2]).
+-export([main/0, main/1, pass/1, expect/3, expect/2, folder/1, room/1, translate/2, translate/1, hunt/4, run/3, value_on_erlang/2, value_on_erlang/3, load/2, normal/1, bare/1, command/1, command/2]).
 
 -spec main() -> no_return().
 main() -> main([check_language, check_refused, check_random, check_calls, check_facts, check_otp, check_programs, check_command, check_speed]).
@@ -130,10 +130,14 @@ bare({Reason, [{_, _, _, _} | _]}) -> {Reason, []};
 bare(Reason) -> Reason.
 
 %% @doc Runs the program pulsefarm-erl; what it prints, with its standard error, and its status.
--spec status(string(), [string()]) -> {string(), non_neg_integer()}.
-status(_, Words) ->
+-spec command([string()]) -> {string(), non_neg_integer()}.
+command(Words) -> command(Words, []).
+
+%% @doc The same with variables of the environment.
+-spec command([string()], [{string(), string()}]) -> {string(), non_neg_integer()}.
+command(Words, Environment) ->
     Program = filename:join([os:getenv("CHECKS"), "..", "pulsefarm-erl"]),
-    Port = open_port({spawn_executable, Program}, [{args, Words}, exit_status, use_stdio, stderr_to_stdout, hide]),
+    Port = open_port({spawn_executable, Program}, [{args, Words}, {env, Environment}, exit_status, use_stdio, stderr_to_stdout, hide]),
     gather(Port, []).
 
 -spec gather(port(), [string()]) -> {string(), non_neg_integer()}.
