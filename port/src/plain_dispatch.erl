@@ -45,13 +45,22 @@ of_funs({Arity, Mode}) ->
 
 -spec of_fun(atom() | {module(), atom(), arity()}, iodata(), [string()], plain_reach:mode()) -> iodata().
 of_fun({Module, Function, Arity} = Key, Name, Arguments, Mode) ->
-    [Name, "(", comma([["{'#fun',_,", plain_text:atom(plain_reach:tag(Key)), "}"] | Arguments]), ")->",
-     target(Module, Function, Arity, Mode), "(", comma(Arguments), ");\n"];
+    Target = target(Module, Function, Arity, plain_reach:fun_mode(Key, Mode)),
+    [Name, "(", comma([["{'#fun',_,", plain_text:atom(plain_reach:tag(Key)), "}"] | Arguments]), ")->", called(Key, [Target, "(", comma(Arguments), ")"], Mode), ";\n"];
 of_fun(Key, Name, Arguments, Mode) ->
     {ok, #{free := Free}} = plain_state:find_in(lifted, Key),
     Kept = variables("F", length(Free)),
+    Target = plain_text:atom(plain_reach:in_mode(Key, plain_reach:fun_mode(Key, Mode))),
     [Name, "(", comma([["{'#fun',_,", plain_text:atom(Key), [[",", X] || X <- Kept], "}"] | Arguments]), ")->",
-     plain_text:atom(plain_reach:in_mode(Key, Mode)), "(", comma(Kept ++ Arguments), ");\n"].
+     called(Key, [Target, "(", comma(Kept ++ Arguments), ")"], Mode), ";\n"].
+
+%% What a dispatcher answers where a fun stays plain in the traced form.
+-spec called(atom() | {module(), atom(), arity()}, iodata(), plain_reach:mode()) -> iodata().
+called(Key, Call, Mode) ->
+    case {Mode, plain_reach:fun_mode(Key, Mode)} of
+        {traced, plain} -> ["{v,", Call, "}"];
+        _ -> Call
+    end.
 
 -spec target(module(), atom(), arity(), plain_reach:mode()) -> iodata().
 target(Module, Function, Arity, Mode) -> plain_text:atom(plain_reach:in_mode(plain_reach:name(Module, Function, Arity), Mode)).

@@ -92,7 +92,7 @@ clauses(Name, Free, {Variables, Body, Line}, Env, Mode) ->
     end,
     Text = fun({Patterns, Guard, Elements}) ->
         Here = plain_text:variables([Kept, Patterns, Guard]),
-        Split = plain_depth:split(Elements, Here, Name, fun(Helper, Parameters, Inner) -> keep(Line, Helper, Parameters, Inner) end),
+        Split = plain_depth:split(plain_inline:body(Elements), Here, Name, fun(Helper, Parameters, Inner) -> keep(Line, Helper, Parameters, Inner) end),
         [plain_text:atom(Name), "(", lists:join(",", [plain_text:expression(P) || P <- Kept ++ Patterns]), ")",
          plain_text:guarded(Guard), "->", plain_text:body(Split)]
     end,

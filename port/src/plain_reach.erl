@@ -1,7 +1,7 @@
 %% @doc What is reached from the root: each function is written when it is first needed, in the mode that it is needed in.
 %% A fun, or a module that only a run knows, reaches all that it may be: so dispatchers have a clause for each.
 -module(plain_reach).
--export([need/1, export/2, use/1, work/0, name/3, base/2, in_mode/2, dispatcher/2, remote_dispatcher/3, remote_name/2, spread/1, exported_functions/0, remote_targets/2, tag/1, client/1]).
+-export([need/1, export/2, use/1, work/0, name/3, base/2, in_mode/2, dispatcher/2, remote_dispatcher/3, remote_name/2, spread/1, fun_mode/2, exported_functions/0, remote_targets/2, tag/1, client/1]).
 
 -type mode() :: plain | checked | traced.
 %% A function of a module, or one that a fun became.
@@ -130,8 +130,22 @@ spread({apply_fun, Mode}) ->
     ok;
 spread({Arity, Mode}) ->
     Keys = [Key || {Key, Number} <- maps:to_list(plain_state:get(funs)), Number =:= Arity],
-    [need(case Key of {Module, Function, _} -> {function, Module, Function, Arity, Mode}; _ -> {lifted, Key, Mode} end) || Key <- Keys],
+    [need(case Key of {Module, Function, _} -> {function, Module, Function, Arity, fun_mode(Key, Mode)}; _ -> {lifted, Key, fun_mode(Key, Mode)} end)
+     || Key <- Keys],
     ok.
+
+%% @doc The mode in which a fun is reached from a dispatcher. Funs of the library stay plain in the traced form, where their errors have no
+%% places of the source to tell.
+-spec fun_mode(atom() | {module(), atom(), arity()}, mode()) -> mode().
+fun_mode(Key, traced) ->
+    Kind = case Key of
+        {Module, Function, Arity} -> element(1, plain_modules:find(Module, Function, Arity));
+        _ ->
+            {ok, #{where := #{kind := Where}}} = plain_state:find_in(lifted, Key),
+            Where
+    end,
+    case Kind of user -> traced; _ -> plain end;
+fun_mode(_, Mode) -> Mode.
 
 %% @doc All functions that a module, function and arguments known to a run may call.
 -spec exported_functions() -> [{module(), atom(), arity()}].
