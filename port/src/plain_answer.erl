@@ -87,7 +87,7 @@ begun(<<"'@f ", Rest/binary>>, #{names := Names}) ->
     case Names of
         #{Name := {user, File, Line, Function}} when Line > 0 -> [plain_words_back:function(Function), ", ", plain_refusal:place(File, Line)];
         #{Name := {user, _, _, Function}} -> plain_words_back:function(Function);
-        #{Name := {_, _, _, {'fun', {Module, start, 0}}}} -> ["the service ", atom_to_list(Module)];
+        #{Name := {_, _, _, {'fun', {Module, start, 0}}}} -> ["the service ", re:replace(atom_to_list(Module), "^pf_", "")];
         #{Name := {_, _, _, Function}} -> ["library ", plain_words_back:function(Function)];
         _ -> Named
     end;

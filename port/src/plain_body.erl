@@ -156,6 +156,7 @@ primitive(raise, [Raw, Reason], _, Env, Mode) ->
     raised(Class, Reason, Stack, Env, Mode);
 primitive(raw_raise, [Class, Reason, Stack], _, Env, Mode) -> raised(plain_value:value(Class, Env), Reason, plain_value:value(Stack, Env), Env, Mode);
 primitive(build_stacktrace, [Raw], _, Env, Mode) ->
+    plain_refusal:note_once(stacktrace, "a stack trace is [] here"),
     {_, Stack} = plain_trace:raw_parts(plain_value:value(Raw, Env)),
     [returned(Stack, Mode)];
 primitive(bs_init_writable, _, Line, _, _) -> plain_refusal:refuse(Line, "a binary comprehension is not translated; take a list comprehension", []);
@@ -171,8 +172,13 @@ raised(Class, Reason, _, Env, plain) ->
     [{call, 'raise@', [Class, plain_value:value(Reason, Env)]}];
 raised(Class, Reason, Stack, Env, _) -> [plain_trace:thrown(Class, plain_value:value(Reason, Env), Stack)].
 
+-spec note_limits() -> ok.
+note_limits() ->
+    plain_refusal:note_once(limits, "an error of the limits (a value over 4,096 nodes, an integer past 64 bits) ends the process and is not caught").
+
 -spec 'try'(tree(), plain_tree:variable(), tree(), {[plain_tree:variable()], tree()}, environment(), mode()) -> plain_text:body().
 'try'(Body, Variable, Value, {Caught, Handler}, Env, Mode) ->
+    note_limits(),
     Elements = body(Body, Env, checked),
     [Class, Reason, Stack] = case Caught of [_, _, _] -> Caught; [C, R] -> [C, R, {v, {'S', plain_state:fresh()}}] end,
     Name = plain_names:variable(Variable),
@@ -186,6 +192,7 @@ raised(Class, Reason, Stack, Env, _) -> [plain_trace:thrown(Class, plain_value:v
 
 -spec 'catch'(tree(), environment(), mode()) -> plain_text:body().
 'catch'(Body, Env, Mode) ->
+    note_limits(),
     Elements = body(Body, Env, checked),
     [Value, Reason, Stack] = [plain_names:new(), plain_names:new(), plain_names:new()],
     Caught = fun(Class, Told) -> {plain_trace:caught({atom, Class}, Reason, Stack), [], [returned(Told, Mode)]} end,

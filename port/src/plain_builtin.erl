@@ -30,6 +30,7 @@ call(Function, _, Arguments, Env, Mode) when Function =:= spawn; Function =:= sp
 call(apply, _, Arguments, Env, Mode) -> applied(Arguments, Env, Mode);
 call(Function, 1, [Argument], Env, Mode) when Function =:= atom_to_list; Function =:= list_to_atom; Function =:= list_to_existing_atom ->
     Table = case Function of atom_to_list -> atom_to_list; _ -> list_to_atom end,
+    plain_refusal:note_once(atoms, "atoms and their texts are those that stand in the program; others are badarg"),
     plain_reach:use({atoms, Table, Mode}),
     [{call, plain_reach:in_mode(list_to_atom(atom_to_list(Table) ++ "@"), Mode), [plain_value:value(Argument, Env)]}];
 call(make_fun, 3, [{lit, Module, _}, {lit, Function, _}, {lit, Arity, _}], _, Mode) ->
@@ -40,6 +41,9 @@ call(register, 2, Arguments, Env, Mode) -> registered(plain_value:values(Argumen
 call(function_exported, 3, [Module, {lit, Function, _}, {lit, Arity, _}], Env, Mode) ->
     Known = [{{atom, Name}, [], [{atom, true}]} || {Name, _} <- plain_reach:remote_targets(Function, Arity)],
     [plain_body:returned({'case', plain_value:value(Module, Env), Known ++ [{{var, "_"}, [], [{atom, false}]}]}, Mode)];
+call(monitor, 2, [_, {lit, Name, _}] = Arguments, Env, Mode) when is_atom(Name) ->
+    plain_refusal:note_once(monitor, "a monitor of a name is whereis and then a monitor of the pid: the name may pass to another between, and 'DOWN' has the pid"),
+    operation(monitor, 2, plain_value:values(Arguments, Env), Mode);
 call(setelement, 3, [{lit, Index, _}, {v, _} = Tuple, Value], Env, Mode) when is_integer(Index) -> setelement(Index, Tuple, Value, Env, Mode);
 call(Function, Arity, Arguments, Env, Mode) ->
     note(Function),
@@ -66,7 +70,7 @@ applied([Module, Function, Arguments], Env, Mode) ->
 %% Where a refusal of a name has to be a value, all names go through one process.
 -spec registered([plain_text:expression()], mode()) -> plain_text:body().
 registered(Arguments, Mode) ->
-    case Mode =:= checked orelse lists:member(names, plain_services:begun()) of
+    case Mode =:= checked orelse lists:member(pf_names, plain_services:begun()) of
         true ->
             plain_refusal:note_once(names, "register within try goes through one process for all names, so that a refusal is a value"),
             [plain_call:function(erlang, register, 2, Arguments, Mode)];

@@ -162,7 +162,7 @@ remote_targets(Wanted, Arity) ->
 
 %% @doc The functions by whose use a service is seen to be used.
 -spec client(atom()) -> [atom()].
-client(clock) -> [now_ms, send, unsend];
-client(names) -> [register];
+client(pf_clock) -> [now_ms, send, unsend];
+client(pf_names) -> [register];
 client(rand) -> [flip];
 client(_) -> [ask].

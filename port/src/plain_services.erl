@@ -4,7 +4,7 @@
 
 %% @doc All services, in the order in which they start.
 -spec all() -> [atom()].
-all() -> [names, ets, clock, pd, rand, cells].
+all() -> [pf_names, ets, pf_clock, pf_dictionary, rand, pf_cells].
 
 %% @doc Whether the pass before found one to be used.
 -spec any() -> boolean().
@@ -19,4 +19,4 @@ begun() -> [Service || Service <- all(), maps:is_key(Service, plain_state:get(se
 used() ->
     Called = [{Module, Function} || {function, Module, Function, _, _} <- plain_state:keys(wanted)],
     Clients = [Service || {Service, Function} <- Called, lists:member(Service, all()), lists:member(Function, plain_reach:client(Service))],
-    maps:from_list([{Service, true} || Service <- Clients ++ [clock || plain_state:get(clock)]]).
+    maps:from_list([{Service, true} || Service <- Clients ++ [pf_clock || plain_state:get(clock)]]).

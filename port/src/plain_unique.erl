@@ -93,6 +93,7 @@ binary(Core, Names, Line) ->
             case segments(Core) of
                 no -> {lit, refused_binary(Line), Line};
                 Segments ->
+                    plain_refusal:note_once(binaries, "a binary is a list of its bytes here, with a tag; each byte is a node of the 4,096 that a value may have"),
                     List = lists:foldr(fun({Kind, Value}, Rest) -> {cons, {tup, [{lit, Kind, Line}, tree(Value, Names)]}, Rest} end, {lit, [], Line}, Segments),
                     {call, {lit, erlang, Line}, {lit, bin_build, Line}, [List], Line}
             end

@@ -4,7 +4,11 @@
 
 %% @doc The escript's entry: runs the words and ends with their status.
 -spec main([string()]) -> no_return().
-main(Words) -> halt(run(Words)).
+main(Words) ->
+    Status = try run(Words)
+    catch error:terminated -> 141 % nobody reads the standard output any more
+    end,
+    halt(Status).
 
 %% @doc Does what the words ask for; its status.
 -spec run([string()]) -> 0..255.

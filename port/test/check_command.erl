@@ -4,7 +4,7 @@
 
 -spec check() -> ok.
 check() ->
-    [told(File) || File <- lists:sort(filelib:wildcard(checks:folder("programs/*.erl")))],
+    [told(File) || File <- lists:sort(filelib:wildcard(checks:folder("../examples/*.erl")))],
     group(),
     replayed(),
     charted(),
@@ -47,7 +47,7 @@ group() ->
 %% What a hunt found is run, shrunk and drawn again from its answer.
 -spec replayed() -> boolean().
 replayed() ->
-    File = checks:folder("programs/bank.erl"),
+    File = checks:folder("../examples/bank.erl"),
     {Found, 1} = checks:command(["hunt", File]),
     Room = checks:room("found"),
     ok = file:write_file(Room, Found),
@@ -61,12 +61,12 @@ replayed() ->
     {Mended, Holds} = checks:command(["hunt", File, "-D", "MENDED"]),
     checks:expect("the mended bank", 0, Holds),
     has("the mended bank", "^no failure in 1000 seeds$", Mended),
-    {All, _} = checks:command(["hunt", checks:folder("programs/cache.erl"), "--all", "--seeds", "0..50"]),
+    {All, _} = checks:command(["hunt", checks:folder("../examples/cache.erl"), "--all", "--seeds", "0..50"]),
     has("outcomes", "^fails [0-9]+ seeds, least [0-9]+: ended \\{loaded_twice,\\[\\]\\}$", All).
 
 -spec charted() -> boolean().
 charted() ->
-    {Chart, _} = checks:command(["chart", checks:folder("programs/bank.erl"), "--seed", "0"]),
+    {Chart, _} = checks:command(["chart", checks:folder("../examples/bank.erl"), "--seed", "0"]),
     Svg = lists:nthtail(string:str(Chart, "<svg") - 1, Chart),
     checks:expect("a chart is markup", true, is_markup(Svg)),
     has("a head", ">gen_server bank</text>", Chart),
@@ -116,7 +116,7 @@ refused() ->
         checks:expect(["status of ", Name], 2, Status),
         has(Name, Expression, Answer)
     end,
-    File = checks:folder("programs/bank.erl"),
+    File = checks:folder("../examples/bank.erl"),
     Expect("a construct", ["check", checks:folder("refused/refused_float.erl")], [], "^refused_float\\.erl:3: the float 1\\.5: "),
     Expect("no pulsefarm", ["run", File], [{"PULSEFARM", ""}, {"PATH", os:getenv("NO_FARM_PATH", "/usr/bin:/bin")}], "^pulsefarm-erl: the program pulsefarm "),
     Expect("a word", ["walk", File], [], "^pulsefarm-erl: no command walk"),

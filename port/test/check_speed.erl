@@ -5,7 +5,7 @@
 
 -spec check() -> ok.
 check() ->
-    Files = lists:sort(filelib:wildcard(checks:folder("programs/*.erl"))),
+    Files = lists:sort(filelib:wildcard(checks:folder("../examples/*.erl"))),
     Times = [{element(1, timer:tc(fun() -> checks:command(["translate", File, "-o", checks:room("timed.erl")]) end)) / 1.0e6, filename:basename(File)} || File <- Files],
     {Longest, Name} = lists:max(Times),
     io:format("  the longest translation takes ~.1f s (~s)~n", [Longest, Name]),
@@ -16,7 +16,7 @@ check() ->
 %% The mean of the steps of 20 seeds, of the mended program and of the one by hand.
 -spec steps(string()) -> boolean().
 steps(Name) ->
-    {ok, Out, _} = checks:translate([checks:folder("programs/" ++ Name ++ ".erl")], #{defines => ['MENDED']}),
+    {ok, Out, _} = checks:translate([checks:folder("../examples/" ++ Name ++ ".erl")], #{defines => ['MENDED']}),
     Translated = mean(Out),
     ByHand = mean(checks:folder("by_hand/" ++ Name ++ ".erl")),
     io:format("  ~s: ~w steps, by hand ~w, so ~.2f times~n", [Name, Translated, ByHand, Translated / ByHand]),
