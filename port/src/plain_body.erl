@@ -172,13 +172,14 @@ raised(Class, Reason, _, Env, plain) ->
     [{call, 'raise@', [Class, plain_value:value(Reason, Env)]}];
 raised(Class, Reason, Stack, Env, _) -> [plain_trace:thrown(Class, plain_value:value(Reason, Env), Stack)].
 
--spec note_limits() -> ok.
-note_limits() ->
+-spec note_limits(tree()) -> ok.
+note_limits(Body) ->
+    at(plain_tree:line(Body)),
     plain_refusal:note_once(limits, "an error of the limits (a value over 4,096 nodes, an integer past 64 bits) ends the process and is not caught").
 
 -spec 'try'(tree(), plain_tree:variable(), tree(), {[plain_tree:variable()], tree()}, environment(), mode()) -> plain_text:body().
 'try'(Body, Variable, Value, {Caught, Handler}, Env, Mode) ->
-    note_limits(),
+    note_limits(Body),
     Elements = body(Body, Env, checked),
     [Class, Reason, Stack] = case Caught of [_, _, _] -> Caught; [C, R] -> [C, R, {v, {'S', plain_state:fresh()}}] end,
     Name = plain_names:variable(Variable),
@@ -192,7 +193,7 @@ note_limits() ->
 
 -spec 'catch'(tree(), environment(), mode()) -> plain_text:body().
 'catch'(Body, Env, Mode) ->
-    note_limits(),
+    note_limits(Body),
     Elements = body(Body, Env, checked),
     [Value, Reason, Stack] = [plain_names:new(), plain_names:new(), plain_names:new()],
     Caught = fun(Class, Told) -> {plain_trace:caught({atom, Class}, Reason, Stack), [], [returned(Told, Mode)]} end,
@@ -204,6 +205,7 @@ note_limits() ->
 
 -spec updates(tree(), [{assoc | exact, tree(), tree()}], plain_tree:line(), environment(), mode()) -> plain_text:body().
 updates(Map, Pairs, Line, Env, Mode) ->
+    at(Line),
     {Last, Bound} = lists:foldl(fun({Kind, Key, Value}, {Before, Lets}) ->
         Function = case Kind of assoc -> put; exact -> update end,
         Variable = {v, {0, plain_state:fresh()}},

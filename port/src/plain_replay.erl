@@ -30,27 +30,29 @@ replay(File, Root, Events, Unmarked, Tries) ->
     Steps = steps(Events, Unmarked),
     Schedule = lists:join(",", [integer_to_list(Choice) || {_, #{choice := Choice}, _} <- Steps]),
     case run(File, Root, Schedule) of
-        {ok, Seen} ->
+        {ok, Seen, Limited} ->
             case compare(Steps, Seen, 0) of
+                {differ, _, end_of_run} when Limited -> {ok, told(Steps, Seen, #{events => [], begins => #{}}, none)};
                 same -> {ok, told(Steps, Seen, #{events => [], begins => #{}}, none)};
-                {differ, Number} when is_integer(Number) ->
+                {differ, Number, _} when is_integer(Number) ->
                     case lists:member(Number, Unmarked) of
                         true -> unknown;
                         false -> replay(File, Root, Events, [Number | Unmarked], Tries - 1)
                     end;
-                {differ, none} -> unknown
+                {differ, none, _} -> unknown
             end;
         unknown -> unknown
     end.
 
--spec run(file:filename(), string(), iolist()) -> {ok, [plain_report:event()]} | unknown.
+%% The events of the traced run, and whether the limit of steps ended it, since it takes more of them.
+-spec run(file:filename(), string(), iolist()) -> {ok, [plain_report:event()], boolean()} | unknown.
 run(File, Root, Schedule) ->
     Words = fun(Given) -> ["run", File, "--root", Root, "--limit", "100000", "--schedule", Given] end,
     Answer = plain_farm:with_file(["schedule ", Schedule, "\n"], fun(Named) -> plain_farm:call(Words("@" ++ Named)) end),
     case Answer of
         {Text, Status} when Status < 2 ->
-            #{events := Seen} = plain_report:read(binary:split(Text, <<"\n">>, [global])),
-            {ok, Seen};
+            #{events := Seen, rest := Rest} = plain_report:read(binary:split(Text, <<"\n">>, [global])),
+            {ok, [Event || #{label := Label} = Event <- Seen, Label =/= <<"cut">>], hd(Rest) =:= <<"limit">>};
         _ -> unknown
     end.
 
@@ -86,14 +88,15 @@ kind(<<"cut">>) -> cut;
 kind(_) -> action.
 
 %% Whether what came is what was to come; else the number of the event before which it differs, where that is an end.
--spec compare([step()], [plain_report:event()], non_neg_integer()) -> same | {differ, non_neg_integer() | none}.
+-spec compare([step()], [plain_report:event()], non_neg_integer()) -> same | {differ, non_neg_integer() | none, event | end_of_run}.
 compare([], _, _) -> same;
+compare([{event, #{label := <<"cut">>}, _}], _, _) -> same;
 compare([{What, Wanted, End} | Steps], [Seen | Later], Number) ->
     case same(What, Wanted, Seen) of
         true -> compare(Steps, Later, case What of event -> Number + 1; _ -> Number end);
-        false -> {differ, differing(What, Wanted, End, Number)}
+        false -> {differ, differing(What, Wanted, End, Number), event}
     end;
-compare([{What, Wanted, End} | _], [], Number) -> {differ, differing(What, Wanted, End, Number)}.
+compare([{What, Wanted, End} | _], [], Number) -> {differ, differing(What, Wanted, End, Number), end_of_run}.
 
 -spec differing(mark | start | event, plain_report:event(), boolean(), non_neg_integer()) -> non_neg_integer() | none.
 differing(mark, #{label := <<"end ", _/binary>>}, _, Number) -> Number;
@@ -114,6 +117,7 @@ bare(Label) ->
 
 -spec told([step()], [plain_report:event()], told(), binary() | none) -> told().
 told([], _, #{events := Events} = Told, _) -> Told#{events := lists:reverse(Events)};
+told(Steps, [], #{events := Events} = Told, _) -> Told#{events := lists:reverse(Events) ++ [none || {event, _, _} <- Steps]};
 told([{start, #{subject := {turn, Process}}, _} | Steps], [#{label := <<"whereis ", Mark/binary>>} | Seen], #{begins := Begins} = Told, Last) ->
     told(Steps, Seen, Told#{begins := Begins#{Process => Mark}}, Last);
 told([{mark, _, _} | Steps], [#{label := <<"whereis ", Mark/binary>>} | Seen], Told, _) -> told(Steps, Seen, Told, Mark);

@@ -1,6 +1,6 @@
 %% @doc The tree between Erlang's Core and the profile. Each variable is bound once in it.
 -module(plain_tree).
--export([occurring/1, free/2, simple/1, is_true/1, mentions/2, renewed/1, wider/2, proper/1]).
+-export([occurring/1, free/2, simple/1, is_true/1, mentions/2, renewed/1, wider/2, proper/1, line/1]).
 
 -type line() :: non_neg_integer().
 -type variable() :: {v, {atom() | integer(), term()}}.
@@ -89,3 +89,16 @@ proper({cons, Head, Tail}) ->
         no -> no
     end;
 proper(_) -> no.
+
+%% @doc The first line that a tree is known to stand on, or 0.
+-spec line(term()) -> line().
+line({lit, _, Line}) -> Line;
+line({call, _, _, _, Line}) when Line > 0 -> Line;
+line({apply, _, _, Line}) when Line > 0 -> Line;
+line(Tree) when is_tuple(Tree) -> line(tuple_to_list(Tree));
+line([Head | Tail]) ->
+    case line(Head) of
+        0 -> line(Tail);
+        Line -> Line
+    end;
+line(_) -> 0.
