@@ -24,6 +24,7 @@ sentence(Module) when Module =:= logger; Module =:= error_logger; Module =:= io 
 sentence(global) -> {global, "global names are names of the one node"};
 sentence(gen_server) -> {calls, "a call without a time of its own never times out; -D CALL_TIMEOUTS lets it"};
 sentence(io_lib) -> {formats, "~p, ~w, ~s, ~b, ~c and ~n are formatted without widths, and pids and references without numbers"};
+sentence(string) -> {text, "a character is a code point, upper and lower case are those of ASCII, and a text is a flat list or a binary"};
 sentence(gen_statem) -> {statem, "gen_statem is a library after OTP 25, without sys, hibernation, code change, repeat_state and change of the callback module"};
 sentence(supervisor) -> {supervisor, "supervisor is a library after OTP 25, without sys, code change and auto_shutdown; its restarts are counted by the clock of the run"};
 sentence(application) -> {application, "no application has an environment here, so get_env answers the default; starting one does nothing"};

@@ -9,11 +9,21 @@
 %% @doc Writes a function. One that can't be translated leaves a refusal.
 -spec write(plain_reach:key()) -> ok.
 write(Key) ->
+    {ok, Origin} = plain_state:find_in(wanted, Key),
+    plain_state:put(origin, Origin),
     try write_key(Key)
     catch
-        throw:{refuse, File, Line, Sentence} -> plain_refusal:record(File, Line, Sentence);
+        throw:{refuse, File, Line, Sentence} -> refused(plain_state:get(kind), Origin, {File, Line, Sentence});
         error:Reason:Stack -> failed(Reason, Stack)
     end.
+
+%% What can't be translated in the library is told at the call in the source that reaches it.
+-spec refused(plain_modules:kind(), term(), {file:filename(), plain_tree:line(), plain_refusal:sentence()}) -> ok.
+refused(Kind, {CallFile, CallLine, {function, Module, Function, Arity, _}}, {File, _, Sentence}) when Kind =/= user ->
+    [Reason | _] = string:split(lists:flatten(Sentence), ";"),
+    plain_refusal:record(CallFile, CallLine, io_lib:format("~w:~w/~w can't be translated (~ts: ~ts); write what you need of it as a function of your own",
+                                                           [Module, Function, Arity, filename:basename(File), Reason]));
+refused(_, _, {File, Line, Sentence}) -> plain_refusal:record(File, Line, Sentence).
 
 %% An error of the translator itself is told as one, at the place where it came to it.
 -spec failed(term(), [tuple()]) -> ok.

@@ -8,6 +8,14 @@
 -type key() :: {function, module(), atom(), arity(), mode()} | {lifted, atom(), mode()}.
 -export_type([mode/0, key/0]).
 
+%% The call in a source by which a function is reached: its own, or that of the function of the library that is written.
+-spec origin(key()) -> {file:filename(), plain_tree:line(), key()} | none.
+origin(Key) ->
+    case plain_state:get(kind) of
+        user -> {plain_state:get(file), plain_state:get(line), Key};
+        _ -> plain_state:get(origin)
+    end.
+
 %% @doc The name in the text of a function of a module. Those of the first module keep theirs, where they may.
 -spec name(module(), atom(), arity()) -> atom().
 name(Module, Function, Arity) ->
@@ -58,7 +66,7 @@ need(Key) ->
     case plain_state:find_in(wanted, Key) of
         {ok, _} -> ok;
         error ->
-            plain_state:set_in(wanted, Key, true),
+            plain_state:set_in(wanted, Key, origin(Key)),
             plain_state:put(queue, [Key | plain_state:get(queue)])
     end.
 
@@ -104,6 +112,8 @@ work() ->
             work();
         [] ->
             Before = map_size(plain_state:get(wanted)),
+            plain_state:put(kind, lib),
+            plain_state:put(origin, none),
             spread_all(),
             case map_size(plain_state:get(wanted)) > Before orelse plain_state:get(queue) =/= [] of
                 true -> work();

@@ -20,6 +20,7 @@
   | notes | refusals
   | counter | clock | marks       % the last number; whether a time is waited for; what the marks of a traced module say
   | short | short_names           % whether names are short; those that are
+  | origin                        % of what is written: the call in a source that reached it, where that is known
   | file | module | kind | base | function | line | mode % where the translation stands
   | names | shapes.               % of the function that is written: names of variables, tuples that are known
 -export_type([key/0]).
@@ -31,7 +32,7 @@ start(Options, {Services, Short}) ->
     Lists = [users, roots, defines, queue, functions, notes, refusals],
     [put(Key, #{}) || Key <- Maps],
     [put(Key, []) || Key <- Lists],
-    [put(Key, Value) || {Key, Value} <- [{options, Options}, {services, Services}, {short, Short}, {main, none}, {counter, 0}, {function, none},
+    [put(Key, Value) || {Key, Value} <- [{options, Options}, {services, Services}, {short, Short}, {main, none}, {counter, 0}, {function, none}, {origin, none},
                                          {clock, false}, {file, ""}, {module, none}, {kind, user}, {base, none}, {line, 0}, {mode, plain}]],
     ok.
 
