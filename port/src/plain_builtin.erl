@@ -24,7 +24,10 @@ call(throw, 1, [Reason], Env, Mode) -> [plain_body:failure(throw, plain_value:va
 call(raise, 3, [Class, Reason, Stack], Env, Mode) -> raised(plain_value:values([Class, Reason, Stack], Env), Mode);
 call('!', 2, Arguments, Env, checked) -> [plain_call:checked('!', plain_value:values(Arguments, Env))];
 call('!', 2, Arguments, Env, Mode) -> [plain_body:returned(plain_trace:action('!', plain_value:values(Arguments, Env)), Mode)];
-call(send, _, [To, Message | _], Env, Mode) -> call('!', 2, [To, Message], Env, Mode);
+call(send, 2, Arguments, Env, Mode) -> call('!', 2, Arguments, Env, Mode);
+call(send, 3, [To, Message, _], Env, Mode) ->
+    Line = plain_state:get(line),
+    plain_body:body({'let', [], {call, {lit, erlang, Line}, {lit, '!', Line}, [To, Message], Line}, {lit, ok, Line}}, Env, Mode);
 call(Function, _, Arguments, Env, Mode) when Function =:= spawn; Function =:= spawn_link; Function =:= spawn_monitor; Function =:= spawn_opt ->
     plain_spawn:process(Function, Arguments, Env, Mode);
 call(apply, _, Arguments, Env, Mode) -> applied(Arguments, Env, Mode);

@@ -177,8 +177,8 @@ selected([{Pattern, Value, Whole} | Rest], Guard, Variables, Env) ->
     {Tests, Then} = case Rest of
         [] -> last_test(Guard, InGuard, {tuple, [{atom, m} | plain_value:values(Variables, Inside)]}, Inside);
         [{Key, Map, Inner} | More] ->
-            plain_reach:need({function, maps, find, 2, plain}),
-            Lookup = {call, plain_reach:name(maps, find, 2), plain_value:values([Key, Map], Inside)},
+            plain_reach:need({function, maps, lookup, 2, plain}),
+            Lookup = {call, plain_reach:name(maps, lookup, 2), plain_value:values([Key, Map], Inside)},
             {[], selected([{{tup, [{lit, ok, 0}, Inner]}, Lookup, none} | More], Guard, Variables, Inside)}
     end,
     [{'case', Value, [{Written, Tests, Before ++ Then}, {{var, "_"}, [], [{atom, false}]}]}].

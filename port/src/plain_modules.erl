@@ -1,6 +1,6 @@
 %% @doc Where a function stands: in a file that was given, in the library beside this program, or in OTP's own source.
 -module(plain_modules).
--export([give/1, find/3, exported/2, file/1, library/0]).
+-export([give/1, find/3, exported/2, file/1, library/0, in_library/1]).
 
 -type kind() :: user | lib | otp.
 -export_type([kind/0]).
@@ -64,10 +64,14 @@ path(Module, otp) ->
         false -> none
     end.
 
+%% @doc Whether the library has a module of this name, or OTP's own is taken.
+-spec in_library(module()) -> boolean().
+in_library(Module) -> lists:member(Module, from_otp()) orelse filelib:is_regular(path(Module, lib)).
+
 %% The modules of OTP whose own source is translated where it is called.
 -spec from_otp() -> [module()].
 from_otp() ->
-    [lists, queue, orddict, ordsets, proplists, gb_trees, gb_sets, dict, sets, string, array, digraph, sofs, maps, calendar].
+    [lists, queue, orddict, ordsets, proplists, gb_trees, gb_sets, dict, sets, string, array, digraph, sofs, calendar].
 
 %% @doc The folder of the library.
 -spec library() -> file:filename().

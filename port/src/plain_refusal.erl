@@ -75,4 +75,9 @@ why(sys, _) -> "looks into a server from outside, which is not translated; add a
 why(Module, _) when Module =:= global; Module =:= rpc; Module =:= erpc; Module =:= net_adm; Module =:= net_kernel ->
     "is for several nodes, and the profile has one; call the function itself";
 why(gen_event, _) -> "is not translated; let a gen_server keep the handlers";
-why(_, _) -> "is not known, and its source is not among the files; name it as one more file".
+why(erlang, _) -> "is not translated; write it by functions that are (port/ENCODINGS.md)";
+why(Module, _) ->
+    case plain_modules:in_library(Module) of
+        true -> "is not among the functions of this module that the library has (port/ENCODINGS.md); write what you need of it yourself";
+        false -> "is not known, and its source is not among the files; name it as one more file"
+    end.

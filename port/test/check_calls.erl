@@ -31,7 +31,7 @@ module(Module, Functions, Kinds, Different) ->
 calls(Module, Function, Arguments, Kinds) ->
     All = combinations([maps:get(Kind, Kinds) || Kind <- Arguments]),
     Picked = lists:sublist([X || {_, X} <- lists:sort([{rand:uniform(), X} || X <- All])], ?SAMPLES),
-    [{{Module, Function, length(Arguments)}, lists:flatten(io_lib:format("~s:~s(~s)", [Module, Function, lists:join(", ", Values)]))} || Values <- Picked].
+    [{{Module, Function, length(Arguments)}, lists:flatten(io_lib:format("~p:~p(~s)", [Module, Function, lists:join(", ", Values)]))} || Values <- Picked].
 
 -spec combinations([[string()]]) -> [[string()]].
 combinations([]) -> [[]];
