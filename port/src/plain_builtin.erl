@@ -131,7 +131,7 @@ note(Function) when Function =:= put; Function =:= get; Function =:= erase ->
     plain_refusal:note_once(dictionary, "process dictionaries are kept by one process, and each access is a message and its answer");
 note(Function) when Function =:= send_after; Function =:= start_timer; Function =:= cancel_timer; Function =:= monotonic_time; Function =:= system_time;
                     Function =:= timestamp; Function =:= unique_integer; Function =:= read_timer ->
-    plain_refusal:note_once(clock, "times are told by a clock of the run, which may be fast or slow beside the processes; so a timeout may come before a message that in practice would be there long before");
+    plain_encodings:times();
 note(process_flag) -> plain_refusal:note_once(flags, "of the flags of a process only trap_exit has an effect");
 note(Function) when Function =:= nodes; Function =:= is_alive -> plain_refusal:note_once(nodes, "there is one node; nothing tells of others");
 note(Function) when Function =:= garbage_collect; Function =:= yield; Function =:= display ->

@@ -1,21 +1,27 @@
 %% @doc Notes on the encodings that a source is seen to use: each is told once, with what it adds or loses.
 -module(plain_encodings).
--export([note/3]).
+-export([note/3, times/0]).
 
 %% @doc A note on a function of OTP, where a source calls it.
 -spec note(module(), atom(), arity()) -> ok.
 note(gen_server, Function, Arity) when {Function, Arity} =/= {call, 2} -> ok;
 note(io_lib, Function, _) when Function =/= format, Function =/= fwrite -> ok;
 note(timer, tc, _) -> plain_refusal:note_once(measured, "timer:tc measures nothing, and tells 0");
+note(timer, _, _) -> times();
 note(Module, _, _) ->
     case sentence(Module) of
         none -> ok;
         {Subject, Text} -> plain_refusal:note_once(Subject, Text)
     end.
 
+%% @doc A note on times.
+-spec times() -> ok.
+times() ->
+    plain_refusal:note_once(clock, "times are told by a clock of the run, which may be fast or slow beside the processes; "
+                                   "so a timeout may come before a message that in practice would be there long before").
+
 -spec sentence(module()) -> {atom(), string()} | none.
 sentence(ets) -> {ets, "a table is kept by a process, and each call is a message and its answer; a table outlives its owner until that process is told"};
-sentence(timer) -> {clock, "times are told by a clock of the run, which may be fast or slow beside the processes; so a timeout may come before a message that in practice would be there long before"};
 sentence(Module) when Module =:= atomics; Module =:= counters; Module =:= persistent_term ->
     {cells, "shared cells are kept by a process; each operation is one piece, at one place between call and answer"};
 sentence(rand) -> {rand, "a number by chance is a race of two messages, so it is a choice of the schedule and no even chance"};

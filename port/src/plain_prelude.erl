@@ -3,8 +3,6 @@
 -module(plain_prelude).
 -export([texts/0]).
 
--define(TRAP, "@").
-
 %% @doc The parts that are used.
 -spec texts() -> [iodata()].
 texts() ->
@@ -99,7 +97,7 @@ raise() ->
 %% The texts of all atoms that stand in the module.
 -spec atoms(atom_to_list | list_to_atom, plain_reach:mode()) -> iodata().
 atoms(Table, Mode) ->
-    Name = plain_text:atom(plain_reach:in_mode(list_to_atom(atom_to_list(Table) ++ ?TRAP), Mode)),
+    Name = plain_text:atom(plain_reach:in_mode(list_to_atom(atom_to_list(Table) ++ "@"), Mode)),
     {Open, Close} = case Mode of plain -> {"", ""}; _ -> {"{v,", "}"} end,
     Clause = fun(Atom) ->
         {From, To} = case Table of

@@ -29,7 +29,7 @@ timed(Clauses, {Time, Action}, Line, Env, Mode) ->
         {lit, 0, _} -> {plain_trace:action('!', [{call, self, []}, Message]), plain_trace:marked([{recv, [{Message, [], [{atom, ok}]}]}])};
         _ ->
             plain_state:put(clock, true),
-            plain_refusal:note_once(clock, "times are told by a clock of the run, which may be fast or slow beside the processes; so a timeout may come before a message that in practice would be there long before"),
+            plain_encodings:times(),
             [plain_reach:use(Part) || Part <- [arm, flush]],
             Length = plain_value:value(Time, Env),
             {{call, 'arm@', [Length, Reference]}, [{call, 'flush@', [Length, Reference]}]}
