@@ -80,7 +80,7 @@ outcome(Module) ->
     Outcome = receive
         {'DOWN', Monitor, process, Pid, {value, Value}} -> io_lib:format("finished ~w", [checks:normal(Value)]);
         {'DOWN', Monitor, process, Pid, Why} -> io_lib:format("ended ~w", [checks:normal(checks:bare(Why))])
-    after 3000 -> "deadlock"
+    after 60000 -> "deadlock"
     end,
     [exit(Left, kill) || Left <- processes() -- Before],
     settle(Before),
