@@ -1,0 +1,139 @@
+%% @doc Functions of the module erlang: those that the profile has, those that become something of it, and those of the library.
+-module(plain_builtin).
+-export([call/4, call/5]).
+
+-type environment() :: plain_tree:environment().
+-type mode() :: plain_reach:mode().
+-type tree() :: plain_tree:tree().
+
+-spec call(atom(), [tree()], environment(), mode()) -> plain_text:body().
+call(Function, Arguments, Env, Mode) ->
+    Floats = [X || {lit, X, _} <- Arguments, is_float(X)],
+    case plain_state:get(kind) =/= user andalso Floats of
+        [Float | _] ->
+            plain_refusal:note("the float ~w; a process that comes here ends with {refused,float}", [Float]),
+            [plain_body:failure(error, {tuple, [{atom, refused}, {atom, float}]}, Mode)];
+        _ -> call(Function, length(Arguments), Arguments, Env, Mode)
+    end.
+
+%% @doc A call of erlang by its name and number of arguments.
+-spec call(atom(), arity(), [tree()], environment(), mode()) -> plain_text:body().
+call(exit, 1, [Reason], Env, Mode) -> [plain_body:failure(exit, plain_value:value(Reason, Env), Mode)];
+call(error, _, [Reason | _], Env, Mode) -> [plain_body:failure(error, plain_value:value(Reason, Env), Mode)];
+call(throw, 1, [Reason], Env, Mode) -> [plain_body:failure(throw, plain_value:value(Reason, Env), Mode)];
+call(raise, 3, [Class, Reason, Stack], Env, Mode) -> raised(plain_value:values([Class, Reason, Stack], Env), Mode);
+call('!', 2, Arguments, Env, checked) -> [plain_call:checked('!', plain_value:values(Arguments, Env))];
+call('!', 2, Arguments, Env, Mode) -> [plain_body:returned(plain_trace:action('!', plain_value:values(Arguments, Env)), Mode)];
+call(send, 2, Arguments, Env, Mode) -> call('!', 2, Arguments, Env, Mode);
+call(send, 3, [To, Message, _], Env, Mode) ->
+    Line = plain_state:get(line),
+    plain_body:body({'let', [], {call, {lit, erlang, Line}, {lit, '!', Line}, [To, Message], Line}, {lit, ok, Line}}, Env, Mode);
+call(Function, _, Arguments, Env, Mode) when Function =:= spawn; Function =:= spawn_link; Function =:= spawn_monitor; Function =:= spawn_opt ->
+    plain_spawn:process(Function, Arguments, Env, Mode);
+call(apply, _, Arguments, Env, Mode) -> applied(Arguments, Env, Mode);
+call(Function, 1, [Argument], Env, Mode) when Function =:= atom_to_list; Function =:= list_to_atom; Function =:= list_to_existing_atom ->
+    Table = case Function of atom_to_list -> atom_to_list; _ -> list_to_atom end,
+    plain_refusal:note_once(atoms, "atoms and their texts are those that stand in the program; others are badarg"),
+    plain_reach:use({atoms, Table, Mode}),
+    [{call, plain_reach:in_mode(list_to_atom(atom_to_list(Table) ++ "@"), Mode), [plain_value:value(Argument, Env)]}];
+call(make_fun, 3, [{lit, Module, _}, {lit, Function, _}, {lit, Arity, _}], _, Mode) ->
+    [plain_body:returned(plain_value:remote_fun(Module, Function, Arity), Mode)];
+call(process_flag, 2, [{lit, trap_exit, _}, _] = Arguments, Env, Mode) ->
+    [plain_body:returned(plain_trace:action(process_flag, plain_value:values(Arguments, Env)), Mode)];
+call(register, 2, Arguments, Env, Mode) -> registered(plain_value:values(Arguments, Env), Mode);
+call(function_exported, 3, [Module, {lit, Function, _}, {lit, Arity, _}], Env, Mode) ->
+    Known = [{{atom, Name}, [], [{atom, true}]} || {Name, _} <- plain_reach:remote_targets(Function, Arity)],
+    [plain_body:returned({'case', plain_value:value(Module, Env), Known ++ [{{var, "_"}, [], [{atom, false}]}]}, Mode)];
+call(monitor, 2, [_, {lit, Name, _}] = Arguments, Env, Mode) when is_atom(Name) ->
+    plain_refusal:note_once(monitor, "a monitor of a name is whereis and then a monitor of the pid: the name may pass to another between, and 'DOWN' has the pid"),
+    operation(monitor, 2, plain_value:values(Arguments, Env), Mode);
+call(setelement, 3, [{lit, Index, _}, {v, _} = Tuple, Value], Env, Mode) when is_integer(Index) -> setelement(Index, Tuple, Value, Env, Mode);
+call(Function, Arity, Arguments, Env, Mode) ->
+    note(Function),
+    operation(Function, Arity, plain_value:values(Arguments, Env), Mode).
+
+-spec raised([plain_text:expression()], mode()) -> plain_text:body().
+raised([Class, Reason, _], plain) ->
+    plain_reach:use(raise),
+    [{call, 'raise@', [Class, Reason]}];
+raised([Class, Reason, Stack], _) -> [plain_trace:thrown(Class, Reason, Stack)].
+
+-spec applied([tree()], environment(), mode()) -> plain_text:body().
+applied([Fun, Arguments], Env, Mode) ->
+    case plain_tree:proper(Arguments) of
+        {ok, Trees} -> plain_call:apply({apply, Fun, Trees, plain_state:get(line)}, Env, Mode);
+        no -> [{call, plain_reach:dispatcher(apply_fun, Mode), plain_value:values([Fun, Arguments], Env)}]
+    end;
+applied([Module, Function, Arguments], Env, Mode) ->
+    case plain_tree:proper(Arguments) of
+        {ok, Trees} -> plain_call:call(Module, Function, Trees, plain_state:get(line), Env, Mode);
+        no -> [{call, plain_reach:dispatcher(apply_function, Mode), plain_value:values([Module, Function, Arguments], Env)}]
+    end.
+
+%% Where a refusal of a name has to be a value, all names go through one process.
+-spec registered([plain_text:expression()], mode()) -> plain_text:body().
+registered(Arguments, Mode) ->
+    case Mode =:= checked orelse lists:member(pf_names, plain_services:begun()) of
+        true ->
+            plain_refusal:note_once(names, "register within try goes through one process for all names, so that a refusal is a value"),
+            [plain_call:function(erlang, register, 2, Arguments, Mode)];
+        false -> [plain_body:returned(plain_trace:action(register, Arguments), Mode)]
+    end.
+
+%% An update of a record: a new tuple where the old one is known.
+-spec setelement(pos_integer(), plain_tree:variable(), tree(), environment(), mode()) -> plain_text:body().
+setelement(Index, Tuple, Value, Env, Mode) ->
+    Shapes = plain_state:get(shapes),
+    Known = maps:get(Tuple, Shapes, maps:get(maps:get(Tuple, Env), Shapes, [])),
+    case Index >= 1 andalso Index =< length(Known) of
+        true ->
+            {Before, [_ | Behind]} = lists:split(Index - 1, Known),
+            [plain_body:returned({tuple, Before ++ [plain_value:value(Value, Env) | Behind]}, Mode)];
+        false ->
+            [plain_call:function(erlang, setelement, 3, [{int, Index} | plain_value:values([Tuple, Value], Env)], Mode)]
+    end.
+
+%% Operators and functions whose arguments are values.
+-spec operation(atom(), arity(), [plain_text:expression()], mode()) -> plain_text:body().
+operation('++', 2, [A, B], plain) -> [{op, '++', A, B}];
+operation(Function, Arity, Arguments, Mode) ->
+    Itself = not lists:member(Function, ['and', 'or', 'xor', 'not', size, byte_size]) andalso plain_guard:pure(Function, Arguments),
+    Direct = lists:member({Function, Arity}, direct()),
+    Checked = Mode =/= plain andalso lists:member({Function, Arity}, may_fail()),
+    case {Checked, Direct, Itself} of
+        {true, false, _} -> [plain_call:checked(Function, Arguments)];
+        {true, true, _} when Mode =:= checked -> [plain_call:checked(Function, Arguments)];
+        {_, true, _} -> [plain_body:returned(plain_trace:action(Function, Arguments), Mode)];
+        {_, false, Expression} when is_tuple(Expression) -> [plain_body:returned(Expression, Mode)];
+        _ -> library(Function, Arity, Arguments, Mode)
+    end.
+
+%% Actions of the profile under their own names.
+-spec direct() -> [{atom(), arity()}].
+direct() -> [{link, 1}, {unlink, 1}, {demonitor, 1}, {unregister, 1}, {whereis, 1}, {make_ref, 0}, {exit, 2}].
+
+%% What may raise, and has a form in the prelude that answers an error as a value.
+-spec may_fail() -> [{atom(), arity()}].
+may_fail() ->
+    [{'+', 2}, {'-', 2}, {'*', 2}, {'div', 2}, {'rem', 2}, {'-', 1}, {'+', 1}, {'++', 2}, {hd, 1}, {tl, 1}, {length, 1}, {element, 2},
+     {tuple_size, 1}, {link, 1}, {unlink, 1}, {unregister, 1}].
+
+-spec library(atom(), arity(), [plain_text:expression()], mode()) -> plain_text:body().
+library(Function, Arity, Arguments, Mode) ->
+    case plain_modules:find(erlang, Function, Arity) of
+        none -> plain_call:unknown(erlang, Function, Arity, Mode);
+        _ -> [plain_call:function(erlang, Function, Arity, Arguments, Mode)]
+    end.
+
+%% Notes on the encodings behind functions of erlang.
+-spec note(atom()) -> ok.
+note(Function) when Function =:= put; Function =:= get; Function =:= erase ->
+    plain_refusal:note_once(dictionary, "process dictionaries are kept by one process, and each access is a message and its answer");
+note(Function) when Function =:= send_after; Function =:= start_timer; Function =:= cancel_timer; Function =:= monotonic_time; Function =:= system_time;
+                    Function =:= timestamp; Function =:= unique_integer; Function =:= read_timer ->
+    plain_encodings:times();
+note(process_flag) -> plain_refusal:note_once(flags, "of the flags of a process only trap_exit has an effect");
+note(Function) when Function =:= nodes; Function =:= is_alive -> plain_refusal:note_once(nodes, "there is one node; nothing tells of others");
+note(Function) when Function =:= garbage_collect; Function =:= yield; Function =:= display ->
+    plain_refusal:note_once(machine, "garbage_collect, yield and display do nothing");
+note(_) -> ok.

@@ -1,0 +1,68 @@
+%% @doc The commands: translate, then call pulsefarm and tell its answer.
+-module(plain_command).
+-export([run/1, complain/1, told/3]).
+
+-spec complain(iodata()) -> ok.
+complain(Text) -> io:put_chars(standard_error, unicode:characters_to_list(Text)).
+
+-spec run(plain_words:asked()) -> 0..255.
+run(#{files := Files, options := Options} = Asked) ->
+    case plain_translation:translate(Files, Options) of
+        {refused, Refusals} ->
+            [complain(io_lib:format("~ts: ~ts~n", [plain_refusal:place(File, Line), Sentence])) || {File, Line, Sentence} <- Refusals],
+            2;
+        {ok, #{notes := Notes} = Translation} ->
+            [complain(["note: ", Note, "\n"]) || Note <- Notes],
+            translated(Asked, Translation)
+    end.
+
+-spec translated(plain_words:asked(), plain_translation:translation()) -> 0..255.
+translated(#{command := translate, out := none}, #{text := Text}) ->
+    io:put_chars(Text),
+    0;
+translated(#{command := translate, out := Out}, #{text := Text, map := Map}) ->
+    case {file:write_file(Out, Text), file:write_file(Out ++ ".map", unicode:characters_to_binary(plain_map:text(Map)))} of
+        {ok, ok} -> 0;
+        {{error, Reason}, _} -> failed(Out, Reason);
+        {ok, {error, Reason}} -> failed(Out ++ ".map", Reason)
+    end;
+translated(#{files := [File | _], command := Command}, #{roots := [_, _ | _] = Roots}) when Command =/= check ->
+    complain(["pulsefarm-erl: ", File, " exports ", lists:join(", ", [atom_to_list(Root) || Root <- Roots]), "; name the one to begin with by --root\n"]),
+    2;
+translated(#{command := hunt, property := "supervised"} = Asked, Translation) -> plain_supervised:hunt(Asked, Translation);
+translated(#{property := "supervised", command := Command} = Asked, Translation) when Command =:= run; Command =:= shrink ->
+    plain_supervised:judge(Asked, Translation);
+translated(Asked, #{text := Text} = Translation) ->
+    Answer = plain_farm:with_file(Text, fun(File) -> plain_farm:call(plain_words:of_farm(File, Asked, Translation)) end),
+    told(Answer, Asked, Translation).
+
+-spec failed(file:filename(), file:posix()) -> 2.
+failed(File, Reason) ->
+    complain(["pulsefarm-erl: ", File, ": ", file:format_error(Reason), "\n"]),
+    2.
+
+%% The same run as that of a chart, with its places.
+-spec run_of_chart(plain_words:asked(), plain_translation:translation()) -> plain_answer:told().
+run_of_chart(Asked, #{text := Text} = Translation) ->
+    Words = fun(File) -> plain_words:of_farm(File, Asked#{command := run}, Translation) end,
+    case plain_farm:with_file(Text, fun(File) -> plain_farm:call(Words(File)) end) of
+        {Answer, Status} when Status < 2 ->
+            #{events := Events} = plain_report:read(binary:split(Answer, <<"\n">>, [global, trim])),
+            plain_answer:replayed(Asked, Translation, Events);
+        _ -> unknown
+    end.
+
+%% @doc Tells what pulsefarm answered; its status.
+-spec told({binary(), 0..255} | missing, plain_words:asked(), plain_translation:translation()) -> 0..255.
+told(missing, _, _) ->
+    complain("pulsefarm-erl: the program pulsefarm is not on the path; sh install.sh puts it there, or PULSEFARM names it\n"),
+    2;
+told({Text, Status}, #{command := Command}, _) when Command =:= check; Status >= 2 ->
+    io:put_chars(Text),
+    Status;
+told({Text, Status}, #{command := chart} = Asked, Translation) ->
+    io:put_chars(plain_chart:tell(Text, run_of_chart(Asked, Translation), Translation)),
+    Status;
+told({Text, Status}, Asked, Translation) ->
+    io:put_chars(plain_answer:tell(Text, Asked, Translation)),
+    Status.

@@ -1,0 +1,38 @@
+%% @doc Notes on the encodings that a source is seen to use: each is told once, with what it adds or loses.
+-module(plain_encodings).
+-export([note/3, times/0]).
+
+%% @doc A note on a function of OTP, where a source calls it.
+-spec note(module(), atom(), arity()) -> ok.
+note(gen_server, Function, Arity) when {Function, Arity} =/= {call, 2} -> ok;
+note(io_lib, Function, _) when Function =/= format, Function =/= fwrite -> ok;
+note(timer, tc, _) -> plain_refusal:note_once(measured, "timer:tc measures nothing, and tells 0");
+note(timer, _, _) -> times();
+note(Module, _, _) ->
+    case sentence(Module) of
+        none -> ok;
+        {Subject, Text} -> plain_refusal:note_once(Subject, Text)
+    end.
+
+%% @doc A note on times.
+-spec times() -> ok.
+times() ->
+    plain_refusal:note_once(clock, "times are told by a clock of the run, which may be fast or slow beside the processes; "
+                                   "so a timeout may come before a message that in practice would be there long before").
+
+-spec sentence(module()) -> {atom(), string()} | none.
+sentence(ets) -> {ets, "a table is kept by a process, and each call is a message and its answer; a table outlives its owner until that process is told"};
+sentence(Module) when Module =:= atomics; Module =:= counters; Module =:= persistent_term ->
+    {cells, "shared cells are kept by a process; each operation is one piece, at one place between call and answer"};
+sentence(rand) -> {rand, "a number by chance is a race of two messages, so it is a choice of the schedule and no even chance"};
+sentence(Module) when Module =:= dict; Module =:= sets -> {hash, "dict and sets are kept in the order of their keys, and not in that of a hash"};
+sentence(Module) when Module =:= logger; Module =:= error_logger; Module =:= io -> {output, "what is logged or printed is left out; a crash in formatting it isn't seen"};
+sentence(global) -> {global, "global names are names of the one node"};
+sentence(gen_server) -> {calls, "a call without a time of its own never times out; -D CALL_TIMEOUTS lets it"};
+sentence(io_lib) -> {formats, "~p, ~w, ~s, ~b, ~c and ~n are formatted without widths, and pids and references without numbers"};
+sentence(string) -> {text, "a character is a code point, upper and lower case are those of ASCII, and a text is a flat list or a binary"};
+sentence(gen_statem) -> {statem, "gen_statem is a library after OTP 25, without sys, hibernation, code change, repeat_state and change of the callback module"};
+sentence(supervisor) -> {supervisor, "supervisor is a library after OTP 25, without sys, code change and auto_shutdown; its restarts are counted by the clock of the run"};
+sentence(application) -> {application, "no application has an environment here, so get_env answers the default; starting one does nothing"};
+sentence(net_kernel) -> {nodes, "there is one node; nothing tells of others"};
+sentence(_) -> none.

@@ -1,0 +1,109 @@
+%% @doc The small functions that bodies lean on, in the text of the profile: operations that answer an error as a value, the tables of
+%% atoms, timers, and what the traced form needs.
+-module(plain_prelude).
+-export([texts/0]).
+
+%% @doc The parts that are used.
+-spec texts() -> [iodata()].
+texts() ->
+    Parts = plain_state:keys(prelude),
+    Checked = [text(Part) || Part <- Parts],
+    Actions = lists:usort([{Function, Arity} || {marked, Function, Arity} <- Parts] ++ [Action || plain_trace:traced(), Action <- own_actions()]),
+    Checked ++ [marked(Action) || plain_trace:traced(), Action <- Actions].
+
+%% The actions of the prelude's own functions.
+-spec own_actions() -> [{atom(), arity()}].
+own_actions() -> [{'!', 2}, {whereis, 1}, {unregister, 1}, {link, 1}, {unlink, 1}, {exit, 1}].
+
+%% An action behind its mark.
+-spec marked({atom(), arity()}) -> iodata().
+marked({'!', 2}) -> "send@m(P,A,B)->whereis(P),A!B.\n";
+marked({Spawn, 3}) when Spawn =:= spawn; Spawn =:= spawn_link ->
+    Name = atom_to_list(Spawn),
+    [Name, "@m(P,M,F,A)->whereis(P),", Name, "(M,start@,[F,A]).\n"];
+marked({Function, Arity}) ->
+    Arguments = lists:join(",", ["A" ++ integer_to_list(I) || I <- lists:seq(1, Arity)]),
+    Name = atom_to_list(Function),
+    [Name, "@m(", lists:join(",", ["P" | ["A" ++ integer_to_list(I) || I <- lists:seq(1, Arity)]]), ")->whereis(P),", Name, "(", Arguments, ").\n"].
+
+%% An action within the prelude.
+-spec action(string(), [string()]) -> iodata().
+action(Function, Arguments) ->
+    case {plain_trace:traced(), Function} of
+        {true, "!"} -> ["send@m('@0',", lists:join(",", Arguments), ")"];
+        {true, _} -> [Function, "@m(", lists:join(",", ["'@0'" | Arguments]), ")"];
+        {false, "!"} -> lists:join("!", Arguments);
+        {false, _} -> [Function, "(", lists:join(",", Arguments), ")"]
+    end.
+
+-spec waiting() -> string().
+waiting() -> case plain_trace:traced() of true -> "whereis('@0'),"; false -> "" end.
+
+%% A clause of an operation: its heads with the place, and its error.
+-spec clause(string(), string(), iodata()) -> iodata().
+clause(Name, Arguments, Rest) -> [Name, "(", case plain_trace:traced() of true -> "S,"; false -> "" end, Arguments, ")", Rest].
+
+-spec refused(string()) -> iodata().
+refused(Reason) -> ["{x,error,", Reason, case plain_trace:traced() of true -> ",S}"; false -> "}" end].
+
+-spec text(term()) -> iodata().
+text({checked, Operation, 2}) when Operation =:= '+'; Operation =:= '-'; Operation =:= '*' ->
+    Name = operation(Operation),
+    [clause(Name, "A,B", [" when is_integer(A),is_integer(B)->{v,A", atom_to_list(Operation), "B};\n"]), clause(Name, "_,_", ["->", refused("badarith"), ".\n"])];
+text({checked, Operation, 2}) when Operation =:= 'div'; Operation =:= 'rem' ->
+    Name = operation(Operation),
+    [clause(Name, "A,B", [" when is_integer(A),is_integer(B),B/=0->{v,A ", atom_to_list(Operation), " B};\n"]), clause(Name, "_,_", ["->", refused("badarith"), ".\n"])];
+text({checked, Sign, 1}) when Sign =:= '-'; Sign =:= '+' ->
+    Value = case Sign of '-' -> "-A"; '+' -> "A" end,
+    [clause(operation(Sign), "A", [" when is_integer(A)->{v,", Value, "};\n"]), clause(operation(Sign), "_", ["->", refused("badarith"), ".\n"])];
+text({checked, '++', 2}) -> two("'c@++'", "A,B", " when is_list(A),is_list(B)->{v,A++B};\n", "_,_");
+text({checked, hd, 1}) -> two("c@hd", "[H|_]", "->{v,H};\n", "_");
+text({checked, tl, 1}) -> two("c@tl", "[_|T]", "->{v,T};\n", "_");
+text({checked, length, 1}) -> two("c@length", "L", " when is_list(L)->{v,length(L)};\n", "_");
+text({checked, element, 2}) -> two("c@element", "I,T", " when I>=1,I=<tuple_size(T)->{v,element(I,T)};\n", "_,_");
+text({checked, tuple_size, 1}) -> two("c@tuple_size", "T", " when is_tuple(T)->{v,tuple_size(T)};\n", "_");
+text({checked, '!', 2}) ->
+    [clause("'c@!'", "P,M", [" when is_pid(P)->{v,", action("!", ["P", "M"]), "};\n"]),
+     clause("'c@!'", "N,M", [" when is_atom(N)->case ", action("whereis", ["N"]), " of undefined->", refused("badarg"), ";P->{v,", action("!", ["P", "M"]), "} end;\n"]),
+     clause("'c@!'", "_,_", ["->", refused("badarg"), ".\n"])];
+text({checked, unregister, 1}) ->
+    clause("c@unregister", "N", ["->case ", action("whereis", ["N"]), " of undefined->", refused("badarg"), ";_->{v,", action("unregister", ["N"]), "} end.\n"]);
+text({checked, Function, 1}) when Function =:= link; Function =:= unlink ->
+    Name = atom_to_list(Function),
+    two("c@" ++ Name, "P", [" when is_pid(P)->{v,", action(Name, ["P"]), "};\n"], "_");
+text({atoms, Table, Mode}) -> atoms(Table, Mode);
+text({marked, _, _}) -> [];
+text(raise) -> raise();
+text(flush) ->
+    ["flush@(infinity,_)->ok;\nflush@(0,R)->", waiting(), "receive{'after',R}->ok end;\nflush@(_,R)->", action("!", ["'port@clock'", "{cancel,self(),R}"]), ",",
+     waiting(), "receive{'after',R}->ok end.\n"];
+text(arm) ->
+    ["arm@(infinity,_)->ok;\narm@(0,R)->", action("!", ["self()", "{'after',R}"]), ";\narm@(T,R)->", action("!", ["'port@clock'", "{arm,self(),R,T}"]), ".\n"];
+text(at) -> "at@(S,{x,C,R,[]})->{x,C,R,S};\nat@(_,V)->V.\n";
+text(enter) -> "enter@({v,V})->V;\nenter@({x,C,R,[P|S]})->whereis(P),raise@(C,R,[P|S]);\nenter@({x,C,R,S})->whereis('@0'),raise@(C,R,S).\n"
+               "raise@(exit,R,_)->exit(R);\nraise@(throw,R,S)->exit({{nocatch,R},S});\nraise@(_,R,S)->exit({R,S}).\n".
+
+-spec operation(atom()) -> string().
+operation(Operation) -> lists:flatten(io_lib:format("~p", [list_to_atom("c@" ++ atom_to_list(Operation))])).
+
+-spec two(string(), string(), iodata(), string()) -> iodata().
+two(Name, Arguments, Rest, Others) -> [clause(Name, Arguments, Rest), clause(Name, Others, ["->", refused("badarg"), ".\n"])].
+
+-spec raise() -> iodata().
+raise() ->
+    Exit = fun(Reason) -> action("exit", [Reason]) end,
+    ["raise@(exit,R)->", Exit("R"), ";\nraise@(throw,R)->", Exit("{{nocatch,R},[]}"), ";\nraise@(_,R)->", Exit("{R,[]}"), ".\n"].
+
+%% The texts of all atoms that stand in the module.
+-spec atoms(atom_to_list | list_to_atom, plain_reach:mode()) -> iodata().
+atoms(Table, Mode) ->
+    Name = plain_text:atom(plain_reach:in_mode(list_to_atom(atom_to_list(Table) ++ "@"), Mode)),
+    {Open, Close} = case Mode of plain -> {"", ""}; _ -> {"{v,", "}"} end,
+    Clause = fun(Atom) ->
+        {From, To} = case Table of
+            atom_to_list -> {plain_text:atom(Atom), plain_text:string(atom_to_list(Atom))};
+            list_to_atom -> {plain_text:string(atom_to_list(Atom)), plain_text:atom(Atom)}
+        end,
+        [Name, "(", From, ")->", Open, To, Close, ";\n"]
+    end,
+    [[Clause(Atom) || Atom <- plain_state:keys(atoms), Atom =/= ''], Name, "(_)->", plain_dispatch:failing(Mode, "badarg"), ".\n"].

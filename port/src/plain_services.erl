@@ -1,0 +1,22 @@
+%% @doc Services: processes that do what Erlang does by tables which all processes share. Only those that are used are started.
+-module(plain_services).
+-export([all/0, any/0, used/0, begun/0]).
+
+%% @doc All services, in the order in which they start.
+-spec all() -> [atom()].
+all() -> [pf_names, ets, pf_clock, pf_dictionary, rand, pf_cells].
+
+%% @doc Whether the pass before found one to be used.
+-spec any() -> boolean().
+any() -> begun() =/= [].
+
+%% @doc Those that the pass before found to be used.
+-spec begun() -> [atom()].
+begun() -> [Service || Service <- all(), maps:is_key(Service, plain_state:get(services))].
+
+%% @doc Those that this pass finds to be used.
+-spec used() -> #{atom() => true}.
+used() ->
+    Called = [{Module, Function} || {function, Module, Function, _, _} <- plain_state:keys(wanted)],
+    Clients = [Service || {Service, Function} <- Called, lists:member(Service, all()), lists:member(Function, plain_reach:client(Service))],
+    maps:from_list([{Service, true} || Service <- Clients ++ [pf_clock || plain_state:get(clock)]]).

@@ -1,0 +1,91 @@
+%% @doc Reading: a file through epp and Erlang's compiler, up to Core Erlang; and what a source is seen to use.
+-module(plain_source).
+-export([read/2, read_library/2, wants/1]).
+-export_type([source/0]).
+
+-type source() :: #{name := module(), functions := #{{atom(), arity()} => cerl:cerl()}, exports := [{atom(), arity()}],
+                    forms => [erl_parse:abstract_form()]}.
+
+%% @doc A file as Core Erlang. What the compiler refuses is refused in its words.
+-spec read(file:filename(), [term()]) -> source().
+read(File, Defines) ->
+    filelib:is_regular(File) orelse throw({refuse, File, 1, "there is no such file"}),
+    Forms = forms(File, Defines),
+    [throw({refuse, File, line(Location), Module:format_error(What)}) || {error, {Location, Module, What}} <- Forms],
+    Core = core(File, Forms),
+    #{name => cerl:concrete(cerl:module_name(Core)),
+      functions => maps:from_list([{cerl:var_name(Name), Function} || {Name, Function} <- cerl:module_defs(Core)]),
+      exports => [cerl:var_name(Name) || Name <- cerl:module_exports(Core)],
+      forms => Forms}.
+
+%% @doc A file of the library or of OTP, which doesn't change while this program runs, and so is read once for all passes.
+-spec read_library(file:filename(), [term()]) -> source().
+read_library(File, Defines) ->
+    Key = {?MODULE, File, Defines, maps:get(includes, plain_state:get(options))},
+    case persistent_term:get(Key, none) of
+        none ->
+            Source = maps:remove(forms, read(File, Defines)),
+            persistent_term:put(Key, Source),
+            Source;
+        Source -> Source
+    end.
+
+-spec forms(file:filename(), [term()]) -> [term()].
+forms(File, Defines) ->
+    #{includes := Includes} = plain_state:get(options),
+    Path = Includes ++ [filename:dirname(File), code:lib_dir(kernel) ++ "/include", code:lib_dir(stdlib) ++ "/include"],
+    case epp:parse_file(File, [{includes, Path}, {macros, Defines}]) of
+        {ok, Forms} -> Forms;
+        {error, Reason} -> throw({refuse, File, 1, file:format_error(Reason)})
+    end.
+
+-spec core(file:filename(), [term()]) -> cerl:c_module().
+core(File, Forms) ->
+    case compiled(Forms, [to_core0, binary, return, {error_location, line}, nowarn_deprecated_function]) of
+        {ok, _, Core, _} -> Core;
+        {error, [{Named, [{Location, Module, What} | _]} | _], _} -> throw({refuse, Named, line(Location), Module:format_error(What)});
+        _ -> throw({refuse, File, 1, "the compiler makes no Core Erlang of it"})
+    end.
+
+%% The specification of compile:forms/2 speaks of binaries alone; with to_core0 it gives Core Erlang.
+-spec compiled([term()], [term()]) -> term().
+compiled(Forms, Options) -> apply(list_to_existing_atom("compile"), forms, [Forms, Options]).
+
+-spec line(term()) -> non_neg_integer().
+line({Line, _}) -> Line;
+line(Line) when is_integer(Line) -> Line;
+line(_) -> 0.
+
+%% @doc The macros by which the library is given the parts that a source needs.
+-spec wants(source()) -> [atom()].
+wants(#{forms := Forms, exports := Exports}) ->
+    Catches = throws(Forms) orelse lists:member({terminate, 2}, Exports) orelse lists:member({terminate, 3}, Exports)
+        orelse mentions(supervisor, Forms),
+    ['SERVER_TIMEOUTS' || answers_with_time(Forms)] ++ ['CATCHES' || Catches] ++ ['STATEM' || mentions(gen_statem, Forms)].
+
+-spec mentions(atom(), term()) -> boolean().
+mentions(Atom, {atom, _, Atom}) -> true;
+mentions(Atom, {attribute, _, _, Atom}) -> true;
+mentions(Atom, Form) when is_tuple(Form) -> mentions(Atom, tuple_to_list(Form));
+mentions(Atom, [Head | Tail]) -> mentions(Atom, Head) orelse mentions(Atom, Tail);
+mentions(_, _) -> false.
+
+-spec throws(term()) -> boolean().
+throws({call, _, {atom, _, throw}, [_]}) -> true;
+throws({remote, _, {atom, _, erlang}, {atom, _, throw}}) -> true;
+throws(Form) when is_tuple(Form) -> throws(tuple_to_list(Form));
+throws([Head | Tail]) -> throws(Head) orelse throws(Tail);
+throws(_) -> false.
+
+%% Whether a tuple looks like the answer of a callback with a time, as {noreply, State, 1000}.
+-spec answers_with_time(term()) -> boolean().
+answers_with_time({tuple, _, [{atom, _, Tag}, _, Last]}) when Tag =:= noreply; Tag =:= ok -> may_be_time(Last) orelse answers_with_time(Last);
+answers_with_time({tuple, _, [{atom, _, reply}, _, _, Last]}) -> may_be_time(Last) orelse answers_with_time(Last);
+answers_with_time(Form) when is_tuple(Form) -> answers_with_time(tuple_to_list(Form));
+answers_with_time([Head | Tail]) -> answers_with_time(Head) orelse answers_with_time(Tail);
+answers_with_time(_) -> false.
+
+-spec may_be_time(tuple()) -> boolean().
+may_be_time({tuple, _, _}) -> false;
+may_be_time({atom, _, _}) -> false;
+may_be_time(_) -> true.

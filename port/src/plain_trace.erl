@@ -1,0 +1,103 @@
+%% @doc The traced form of a module, by which a run is told in the words of its source. It does what the plain one does, by the same
+%% choices, with two things more: before each action stands a look for a name that nobody has, which tells the place as an event
+%% of its own; and an error carries its place as its stack trace.
+-module(plain_trace).
+-export([traced/0, action/2, mark/0, marked/1, here/0, thrown/2, thrown/3, caught/3, stack_of/1, raw/2, raw_parts/1, begin_clause/3]).
+
+%% @doc Whether the traced form is written.
+-spec traced() -> boolean().
+traced() -> maps:get(traced, plain_state:get(options)).
+
+%% @doc An action of the profile: a call, or `!'.
+-spec action(atom(), [plain_text:expression()]) -> plain_text:expression().
+action(Function, Arguments) ->
+    case {traced(), Function, Arguments} of
+        {true, _, _} ->
+            plain_reach:use({marked, Function, length(Arguments)}),
+            {call, helper(Function), [mark() | Arguments]};
+        {false, '!', [To, Message]} -> {op, '!', To, Message};
+        {false, _, _} -> {call, Function, Arguments}
+    end.
+
+-spec helper(atom()) -> atom().
+helper('!') -> 'send@m';
+helper(Function) -> list_to_atom(atom_to_list(Function) ++ "@m").
+
+%% @doc The mark of the place where the translation stands.
+-spec mark() -> plain_text:expression().
+mark() ->
+    Place = {plain_state:get(kind), plain_state:get(file), plain_state:get(line), plain_state:get(function)},
+    Number = case plain_state:find_in(marks, Place) of
+        {ok, Known} -> Known;
+        error ->
+            New = map_size(plain_state:get(marks)) + 1,
+            plain_state:set_in(marks, Place, New),
+            New
+    end,
+    {atom, list_to_atom("@" ++ integer_to_list(Number))}.
+
+%% @doc What stands before a `receive'.
+-spec marked(plain_text:body()) -> plain_text:body().
+marked(Body) ->
+    case traced() of
+        true -> [{call, whereis, [mark()]} | Body];
+        false -> Body
+    end.
+
+%% @doc An error as a value: its class and reason, and in the traced form its place.
+-spec thrown(plain_text:expression(), plain_text:expression()) -> plain_text:expression().
+thrown(Class, Reason) -> thrown(Class, Reason, here()).
+
+-spec thrown(plain_text:expression(), plain_text:expression(), plain_text:expression()) -> plain_text:expression().
+thrown(Class, Reason, Stack) -> {tuple, [{atom, x}, Class, Reason | [Stack || traced()]]}.
+
+%% @doc The place as a stack trace: one mark, or none in the library.
+-spec here() -> plain_text:expression().
+here() ->
+    case traced() andalso plain_state:get(kind) =:= user of
+        true -> {cons, mark(), nil};
+        false -> nil
+    end.
+
+%% @doc The pattern of such a value.
+-spec caught(plain_text:expression(), plain_text:expression(), plain_text:expression()) -> plain_text:expression().
+caught(Class, Reason, Stack) -> thrown(Class, Reason, Stack).
+
+%% @doc What a stack trace is bound to.
+-spec stack_of(plain_text:expression()) -> plain_text:expression().
+stack_of(Variable) ->
+    case traced() of
+        true -> Variable;
+        false -> nil
+    end.
+
+%% @doc What a handler has of an error beside its reason, to raise it again: its class, and in the traced form its place.
+-spec raw(plain_text:expression(), plain_text:expression()) -> plain_text:expression().
+raw(Class, Stack) ->
+    case traced() of
+        true -> {tuple, [Class, Stack]};
+        false -> Class
+    end.
+
+%% @doc The class and the stack trace in such a value.
+-spec raw_parts(plain_text:expression()) -> {plain_text:expression(), plain_text:expression()}.
+raw_parts(Raw) ->
+    case {traced(), Raw} of
+        {true, {tuple, [Class, Stack]}} -> {Class, Stack};
+        {true, _} -> {{call, element, [{int, 1}, Raw]}, {call, element, [{int, 2}, Raw]}};
+        {false, _} -> {Raw, nil}
+    end.
+
+%% @doc The beginning of a process in the traced form: which fun it runs, told by a mark.
+-spec begin_clause(atom(), [term()], plain_text:expression()) -> iodata().
+begin_clause(Name, Free, Mark) ->
+    Variables = ["F" ++ integer_to_list(I) || I <- lists:seq(1, length(Free))],
+    Inner = [Variable || {Variable, {v, {Written, _}}} <- lists:zip(Variables, Free), Written =:= 'F'],
+    Module = [Variable || {Variable, {v, {Written, _}}} <- lists:zip(Variables, Free), Written =:= 'Mod'],
+    Own = ["whereis(", plain_text:expression(Mark), ")"],
+    Told = case {Inner, Module} of
+        {[Fun | _], _} -> ["begin@(", Fun, ")"];
+        {[], [M | _]} -> ["case ", M, " of {_,X}->whereis(X);", M, " when is_atom(", M, ")->whereis(", M, ");_->", Own, " end"];
+        {[], []} -> Own
+    end,
+    ["begin@({'#fun',_,", plain_text:atom(Name), [[",", V] || V <- Variables], "})->", Told, ";\n"].

@@ -1,0 +1,115 @@
+%% @doc One translation: files of plain Erlang in, a module of the profile and its map out.
+-module(plain_translation).
+-export([translate/2, defaults/0]).
+
+-define(MOST_BYTES, 65536).
+-type options() :: #{includes := [file:filename()], defines := [atom() | {atom(), term()}], library_defines := [atom() | {atom(), term()}],
+                     root := atom() | none, never := non_neg_integer() | infinity, lax := boolean(), traced := boolean()}.
+-type refusal() :: {file:filename(), non_neg_integer(), string()}.
+%% A place of the sources: what kind of module, file, line, and the function there, or a fun in it.
+-type place() :: {plain_modules:kind(), file:filename(), non_neg_integer(), {module(), atom(), arity()} | {'fun', {module(), atom(), arity()}}}.
+-type translation() :: #{text := binary(), map := [plain_map:row()], notes := [string()], roots := [atom()], marks := #{pos_integer() => place()},
+                         names := #{atom() => place()}, main := module(), atoms := #{atom() => [place()]}, exports := #{module() => [{atom(), arity()}]}}.
+-export_type([options/0, translation/0, refusal/0, place/0]).
+
+%% @doc The options where none is given.
+-spec defaults() -> options().
+defaults() -> #{includes => [], defines => [], library_defines => [], root => none, never => infinity, lax => false, traced => false}.
+
+%% @doc Translates in a process of its own, since what a translation knows belongs to its process.
+-spec translate([file:filename()], options()) -> {ok, translation()} | {refused, [refusal()]}.
+translate(Files, Options) ->
+    {Pid, Monitor} = spawn_monitor(fun() -> exit({answer, attempt(Files, Options)}) end),
+    receive
+        {'DOWN', Monitor, process, Pid, {answer, Answer}} -> Answer;
+        {'DOWN', Monitor, process, Pid, Reason} -> error({translation, Reason})
+    end.
+
+-spec attempt([file:filename()], options()) -> {ok, translation()} | {refused, [refusal()]}.
+attempt(Files, Options) ->
+    try pass(Files, Options, #{}, false)
+    catch throw:{refuse, File, Line, Sentence} -> {refused, [{File, Line, lists:flatten(Sentence)}]}
+    end.
+
+%% Passes go on until the services that are used are those that are started, and the text is short enough.
+-spec pass([file:filename()], options(), #{atom() => true}, boolean()) -> {ok, translation()} | {refused, [refusal()]}.
+pass(Files, Options, Services, Short) ->
+    plain_state:start(Options, {Services, Short}),
+    Roots = begin_with(Files, Options),
+    plain_reach:work(),
+    Used = plain_services:used(),
+    Refusals = lists:usort(plain_state:get(refusals)),
+    if
+        Refusals =/= [] -> {refused, Refusals};
+        Used =/= Services -> pass(Files, Options, Used, Short);
+        true -> measured(Files, Options, Services, Short, written(Roots))
+    end.
+
+-spec measured([file:filename()], options(), #{atom() => true}, boolean(), translation()) -> {ok, translation()} | {refused, [refusal()]}.
+measured(Files, Options, Services, Short, #{text := Text} = Translation) ->
+    case {byte_size(Text) > ?MOST_BYTES, Short} of
+        {false, _} -> {ok, Translation};
+        {true, false} -> pass(Files, Options, Services, true);
+        {true, true} -> {refused, [{hd(Files), 1, lists:flatten(io_lib:format("the module would have ~w bytes, over ~w; hunt from a root that reaches less, or leave modules out",
+                                                                              [byte_size(Text), ?MOST_BYTES]))}]}
+    end.
+
+%% Reads the files and asks for the roots.
+-spec begin_with([file:filename()], options()) -> [atom()].
+begin_with(Files, #{root := Root}) ->
+    [Main | _] = Modules = [plain_modules:give(File) || File <- Files],
+    plain_state:put(main, Main),
+    plain_state:put(users, Modules),
+    Entries = [Name || {Name, 0} <- plain_modules:exported(Main, user)],
+    Roots = case {Root, lists:member(main, Entries)} of
+        {none, true} -> [main];
+        {none, false} -> Entries;
+        {_, _} -> [Root]
+    end,
+    Roots =:= [] andalso throw({refuse, hd(Files), 1, "the first module exports no function without arguments; export one to begin with"}),
+    Root =:= none orelse lists:member(Root, Entries)
+        orelse throw({refuse, hd(Files), 1, io_lib:format("the module exports no function ~w/0; export it, or name another by --root", [Root])}),
+    plain_state:put(roots, Roots),
+    [root(Main, Name) || Name <- Roots],
+    [plain_reach:need({function, Service, start, 0, plain}) || Service <- plain_services:begun()],
+    Roots.
+
+-spec root(module(), atom()) -> ok.
+root(Main, Name) ->
+    plain_reach:need({function, Main, Name, 0, plain}),
+    plain_reach:export(Name, 0).
+
+-spec written([atom()]) -> translation().
+written(Roots) ->
+    Main = plain_state:get(main),
+    Dispatchers = plain_dispatch:texts(),
+    Extra = [{none, 0, Label, Text} || {Label, Text} <- Dispatchers ++ roots(Main, Roots) ++ plain_start:texts() ++ [{"prelude", Text} || Text <- plain_prelude:texts()]],
+    Exports = [[plain_text:atom(Name), "/", integer_to_list(Arity)] || {Name, Arity} <- plain_start:exports()],
+    Head = ["-module(", plain_text:atom(Main), ").\n-export([", lists:join(",", Exports), "]).\n"],
+    {Texts, Rows} = plain_map:number(lists:reverse(plain_state:get(functions)) ++ Extra, 3),
+    #{text => iolist_to_binary([Head, Texts]), map => Rows, notes => [Text || {_, Text} <- lists:reverse(plain_state:get(notes))], roots => Roots,
+      marks => maps:from_list([{Number, Place} || {Place, Number} <- maps:to_list(plain_state:get(marks))]),
+      names => names(), main => Main, atoms => plain_state:get(atom_places), exports => maps:from_list([{Module, plain_modules:exported(Module, user)} || Module <- plain_state:get(users)])}.
+
+%% What each name of the text stands for: a function of a module, or a fun in one.
+-spec names() -> #{atom() => place()}.
+names() ->
+    Functions = [{plain_reach:name(Module, Function, Arity), {kind(Module, Function, Arity), "", 0, {Module, Function, Arity}}}
+                 || {function, Module, Function, Arity, _} <- plain_state:keys(wanted)],
+    Funs = [{Name, {Kind, File, Line, {'fun', Function}}}
+            || {Name, #{where := #{kind := Kind, file := File, function := Function}, line := Line}} <- maps:to_list(plain_state:get(lifted))],
+    maps:from_list(Functions ++ Funs).
+
+-spec kind(module(), atom(), arity()) -> plain_modules:kind().
+kind(Module, Function, Arity) -> element(1, plain_modules:find(Module, Function, Arity)).
+
+%% A root starts the services first.
+-spec roots(module(), [atom()]) -> [{string(), iodata()}].
+roots(Main, Roots) ->
+    Starts = [[plain_text:atom(plain_reach:name(Service, start, 0)), "(),"] || Service <- plain_services:begun()],
+    Own = fun(Root) -> [plain_text:atom(plain_reach:name(Main, Root, 0)), "()"] end,
+    case {plain_trace:traced(), Starts} of
+        {true, _} -> [{"root", [plain_text:atom(Root), "()->", Starts, "V=", Own(Root), ",whereis('@0'),V.\n"]} || Root <- Roots];
+        {false, []} -> [];
+        {false, _} -> [{"root", [plain_text:atom(Root), "()->", Starts, Own(Root), ".\n"]} || Root <- Roots]
+    end.

@@ -1,0 +1,227 @@
+%% @doc Core Erlang into the tree, in which each variable is bound once.
+-module(plain_unique).
+-export([function/1]).
+
+-type names() :: #{term() => plain_tree:tree()}.
+
+%% @doc The tree of a function of a module.
+-spec function(cerl:cerl()) -> plain_tree:tree().
+function(Core) -> tree(Core, #{}).
+
+-spec line_of(cerl:cerl()) -> plain_tree:line().
+line_of(Core) ->
+    Annotations = cerl:get_ann(Core),
+    case [L || L <- Annotations, is_integer(L)] ++ [L || {L, _} <- Annotations, is_integer(L)] of
+        [Line | _] -> Line;
+        [] -> plain_state:get(line)
+    end.
+
+-spec bind([cerl:cerl()], names()) -> {[plain_tree:variable()], names()}.
+bind(Variables, Names) ->
+    lists:mapfoldl(fun(Variable, Known) ->
+        Name = cerl:var_name(Variable),
+        Bound = {v, {Name, plain_state:fresh()}},
+        {Bound, Known#{Name => Bound}}
+    end, Names, Variables).
+
+-spec trees([cerl:cerl()], names()) -> [plain_tree:tree()].
+trees(Cores, Names) -> [tree(Core, Names) || Core <- Cores].
+
+-spec tree(cerl:cerl(), names()) -> plain_tree:tree().
+tree(Core, Names) ->
+    Line = line_of(Core),
+    plain_state:put(line, Line),
+    tree(cerl:type(Core), Core, Names, Line).
+
+-spec tree(atom(), cerl:cerl(), names(), plain_tree:line()) -> plain_tree:tree().
+tree(var, Core, Names, _) ->
+    case cerl:var_name(Core) of
+        {Function, Arity} -> maps:get({Function, Arity}, Names, {fref, Function, Arity});
+        Name -> maps:get(Name, Names)
+    end;
+tree(literal, Core, _, Line) -> {lit, cerl:concrete(Core), Line};
+tree(tuple, Core, Names, _) -> {tup, trees(cerl:tuple_es(Core), Names)};
+tree(cons, Core, Names, _) -> {cons, tree(cerl:cons_hd(Core), Names), tree(cerl:cons_tl(Core), Names)};
+tree(values, Core, Names, _) -> {vals, trees(cerl:values_es(Core), Names)};
+tree('let', Core, Names, _) ->
+    Value = tree(cerl:let_arg(Core), Names),
+    {Variables, Inside} = bind(cerl:let_vars(Core), Names),
+    {'let', Variables, Value, tree(cerl:let_body(Core), Inside)};
+tree(seq, Core, Names, _) -> {'let', [], tree(cerl:seq_arg(Core), Names), tree(cerl:seq_body(Core), Names)};
+tree('case', Core, Names, Line) ->
+    Subject = cerl:case_arg(Core),
+    Subjects = case cerl:is_c_values(Subject) of true -> cerl:values_es(Subject); false -> [Subject] end,
+    {'case', trees(Subjects, Names), [clause(C, Names) || C <- cerl:case_clauses(Core)], Line};
+tree('fun', Core, Names, Line) ->
+    {Variables, Inside} = bind(cerl:fun_vars(Core), Names),
+    {fn, plain_state:fresh(), Variables, tree(cerl:fun_body(Core), Inside), Line};
+tree(letrec, Core, Names, Line) -> letrec(cerl:letrec_defs(Core), cerl:letrec_body(Core), Names, Line);
+tree(apply, Core, Names, Line) -> {apply, tree(cerl:apply_op(Core), Names), trees(cerl:apply_args(Core), Names), Line};
+tree(call, Core, Names, Line) -> call(Core, Names, Line);
+tree(primop, Core, Names, Line) -> {primop, cerl:concrete(cerl:primop_name(Core)), trees(cerl:primop_args(Core), Names), Line};
+tree('try', Core, Names, _) ->
+    Body = tree(cerl:try_arg(Core), Names),
+    {Variables, Inside} = bind(cerl:try_vars(Core), Names),
+    {Caught, Handling} = bind(cerl:try_evars(Core), Names),
+    {'try', Body, Variables, tree(cerl:try_body(Core), Inside), Caught, tree(cerl:try_handler(Core), Handling)};
+tree('catch', Core, Names, _) -> {'catch', tree(cerl:catch_body(Core), Names)};
+tree(map, Core, Names, Line) ->
+    Pair = fun(P) -> {cerl:concrete(cerl:map_pair_op(P)), tree(cerl:map_pair_key(P), Names), tree(cerl:map_pair_val(P), Names)} end,
+    {map, tree(cerl:map_arg(Core), Names), [Pair(P) || P <- cerl:map_es(Core)], Line};
+tree(binary, Core, Names, Line) -> binary(Core, Names, Line);
+tree(Type, _, _, Line) -> plain_refusal:refuse(Line, "a ~w has no translation; write it by other constructs", [Type]).
+
+%% A call of another module. The question of a logger macro, whether it is to log, is answered here: no.
+-spec call(cerl:cerl(), names(), plain_tree:line()) -> plain_tree:tree().
+call(Core, Names, Line) ->
+    Module = cerl:call_module(Core),
+    Name = cerl:call_name(Core),
+    case {literal(Module), literal(Name)} of
+        {logger, allow} -> {lit, false, Line};
+        _ -> {call, tree(Module, Names), tree(Name, Names), trees(cerl:call_args(Core), Names), Line}
+    end.
+
+-spec literal(cerl:cerl()) -> term().
+literal(Core) -> cerl:type(Core) =:= literal andalso cerl:concrete(Core).
+
+%% Binaries: those that are known whole, and those of bytes and whole binaries.
+-spec binary(cerl:cerl(), names(), plain_tree:line()) -> plain_tree:tree().
+binary(Core, Names, Line) ->
+    case whole(Core) of
+        {ok, Binary} -> {lit, Binary, Line};
+        no ->
+            case segments(Core) of
+                no -> {lit, refused_binary(Line), Line};
+                Segments ->
+                    plain_refusal:note_once(binaries, "a binary is a list of its bytes here, with a tag; each byte is a node of the 4,096 that a value may have"),
+                    List = lists:foldr(fun({Kind, Value}, Rest) -> {cons, {tup, [{lit, Kind, Line}, tree(Value, Names)]}, Rest} end, {lit, [], Line}, Segments),
+                    {call, {lit, erlang, Line}, {lit, bin_build, Line}, [List], Line}
+            end
+    end.
+
+-spec refused_binary(plain_tree:line()) -> tuple().
+refused_binary(Line) -> {'$refused', Line, "a binary of other parts than bytes and a whole rest is not translated; take a list of bytes, or a tuple"}.
+
+-spec whole(cerl:cerl()) -> {ok, binary()} | no.
+whole(Core) ->
+    Bits = fun(S) -> cerl:concrete(cerl:bitstr_size(S)) * cerl:concrete(cerl:bitstr_unit(S)) end,
+    try {ok, << <<(cerl:concrete(cerl:bitstr_val(S))):(Bits(S))>> || S <- cerl:binary_segments(Core) >>}
+    catch _:_ -> no
+    end.
+
+-spec segments(cerl:cerl()) -> [{b | t, cerl:cerl()}] | no.
+segments(Core) ->
+    Segments = [segment(S) || S <- cerl:binary_segments(Core)],
+    case lists:member(no, Segments) of
+        true -> no;
+        false -> lists:append(Segments)
+    end.
+
+%% A segment as bytes, or as a whole binary.
+-spec segment(cerl:cerl()) -> [{b | t, cerl:cerl()}] | no.
+segment(S) ->
+    Value = cerl:bitstr_val(S),
+    case {literal(cerl:bitstr_type(S)), literal(cerl:bitstr_size(S)), literal(cerl:bitstr_unit(S)), cerl:type(Value)} of
+        {integer, Size, 1, literal} when is_integer(Size), Size rem 8 =:= 0 -> [{b, cerl:abstract(X)} || <<X>> <= <<(cerl:concrete(Value)):Size>>];
+        {integer, 8, 1, _} -> [{b, Value}];
+        {binary, all, 8, _} -> [{t, Value}];
+        _ -> no
+    end.
+
+-spec clause(cerl:cerl(), names()) -> plain_tree:clause().
+clause(Core, Names) ->
+    {_, Inside} = bind(cerl:clause_vars(Core), Names),
+    {[pattern(P, Inside) || P <- cerl:clause_pats(Core)], tree(cerl:clause_guard(Core), Inside), tree(cerl:clause_body(Core), Inside)}.
+
+-spec pattern(cerl:cerl(), names()) -> plain_tree:tree().
+pattern(Core, Names) ->
+    case cerl:type(Core) of
+        var -> maps:get(cerl:var_name(Core), Names);
+        literal -> {lit, cerl:concrete(Core), line_of(Core)};
+        tuple -> {tup, [pattern(P, Names) || P <- cerl:tuple_es(Core)]};
+        cons -> {cons, pattern(cerl:cons_hd(Core), Names), pattern(cerl:cons_tl(Core), Names)};
+        alias -> {alias, maps:get(cerl:var_name(cerl:alias_var(Core)), Names), pattern(cerl:alias_pat(Core), Names)};
+        map -> {pmap, [{tree(cerl:map_pair_key(P), Names), pattern(cerl:map_pair_val(P), Names)} || P <- cerl:map_es(Core)]};
+        binary -> binary_pattern(Core, Names)
+    end.
+
+-spec binary_pattern(cerl:cerl(), names()) -> plain_tree:tree().
+binary_pattern(Core, Names) ->
+    Line = plain_state:get(line),
+    Refused = {lit, refused_binary(Line), Line},
+    case {whole(Core), segments(Core)} of
+        {{ok, Binary}, _} -> {lit, Binary, Line};
+        {no, no} -> Refused;
+        {no, Segments} ->
+            {Bytes, Rest} = lists:splitwith(fun({Kind, _}) -> Kind =:= b end, Segments),
+            Patterns = [pattern(B, Names) || {b, B} <- Bytes],
+            case Rest of
+                [] -> {pbin, Patterns, {lit, [], 0}};
+                [{t, Tail}] -> {pbin, Patterns, pattern(Tail, Names)};
+                _ -> Refused
+            end
+    end.
+
+-spec letrec([{cerl:cerl(), cerl:cerl()}], cerl:cerl(), names(), plain_tree:line()) -> plain_tree:tree().
+letrec([{Name, Function}] = Definitions, Body, Names, Line) ->
+    case cerl:var_name(Name) of
+        {Atom, 0} ->
+            case atom_to_list(Atom) of
+                "recv$" ++ _ -> receive_(Function, Names, Line);
+                _ -> functions(Definitions, Body, Names)
+            end;
+        _ -> functions(Definitions, Body, Names)
+    end;
+letrec(Definitions, Body, Names, _) -> functions(Definitions, Body, Names).
+
+-spec functions([{cerl:cerl(), cerl:cerl()}], cerl:cerl(), names()) -> plain_tree:tree().
+functions(Definitions, Body, Names) ->
+    Inside = lists:foldl(fun({Name, _}, Known) ->
+        {_, Arity} = Key = cerl:var_name(Name),
+        Known#{Key => {lref, {plain_state:fresh(), Arity}}}
+    end, Names, Definitions),
+    Define = fun({Name, Function}) ->
+        {lref, Identity} = maps:get(cerl:var_name(Name), Inside),
+        {fn, _, Variables, FunctionBody, Line} = tree(Function, Inside),
+        {Identity, Variables, FunctionBody, Line}
+    end,
+    {letrec, [Define(D) || D <- Definitions], tree(Body, Inside)}.
+
+%% A receive is a loop over the mailbox in Core; here it is one construct again.
+-spec receive_(cerl:cerl(), names(), plain_tree:line()) -> plain_tree:tree().
+receive_(Function, Names, Line) ->
+    Let = cerl:fun_body(Function),
+    case cerl:concrete(cerl:primop_name(cerl:let_arg(Let))) of
+        recv_peek_message -> peeking(Let, Names, Line);
+        recv_wait_timeout ->
+            {Time, Action} = waiting(Let, Names),
+            {recv, [], Time, Action, Line}
+    end.
+
+-spec peeking(cerl:cerl(), names(), plain_tree:line()) -> plain_tree:tree().
+peeking(Let, Names, Line) ->
+    [_, Message] = cerl:let_vars(Let),
+    {_, Inside} = bind([Message], Names),
+    [Found, Empty] = cerl:case_clauses(cerl:let_body(Let)),
+    Clauses = cerl:case_clauses(cerl:clause_body(Found)),
+    First = [taken(clause(C, Inside)) || C <- lists:droplast(Clauses)],
+    All = case clause(lists:last(Clauses), Inside) of
+        {_, _, {'let', [], {primop, recv_next, _, _}, _}} -> First;
+        Last -> First ++ [taken(Last)]
+    end,
+    {Time, Action} = waiting(cerl:clause_body(Empty), Names),
+    {recv, All, Time, Action, Line}.
+
+-spec waiting(cerl:cerl(), names()) -> {plain_tree:tree(), plain_tree:tree()}.
+waiting(Let, Names) ->
+    Time = tree(hd(cerl:primop_args(cerl:let_arg(Let))), Names),
+    [Expired | _] = cerl:case_clauses(cerl:let_body(Let)),
+    {Time, tree(cerl:clause_body(Expired), Names)}.
+
+-spec taken(plain_tree:clause()) -> plain_tree:clause().
+taken({Patterns, Guard, Body}) -> {Patterns, Guard, without_removal(Body)}.
+
+-spec without_removal(plain_tree:tree()) -> plain_tree:tree().
+without_removal({'let', [], {primop, remove_message, _, _}, Body}) -> Body;
+without_removal({'let', Variables, Value, Body}) -> {'let', Variables, Value, without_removal(Body)};
+without_removal(Body) -> Body.

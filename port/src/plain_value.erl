@@ -1,0 +1,115 @@
+%% @doc Simple values in the text: literals, variables, tuples, lists, and funs, which are tuples with the name of a function.
+-module(plain_value).
+-export([value/2, values/2, literal/2, remote_fun/3, lift/6, lifted_name/1]).
+
+-type environment() :: plain_tree:environment().
+
+-spec value(plain_tree:tree(), environment()) -> plain_text:expression().
+value({v, _} = Variable, Env) -> maps:get(Variable, Env);
+value({lit, Term, Line}, _) -> literal(Term, Line);
+value({tup, Elements}, Env) -> {tuple, values(Elements, Env)};
+value({vals, Elements}, Env) -> {tuple, values(Elements, Env)};
+value({cons, Head, Tail}, Env) -> {cons, value(Head, Env), value(Tail, Env)};
+value({fn, Identity, Variables, Body, Line}, Env) ->
+    Name = lifted_name({fn, Identity}),
+    Free = lift(Name, Variables, Body, Line, Env, Body),
+    closure(Name, length(Variables), Free, Env);
+value({fref, Function, Arity}, _) -> remote_fun(plain_state:get(module), Function, Arity);
+value({lref, {_, Arity}} = Function, Env) ->
+    {Name, Free} = maps:get(Function, Env),
+    closure(Name, Arity, Free, Env).
+
+-spec values([plain_tree:tree()], environment()) -> [plain_text:expression()].
+values(Trees, Env) -> [value(Tree, Env) || Tree <- Trees].
+
+-spec closure(atom(), arity(), [plain_tree:tree()], environment()) -> plain_text:expression().
+closure(Name, Arity, Free, Env) ->
+    plain_state:set_in(funs, Name, Arity),
+    {tuple, [{atom, '#fun'}, {int, Arity}, {atom, Name} | values(Free, Env)]}.
+
+%% @doc `fun M:F/A'.
+-spec remote_fun(module(), atom(), arity()) -> plain_text:expression().
+remote_fun(Module, Function, Arity) ->
+    case plain_modules:find(Module, Function, Arity) of
+        none when Module =:= erlang ->
+            Variables = [{v, {'A', plain_state:fresh()}} || _ <- lists:seq(1, Arity)],
+            value({fn, {erlang, Function, Arity}, Variables, {call, {lit, erlang, 0}, {lit, Function, 0}, Variables, 0}, 0}, #{});
+        none -> plain_refusal:refuse("fun ~w:~w/~w: no such function is known; name its file as one more", [Module, Function, Arity]);
+        _ ->
+            Key = {Module, Function, Arity},
+            plain_state:set_in(funs, Key, Arity),
+            {tuple, [{atom, '#fun'}, {int, Arity}, {atom, plain_reach:tag(Key)}]}
+    end.
+
+%% @doc The name of the function that a fun becomes: that of the function around it, and a number.
+-spec lifted_name(term()) -> atom().
+lifted_name(Identity) ->
+    case plain_state:find_in(lifted_names, Identity) of
+        {ok, Name} -> Name;
+        error ->
+            Base = case plain_state:get(short) of true -> "f"; false -> atom_to_list(plain_state:get(base)) end,
+            Number = map_size(plain_state:get(lifted_names)) + 1,
+            Name = list_to_atom(Base ++ "@" ++ integer_to_list(Number)),
+            plain_state:set_in(lifted_names, Identity, Name),
+            Name
+    end.
+
+%% @doc Keeps the body of a fun for later; its free variables in a fixed order.
+-spec lift(atom(), [plain_tree:variable()], plain_tree:tree(), plain_tree:line(), environment(), term()) -> [plain_tree:tree()].
+lift(Name, Variables, Body, Line, Env, Whole) ->
+    case plain_state:find_in(lifted, Name) of
+        {ok, #{free := Free}} -> Free;
+        error ->
+            Free = plain_tree:free(Whole, Env),
+            Local = maps:filter(fun({lref, _}, _) -> true; (_, _) -> false end, Env),
+            Where = maps:from_list([{Key, plain_state:get(Key)} || Key <- [file, module, kind, base, function]]),
+            plain_state:set_in(lifted, Name, #{free => Free, variables => Variables, body => Body, line => Line, env => Local, where => Where}),
+            Free
+    end.
+
+%% @doc A term that stands in the source.
+-spec literal(term(), plain_tree:line()) -> plain_text:expression().
+literal({'$refused', Line, Sentence}, _) -> plain_refusal:refuse(Line, "~ts", [Sentence]);
+literal(Integer, Line) when is_integer(Integer), Integer > 16#7fffffffffffffff orelse Integer < -16#8000000000000000 ->
+    refused(Line, "the integer ~w has more than 64 bits; count in a larger unit", [Integer]);
+literal(Integer, _) when is_integer(Integer) -> {int, Integer};
+literal(Atom, Line) when is_atom(Atom) -> atom(Atom, Line);
+literal([], _) -> nil;
+literal([_ | Tail], Line) when not is_list(Tail) -> refused(Line, "the profile has no improper lists; take a tuple {Head, Tail}", []);
+literal([Head | Tail], Line) -> {cons, literal(Head, Line), literal(Tail, Line)};
+literal(Tuple, Line) when is_tuple(Tuple) -> {tuple, [literal(X, Line) || X <- tuple_to_list(Tuple)]};
+literal(Binary, Line) when is_binary(Binary) -> {tuple, [{atom, '#bin'}, literal(binary_to_list(Binary), Line)]};
+literal(Map, Line) when is_map(Map) -> {tuple, [{atom, '#map'}, literal(lists:sort(maps:to_list(Map)), Line)]};
+literal(Fun, Line) when is_function(Fun) ->
+    [Module, Name, Arity] = [element(2, erlang:fun_info(Fun, Item)) || Item <- [module, name, arity]],
+    plain_state:put(line, Line),
+    remote_fun(Module, Name, Arity);
+literal(Float, Line) when is_float(Float) -> refused(Line, "the float ~w: the profile has no floats; count in integers", [Float]);
+literal(Term, Line) -> refused(Line, "the profile has no value ~p; take a tuple or a list", [Term]).
+
+%% A literal that is refused: the translation goes on behind it, so that what else is refused is told too. In the library it ends the function.
+-spec refused(plain_tree:line(), io:format(), [term()]) -> plain_text:expression().
+refused(Line, Format, Arguments) ->
+    case plain_state:get(kind) of
+        user ->
+            plain_refusal:record(plain_state:get(file), Line, io_lib:format(Format, Arguments)),
+            {atom, refused};
+        _ -> plain_refusal:refuse(Line, Format, Arguments)
+    end.
+
+%% The tags of maps, binaries and funs stand in no program, so that no tuple of one can be taken for them.
+-spec atom(atom(), plain_tree:line()) -> plain_text:expression().
+atom(Atom, Line) when Atom =:= '#map'; Atom =:= '#bin'; Atom =:= '#fun' ->
+    case plain_state:get(kind) of
+        lib -> {atom, Atom};
+        _ -> refused(Line, "the atom ~p marks an encoding; rename it", [Atom])
+    end;
+atom(Atom, Line) ->
+    plain_state:set_in(atoms, Atom, true),
+    Known = maps:get(Atom, plain_state:get(atom_places), []),
+    Place = {user, plain_state:get(file), Line, plain_state:get(function)},
+    case plain_state:get(kind) =:= user andalso Line > 0 andalso not lists:member(Place, Known) of
+        true -> plain_state:set_in(atom_places, Atom, [Place | Known]);
+        false -> ok
+    end,
+    {atom, Atom}.
