@@ -6,8 +6,9 @@
                                   `waits`
     due.py TOP note PLAN LOG..    notes by such a plan what the logs of `rt` say
 
-KIT is the kit's name, TURNS (2) how many crates are due in turn, and MOST_EDITS (100) how many edits of crates that are as they were
-and stand on names that changed below them."""
+KIT is the kit's name, TURNS (2) how many crates are due in turn, and MOST_EDITS (100) how many edits are due at once of crates that are
+as they were and stand on names that changed below them. All edits of crates that changed themselves count among these; where more
+are due than that, none waits its turn."""
 import os
 import re
 import sys
@@ -55,11 +56,14 @@ def plan(tree, noted):
     by_crate = {crate: lines for crate, lines in by_crate.items() if lines}
     below = [it for lines in by_crate.values() for it in lines if it.why == "below"]
     below.sort(key=lambda it: (noted.edits.get(it.key(), ("", 0))[1], it.crate, it.name))
-    for it in below[int(os.environ.get("MOST_EDITS", "100")) :]:
+    most = int(os.environ.get("MOST_EDITS", "100"))
+    own = sum(1 for lines in by_crate.values() for it in lines if it.why in ("new", "changed"))
+    for it in below[max(0, most - own) :]:
         it.why = "waits"
     rest = [crate for crate, lines in by_crate.items() if all(it.why == "seen" for it in lines)]
     rest.sort(key=lambda it: (noted.crates[it][2], it))
-    for crate in rest[: int(os.environ.get("TURNS", "2"))]:
+    turns = int(os.environ.get("TURNS", "2")) if own + len(below) <= most else 0
+    for crate in rest[:turns]:
         for it in by_crate[crate]:
             it.why = "turn"
     # A crate whose sum below changed while no edit's did gets its line anew.
