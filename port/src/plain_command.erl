@@ -18,7 +18,7 @@ run(#{files := Files, options := Options} = Asked) ->
 
 -spec translated(plain_words:asked(), plain_translation:translation()) -> 0..255.
 translated(#{command := translate, out := none}, #{text := Text}) ->
-    io:put_chars(Text),
+    plain_out:put(Text),
     0;
 translated(#{command := translate, out := Out}, #{text := Text, map := Map}) ->
     case {file:write_file(Out, Text), file:write_file(Out ++ ".map", unicode:characters_to_binary(plain_map:text(Map)))} of
@@ -58,11 +58,11 @@ told(missing, _, _) ->
     complain("pulsefarm-erl: the program pulsefarm is not on the path; sh install.sh puts it there, or PULSEFARM names it\n"),
     2;
 told({Text, Status}, #{command := Command}, _) when Command =:= check; Status >= 2 ->
-    io:put_chars(Text),
+    plain_out:put(Text),
     Status;
 told({Text, Status}, #{command := chart} = Asked, Translation) ->
-    io:put_chars(plain_chart:tell(Text, run_of_chart(Asked, Translation), Translation)),
+    plain_out:put(plain_chart:tell(Text, run_of_chart(Asked, Translation), Translation)),
     Status;
 told({Text, Status}, Asked, Translation) ->
-    io:put_chars(plain_answer:tell(Text, Asked, Translation)),
+    plain_out:put(plain_answer:tell(Text, Asked, Translation)),
     Status.

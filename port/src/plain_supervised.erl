@@ -34,14 +34,14 @@ seeds(Text) ->
 
 -spec search(non_neg_integer(), non_neg_integer(), pos_integer(), file:filename(), asked(), translation()) -> 0..255.
 search(From, To, Number, _, _, _) when From >= To ->
-    io:format("no failure in ~w seeds~n", [Number]),
+    plain_out:put(io_lib:format("no failure in ~w seeds~n", [Number])),
     0;
 search(From, To, Number, File, Asked, #{text := Text} = Translation) ->
     Next = min(From + ?BATCH, To),
     case reports(Text, lists:seq(From, Next - 1), Asked, Translation) of
         missing -> plain_command:told(missing, Asked, Translation);
         {refused, Line} ->
-            io:put_chars([Line, "\n"]),
+            plain_out:put([Line, "\n"]),
             2;
         Reports ->
             case first_failing(Reports, Asked, Translation) of
@@ -99,7 +99,7 @@ crash(Reason, _) -> case plain_answer:orderly(Reason) of true -> no; false -> ye
 -spec found(non_neg_integer(), [plain_report:event()], file:filename(), asked(), translation()) -> 1.
 found(Seed, Events, File, #{words := Words} = Asked, Translation) ->
     Schedule = schedule(plain_report:choices(Events)),
-    io:format("seed ~w~nschedule ~ts~n", [Seed, Schedule]),
+    plain_out:put(io_lib:format("seed ~w~nschedule ~ts~n", [Seed, Schedule])),
     case plain_words:value("--shrink", Words, none) of
         none -> report(File, Schedule, Asked, Translation);
         Runs -> shrunk(File, Schedule, Runs, Asked, Translation)
@@ -153,6 +153,6 @@ judged({Text, Status}, Asked, Translation) when Status < 2 ->
     Failing = fails(events(Text), Asked, Translation),
     Verdict = case Failing of true -> <<"property fails">>; false -> <<"property holds">> end,
     Told = re:replace(Text, <<"^property (holds|fails)$">>, Verdict, [multiline, {return, binary}]),
-    io:put_chars(plain_answer:tell(Told, Asked, Translation)),
+    plain_out:put(plain_answer:tell(Told, Asked, Translation)),
     case Failing of true -> 1; false -> 0 end;
 judged(Answer, Asked, Translation) -> plain_command:told(Answer, Asked, Translation).

@@ -6,7 +6,11 @@
 -spec main([string()]) -> no_return().
 main(Words) ->
     Status = try run(Words)
-    catch error:terminated -> 141 % nobody reads the standard output any more
+    catch
+        error:terminated -> 141; % nobody reads the standard output any more
+        error:{unwritten, Reason} ->
+            plain_command:complain(["pulsefarm-erl: the standard output: ", file:format_error(Reason), "\n"]),
+            2
     end,
     halt(Status).
 
@@ -16,7 +20,7 @@ run(Words) ->
     _ = io:setopts([{encoding, unicode}]),
     case plain_words:read(Words) of
         {help, Text} ->
-            io:put_chars(Text),
+            plain_out:put(Text),
             0;
         {refused, Sentence} ->
             plain_command:complain(["pulsefarm-erl: ", Sentence, "\n"]),

@@ -12,6 +12,7 @@ check() ->
     several_files(),
     refused(),
     timed(),
+    unread(),
     ok.
 
 %% One command finds the race of a program and tells it by a line that the file names.
@@ -140,3 +141,15 @@ timed() ->
     checks:expect("without patience some pass", Early > 50),
     {ok, Never, _} = checks:translate([File], #{never => 1000}),
     checks:expect("and with --never none of the receive", true, is_list(checks:hunt(Never, "main", "nocrash", "0..10"))).
+
+%% Where nobody reads its answer it ends as pulsefarm does, with 141, and where its output is full it says so.
+-spec unread() -> boolean().
+unread() ->
+    Words = ["run ", checks:folder("../examples/bank.erl"), " --seed 0 2> /dev/null"],
+    checks:expect("a reader that is gone", "141\n", shell([Words, " | true; echo ${PIPESTATUS[0]}"])),
+    checks:expect("an output that is full", "2\n", shell([Words, " > /dev/full; echo $?"])).
+
+-spec shell(iodata()) -> string().
+shell(Words) ->
+    Program = filename:join([os:getenv("CHECKS"), "..", "pulsefarm-erl"]),
+    os:cmd(lists:flatten(io_lib:format("bash -c '~ts ~ts'", [Program, Words]))).
