@@ -1,5 +1,7 @@
 //! The generator's published words, and each call once.
 
+ghost use Rattle.std.specs.Prelude.{◌<◌};
+
 use pf_choice::Choices;
 use rand_core::utils::NextWord;
 use rand_pcg::Lcg64Xsh32;
@@ -19,7 +21,7 @@ fn words_of_the_reference_generator(rt: HostRuntime) {
         0xbfa4784b,
         0xcbed606e,
     ] {
-        assert_eq!(rt; choices.next(WORDS), word);
+        assert_eq!(rt; choices.next_of(WORDS, 0), word);
     }
 }
 
@@ -34,7 +36,7 @@ fn words_of_seeds(rt: HostRuntime) {
     ] {
         let mut choices = Choices::seed(seed);
         for word in words {
-            assert_eq!(rt; choices.next(WORDS), word, "of seed {seed}");
+            assert_eq!(rt; choices.next_of(WORDS, 0), word, "of seed {seed}");
         }
     }
 }
@@ -50,7 +52,7 @@ fn words_far_on(rt: HostRuntime) {
         let mut choices = Choices::seed(seed);
         let mut word = 0;
         for _ in 0..count {
-            word = choices.next(WORDS);
+            word = choices.next_of(WORDS, 0);
         }
         assert_eq!(rt; word, last, "of seed {seed}");
     }
@@ -60,7 +62,7 @@ fn words_far_on(rt: HostRuntime) {
 fn a_schedule_and_then_zeros(rt: HostRuntime) -> Result<(), Fail> {
     let mut choices: Choices = Choices::schedule(vec![in rt.alloc(); 7, 4294967295, 2]?);
     for (n, choice) in [(3, 1), (WORDS, 4294967295), (2, 0), (5, 0), (1, 0)] {
-        assert_eq!(rt; choices.next(n), choice, "among {n}");
+        assert_eq!(rt; choices.next_of(n, 0), choice, "among {n}");
     }
     Ok(())
 }

@@ -163,7 +163,7 @@ fn receive_woken(
         if try_both(alloc, both, wanted)? {
             return Ok(());
         }
-        deliver(alloc, both, choices.next(7))?;
+        deliver(alloc, both, choices.next_of(7, 0))?;
     }
     Ok(())
 }
@@ -192,12 +192,12 @@ fn follow(alloc: Global, seed: u64) -> Result<u64, Fail> {
     let mut choices = Choices::seed(seed);
     let mut both = Both::new(alloc);
     for _ in 0..20u8 {
-        for _ in 0..choices.next(4) {
-            deliver(alloc, &mut both, choices.next(7))?;
+        for _ in 0..choices.next_of(4, 0) {
+            deliver(alloc, &mut both, choices.next_of(7, 0))?;
         }
-        let wanted = some_receive(alloc, choices.next(6))?;
+        let wanted = some_receive(alloc, choices.next_of(6, 0))?;
         receive_woken(alloc, &mut both, &mut choices, &wanted)?;
-        if choices.next(4) == 0 {
+        if choices.next_of(4, 0) == 0 {
             both = pack_and_unpack(alloc, both)?;
         }
     }
