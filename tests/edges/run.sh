@@ -154,6 +154,8 @@ words() {
   run run --root main --limit 5 --seed 7 --property
   ended 'property without a value' 2 '' "error: a value is required for '--property <P>' but none was supplied\n$more"
   shrink='\n\nUsage: pulsefarm shrink [OPTIONS] --root <F> --limit <N> --schedule <L> --property <P> --runs <N> [FILE]\n'
+  # Where words are missing, or one isn't known, the usage names those that are wanted alone.
+  wanted='\n\nUsage: pulsefarm shrink --root <F> --limit <N> --schedule <L> --property <P> --runs <N> [FILE]\n'
   shrunk='shrink --root main --limit 5 --property true'
   # The words in `$shrunk` have no blanks in them.
   # shellcheck disable=SC2086
@@ -163,9 +165,9 @@ words() {
     run $shrunk --schedule 1,,2 --runs 5
     ended 'empty number of a schedule to shrink' 2 '' "error: invalid value '1,,2' for '--schedule <L>': it wants $numbers$shrink$more"
     run $shrunk --runs 5
-    ended 'no schedule to shrink' 2 '' "error: the following required arguments were not provided:\n  --schedule <L>$shrink$more"
+    ended 'no schedule to shrink' 2 '' "error: the following required arguments were not provided:\n  --schedule <L>$wanted$more"
     run $shrunk --schedule none --runs 5 --seed 7
-    ended 'a seed to shrink' 2 '' "error: unexpected argument '--seed' found\n\n  tip: a similar argument exists: '--schedule'$shrink$more"
+    ended 'a seed to shrink' 2 '' "error: unexpected argument '--seed' found\n\n  tip: a similar argument exists: '--schedule'$wanted$more"
   }
   run steps "$(printf -- '--\033[1m\377')"
   check 'odd bytes in a word' test "$status" = 2
