@@ -8,7 +8,7 @@ pub turn-requires-clause-enabled : goal.turn-requires-clause-enabled
 turn-requires-clause-enabled c =
     let o = c.args.self.now.system.standing in
     subst (λ a. MayGo (actor_of a) o) c.in-Process.is
-    (may_go o (noted c.enabled-enabled.result) c.enabled-enabled.ensures c.args.index (actor_of c.actor-actor.result) c.actor-actor.ensures)
+    (may_go o (noted c.enabled-enabled.result) c.enabled-enabled.ensures.actors c.args.index (actor_of c.actor-actor.result) c.actor-actor.ensures)
 
 pub deliver-requires : goal.deliver-requires
 deliver-requires c =
@@ -16,5 +16,5 @@ deliver-requires c =
     record {
       enabled =
           subst (λ a. MayGo (actor_of a) o) c.in-Channel.is
-          (may_go o (noted c.enabled-enabled.result) c.enabled-enabled.ensures c.args.index (actor_of c.actor-actor.result) c.actor-actor.ensures);
+          (may_go o (noted c.enabled-enabled.result) c.enabled-enabled.ensures.actors c.args.index (actor_of c.actor-actor.result) c.actor-actor.ensures);
     }
