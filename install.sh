@@ -1,6 +1,6 @@
 #!/bin/sh
-# Proves and builds `pulsefarm`, puts a link to it where programs are looked for, and runs the main job: the report of a module
-# whose `main` is `1 + 2 * 3`. The link goes into the folder $PREFIX/bin if PREFIX is set, else into /usr/local/bin if that can be
+# Proves `pulsefarm` (install/prove.py) and builds it, puts a link to it where programs are looked for, and runs the main job: the report of a
+# module whose `main` is `1 + 2 * 3`. The link goes into the folder $PREFIX/bin if PREFIX is set, else into /usr/local/bin if that can be
 # written, else into ~/.local/bin. What it is at goes to standard error. Where Erlang is there, `pulsefarm-erl` is built and linked too.
 set -eu
 top=$(cd "$(dirname "$0")" && pwd)
@@ -12,27 +12,7 @@ elif [ -w /usr/local/bin ]; then
 else
   folder="$HOME/.local/bin"
 fi
-log=$(mktemp)
-trap 'rm -f "$log"' EXIT
-
-# The crates of the repository that the program stands on, lowest first.
-below() {
-  sed -n 's/^pulsefarm[^:]*://p' "$top/crates.txt" | tr ' ' '\n' > "$log"
-  sed -n 's/^\([a-z][a-z0-9_]*\).*:.*/\1/p' "$top/crates.txt" | grep -xF -f "$log"
-}
-
-crates=$(below)
-count=$(($(echo "$crates" | wc -w) + 1))
-start=$(date +%s)
-number=0
-for crate in $crates pulsefarm; do
-  number=$((number + 1))
-  echo "proving crate $number of $count, $crate; $((($(date +%s) - start) / 60)) minutes so far" >&2
-  if [ "$crate" = pulsefarm ]; then command="run -- --version"; else command=lib; fi
-  # The command is words.
-  # shellcheck disable=SC2086
-  (cd "$top/crates/$crate" && rt $command) > "$log" 2>&1 || { tail -n 30 "$log" >&2; exit 1; }
-done
+python3 "$top/install/prove.py" "$top"
 mkdir -p "$folder"
 ln -sf "$program/out/pulsefarm" "$folder/pulsefarm"
 if command -v erlc > /dev/null; then

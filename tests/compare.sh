@@ -25,6 +25,17 @@ compare() {
   fi
 }
 
+# Counts the check $1, which came out well where its status $2 is 0; else what was told and said last is shown.
+note() {
+  if [ "$2" = 0 ]; then
+    passed=$((passed + 1))
+  else
+    failed=$((failed + 1))
+    echo "$1:"
+    head -qc 300 "$room/out" "$room/err"
+  fi
+}
+
 # Tells the counts, and whether something ran and nothing failed.
 tell_counts() {
   echo "$passed passed, $failed failed"

@@ -333,6 +333,14 @@ schedules_in_files() {
     "error: invalid value '@schedule' for '--schedule <L>': it wants $numbers$usage$more"
   run $words --schedule @missing
   ended 'missing file of a schedule' 2 '' "pulsefarm: missing: $missing"
+  run run --help
+  cp out first
+  run $words --schedule @missing --help
+  check 'help before a missing file of a schedule' test "$status" = 0
+  check 'help, whichever file a schedule names' cmp -s out first
+  run run m.erl --root main --limit none --schedule @missing
+  check 'a refused word before a missing file of a schedule' test "$status" = 2
+  check 'a refused word, whichever file a schedule names' grep -q "invalid value 'none' for '--limit <N>'" err
   mkdir -p folder
   run $words --schedule=@folder
   ended 'folder of a schedule' 2 '' 'pulsefarm: folder: Is a directory (os error 21)\n'

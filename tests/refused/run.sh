@@ -3,8 +3,9 @@
 # of `pulsefarm run` on its stored run and on rows with several processes: three that race by messages, three with links, monitors
 # and names, and one that is killed though it traps exits, and one that watches, stops watching and flushes; by schedules, and one of them by a seed with a property. Each run has to end
 # with the whole text and its status; or with `NoMemory` alone on a line and status 2; or, where the growth was refused within a run of
-# `pulsefarm run` or `pulsefarm shrink`, with the report of a run that memory stopped, and status 2; a growth that is refused before `main` has begun may end the program with a message on standard error
-# and status 1 or 2. Anything else, a signal or a hang fails. Each run of the program itself, refused or not, has to give back each
+# `pulsefarm run`, or of a shrinking behind a hunt, with the report of a run that memory stopped, and status 2 (`pulsefarm shrink` writes
+# `NoMemory` there too); a growth that is refused before `main` has begun may end the program with a message on standard error and
+# status 1 or 2. Anything else, a signal or a hang fails. Each run of the program itself, refused or not, has to give back each
 # block that it asked for.
 #
 # It does the same with `pulsefarm steps`, whose runs may go on after a refused growth and say so in a line.
@@ -177,7 +178,7 @@ row_run_refused exits_kill_who_traps
 row_run_refused flush_takes_the_oldest_that_tells
 row_run_refused seed_of_two_senders
 row_run_refused property_never_of_what_is_sent
-row_run_refused shrink_wait_within_three_runs
+row_refused shrink_wait_within_three_runs ended_well
 row_refused hunt_of_a_wait ended_well
 printf '%s\n' 'seed 7' 'schedule 0' memory 'steps 0' 'no verdict' > "$room/stopped"
 row_run_refused hunt_of_a_wait_shrunk

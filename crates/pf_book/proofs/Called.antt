@@ -9,17 +9,19 @@ use Rattle.pf_quota.specs.Checks.{refusal_of}
 use Rattle.pf_quota.specs.Refusals as quota
 use Rattle.pf_quota.specs.Usage.{usage_of}
 use Rattle.pf_model.specs.Limits.{IsEdition}
+use Rattle.pf_request.specs.Calls.{Call}
+use Rattle.pf_request.specs.Module.{ReadModule}
 use Rattle.pf_desks.specs.Desk as desk
-use Rattle.pf_desks.specs.Desk.{Profile, Desk, Stored, Trial, called}
+use Rattle.pf_desks.specs.Desk.{Profile, Desk, Trial, called}
 use Rattle.pf_desks.specs.Calls.{answered, within_limits, noted, passed_by, HasRoom, after_call, reply_to, with_entry, usage_in, held_by}
 use Rattle.pf_desks.specs.History.{IsLegalDesk}
 use Rattle.pf_desks.proofs.Histories.{desk_more}
 use Rattle.pf_book.specs.Answers.{DeskAnswers}
-use Rattle.pf_book.specs.Kept.{desk_in, IsKept}
+use Rattle.pf_book.specs.Kept.{desk_in, IsValid}
 use Rattle.pf_book.specs.Plans.{with_change, IsPlan}
 use Rattle.pf_book.specs.Profile.{ForRight}
 use Rattle.pf_book.specs.Users.{holding, CountUsers}
-use Rattle.pf_book.specs.View.{reply_seen, entry_seen}
+use Rattle.pf_book.specs.View.{reply_seen, view_of_entry}
 use Rattle.pf_book.specs.declared.desk.Desk.TheInside.{Inside}
 use Rattle.pf_book.specs.declared.plan.Change.{Change}
 use Rattle.pf_book.specs.declared.plan.Change.TheVariants as change
@@ -30,13 +32,13 @@ use Rattle.pf_book.proofs.Sums.{calls_more}
 -- ---- the same desk in other lists
 
 -- what is kept is kept where the lists hold the same
-pub same_kept : (b b' : Inside) → b'.edition ≡ b.edition → b'.modules.items ≡ b.modules.items → b'.trials.items ≡ b.trials.items → b'.history.items ≡ b.history.items
-    → b'.users.items ≡ b.users.items → b'.usage ≡ b.usage → IsKept b → IsKept b'
-same_kept b b' edition modules trials history users usage h =
-    let same : desk_in b' ≡ desk_in b = λ i. record { edition = edition i; modules = modules i; trials = trials i; history = map entry_seen (history i) } in
+pub same_valid : (b b' : Inside) → b'.edition ≡ b.edition → b'.modules.items ≡ b.modules.items → b'.trials.items ≡ b.trials.items → b'.history.items ≡ b.history.items
+    → b'.users.items ≡ b.users.items → b'.usage ≡ b.usage → IsValid b → IsValid b'
+same_valid b b' edition modules trials history users usage h =
+    let same : desk_in b' ≡ desk_in b = λ i. record { edition = edition i; modules = modules i; trials = trials i; history = map view_of_entry (history i) } in
     let counts : CountUsers b.users.items b.modules.items b.trials.items = record { counted = h.counted; exact = h.users; used = h.used } in
     let one : CountUsers b'.users.items b.modules.items b.trials.items = subst (λ (l : List ℕ). CountUsers l b.modules.items b.trials.items) (sym users) counts in
-    let two : CountUsers b'.users.items b'.modules.items b.trials.items = subst (λ (l : List (Option Stored)). CountUsers b'.users.items l b.trials.items) (sym modules) one in
+    let two : CountUsers b'.users.items b'.modules.items b.trials.items = subst (λ (l : List (Option ReadModule)). CountUsers b'.users.items l b.trials.items) (sym modules) one in
     let all : CountUsers b'.users.items b'.modules.items b'.trials.items = subst (λ (l : List (Option Trial)). CountUsers b'.users.items b'.modules.items l) (sym trials) two in
     record {
       legal = λ p right. subst (IsLegalDesk p) (sym same) (h.legal p right);
@@ -57,7 +59,7 @@ module _ (d : Desk) (u : Usage) (sums : u ≡ usage_in d) where
   has_room h = told_limit None h
 
   -- a call that the log has no room for is answered so, and the desk stays
-  pub full_answers : (limit : Limit) (c : desk.Call) (r : Reply) → refusal_of d.edition u charge.Call ≡ Some limit → reply_seen r ≡ desk.refused (quota.code_of limit)
+  pub full_answers : (limit : Limit) (c : Call) (r : Reply) → refusal_of d.edition u charge.Call ≡ Some limit → reply_seen r ≡ desk.refused (quota.code_of limit)
       → (d' : Desk) → d' ≡ d → DeskAnswers d c (Ok r) d'
   full_answers limit c r h told d' same p right =
       let full = told_limit (Some limit) h in (
@@ -80,14 +82,14 @@ same_history : (d : Desk) (a : Change) → (with_change d a).history ≡ d.histo
 same_history d a = ap (λ (k : Desk). k.history) (with_history d a)
 
 -- the desk of the lists that a change was carried out in, and of what was noted
-pub changed_desk : (d : Desk) (a : Change) (e : desk.Entry) (edition : ℕ) (ms : List (Option Stored)) (ts : List (Option Trial)) (es : List desk.Entry)
+pub changed_desk : (d : Desk) (a : Change) (e : desk.Entry) (edition : ℕ) (ms : List (Option ReadModule)) (ts : List (Option Trial)) (es : List desk.Entry)
     → holding edition ms ts ≡ with_change (holding d.edition d.modules d.trials) a → es ≡ d.history ++ e ∷ []
     → ◌≡◌ {A = Desk} (record { edition = edition; modules = ms; trials = ts; history = es }) (with_entry (with_change d a) e)
 changed_desk d a e edition ms ts es made noted =
     (λ i. record { edition = (made i).edition; modules = (made i).modules; trials = (made i).trials; history = noted i })
     ∙ ap (λ (k : Desk). with_entry k e) (sym (with_history d a))
 
-module _ (d : Desk) (c : desk.Call) (plan : Plan) (planned : IsPlan d c plan) (room : HasRoom d) (d' : Desk)
+module _ (d : Desk) (c : Call) (plan : Plan) (planned : IsPlan d c plan) (room : HasRoom d) (d' : Desk)
     (is : d' ≡ with_entry (with_change d plan.change) (called c (reply_seen plan.reply))) where
   abbrev told : desk.Reply
   told = reply_seen plan.reply
@@ -120,9 +122,9 @@ module _ (d : Desk) (c : desk.Call) (plan : Plan) (planned : IsPlan d c plan) (r
       ∙ ap usage_in (sym is)
 
   -- what a desk keeps, where it is this desk
-  pub called_kept : (b' : Inside) → desk_in b' ≡ d' → b'.usage ≡ plan.usage → IsEdition b'.edition → CountUsers b'.users.items b'.modules.items b'.trials.items
-      → ForRight (λ p. IsLegalDesk p d) → IsKept b'
-  called_kept b' here uses edition counts legal = record {
+  pub called_valid : (b' : Inside) → desk_in b' ≡ d' → b'.usage ≡ plan.usage → IsEdition b'.edition → CountUsers b'.users.items b'.modules.items b'.trials.items
+      → ForRight (λ p. IsLegalDesk p d) → IsValid b'
+  called_valid b' here uses edition counts legal = record {
     legal = λ p right. subst (IsLegalDesk p) (sym here) (called_legal legal p right);
     edition = edition;
     sums = uses ∙ called_sums ∙ ap usage_in (sym here);

@@ -7,7 +7,8 @@ use Rattle.std.proofs.lemmas.List.{length-set}
 use Rattle.std.proofs.lemmas.List.Elements.{All-cons, All-head, All-tail, All-push, All-weaker}
 use Rattle.std.proofs.lemmas.List.Sums.{sum_by-append, sum_by-cons, sum_by_push, count_by-le-length}
 use Rattle.std.proofs.lemmas.Option.{slice_get_within, slice_get-get_or}
-use Rattle.pf_desks.specs.Desk.{Stored, Trial, held_at, with_held, all_held}
+use Rattle.pf_request.specs.Module.{ReadModule}
+use Rattle.pf_desks.specs.Desk.{Trial, held_at, with_held, all_held}
 use Rattle.pf_book.specs.Users.{CountUsers}
 use Rattle.pf_book.proofs.Held.{held_push, Around, around, gap}
 
@@ -97,7 +98,7 @@ length_with xs (suc i) y = length-set xs i y
 -- ---- a module more, and a module less
 
 -- a number that passes those of the modules is used by none
-none_past : (ms : List (Option Stored)) (ts : List Trial) (n : ℕ) → length ms < n → All (λ t. IsSome (held_at ms t.module_number)) ts → sum_by (uses n) ts ≡ 0
+none_past : (ms : List (Option ReadModule)) (ts : List Trial) (n : ℕ) → length ms < n → All (λ t. IsSome (held_at ms t.module_number)) ts → sum_by (uses n) ts ≡ 0
 none_past ms [] n past h = refl
 none_past ms (t ∷ ts) n past h =
     let P : Trial → Type 0 = λ t. IsSome (held_at ms t.module_number) in
@@ -106,7 +107,7 @@ none_past ms (t ∷ ts) n past h =
     let one : uses n t ≡ 0 = grind (arith, nat_tests, w.0, w.1) in
     omega (arith, sum_by-cons (uses n) t ts)
 
-pub module_more : (us : List ℕ) (ms : List (Option Stored)) (ts : List (Option Trial)) (m : Stored) → CountUsers us ms ts → CountUsers (us ++ 0 ∷ []) (ms ++ Some m ∷ []) ts
+pub module_more : (us : List ℕ) (ms : List (Option ReadModule)) (ts : List (Option Trial)) (m : ReadModule) → CountUsers us ms ts → CountUsers (us ++ 0 ∷ []) (ms ++ Some m ∷ []) ts
 module_more us ms ts m h = record {
   counted = omega (arith, h.counted, length-push us 0, length-push ms (Some m));
   exact = push_at us (λ i. sum_by (uses (suc i)) (all_held ts)) 0 h.exact (sym (none_past ms (all_held ts) (suc (length us)) (omega (arith, h.counted)) h.used));
@@ -118,7 +119,7 @@ module_more us ms ts m h = record {
     length-push (y ∷ xs) x = omega (arith, length-push xs x)
 
 -- a module that no held trial uses may go
-still_used : (ms : List (Option Stored)) (ts : List Trial) (n : ℕ) → sum_by (uses n) ts ≡ 0 → All (λ t. IsSome (held_at ms t.module_number)) ts
+still_used : (ms : List (Option ReadModule)) (ts : List Trial) (n : ℕ) → sum_by (uses n) ts ≡ 0 → All (λ t. IsSome (held_at ms t.module_number)) ts
     → All (λ t. IsSome (held_at (with_held ms n None) t.module_number)) ts
 still_used ms [] n none h = λ k d w. absurd (omega arith)
 still_used ms (t ∷ ts) n none h =
@@ -128,10 +129,10 @@ still_used ms (t ∷ ts) n none h =
     let rest : sum_by (uses n) ts ≡ 0 = omega (arith, sum_by-cons (uses n) t ts) in
     let other : t.module_number ≡ n → ⊥ = λ e. grind (arith, nat_tests, e, one) in
     All-cons Q t ts
-    (subst (λ (o : Option Stored). IsSome o) (sym (held_other ms n t.module_number None other)) (All-head P t ts h))
+    (subst (λ (o : Option ReadModule). IsSome o) (sym (held_other ms n t.module_number None other)) (All-head P t ts h))
     (still_used ms ts n rest (All-tail P t ts h))
 
-pub module_less : (us : List ℕ) (ms : List (Option Stored)) (ts : List (Option Trial)) (n : ℕ) → count_by (λ t. t.module_number == n) (all_held ts) ≡ 0
+pub module_less : (us : List ℕ) (ms : List (Option ReadModule)) (ts : List (Option Trial)) (n : ℕ) → count_by (λ t. t.module_number == n) (all_held ts) ≡ 0
     → CountUsers us ms ts → CountUsers us (with_held ms n None) ts
 module_less us ms ts n none h = record {
   counted = h.counted ∙ sym (length_with ms n None);
@@ -147,7 +148,7 @@ uses_other t j i e ne = grind (arith, nat_tests, e, ne)
 uses_own : (t : Trial) (j : ℕ) → t.module_number ≡ suc j → uses (suc j) t ≡ 1
 uses_own t j e = grind (arith, nat_tests, e)
 
-pub trial_more : (us : List ℕ) (ms : List (Option Stored)) (ts : List (Option Trial)) (t : Trial) → IsSome (held_at ms t.module_number)
+pub trial_more : (us : List ℕ) (ms : List (Option ReadModule)) (ts : List (Option Trial)) (t : Trial) → IsSome (held_at ms t.module_number)
     → CountUsers us ms ts → CountUsers (slice_set us (t.module_number - 1) (slice_index us (t.module_number - 1) + 1)) ms (ts ++ Some t ∷ [])
 trial_more us ms ts t held h =
     let w : (1 ≤ t.module_number) × (t.module_number ≤ length ms) = held_within ms t.module_number held in
@@ -168,7 +169,7 @@ trial_more us ms ts t held h =
     }
 
 -- a trial that is held counts where its module does
-pub counted_user : (us : List ℕ) (ms : List (Option Stored)) (ts : List (Option Trial)) (ticket : ℕ) (t : Trial) → held_at ts ticket ≡ Some t → CountUsers us ms ts
+pub counted_user : (us : List ℕ) (ms : List (Option ReadModule)) (ts : List (Option Trial)) (ticket : ℕ) (t : Trial) → held_at ts ticket ≡ Some t → CountUsers us ms ts
     → (1 ≤ t.module_number) × (t.module_number ≤ length us) × (1 ≤ slice_index us (t.module_number - 1))
 counted_user us ms ts ticket t held h =
     let a : Around ts ticket t = around ts ticket t held in
@@ -183,7 +184,7 @@ counted_user us ms ts ticket t held h =
     ap (λ (l : List Trial). sum_by (uses (suc j)) l) a.is ∙ sum_around (uses (suc j)) a.before a.after t in
     (w.0, omega (arith, w.1, h.counted), omega (arith, was, around_it, uses_own t j own))
 
-pub trial_less : (us : List ℕ) (ms : List (Option Stored)) (ts : List (Option Trial)) (ticket : ℕ) (t : Trial) → held_at ts ticket ≡ Some t → CountUsers us ms ts
+pub trial_less : (us : List ℕ) (ms : List (Option ReadModule)) (ts : List (Option Trial)) (ticket : ℕ) (t : Trial) → held_at ts ticket ≡ Some t → CountUsers us ms ts
     → CountUsers (slice_set us (t.module_number - 1) (slice_index us (t.module_number - 1) - 1)) ms (with_held ts ticket None)
 trial_less us ms ts ticket t held h =
     let a : Around ts ticket t = around ts ticket t held in
@@ -207,7 +208,7 @@ trial_less us ms ts ticket t held h =
     }
 
 -- where no trial is held there is none to drop
-pub trial_gap : (us : List ℕ) (ms : List (Option Stored)) (ts : List (Option Trial)) (ticket : ℕ) → held_at ts ticket ≡ None
+pub trial_gap : (us : List ℕ) (ms : List (Option ReadModule)) (ts : List (Option Trial)) (ticket : ℕ) → held_at ts ticket ≡ None
     → CountUsers us ms ts → CountUsers us ms (with_held ts ticket None)
 trial_gap us ms ts ticket none h =
     let same = gap ts ticket none in
@@ -221,7 +222,7 @@ trial_gap us ms ts ticket none h =
 -- ---- the same trials but for their states
 
 -- a trial of the same module in the place of one
-pub trial_again : (us : List ℕ) (ms : List (Option Stored)) (ts : List (Option Trial)) (ticket : ℕ) (t t' : Trial) → held_at ts ticket ≡ Some t
+pub trial_again : (us : List ℕ) (ms : List (Option ReadModule)) (ts : List (Option Trial)) (ticket : ℕ) (t t' : Trial) → held_at ts ticket ≡ Some t
     → t'.module_number ≡ t.module_number → CountUsers us ms ts → CountUsers us ms (with_held ts ticket (Some t'))
 trial_again us ms ts ticket t t' held same h =
     let a : Around ts ticket t = around ts ticket t held in
@@ -248,7 +249,7 @@ length_held (None ∷ xs) = omega (arith, length_held xs)
 length_held (Some x ∷ xs) = omega (arith, length_held xs)
 
 -- the count at the number of a module that is held is that of its users
-pub count_is : (us : List ℕ) (ms : List (Option Stored)) (ts : List (Option Trial)) (n : ℕ) → IsSome (held_at ms n) → CountUsers us ms ts
+pub count_is : (us : List ℕ) (ms : List (Option ReadModule)) (ts : List (Option Trial)) (n : ℕ) → IsSome (held_at ms n) → CountUsers us ms ts
     → slice_index us (n - 1) ≡ count_by (λ t. t.module_number == n) (all_held ts)
 count_is us ms ts n held h =
     let w : (1 ≤ n) × (n ≤ length ms) = held_within ms n held in
@@ -256,12 +257,12 @@ count_is us ms ts n held h =
     value_at us (λ i. sum_by (uses (suc i)) (all_held ts)) (n - 1) h.exact (omega (arith, w.0, w.1, h.counted))
     ∙ ap (λ k. sum_by (uses k) (all_held ts)) (sym own)
 
-pub number_within : (us : List ℕ) (ms : List (Option Stored)) (ts : List (Option Trial)) (n : ℕ) → IsSome (held_at ms n) → CountUsers us ms ts → (1 ≤ n) × (n ≤ length us)
+pub number_within : (us : List ℕ) (ms : List (Option ReadModule)) (ts : List (Option Trial)) (n : ℕ) → IsSome (held_at ms n) → CountUsers us ms ts → (1 ≤ n) × (n ≤ length us)
 number_within us ms ts n held h =
     let w : (1 ≤ n) × (n ≤ length ms) = held_within ms n held in
     (w.0, omega (arith, w.1, h.counted))
 
 -- it is at most as large as there are numbers of trials
-pub counted_fits : (us : List ℕ) (ms : List (Option Stored)) (ts : List (Option Trial)) (n : ℕ) → IsSome (held_at ms n) → CountUsers us ms ts → slice_index us (n - 1) ≤ length ts
+pub counted_fits : (us : List ℕ) (ms : List (Option ReadModule)) (ts : List (Option Trial)) (n : ℕ) → IsSome (held_at ms n) → CountUsers us ms ts → slice_index us (n - 1) ≤ length ts
 counted_fits us ms ts n held h =
     omega (arith, count_is us ms ts n held h, count_by-le-length (λ t. t.module_number == n) (all_held ts), length_held ts)

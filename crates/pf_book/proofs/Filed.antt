@@ -1,16 +1,19 @@
 -- What a desk keeps is kept where a worker files what came of a trial.
 use Rattle.std.proofs.Common.{◌≡◌, ℕ, zero, suc, Bool, true, false, List, [], ◌∷◌, ◌++◌, length, map, Option, Some, None, refl, sym, ap, ◌∙◌, subst}
-use Rattle.std.specs.Prelude.{if◌then◌else◌, option_and_then, slice_get, slice_set}
+use Rattle.std.specs.Prelude.{if◌then◌else◌, IfSome, option_and_then, slice_get, slice_set}
 use Rattle.std.specs.Option.{option_map, option_flatten}
 use Rattle.pf_quota.specs.declared.charges.Held.{Held}
 use Rattle.pf_quota.specs.declared.charges.Held.TheVariants as held
 use Rattle.pf_quota.specs.Charges.{steps_of_trial}
 use Rattle.pf_quota.specs.Usage.{usage_of}
 use Rattle.pf_model.specs.Shrinking.{Result}
-use Rattle.pf_desks.specs.Desk.{Profile, Stored, Job, State, queued, running, done, Trial, Desk, claimed, filed, marked_whole, held_at, with_held, all_held}
+use Rattle.pf_request.specs.Job.{Job}
+use Rattle.pf_request.specs.Module.{ReadModule}
+use Rattle.pf_desks.specs.Desk.{Profile, State, queued, running, done, Trial, Desk, claimed, filed, marked_whole, held_at, with_held, all_held}
 use Rattle.pf_desks.specs.Calls.{calls_in, usage_in}
 use Rattle.pf_desks.specs.Work.{is_queued_state, is_queued, is_running, in_state, with_state, after_claim, after_file, file_step, once, worker_step}
 use Rattle.pf_book.specs.Queued.{job_in_state, job_of_trial, job_at}
+use Rattle.pf_book.specs.Trials.{JobAt}
 use Rattle.pf_book.specs.Users.{CountUsers}
 use Rattle.pf_book.proofs.Counted.{trial_again}
 use Rattle.pf_book.proofs.Sums.{calls_claimed, calls_filed, trial_same}
@@ -86,6 +89,12 @@ no_job (Some x) h = by x.state h
 pub none_waiting : (ts : List (Option Trial)) (t : ℕ) → job_at ts t ≡ None → is_queued (held_at ts t) ≡ false
 none_waiting ts t h = no_job (held_at ts t) h
 
+-- a trial that has a job that waits is of that job
+pub own_job : (ts : List (Option Trial)) (t : ℕ) (j k : Job) → job_at ts t ≡ Some j → k ≡ j → JobAt ts t k
+own_job ts t j k h same =
+    let w : Waits (held_at ts t) j = waits_of (held_at ts t) j h in
+    subst (λ (o : Option Trial). IfSome o (λ x. k ≡ x.job)) (sym w.is) (same ∙ sym w.job)
+
 queued_so : (o : Option Trial) (j : Job) → Waits o j → is_queued o ≡ true
 queued_so o j w = ap is_queued w.is ∙ ap is_queued_state w.state
 
@@ -93,11 +102,11 @@ queued_so o j w = ap is_queued w.is ∙ ap is_queued_state w.state
 pub is_waiting : (ts : List (Option Trial)) (t : ℕ) (j : Job) → job_at ts t ≡ Some j → is_queued (held_at ts t) ≡ true
 is_waiting ts t j h = queued_so (held_at ts t) j (waits_of (held_at ts t) j h)
 
-abbrev held_module : Stored → Held
+abbrev held_module : ReadModule → Held
 held_module m = held.Module (length m.source)
 
 abbrev held_trial : Trial → Held
-held_trial t = held.Trial (steps_of_trial t.job.limit t.job.runs)
+held_trial t = held.Trial (steps_of_trial t.job.asked.limit t.job.asked.runs)
 
 -- ---- claim and file
 
@@ -119,11 +128,11 @@ module _ (d : Desk) (j : Job) (r : Result) (t : ℕ) (waits : job_at d.trials t 
   abbrev now : Trial
   now = in_state (λ _. done r) w.trial
 
-  filed_trials : (p : Profile) → p.meaning j ≡ r → (after_once p d t).trials ≡ with_state d.trials t (λ _. done r)
+  filed_trials : (p : Profile) → p.meaning j.asked ≡ r → (after_once p d t).trials ≡ with_state d.trials t (λ _. done r)
   filed_trials p means =
-      state_again d.trials t w.trial (λ _. running) (λ k. done (p.meaning k)) w.is
-      ∙ state_set d.trials t w.trial (λ k. done (p.meaning k)) w.is
-      ∙ ap (λ (s : Result). with_held d.trials t (Some (record w.trial { state = done s }))) (ap p.meaning w.job ∙ means)
+      state_again d.trials t w.trial (λ _. running) (λ k. done (p.meaning k.asked)) w.is
+      ∙ state_set d.trials t w.trial (λ k. done (p.meaning k.asked)) w.is
+      ∙ ap (λ (s : Result). with_held d.trials t (Some (record w.trial { state = done s }))) (ap (λ (k : Job). p.meaning k.asked) w.job ∙ means)
       ∙ sym (state_set d.trials t w.trial (λ _. done r) w.is)
 
   filed_held : with_state d.trials t (λ _. done r) ≡ with_held d.trials t (Some now)
@@ -132,7 +141,7 @@ module _ (d : Desk) (j : Job) (r : Result) (t : ℕ) (waits : job_at d.trials t 
   module _ (d' : Desk) (edition : d'.edition ≡ d.edition) (modules : d'.modules ≡ d.modules) (trials : d'.trials ≡ with_state d.trials t (λ _. done r))
       (history : d'.history ≡ (d.history ++ claimed t ∷ []) ++ filed t marked_whole ∷ []) where
     -- it is the one that the worker's step leads to
-    pub once_is : (p : Profile) → p.meaning j ≡ r → worker_step p d (once t) ≡ Some d'
+    pub once_is : (p : Profile) → p.meaning j.asked ≡ r → worker_step p d (once t) ≡ Some d'
     once_is p means =
         let set = trials ∙ sym (filed_trials p means) in
         let same : d' ≡ after_once p d t = λ k. record { edition = edition k; modules = modules k; trials = set k; history = history k } in
@@ -147,5 +156,5 @@ module _ (d : Desk) (j : Job) (r : Result) (t : ℕ) (waits : job_at d.trials t 
         λ k. usage_of (map held_module (all_held (modules k)) ++ held k) (calls k)
 
   -- as many held trials use each module
-  pub once_users : (us : List ℕ) (ms : List (Option Stored)) → CountUsers us ms d.trials → CountUsers us ms (with_state d.trials t (λ _. done r))
+  pub once_users : (us : List ℕ) (ms : List (Option ReadModule)) → CountUsers us ms d.trials → CountUsers us ms (with_state d.trials t (λ _. done r))
   once_users us ms h = subst (λ (l : List (Option Trial)). CountUsers us ms l) (sym filed_held) (trial_again us ms d.trials t w.trial now w.is refl h)

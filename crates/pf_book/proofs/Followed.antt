@@ -5,8 +5,9 @@ use Rattle.std.specs.Str.{bytes_eq}
 use Rattle.std.proofs.lemmas.Bool.Decides.{same_from_decides}
 use Rattle.std.proofs.lemmas.List.Sums.{sum_by-append, sum_by-cons}
 use Rattle.std.proofs.lemmas.Slice.Eq.{bytes_eq-Decides}
+use Rattle.pf_request.specs.Module.{ReadModule}
 use Rattle.pf_store.specs.Sources.{Kept, holders, HeldOnceMore, HeldOnceLess}
-use Rattle.pf_desks.specs.Desk.{Desk, Stored, held_at, with_held}
+use Rattle.pf_desks.specs.Desk.{Desk, held_at, with_held}
 use Rattle.pf_book.specs.Kept.{modules_of, Counts, FollowsDesk}
 use Rattle.pf_book.specs.Plans.{with_change, KeepsModules}
 use Rattle.pf_book.specs.declared.plan.Change.{Change}
@@ -23,12 +24,12 @@ bytes_eq_same : (a : List ℕ) → bytes_eq a a ≡ true
 bytes_eq_same a = (bytes_eq-Decides a a).1 refl
 
 -- one module more of its source, and as many of each other
-one_of : (d : Desk) (ms : List (Option Stored)) (m : Stored) → OneMore d.modules ms m → (source : List ℕ)
+one_of : (d : Desk) (ms : List (Option ReadModule)) (m : ReadModule) → OneMore d.modules ms m → (source : List ℕ)
     → modules_of source (record d { modules = ms }) ≡ modules_of source d + cond (bytes_eq source m.source) 1 0
 one_of d ms m one source =
-    let f : Stored → ℕ = λ m. cond (bytes_eq source m.source) 1 0 in
-    let more = ap (λ (l : List Stored). sum_by f l) one.more in
-    let less = ap (λ (l : List Stored). sum_by f l) one.less in
+    let f : ReadModule → ℕ = λ m. cond (bytes_eq source m.source) 1 0 in
+    let more = ap (λ (l : List ReadModule). sum_by f l) one.more in
+    let less = ap (λ (l : List ReadModule). sum_by f l) one.less in
     omega (arith, more, less, sum_by-append f one.before (m ∷ one.after), sum_by-cons f m one.after, sum_by-append f one.before one.after)
 
 turned : (source s : List ℕ) → ◌≡◌ {A = ℕ} (if bytes_eq source s then 1 else 0) (cond (bytes_eq s source) 1 0)
@@ -44,11 +45,11 @@ module _ (d : Desk) where
   follows_back k k' k'' source more less s = omega (arith, more s, less s)
 
   -- a module more
-  pub follows_module : (k k' : Kept) (m : Stored) → HeldOnceMore m.source k k' → FollowsDesk k d k' (record d { modules = d.modules ++ Some m ∷ [] })
+  pub follows_module : (k k' : Kept) (m : ReadModule) → HeldOnceMore m.source k k' → FollowsDesk k d k' (record d { modules = d.modules ++ Some m ∷ [] })
   follows_module k k' m more s =
       omega (arith, more s, turned m.source s, one_of d (d.modules ++ Some m ∷ []) m (one_pushed d.modules m) s)
 
-  module _ (n : ℕ) (m : Stored) (h : held_at d.modules n ≡ Some m) where
+  module _ (n : ℕ) (m : ReadModule) (h : held_at d.modules n ≡ Some m) where
     abbrev d' : Desk
     d' = record d { modules = with_held d.modules n None }
 

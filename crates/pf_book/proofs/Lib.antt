@@ -3,7 +3,6 @@ pub mod Counted
 pub mod Sums
 pub mod Followed
 pub mod Profiles
-pub mod Orders
 pub mod Planned
 pub mod Called
 pub mod Filed

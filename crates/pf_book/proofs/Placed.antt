@@ -5,7 +5,8 @@ use Rattle.std.specs.Map.{lookup, set_value}
 use Rattle.std.proofs.lemmas.Map.Steps.{set_value_same}
 use Rattle.indexmap.specs.IndexMap.{insert_entry}
 use Rattle.pf_fault.specs.declared.memory.NoMemory.{NoMemory}
-use Rattle.pf_desks.specs.Desk.{Profile, Desk, no_desk, Call, marked_whole, held_at}
+use Rattle.pf_request.specs.Calls.{Call}
+use Rattle.pf_desks.specs.Desk.{Profile, Desk, no_desk, marked_whole, held_at}
 use Rattle.pf_desks.specs.Calls.{HasRoom, reply_to, after_call}
 use Rattle.pf_desks.specs.Work.{is_queued, after_claim, file_step, once, worker_step}
 use Rattle.pf_desks.specs.History.{IsLegalDesk}

@@ -13,20 +13,23 @@ use Rattle.pf_quota.specs.Charges.{steps_of_trial}
 use Rattle.pf_quota.specs.Checks.{refusal_of}
 use Rattle.pf_quota.specs.Refusals as quota
 use Rattle.pf_quota.specs.Usage.{charged, refunded}
-use Rattle.pf_check.specs.Reads.{accepted, refused, Reads}
+use Rattle.pf_check.specs.Reads.{refused, Reads}
 use Rattle.pf_model.specs.Limits.{IsEdition}
+use Rattle.pf_request.specs.Calls as calls
+use Rattle.pf_request.specs.Calls.{Call}
+use Rattle.pf_request.specs.Job.{Job}
+use Rattle.pf_request.specs.Module.{ReadModule}
+use Rattle.pf_request.specs.View.{view_of_order}
+use Rattle.pf_module.specs.Reading.{IsReadAs}
 use Rattle.pf_desks.specs.Desk as desk
-use Rattle.pf_desks.specs.Desk.{Profile, Desk, Stored, Job, Trial, job_of, held_at, with_held}
+use Rattle.pf_desks.specs.Desk.{Profile, Desk, Trial, held_at, with_held}
 use Rattle.pf_desks.specs.Calls.{answered, within_limits, passed_by, submitted, ordered, dropped, withdrawn, with_job, users_of, is_edition, in_edition, usage_in}
-use Rattle.pf_sched.specs.Views.{choices_in, runs_asked}
-use Rattle.pf_sched.specs.declared.choices.JobKind.{JobKind}
-use Rattle.pf_sched.specs.declared.choices.JobKind.TheVariants as kind
-use Rattle.pf_book.specs.declared.call.Order.{Order}
+use Rattle.pf_request.specs.declared.call.Order.{Order}
 use Rattle.pf_book.specs.declared.plan.Plan.{Plan}
 use Rattle.pf_book.specs.Orders.{Asked}
 use Rattle.pf_book.specs.Plans.{with_change, IsPlan, IsCharged}
 use Rattle.pf_book.specs.Profile.{ForRight}
-use Rattle.pf_book.specs.View.{ordered_as, order_seen, entry_seen, reply_seen}
+use Rattle.pf_book.specs.View.{view_of_entry, reply_seen}
 use Rattle.pf_book.proofs.Profiles.{submitted_read, submitted_refused}
 use Rattle.pf_book.proofs.Sums.{module_charged, module_refunded, trial_charged, trial_refunded}
 
@@ -35,8 +38,8 @@ Answer = Desk × desk.Reply
 
 module _ (d : Desk) (u : Usage) (counts : IsCharged d u) (plan : Plan) where
   -- a plan that changes nothing
-  pub alone : (c : desk.Call) (r : desk.Reply) → with_change d plan.change ≡ d → reply_seen plan.reply ≡ r → plan.usage ≡ u
-      → ForRight (λ p. ◌≡◌ {A = Answer} (answered p d c) (d, r)) → entry_seen plan.noted ≡ desk.called c r → IsPlan d c plan
+  pub alone : (c : Call) (r : desk.Reply) → with_change d plan.change ≡ d → reply_seen plan.reply ≡ r → plan.usage ≡ u
+      → ForRight (λ p. ◌≡◌ {A = Answer} (answered p d c) (d, r)) → view_of_entry plan.noted ≡ desk.called c r → IsPlan d c plan
   alone c r same told uses so noted = record {
     answers = λ p right. (λ i. (same i, told i)) ∙ sym (so p right);
     notes = noted ∙ ap (desk.called c) (sym told);
@@ -44,9 +47,9 @@ module _ (d : Desk) (u : Usage) (counts : IsCharged d u) (plan : Plan) where
   }
 
   -- a plan that leads to another desk
-  changed : (c : desk.Call) (d' : Desk) (r : desk.Reply) → with_change d plan.change ≡ d' → reply_seen plan.reply ≡ r
+  changed : (c : Call) (d' : Desk) (r : desk.Reply) → with_change d plan.change ≡ d' → reply_seen plan.reply ≡ r
       → plan.usage ≡ charged (usage_in d') charge.Call
-      → ForRight (λ p. ◌≡◌ {A = Answer} (answered p d c) (d', r)) → entry_seen plan.noted ≡ desk.called c r → IsPlan d c plan
+      → ForRight (λ p. ◌≡◌ {A = Answer} (answered p d c) (d', r)) → view_of_entry plan.noted ≡ desk.called c r → IsPlan d c plan
   changed c d' r leads told uses so noted = record {
     answers = λ p right. (λ i. (leads i, told i)) ∙ sym (so p right);
     notes = noted ∙ ap (desk.called c) (sym told);
@@ -56,29 +59,29 @@ module _ (d : Desk) (u : Usage) (counts : IsCharged d u) (plan : Plan) where
   -- ---- drops and withdrawals
 
   pub drop_planned : (t : ℕ) (x : Trial) → held_at d.trials t ≡ Some x → with_change d plan.change ≡ record d { trials = with_held d.trials t None }
-      → reply_seen plan.reply ≡ desk.given_up → entry_seen plan.noted ≡ desk.called (desk.drop_trial t) desk.given_up
-      → plan.usage ≡ refunded u (held.Trial (steps_of_trial x.job.limit x.job.runs)) → IsPlan d (desk.drop_trial t) plan
+      → reply_seen plan.reply ≡ desk.given_up → view_of_entry plan.noted ≡ desk.called (calls.drop_trial t) desk.given_up
+      → plan.usage ≡ refunded u (held.Trial (steps_of_trial x.job.asked.limit x.job.asked.runs)) → IsPlan d (calls.drop_trial t) plan
   drop_planned t x h leads told noted uses =
-      changed (desk.drop_trial t) (record d { trials = with_held d.trials t None }) desk.given_up leads told
-      (uses ∙ ap (λ (v : Usage). refunded v (held.Trial (steps_of_trial x.job.limit x.job.runs))) counts ∙ ap (λ (v : Usage). charged v charge.Call) (trial_refunded d t x h))
+      changed (calls.drop_trial t) (record d { trials = with_held d.trials t None }) desk.given_up leads told
+      (uses ∙ ap (λ (v : Usage). refunded v (held.Trial (steps_of_trial x.job.asked.limit x.job.asked.runs))) counts ∙ ap (λ (v : Usage). charged v charge.Call) (trial_refunded d t x h))
       (λ p right. ap (dropped d t) h) noted
 
-  pub withdrawal_planned : (n : ℕ) (m : Stored) → held_at d.modules n ≡ Some m → users_of d n ≡ 0
+  pub withdrawal_planned : (n : ℕ) (m : ReadModule) → held_at d.modules n ≡ Some m → users_of d n ≡ 0
       → with_change d plan.change ≡ record d { modules = with_held d.modules n None }
-      → reply_seen plan.reply ≡ desk.given_up → entry_seen plan.noted ≡ desk.called (desk.withdraw n) desk.given_up
-      → plan.usage ≡ refunded u (held.Module (length m.source)) → IsPlan d (desk.withdraw n) plan
+      → reply_seen plan.reply ≡ desk.given_up → view_of_entry plan.noted ≡ desk.called (calls.withdraw n) desk.given_up
+      → plan.usage ≡ refunded u (held.Module (length m.source)) → IsPlan d (calls.withdraw n) plan
   withdrawal_planned n m h free leads told noted uses =
-      changed (desk.withdraw n) (record d { modules = with_held d.modules n None }) desk.given_up leads told
+      changed (calls.withdraw n) (record d { modules = with_held d.modules n None }) desk.given_up leads told
       (uses ∙ ap (λ (v : Usage). refunded v (held.Module (length m.source))) counts ∙ ap (λ (v : Usage). charged v charge.Call) (module_refunded d n m h))
-      (λ p right. ap (λ (o : Option Stored). withdrawn d n o (users_of d n)) h ∙ ap (withdrawn d n (Some m)) free) noted
+      (λ p right. ap (λ (o : Option ReadModule). withdrawn d n o (users_of d n)) h ∙ ap (withdrawn d n (Some m)) free) noted
 
   -- a module that a held trial uses isn't withdrawn
-  pub withdrawal_in_use : (n : ℕ) (m : Stored) → held_at d.modules n ≡ Some m → 0 < users_of d n → with_change d plan.change ≡ d
+  pub withdrawal_in_use : (n : ℕ) (m : ReadModule) → held_at d.modules n ≡ Some m → 0 < users_of d n → with_change d plan.change ≡ d
       → reply_seen plan.reply ≡ desk.refused fault.ModuleInUse → plan.usage ≡ u
-      → entry_seen plan.noted ≡ desk.called (desk.withdraw n) (desk.refused fault.ModuleInUse) → IsPlan d (desk.withdraw n) plan
+      → view_of_entry plan.noted ≡ desk.called (calls.withdraw n) (desk.refused fault.ModuleInUse) → IsPlan d (calls.withdraw n) plan
   withdrawal_in_use n m h some same told uses noted =
-      alone (desk.withdraw n) (desk.refused fault.ModuleInUse) same told uses
-      (λ p right. ap (λ (o : Option Stored). withdrawn d n o (users_of d n)) h ∙ by (users_of d n) some) noted
+      alone (calls.withdraw n) (desk.refused fault.ModuleInUse) same told uses
+      (λ p right. ap (λ (o : Option ReadModule). withdrawn d n o (users_of d n)) h ∙ by (users_of d n) some) noted
     where
       by : (k : ℕ) → 0 < k → ◌≡◌ {A = Answer} (withdrawn d n (Some m) k) (d, desk.refused fault.ModuleInUse)
       by zero k = absurd (omega arith)
@@ -98,28 +101,28 @@ module _ (d : Desk) (u : Usage) (counts : IsCharged d u) (plan : Plan) where
   module _ (text : List ℕ) where
     pub source_past_limit : (limit : Limit) → refusal_of d.edition u (charge.Module (length text)) ≡ Some limit → with_change d plan.change ≡ d
         → reply_seen plan.reply ≡ desk.refused (quota.code_of limit) → plan.usage ≡ u
-        → entry_seen plan.noted ≡ desk.called (desk.submit text) (desk.refused (quota.code_of limit)) → IsPlan d (desk.submit text) plan
+        → view_of_entry plan.noted ≡ desk.called (calls.submit text) (desk.refused (quota.code_of limit)) → IsPlan d (calls.submit text) plan
     source_past_limit limit past same told uses noted =
-        alone (desk.submit text) (desk.refused (quota.code_of limit)) same told uses
+        alone (calls.submit text) (desk.refused (quota.code_of limit)) same told uses
         (λ p right. ap (λ (o : Option Code). within_limits d o (submitted d text (p.reading text))) (module_limit (length text) (Some limit) past)) noted
 
     module _ (within : refusal_of d.edition u (charge.Module (length text)) ≡ None) where
-      no_limit : (p : Profile) → ◌≡◌ {A = Answer} (answered p d (desk.submit text)) (submitted d text (p.reading text))
+      no_limit : (p : Profile) → ◌≡◌ {A = Answer} (answered p d (calls.submit text)) (submitted d text (p.reading text))
       no_limit p = ap (λ (o : Option Code). within_limits d o (submitted d text (p.reading text))) (module_limit (length text) None within)
 
       pub source_no_module : (code : Code) (place : ℕ) → Reads text (refused code place) → with_change d plan.change ≡ d
           → reply_seen plan.reply ≡ desk.refused code → plan.usage ≡ u
-          → entry_seen plan.noted ≡ desk.called (desk.submit text) (desk.refused code) → IsPlan d (desk.submit text) plan
+          → view_of_entry plan.noted ≡ desk.called (calls.submit text) (desk.refused code) → IsPlan d (calls.submit text) plan
       source_no_module code place reads same told uses noted =
-          alone (desk.submit text) (desk.refused code) same told uses
+          alone (calls.submit text) (desk.refused code) same told uses
           (λ p right. no_limit p ∙ sym (submitted_refused p right d text code place reads)) noted
 
-      pub source_planned : (s : Stored) → s.source ≡ text → Reads text (accepted s.code.name s.code.atoms s.code.functions)
+      pub source_planned : (s : ReadModule) → s.source ≡ text → IsReadAs text s
           → with_change d plan.change ≡ record d { modules = d.modules ++ Some s ∷ [] }
           → reply_seen plan.reply ≡ desk.number (length d.modules + 1) → plan.usage ≡ charged u (charge.Module (length text))
-          → entry_seen plan.noted ≡ desk.called (desk.submit text) (desk.number (length d.modules + 1)) → IsPlan d (desk.submit text) plan
+          → view_of_entry plan.noted ≡ desk.called (calls.submit text) (desk.number (length d.modules + 1)) → IsPlan d (calls.submit text) plan
       source_planned s same reads leads told uses noted =
-          changed (desk.submit text) (record d { modules = d.modules ++ Some s ∷ [] }) (desk.number (length d.modules + 1)) leads told
+          changed (calls.submit text) (record d { modules = d.modules ++ Some s ∷ [] }) (desk.number (length d.modules + 1)) leads told
           (uses
           ∙ ap (λ (v : Usage). charged v (charge.Module (length text))) counts
           ∙ ap (λ (l : List ℕ). charged (charged (usage_in d) (charge.Module (length l))) charge.Call) (sym same)
@@ -129,46 +132,36 @@ module _ (d : Desk) (u : Usage) (counts : IsCharged d u) (plan : Plan) where
   -- ---- orders
 
   module _ (o : Order) where
-    -- what an order is answered with, a shrinking too
-    order_answered : (p : Profile) → ◌≡◌ {A = Answer} (answered p d (order_seen o))
-        (ordered d o.module (job_of p d.edition (held_at d.modules o.module) o.root.items o.property.items (choices_in o.kind) o.limit (runs_asked o.kind)))
-    order_answered p = by o.kind
-      where
-        by : (k : JobKind) → ◌≡◌ {A = Answer} (answered p d (ordered_as o.module o.root.items o.property.items k o.limit))
-            (ordered d o.module (job_of p d.edition (held_at d.modules o.module) o.root.items o.property.items (choices_in k) o.limit (runs_asked k)))
-        by (kind.Trial cs) = refl
-        by (kind.Shrinking numbers runs) = refl
-
-    asked_answered : (r : Result Job Code) → Asked d.edition d.modules o r → ForRight (λ p. ◌≡◌ {A = Answer} (answered p d (order_seen o)) (ordered d o.module r))
-    asked_answered r asked p right = order_answered p ∙ ap (ordered d o.module) (asked p right)
+    asked_answered : (r : Result Job Code) → Asked d.edition d.modules o r → ForRight (λ p. ◌≡◌ {A = Answer} (answered p d (view_of_order o)) (ordered d o.module r))
+    asked_answered r asked p right = ap (ordered d o.module) (asked p right)
 
     pub order_refused : (code : Code) → Asked d.edition d.modules o (Err code) → with_change d plan.change ≡ d
         → reply_seen plan.reply ≡ desk.refused code → plan.usage ≡ u
-        → entry_seen plan.noted ≡ desk.called (order_seen o) (desk.refused code) → IsPlan d (order_seen o) plan
+        → view_of_entry plan.noted ≡ desk.called (view_of_order o) (desk.refused code) → IsPlan d (view_of_order o) plan
     order_refused code asked same told uses noted =
-        alone (order_seen o) (desk.refused code) same told uses (asked_answered (Err code) asked) noted
+        alone (view_of_order o) (desk.refused code) same told uses (asked_answered (Err code) asked) noted
 
     module _ (j : Job) (asked : Asked d.edition d.modules o (Ok j)) where
-      pub order_past_limit : (limit : Limit) → refusal_of d.edition u (charge.Trial (steps_of_trial j.limit j.runs)) ≡ Some limit → with_change d plan.change ≡ d
+      pub order_past_limit : (limit : Limit) → refusal_of d.edition u (charge.Trial (steps_of_trial j.asked.limit j.asked.runs)) ≡ Some limit → with_change d plan.change ≡ d
           → reply_seen plan.reply ≡ desk.refused (quota.code_of limit) → plan.usage ≡ u
-          → entry_seen plan.noted ≡ desk.called (order_seen o) (desk.refused (quota.code_of limit)) → IsPlan d (order_seen o) plan
+          → view_of_entry plan.noted ≡ desk.called (view_of_order o) (desk.refused (quota.code_of limit)) → IsPlan d (view_of_order o) plan
       order_past_limit limit past same told uses noted =
-          alone (order_seen o) (desk.refused (quota.code_of limit)) same told uses
+          alone (view_of_order o) (desk.refused (quota.code_of limit)) same told uses
           (λ p right. asked_answered (Ok j) asked p right
           ∙ ap (λ (x : Option Code). within_limits d x (with_job d o.module j, desk.ticket (length d.trials + 1)))
-          (trial_limit (steps_of_trial j.limit j.runs) (Some limit) past)) noted
+          (trial_limit (steps_of_trial j.asked.limit j.asked.runs) (Some limit) past)) noted
 
-      pub order_planned : refusal_of d.edition u (charge.Trial (steps_of_trial j.limit j.runs)) ≡ None → with_change d plan.change ≡ with_job d o.module j
-          → reply_seen plan.reply ≡ desk.ticket (length d.trials + 1) → plan.usage ≡ charged u (charge.Trial (steps_of_trial j.limit j.runs))
-          → entry_seen plan.noted ≡ desk.called (order_seen o) (desk.ticket (length d.trials + 1)) → IsPlan d (order_seen o) plan
+      pub order_planned : refusal_of d.edition u (charge.Trial (steps_of_trial j.asked.limit j.asked.runs)) ≡ None → with_change d plan.change ≡ with_job d o.module j
+          → reply_seen plan.reply ≡ desk.ticket (length d.trials + 1) → plan.usage ≡ charged u (charge.Trial (steps_of_trial j.asked.limit j.asked.runs))
+          → view_of_entry plan.noted ≡ desk.called (view_of_order o) (desk.ticket (length d.trials + 1)) → IsPlan d (view_of_order o) plan
       order_planned within leads told uses noted =
-          changed (order_seen o) (with_job d o.module j) (desk.ticket (length d.trials + 1)) leads told
+          changed (view_of_order o) (with_job d o.module j) (desk.ticket (length d.trials + 1)) leads told
           (uses
-          ∙ ap (λ (v : Usage). charged v (charge.Trial (steps_of_trial j.limit j.runs))) counts
+          ∙ ap (λ (v : Usage). charged v (charge.Trial (steps_of_trial j.asked.limit j.asked.runs))) counts
           ∙ ap (λ (v : Usage). charged v charge.Call) (trial_charged d (record { module_number = o.module; job = j; state = desk.queued })))
           (λ p right. asked_answered (Ok j) asked p right
           ∙ ap (λ (x : Option Code). within_limits d x (with_job d o.module j, desk.ticket (length d.trials + 1)))
-          (trial_limit (steps_of_trial j.limit j.runs) None within)) noted
+          (trial_limit (steps_of_trial j.asked.limit j.asked.runs) None within)) noted
 
   -- ---- editions
 
@@ -185,21 +178,21 @@ module _ (d : Desk) (u : Usage) (counts : IsCharged d u) (plan : Plan) where
 
   module _ (e : ℕ) where
     pub no_such_edition : is_edition e ≡ false → with_change d plan.change ≡ d → reply_seen plan.reply ≡ desk.refused fault.NoEdition
-        → plan.usage ≡ u → entry_seen plan.noted ≡ desk.called (desk.edition e) (desk.refused fault.NoEdition) → IsPlan d (desk.edition e) plan
+        → plan.usage ≡ u → view_of_entry plan.noted ≡ desk.called (calls.edition e) (desk.refused fault.NoEdition) → IsPlan d (calls.edition e) plan
     no_such_edition there same told uses noted =
-        alone (desk.edition e) (desk.refused fault.NoEdition) same told uses (λ p right. edition_so e false (nat_lt e d.edition) there refl) noted
+        alone (calls.edition e) (desk.refused fault.NoEdition) same told uses (λ p right. edition_so e false (nat_lt e d.edition) there refl) noted
 
     module _ (there : is_edition e ≡ true) where
       pub edition_below : nat_lt e d.edition ≡ true → with_change d plan.change ≡ d → reply_seen plan.reply ≡ desk.refused fault.EditionTooLow
-          → plan.usage ≡ u → entry_seen plan.noted ≡ desk.called (desk.edition e) (desk.refused fault.EditionTooLow) → IsPlan d (desk.edition e) plan
+          → plan.usage ≡ u → view_of_entry plan.noted ≡ desk.called (calls.edition e) (desk.refused fault.EditionTooLow) → IsPlan d (calls.edition e) plan
       edition_below below same told uses noted =
-          alone (desk.edition e) (desk.refused fault.EditionTooLow) same told uses (λ p right. edition_so e true true there below) noted
+          alone (calls.edition e) (desk.refused fault.EditionTooLow) same told uses (λ p right. edition_so e true true there below) noted
 
       pub edition_planned : nat_lt e d.edition ≡ false → with_change d plan.change ≡ record d { edition = e }
           → reply_seen plan.reply ≡ desk.has_edition → plan.usage ≡ u
-          → entry_seen plan.noted ≡ desk.called (desk.edition e) desk.has_edition → IsPlan d (desk.edition e) plan
+          → view_of_entry plan.noted ≡ desk.called (calls.edition e) desk.has_edition → IsPlan d (calls.edition e) plan
       edition_planned above leads told uses noted =
-          changed (desk.edition e) (record d { edition = e }) desk.has_edition leads told (uses ∙ counts)
+          changed (calls.edition e) (record d { edition = e }) desk.has_edition leads told (uses ∙ counts)
           (λ p right. edition_so e true false there above) noted
 
 -- there is an edition that is 1 or 2

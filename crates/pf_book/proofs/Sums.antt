@@ -8,7 +8,9 @@ use Rattle.pf_quota.specs.declared.charges.Held.TheVariants as held
 use Rattle.pf_quota.specs.declared.charges.Charge.TheVariants as charge
 use Rattle.pf_quota.specs.Charges.{steps_of_trial}
 use Rattle.pf_quota.specs.Usage.{usage_of, charged, refunded, Covers, charge_of, module_count, byte_count, trial_count, step_count}
-use Rattle.pf_desks.specs.Desk.{Stored, Trial, Mark, Desk, Entry, Call, Reply, called, claimed, filed, handed_back, held_at, with_held, all_held}
+use Rattle.pf_request.specs.Calls.{Call}
+use Rattle.pf_request.specs.Module.{ReadModule}
+use Rattle.pf_desks.specs.Desk.{Trial, Mark, Desk, Entry, Reply, called, claimed, filed, handed_back, held_at, with_held, all_held}
 use Rattle.pf_desks.specs.Calls.{calls_in, held_by, usage_in}
 use Rattle.pf_book.proofs.Held.{OneMore, one_pushed, one_gone, Around, around}
 
@@ -91,11 +93,11 @@ among n less more before after x is is' = record {
 
 -- ---- modules and trials of a desk
 
-abbrev held_module : Stored → Held
+abbrev held_module : ReadModule → Held
 held_module m = held.Module (length m.source)
 
 abbrev held_trial : Trial → Held
-held_trial t = held.Trial (steps_of_trial t.job.limit t.job.runs)
+held_trial t = held.Trial (steps_of_trial t.job.asked.limit t.job.asked.runs)
 
 split_front : {X : Type 0} (f : X → Held) (b a : List X) (x : X) (rest : List Held) → map f (b ++ x ∷ a) ++ rest ≡ map f b ++ f x ∷ (map f a ++ rest)
 split_front f [] a x rest = refl
@@ -116,13 +118,13 @@ join_back f (y ∷ b) a [] = ap (λ (l : List Held). f y ∷ l) (join_back f b a
 join_back f b a (z ∷ front) = ap (λ (l : List Held). z ∷ l) (join_back f b a front)
 
 -- a desk with one module more than another
-module _ (d : Desk) (ms : List (Option Stored)) (m : Stored) (one : OneMore d.modules ms m) where
+module _ (d : Desk) (ms : List (Option ReadModule)) (m : ReadModule) (one : OneMore d.modules ms m) where
   modules_among : Among (calls_in d.history) (held_by d) (held_by (record d { modules = ms })) (held_module m)
   modules_among =
       let ts = map held_trial (all_held d.trials) in
       among (calls_in d.history) (held_by d) (held_by (record d { modules = ms })) (map held_module one.before) (map held_module one.after ++ ts) (held_module m)
-      (ap (λ (l : List Stored). map held_module l ++ ts) one.less ∙ join_front held_module one.before one.after ts)
-      (ap (λ (l : List Stored). map held_module l ++ ts) one.more ∙ split_front held_module one.before one.after m ts)
+      (ap (λ (l : List ReadModule). map held_module l ++ ts) one.less ∙ join_front held_module one.before one.after ts)
+      (ap (λ (l : List ReadModule). map held_module l ++ ts) one.more ∙ split_front held_module one.before one.after m ts)
 
 -- a desk with one trial more than another
 module _ (d : Desk) (ts : List (Option Trial)) (t : Trial) (one : OneMore d.trials ts t) where
@@ -134,13 +136,13 @@ module _ (d : Desk) (ts : List (Option Trial)) (t : Trial) (one : OneMore d.tria
       (ap (λ (l : List Trial). ms ++ map held_trial l) one.more ∙ split_back held_trial one.before one.after t ms)
 
 module _ (d : Desk) where
-  pub module_charged : (m : Stored) → charged (usage_in d) (charge.Module (length m.source)) ≡ usage_in (record d { modules = d.modules ++ Some m ∷ [] })
+  pub module_charged : (m : ReadModule) → charged (usage_in d) (charge.Module (length m.source)) ≡ usage_in (record d { modules = d.modules ++ Some m ∷ [] })
   module_charged m = (modules_among d (d.modules ++ Some m ∷ []) m (one_pushed d.modules m)).charge
 
-  pub trial_charged : (t : Trial) → charged (usage_in d) (charge.Trial (steps_of_trial t.job.limit t.job.runs)) ≡ usage_in (record d { trials = d.trials ++ Some t ∷ [] })
+  pub trial_charged : (t : Trial) → charged (usage_in d) (charge.Trial (steps_of_trial t.job.asked.limit t.job.asked.runs)) ≡ usage_in (record d { trials = d.trials ++ Some t ∷ [] })
   trial_charged t = (trials_among d (d.trials ++ Some t ∷ []) t (one_pushed d.trials t)).charge
 
-  module _ (n : ℕ) (m : Stored) (h : held_at d.modules n ≡ Some m) where
+  module _ (n : ℕ) (m : ReadModule) (h : held_at d.modules n ≡ Some m) where
     module_gone : Among (calls_in d.history) (held_by (record d { modules = with_held d.modules n None })) (held_by d) (held_module m)
     module_gone = modules_among (record d { modules = with_held d.modules n None }) d.modules m (one_gone d.modules n m h)
 
@@ -154,10 +156,10 @@ module _ (d : Desk) where
     trial_gone : Among (calls_in d.history) (held_by (record d { trials = with_held d.trials n None })) (held_by d) (held_trial t)
     trial_gone = trials_among (record d { trials = with_held d.trials n None }) d.trials t (one_gone d.trials n t h)
 
-    pub trial_covers : Covers (usage_in d) (held.Trial (steps_of_trial t.job.limit t.job.runs))
+    pub trial_covers : Covers (usage_in d) (held.Trial (steps_of_trial t.job.asked.limit t.job.asked.runs))
     trial_covers = trial_gone.covers
 
-    pub trial_refunded : refunded (usage_in d) (held.Trial (steps_of_trial t.job.limit t.job.runs)) ≡ usage_in (record d { trials = with_held d.trials n None })
+    pub trial_refunded : refunded (usage_in d) (held.Trial (steps_of_trial t.job.asked.limit t.job.asked.runs)) ≡ usage_in (record d { trials = with_held d.trials n None })
     trial_refunded = trial_gone.refund
 
     -- a trial of the same job in its place uses what was used
@@ -169,5 +171,5 @@ module _ (d : Desk) where
         ∙ ap (map held_trial) (sym a.is)
       where
         at_other : (b a : List Trial) → map held_trial (b ++ t' ∷ a) ≡ map held_trial (b ++ t ∷ a)
-        at_other [] a = ap (λ j. held.Trial (steps_of_trial j.limit j.runs) ∷ map held_trial a) same
+        at_other [] a = ap (λ j. held.Trial (steps_of_trial j.asked.limit j.asked.runs) ∷ map held_trial a) same
         at_other (x ∷ b) a = ap (λ (l : List Held). held_trial x ∷ l) (at_other b a)

@@ -1,6 +1,7 @@
 -- What calls and a worker's work are answered with.
 use Rattle.std.specs.Prelude.{◌≡◌, ℕ, Bool, true, false, Some, Result, Ok, Err, if◌then◌else◌}
 use Rattle.pf_fault.specs.declared.memory.NoMemory.{NoMemory}
+use Rattle.pf_request.specs.Calls.{Call}
 use Rattle.pf_desks.specs.Desk as desk
 use Rattle.pf_desks.specs.Desk.{held_at}
 use Rattle.pf_desks.specs.Calls.{HasRoom, reply_to, after_call}
@@ -12,7 +13,7 @@ use Rattle.pf_book.specs.View.{reply_seen}
 
 -- DeskAnswers d c r d': a desk answers a call so and goes on to the next desk; memory runs out only where the log has room for the call, and
 -- leaves the desk as it was
-abbrev pub DeskAnswers : desk.Desk → desk.Call → Result Reply NoMemory → desk.Desk → Type 0
+abbrev pub DeskAnswers : desk.Desk → Call → Result Reply NoMemory → desk.Desk → Type 0
 DeskAnswers d c (Ok r) d' = ForRight (λ p. (reply_seen r ≡ reply_to p d c) × (d' ≡ after_call p d c))
 DeskAnswers d c (Err e) d' = HasRoom d × (d' ≡ d)
 
@@ -25,7 +26,7 @@ DeskWorks d t (Err e) d' = (is_queued (held_at d.trials t) ≡ true) × (d' ≡ 
 
 -- Answers w q c r w': a project's call is answered so, as the world's step says, and leads to the next world; memory runs out only where the
 -- project's log has room for the call, and leaves the world as it was
-abbrev pub Answers : World → ℕ → desk.Call → Result Reply NoMemory → World → Type 0
+abbrev pub Answers : World → ℕ → Call → Result Reply NoMemory → World → Type 0
 Answers w q c (Ok r) w' = ForRight (λ p. ◌≡◌ {A = World × Answer} (step p w (client q c)) (w', replied (reply_seen r)))
 Answers w q c (Err e) w' = HasRoom (desk_at q w) × (w' ≡ w)
 

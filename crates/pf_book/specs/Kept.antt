@@ -8,15 +8,15 @@ use Rattle.pf_desks.specs.Calls.{usage_in, users_of}
 use Rattle.pf_desks.specs.World.{World}
 use Rattle.pf_desks.specs.History.{IsLegalDesk}
 use Rattle.pf_book.specs.Profile.{ForRight}
-use Rattle.pf_book.specs.View.{entry_seen}
+use Rattle.pf_book.specs.View.{view_of_entry}
 use Rattle.pf_book.specs.declared.desk.Desk.TheInside.{Inside}
 
 abbrev pub desk_in : Inside → Desk
-desk_in b = record { edition = b.edition; modules = b.modules.items; trials = b.trials.items; history = map entry_seen b.history.items }
+desk_in b = record { edition = b.edition; modules = b.modules.items; trials = b.trials.items; history = map view_of_entry b.history.items }
 
 -- the desk is what its history makes of an empty one, in an edition that there is; its sums are those over what it holds; it counts for each
 -- module number the held trials that use it, and each held trial uses a module that is held
-pub record IsKept (b : Inside) : Type 0 where
+pub record IsValid (b : Inside) : Type 0 where
   pub legal : ForRight (λ p. IsLegalDesk p (desk_in b))
   pub edition : IsEdition b.edition
   pub sums : b.usage ≡ usage_in (desk_in b)

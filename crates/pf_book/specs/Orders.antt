@@ -3,17 +3,18 @@ use Rattle.std.specs.Prelude.{◌≡◌, ℕ, List, Option, Result, Err}
 use Rattle.pf_fault.specs.declared.code.Code.{Code}
 use Rattle.pf_fault.specs.declared.fault.OrNoMemory.{OrNoMemory}
 use Rattle.pf_fault.specs.declared.fault.OrNoMemory.TheVariants.{NoMemory, Fault}
-use Rattle.pf_desks.specs.Desk.{Stored, Job, job_of, held_at}
-use Rattle.pf_sched.specs.Views.{choices_in, runs_asked}
-use Rattle.pf_book.specs.declared.call.Order.{Order}
+use Rattle.pf_request.specs.Job.{Job}
+use Rattle.pf_request.specs.Module.{ReadModule}
+use Rattle.pf_request.specs.View.{view_of_request}
+use Rattle.pf_request.specs.declared.call.Order.{Order}
+use Rattle.pf_desks.specs.Desk.{job_ordered, held_at}
 use Rattle.pf_book.specs.declared.refusal.Refusal.{Refusal}
 use Rattle.pf_book.specs.Profile.{ForRight}
 use Rattle.pf_book.specs.View.{code_of}
 
 -- Asked e modules o r: an order to a desk of an edition with these modules asks for this job, or is refused for this
-abbrev pub Asked : (edition : ℕ) → List (Option Stored) → Order → Result Job Code → Type 0
-Asked e modules o r =
-    ForRight (λ p. job_of p e (held_at modules o.module) o.root.items o.property.items (choices_in o.kind) o.limit (runs_asked o.kind) ≡ r)
+abbrev pub Asked : (edition : ℕ) → List (Option ReadModule) → Order → Result Job Code → Type 0
+Asked e modules o r = ForRight (λ p. job_ordered p e (held_at modules o.module) (view_of_request o.request) ≡ r)
 
 -- a refusal is one of these; out of memory says nothing of the order
 abbrev pub IsRefusedJob : (Result Job Code → Type 0) → OrNoMemory Refusal → Type 0

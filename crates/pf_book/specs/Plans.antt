@@ -4,6 +4,7 @@ use Rattle.pf_quota.specs.declared.usage.Usage.{Usage}
 use Rattle.pf_quota.specs.declared.charges.Charge.TheVariants as charge
 use Rattle.pf_quota.specs.Usage.{charged}
 use Rattle.pf_model.specs.Limits.{IsEdition}
+use Rattle.pf_request.specs.Calls.{Call}
 use Rattle.pf_desks.specs.Desk as desk
 use Rattle.pf_fault.specs.declared.memory.NoMemory.{NoMemory}
 use Rattle.pf_desks.specs.Calls.{answered, usage_in, users_of, with_job}
@@ -13,7 +14,7 @@ use Rattle.pf_book.specs.declared.plan.Change.TheVariants as change
 use Rattle.pf_book.specs.declared.plan.Plan.{Plan}
 use Rattle.pf_book.specs.Kept.{FollowsDesk}
 use Rattle.pf_book.specs.Profile.{ForRight}
-use Rattle.pf_book.specs.View.{entry_seen, reply_seen}
+use Rattle.pf_book.specs.View.{view_of_entry, reply_seen}
 
 -- the desk with what a call changes
 abbrev pub with_change : desk.Desk → Change → desk.Desk
@@ -25,9 +26,9 @@ with_change d (change.Withdraw n) = record d { modules = desk.with_held d.module
 with_change d (change.Edition e) = record d { edition = e }
 
 -- what a call to a desk comes to is what it is answered with, which is noted so; and what is used then, with the call itself
-pub record IsPlan (d : desk.Desk) (c : desk.Call) (plan : Plan) : Type 0 where
+pub record IsPlan (d : desk.Desk) (c : Call) (plan : Plan) : Type 0 where
   pub answers : ForRight (λ p. ◌≡◌ {A = desk.Desk × desk.Reply} (with_change d plan.change, reply_seen plan.reply) (answered p d c))
-  pub notes : entry_seen plan.noted ≡ desk.called c (reply_seen plan.reply)
+  pub notes : view_of_entry plan.noted ≡ desk.called c (reply_seen plan.reply)
   pub usage : plan.usage ≡ charged (usage_in (with_change d plan.change)) charge.Call
 
 -- what is used, with a call that is charged already

@@ -4,7 +4,8 @@ use Rattle.pf_check.specs.Reads.{Outcome, accepted, refused, Reads}
 use Rattle.pf_model.specs.Shrinking.{Result, IsResult}
 use Rattle.pf_model.specs.Properties.{Property}
 use Rattle.pf_property.specs.Texts.{IsPropertyOf}
-use Rattle.pf_desks.specs.Desk.{Reading, readable, faulty, Job, job_meant, Profile}
+use Rattle.pf_model.specs.Meaning.{Job}
+use Rattle.pf_desks.specs.Desk.{Reading, readable, faulty, Profile}
 
 -- what desks see of an outcome: a module, or the code of a refusal without its place
 abbrev pub reading_from : Outcome → Reading
@@ -16,7 +17,7 @@ reading_from (refused code place) = faulty code
 pub record IsRight (p : Profile) : Type 0 where
   pub reads : (bytes : List ℕ) (o : Outcome) → Reads bytes o → p.reading bytes ≡ reading_from o
   pub properties : (names : List (List ℕ)) (bytes : List ℕ) (o : Option Property) → IsPropertyOf names bytes o → p.property names bytes ≡ o
-  pub means : (j : Job) (r : Result) → IsResult (job_meant j) r → p.meaning j ≡ r
+  pub means : (j : Job) (r : Result) → IsResult j r → p.meaning j ≡ r
 
 -- it holds for each profile that is right
 abbrev pub ForRight : (Profile → Type 0) → Type 0

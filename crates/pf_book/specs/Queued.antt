@@ -1,6 +1,7 @@
 -- The jobs that wait for a worker.
 use Rattle.std.specs.Prelude.{ℕ, List, Option, Some, None}
-use Rattle.pf_desks.specs.Desk.{Job, State, queued, Trial, held_at}
+use Rattle.pf_request.specs.Job.{Job}
+use Rattle.pf_desks.specs.Desk.{State, queued, Trial, held_at}
 
 abbrev pub job_in_state : Job → State → Option Job
 job_in_state j queued = Some j

@@ -9,12 +9,12 @@ ghost use Rattle.pf_book.specs.Users.{holding, CountUsers};
 use crate::numbers::give_up;
 use crate::plan::Change;
 use crate::trial::Trial;
-use pf_store::Stored;
+use pf_module::ReadModule;
 
 /// Changes what a desk holds, with the counts of the held trials that use each module, or its edition.
 pub(crate) fn carry_out(
     edition: &mut u32,
-    modules: &mut Vec<Option<Stored>>,
+    modules: &mut Vec<Option<ReadModule>>,
     trials: &mut Vec<Option<Trial>>,
     users: &mut Vec<u64>,
     change: Change,
@@ -32,8 +32,8 @@ pub(crate) fn carry_out(
 {
     match change {
         Change::Nothing => {}
-        Change::Module(stored) => {
-            modules.push_reserved(Some(stored));
+        Change::Module(module) => {
+            modules.push_reserved(Some(module));
             users.push_reserved(0);
         }
         Change::Trial(number, job) => {

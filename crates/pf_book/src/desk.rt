@@ -9,39 +9,40 @@ ghost use Rattle.pf_desks.specs.Desk.{no_desk};
 ghost use Rattle.pf_desks.specs.Work.{with_state};
 ghost use Rattle.pf_desks.specs.History.{IsLegalDesk};
 ghost use Rattle.pf_book.specs.Profile.{ForRight};
-ghost use Rattle.pf_book.specs.View.{call_seen};
+ghost use Rattle.pf_request.specs.View.{view_of_call};
 ghost use Rattle.pf_book.specs.Answers.{DeskAnswers, DeskWorks};
 ghost use Rattle.pf_book.specs.Kept.{Counts, FollowsDesk};
 ghost use Rattle.pf_book.specs.Plans.{IsPlan, IsCharged, CanChange, FollowsPlan};
 ghost use Rattle.pf_book.specs.Queued.{job_at};
-ghost use Rattle.pf_book.specs.Trials.{AtomsAt};
+ghost use Rattle.pf_book.specs.Trials.{JobAt};
 
 mod planning;
 
-use crate::call::Call;
 use crate::change::carry_out;
 use crate::entry::Entry;
 use crate::job::run;
 use crate::numbers::{make_room, numbered};
 use crate::plan::Plan;
 use crate::refusal::Refusal;
-use crate::reply::{FiledResult, Reply};
+use crate::reply::Reply;
 use crate::trial::Trial;
+use pf_module::ReadModule;
 use pf_quota::{Charge, Usage};
-use pf_sched::{Job, Scratch};
-use pf_store::{Store, Stored};
+use pf_request::Call;
+use pf_sched::{Finished, Job, Scratch};
+use pf_store::Store;
 use pf_terms::NoMemory;
 use std::alloc::Global;
 use std::marker::Model;
 use std::sync::Arc;
 
-/// The desk of one project: its edition, its modules and trials by number, with nothing at a number that was given up, and what it noted; with the
-/// sums of what it uses, and for each module the count of the held trials that use it. Contracts see a desk that is what its history
-/// makes of an empty one.
+/// The desk of one project: its edition, its modules and trials by number, with nothing at a number that was given up, and what it
+/// noted; with the sums of what it uses, and for each module the count of the held trials that use it. Contracts see a desk that is what
+/// its history makes of an empty one.
 #[derive(Drop)]
 pub(crate) struct Desk {
     edition: u32,
-    modules: Vec<Option<Stored>>,
+    modules: Vec<Option<ReadModule>>,
     trials: Vec<Option<Trial>>,
     history: Vec<Entry>,
     users: Vec<u64>,
@@ -50,17 +51,17 @@ pub(crate) struct Desk {
 
 impl Model for Desk {
     ghost use Rattle.pf_desks.specs.Desk as desk;
-    ghost use Rattle.pf_desks.specs.DeskCode.{coded_desk};
+    ghost use Rattle.pf_desks.specs.Encoding.{coded_desk};
 
     ghost Value = { desk.Desk };
 
     ghost coded = { coded_desk };
 
-    ghost use Rattle.pf_book.specs.Kept.{desk_in, IsKept};
+    ghost use Rattle.pf_book.specs.Kept.{desk_in, IsValid};
 
     ghost view = { desk_in };
 
-    ghost invariant = { IsKept };
+    ghost invariant = { IsValid };
 }
 
 impl Desk {
@@ -97,7 +98,7 @@ impl Desk {
     /// noted. A source that is in store isn't read again. After running out of memory nothing has changed.
     pub fn call(&mut self, alloc: Global, store: &mut Store, call: Call) -> Result<Reply, NoMemory>
         requires { Counts store.old self.old }
-        ensures answer { DeskAnswers self.old (call_seen call) result self.new }
+        ensures answer { DeskAnswers self.old (view_of_call call) result self.new }
         ensures store { FollowsDesk store.old self.old store.new self.new }
     {
         let mut usage = self.usage;
@@ -138,7 +139,7 @@ impl Desk {
     ) -> Result<Plan, NoMemory>
         requires counts { Counts store.old self.now }
         requires charged { IsCharged self.now usage }
-        ensures plan { IfOk result (λ p. IsPlan self.now (call_seen call) p) }
+        ensures plan { IfOk result (λ p. IsPlan self.now (view_of_call call) p) }
         ensures can { IfOk result (λ p. CanChange self.now p.change) }
         ensures store { FollowsPlan store.old store.new self.now result }
     {
@@ -155,7 +156,7 @@ impl Desk {
         }
     }
 
-    /// A worker claims a trial, runs it whole and files what came of it; says false where the trial isn't queued, which takes no memory.
+    /// A worker claims a trial, runs it whole and files what came of it; says false if the trial isn't queued, which takes no memory.
     /// After running out of memory nothing has changed. What stands in the scratch makes no difference.
     pub fn once(
         &mut self,
@@ -169,39 +170,39 @@ impl Desk {
         let Some(job) = queued(&self.trials, ticket) else {
             return Ok(false);
         };
-        let filed = run(alloc, job, scratch)?;
+        let finished = run(alloc, job, scratch)?;
         make_room(&mut self.history, 2)?;
-        file(&mut self.trials, ticket, filed);
+        file(&mut self.trials, ticket, finished);
         self.history.push_reserved(Entry::Claimed(ticket));
         self.history.push_reserved(Entry::Filed(ticket));
         Ok(true)
     }
 }
 
-/// The job of the trial of a ticket, where it is queued.
+/// The job of the trial of a ticket, if it is queued.
 fn queued(trials: &[Option<Trial>], ticket: u64) -> Option<&Arc<Job>>
     ensures { option_map (λ j. j.now.value) result ≡ job_at trials.now ticket }
 {
     numbered(trials, ticket)?.queued()
 }
 
-/// Files what came of the trial of a ticket, which speaks of the atoms of its module.
-fn file(trials: &mut Vec<Option<Trial>>, ticket: u64, filed: FiledResult)
-    requires { AtomsAt trials.old.items ticket filed.0 }
-    ensures { trials.new.items ≡ with_state trials.old.items ticket (λ j. desk.done filed.1) }
+/// Files what the job of the trial of a ticket came to.
+fn file(trials: &mut Vec<Option<Trial>>, ticket: u64, finished: Finished)
+    requires { JobAt trials.old.items ticket finished.job }
+    ensures { trials.new.items ≡ with_state trials.old.items ticket (λ j. desk.done finished.result) }
 {
     if ticket == 0 || ticket > trials.len() as u64 {
         return;
     }
     if let Some(trial) = &mut trials[ticket as usize - 1] {
-        trial.file(filed);
+        trial.file(finished);
     }
 }
 
 /// Makes room for one note, one module with its count of users, and one trial.
 fn make_call_room(
     history: &mut Vec<Entry>,
-    modules: &mut Vec<Option<Stored>>,
+    modules: &mut Vec<Option<ReadModule>>,
     trials: &mut Vec<Option<Trial>>,
     users: &mut Vec<u64>,
 ) -> Result<(), NoMemory>

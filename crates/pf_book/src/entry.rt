@@ -1,10 +1,10 @@
 //! What a desk notes.
 
-use crate::call::Order;
 use crate::refusal::Refusal;
-use crate::reply::{FiledResult, Stage};
+use crate::reply::Stage;
 use pf_quota::Usage;
-use pf_store::Source;
+use pf_request::{Order, Source};
+use pf_sched::Finished;
 use std::sync::Arc;
 
 /// What a desk notes: a call with its reply, and that a worker claimed the trial of a ticket or filed what came of it.
@@ -19,7 +19,7 @@ pub(crate) enum Entry {
     /// A trial was ordered, and refused.
     OrderRefused(Arc<Order>, Refusal),
     /// What came of the trial of a ticket was handed out.
-    Fetched(u64, FiledResult),
+    Fetched(u64, Finished),
     /// What came of the trial of a ticket was refused.
     FetchRefused(u64, Refusal),
     /// The trial of a ticket stood so far.

@@ -3,40 +3,24 @@
 ghost use Rattle.std.specs.Prelude.{◌≡◌, Ok, IfOk, IsSome, MatchResult, OnOk};
 ghost use Rattle.pf_model.specs.Limits.{IsEdition};
 ghost use Rattle.pf_model.specs.Shrinking.{IsResult};
-ghost use Rattle.pf_desks.specs.Desk.{job_meant, held_at};
-ghost use Rattle.pf_sched.specs.Views.{choices_in, runs_asked};
+ghost use Rattle.pf_desks.specs.Desk.{held_at};
 ghost use Rattle.pf_book.specs.Orders.{Asked, IsRefusedJob};
 
-use crate::call::Order;
 use crate::numbers::numbered;
 use crate::refusal::Refusal;
-use crate::reply::FiledResult;
 use pf_fault::OrNoMemory;
-use pf_sched::{Job, JobKind, Nobody, Scratch, whole};
-use pf_store::Stored;
+use pf_module::ReadModule;
+use pf_request::Order;
+use pf_sched::{Finished, Job, Scratch, Silent, run_to_end};
 use pf_terms::NoMemory;
 use std::alloc::Global;
 use std::sync::Arc;
-
-/// The same kind once more.
-fn shared(kind: &JobKind) -> Result<JobKind, NoMemory>
-    ensures choices { IfOk result (λ k. choices_in k ≡ choices_in kind.now) }
-    ensures runs { IfOk result (λ k. runs_asked k ≡ runs_asked kind.now) }
-{
-    match kind {
-        JobKind::Trial(choices) => Ok(JobKind::Trial(choices.share()?)),
-        JobKind::Shrinking { schedule, runs } => Ok(JobKind::Shrinking {
-            schedule: Arc::try_clone(schedule)?,
-            runs: *runs,
-        }),
-    }
-}
 
 /// The job of an order to a desk of an edition with these modules.
 pub(crate) fn job_of(
     alloc: Global,
     edition: u32,
-    modules: &[Option<Stored>],
+    modules: &[Option<ReadModule>],
     order: &Order,
 ) -> Result<Arc<Job>, OrNoMemory<Refusal>>
     requires edition { IsEdition edition }
@@ -45,36 +29,26 @@ pub(crate) fn job_of(
         (IsRefusedJob (Asked edition modules.now order.now)) }
     ensures held { OnOk result (IsSome (held_at modules.now order.now.module)) }
 {
-    let stored = numbered(modules, order.module).ok_or(OrNoMemory::Fault(Refusal::NoModule))?;
-    let root = order.root.as_slice();
-    let property = order.property.as_slice();
-    match Job::new(
-        alloc,
-        stored.share()?,
-        root,
-        property,
-        shared(&order.kind)?,
-        order.limit,
-        edition,
-    ) {
+    let module = numbered(modules, order.module).ok_or(OrNoMemory::Fault(Refusal::NoModule))?;
+    match Job::new(alloc, module.share()?, &order.request, edition) {
         Ok(job) => Ok(Arc::new(alloc, job)?),
         Err(OrNoMemory::NoMemory) => Err(OrNoMemory::NoMemory),
         Err(OrNoMemory::Fault(refusal)) => Err(OrNoMemory::Fault(Refusal::from(refusal))),
     }
 }
 
-/// What the whole of a job comes to.
+/// Runs a job whole. Memory that ran out within it is no end.
 pub(crate) fn run(
     alloc: Global,
     job: &Arc<Job>,
     scratch: &mut Scratch,
-) -> Result<FiledResult, NoMemory>
-    ensures atoms { IfOk result (λ t. t.0 ≡ job.now.value.stored.code.atoms) }
-    ensures means { IfOk result (λ t. IsResult (job_meant job.now.value) t.1) }
+) -> Result<Finished, NoMemory>
+    ensures job { IfOk result (λ f. f.job ≡ job.now.value) }
+    ensures whole { IfOk result (λ f. IsResult f.job.asked f.result) }
 {
-    let finished = whole(alloc, Arc::try_clone(job)?, scratch, &mut Nobody)?;
+    let finished = run_to_end(alloc, Arc::try_clone(job)?, scratch, &mut Silent)?;
     if !finished.is_whole() {
         return Err(NoMemory);
     }
-    FiledResult::new(alloc, job.module(), finished.into_result())
+    Ok(finished)
 }

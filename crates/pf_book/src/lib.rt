@@ -2,7 +2,6 @@
 #![tactic(auto)]
 
 mod book;
-mod call;
 mod change;
 mod desk;
 mod entry;
@@ -14,6 +13,5 @@ mod reply;
 mod trial;
 
 pub use book::Book;
-pub use call::{Call, Order, Word};
 pub use refusal::Refusal;
-pub use reply::{FiledResult, Reply, Stage};
+pub use reply::{Reply, Stage};

@@ -4,9 +4,9 @@ ghost use Rattle.std.specs.Prelude.{◌≡◌};
 
 use crate::entry::Entry;
 use crate::reply::Reply;
+use pf_module::ReadModule;
 use pf_quota::Usage;
 use pf_sched::Job;
-use pf_store::Stored;
 use std::sync::Arc;
 
 /// What a call changes of what its desk holds.
@@ -14,7 +14,7 @@ use std::sync::Arc;
 pub(crate) enum Change {
     Nothing,
     /// One module more.
-    Module(Stored),
+    Module(ReadModule),
     /// One trial more: of the module of a number, for a job.
     Trial(u64, Arc<Job>),
     /// The trial of a ticket is given up.

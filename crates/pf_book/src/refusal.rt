@@ -11,7 +11,7 @@ use std::fmt;
 /// Why a call is refused. It prints as its code.
 #[derive(Clone, Copy, Debug, PartialEq, Eq)]
 pub enum Refusal {
-    /// `E1` to `E11`: the source is no module.
+    /// `E1` to `E12`: the source is no module.
     Source(Code),
     /// `B1`: the project has no module of this number.
     NoModule,

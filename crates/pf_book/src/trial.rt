@@ -9,42 +9,38 @@ ghost use Rattle.pf_book.specs.View.{code_of, stage_seen};
 ghost use Rattle.pf_book.specs.Queued.{queued_job};
 
 use crate::refusal::Refusal;
-use crate::reply::{FiledResult, Stage};
+use crate::reply::Stage;
 use pf_quota::{Held, trial_steps};
-use pf_sched::Job;
+use pf_sched::{Finished, Job};
 use std::marker::Model;
 use std::sync::Arc;
 
 /// How far a trial is.
 #[derive(Drop)]
 pub(crate) enum State {
-    Queued,
-    /// What came of it is filed.
-    Done(FiledResult),
+    /// Its job waits for a worker.
+    Queued(Arc<Job>),
+    /// What its job came to is filed.
+    Done(Finished),
 }
 
-/// A job, the number of the module that it uses, and how far it is.
+/// The number of the module that a trial uses, and how far it is, with its job.
 #[derive(Drop)]
 pub(crate) struct Trial {
     module_number: u64,
-    job: Arc<Job>,
     state: State,
 }
 
 impl Model for Trial {
     ghost use Rattle.pf_desks.specs.Desk as desk;
-    ghost use Rattle.pf_desks.specs.DeskCode.{coded_trial};
+    ghost use Rattle.pf_desks.specs.Encoding.{coded_trial};
+    ghost use Rattle.pf_book.specs.View.{job_within, view_of_state};
 
     ghost Value = { desk.Trial };
 
     ghost coded = { coded_trial };
 
-    ghost use Rattle.pf_book.specs.View.{state_seen};
-    ghost use Rattle.pf_book.specs.Trials.{SpeaksOf};
-
-    ghost view = { λ t. record { module_number = t.module_number; job = t.job.value; state = state_seen t.state } };
-
-    ghost invariant = { λ t. SpeaksOf t.job.value.stored.code.atoms t.state };
+    ghost view = { λ t. record { module_number = t.module_number; job = job_within t.state; state = view_of_state t.state } };
 }
 
 impl Trial {
@@ -54,8 +50,7 @@ impl Trial {
     {
         Trial {
             module_number,
-            job,
-            state: State::Queued,
+            state: State::Queued(job),
         }
     }
 
@@ -66,12 +61,23 @@ impl Trial {
         self.module_number
     }
 
+    /// Its job.
+    fn job(&self) -> &Job
+        ensures { result.now ≡ self.now.job }
+    {
+        match &self.state {
+            State::Queued(job) => job,
+            State::Done(finished) => finished.job(),
+        }
+    }
+
     /// What it counts as, until it is given up.
     pub fn held(&self) -> Held
-        ensures { result ≡ Held.Trial (steps_of_trial self.now.job.limit self.now.job.runs) }
+        ensures { result ≡ Held.Trial (steps_of_trial self.now.job.asked.limit self.now.job.asked.runs) }
     {
+        let job = self.job();
         Held::Trial {
-            steps: trial_steps(self.job.limit(), self.job.runs()),
+            steps: trial_steps(job.limit(), job.runs()),
         }
     }
 
@@ -80,38 +86,39 @@ impl Trial {
         ensures { stage_seen result ≡ stage_of self.now.state }
     {
         match &self.state {
-            State::Queued => Stage::Queued,
+            State::Queued(_) => Stage::Queued,
             State::Done(_) => Stage::Done,
         }
     }
 
-    /// The job, where it is queued.
+    /// The job, if it is queued.
     pub fn queued(&self) -> Option<&Arc<Job>>
         ensures { option_map (λ j. j.now.value) result ≡ queued_job self.now }
     {
         match &self.state {
-            State::Queued => Some(&self.job),
+            State::Queued(job) => Some(job),
             State::Done(_) => None,
         }
     }
 
-    /// Files what came of it, which speaks of the atoms of its module.
-    pub fn file(&mut self, filed: FiledResult)
-        requires { filed.0 ≡ self.old.job.stored.code.atoms }
-        ensures { self.new ≡ record self.old { state = desk.done filed.1 } }
+    /// Files what its own job came to.
+    pub fn file(&mut self, finished: Finished)
+        requires { finished.job ≡ self.old.job }
+        ensures { self.new ≡ record self.old { state = desk.done finished.result } }
     {
-        self.state = State::Done(filed);
+        self.state = State::Done(finished);
     }
 
-    /// What came of it, where that is filed.
-    pub fn filed(&self) -> Result<&FiledResult, Refusal>
+    /// What its job came to, if that is filed.
+    pub fn filed(&self) -> Result<&Finished, Refusal>
         ensures { MatchResult result
-            (λ r. result_in self.now.job.stored.code.atoms self.now.state ≡ desk.result r.now.0 r.now.1)
-            (λ e. result_in self.now.job.stored.code.atoms self.now.state ≡ desk.refused (code_of e)) }
+            (λ f. result_in self.now.job.asked.code.atoms self.now.state
+            ≡ desk.result f.now.job.asked.code.atoms f.now.result)
+            (λ e. result_in self.now.job.asked.code.atoms self.now.state ≡ desk.refused (code_of e)) }
     {
         match &self.state {
-            State::Queued => Err(Refusal::NotDone),
-            State::Done(filed) => Ok(filed),
+            State::Queued(_) => Err(Refusal::NotDone),
+            State::Done(finished) => Ok(finished),
         }
     }
 }

@@ -1,1 +1,4 @@
+pub mod Chart
+pub mod Document
 pub mod Escaped
+pub mod Words

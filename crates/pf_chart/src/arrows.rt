@@ -1,5 +1,8 @@
 //! Signals as arrows.
 
+ghost use Rattle.std.specs.Prelude.{IsTrue};
+ghost use Rattle.pf_chart.specs.Words.{is_word};
+
 use pf_model::Signal;
 
 /// What kind of signal it is.
@@ -27,7 +30,9 @@ impl SignalKind {
         }
     }
 
-    pub(crate) fn word(self) -> &'static str {
+    pub(crate) fn word(self) -> &'static str
+        ensures { IsTrue (is_word result.now) }
+    {
         match self {
             SignalKind::Message => "message",
             SignalKind::Link => "link",

@@ -1,15 +1,21 @@
 //! The document of a chart.
 
-ghost use Rattle.std.specs.Prelude.{◌≡◌, ◌++◌, ℕ, List, OnErr, OnOk};
+ghost use Rattle.std.specs.Prelude.{◌≡◌, ◌++◌, ◌∷◌, [], ℕ, List, IfOk, OnErr, OnOk, IsTrue, flat_map};
+ghost use Rattle.pf_terms.specs.Atoms.{name_of};
+ghost use Rattle.pf_model.specs.Reports.{label_of, outcome_of, report_of};
+ghost use Rattle.pf_model.specs.Text.{label_text, outcome_text};
+ghost use Rattle.pf_chart.specs.Chart.{IsChart, process_labels, twice};
+ghost use Rattle.pf_chart.specs.Document.{Draws};
+ghost use Rattle.pf_chart.specs.Words.{is_word};
 
-use crate::escape::put_escaped;
+use crate::events::{put_events, put_numbers};
 use crate::heads::{put_columns, put_spawns};
 use crate::layout::{Layout, layout_of};
-use crate::pieces::{put_piece, put_short_text, put_title};
 use crate::sheet::{GUTTER, ROW, Sheet, TOP};
-use crate::spots::{put_marks, put_numbers};
 use crate::strokes::put_arrows;
 use crate::style::{DEFINITIONS, LEGEND, LEGEND_OF_SPAWNS, STYLE};
+use crate::svg::Part::{Attribute, Label, Number, Place, Short, Word};
+use crate::svg::Svg;
 use pf_terms::{AtomTable, NoMemory};
 use pf_text::put;
 use pf_trace::{Report, put_outcome};
@@ -19,137 +25,151 @@ use std::alloc::Global;
 const LETTER: u64 = 9;
 
 /// The outcome as it prints, without its line end.
-fn outcome_of(alloc: Global, atoms: &AtomTable, report: &Report) -> Result<Vec<u8>, NoMemory> {
+fn text_of_outcome(alloc: Global, atoms: &AtomTable, report: &Report) -> Result<Vec<u8>, NoMemory>
+    ensures { IfOk result (λ text. text.items
+        ≡ outcome_text (name_of atoms.now) (outcome_of report.now.outcome)) }
+{
     let mut text = Vec::new(alloc);
-    put_outcome(alloc, &mut text, atoms, &report.outcome)?;
+    put_outcome(&mut text, atoms, &report.outcome)?;
     text.pop();
     Ok(text)
 }
 
 /// Puts the beginning of the document, with its size.
-fn put_opening(alloc: Global, out: &mut Vec<u8>, sheet: Sheet) -> Result<(), NoMemory> {
+fn put_opening(svg: &mut Svg, sheet: Sheet) -> Result<(), NoMemory>
+    ensures { OnOk result (Draws [] svg.old.bytes.items svg.new.bytes.items) }
+{
     let width = sheet.width();
     let height = sheet.height();
-    put_piece(
-        out,
-        format!(in alloc;
-            "<svg xmlns=\"http://www.w3.org/2000/svg\" role=\"img\" width=\"{width}\" height=\"{height}\" \
-viewBox=\"0 0 {width} {height}\">\n"
-        )?,
-    )
+    svg.put(&[
+        Word("<svg xmlns=\"http://www.w3.org/2000/svg\" role=\"img\""),
+        Attribute("width", width),
+        Attribute("height", height),
+        Word(" viewBox=\"0 0 "),
+        Place(width, height),
+        Word("\">\n"),
+    ])
 }
 
 /// Puts the title of the document, and what it shows in words.
-fn put_words(
-    alloc: Global,
-    out: &mut Vec<u8>,
-    root: &[u8],
-    outcome: &[u8],
+fn put_words<'a>(
+    svg: &mut Svg,
+    root: &'a [u8],
+    outcome: &'a [u8],
     processes: usize,
     events: usize,
-) -> Result<(), NoMemory> {
-    put(out, b"<title>Run of ")?;
-    put_escaped(alloc, out, root)?;
-    put(
-        out,
-        b"</title>\n<desc>A message sequence chart of a run of ",
-    )?;
-    put_escaped(alloc, out, root)?;
-    put_piece(
-        out,
-        format!(in alloc;
-            ", from top to bottom. Processes: {processes}. Events: {events}. Outcome: "
-        )?,
-    )?;
-    put_escaped(alloc, out, outcome)?;
-    put(out, b".</desc>\n")
+) -> Result<(), NoMemory>
+    ensures { OnOk result (Draws (root.now ∷ root.now ∷ outcome.now ∷ [])
+        svg.old.bytes.items svg.new.bytes.items) }
+{
+    svg.put(&[
+        Word("<title>Run of "),
+        Label(root),
+        Word("</title>\n<desc>A message sequence chart of a run of "),
+        Label(root),
+        Word(", from top to bottom. Processes: "),
+        Number(processes as u64),
+        Word(". Events: "),
+        Number(events as u64),
+        Word(". Outcome: "),
+        Label(outcome),
+        Word(".</desc>\n"),
+    ])
 }
 
 /// Puts the sheet, and bands behind the rows.
-fn put_ground(
-    alloc: Global,
-    out: &mut Vec<u8>,
-    events: usize,
-    sheet: Sheet,
-) -> Result<(), NoMemory> {
-    let width = sheet.width();
-    let height = (events as u64).saturating_mul(ROW);
-    put_piece(
-        out,
-        format!(in alloc;
-            "<rect class=\"sheet\" width=\"100%\" height=\"100%\"/>\n\
-<rect class=\"bands\" y=\"{TOP}\" width=\"{width}\" height=\"{height}\"/>\n"
-        )?,
-    )
+fn put_ground(svg: &mut Svg, events: usize, sheet: Sheet) -> Result<(), NoMemory>
+    ensures { OnOk result (Draws [] svg.old.bytes.items svg.new.bytes.items) }
+{
+    svg.put(&[
+        Word("<rect class=\"sheet\" width=\"100%\" height=\"100%\"/>\n"),
+        Word("<rect class=\"bands\""),
+        Attribute("y", TOP),
+        Attribute("width", sheet.width()),
+        Attribute("height", (events as u64).saturating_mul(ROW)),
+        Word("/>\n"),
+    ])
 }
 
 /// Puts a line of the legend.
-fn put_legend(alloc: Global, out: &mut Vec<u8>, line: &str, y: u64) -> Result<(), NoMemory> {
-    put_piece(
-        out,
-        format!(in alloc; "<text class=\"legend\" x=\"{GUTTER}\" y=\"{y}\">{line}</text>\n")?,
-    )
+fn put_legend(svg: &mut Svg, line: &'static str, y: u64) -> Result<(), NoMemory>
+    requires { IsTrue (is_word line.now) }
+    ensures { OnOk result (Draws [] svg.old.bytes.items svg.new.bytes.items) }
+{
+    svg.text("legend", (GUTTER, y), &[Word(line)])?;
+    svg.put(&[Word("\n")])
 }
 
-/// Puts the outcome and the legend below all.
-fn put_bottom(
-    alloc: Global,
-    out: &mut Vec<u8>,
-    outcome: &[u8],
-    sheet: Sheet,
-) -> Result<(), NoMemory> {
-    let y = sheet.bottom().saturating_add(48);
+/// Puts the outcome, whole in a tooltip and as long as the sheet is wide.
+fn put_result(svg: &mut Svg, outcome: &[u8], y: u64, sheet: Sheet) -> Result<(), NoMemory>
+    ensures { OnOk result (Draws (twice outcome.now) svg.old.bytes.items svg.new.bytes.items) }
+{
     let most = (sheet.width().saturating_sub(2 * GUTTER) / LETTER) as usize;
-    put(out, b"<g>")?;
-    put_title(alloc, out, outcome)?;
-    put_short_text(alloc, out, "outcome", (GUTTER, y), outcome, most)?;
-    put(out, b"</g>\n")?;
-    put_legend(alloc, out, LEGEND, y.saturating_add(22))?;
-    put_legend(alloc, out, LEGEND_OF_SPAWNS, y.saturating_add(37))
+    svg.put(&[Word("<g>")])?;
+    svg.title(&[Label(outcome)])?;
+    svg.text("outcome", (GUTTER, y), &[Short(outcome, most)])?;
+    svg.close_group()
 }
 
-/// Puts what was laid out: what stands behind goes first.
+/// Puts the outcome and the legend below all, and the end of the document.
+fn put_bottom(svg: &mut Svg, outcome: &[u8], sheet: Sheet) -> Result<(), NoMemory>
+    ensures { OnOk result (Draws (twice outcome.now) svg.old.bytes.items svg.new.bytes.items) }
+{
+    let y = sheet.bottom().saturating_add(48);
+    put_result(svg, outcome, y, sheet)?;
+    put_legend(svg, LEGEND, y.saturating_add(22))?;
+    put_legend(svg, LEGEND_OF_SPAWNS, y.saturating_add(37))?;
+    svg.put(&[Word("</svg>\n")])
+}
+
+/// Puts what was laid out, from the back to the front.
 fn put_layout(
     alloc: Global,
-    out: &mut Vec<u8>,
+    svg: &mut Svg,
     atoms: &AtomTable,
     root: &[u8],
     report: &Report,
     layout: &Layout,
     sheet: Sheet,
-) -> Result<(), NoMemory> {
-    put_ground(alloc, out, report.events.len(), sheet)?;
-    put_numbers(alloc, out, report.events.len(), sheet)?;
-    put_columns(alloc, out, &layout.columns, root, sheet)?;
-    put_spawns(alloc, out, &layout.columns, sheet)?;
-    put_arrows(alloc, out, &layout.arrows, &layout.columns, sheet)?;
-    put_marks(alloc, out, atoms, &layout.marks, &report.events, sheet)
+) -> Result<(), NoMemory>
+    ensures { OnOk result (Draws
+        (flat_map (λ c. process_labels root.now c.spawned) layout.now.columns.items
+        ++ flat_map (λ e. twice (label_text (name_of atoms.now) (label_of e.label))) report.now.events.items)
+        svg.old.bytes.items svg.new.bytes.items) }
+{
+    put_ground(svg, report.events.len(), sheet)?;
+    put_numbers(svg, report.events.len(), sheet)?;
+    put_columns(svg, &layout.columns, root, sheet)?;
+    put_spawns(svg, &layout.columns, sheet)?;
+    put_arrows(svg, &layout.arrows, &layout.columns, sheet)?;
+    put_events(alloc, svg, atoms, &report.events, &layout.columns, sheet)
 }
 
 /// Puts the whole document.
 fn put_document(
     alloc: Global,
-    out: &mut Vec<u8>,
+    svg: &mut Svg,
     atoms: &AtomTable,
     root: &[u8],
     report: &Report,
-) -> Result<(), NoMemory> {
+) -> Result<(), NoMemory>
+    ensures { OnOk result (IsChart (name_of atoms.now) root.now (report_of report.now)
+        svg.old.bytes.items svg.new.bytes.items) }
+{
     let layout = layout_of(alloc, report)?;
     let processes = layout.columns.len();
     let events = report.events.len();
     let sheet = Sheet::new(processes, events);
-    let outcome = outcome_of(alloc, atoms, report)?;
-    put_opening(alloc, out, sheet)?;
-    put_words(alloc, out, root, &outcome, processes, events)?;
-    put(out, STYLE.as_bytes())?;
-    put(out, DEFINITIONS.as_bytes())?;
-    put_layout(alloc, out, atoms, root, report, &layout, sheet)?;
-    put_bottom(alloc, out, &outcome, sheet)?;
-    put(out, b"</svg>\n")
+    let outcome = text_of_outcome(alloc, atoms, report)?;
+    put_opening(svg, sheet)?;
+    put_words(svg, root, &outcome, processes, events)?;
+    svg.put(&[Word(STYLE), Word(DEFINITIONS)])?;
+    put_layout(alloc, svg, atoms, root, report, &layout, sheet)?;
+    put_bottom(svg, &outcome, sheet)
 }
 
-/// Puts a report of a run from the function `root` as a message sequence chart: a whole SVG document, behind what stood there.
-/// Where memory runs out, nothing is put.
+/// Puts a report of a run from the function `root` as a message sequence chart: a whole SVG document, after what stood there.
+/// If memory runs out, nothing is put.
 pub fn put_chart(
     alloc: Global,
     out: &mut Vec<u8>,
@@ -157,10 +177,11 @@ pub fn put_chart(
     root: &[u8],
     report: &Report,
 ) -> Result<(), NoMemory>
-    ensures put { OnOk result ((document : List ℕ) × (out.new.items ≡ out.old.items ++ document)) }
+    ensures put { OnOk result (IsChart (name_of atoms.now) root.now (report_of report.now)
+        out.old.items out.new.items) }
     ensures err { OnErr result (out.new.items ≡ out.old.items) }
 {
-    let mut document = Vec::new(alloc);
-    put_document(alloc, &mut document, atoms, root, report)?;
-    put(out, &document)
+    let mut svg = Svg::new(alloc);
+    put_document(alloc, &mut svg, atoms, root, report)?;
+    put(out, svg.as_bytes())
 }

@@ -5,7 +5,6 @@ ghost use Rattle.pf_chart.specs.Escaped.{code_of, escaped, escaped_byte, referen
 
 use pf_terms::NoMemory;
 use pf_text::{put, put_byte, put_number};
-use std::alloc::Global;
 
 /// The character that a byte is told as where it can't stand as it is: a blank of lines or a byte of Latin-1 is itself.
 fn code_of(byte: u8) -> u64
@@ -19,15 +18,15 @@ fn code_of(byte: u8) -> u64
 }
 
 /// Puts a character by its number.
-fn put_code(alloc: Global, out: &mut Vec<u8>, byte: u8) -> Result<(), NoMemory>
+fn put_code(out: &mut Vec<u8>, byte: u8) -> Result<(), NoMemory>
     ensures { OnOk result (out.new.items ≡ out.old.items ++ reference byte) }
 {
     put(out, b"&#")?;
-    put_number(alloc, out, code_of(byte))?;
+    put_number(out, code_of(byte))?;
     put(out, b";")
 }
 
-fn put_escaped_byte(alloc: Global, out: &mut Vec<u8>, byte: u8) -> Result<(), NoMemory>
+fn put_escaped_byte(out: &mut Vec<u8>, byte: u8) -> Result<(), NoMemory>
     ensures { OnOk result (out.new.items ≡ out.old.items ++ escaped_byte byte) }
 {
     if byte == b'&' {
@@ -39,29 +38,29 @@ fn put_escaped_byte(alloc: Global, out: &mut Vec<u8>, byte: u8) -> Result<(), No
     } else if byte == b'"' {
         put(out, b"&quot;")
     } else if byte < 32 || byte > 126 {
-        put_code(alloc, out, byte)
+        put_code(out, byte)
     } else {
         put_byte(out, byte)
     }
 }
 
 /// Puts a text so that it may stand in a document, byte by byte.
-pub fn put_escaped(alloc: Global, out: &mut Vec<u8>, text: &[u8]) -> Result<(), NoMemory>
+pub fn put_escaped(out: &mut Vec<u8>, text: &[u8]) -> Result<(), NoMemory>
     ensures { OnOk result (out.new.items ≡ out.old.items ++ escaped text.now) }
 {
     for byte in text {
-        put_escaped_byte(alloc, out, *byte)?;
+        put_escaped_byte(out, *byte)?;
     }
     Ok(())
 }
 
 /// Puts the first bytes of a text and three dots, or all of it where no more than three would go.
-pub fn put_short(alloc: Global, out: &mut Vec<u8>, text: &[u8], most: usize) -> Result<(), NoMemory>
+pub fn put_short(out: &mut Vec<u8>, text: &[u8], most: usize) -> Result<(), NoMemory>
     ensures { OnOk result (out.new.items ≡ out.old.items ++ short most text.now) }
 {
     if text.len().saturating_sub(3) <= most {
-        return put_escaped(alloc, out, text);
+        return put_escaped(out, text);
     }
-    put_escaped(alloc, out, &text[..most])?;
+    put_escaped(out, &text[..most])?;
     put(out, b"...")
 }

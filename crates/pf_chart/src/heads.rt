@@ -1,12 +1,15 @@
 //! Processes on the sheet: heads, lifelines and feet.
 
+ghost use Rattle.std.specs.Prelude.{◌++◌, [], IsTrue, OnOk, flat_map};
+ghost use Rattle.pf_chart.specs.Chart.{origin_labels, process_labels};
+ghost use Rattle.pf_chart.specs.Document.{Draws};
+ghost use Rattle.pf_chart.specs.Words.{is_word};
+
 use crate::columns::{Column, column_of};
-use crate::escape::put_escaped;
-use crate::pieces::{put_piece, put_short_text};
 use crate::sheet::Sheet;
+use crate::svg::Part::{Attribute, Number, Pid, Place, Short, Word};
+use crate::svg::{Part, Svg};
 use pf_terms::NoMemory;
-use pf_text::put;
-use std::alloc::Global;
 
 /// Where heads begin and end.
 const HEAD_TOP: u64 = 12;
@@ -18,209 +21,228 @@ const LEAST_OF_NAME: usize = 6;
 const FOOT_LINE: u64 = 12;
 
 /// Puts the box of a head, with the pid.
-fn put_box(alloc: Global, out: &mut Vec<u8>, pid: u32, x: u64, pitch: u64) -> Result<(), NoMemory> {
+fn put_box(svg: &mut Svg, pid: u32, x: u64, pitch: u64) -> Result<(), NoMemory>
+    ensures { OnOk result (Draws [] svg.old.bytes.items svg.new.bytes.items) }
+{
     let width = pitch.saturating_sub(8);
-    let left = x.saturating_sub(width / 2);
-    put_piece(
-        out,
-        format!(in alloc;
-            "<rect x=\"{left}\" y=\"{HEAD_TOP}\" width=\"{width}\" height=\"{HEAD_HEIGHT}\" rx=\"4\"/>"
-        )?,
-    )?;
-    put_piece(
-        out,
-        format!(in alloc; "<text class=\"pid\" x=\"{x}\" y=\"29\">&lt;{pid}&gt;</text>")?,
-    )
+    svg.put(&[
+        Word("<rect"),
+        Attribute("x", x.saturating_sub(width / 2)),
+        Attribute("y", HEAD_TOP),
+        Attribute("width", width),
+        Attribute("height", HEAD_HEIGHT),
+        Word(" rx=\"4\"/>"),
+    ])?;
+    svg.text("pid", (x, 29), &[Pid(pid)])
 }
 
 /// Puts whose process it is: the root function, or who spawned it.
 fn put_origin(
-    alloc: Global,
-    out: &mut Vec<u8>,
+    svg: &mut Svg,
     column: &Column,
     root: &[u8],
     x: u64,
     pitch: u64,
-) -> Result<(), NoMemory> {
+) -> Result<(), NoMemory>
+    ensures { OnOk result (Draws (origin_labels root.now column.now.spawned)
+        svg.old.bytes.items svg.new.bytes.items) }
+{
     match column.spawned {
-        Some((parent, _)) => put_piece(
-            out,
-            format!(in alloc; "<text class=\"of\" x=\"{x}\" y=\"45\">by &lt;{parent}&gt;</text>")?,
-        ),
+        Some((parent, _)) => svg.text("of", (x, 45), &[Word("by "), Pid(parent)]),
         None => {
             let most = LEAST_OF_NAME.saturating_add((pitch.saturating_sub(64) / 6) as usize);
-            put_short_text(alloc, out, "of", (x, 45), root, most)
+            svg.text("of", (x, 45), &[Short(root, most)])
         }
     }
 }
 
-/// Puts a line down a column.
-fn put_line(
-    alloc: Global,
-    out: &mut Vec<u8>,
-    class: &str,
-    x: u64,
-    from: u64,
-    to: u64,
-) -> Result<(), NoMemory> {
-    put_piece(
-        out,
-        format!(in alloc;
-            "<line class=\"{class}\" x1=\"{x}\" y1=\"{from}\" x2=\"{x}\" y2=\"{to}\"/>"
-        )?,
-    )
+/// Where the lifeline begins.
+fn birth(column: &Column, sheet: Sheet) -> u64 {
+    match column.spawned {
+        Some((_, row)) => sheet.y(row),
+        None => HEAD_TOP + HEAD_HEIGHT,
+    }
 }
 
-/// Puts the lifeline: dotted before it was spawned, up to its end, and thick from where it waits in a deadlock.
-fn put_life(
-    alloc: Global,
-    out: &mut Vec<u8>,
-    column: &Column,
-    sheet: Sheet,
-    x: u64,
-) -> Result<(), NoMemory> {
-    let mut from = HEAD_TOP + HEAD_HEIGHT;
-    if let Some((_, row)) = column.spawned {
-        let born = sheet.y(row);
-        put_line(alloc, out, "before", x, from, born)?;
-        from = born;
-    }
-    let to = match column.ended {
+/// Where the lifeline ends.
+fn end(column: &Column, sheet: Sheet) -> u64 {
+    match column.ended {
         Some(row) => sheet.y(row),
         None => sheet.bottom(),
-    };
-    match column.waits {
-        Some(row) if column.deadlocked => {
-            put_line(alloc, out, "life", x, from, sheet.y(row))?;
-            put_line(alloc, out, "life waiting", x, sheet.y(row), to)
-        }
-        _ => put_line(alloc, out, "life", x, from, to),
     }
 }
 
-/// Puts the pid below a lifeline that goes on to the end, and below it whether the process waits in a deadlock.
-fn put_foot(
-    alloc: Global,
-    out: &mut Vec<u8>,
-    column: &Column,
-    sheet: Sheet,
-    x: u64,
-) -> Result<(), NoMemory> {
+/// Puts the dotted line from the head to where a process was spawned.
+fn put_before(svg: &mut Svg, column: &Column, sheet: Sheet, x: u64) -> Result<(), NoMemory>
+    ensures { OnOk result (Draws [] svg.old.bytes.items svg.new.bytes.items) }
+{
+    match column.spawned {
+        Some((_, row)) => svg.line("before", x, HEAD_TOP + HEAD_HEIGHT, sheet.y(row)),
+        None => Ok(()),
+    }
+}
+
+/// Puts the lifeline of a process that waits in a deadlock, thick from where it waits.
+fn put_waiting_life(svg: &mut Svg, x: u64, from: u64, waits: u64, to: u64) -> Result<(), NoMemory>
+    ensures { OnOk result (Draws [] svg.old.bytes.items svg.new.bytes.items) }
+{
+    svg.line("life", x, from, waits)?;
+    svg.line("life waiting", x, waits, to)
+}
+
+/// Puts the lifeline.
+fn put_life(svg: &mut Svg, column: &Column, sheet: Sheet, x: u64) -> Result<(), NoMemory>
+    ensures { OnOk result (Draws [] svg.old.bytes.items svg.new.bytes.items) }
+{
+    let from = birth(column, sheet);
+    let to = end(column, sheet);
+    match column.waits {
+        Some(row) if column.deadlocked => put_waiting_life(svg, x, from, sheet.y(row), to),
+        _ => svg.line("life", x, from, to),
+    }
+}
+
+/// Puts whether a process waits in a deadlock.
+fn put_waits(svg: &mut Svg, column: &Column, x: u64, y: u64) -> Result<(), NoMemory>
+    ensures { OnOk result (Draws [] svg.old.bytes.items svg.new.bytes.items) }
+{
+    if column.deadlocked {
+        svg.text("foot", (x, y), &[Word("waits")])
+    } else {
+        Ok(())
+    }
+}
+
+/// Puts the pid at a place, and below it whether the process waits in a deadlock.
+fn put_foot_at(svg: &mut Svg, column: &Column, x: u64, y: u64) -> Result<(), NoMemory>
+    ensures { OnOk result (Draws [] svg.old.bytes.items svg.new.bytes.items) }
+{
+    svg.text("foot", (x, y), &[Pid(column.pid)])?;
+    put_waits(svg, column, x, y.saturating_add(FOOT_LINE))
+}
+
+/// Puts the foot below a lifeline that goes on to the end.
+fn put_foot(svg: &mut Svg, column: &Column, sheet: Sheet, x: u64) -> Result<(), NoMemory>
+    ensures { OnOk result (Draws [] svg.old.bytes.items svg.new.bytes.items) }
+{
     if column.ended.is_some() {
-        return Ok(());
+        Ok(())
+    } else {
+        put_foot_at(svg, column, x, sheet.bottom().saturating_add(14))
     }
-    let y = sheet.bottom().saturating_add(14);
-    let pid = column.pid;
-    put_piece(
-        out,
-        format!(in alloc; "<text class=\"foot\" x=\"{x}\" y=\"{y}\">&lt;{pid}&gt;</text>")?,
-    )?;
-    if !column.deadlocked {
-        return Ok(());
-    }
-    let below = y.saturating_add(FOOT_LINE);
-    put_piece(
-        out,
-        format!(in alloc; "<text class=\"foot\" x=\"{x}\" y=\"{below}\">waits</text>")?,
-    )
 }
 
 /// Puts the tooltip of a process: its pid, and its root function or who spawned it.
-fn put_told(
-    alloc: Global,
-    out: &mut Vec<u8>,
-    column: &Column,
-    root: &[u8],
-) -> Result<(), NoMemory> {
-    let pid = column.pid;
-    put_piece(out, format!(in alloc; "<title>&lt;{pid}&gt; ")?)?;
+fn put_tooltip(svg: &mut Svg, column: &Column, root: &[u8]) -> Result<(), NoMemory>
+    ensures { OnOk result (Draws (origin_labels root.now column.now.spawned)
+        svg.old.bytes.items svg.new.bytes.items) }
+{
     match column.spawned {
-        Some((parent, row)) => {
-            let event = row.saturating_add(1);
-            put_piece(
-                out,
-                format!(in alloc; "spawned by &lt;{parent}&gt; in event {event}")?,
-            )?;
-        }
-        None => {
-            put(out, b"from ")?;
-            put_escaped(alloc, out, root)?;
-        }
+        Some((parent, row)) => svg.title(&[
+            Pid(column.pid),
+            Word(" spawned by "),
+            Pid(parent),
+            Word(" in event "),
+            Number((row as u64).saturating_add(1)),
+        ]),
+        None => svg.title(&[Pid(column.pid), Word(" from "), Part::Label(root)]),
     }
-    put(out, b"</title>")
+}
+
+/// The class of a process.
+fn class_of(column: &Column) -> &'static str
+    ensures { IsTrue (is_word result.now) }
+{
+    if column.deadlocked {
+        "process deadlocked"
+    } else {
+        "process"
+    }
 }
 
 fn put_column(
-    alloc: Global,
-    out: &mut Vec<u8>,
+    svg: &mut Svg,
     column: &Column,
     root: &[u8],
     sheet: Sheet,
     x: u64,
-) -> Result<(), NoMemory> {
-    let pid = column.pid;
-    let class = if column.deadlocked {
-        "process deadlocked"
-    } else {
-        "process"
-    };
-    put_piece(
-        out,
-        format!(in alloc; "<g class=\"{class}\" data-pid=\"{pid}\">")?,
-    )?;
-    put_told(alloc, out, column, root)?;
-    put_life(alloc, out, column, sheet, x)?;
-    put_box(alloc, out, pid, x, sheet.pitch())?;
-    put_origin(alloc, out, column, root, x, sheet.pitch())?;
-    put_foot(alloc, out, column, sheet, x)?;
-    put(out, b"</g>\n")
+) -> Result<(), NoMemory>
+    ensures { OnOk result (Draws (process_labels root.now column.now.spawned)
+        svg.old.bytes.items svg.new.bytes.items) }
+{
+    svg.put(&[
+        Word("<g class=\""),
+        Word(class_of(column)),
+        Word("\""),
+        Attribute("data-pid", u64::from(column.pid)),
+        Word(">"),
+    ])?;
+    put_tooltip(svg, column, root)?;
+    put_before(svg, column, sheet, x)?;
+    put_life(svg, column, sheet, x)?;
+    put_box(svg, column.pid, x, sheet.pitch())?;
+    put_origin(svg, column, root, x, sheet.pitch())?;
+    put_foot(svg, column, sheet, x)?;
+    svg.close_group()
 }
 
 /// Puts all processes.
 pub(crate) fn put_columns(
-    alloc: Global,
-    out: &mut Vec<u8>,
+    svg: &mut Svg,
     columns: &[Column],
     root: &[u8],
     sheet: Sheet,
-) -> Result<(), NoMemory> {
+) -> Result<(), NoMemory>
+    ensures { OnOk result (Draws (flat_map (λ c. process_labels root.now c.spawned) columns.now)
+        svg.old.bytes.items svg.new.bytes.items) }
+{
     for (index, column) in columns.iter().enumerate() {
-        put_column(alloc, out, column, root, sheet, sheet.x(index))?;
+        put_column(svg, column, root, sheet, sheet.x(index))?;
     }
     Ok(())
 }
 
 /// Puts an arrow from who spawns to the beginning of a lifeline.
-fn put_spawn(
-    alloc: Global,
-    out: &mut Vec<u8>,
-    row: usize,
-    from: u64,
+fn put_spawn(svg: &mut Svg, row: usize, from: u64, to: u64, y: u64) -> Result<(), NoMemory>
+    ensures { OnOk result (Draws [] svg.old.bytes.items svg.new.bytes.items) }
+{
+    svg.put(&[
+        Word("<g class=\"arrow spawn\""),
+        Attribute("data-event", (row as u64).saturating_add(1)),
+        Word(">"),
+    ])?;
+    svg.path(&[Word("M"), Place(from, y), Word("L"), Place(to, y)])?;
+    svg.close_group()
+}
+
+/// The column of who spawned a process, and the row in which it did.
+fn parent_of(columns: &[Column], column: &Column) -> Option<(usize, usize)> {
+    let (parent, row) = column.spawned?;
+    Some((column_of(columns, parent)?, row))
+}
+
+/// Puts the arrow to the beginning of a lifeline, unless it is that of the root.
+fn put_spawn_of(
+    svg: &mut Svg,
+    columns: &[Column],
+    column: &Column,
     to: u64,
-    y: u64,
-) -> Result<(), NoMemory> {
-    let event = row.saturating_add(1);
-    put_piece(
-        out,
-        format!(in alloc;
-            "<g class=\"arrow spawn\" data-event=\"{event}\"><path d=\"M{from} {y}L{to} {y}\"/></g>\n"
-        )?,
-    )
+    sheet: Sheet,
+) -> Result<(), NoMemory>
+    ensures { OnOk result (Draws [] svg.old.bytes.items svg.new.bytes.items) }
+{
+    match parent_of(columns, column) {
+        Some((from, row)) => put_spawn(svg, row, sheet.x(from), to, sheet.y(row)),
+        None => Ok(()),
+    }
 }
 
 /// Puts an arrow to the beginning of each lifeline but that of the root.
-pub(crate) fn put_spawns(
-    alloc: Global,
-    out: &mut Vec<u8>,
-    columns: &[Column],
-    sheet: Sheet,
-) -> Result<(), NoMemory> {
+pub(crate) fn put_spawns(svg: &mut Svg, columns: &[Column], sheet: Sheet) -> Result<(), NoMemory>
+    ensures { OnOk result (Draws [] svg.old.bytes.items svg.new.bytes.items) }
+{
     for (index, column) in columns.iter().enumerate() {
-        if let Some((parent, row)) = column.spawned {
-            if let Some(from) = column_of(columns, parent) {
-                put_spawn(alloc, out, row, sheet.x(from), sheet.x(index), sheet.y(row))?;
-            }
-        }
+        put_spawn_of(svg, columns, column, sheet.x(index), sheet)?;
     }
     Ok(())
 }

@@ -1,8 +1,7 @@
-//! What is drawn of a report: a column for each process, a row and a mark for each event, an arrow for each signal.
+//! What is drawn of a report beside its events: a column for each process, and an arrow for each signal.
 
 use crate::arrows::{Arrow, SignalKind};
 use crate::columns::{Column, column_of, columns_of};
-use crate::marks::Mark;
 use crate::traffic::Traffic;
 use pf_model::report::{Actor, Event, Label, Report, Suffix};
 use pf_terms::NoMemory;
@@ -11,7 +10,6 @@ use std::alloc::Global;
 #[derive(Drop)]
 pub(crate) struct Layout {
     pub(crate) columns: Vec<Column>,
-    pub(crate) marks: Vec<Mark>,
     pub(crate) arrows: Vec<Arrow>,
 }
 
@@ -19,7 +17,6 @@ pub(crate) struct Layout {
 #[derive(Drop)]
 struct Reading {
     columns: Vec<Column>,
-    marks: Vec<Mark>,
     traffic: Traffic,
 }
 
@@ -27,16 +24,7 @@ impl Reading {
     fn started(alloc: Global, report: &Report) -> Result<Reading, NoMemory> {
         let columns = columns_of(alloc, report)?;
         let traffic = Traffic::new(alloc, columns.len())?;
-        Ok(Reading {
-            columns,
-            marks: Vec::new(alloc),
-            traffic,
-        })
-    }
-
-    fn mark(&mut self, row: usize, column: usize) -> Result<(), NoMemory> {
-        self.marks.push(Mark { column, row })?;
-        Ok(())
+        Ok(Reading { columns, traffic })
     }
 
     fn end(&mut self, alloc: Global, row: usize, a: usize) -> Result<(), NoMemory> {
@@ -118,7 +106,6 @@ impl Reading {
 
     /// A turn of a process.
     fn turn(&mut self, alloc: Global, row: usize, a: usize, label: &Label) -> Result<(), NoMemory> {
-        self.mark(row, a)?;
         match label {
             Label::Sends { to, .. } => self.send(row, a, *to, SignalKind::Message),
             Label::Exits { pid, .. } => self.send(row, a, *pid, SignalKind::Exit),
@@ -146,7 +133,6 @@ impl Reading {
         b: usize,
         label: &Label,
     ) -> Result<(), NoMemory> {
-        self.mark(row, b)?;
         if let Label::Delivers(signal, suffix) = label {
             self.traffic.deliver(row, a, b, signal, suffix)?;
             if let Suffix::EndingWith(_) = suffix {
@@ -179,15 +165,7 @@ pub(crate) fn layout_of(alloc: Global, report: &Report) -> Result<Layout, NoMemo
     for (row, event) in report.events.iter().enumerate() {
         reading.event(alloc, row, event)?;
     }
-    let Reading {
-        columns,
-        marks,
-        traffic,
-    } = reading;
+    let Reading { columns, traffic } = reading;
     let Traffic { arrows, .. } = traffic;
-    Ok(Layout {
-        columns,
-        marks,
-        arrows,
-    })
+    Ok(Layout { columns, arrows })
 }

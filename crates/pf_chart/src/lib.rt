@@ -5,16 +5,16 @@ mod arrows;
 mod chart;
 mod columns;
 mod escape;
+mod events;
 mod heads;
 mod laws;
 mod layout;
 mod marks;
 mod peers;
-mod pieces;
 mod sheet;
-mod spots;
 mod strokes;
 mod style;
+mod svg;
 mod traffic;
 
 pub use chart::put_chart;

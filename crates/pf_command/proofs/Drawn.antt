@@ -1,15 +1,19 @@
--- Answers whose text is only tested.
-use Rattle.std.proofs.Common.{ℕ, List, IfOk, arith}
-use Rattle.std.specs.Prelude.{Result}
-use Rattle.std.proofs.lemmas.Result.{IfOk-weaker}
-use Rattle.pf_fault.specs.declared.memory.NoMemory.{NoMemory}
-use Rattle.pf_command.specs.Answers.{Refuses}
-use Rattle.pf_command.specs.Drawn.{HasStatus, SomeText, some_text}
+-- What is told of charts, for texts and statuses that are equal to theirs.
+use Rattle.std.proofs.Common.{◌≡◌, ℕ, List, sym, subst}
+use Rattle.pf_model.specs.Shrinking as shrinking
+use Rattle.pf_model.specs.Shrinking.{IsResult, report, shrunk_to, nothing_fails}
+use Rattle.pf_request.specs.Job.{Job}
+use Rattle.pf_command.specs.Charts.{Draws, DrawsResult, run_drawn, found_drawn, none_drawn}
 use Rattle.pf_command.specs.declared.answer.Answer.{Answer}
 
-pub with_status : (r : Result Answer NoMemory) (bytes : List ℕ) → IfOk r HasStatus → IfOk r (λ a. SomeText bytes a.text.items a.status)
-with_status r bytes h = IfOk-weaker r HasStatus (λ a. SomeText bytes a.text.items a.status) (λ a e. some_text a.status e) h
+drawn : (root : List ℕ) (j : Job) (x : shrinking.Result) (a : Answer) → IsResult j.asked x → DrawsResult j.asked.code.atoms root x a
+    → Draws root j a.text.items a.status
+drawn root j (report r) a is draws = rw draws.1 (run_drawn r a.text.items is draws.0)
+drawn root j (shrunk_to f r) a is draws = rw draws.1 (found_drawn f r a.text.items is draws.0)
+drawn root j nothing_fails a is told = rw (told.0, told.1) (none_drawn is)
 
-pub with_refusal : (r : Result Answer NoMemory) (bytes words : List ℕ) → IfOk r (λ a. Refuses a words) → IfOk r (λ a. SomeText bytes a.text.items a.status)
-with_refusal r bytes words h =
-    IfOk-weaker r (λ a. Refuses a words) (λ a. SomeText bytes a.text.items a.status) (λ a e. let two = e.1 in some_text a.status (omega arith)) h
+-- what draws a result of a job
+pub draws_result : (root : List ℕ) (j : Job) (atoms : List (List ℕ)) (x y : shrinking.Result) (a : Answer) → IsResult j.asked y → x ≡ y
+    → atoms ≡ j.asked.code.atoms → DrawsResult atoms root x a → Draws root j a.text.items a.status
+draws_result root j atoms x y a is e f draws =
+    drawn root j y a is (subst (λ l. DrawsResult l root y a) f (subst (λ z. DrawsResult atoms root z a) e draws))

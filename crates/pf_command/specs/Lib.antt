@@ -1,3 +1,5 @@
 pub mod Answers
+pub mod Hunts
+pub mod Charts
 pub mod Checks
-pub mod Drawn
+pub mod Streams

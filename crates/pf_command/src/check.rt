@@ -6,6 +6,7 @@ ghost use Rattle.pf_model.specs.TermText.{line};
 ghost use Rattle.pf_command.specs.Checks.{Checks, explained};
 
 use crate::answer::{Answer, refused_at};
+use crate::serving::Answering;
 use pf_check::read;
 use pf_explain::put_explanation;
 use pf_fault::{NoMemory, OrNoMemory, Refusal};
@@ -21,7 +22,7 @@ fn accepted(alloc: Global) -> Result<Answer, NoMemory>
     Ok(Answer { text, status: 0 })
 }
 
-/// The answer to a source that is refused, with its explanation where that is asked for.
+/// The answer to a source that is refused, with its explanation if that is asked for.
 fn refuse(alloc: Global, explain: bool, source: &[u8], refusal: Refusal) -> Result<Answer, NoMemory>
     ensures { IfOk result (λ a. (a.text.items ≡ line (refusal_text refusal.code refusal.place)
         ++ explained explain source.now refusal.code refusal.place) × (a.status ≡ 2)) }
@@ -33,8 +34,8 @@ fn refuse(alloc: Global, explain: bool, source: &[u8], refusal: Refusal) -> Resu
     Ok(Answer { text, status })
 }
 
-/// The answer to a source: `ok` where it is a module, else its first refusal.
-pub fn answer_check(alloc: Global, explain: bool, source: &[u8]) -> Result<Answer, NoMemory>
+/// The answer to a source: `ok` if it is a module, else its first refusal.
+fn answer_check(alloc: Global, explain: bool, source: &[u8]) -> Result<Answer, NoMemory>
     ensures { IfOk result (λ a. Checks explain source.now a.text.items a.status) }
 {
     let refusal = match read(alloc, source) {
@@ -43,4 +44,20 @@ pub fn answer_check(alloc: Global, explain: bool, source: &[u8]) -> Result<Answe
         Err(OrNoMemory::Fault(refusal)) => refusal,
     };
     refuse(alloc, explain, source, refusal)
+}
+
+/// A check is asked for, and whether a refusal is explained.
+#[derive(Drop)]
+pub struct Check {
+    pub explain: bool,
+}
+
+impl Answering for Check {
+    ghost use Rattle.pf_command.specs.Checks.{Checks};
+
+    ghost answers = { λ c. Checks c.explain };
+
+    fn answer(self, alloc: Global, bytes: Vec<u8>) -> Result<Answer, NoMemory> {
+        answer_check(alloc, self.explain, &bytes)
+    }
 }

@@ -2,11 +2,17 @@
 #![tactic(auto)]
 
 mod answer;
-mod asked;
 mod chart;
 mod check;
 mod hunt;
+mod run;
 mod seeds;
-mod source;
+mod seek;
+mod serving;
 
-pub use source::{MOST_BYTES, chart_source, check_source, hunt_source, run_source, shrink_source};
+pub use answer::Answer;
+pub use chart::Chart;
+pub use check::Check;
+pub use hunt::hunt_source;
+pub use run::{Run, Shrink};
+pub use serving::{Answering, MOST_BYTES, serve};

@@ -1,18 +1,25 @@
 //! The texts of hunts over seeds.
 
-ghost use Rattle.std.specs.Prelude.{◌≡◌, ◌++◌, IfOk, OnOk, codes, map};
-ghost use Rattle.std.specs.Fmt.{decimal};
-ghost use Rattle.pf_model.specs.Text.{schedule_text};
+ghost use Rattle.std.specs.Prelude.{◌≡◌, ◌++◌, IfOk, OnOk, flat_map, map, if◌then◌else◌};
+ghost use Rattle.std.specs.List.{list_any};
+ghost use Rattle.pf_terms.specs.Atoms.{name_of};
+ghost use Rattle.pf_model.specs.Reports.{outcome_of, report_of};
+ghost use Rattle.pf_model.specs.Shrinking.{is_failure};
+ghost use Rattle.pf_model.specs.TermText.{line};
+ghost use Rattle.pf_model.specs.Text.{outcome_text};
+ghost use Rattle.pf_hunt.specs.Views.{row_of};
+ghost use Rattle.pf_command.specs.Hunts.{choices_of, none_text, row_text, seed_text, verdict_text};
 
-use pf_hunt::Row;
+use crate::answer::FAILED;
+use pf_hunt::{HashedOutcome, Row};
 use pf_model::report::Report;
 use pf_terms::{AtomTable, NoMemory};
 use pf_text::{put, put_byte, put_number, put_schedule};
 use pf_trace::put_outcome;
 use std::alloc::Global;
 
-/// The choices of a run, event by event: by them as a schedule it runs so again.
-pub(crate) fn schedule_of(alloc: Global, report: &Report) -> Result<Vec<u32>, NoMemory>
+/// The choices of events.
+fn choices_in(alloc: Global, report: &Report) -> Result<Vec<u32>, NoMemory>
     ensures { IfOk result (λ numbers. numbers.items ≡ map (λ e. e.choice) report.now.events.items) }
 {
     let mut numbers = Vec::with_capacity(alloc, report.events.len())?;
@@ -22,56 +29,96 @@ pub(crate) fn schedule_of(alloc: Global, report: &Report) -> Result<Vec<u32>, No
     Ok(numbers)
 }
 
+/// The choices of a run, event by event: by them as a schedule it runs so again.
+pub(crate) fn choices_of(alloc: Global, report: &Report) -> Result<Vec<u32>, NoMemory>
+    ensures { IfOk result (λ numbers. numbers.items ≡ choices_of (report_of report.now)) }
+{
+    choices_in(alloc, report)
+}
+
 /// Puts that no run of so many seeds fails.
-pub(crate) fn put_none(alloc: Global, out: &mut Vec<u8>, seeds: u64) -> Result<(), NoMemory>
-    ensures { OnOk result (out.new.items ≡ out.old.items ++ (codes "no failure in " ++ decimal seeds ++ codes " seeds\n")) }
+pub(crate) fn put_none(out: &mut Vec<u8>, seeds: u64) -> Result<(), NoMemory>
+    ensures { OnOk result (out.new.items ≡ out.old.items ++ none_text seeds) }
 {
     put(out, b"no failure in ")?;
-    put_number(alloc, out, seeds)?;
+    put_number(out, seeds)?;
     put(out, b" seeds\n")
 }
 
 /// Puts the seed of a run that fails and its choices, each on a line.
-pub(crate) fn put_failure(
-    alloc: Global,
-    out: &mut Vec<u8>,
-    seed: u64,
-    schedule: &[u32],
-) -> Result<(), NoMemory>
-    ensures { OnOk result (out.new.items ≡ out.old.items
-        ++ (codes "seed " ++ decimal seed ++ codes "\nschedule " ++ schedule_text schedule.now ++ codes "\n")) }
+pub(crate) fn put_seed(out: &mut Vec<u8>, seed: u64, choices: &[u32]) -> Result<(), NoMemory>
+    ensures { OnOk result (out.new.items ≡ out.old.items ++ seed_text seed choices.now) }
 {
     put(out, b"seed ")?;
-    put_number(alloc, out, seed)?;
+    put_number(out, seed)?;
     put(out, b"\nschedule ")?;
-    put_schedule(alloc, out, schedule)?;
+    put_schedule(out, choices)?;
     put_byte(out, b'\n')
 }
 
+/// Puts whether a property holds, before what comes of it.
+fn put_verdict(out: &mut Vec<u8>, verdict: Option<bool>) -> Result<(), NoMemory>
+    ensures { OnOk result (out.new.items ≡ out.old.items ++ verdict_text verdict) }
+{
+    match verdict {
+        Some(true) => put(out, b"holds "),
+        Some(false) => put(out, b"fails "),
+        None => put(out, b"no verdict "),
+    }
+}
+
+/// Puts the line of an outcome.
+fn put_met(out: &mut Vec<u8>, atoms: &AtomTable, met: &HashedOutcome) -> Result<(), NoMemory>
+    ensures { OnOk result (out.new.items ≡ out.old.items ++ line (outcome_text (name_of atoms.now) met.now)) }
+{
+    put_outcome(out, atoms, met.get())
+}
+
 /// Puts a row: whether the property holds, by how many seeds the outcome was met, the least of them, and the outcome's line.
-fn put_row(alloc: Global, out: &mut Vec<u8>, atoms: &AtomTable, row: &Row) -> Result<(), NoMemory> {
-    let verdict: &[u8] = match row.verdict {
-        Some(true) => b"holds ",
-        Some(false) => b"fails ",
-        None => b"no verdict ",
-    };
-    put(out, verdict)?;
-    put_number(alloc, out, row.count)?;
+fn put_row(out: &mut Vec<u8>, atoms: &AtomTable, row: &Row) -> Result<(), NoMemory>
+    ensures { OnOk result (out.new.items ≡ out.old.items ++ row_text (name_of atoms.now) (row_of row.now)) }
+{
+    put_verdict(out, row.verdict)?;
+    put_number(out, row.count)?;
     put(out, b" seeds, least ")?;
-    put_number(alloc, out, row.least)?;
+    put_number(out, row.least)?;
     put(out, b": ")?;
-    put_outcome(alloc, out, atoms, row.outcome.get())
+    put_met(out, atoms, &row.outcome)
 }
 
 /// Puts rows, each on a line.
-pub(crate) fn put_rows(
-    alloc: Global,
-    out: &mut Vec<u8>,
-    atoms: &AtomTable,
-    rows: &[Row],
-) -> Result<(), NoMemory> {
+pub(crate) fn put_rows(out: &mut Vec<u8>, atoms: &AtomTable, rows: &[Row]) -> Result<(), NoMemory>
+    ensures { OnOk result (out.new.items
+        ≡ out.old.items ++ flat_map (λ x. row_text (name_of atoms.now) (row_of x)) rows.now) }
+{
     for row in rows {
-        put_row(alloc, out, atoms, row)?;
+        put_row(out, atoms, row)?;
     }
     Ok(())
+}
+
+/// Whether the property fails of the runs of a row.
+fn fails(row: &Row) -> bool
+    ensures { result ≡ is_failure row.now.verdict }
+{
+    matches!(row.verdict, Some(false))
+}
+
+/// Whether the property of some run fails.
+fn some_fails(rows: &[Row]) -> bool
+    ensures { result ≡ list_any (λ x. is_failure x.verdict) rows.now }
+{
+    for row in rows {
+        if fails(row) {
+            return true;
+        }
+    }
+    false
+}
+
+/// The status of rows: 1 if the property of some run fails, else 0.
+pub(crate) fn rows_status(rows: &[Row]) -> u8
+    ensures { result ≡ (if list_any (λ x. is_failure x.verdict) rows.now then 1 else 0) }
+{
+    if some_fails(rows) { FAILED } else { 0 }
 }

@@ -2,10 +2,11 @@
 use Rattle.std.proofs.Common.{◌≡◌, ℕ, ◌==◌, Bool, true, false, List, [], ◌∷◌, ◌++◌, Option, Some, None, refl, sym, ap, ◌∙◌, arith}
 use Rattle.std.specs.Prelude.{if◌then◌else◌, unwrap_or}
 use Rattle.std.proofs.lemmas.Bool.Decides.{nat_tests}
-use Rattle.pf_desks.specs.Desk.{Profile, Desk, Call, Reply}
+use Rattle.pf_request.specs.Calls.{Call}
+use Rattle.pf_desks.specs.Desk.{Profile, Desk, Reply}
 use Rattle.pf_desks.specs.Calls.{after_call}
 use Rattle.pf_desks.specs.Work.{Work, worker_step}
-use Rattle.pf_desks.specs.World.{Step, client, worker, Answer, World, desk_at, put_desk, worked, step, answers, whole, named, belongs, replies_in, told, own_steps, desk_after, desk_replies, replies_along, alone}
+use Rattle.pf_desks.specs.World.{Step, client, worker, Answer, World, desk_at, put_desk, worked, step, answers, all_answers, named, belongs, replies_in, told, own_steps, desk_after, desk_replies, replies_along, alone}
 
 pub pick : {A : Type 0} (P : A → Type 0) (b : Bool) (x y : A) → P x → P y → P (if b then x else y)
 pick P true x y f g = f
@@ -86,5 +87,5 @@ isolated_from p q w (s ∷ ss) =
     let l : IsLocal p q w s (step p w s) = local p q w s in
     joined p q s (step p w s).1 ss (answers p (step p w s).0 ss) (desk_at q w) (desk_at q (step p w s).0) l.0 l.1 (isolated_from p q (step p w s).0 ss)
 
-pub isolated : (p : Profile) (q : ℕ) (ss : List Step) → told q ss (whole p ss) ≡ alone p q ss
+pub isolated : (p : Profile) (q : ℕ) (ss : List Step) → told q ss (all_answers p ss) ≡ alone p q ss
 isolated p q ss = isolated_from p q [] ss

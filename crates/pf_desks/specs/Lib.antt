@@ -4,6 +4,7 @@ pub mod Work
 pub mod History
 pub mod World
 pub mod Told
-pub mod ReportCode
-pub mod DeskCode
+pub mod Encoding
 pub mod Legality
+pub mod Limits
+pub mod Numbers

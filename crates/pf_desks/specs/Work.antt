@@ -1,10 +1,9 @@
 -- The work of workers at a desk: claims, files and hand-backs, and a trial run whole.
-use Rattle.std.specs.Prelude.{ℕ, Bool, true, false, if◌then◌else◌, List, [], Option, Some, None, option_and_then}
+use Rattle.std.specs.Prelude.{ℕ, Bool, true, false, if◌then◌else◌, List, Option, Some, None, option_and_then}
 use Rattle.std.specs.Option.{option_map}
-use Rattle.pf_model.specs.Meaning.{Report}
-use Rattle.pf_model.specs.Properties as properties
 use Rattle.pf_model.specs.Shrinking as shrinking
-use Rattle.pf_desks.specs.Desk.{Job, State, queued, running, done, Trial, Desk, held_at, with_held, Profile, Mark, marked_whole, marked_memory, claimed, filed, handed_back}
+use Rattle.pf_request.specs.Job.{Job, memory_report}
+use Rattle.pf_desks.specs.Desk.{State, queued, running, done, Trial, Desk, held_at, with_held, Profile, Mark, marked_whole, marked_memory, claimed, filed, handed_back}
 use Rattle.pf_desks.specs.Calls.{with_entry}
 
 abbrev pub is_queued_state : State → Bool
@@ -33,13 +32,9 @@ in_state f t = record t { state = f t.job }
 abbrev pub with_state : List (Option Trial) → ℕ → (Job → State) → List (Option Trial)
 with_state ts t f = with_held ts t (option_map (in_state f) (held_at ts t))
 
--- what is told of a job for which memory ran out: no event, no step and no verdict
-abbrev pub memory_report : Report
-memory_report = record { events = []; outcome = properties.memory; steps = 0; verdict = None }
-
 -- what a file puts, by its mark
 abbrev pub result_marked : Profile → Mark → Job → shrinking.Result
-result_marked p marked_whole j = p.meaning j
+result_marked p marked_whole j = p.meaning j.asked
 result_marked p marked_memory j = shrinking.report memory_report
 
 -- a claim: what was queued is running

@@ -1,6 +1,7 @@
 -- Worlds: many projects and their workers, and what one project would be told if it were alone.
 use Rattle.std.specs.Prelude.{◌≡◌, ℕ, Bool, true, false, ◌==◌, if◌then◌else◌, List, [], ◌∷◌, ◌++◌, Option, Some, None, unwrap_or}
-use Rattle.pf_desks.specs.Desk.{Profile, Desk, no_desk, Call, Reply}
+use Rattle.pf_request.specs.Calls.{Call}
+use Rattle.pf_desks.specs.Desk.{Profile, Desk, no_desk, Reply}
 use Rattle.pf_desks.specs.Calls.{HasRoom, reply_to, after_call}
 use Rattle.pf_desks.specs.Work.{Work, worker_step}
 
@@ -42,9 +43,9 @@ abbrev pub answers : Profile → World → List Step → List Answer
 answers p w [] = []
 answers p w (s ∷ ss) = (step p w s).1 ∷ answers p (step p w s).0 ss
 
--- the answers to some steps, from the world in which no desk is open
-abbrev pub whole : Profile → List Step → List Answer
-whole p ss = answers p [] ss
+-- the answers to all steps, from the world in which no desk is open
+abbrev pub all_answers : Profile → List Step → List Answer
+all_answers p ss = answers p [] ss
 
 -- ---- one project among the others
 
@@ -95,11 +96,11 @@ replies_along p d (s ∷ ss) = desk_replies p d s ++ replies_along p (desk_after
 
 -- what a project is told where its own steps are all that there is: one empty desk, along the steps of the whole that belong to it
 abbrev pub alone : Profile → ℕ → List Step → List Reply
-alone p q ss = replies_along p no_desk (own_steps q ss (whole p ss))
+alone p q ss = replies_along p no_desk (own_steps q ss (all_answers p ss))
 
 -- isolation: whatever steps there are, of however many projects and in whatever order, a project is told what it is told alone
 abbrev pub Isolation : Type 0
-Isolation = (p : Profile) (q : ℕ) (ss : List Step) → told q ss (whole p ss) ≡ alone p q ss
+Isolation = (p : Profile) (q : ℕ) (ss : List Step) → told q ss (all_answers p ss) ≡ alone p q ss
 
 -- ---- where growths are refused
 

@@ -2,6 +2,8 @@
 
 ghost use Rattle.pf_desks.specs.World.{Isolation};
 ghost use Rattle.pf_desks.specs.Legality.{Legality};
+ghost use Rattle.pf_desks.specs.Limits.{StaysInLimits};
+ghost use Rattle.pf_desks.specs.Numbers.{NoNumberTwice};
 
 /// Isolation: for every list of steps, of any length, in any order and of any number of projects, a project is
 /// told what it is told alone, along its own steps.
@@ -13,4 +15,15 @@ pub fn isolation()
 /// history is legal.
 pub fn legality()
     ensures { Legality }
+{}
+
+/// Limits: for every list of steps, what each project's desk uses passes none of the limits of its edition.
+pub fn stays_in_limits()
+    ensures { StaysInLimits }
+{}
+
+/// Numbers: for every list of steps, the modules' numbers that a project is told are 1, 2, 3 and so on, and so are its
+/// tickets. None is told twice.
+pub fn no_number_twice()
+    ensures { NoNumberTwice }
 {}

@@ -9,7 +9,8 @@ use Rattle.pf_model.specs.Meaning.{Job, Report, Means}
 use Rattle.pf_model.specs.Properties.{Outcome, finished, ended, deadlock, limit, memory}
 use Rattle.pf_hunt.specs.Rows.{Row, met, same_verdict, same_outcome, is_like, more_often, with_row, joined, counted}
 use Rattle.pf_hunt.specs.Hashes.{outcome_hash}
-use Rattle.pf_hunt.specs.Hunts.{by_seed, Tallies, no_seed, and_seed}
+use Rattle.pf_request.specs.Job.{asked_by_seed}
+use Rattle.pf_hunt.specs.Hunts.{Tallies, no_seed, and_seed}
 use Rattle.pf_hunt.proofs.Firsts.{one_report}
 
 -- ---- sameness
@@ -204,7 +205,7 @@ module _ (j : Job) where
   ends_there a b s rows t (inr k) l = let e : s ≡ b = omega arith in subst (λ n. Tallies j a n rows) e t
 
   -- one seed more
-  pub one_seed_more : (a s : ℕ) (rows : List Row) (r : Report) → a ≤ s → Tallies j a s rows → Means (by_seed j s) r
+  pub one_seed_more : (a s : ℕ) (rows : List Row) (r : Report) → a ≤ s → Tallies j a s rows → Means (asked_by_seed j s) r
       → Tallies j a (s + 1) (with_row rows (met s r))
   one_seed_more a s rows r l t m =
       let e : suc s ≡ s + 1 = omega arith in subst (λ n. Tallies j a n (with_row rows (met s r))) e (and_seed s rows r l t m)

@@ -4,15 +4,16 @@ use Rattle.std.proofs.lemmas.Bool.{cases_lt, cases_order}
 use Rattle.pf_model.specs.Meaning.{Job, Report, Means}
 use Rattle.pf_model.specs.Shrinking.{is_failure}
 use Rattle.pf_model.proofs.Meanings.{only_evaluated}
-use Rattle.pf_hunt.specs.Hunts.{by_seed, NoneFails, FirstFailing, none_fails, first}
+use Rattle.pf_request.specs.Job.{asked_by_seed}
+use Rattle.pf_hunt.specs.Hunts.{NoneFails, FirstFailing, none_fails, first}
 
 -- a run by a seed has one report
-pub one_report : (j : Job) (s : ℕ) (r t : Report) → Means (by_seed j s) r → Means (by_seed j s) t → r ≡ t
-one_report j s r t h k = only_evaluated (by_seed j s) r h ∙ sym (only_evaluated (by_seed j s) t k)
+pub one_report : (j : Job) (s : ℕ) (r t : Report) → Means (asked_by_seed j s) r → Means (asked_by_seed j s) t → r ≡ t
+one_report j s r t h k = only_evaluated (asked_by_seed j s) r h ∙ sym (only_evaluated (asked_by_seed j s) t k)
 
 module _ (j : Job) where
   -- a failure and none
-  fails_not : (s : ℕ) (r t : Report) → Means (by_seed j s) r → Means (by_seed j s) t → is_failure r.verdict ≡ true → is_failure t.verdict ≡ false → ⊥
+  fails_not : (s : ℕ) (r t : Report) → Means (asked_by_seed j s) r → Means (asked_by_seed j s) t → is_failure r.verdict ≡ true → is_failure t.verdict ≡ false → ⊥
   fails_not s r t h k e f = let q = one_report j s r t h k in absurd (cc)
 
   pub no_seeds : (a b : ℕ) → b ≤ a → NoneFails j a b
@@ -24,14 +25,14 @@ module _ (j : Job) where
     | inr l ↦ k s r l to m
   ]
 
-  none_at : (b : ℕ) (r : Report) → Means (by_seed j b) r → is_failure r.verdict ≡ false → NoneFails j b (b + 1)
+  none_at : (b : ℕ) (r : Report) → Means (asked_by_seed j b) r → is_failure r.verdict ≡ false → NoneFails j b (b + 1)
   none_at b r m f s t from to n =
       let e : s ≡ b = omega arith in
-      let q = one_report j b t r (subst (λ i. Means (by_seed j i) t) e n) m in
+      let q = one_report j b t r (subst (λ i. Means (asked_by_seed j i) t) e n) m in
       ap (λ z. is_failure z.verdict) q ∙ f
 
   -- one seed more
-  pub one_more : (a b : ℕ) (r : Report) → NoneFails j a b → Means (by_seed j b) r → is_failure r.verdict ≡ false → NoneFails j a (b + 1)
+  pub one_more : (a b : ℕ) (r : Report) → NoneFails j a b → Means (asked_by_seed j b) r → is_failure r.verdict ≡ false → NoneFails j a (b + 1)
   one_more a b r h m f = none_in_parts a b (b + 1) h (none_at b r m f)
 
   -- the first part has one that fails
@@ -48,7 +49,7 @@ module _ (j : Job) where
 
   -- ---- no other
 
-  same_first : (a b s t : ℕ) (r q : Report) → a ≤ s → s < b → a ≤ t → t < b → Means (by_seed j s) r → Means (by_seed j t) q
+  same_first : (a b s t : ℕ) (r q : Report) → a ≤ s → s < b → a ≤ t → t < b → Means (asked_by_seed j s) r → Means (asked_by_seed j t) q
       → is_failure r.verdict ≡ true → is_failure q.verdict ≡ true → NoneFails j a s → NoneFails j a t → s ≡ t
   same_first a b s t r q from to from' to' m n f g before before' = elim (cases_order s t) [
     | inl e ↦ e
@@ -62,5 +63,5 @@ module _ (j : Job) where
   one_first a b _ _ (first s r from to m f before) (none_fails h) = absurd (fails_not s r r m m f (h s r from to m))
   one_first a b _ _ (first s r from to m f before) (first t q from' to' n g before') =
       let e = same_first a b s t r q from to from' to' m n f g before before' in
-      let d = one_report j t r q (subst (λ i. Means (by_seed j i) r) e m) n in
+      let d = one_report j t r q (subst (λ i. Means (asked_by_seed j i) r) e m) n in
       cc

@@ -1,4 +1,3 @@
-pub mod Asking
 pub mod Firsts
 pub mod Counting
 pub mod Places

@@ -15,11 +15,11 @@ OneTally = (j : Job) (a b : ℕ) (xs ys : List Row) → Tallies j a b xs → Tal
 abbrev pub EachIsCounted : Type 0
 EachIsCounted = (j : Job) (a b : ℕ) (rows : List Row) → Tallies j a b rows → counted rows ≡ b - a
 
--- rows are joined where they are of one outcome with one verdict, and only there
+-- rows are joined if they are of one outcome with one verdict, and only then
 abbrev pub LikeIsSame : Type 0
 LikeIsSame = (x y : Row) → (is_like x y ≡ true) ↔ ((x.verdict ≡ y.verdict) × (x.outcome ≡ y.outcome))
 
--- the rows of two parts, one behind the other, are those of the whole
+-- the rows of two parts, one after the other, are those of the whole
 abbrev pub PartsAreTheWhole : Type 0
 PartsAreTheWhole =
     (j : Job) (a c b : ℕ) (xs ys : List Row) → a ≤ c → c ≤ b → Tallies j a c xs → Tallies j c b ys → Tallies j a b (joined xs ys)

@@ -43,12 +43,12 @@ is_like x y = same_verdict x.verdict y.verdict && same_outcome x.outcome y.outco
 abbrev pub more_often : Row → (times : ℕ) → Row
 more_often x n = record x { count = x.count + n }
 
--- the rows, with what one more counts: it is added to the row of its outcome, or stands behind them all
+-- the rows, with what one more counts: it is added to the row of its outcome, or stands after them all
 abbrev pub with_row : List Row → Row → List Row
 with_row [] y = y ∷ []
 with_row (x ∷ xs) y = if is_like x y then more_often x y.count ∷ xs else x ∷ with_row xs y
 
--- the rows of two parts, of which the second is behind the first
+-- the rows of two parts, of which the second is after the first
 abbrev pub joined : (first second : List Row) → List Row
 joined xs [] = xs
 joined xs (y ∷ ys) = joined (with_row xs y) ys

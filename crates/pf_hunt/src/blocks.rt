@@ -1,7 +1,6 @@
-//! Hunts over ranges of any length, block by block, so that they end soon where a run fails.
+//! Hunts over ranges of any length, block by block, so that they end soon if a run fails.
 
 ghost use Rattle.std.specs.Prelude.{◌≤◌, ◌<◌, IfOk, option_map};
-ghost use Rattle.pf_desks.specs.Desk.{job_meant};
 ghost use Rattle.pf_hunt.specs.Hunts.{FirstFailing, Tallies};
 ghost use Rattle.pf_hunt.specs.Views.{failure_of, rows_of};
 
@@ -31,7 +30,7 @@ fn grown(each: u64) -> u64 {
     each.saturating_mul(2).min(MOST)
 }
 
-/// The least seed from a first to before an end whose run fails, by so many workers. Who watches is told how far it came.
+/// The least seed from a first to before an end whose run fails, by so many workers. The watch is told how far it came.
 pub fn hunt<R: Threads + Sync>(
     rt: &R,
     alloc: Global,
@@ -41,7 +40,7 @@ pub fn hunt<R: Threads + Sync>(
     workers: u64,
     watch: &mut impl Watch,
 ) -> Result<Option<Failure>, NoMemory>
-    ensures { IfOk result (λ f. FirstFailing (job_meant job.now) from end (option_map failure_of f)) }
+    ensures { IfOk result (λ f. FirstFailing job.now.asked from end (option_map failure_of f)) }
 {
     let mut at = from;
     let mut each = 1;
@@ -58,7 +57,7 @@ pub fn hunt<R: Threads + Sync>(
     Ok(None)
 }
 
-/// The rows of the runs by the seeds from a first to before an end, by so many workers. Who watches is told how far it came.
+/// The rows of the runs by the seeds from a first to before an end, by so many workers. The watch is told how far it came.
 pub fn hunt_all<R: Threads + Sync>(
     rt: &R,
     alloc: Global,
@@ -68,7 +67,7 @@ pub fn hunt_all<R: Threads + Sync>(
     workers: u64,
     watch: &mut impl Watch,
 ) -> Result<Tally, NoMemory>
-    ensures { IfOk result (λ t. Tallies (job_meant job.now) from end (rows_of t)) }
+    ensures { IfOk result (λ t. Tallies job.now.asked from end (rows_of t)) }
 {
     let mut tally = Tally::new(alloc);
     let mut at = from;

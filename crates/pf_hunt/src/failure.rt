@@ -3,7 +3,6 @@
 ghost use Rattle.std.specs.Prelude.{◌≡◌, IfOk, option_map};
 ghost use Rattle.pf_model.specs.Reports.{report_of};
 ghost use Rattle.pf_model.specs.Shrinking.{is_failure};
-ghost use Rattle.pf_desks.specs.Desk.{job_meant};
 ghost use Rattle.pf_hunt.specs.Hunts.{FirstFailing};
 ghost use Rattle.pf_hunt.specs.Views.{failure_of};
 
@@ -29,7 +28,7 @@ fn fails(report: &Report) -> bool
 
 /// The least seed from a first to before an end whose run fails, with the report of that run.
 pub fn first_in(alloc: Global, job: &Job, from: u64, end: u64) -> Result<Option<Failure>, NoMemory>
-    ensures { IfOk result (λ f. FirstFailing (job_meant job.now) from end (option_map failure_of f)) }
+    ensures { IfOk result (λ f. FirstFailing job.now.asked from end (option_map failure_of f)) }
 {
     let mut scratch = Scratch::new(alloc);
     for seed in from..end {

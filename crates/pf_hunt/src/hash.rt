@@ -22,7 +22,7 @@ impl Model for HashedOutcome {
     ghost use Rattle.std.specs.Prelude.{◌≡◌};
     ghost use Rattle.pf_model.specs.Properties as properties;
     ghost use Rattle.pf_model.specs.Reports.{outcome_of};
-    ghost use Rattle.pf_desks.specs.ReportCode.{coded_outcome};
+    ghost use Rattle.pf_request.specs.ReportEncoding.{coded_outcome};
     ghost use Rattle.pf_hunt.specs.Hashes.{outcome_hash};
 
     ghost Value = { properties.Outcome };

@@ -17,12 +17,12 @@ pub fn each_is_counted()
     ensures { EachIsCounted }
 {}
 
-/// Rows are joined where they are of one outcome with one verdict, and only there.
+/// Rows are joined if they are of one outcome with one verdict, and only then.
 pub fn like_is_same()
     ensures { LikeIsSame }
 {}
 
-/// The rows of two parts, one behind the other, are those of the whole.
+/// The rows of two parts, one after the other, are those of the whole.
 pub fn parts_are_the_whole()
     ensures { PartsAreTheWhole }
 {}

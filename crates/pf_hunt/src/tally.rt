@@ -1,7 +1,6 @@
 //! Each outcome that is met.
 
 ghost use Rattle.std.specs.Prelude.{◌≡◌, ◌+◌, ◌<◌, ◌^◌, IfOk, OnOk, [], MatchOption, length};
-ghost use Rattle.pf_desks.specs.Desk.{job_meant};
 ghost use Rattle.pf_hunt.specs.Hunts.{Tallies};
 ghost use Rattle.pf_hunt.specs.Rows.{counted, joined, with_row};
 ghost use Rattle.pf_hunt.specs.Views.{IsFirstLike, NoneBefore, row_of, rows_of};
@@ -63,7 +62,7 @@ impl Tally {
         count
     }
 
-    /// Counts what the rows of the part behind this one count.
+    /// Counts what the rows of the part after this one count.
     pub fn join(&mut self, behind: Tally) -> Result<(), NoMemory>
         requires { counted (rows_of self.old) + counted (rows_of behind) < 2 ^ 64 }
         ensures { OnOk result (rows_of self.new ≡ joined (rows_of self.old) (rows_of behind)) }
@@ -77,7 +76,7 @@ impl Tally {
 
 /// The rows of the runs by the seeds from a first to before an end.
 pub fn tally_in(alloc: Global, job: &Job, from: u64, end: u64) -> Result<Tally, NoMemory>
-    ensures { IfOk result (λ t. Tallies (job_meant job.now) from end (rows_of t)) }
+    ensures { IfOk result (λ t. Tallies job.now.asked from end (rows_of t)) }
 {
     let mut scratch = Scratch::new(alloc);
     let mut tally = Tally::new(alloc);

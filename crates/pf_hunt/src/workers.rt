@@ -2,7 +2,6 @@
 
 ghost use Rattle.std.specs.Prelude.{◌≤◌, ◌<◌, IfOk, option_map};
 ghost use denote.Param.Send.{IsSync};
-ghost use Rattle.pf_desks.specs.Desk.{job_meant};
 ghost use Rattle.pf_hunt.specs.Hunts.{FirstFailing, Tallies};
 ghost use Rattle.pf_hunt.specs.Views.{failure_of, rows_of};
 
@@ -34,7 +33,7 @@ pub fn first_failing<R: Threads + Sync>(
     end: u64,
     workers: u64,
 ) -> Result<Option<Failure>, NoMemory>
-    ensures { IfOk result (λ f. FirstFailing (job_meant job.now) from end (option_map failure_of f)) }
+    ensures { IfOk result (λ f. FirstFailing job.now.asked from end (option_map failure_of f)) }
 {
     if workers < 2 || end <= from {
         return first_in(alloc, job, from, end);
@@ -44,11 +43,11 @@ pub fn first_failing<R: Threads + Sync>(
     let middle = edge(from, end, low, workers);
     let front_part = move || -> Result<Option<Failure>, NoMemory>
         requires { IsSync R.row }
-        ensures { IfOk result (λ f. FirstFailing (job_meant job.entry.now) from middle (option_map failure_of f)) }
+        ensures { IfOk result (λ f. FirstFailing job.entry.now.asked from middle (option_map failure_of f)) }
     { first_failing(rt, alloc, job, from, middle, low) };
     let back_part = move || -> Result<Option<Failure>, NoMemory>
         requires { IsSync R.row }
-        ensures { IfOk result (λ f. FirstFailing (job_meant job.entry.now) middle end (option_map failure_of f)) }
+        ensures { IfOk result (λ f. FirstFailing job.entry.now.asked middle end (option_map failure_of f)) }
     { first_failing(rt, alloc, job, middle, end, high) };
     let (front, back) = join(rt, front_part, back_part);
     match front? {
@@ -67,7 +66,7 @@ pub fn tally_all<R: Threads + Sync>(
     end: u64,
     workers: u64,
 ) -> Result<Tally, NoMemory>
-    ensures { IfOk result (λ t. Tallies (job_meant job.now) from end (rows_of t)) }
+    ensures { IfOk result (λ t. Tallies job.now.asked from end (rows_of t)) }
 {
     if workers < 2 || end <= from {
         return tally_in(alloc, job, from, end);
@@ -77,11 +76,11 @@ pub fn tally_all<R: Threads + Sync>(
     let middle = edge(from, end, low, workers);
     let front_part = move || -> Result<Tally, NoMemory>
         requires { IsSync R.row }
-        ensures { IfOk result (λ t. Tallies (job_meant job.entry.now) from middle (rows_of t)) }
+        ensures { IfOk result (λ t. Tallies job.entry.now.asked from middle (rows_of t)) }
     { tally_all(rt, alloc, job, from, middle, low) };
     let back_part = move || -> Result<Tally, NoMemory>
         requires { IsSync R.row }
-        ensures { IfOk result (λ t. Tallies (job_meant job.entry.now) middle end (rows_of t)) }
+        ensures { IfOk result (λ t. Tallies job.entry.now.asked middle end (rows_of t)) }
     { tally_all(rt, alloc, job, middle, end, high) };
     let (front, back) = join(rt, front_part, back_part);
     let mut tally = front?;

@@ -3,9 +3,9 @@ use Rattle.std.proofs.Common.{◌≡◌, ℕ, suc, Bool, List, Option, Some, Non
 use Rattle.pf_check.specs.Reads.{Outcome, accepted, refused, Reads, SameOutcome}
 use Rattle.pf_check.proofs.AnyOutcome.{any_outcome}
 use Rattle.pf_check.proofs.Same.{same_outcome}
-use Rattle.pf_model.specs.Meaning as model
+use Rattle.pf_model.specs.Meaning.{Job}
 use Rattle.pf_model.specs.Shrinking.{Result, report, shrunk_to, IsResult, plain, smaller, no_failure, TellsFailures, by_schedule, shrunk}
-use Rattle.pf_desks.specs.Desk.{readable, faulty, Job, job_meant}
+use Rattle.pf_desks.specs.Desk.{readable, faulty}
 use Rattle.pf_model.specs.Evaluation.{evaluated}
 use Rattle.pf_model.proofs.Meanings.{evaluation_is_the_meaning, only_evaluated}
 use Rattle.pf_model.specs.Properties.{Property}
@@ -36,24 +36,22 @@ unfolding profile
 property_is names bytes o h = let any = any_property names bytes in same_property names bytes any.0 o any.1 h
 
 -- a function that tells which schedules fail tells what the one report of each does
-same_failures : (j : model.Job) (fails : List ℕ → Bool) → TellsFailures j fails → fails_by j ≡ fails
+same_failures : (j : Job) (fails : List ℕ → Bool) → TellsFailures j fails → fails_by j ≡ fails
 same_failures j fails tells = λ i ns. sym (tells ns (evaluated (by_schedule j ns)) (evaluation_is_the_meaning (by_schedule j ns) tt)) i
 
-meaning_is : (j : Job) (r : Result) → IsResult (job_meant j) r → profile.meaning j ≡ r
+meaning_is : (j : Job) (r : Result) → IsResult j r → profile.meaning j ≡ r
 unfolding profile
 meaning_is j _ (plain r no_runs means) =
-    ap (λ (n : ℕ). comes_to (job_meant j) n j.choices) no_runs ∙ ap report (sym (only_evaluated (job_meant j) r means))
+    ap (λ (n : ℕ). comes_to j n j.choices) no_runs ∙ ap report (sym (only_evaluated j r means))
 meaning_is j _ (smaller k ns fails f r runs choices tells found means) =
-    let m = job_meant j in
-    (λ i. comes_to m (runs i) (choices i))
-    ∙ ap (λ (g : List ℕ → Bool). shrunk_so m (shrunk g (suc k) ns)) (same_failures m fails tells)
-    ∙ ap (shrunk_so m) found
-    ∙ ap (shrunk_to f) (sym (only_evaluated (by_schedule m f.schedule) r means))
+    (λ i. comes_to j (runs i) (choices i))
+    ∙ ap (λ (g : List ℕ → Bool). shrunk_so j (shrunk g (suc k) ns)) (same_failures j fails tells)
+    ∙ ap (shrunk_so j) found
+    ∙ ap (shrunk_to f) (sym (only_evaluated (by_schedule j f.schedule) r means))
 meaning_is j _ (no_failure k ns fails runs choices tells none) =
-    let m = job_meant j in
-    (λ i. comes_to m (runs i) (choices i))
-    ∙ ap (λ (g : List ℕ → Bool). shrunk_so m (shrunk g (suc k) ns)) (same_failures m fails tells)
-    ∙ ap (shrunk_so m) none
+    (λ i. comes_to j (runs i) (choices i))
+    ∙ ap (λ (g : List ℕ → Bool). shrunk_so j (shrunk g (suc k) ns)) (same_failures j fails tells)
+    ∙ ap (shrunk_so j) none
 
 pub right : IsRight profile
 right = record { reads = reading_is; properties = property_is; means = meaning_is }

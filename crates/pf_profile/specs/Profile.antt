@@ -1,7 +1,7 @@
 -- The profile of the language: what a source is read as, which property bytes are, and what a job comes to.
 use Rattle.std.specs.Prelude.{ℕ, zero, suc, Bool, List, Option, Some, None}
 use Rattle.pf_check.proofs.AnyOutcome.{any_outcome}
-use Rattle.pf_desks.specs.Desk.{job_meant, Profile}
+use Rattle.pf_desks.specs.Desk.{Profile}
 use Rattle.pf_model.specs.Evaluation.{evaluated}
 use Rattle.pf_model.specs.Meaning.{Job, Choices, seed, schedule, weighted_seed}
 use Rattle.pf_model.specs.Shrinking.{Found, Result, report, shrunk_to, nothing_fails, by_schedule, is_failure, shrunk}
@@ -23,7 +23,7 @@ abbrev pub comes_to : Job → (runs : ℕ) → Choices → Result
 comes_to j zero cs = report (evaluated j)
 comes_to j (suc k) (schedule ns) = shrunk_so j (shrunk (fails_by j) (suc k) ns)
 comes_to j (suc k) (seed n) = nothing_fails
-comes_to j (suc k) (weighted_seed n run deliver) = nothing_fails
+comes_to j (suc k) (weighted_seed n process channel) = nothing_fails
 
 -- a source is read as the rules of reading say; bytes are the property that their text says, or none; a job comes to the one result that it
 -- has in the language
@@ -31,5 +31,5 @@ unfoldable pub profile : Profile
 profile = record {
   reading = λ bytes. reading_from (any_outcome bytes).0;
   property = λ names bytes. (any_property names bytes).0;
-  meaning = λ j. comes_to (job_meant j) j.runs j.choices;
+  meaning = λ j. comes_to j j.runs j.choices;
 }

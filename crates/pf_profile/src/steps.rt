@@ -13,8 +13,8 @@ use std::hash::RandomState;
 use std::io::{Read, Write};
 use std::sync::ledger::Ledger;
 
-/// Reads at most 64 MiB, piece by piece, answers each command before it waits for more, and gives the status: 2 where a
-/// line is no command, behind which nothing is done, and else 0. The book hashes with these keys, which no answer depends on.
+/// Reads at most 64 MiB, piece by piece, answers each command before it waits for more, and gives the status: 2 if a
+/// line is no command, after which nothing is done, and else 0. The book hashes with these keys, which no answer depends on.
 pub fn run_steps<R: Read, W: Write, L: Ledger, M: Ledger>(
     alloc: Global,
     keys: RandomState,

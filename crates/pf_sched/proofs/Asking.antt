@@ -1,62 +1,118 @@
--- Why a job isn't asked for, and what is known of one that is.
-use Rattle.std.proofs.Common.{◌≡◌, ◌⊎◌, inl, inr, ℕ, zero, ◌≤◌, true, ◌&&◌, List, Option, Some, None, Err, refl, sym, ap, ap₂, ◌∙◌, subst, arith}
+-- What a request of a module comes to, and what is known of a job.
+use Rattle.std.proofs.Common.{◌≡◌, ◌⊎◌, inl, inr, ℕ, zero, ◌≤◌, true, false, if◌then◌else◌, ◌&&◌, List, [], Some, None, Result, Ok, Err, refl, sym, ap, ap₂, ◌∙◌, subst, arith}
 use Rattle.std.specs.Prelude.{nat_le}
 use Rattle.std.proofs.lemmas.Bool.{and_parts, leb-true}
 use Rattle.pf_choice.specs.Chosen.{IsProfile}
+use Rattle.pf_fault.specs.declared.code.Code.{Code}
+use Rattle.pf_fault.specs.declared.code.Code.TheVariants as code
 use Rattle.pf_fault.specs.declared.fault.OrNoMemory.{OrNoMemory}
 use Rattle.pf_fault.specs.declared.fault.OrNoMemory.TheVariants.{NoMemory, Fault}
-use Rattle.pf_model.specs.Limits.{is_in_range}
+use Rattle.pf_model.specs.Limits.{IsEdition, is_in_range}
 use Rattle.pf_model.specs.Meaning.{Choices, schedule, seed, weighted_seed, profile_of}
 use Rattle.pf_model.specs.Properties.{Property}
-use Rattle.pf_desks.specs.Desk.{Stored, Job, count_of, may_shrink, may_weigh, runs_of}
-use Rattle.pf_sched.specs.declared.choices.JobKind.{JobKind}
-use Rattle.pf_sched.specs.declared.choices.JobKind.TheVariants.{Trial, Shrinking}
+use Rattle.pf_module.specs.Reading.{IsReadAs}
+use Rattle.pf_property.specs.Texts.{IsPropertyOf, ReadsProperty}
+use Rattle.pf_property.proofs.AnyProperty.{any_property}
+use Rattle.pf_request.specs.Module.{ReadModule}
+use Rattle.pf_request.specs.Request.{Kind, run, shrink, Request, choices_in, count_of, is_within, may_shrink, may_weigh, runs_in}
+use Rattle.pf_request.specs.Job.{Job, job_from, reseeded, root_in, with_root, within_bounds as bounded}
 use Rattle.pf_sched.specs.declared.refusal.JobRefusal.{JobRefusal}
-use Rattle.pf_sched.specs.Asked.{Asks, IsKept, no_property, IsRefusal, NoSuch, may_be_asked, reseeded, root_in}
-use Rattle.pf_sched.specs.Views.{choices_in, runs_asked}
-
--- what is no property is refused so, behind its root
-pub refused : (m : Stored) (root property : List ℕ) (cs : Choices) (limit : ℕ) (k : Option ℕ) (v i : ℕ) → root_in m root ≡ Some i → (f : OrNoMemory JobRefusal) → NoSuch m.code.atoms property f
-    → IsRefusal (Asks m root property cs limit k v) f
-refused m root property cs limit k v i e NoMemory h = tt
-refused m root property cs limit k v i e (Fault r) h = subst (λ c. Asks m root property cs limit k v (Err c)) (sym h.0) (no_property i e h.1)
+use Rattle.pf_sched.specs.Asked.{Asks, IsRefusal, IsValid, NoSuch, module_of}
 
 -- what is shrunk is a schedule
-pub shrinks : (k : JobKind) → (runs_of (runs_asked k) ≡ zero) ⊎ ((ns : List ℕ) × (choices_in k ≡ schedule ns))
-shrinks (Trial cs) = inl refl
-shrinks (Shrinking numbers runs) = inr (numbers.value.items, refl)
+is_schedule : (k : Kind) → (runs_in k ≡ zero) ⊎ ((ns : List ℕ) × (choices_in k ≡ schedule ns))
+is_schedule (run cs) = inl refl
+is_schedule (shrink ns runs) = inr (ns, refl)
 
--- what may be asked for may be shrunk, where it is a shrinking
-pub shrinks_within : (cs : Choices) (limit : ℕ) (k : Option ℕ) → may_be_asked cs limit k ≡ true → may_shrink k ≡ true
-shrinks_within cs limit k e = (and_parts (is_in_range limit (count_of cs)) (may_shrink k) e).1
+few_runs : (k : Kind) → may_shrink k ≡ true → runs_in k ≤ 1000
+few_runs (run cs) e = omega arith
+few_runs (shrink ns k) e = leb-true k 1000 (and_parts (nat_le 1 k) (nat_le k 1000) e).1
 
-few_runs : (k : Option ℕ) → may_shrink k ≡ true → runs_of k ≤ 1000
-few_runs None e = omega arith
-few_runs (Some k) e = leb-true k 1000 (and_parts (nat_le 1 k) (nat_le k 1000) e).1
+module _ (m : ReadModule) (e : ℕ) (r : Request) where
+  -- ---- refusals
 
--- what is kept is within bounds
-pub within_bounds : (j : Job) → IsKept j → (j.limit ≤ 100000) × (j.runs ≤ 1000)
-within_bounds j kept =
-    let parts = and_parts (is_in_range j.limit (count_of j.choices)) (may_shrink kept.asked) kept.within in
-    let range = and_parts (nat_le 1 j.limit) (nat_le j.limit 100000 && nat_le (count_of j.choices) 100000) parts.0 in
-    let limit = (and_parts (nat_le j.limit 100000) (nat_le (count_of j.choices) 100000) range.1).0 in
-    let runs = few_runs kept.asked parts.1 in
-    let asked = kept.runs in
-    (leb-true j.limit 100000 limit, omega arith)
+  -- where there is no root
+  pub no_root : root_in m r.root ≡ None → Asks m e r (Err code.NoRoot)
+  no_root none =
+      let q = any_property m.code.atoms r.property in
+      (q.0, q.1, ap (λ o. with_root m e o q.0 r) none)
+
+  module _ (i : ℕ) (root : root_in m r.root ≡ Some i) where
+    -- what is no property is refused so, after its root
+    pub no_property : (bytes : List ℕ) → bytes ≡ r.property → (f : OrNoMemory JobRefusal) → NoSuch m.code.atoms bytes f → IsRefusal (Asks m e r) f
+    no_property bytes same NoMemory h = tt
+    no_property bytes same (Fault f) h = (None, subst (λ b. IsPropertyOf m.code.atoms b None) same h.1, ap (λ o. with_root m e o None r) root ∙ ap (λ c. Err c) (sym h.0))
+
+    module _ (q : Property) (reads : ReadsProperty m.code.atoms r.property q) where
+      comes_to : (x : Result Job Code) → bounded r (job_from m e i q r) ≡ x → Asks m e r x
+      comes_to x is = (Some q, reads, ap (λ o. with_root m e o (Some q) r) root ∙ is)
+
+      -- then what is out of its range
+      pub out_of_range : is_within r ≡ false → Asks m e r (Err code.OutOfRange)
+      out_of_range unfit =
+          comes_to (Err code.OutOfRange)
+          (ap (λ b. if b then (if may_weigh (choices_in r.kind) then Ok (job_from m e i q r) else Err code.WeightsOutOfRange) else Err code.OutOfRange) unfit)
+
+      within : (x : Result Job Code) → is_within r ≡ true
+          → (if may_weigh (choices_in r.kind) then Ok (job_from m e i q r) else Err code.WeightsOutOfRange) ≡ x → Asks m e r x
+      within x fits is =
+          comes_to x
+          (ap (λ b. if b then (if may_weigh (choices_in r.kind) then Ok (job_from m e i q r) else Err code.WeightsOutOfRange) else Err code.OutOfRange) fits ∙ is)
+
+      -- then weights that are
+      pub bad_weights : is_within r ≡ true → may_weigh (choices_in r.kind) ≡ false → Asks m e r (Err code.WeightsOutOfRange)
+      bad_weights fits unfit = within (Err code.WeightsOutOfRange) fits (ap (λ b. if b then Ok (job_from m e i q r) else Err code.WeightsOutOfRange) unfit)
+
+      -- ---- jobs
+
+      -- the job of a request whose kind is shared
+      abbrev pub shared : Kind → Job
+      shared k = job_from m e i q (record r { kind = k })
+
+      pub is_asked : (k : Kind) → k ≡ r.kind → is_within r ≡ true → may_weigh (choices_in r.kind) ≡ true → Asks m e r (Ok (shared k))
+      is_asked k same fits weighs =
+          within (Ok (shared k)) fits
+          (ap (λ b. if b then Ok (job_from m e i q r) else Err code.WeightsOutOfRange) weighs ∙ ap (λ z. Ok (shared z)) (sym same))
+
+      -- and it is valid
+      pub is_valid : (name : List ℕ) → root_in m name ≡ Some i → IsReadAs m.source m → (k : Kind) → k ≡ r.kind → is_within r ≡ true
+          → may_weigh (choices_in r.kind) ≡ true → IsEdition e → IsValid (shared k) × (may_shrink k ≡ true)
+      is_valid name named read k same fits weighs edition =
+          let parts = and_parts (is_in_range r.limit (count_of (choices_in r.kind))) (may_shrink r.kind) fits in
+          let shrinks = ap may_shrink same ∙ parts.1 in (
+            record {
+              read = read;
+              name = name;
+              root = named;
+              limit = ap (λ z. is_in_range r.limit (count_of (choices_in z))) same ∙ parts.0;
+              runs = few_runs k shrinks;
+              shrinks = is_schedule k;
+              weighs = ap (λ z. may_weigh (choices_in z)) same ∙ weighs;
+              edition = edition;
+            },
+            shrinks,
+          )
+
+-- a valid job is within bounds
+pub within_bounds : (j : Job) → IsValid j → (j.asked.limit ≤ 100000) × (j.asked.runs ≤ 1000)
+within_bounds j valid =
+    let range = and_parts (nat_le 1 j.asked.limit) (nat_le j.asked.limit 100000 && nat_le (count_of j.asked.choices) 100000) valid.limit in
+    let limit = (and_parts (nat_le j.asked.limit 100000) (nat_le (count_of j.asked.choices) 100000) range.1).0 in
+    (leb-true j.asked.limit 100000 limit, valid.runs)
 
 -- weights that may be given are those of a profile
 pub is_profile : (cs : Choices) → may_weigh cs ≡ true → IsProfile (profile_of cs)
 is_profile (seed n) e = tt
 is_profile (schedule ns) e = tt
-is_profile (weighted_seed n run deliver) e =
-    let a = and_parts (nat_le 1 run) (nat_le run 9 && (nat_le 1 deliver && nat_le deliver 9)) e in
-    let b = and_parts (nat_le run 9) (nat_le 1 deliver && nat_le deliver 9) a.1 in
-    let d = and_parts (nat_le 1 deliver) (nat_le deliver 9) b.1 in
+is_profile (weighted_seed n process channel) e =
+    let a = and_parts (nat_le 1 process) (nat_le process 9 && (nat_le 1 channel && nat_le channel 9)) e in
+    let b = and_parts (nat_le process 9) (nat_le 1 channel && nat_le channel 9) a.1 in
+    let d = and_parts (nat_le 1 channel) (nat_le channel 9) b.1 in
     record {
-      run_least = leb-true 1 run a.0;
-      run_most = leb-true run 9 b.0;
-      deliver_least = leb-true 1 deliver d.0;
-      deliver_most = leb-true deliver 9 d.1;
+      run_least = leb-true 1 process a.0;
+      run_most = leb-true process 9 b.0;
+      deliver_least = leb-true 1 channel d.0;
+      deliver_most = leb-true channel 9 d.1;
     }
 
 -- ---- by a seed
@@ -64,28 +120,27 @@ is_profile (weighted_seed n run deliver) e =
 weighs_reseeded : (cs : Choices) (s : ℕ) → may_weigh cs ≡ true → may_weigh (reseeded cs s) ≡ true
 weighs_reseeded (seed n) s e = refl
 weighs_reseeded (schedule ns) s e = refl
-weighs_reseeded (weighted_seed n run deliver) s e = e
+weighs_reseeded (weighted_seed n process channel) s e = e
 
 none_given : (cs : Choices) (s : ℕ) → count_of (reseeded cs s) ≡ zero
 none_given (seed n) s = refl
 none_given (schedule ns) s = refl
-none_given (weighted_seed n run deliver) s = refl
+none_given (weighted_seed n process channel) s = refl
 
--- the run by a seed of what is kept is kept
-pub kept_by_seed : (j : Job) (m : Stored) (q : Property) (cs : Choices) (s : ℕ) → m ≡ j.stored → cs ≡ reseeded j.choices s → IsKept j
-    → IsKept (record { stored = m; root = j.root; property = q; choices = cs; limit = j.limit; runs = zero; edition = j.edition })
-kept_by_seed j m q cs s e c kept =
-    let parts = and_parts (is_in_range j.limit (count_of j.choices)) (may_shrink kept.asked) kept.within in
-    let range = and_parts (nat_le 1 j.limit) (nat_le j.limit 100000 && nat_le (count_of j.choices) 100000) parts.0 in
-    let most = (and_parts (nat_le j.limit 100000) (nat_le (count_of j.choices) 100000) range.1).0 in
-    let none : count_of cs ≡ zero = ap count_of c ∙ none_given j.choices s in
+-- the run by a seed of a valid job is valid
+pub valid_by_seed : (j : Job) (m : ReadModule) (q : Property) (cs : Choices) (s : ℕ) → m ≡ module_of j → cs ≡ reseeded j.asked.choices s → IsValid j
+    → IsValid (job_from m j.asked.edition j.asked.root q (record { root = []; property = []; kind = run cs; limit = j.asked.limit }))
+valid_by_seed j m q cs s e c valid =
+    let range = and_parts (nat_le 1 j.asked.limit) (nat_le j.asked.limit 100000 && nat_le (count_of j.asked.choices) 100000) valid.limit in
+    let most = (and_parts (nat_le j.asked.limit 100000) (nat_le (count_of j.asked.choices) 100000) range.1).0 in
+    let none : count_of cs ≡ zero = ap count_of c ∙ none_given j.asked.choices s in
     record {
-      name = kept.name;
-      root = ap (λ n. root_in n kept.name) e ∙ kept.root;
-      asked = None;
-      runs = refl;
-      within = ap (λ n. is_in_range j.limit n && true) none ∙ ap₂ (λ low high. (low && (high && nat_le 0 100000)) && true) range.0 most;
+      read = subst (λ n. IsReadAs n.source n) (sym e) valid.read;
+      name = valid.name;
+      root = ap (λ n. root_in n valid.name) e ∙ valid.root;
+      limit = ap (λ n. is_in_range j.asked.limit n) none ∙ ap₂ (λ low high. low && (high && nat_le 0 100000)) range.0 most;
+      runs = omega arith;
       shrinks = inl refl;
-      weighs = ap may_weigh c ∙ weighs_reseeded j.choices s kept.weighs;
-      edition = kept.edition;
+      weighs = ap may_weigh c ∙ weighs_reseeded j.asked.choices s valid.weighs;
+      edition = valid.edition;
     }

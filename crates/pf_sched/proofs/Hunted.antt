@@ -9,9 +9,8 @@ use Rattle.pf_model.proofs.Meanings.{one_meaning}
 use Rattle.pf_shrink.specs.Hunts.{Hunting, begins, searches, ended, searching, next_of, told_of, found_of, comes_to}
 use Rattle.pf_shrink.specs.Tried.{tried, tried_from}
 use Rattle.pf_shrink.proofs.Tried.{tried_within_runs, tries_in_order}
-use Rattle.pf_desks.specs.Desk as desk
-use Rattle.pf_desks.specs.Desk.{job_meant}
-use Rattle.pf_sched.specs.Asked.{IsKept}
+use Rattle.pf_request.specs.Job as request
+use Rattle.pf_sched.specs.Asked.{IsValid}
 use Rattle.pf_sched.specs.Events.{RunsHave, no_runs, HasEvents, of_run, of_shrinking}
 use Rattle.pf_sched.specs.Parts.{IsHuntOf, stands_at}
 use Rattle.pf_sched.specs.Slices.{GoesPast, TellsFound}
@@ -110,7 +109,7 @@ module _ (j : Job) where
         → IsHuntOf j (told_of (is_failure r.verdict) h) (before + length r.events)
     hunt_told ns e r means = subst (λ b. IsHuntOf j (told_of b h) (before + length r.events)) (hunt.tells ns r means) (told_so ns e r means)
 
-    -- the events of the whole shrinking are those of the runs behind it and of those to come
+    -- the events of the whole shrinking are those of the runs before it and of those to come
     all_events : (m : ℕ) → HasEvents j m → RunsHave j (hunt.behind ++ tried_from hunt.fails h) m
     all_events _ (of_run r e means) = absurd (let some : j.runs ≡ suc hunt.further = hunt.runs in cc)
     all_events _ (of_shrinking k ns fails m e c tells has) =
@@ -122,7 +121,7 @@ module _ (j : Job) where
         ∙ ap (tried hunt.fails (suc hunt.further)) same ∙ hunt.order)
         has
 
-    -- where the next run has more than so many events, so has the shrinking behind those before it
+    -- if the next run has more than so many events, so has the shrinking after those before it
     pub hunt_goes_past : (ns : List ℕ) → next_of h ≡ Some ns → (n : ℕ) → ((r : Report) → Means (by_schedule j ns) r → n < length r.events)
         → (m : ℕ) → HasEvents j m → before + n < m
     hunt_goes_past ns e n past m has =
@@ -181,22 +180,22 @@ module _ (j : Job) where
       by (suc k) e (inr s) = shrinking k s.0 e s.1
 
 -- so more events can't be left than that
-pub past_bound : (j : desk.Job) → IsKept j → (n : ℕ) → GoesPast j n → n < max 1 j.runs * j.limit
-past_bound j kept n past =
-    let b = bounded (job_meant j) (is_profile j.choices kept.weighs) kept.shrinks in
+pub past_bound : (j : request.Job) → IsValid j → (n : ℕ) → GoesPast j n → n < max 1 j.asked.runs * j.asked.limit
+past_bound j valid n past =
+    let b = bounded j.asked (is_profile j.asked.choices valid.weighs) valid.shrinks in
     let more = past b.0 b.1 in
     let most = b.2 in
     omega arith
 
--- few events are behind a hunt
-pub few_behind : (j : desk.Job) → IsKept j → (h : Hunting) (before : ℕ) → IsHuntOf (job_meant j) h before → before ≤ 100000000
-few_behind j kept h before hunt =
-    let bounds = within_bounds j kept in
+-- few events are those before a hunt's next run
+pub few_before : (j : request.Job) → IsValid j → (h : Hunting) (before : ℕ) → IsHuntOf j.asked h before → before ≤ 100000000
+few_before j valid h before hunt =
+    let bounds = within_bounds j valid in
     let rest = tried_from hunt.fails h in
     let all : length (tried hunt.fails (suc hunt.further) hunt.given) ≡ length hunt.behind + length rest = ap length hunt.order ∙ length-append hunt.behind rest in
     let tried_few = tried_within_runs hunt.fails (suc hunt.further) hunt.given in
-    let asked : j.runs ≡ suc hunt.further = hunt.runs in
+    let asked : j.asked.runs ≡ suc hunt.further = hunt.runs in
     let runs : length hunt.behind ≤ 1000 = let b = bounds.1 in omega arith in
-    let most = few (job_meant j) hunt.behind before hunt.events in
-    let bound = mul-le (length hunt.behind) j.limit 1000 100000 runs bounds.0 in
+    let most = few j.asked hunt.behind before hunt.events in
+    let bound = mul-le (length hunt.behind) j.asked.limit 1000 100000 runs bounds.0 in
     omega arith

@@ -6,5 +6,6 @@ pub mod Reported
 pub mod Sliced
 pub mod Tries
 pub mod Hunted
+pub mod Ended
 pub mod Shrunk
 pub mod Crossing

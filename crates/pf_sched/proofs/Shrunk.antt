@@ -9,11 +9,11 @@ use Rattle.pf_model.specs.Reports.{event_of, report_of}
 use Rattle.pf_model.specs.Shrinking.{by_schedule, candidates, is_failure}
 use Rattle.pf_model.specs.declared.report.Report.{Report}
 use Rattle.pf_shrink.specs.Hunts.{Hunting, begins, searches, ended, searching, next_of, told_of}
-use Rattle.pf_desks.specs.Desk.{Job, job_meant}
-use Rattle.pf_sched.specs.declared.course.Course.{Course}
+use Rattle.pf_request.specs.Job.{Job}
+use Rattle.pf_sched.specs.declared.progress.Progress.{Progress}
 use Rattle.pf_sched.specs.declared.run.Run.{Run}
-use Rattle.pf_sched.specs.declared.shrinking.Progress.{Progress}
-use Rattle.pf_sched.specs.declared.shrinking.Progress.TheVariants as progress
+use Rattle.pf_sched.specs.declared.shrinking.Advance.{Advance}
+use Rattle.pf_sched.specs.declared.shrinking.Advance.TheVariants as advance
 use Rattle.pf_sched.specs.declared.shrinking.Shrinking.{Shrinking}
 use Rattle.pf_sched.specs.Parts.{IsHuntOf, IsRunBy, IsShrinkingOf, KeepsReport, events_so_far, stands_at}
 use Rattle.pf_sched.specs.Slices.{Advances, EndsBy, Follows, GoesOn, GoesPast, IsOver, OpensNext, RunAdvances, runs_left}
@@ -69,45 +69,45 @@ module _ (j : Job) where
       subst (IsShrinkingOf j) (sym e) same
 
   -- where its run isn't over it has more events
-  pub shrinking_goes_past : (s : Shrinking) → IsShrinkingOf j s → (IsOver j.limit s.run → ⊥) → GoesPast j (events_so_far s)
+  pub shrinking_goes_past : (s : Shrinking) → IsShrinkingOf j s → (IsOver j.asked.limit s.run → ⊥) → GoesPast j (events_so_far s)
   shrinking_goes_past s x going m has =
-      hunt_goes_past (job_meant j) s.hunt s.before x.hunt x.next x.is_next (length s.run.events.items) (run_goes_past j (schedule x.next) s.run x.run going) m has
+      hunt_goes_past j.asked s.hunt s.before x.hunt x.next x.is_next (length s.run.events.items) (run_goes_past j (schedule x.next) s.run x.run going) m has
 
   -- before its first event
-  pub shrinking_begins : (h : Hunting) (r : Run) (c : Course) (runs : ℕ) (ns items : List ℕ) → 0 < runs → j.runs ≡ runs → j.choices ≡ schedule ns → items ≡ ns
-      → h ≡ begins (runs - 1) items → IsRunBy j (schedule ns) r → IsShrinkingOf j (record { hunt = h; run = r; report = None; before = zero; course = c })
+  pub shrinking_begins : (h : Hunting) (r : Run) (c : Progress) (runs : ℕ) (ns items : List ℕ) → 0 < runs → j.asked.runs ≡ runs → j.asked.choices ≡ schedule ns → items ≡ ns
+      → h ≡ begins (runs - 1) items → IsRunBy j (schedule ns) r → IsShrinkingOf j (record { hunt = h; run = r; report = None; before = zero; progress = c })
   shrinking_begins h r c runs ns items some asked shrinks same is run =
       let begun : begins (runs - 1) ns ≡ h = ap (begins (runs - 1)) (sym same) ∙ sym is in
-      let counted : j.runs ≡ suc (runs - 1) = omega arith in
-      let first : IsShrinkingOf j (record { hunt = begins (runs - 1) ns; run = r; report = None; before = zero; course = c }) =
-      record { hunt = hunt_begins (job_meant j) (runs - 1) ns counted shrinks; report = tt; next = ns; is_next = refl; run = run } in
-      subst (λ z. IsShrinkingOf j (record { hunt = z; run = r; report = None; before = zero; course = c })) begun first
+      let counted : j.asked.runs ≡ suc (runs - 1) = omega arith in
+      let first : IsShrinkingOf j (record { hunt = begins (runs - 1) ns; run = r; report = None; before = zero; progress = c }) =
+      record { hunt = hunt_begins j.asked (runs - 1) ns counted shrinks; report = tt; next = ns; is_next = refl; run = run } in
+      subst (λ z. IsShrinkingOf j (record { hunt = z; run = r; report = None; before = zero; progress = c })) begun first
 
-  -- behind a run the hunt was told the truth
-  pub hunt_goes_on : (s : Shrinking) (x : IsShrinkingOf j s) (r : Report) → Means (by_schedule (job_meant j) x.next) (report_of r)
+  -- after a run the hunt was told the truth
+  pub hunt_goes_on : (s : Shrinking) (x : IsShrinkingOf j s) (r : Report) → Means (by_schedule j.asked x.next) (report_of r)
       → length r.events.items ≡ length s.run.events.items → (h : Hunting) → h ≡ told_of (is_failure r.verdict) s.hunt → (behind : ℕ) → behind ≡ events_so_far s
-      → IsHuntOf (job_meant j) h behind
+      → IsHuntOf j.asked h behind
   hunt_goes_on s x r means same h told behind count =
-      let told_it = hunt_told (job_meant j) s.hunt s.before x.hunt x.next x.is_next (report_of r) means in
+      let told_it = hunt_told j.asked s.hunt s.before x.hunt x.next x.is_next (report_of r) means in
       let events : length (report_of r).events ≡ length r.events.items = length-map r.events.items event_of in
       let at : s.before + length (report_of r).events ≡ behind = omega arith in
-      subst (λ z. IsHuntOf (job_meant j) z behind) (sym told) (subst (IsHuntOf (job_meant j) (told_of (is_failure r.verdict) s.hunt)) at told_it)
+      subst (λ z. IsHuntOf j.asked z behind) (sym told) (subst (IsHuntOf j.asked (told_of (is_failure r.verdict) s.hunt)) at told_it)
 
   -- and a report is kept of where it stands
-  pub report_goes_on : (s : Shrinking) (x : IsShrinkingOf j s) (r : Report) → Means (by_schedule (job_meant j) x.next) (report_of r)
+  pub report_goes_on : (s : Shrinking) (x : IsShrinkingOf j s) (r : Report) → Means (by_schedule j.asked x.next) (report_of r)
       → (h : Hunting) → h ≡ told_of (is_failure r.verdict) s.hunt → (kept : Option Report) → kept ≡ (if is_failure r.verdict then Some r else s.report)
-      → KeepsReport (job_meant j) (stands_at h) kept
+      → KeepsReport j.asked (stands_at h) kept
   report_goes_on s x r means h told kept is =
-      let k = keeps_on (job_meant j) s.hunt x.next x.is_next s.report r means x.report (is_failure r.verdict) in
-      subst (λ z. KeepsReport (job_meant j) (stands_at z) kept) (sym told)
-      (subst (KeepsReport (job_meant j) (stands_at (told_of (is_failure r.verdict) s.hunt))) (sym is) k)
+      let k = keeps_on j.asked s.hunt x.next x.is_next s.report r means x.report (is_failure r.verdict) in
+      subst (λ z. KeepsReport j.asked (stands_at z) kept) (sym told)
+      (subst (KeepsReport j.asked (stands_at (told_of (is_failure r.verdict) s.hunt))) (sym is) k)
 
-  module _ (s t : Shrinking) (x : IsShrinkingOf j s) (limit turns : ℕ) (same : limit ≡ j.limit) (rest : t ≡ record s { run = t.run }) where
+  module _ (s t : Shrinking) (x : IsShrinkingOf j s) (limit turns : ℕ) (same : limit ≡ j.asked.limit) (rest : t ≡ record s { run = t.run }) where
     before_same : t.before ≡ s.before
     before_same = ap (λ z. z.before) rest
 
     -- its run isn't over
-    pub goes_further : (over : Bool) → over ≡ false → RunAdvances limit s.run t.run turns over → GoesOn j (events_so_far s + turns) (progress.More t)
+    pub goes_further : (over : Bool) → over ≡ false → RunAdvances limit s.run t.run turns over → GoesOn j (events_so_far s + turns) (advance.More t)
     goes_further over off went =
         let a = went j (schedule x.next) (sym same) x.run in
         let b : Advances (length s.run.events.items) (length t.run.events.items) turns false (IsOver limit t.run) =
@@ -121,7 +121,7 @@ module _ (j : Job) where
     -- or it is
     pub record AtEdge : Type 0 where
       pub shrinking : IsShrinkingOf j t
-      pub over : IsOver j.limit t.run
+      pub over : IsOver j.asked.limit t.run
       pub from : length s.run.events.items ≤ length t.run.events.items
       pub within : length t.run.events.items ≤ length s.run.events.items + turns
       pub before : t.before ≡ s.before
@@ -142,6 +142,6 @@ module _ (j : Job) where
         }
 
   -- what follows, told by other numbers
-  pub follows_so : (n m k l : ℕ) → n ≡ m → k ≤ l → (p : Progress) → Follows j n k p → Follows j m l p
-  follows_so n m k l e h (progress.More s) f = (f.0, f.1 ∙ e, (let few = f.2 in omega arith))
-  follows_so n m k l e h (progress.Over r) f = subst (λ z. EndsBy j z (result_of r)) e f
+  pub follows_so : (n m k l : ℕ) → n ≡ m → k ≤ l → (p : Advance) → Follows j n k p → Follows j m l p
+  follows_so n m k l e h (advance.More s) f = (f.0, f.1 ∙ e, (let few = f.2 in omega arith))
+  follows_so n m k l e h (advance.Over r) f = subst (λ z. EndsBy j z (result_of r)) e f

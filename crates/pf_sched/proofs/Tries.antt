@@ -82,7 +82,7 @@ module _ (j : Job) where
       let sums = x.sums in
       omega arith
 
-  -- with one run more behind them
+  -- with one run more after them
   pub one_more : (nss : List (List ℕ)) (n : ℕ) (ns : List ℕ) (r : Report) → RunsHave j nss n → Means (by_schedule j ns) r
       → RunsHave j (nss ++ ns ∷ []) (n + length r.events)
   one_more [] n ns r a h =

@@ -1,6 +1,6 @@
 -- What the fields of a parked job stand for, and what is true of them.
 use Rattle.std.specs.Prelude.{ℕ, length}
-use Rattle.pf_desks.specs.Desk.{Job}
+use Rattle.pf_request.specs.Job.{Job}
 use Rattle.pf_sched.specs.declared.parked.Parked.TheInside as parked
 use Rattle.pf_sched.specs.declared.parked.Work.{Work}
 use Rattle.pf_sched.specs.declared.parked.Work.TheVariants as work
@@ -9,7 +9,7 @@ use Rattle.pf_sched.specs.Parts.{IsRunOf, IsShrinkingOf, events_so_far}
 
 -- the events so far
 abbrev pub at_of : Work → ℕ
-at_of (work.Trial run) = length run.events.items
+at_of (work.Run run) = length run.events.items
 at_of (work.Shrinking shrinking) = events_so_far shrinking
 
 abbrev pub parked_in : parked.Inside → ParkedView
@@ -17,7 +17,7 @@ parked_in p = parked_view p.job.value (at_of p.work)
 
 -- it is the run of the job, or its shrinking
 abbrev pub IsWorkOf : Job → Work → Type 0
-IsWorkOf j (work.Trial run) = IsRunOf j run
+IsWorkOf j (work.Run run) = IsRunOf j run
 IsWorkOf j (work.Shrinking shrinking) = IsShrinkingOf j shrinking
 
 abbrev pub IsAtWork : parked.Inside → Type 0

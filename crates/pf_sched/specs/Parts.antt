@@ -9,7 +9,7 @@ use Rattle.pf_model.specs.Shrinking.{by_schedule, shrunk, IsResult, TellsFailure
 use Rattle.pf_model.specs.declared.report.Report.{Report}
 use Rattle.pf_shrink.specs.Hunts.{Hunting, begins, searches, ended, next_of, comes_to}
 use Rattle.pf_shrink.specs.Tried.{tried, tried_from}
-use Rattle.pf_desks.specs.Desk.{Job, job_meant}
+use Rattle.pf_request.specs.Job.{Job}
 use Rattle.pf_sched.specs.declared.run.Run.{Run}
 use Rattle.pf_sched.specs.declared.shrinking.Shrinking.{Shrinking}
 use Rattle.pf_sched.specs.Events.{RunsHave}
@@ -18,15 +18,15 @@ use Rattle.pf_sched.specs.Traces.{Going}
 
 -- a run of a job's module by these choices, as far as it came
 abbrev pub IsRunBy : Job → Choices → Run → Type 0
-IsRunBy j cs r = Going j.stored.code (profile_of cs) (words_of cs) j.limit (start j.root j.edition) r.events.items r.system r.choices
+IsRunBy j cs r = Going j.asked.code (profile_of cs) (words_of cs) j.asked.limit (start j.asked.root j.asked.edition) r.events.items r.system r.choices
 
 -- the run of a job that is no shrinking
 abbrev pub IsRunOf : Job → Run → Type 0
-IsRunOf j r = (j.runs ≡ zero) × IsRunBy j j.choices r
+IsRunOf j r = (j.asked.runs ≡ zero) × IsRunBy j j.asked.choices r
 
 -- ---- shrinkings
 
--- the hunt of a shrinking was told true answers only: with them it comes to what the shrinking comes to, and the runs that are behind it,
+-- the hunt of a shrinking was told true answers only: with them it comes to what the shrinking comes to, and the runs that were made,
 -- with so many events in all, are those that the shrinking tries first
 pub record IsHuntOf (j : meaning.Job) (h : Hunting) (before : ℕ) : Type 0 where
   pub further : ℕ
@@ -40,7 +40,7 @@ pub record IsHuntOf (j : meaning.Job) (h : Hunting) (before : ℕ) : Type 0 wher
   pub events : RunsHave j behind before
   pub order : tried fails (suc further) given ≡ behind ++ tried_from fails h
 
--- the schedule that fails, where a hunt stands at one
+-- the schedule that fails, if a hunt stands at one
 abbrev pub stands_at : Hunting → Option (List ℕ)
 stands_at (begins k ns) = None
 stands_at (searches k ns c cs) = Some ns
@@ -55,8 +55,8 @@ KeepsReport j (Some ns) (Some r) = Means (by_schedule j ns) (report_of r)
 
 -- a shrinking, as far as it came: its hunt, the report of the schedule that it stands at, and the run of the next schedule
 pub record IsShrinkingOf (j : Job) (s : Shrinking) : Type 0 where
-  pub hunt : IsHuntOf (job_meant j) s.hunt s.before
-  pub report : KeepsReport (job_meant j) (stands_at s.hunt) s.report
+  pub hunt : IsHuntOf j.asked s.hunt s.before
+  pub report : KeepsReport j.asked (stands_at s.hunt) s.report
   pub next : List ℕ
   pub is_next : next_of s.hunt ≡ Some next
   pub run : IsRunBy j (schedule next) s.run
@@ -69,4 +69,4 @@ events_so_far s = s.before + length s.run.events.items
 
 -- it is what the job comes to, or memory ran out
 abbrev pub Ends : Job → shrinking.Result → Type 0
-Ends j r = IsResult (job_meant j) r ⊎ (r ≡ without_memory)
+Ends j r = IsResult j.asked r ⊎ (r ≡ without_memory)

@@ -9,10 +9,10 @@ use Rattle.pf_model.specs.Meaning as meaning
 use Rattle.pf_model.specs.Meaning.{Means, Report, schedule}
 use Rattle.pf_model.specs.Runs.{Stops}
 use Rattle.pf_shrink.specs.Hunts.{Hunting, begins, searches, ended}
-use Rattle.pf_desks.specs.Desk.{Job, job_meant}
+use Rattle.pf_request.specs.Job.{Job}
 use Rattle.pf_sched.specs.declared.run.Run.{Run}
-use Rattle.pf_sched.specs.declared.shrinking.Progress.{Progress}
-use Rattle.pf_sched.specs.declared.shrinking.Progress.TheVariants as progress
+use Rattle.pf_sched.specs.declared.shrinking.Advance.{Advance}
+use Rattle.pf_sched.specs.declared.shrinking.Advance.TheVariants as advance
 use Rattle.pf_sched.specs.declared.slice.Slice.{Slice}
 use Rattle.pf_sched.specs.declared.slice.Slice.TheVariants.{More, Done}
 use Rattle.pf_sched.specs.Views.{ParkedView, parked_view, result_of, without_memory}
@@ -22,13 +22,13 @@ use Rattle.pf_sched.specs.Traces.{Makes}
 
 -- a job has more events than so many
 abbrev pub GoesPast : Job → ℕ → Type 0
-GoesPast j n = (m : ℕ) → HasEvents (job_meant j) m → n < m
+GoesPast j n = (m : ℕ) → HasEvents j.asked m → n < m
 
 -- a job comes to this, and has at most so many events
 abbrev pub EndsBy : Job → ℕ → shrinking.Result → Type 0
-EndsBy j n r = IsResult (job_meant j) r × ((m : ℕ) × HasEvents (job_meant j) m × (m ≤ n))
+EndsBy j n r = IsResult j.asked r × ((m : ℕ) × HasEvents j.asked m × (m ≤ n))
 
--- a slice of so many turns: the job goes on behind so many events more, where it has more than those; else it is over, with what it comes
+-- a slice of so many turns: the job goes on after so many events more, if it has more than those; else it is over, with what it comes
 -- to, or memory ran out
 abbrev pub Sliced : ParkedView → (turns : ℕ) → Slice → Type 0
 Sliced p turns (More q) = (q ≡ parked_view p.job (p.at + turns)) × GoesPast p.job (p.at + turns)
@@ -36,7 +36,7 @@ Sliced p turns (Done f) = (f.job ≡ p.job) × (EndsBy p.job (p.at + turns) f.re
 
 -- ---- within a slice
 
--- from where a run stands it goes on by so many events, and isn't over; or it is over, behind so many more at most
+-- from where a run stands it goes on by so many events, and isn't over; or it is over, after so many more at most
 abbrev pub Advances : (before after turns : ℕ) → (over : Bool) → (stops : Type 0) → Type 0
 Advances before after turns true stops = (before ≤ after) × (after ≤ before + turns) × stops
 Advances before after turns false stops = (after ≡ before + turns) × (stops → ⊥)
@@ -48,12 +48,12 @@ IsOver limit r = (c : Configuration) × (r.system.standing ≡ Some c) × Stops 
 -- so a run goes on, whichever job's it is and by whichever choices
 abbrev pub RunAdvances : (limit : ℕ) (old new : Run) (turns : ℕ) (over : Bool) → Type 0
 RunAdvances limit old new turns over =
-    (j : Job) (cs : meaning.Choices) → j.limit ≡ limit → IsRunBy j cs old
+    (j : Job) (cs : meaning.Choices) → j.asked.limit ≡ limit → IsRunBy j cs old
     → IsRunBy j cs new × Advances (length old.events.items) (length new.events.items) turns over (IsOver limit new)
 
 -- ---- within a shrinking
 
--- choices are those of the next schedule, where there is one
+-- choices are those of the next schedule, if there is one
 abbrev pub OpensNext : (next : Option (List ℕ)) → Option (Choices Lcg) → Type 0
 OpensNext None None = Unit {0}
 OpensNext None (Some q) = ⊥
@@ -65,10 +65,10 @@ abbrev pub TellsFound : meaning.Job → Option Found → shrinking.Result → Ty
 TellsFound j None r = r ≡ nothing_fails
 TellsFound j (Some f) r = (report : Report) × Means (by_schedule j f.schedule) report × (r ≡ shrunk_to f report)
 
--- a shrinking goes on at so many events, where it has more than those; or it is over, behind so many at most
-abbrev pub GoesOn : Job → (at : ℕ) → Progress → Type 0
-GoesOn j n (progress.More s) = IsShrinkingOf j s × (events_so_far s ≡ n) × GoesPast j n
-GoesOn j n (progress.Over r) = EndsBy j n (result_of r)
+-- a shrinking goes on at so many events, if it has more than those; or it is over, after so many at most
+abbrev pub GoesOn : Job → (at : ℕ) → Advance → Type 0
+GoesOn j n (advance.More s) = IsShrinkingOf j s × (events_so_far s ≡ n) × GoesPast j n
+GoesOn j n (advance.Over r) = EndsBy j n (result_of r)
 
 -- how many runs a hunt may still make
 abbrev pub runs_left : Hunting → ℕ
@@ -76,7 +76,7 @@ runs_left (begins k ns) = suc k
 runs_left (searches k ns c cs) = suc k
 runs_left (ended f) = zero
 
--- the next run of a shrinking begins behind so many events, as one of so many at most; or it is over, with so many events in all
-abbrev pub Follows : Job → (at runs : ℕ) → Progress → Type 0
-Follows j n k (progress.More s) = IsShrinkingOf j s × (events_so_far s ≡ n) × (runs_left s.hunt ≤ k)
-Follows j n k (progress.Over r) = EndsBy j n (result_of r)
+-- the next run of a shrinking begins after so many events, as one of so many at most; or it is over, with so many events in all
+abbrev pub Follows : Job → (at runs : ℕ) → Advance → Type 0
+Follows j n k (advance.More s) = IsShrinkingOf j s × (events_so_far s ≡ n) × (runs_left s.hunt ≤ k)
+Follows j n k (advance.Over r) = EndsBy j n (result_of r)

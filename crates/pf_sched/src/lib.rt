@@ -2,10 +2,10 @@
 #![tactic(auto)]
 
 mod choices;
-mod course;
 mod finished;
 mod job;
 mod parked;
+mod progress;
 mod refusal;
 mod result;
 mod run;
@@ -13,12 +13,11 @@ mod scratch;
 mod shrinking;
 mod slice;
 
-pub use choices::{JobChoices, JobKind};
-pub use course::{Course, Nobody, Watch};
 pub use finished::Finished;
 pub use job::Job;
 pub use parked::{Parked, start};
+pub use progress::{Observer, Progress, Silent};
 pub use refusal::JobRefusal;
-pub use result::JobResult;
+pub use result::{JobResult, memory_report};
 pub use scratch::Scratch;
-pub use slice::{Slice, run_slice, whole};
+pub use slice::{Slice, report_of_run, run_slice, run_to_end};

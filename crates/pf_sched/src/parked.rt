@@ -1,15 +1,16 @@
 //! Jobs that wait for their next slice.
 
 ghost use Rattle.std.specs.Prelude.{◌≡◌, IfOk, OnOk};
-ghost use Rattle.pf_sched.specs.Asked.{IsKept};
+ghost use Rattle.pf_sched.specs.Asked.{IsValid};
 ghost use Rattle.pf_sched.specs.InParked.{IsWorkOf, at_of};
 ghost use Rattle.pf_sched.specs.Views.{parked_view};
 
-use crate::choices::JobKind;
-use crate::course::Course;
+use crate::choices::open;
 use crate::job::Job;
+use crate::progress::Progress;
 use crate::run::Run;
 use crate::shrinking::Shrinking;
+use pf_request::Kind;
 use pf_terms::NoMemory;
 use std::alloc::Global;
 use std::marker::Model;
@@ -18,7 +19,7 @@ use std::sync::Arc;
 /// What a job goes on with: its run, or its shrinking.
 #[derive(Drop)]
 pub(crate) enum Work {
-    Trial(Run),
+    Run(Run),
     Shrinking(Shrinking),
 }
 
@@ -43,24 +44,24 @@ impl Model for Parked {
 }
 
 impl Parked {
-    /// How far a shrinking came; none of a run.
-    pub fn course(&self) -> Option<Course> {
+    /// The progress of a shrinking; none of a run.
+    pub fn progress(&self) -> Option<Progress> {
         match &self.work {
-            Work::Trial(_) => None,
-            Work::Shrinking(shrinking) => Some(shrinking.course),
+            Work::Run(_) => None,
+            Work::Shrinking(shrinking) => Some(shrinking.progress),
         }
     }
 }
 
 /// What a job begins with.
-fn first_work(alloc: Global, job: &Job) -> Result<Work, NoMemory>
+pub(crate) fn first_work(alloc: Global, job: &Job) -> Result<Work, NoMemory>
     ensures work { IfOk result (λ w. IsWorkOf job.now w) }
     ensures first { IfOk result (λ w. at_of w ≡ 0) }
-    ensures kept { OnOk result (IsKept job.now) }
+    ensures valid { OnOk result (IsValid job.now) }
 {
     match &job.kind {
-        JobKind::Trial(choices) => Ok(Work::Trial(Run::new(alloc, job, choices.open(alloc)?)?)),
-        JobKind::Shrinking { schedule, runs } => Ok(Work::Shrinking(Shrinking::new(
+        Kind::Run(choices) => Ok(Work::Run(Run::new(alloc, job, open(alloc, choices)?)?)),
+        Kind::Shrink { schedule, runs } => Ok(Work::Shrinking(Shrinking::new(
             alloc,
             job,
             schedule.as_slice(),
@@ -72,7 +73,7 @@ fn first_work(alloc: Global, job: &Job) -> Result<Work, NoMemory>
 /// A job, before its first event.
 pub fn start(alloc: Global, job: Arc<Job>) -> Result<Parked, NoMemory>
     ensures parked { IfOk result (λ p. p ≡ parked_view job.value 0) }
-    ensures kept { OnOk result (IsKept job.value) }
+    ensures valid { OnOk result (IsValid job.value) }
 {
     let work = first_work(alloc, &job)?;
     Ok(Parked { job, work })

@@ -1,9 +1,11 @@
 //! What jobs come to.
 
 ghost use Rattle.std.specs.Prelude.{◌≡◌};
-ghost use Rattle.pf_sched.specs.Views.{is_without_memory, result_of};
+ghost use Rattle.pf_model.specs.Reports.{report_of};
+ghost use Rattle.pf_request.specs.Job as job;
 
 use pf_model::report::{Outcome, Report};
+use std::alloc::Global;
 
 /// What a job comes to.
 #[derive(Drop)]
@@ -20,14 +22,14 @@ pub enum JobResult {
     NothingFails,
 }
 
-impl JobResult {
-    /// Whether it tells that memory ran out.
-    pub fn is_without_memory(&self) -> bool
-        ensures { result ≡ is_without_memory (result_of self.now) }
-    {
-        match self {
-            JobResult::Report(report) => matches!(report.outcome, Outcome::Memory),
-            JobResult::Shrunk { .. } | JobResult::NothingFails => false,
-        }
+/// What is told of a job for which memory ran out: no event, no step and no verdict. It takes no memory.
+pub fn memory_report(alloc: Global) -> Report
+    ensures { report_of result ≡ job.memory_report }
+{
+    Report {
+        events: Vec::new(alloc),
+        outcome: Outcome::Memory,
+        steps: 0,
+        verdict: None,
     }
 }

@@ -9,12 +9,12 @@ ghost use Rattle.pf_model.specs.Meaning.{Means};
 ghost use Rattle.pf_model.specs.Reports.{actor_of, label_of, report_of};
 ghost use Rattle.pf_model.specs.Runs.{Stops};
 ghost use Rattle.pf_system.specs.Steps.{IsNoteOf, MayGo, PassesTo, noted};
-ghost use Rattle.pf_desks.specs.Desk.{job_meant};
 ghost use Rattle.pf_sched.specs.Parts.{IsRunBy};
 ghost use Rattle.pf_sched.specs.Slices.{IsOver, RunAdvances};
 ghost use Rattle.pf_sched.specs.Traces.{Makes, MayHaveGone, heads_in, ready_in};
 
 use crate::job::Job;
+use crate::scratch::Scratch;
 use pf_choice::Choices;
 use pf_model::report::{Actor, Event, Label, Report};
 use pf_system::{Enabled, System};
@@ -47,7 +47,7 @@ fn pass(
     }
 }
 
-/// Which of the actors that may go the next word chooses, from 0 on. A word is drawn where there is but one, too.
+/// Which of the actors that may go the next word chooses, from 0 on. A word is drawn if there is but one, too.
 fn choose(choices: &mut Choices, enabled: &Enabled<'_>) -> usize
     requires { 0 < length (noted enabled.now) }
     ensures chooses { (c : Configuration) → IsNoteOf enabled.now c
@@ -57,7 +57,7 @@ fn choose(choices: &mut Choices, enabled: &Enabled<'_>) -> usize
     choices.next_of(enabled.processes(), enabled.channels())
 }
 
-/// The transition of the actor that the next word chooses, within the steps that are left; none where nobody may go.
+/// The transition of the actor that the next word chooses, within the steps that are left; none if nobody may go.
 fn go(
     alloc: Global,
     system: &mut System,
@@ -112,8 +112,8 @@ impl Run {
         })
     }
 
-    /// Goes on by so many events, or fewer where the run is over before; whether it is over then.
-    pub fn advance(&mut self, alloc: Global, limit: u32, turns: u32) -> Result<bool, NoMemory>
+    /// Goes on by so many events, or fewer if the run is over before; whether it is over then.
+    fn advance(&mut self, alloc: Global, limit: u32, turns: u32) -> Result<bool, NoMemory>
         ensures { IfOk result (RunAdvances limit self.old self.new turns) }
     {
         for _ in 0..turns {
@@ -129,11 +129,27 @@ impl Run {
         Ok(is_over(&self.system, limit))
     }
 
+    /// The same with the spare nodes of a scratch, which come back to it.
+    pub fn go_on(
+        &mut self,
+        alloc: Global,
+        limit: u32,
+        scratch: &mut Scratch,
+        turns: u32,
+    ) -> Result<bool, NoMemory>
+        ensures { IfOk result (RunAdvances limit self.old self.new turns) }
+    {
+        self.system.put_pool(scratch.take_pool(alloc));
+        let went = self.advance(alloc, limit, turns);
+        scratch.put_pool(self.system.take_pool(alloc));
+        went
+    }
+
     /// The report of a run that is over.
     pub fn report(self, alloc: Global, job: &Job) -> Result<Report, NoMemory>
         ensures { IfOk result (λ r. (cs : model.Choices) → IsRunBy job.now cs self
-            → IsOver job.now.limit self
-            → Means (record (job_meant job.now) { choices = cs }) (report_of r)
+            → IsOver job.now.asked.limit self
+            → Means (record job.now.asked { choices = cs }) (report_of r)
             × (length r.events.items ≡ length self.events.items)) }
     {
         let outcome = self.system.outcome(alloc)?;

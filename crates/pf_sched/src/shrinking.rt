@@ -4,15 +4,14 @@ ghost use Rattle.std.specs.Prelude.{◌≡◌, ◌+◌, ◌-◌, ◌<◌, IfOk, 
 ghost use Rattle.pf_model.specs.Meaning as model;
 ghost use Rattle.pf_model.specs.Shrinking.{is_failure};
 ghost use Rattle.pf_shrink.specs.Hunts.{found_of, next_of, told_of};
-ghost use Rattle.pf_desks.specs.Desk as desk;
-ghost use Rattle.pf_desks.specs.Desk.{job_meant};
-ghost use Rattle.pf_sched.specs.Asked.{IsKept};
+ghost use Rattle.pf_request.specs.Job as request;
+ghost use Rattle.pf_sched.specs.Asked.{IsValid};
 ghost use Rattle.pf_sched.specs.Parts.{IsHuntOf, IsShrinkingOf, KeepsReport, events_so_far, stands_at};
 ghost use Rattle.pf_sched.specs.Slices.{Follows, GoesOn, IsOver, OpensNext, RunAdvances, TellsFound, runs_left};
 ghost use Rattle.pf_sched.specs.Views.{result_of};
 
-use crate::course::Course;
 use crate::job::Job;
+use crate::progress::Progress;
 use crate::result::JobResult;
 use crate::run::Run;
 use crate::scratch::Scratch;
@@ -23,19 +22,19 @@ use pf_terms::NoMemory;
 use std::alloc::Global;
 
 /// A shrinking as far as it came: its hunt, the run of the hunt's next schedule, the report of the schedule that the hunt stands at, which is
-/// none before the first run that failed, the number of events of all runs before this one, and what is told of it to who watches.
+/// none before the first run that failed, the number of events of all runs before this one, and its progress for the observer.
 #[derive(Drop)]
 pub(crate) struct Shrinking {
     pub hunt: Hunt,
     pub run: Run,
     pub report: Option<Report>,
     pub before: u64,
-    pub course: Course,
+    pub progress: Progress,
 }
 
 /// What a shrinking goes on to.
 #[derive(Drop)]
-pub(crate) enum Progress {
+pub(crate) enum Advance {
     /// It has more events.
     More(Shrinking),
     /// It is over.
@@ -65,8 +64,8 @@ fn next_choices(alloc: Global, hunt: &Hunt) -> Result<Option<Choices>, NoMemory>
 fn found(alloc: Global, hunt: &Hunt, report: Option<Report>) -> Result<JobResult, NoMemory>
     requires ended { IsNone (next_of hunt.now) }
     requires report { IsSome (found_of hunt.now) → IsSome report }
-    ensures { IfOk result (λ r. (j : desk.Job) → KeepsReport (job_meant j) (stands_at hunt.now) report
-        → TellsFound (job_meant j) (found_of hunt.now) (result_of r)) }
+    ensures { IfOk result (λ r. (j : request.Job) → KeepsReport j.asked (stands_at hunt.now) report
+        → TellsFound j.asked (found_of hunt.now) (result_of r)) }
 {
     let Some((schedule, complete)) = hunt.found() else {
         return Ok(JobResult::NothingFails);
@@ -89,28 +88,28 @@ fn tell(hunt: &mut Hunt, kept: Option<Report>, ended: Report) -> Option<Report>
     if fails { Some(ended) } else { kept }
 }
 
-/// The run of a hunt's next schedule, or what the hunt came to, behind so many events.
+/// The run of a hunt's next schedule, or what the hunt came to, after so many events.
 fn begin(
     alloc: Global,
     job: &Job,
     hunt: Hunt,
     report: Option<Report>,
     before: u64,
-    course: Course,
-) -> Result<Progress, NoMemory>
-    requires hunt { IsHuntOf (job_meant job.now) hunt before }
-    requires report { KeepsReport (job_meant job.now) (stands_at hunt) report }
+    progress: Progress,
+) -> Result<Advance, NoMemory>
+    requires hunt { IsHuntOf job.now.asked hunt before }
+    requires report { KeepsReport job.now.asked (stands_at hunt) report }
     ensures { IfOk result (λ p. Follows job.now before (runs_left hunt) p) }
 {
     match next_choices(alloc, &hunt)? {
-        Some(choices) => Ok(Progress::More(Shrinking {
+        Some(choices) => Ok(Advance::More(Shrinking {
             run: Run::new(alloc, job, choices)?,
             hunt,
             report,
             before,
-            course,
+            progress,
         })),
-        None => Ok(Progress::Over(found(alloc, &hunt, report)?)),
+        None => Ok(Advance::Over(found(alloc, &hunt, report)?)),
     }
 }
 
@@ -118,8 +117,8 @@ impl Shrinking {
     /// The shrinking of a schedule within so many runs, before its first event.
     pub fn new(alloc: Global, job: &Job, schedule: &[u32], runs: u32) -> Result<Shrinking, NoMemory>
         requires runs { 0 < runs }
-        requires job_runs { job.now.runs ≡ runs }
-        requires job_choices { job.now.choices ≡ model.schedule schedule.now }
+        requires job_runs { job.now.asked.runs ≡ runs }
+        requires job_choices { job.now.asked.choices ≡ model.schedule schedule.now }
         ensures shrinking { IfOk result (λ s. IsShrinkingOf job.now s) }
         ensures first { IfOk result (λ s. events_so_far s ≡ 0) }
     {
@@ -129,12 +128,11 @@ impl Shrinking {
             run: Run::new(alloc, job, choices)?,
             report: None,
             before: 0,
-            course: Course::new(schedule.len()),
+            progress: Progress::new(schedule.len()),
         })
     }
 
-    /// Goes on with the run by so many events, or fewer where the run is over before; whether it is over then. Spare nodes are those of the
-    /// scratch, and come back to it.
+    /// Goes on with the run by so many events, or fewer if the run is over before; whether it is over then.
     fn go(
         &mut self,
         alloc: Global,
@@ -145,17 +143,14 @@ impl Shrinking {
         ensures run { IfOk result (RunAdvances limit self.old.run self.new.run turns) }
         ensures rest { self.new ≡ record self.old { run = self.new.run } }
     {
-        self.run.system.put_pool(scratch.take_pool(alloc));
-        let went = self.run.advance(alloc, limit, turns);
-        scratch.put_pool(self.run.system.take_pool(alloc));
-        went
+        self.run.go_on(alloc, limit, scratch, turns)
     }
 
     /// What follows a run that is over: the hunt is told whether it failed, and the report of one that did is kept.
-    fn follow(self, alloc: Global, job: &Job) -> Result<Progress, NoMemory>
-        requires kept { IsKept job.now }
+    fn follow(self, alloc: Global, job: &Job) -> Result<Advance, NoMemory>
+        requires valid { IsValid job.now }
         requires shrinking { IsShrinkingOf job.now self }
-        requires over { IsOver job.now.limit self.run }
+        requires over { IsOver job.now.asked.limit self.run }
         ensures { IfOk result (λ p. Follows job.now (events_so_far self) (runs_left self.hunt - 1) p) }
     {
         let Shrinking {
@@ -163,16 +158,16 @@ impl Shrinking {
             run,
             report,
             before,
-            course,
+            progress,
         } = self;
-        let behind = before + run.events.len() as u64;
+        let after = before + run.events.len() as u64;
         let ended = run.report(alloc, job)?;
-        let further = course.further(&hunt, &ended);
+        let further = progress.further(&hunt, &ended);
         let kept = tell(&mut hunt, report, ended);
-        begin(alloc, job, hunt, kept, behind, further)
+        begin(alloc, job, hunt, kept, after, further)
     }
 
-    /// Goes on by so many events, over as many runs as they take. It goes on where the shrinking has more; else it is over, with what the job
+    /// Goes on by so many events, over as many runs as they take. It goes on if the shrinking has more; else it is over, with what the job
     /// comes to.
     pub fn advance(
         self,
@@ -180,7 +175,7 @@ impl Shrinking {
         job: &Job,
         scratch: &mut Scratch,
         turns: u32,
-    ) -> Result<Progress, NoMemory>
+    ) -> Result<Advance, NoMemory>
         requires { IsShrinkingOf job.now self }
         ensures { IfOk result (λ p. GoesOn job.now (events_so_far self + turns) p) }
     {
@@ -190,12 +185,12 @@ impl Shrinking {
         loop {
             let had = shrinking.run.events.len();
             if !shrinking.go(alloc, limit, scratch, left)? {
-                return Ok(Progress::More(shrinking));
+                return Ok(Advance::More(shrinking));
             }
             left -= (shrinking.run.events.len() - had) as u32;
             match shrinking.follow(alloc, job)? {
-                Progress::More(next) => shrinking = next,
-                Progress::Over(result) => return Ok(Progress::Over(result)),
+                Advance::More(next) => shrinking = next,
+                Advance::Over(result) => return Ok(Advance::Over(result)),
             }
         }
     }

@@ -1,18 +1,21 @@
 //! Jobs slice by slice.
 
-ghost use Rattle.std.specs.Prelude.{◌≡◌, ◌⊎◌, ◌<◌, IfOk, length};
+ghost use Rattle.std.specs.Prelude.{◌≡◌, ◌⊎◌, ◌<◌, IfOk, length, zero};
+ghost use Rattle.pf_model.specs.Meaning.{Means};
+ghost use Rattle.pf_model.specs.Reports.{report_of};
 ghost use Rattle.pf_sched.specs.Parts.{IsRunOf, IsShrinkingOf, events_so_far};
 ghost use Rattle.pf_sched.specs.Slices.{EndsBy, IsOver, Sliced};
 ghost use Rattle.pf_sched.specs.Views.{parked_view, without_memory};
 
-use crate::course::Watch;
 use crate::finished::Finished;
 use crate::job::Job;
-use crate::parked::{Parked, Work, start};
+use crate::parked::{Parked, Work, first_work, start};
+use crate::progress::Observer;
 use crate::result::JobResult;
 use crate::run::Run;
 use crate::scratch::Scratch;
-use crate::shrinking::{Progress, Shrinking};
+use crate::shrinking::{Advance, Shrinking};
+use pf_model::report::Report;
 use pf_terms::NoMemory;
 use std::alloc::Global;
 use std::sync::Arc;
@@ -26,19 +29,20 @@ pub enum Slice {
     Done(Finished),
 }
 
-/// How many events of a job are made at a time where it is run whole.
+/// How many events of a job are made at a time if it is run to its end.
 const TURNS: u32 = 256;
 
 /// The end of a run that is over.
 fn finish(alloc: Global, job: Arc<Job>, run: Run) -> Finished
     requires run { IsRunOf job.value run }
-    requires over { IsOver job.value.limit run }
+    requires over { IsOver job.value.asked.limit run }
     ensures job { result.job ≡ job.value }
-    ensures result { EndsBy job.value (length run.events.items) result.result ⊎ (result.result ≡ without_memory) }
+    ensures result { EndsBy job.value (length run.events.items) result.result
+        ⊎ (result.result ≡ without_memory) }
 {
     match run.report(alloc, &job) {
-        Ok(report) => Finished::whole(job, JobResult::Report(report)),
-        Err(NoMemory) => Finished::without_memory(alloc, job),
+        Ok(report) => Finished::whole(alloc, job, JobResult::Report(report)),
+        Err(NoMemory) => Finished::without_memory(job),
     }
 }
 
@@ -53,16 +57,13 @@ fn slice_of_run(
     requires { IsRunOf job.value run }
     ensures { Sliced (parked_view job.value (length run.events.items)) turns result }
 {
-    run.system.put_pool(scratch.take_pool(alloc));
-    let went = run.advance(alloc, job.limit(), turns);
-    scratch.put_pool(run.system.take_pool(alloc));
-    match went {
+    match run.go_on(alloc, job.limit(), scratch, turns) {
         Ok(false) => Slice::More(Parked {
             job,
-            work: Work::Trial(run),
+            work: Work::Run(run),
         }),
         Ok(true) => Slice::Done(finish(alloc, job, run)),
-        Err(NoMemory) => Slice::Done(Finished::without_memory(alloc, job)),
+        Err(NoMemory) => Slice::Done(Finished::without_memory(job)),
     }
 }
 
@@ -78,17 +79,17 @@ fn slice_of_shrinking(
     ensures { Sliced (parked_view job.value (events_so_far shrinking)) turns result }
 {
     match shrinking.advance(alloc, &job, scratch, turns) {
-        Ok(Progress::More(shrinking)) => Slice::More(Parked {
+        Ok(Advance::More(shrinking)) => Slice::More(Parked {
             job,
             work: Work::Shrinking(shrinking),
         }),
-        Ok(Progress::Over(result)) => Slice::Done(Finished::whole(job, result)),
-        Err(NoMemory) => Slice::Done(Finished::without_memory(alloc, job)),
+        Ok(Advance::Over(result)) => Slice::Done(Finished::whole(alloc, job, result)),
+        Err(NoMemory) => Slice::Done(Finished::without_memory(job)),
     }
 }
 
-/// Goes on with a job by so many events at most, over as many runs as they take. It goes on where the job has more; else it is over, with what
-/// the job comes to. Where a growth is refused it is over too, and its result tells that memory ran out. What stands in the scratch makes no
+/// Goes on with a job by so many events at most, over as many runs as they take. It goes on if the job has more; else it is over, with what
+/// the job comes to. If a growth is refused it is over too, and its result is that memory ran out. What stands in the scratch makes no
 /// difference.
 pub fn run_slice(alloc: Global, parked: Parked, scratch: &mut Scratch, turns: u32) -> Slice
     requires { 0 < turns }
@@ -96,33 +97,48 @@ pub fn run_slice(alloc: Global, parked: Parked, scratch: &mut Scratch, turns: u3
 {
     let Parked { job, work } = parked;
     match work {
-        Work::Trial(run) => slice_of_run(alloc, job, run, scratch, turns),
+        Work::Run(run) => slice_of_run(alloc, job, run, scratch, turns),
         Work::Shrinking(shrinking) => slice_of_shrinking(alloc, job, shrinking, scratch, turns),
     }
 }
 
-/// Tells who watches how far a job came that is a shrinking.
-fn tell(watch: &mut impl Watch, parked: &Parked) {
-    if let Some(course) = parked.course() {
-        watch.tell(course);
+/// Tells the observer the progress of a job that is a shrinking.
+fn tell(observer: &mut impl Observer, parked: &Parked) {
+    if let Some(progress) = parked.progress() {
+        observer.progress(progress);
     }
 }
 
-/// The whole of a job, slice by slice. Where its start is refused a growth, there is no run. Who watches is told how far a shrinking came.
-pub fn whole(
+/// Runs a job to its end, slice by slice. If its start is refused a growth, there is no run. The observer receives the progress of a shrinking.
+pub fn run_to_end(
     alloc: Global,
     job: Arc<Job>,
     scratch: &mut Scratch,
-    watch: &mut impl Watch,
+    observer: &mut impl Observer,
 ) -> Result<Finished, NoMemory>
     ensures { IfOk result (λ f. f.job ≡ job.value) }
 {
     let mut parked = start(alloc, job)?;
     loop {
-        tell(watch, &parked);
+        tell(observer, &parked);
         match run_slice(alloc, parked, scratch, TURNS) {
             Slice::More(more) => parked = more,
             Slice::Done(finished) => return Ok(finished),
         }
     }
+}
+
+/// The report of a job that is one run, which is made to its end: each of its events is a step at least, so it is over after as many events as
+/// its limit has steps. What stands in the scratch makes no difference.
+pub fn report_of_run(alloc: Global, job: &Job, scratch: &mut Scratch) -> Result<Report, NoMemory>
+    requires { job.now.asked.runs ≡ zero }
+    ensures { IfOk result (λ r. Means job.now.asked (report_of r)) }
+{
+    let Work::Run(mut run) = first_work(alloc, job)? else {
+        unreachable!();
+    };
+    if !run.go_on(alloc, job.limit(), scratch, job.limit())? {
+        unreachable!();
+    }
+    run.report(alloc, job)
 }

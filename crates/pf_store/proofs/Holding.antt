@@ -16,7 +16,8 @@ use Rattle.std.proofs.lemmas.Slice.Eq.{bytes_eq-Decides}
 use Rattle.indexmap.specs.IndexMap.{IndexMap, IsUnique, Updates, keys, values, with_value_at}
 use Rattle.indexmap.proofs.CallerLemmas.{keys-with_value_at, updates-with_value_at}
 use Rattle.indexmap.proofs.MapLemmas.{Found-position}
-use Rattle.pf_store.specs.Sources.{holders, HeldOnceMore, HeldOnceLess, IsReadAs, IsAllHeld}
+use Rattle.pf_module.specs.Reading.{IsReadAs}
+use Rattle.pf_store.specs.Sources.{holders, HeldOnceMore, HeldOnceLess, IsAllHeld}
 use Rattle.pf_store.specs.Held.{Modules, kept_in, IsOf, IsKept}
 use Rattle.pf_store.specs.declared.store.Held.{Held}
 
@@ -137,7 +138,7 @@ module _ {S : Type 0} (m : IndexMap (List ℕ) Held S) (q : List ℕ) (i : ℕ) 
   written = (updates-with_value_at m i w nat_list_eq_equiv unique q h (entry_at m.entries q i h place value)).0
 
   -- after a write of how many hold what is found, all is kept still
-  pub written_kept : w.stored ≡ h.stored → 1 ≤ w.holders → IsKept (with_value_at m i w).entries
+  pub written_kept : w.module ≡ h.module → 1 ≤ w.holders → IsKept (with_value_at m i w).entries
   written_kept same one =
       kept_after m.entries (with_value_at m i w).entries q (Some w) kept (subst (IsDistinct bytes_eq) (sym (keys-with_value_at m i w)) unique) written
       (subst (λ s. (s.source ≡ q) × IsReadAs q s) (sym same) known.0, one)

@@ -2,7 +2,8 @@
 use Rattle.std.specs.Prelude.{◌≡◌, ℕ, List, map, IfSome}
 use Rattle.std.specs.Map.{lookup}
 use Rattle.std.specs.Str.{bytes_eq}
-use Rattle.pf_store.specs.Sources.{Kept, IsReadAs, IsAllHeld}
+use Rattle.pf_module.specs.Reading.{IsReadAs}
+use Rattle.pf_store.specs.Sources.{Kept, IsAllHeld}
 use Rattle.pf_store.specs.declared.store.Held.{Held}
 
 -- the modules that are kept, each under its source
@@ -14,7 +15,7 @@ kept_in es = map (λ e. (e.0, e.1.holders)) es
 
 -- the module under a source has it as its source, and is what it is read as
 abbrev pub IsOf : List ℕ → Held → Type 0
-IsOf source h = (h.stored.source ≡ source) × IsReadAs source h.stored
+IsOf source h = (h.module.source ≡ source) × IsReadAs source h.module
 
 -- each source has its module, and somebody holds it
 abbrev pub IsKept : Modules → Type 0

@@ -1,13 +1,7 @@
--- Sources, the modules that they are read as, and how many hold each.
+-- The sources that are held, and how many hold the module of each.
 use Rattle.std.specs.Prelude.{◌≡◌, ℕ, ◌+◌, ◌≤◌, if◌then◌else◌, List, All, unwrap_or}
 use Rattle.std.specs.Map.{lookup}
 use Rattle.std.specs.Str.{bytes_eq}
-use Rattle.pf_check.specs.Reads.{accepted, Reads}
-use Rattle.pf_desks.specs.Desk.{Stored}
-
--- a source is read as a module
-abbrev pub IsReadAs : List ℕ → Stored → Type 0
-IsReadAs source m = Reads source (accepted m.code.name m.code.atoms m.code.functions)
 
 -- the sources that are kept, each with how many hold its module
 abbrev pub Kept : Type 0

@@ -2,12 +2,13 @@
 
 ghost use Rattle.std.specs.Prelude.{◌≡◌, ◌≤◌, [], IfErr, IfOk, MatchOption, OnErr, OnOk};
 ghost use Rattle.pf_check.specs.Reads.{IsRefusalOf};
-ghost use Rattle.pf_store.specs.Sources.{HeldOnceLess, HeldOnceMore, IsReadAs, holders};
+ghost use Rattle.pf_module.specs.Reading.{IsReadAs};
+ghost use Rattle.pf_store.specs.Sources.{HeldOnceLess, HeldOnceMore, holders};
 
-use crate::source::Source;
-use crate::stored::Stored;
 use indexmap::IndexMap;
 use pf_fault::{OrNoMemory, Refusal};
+use pf_module::ReadModule;
+use pf_request::Source;
 use pf_terms::NoMemory;
 use std::alloc::Global;
 use std::hash::RandomState;
@@ -16,7 +17,7 @@ use std::marker::Model;
 /// A module that is kept with its source, and how many hold it.
 #[derive(Drop)]
 struct Held {
-    stored: Stored,
+    module: ReadModule,
     holders: u64,
 }
 
@@ -52,7 +53,7 @@ impl Store {
     }
 
     /// One more holds the module that is kept under a source, which comes with the bytes under which it is kept.
-    fn hold_once_more(&mut self, source: &Source) -> Result<Option<Stored>, NoMemory>
+    fn hold_once_more(&mut self, source: &Source) -> Result<Option<ReadModule>, NoMemory>
         ensures held { IfOk result (λ found. MatchOption found
             ((holders self.old source.now ≡ 0) × (self.new ≡ self.old))
             (λ s. (s.source ≡ source.now) × IsReadAs source.now s × HeldOnceMore source.now self.old self.new)) }
@@ -65,23 +66,23 @@ impl Store {
         let Some(holders) = held.holders.checked_add(1) else {
             return Err(NoMemory);
         };
-        let stored = held.stored.share()?;
+        let module = held.module.share()?;
         self.modules[index].holders = holders;
-        Ok(Some(stored))
+        Ok(Some(module))
     }
 
     /// Keeps a module under its source, which one holds.
-    fn keep(&mut self, stored: &Stored) -> Result<(), NoMemory>
-        requires read { IsReadAs stored.now.source stored.now }
-        requires new { holders self.old stored.now.source ≡ 0 }
-        ensures held { OnOk result (HeldOnceMore stored.now.source self.old self.new) }
+    fn keep(&mut self, module: &ReadModule) -> Result<(), NoMemory>
+        requires read { IsReadAs module.now.source module.now }
+        requires new { holders self.old module.now.source ≡ 0 }
+        ensures held { OnOk result (HeldOnceMore module.now.source self.old self.new) }
         ensures err { OnErr result (self.new ≡ self.old) }
     {
         let held = Held {
-            stored: stored.share()?,
+            module: module.share()?,
             holders: 1,
         };
-        self.modules.insert(stored.source().share()?, held)?;
+        self.modules.insert(module.source().share()?, held)?;
         Ok(())
     }
 
@@ -91,7 +92,7 @@ impl Store {
         &mut self,
         alloc: Global,
         source: &Source,
-    ) -> Result<Stored, OrNoMemory<Refusal>>
+    ) -> Result<ReadModule, OrNoMemory<Refusal>>
         ensures read { IfOk result (λ s. (s.source ≡ source.now) × IsReadAs source.now s) }
         ensures fault { IfErr result (IsRefusalOf source.now) }
         ensures held { OnOk result (HeldOnceMore source.now self.old self.new) }
@@ -100,9 +101,9 @@ impl Store {
         if let Some(kept) = self.hold_once_more(source)? {
             return Ok(kept);
         }
-        let stored = Stored::read(alloc, source)?;
-        self.keep(&stored)?;
-        Ok(stored)
+        let module = ReadModule::read(alloc, source)?;
+        self.keep(&module)?;
+        Ok(module)
     }
 
     /// One of those who hold the module of a source gives it up. With the last of them the module leaves the store.

@@ -29,7 +29,7 @@ pub fn print<W: Write, L: Ledger>(
         writer.old.failures.total writer.new.failures.total) }
 {
     let mut text = Vec::new(alloc);
-    put_term(alloc, &mut text, atoms, term)?;
+    put_term(&mut text, atoms, term)?;
     writer.put(&text)?;
     Ok(())
 }

@@ -2,7 +2,7 @@
 
 use crate::told::{described, order_of, source_of};
 use pf_book::{Book, Reply};
-use pf_sched::{JobChoices, JobKind};
+use pf_request::{Kind, RunChoices};
 use pf_terms::NoMemory;
 use std::alloc::Global;
 use std::hash::RandomState;
@@ -25,9 +25,9 @@ enum Ask {
     Log,
 }
 
-fn shrinking_of(alloc: Global, runs: u32) -> Result<JobKind, Fail> {
+fn shrinking_of(alloc: Global, runs: u32) -> Result<Kind, Fail> {
     let schedule = Arc::new(alloc, Vec::new(alloc)).or(Err(NoMemory))?;
-    Ok(JobKind::Shrinking { schedule, runs })
+    Ok(Kind::Shrink { schedule, runs })
 }
 
 /// The reply to a call.
@@ -35,7 +35,7 @@ fn replied(alloc: Global, book: &mut Book, project: u32, ask: Ask) -> Result<Rep
     let reply = match ask {
         Ask::Submit(size) => book.submit(alloc, project, source_of(alloc, size)?)?,
         Ask::Order(limit) => {
-            let kind = JobKind::Trial(JobChoices::Seed(0));
+            let kind = Kind::Run(RunChoices::Seed(0));
             book.order(alloc, project, order_of(alloc, 1, kind, limit)?)?
         }
         Ask::Shrink(runs, limit) => {
@@ -43,16 +43,12 @@ fn replied(alloc: Global, book: &mut Book, project: u32, ask: Ask) -> Result<Rep
             book.order(alloc, project, order_of(alloc, 1, kind, limit)?)?
         }
         Ask::Weigh(run, deliver, limit) => {
-            let choices = JobChoices::Weighted {
+            let kind = Kind::Run(RunChoices::Weighted {
                 seed: 5,
                 run,
                 deliver,
-            };
-            book.order(
-                alloc,
-                project,
-                order_of(alloc, 1, JobKind::Trial(choices), limit)?,
-            )?
+            });
+            book.order(alloc, project, order_of(alloc, 1, kind, limit)?)?
         }
         Ask::Edition(edition) => book.edition(alloc, project, edition)?,
         Ask::Usage => book.usage(alloc, project)?,
@@ -61,7 +57,7 @@ fn replied(alloc: Global, book: &mut Book, project: u32, ask: Ask) -> Result<Rep
     Ok(reply)
 }
 
-/// What is told last where a project makes a call so many times.
+/// What is told last if a project makes a call so many times.
 fn last_told(
     alloc: Global,
     book: &mut Book,

@@ -1,7 +1,9 @@
 //! Who submits the same bytes shares their module, and each of many sources has its own.
 
 use pf_fault::OrNoMemory;
-use pf_store::{Source, Store, Stored};
+use pf_module::ReadModule;
+use pf_request::Source;
+use pf_store::Store;
 use std::alloc::Global;
 use std::hash::RandomState;
 use std::sync::Arc;
@@ -13,24 +15,24 @@ fn source_of(alloc: Global, text: &str) -> Result<Source, Fail> {
     Ok(Source::new(alloc, Vec::from_slice(alloc, text.as_bytes())?)?)
 }
 
-fn take(alloc: Global, store: &mut Store, text: &str) -> Result<Stored, Fail> {
+fn take(alloc: Global, store: &mut Store, text: &str) -> Result<ReadModule, Fail> {
     let source = source_of(alloc, text)?;
     Ok(store.take_or_read(alloc, &source)?)
 }
 
 /// Takes a source and gives it up at once.
-fn take_and_give_up(alloc: Global, store: &mut Store, text: &str) -> Result<Stored, Fail> {
+fn take_and_give_up(alloc: Global, store: &mut Store, text: &str) -> Result<ReadModule, Fail> {
     let source = source_of(alloc, text)?;
-    let stored = store.take_or_read(alloc, &source)?;
+    let module = store.take_or_read(alloc, &source)?;
     store.give_up(&source);
-    Ok(stored)
+    Ok(module)
 }
 
 /// How many share the module of each.
-fn shares(alloc: Global, held: &[Stored]) -> Result<Vec<usize>, Fail> {
+fn shares(alloc: Global, held: &[ReadModule]) -> Result<Vec<usize>, Fail> {
     let mut counts = Vec::new(alloc);
-    for stored in held {
-        counts.push(Arc::strong_count(stored.module()))?;
+    for module in held {
+        counts.push(Arc::strong_count(module.module()))?;
     }
     Ok(counts)
 }
@@ -47,7 +49,7 @@ fn refusal_of(alloc: Global, store: &mut Store, text: &str) -> Result<String, Fa
     }
 }
 
-/// A source is taken and shared once more, and then taken again behind another one.
+/// A source is taken and shared once more, and then taken again after another one.
 fn taken_again(alloc: Global, keys: RandomState) -> Result<Vec<usize>, Fail> {
     let mut store = Store::new(alloc, keys);
     let mut held = Vec::new(alloc);
@@ -92,9 +94,9 @@ fn a_module_leaves_with_its_last_holder(rt: HostRuntime) -> Result<(), Fail> {
 fn sources_are_kept_as_they_are(rt: HostRuntime) -> Result<(), Fail> {
     let alloc = rt.alloc();
     let mut store = Store::new(alloc, RandomState::new(&rt)?);
-    let stored = take(alloc, &mut store, SUM)?;
-    assert_eq!(rt; stored.source().bytes(), SUM.as_bytes());
-    assert_eq!(rt; stored.size(), SUM.len());
+    let module = take(alloc, &mut store, SUM)?;
+    assert_eq!(rt; module.source().bytes(), SUM.as_bytes());
+    assert_eq!(rt; module.size(), SUM.len());
     let refusal = refusal_of(alloc, &mut store, "")?;
     assert_eq!(rt; refusal.as_str(), "E4 at 0");
     Ok(())
@@ -107,10 +109,10 @@ fn many_sources_are_kept(rt: HostRuntime) -> Result<(), Fail> {
     for round in 1..3usize {
         for number in 0..300u32 {
             let text = format!(in alloc; "-module(m). f() -> {number}.")?;
-            let stored = take(alloc, &mut store, &text)?;
+            let module = take(alloc, &mut store, &text)?;
             // The store's own share, and this one.
             assert_eq!(rt;
-                Arc::strong_count(stored.module()),
+                Arc::strong_count(module.module()),
                 2,
                 "{number} in round {round}"
             );

@@ -1,8 +1,8 @@
 //! What clients are told by a book, in words.
 
-use pf_book::{Book, Order, Reply, Stage, Word};
-use pf_sched::{JobKind, JobResult};
-use pf_store::Source;
+use pf_book::{Book, Reply, Stage};
+use pf_request::{Kind, Order, Request, ShortBytes, Source};
+use pf_sched::JobResult;
 use std::alloc::Global;
 use std::test::Fail;
 
@@ -19,27 +19,25 @@ pub(crate) fn source_of(alloc: Global, size: usize) -> Result<Source, Fail> {
 }
 
 /// An order of a project's module, asked whether it returns.
-pub(crate) fn order_of(
-    alloc: Global,
-    module: u64,
-    kind: JobKind,
-    limit: u32,
-) -> Result<Order, Fail> {
-    Ok(Order {
-        module,
-        root: Word::from_slice(alloc, b"main")?,
-        property: Word::from_slice(alloc, b"returns")?,
+pub(crate) fn order_of(alloc: Global, module: u64, kind: Kind, limit: u32) -> Result<Order, Fail> {
+    let request = Request {
+        root: ShortBytes::from_slice(alloc, b"main")?,
+        property: ShortBytes::from_slice(alloc, b"returns")?,
         kind,
         limit,
-    })
+    };
+    Ok(Order { module, request })
 }
 
-/// What came of a trial in words.
-fn came_of(alloc: Global, came: &JobResult) -> Result<String, Fail> {
+/// What came of a trial in words; none if memory ran out.
+fn came_of(alloc: Global, came: Option<&JobResult>) -> Result<String, Fail> {
     let text = match came {
-        JobResult::Report(report) => format!(in alloc; "{} steps", report.steps)?,
-        JobResult::Shrunk { report, .. } => format!(in alloc; "shrunk to {} steps", report.steps)?,
-        JobResult::NothingFails => format!(in alloc; "nothing fails")?,
+        Some(JobResult::Report(report)) => format!(in alloc; "{} steps", report.steps)?,
+        Some(JobResult::Shrunk { report, .. }) => {
+            format!(in alloc; "shrunk to {} steps", report.steps)?
+        }
+        Some(JobResult::NothingFails) => format!(in alloc; "nothing fails")?,
+        None => format!(in alloc; "out of memory")?,
     };
     Ok(text)
 }
@@ -58,7 +56,7 @@ pub(crate) fn described(alloc: Global, reply: Reply) -> Result<String, Fail> {
     let text = match reply {
         Reply::Module(number) => format!(in alloc; "module {number}")?,
         Reply::Ticket(number) => format!(in alloc; "ticket {number}")?,
-        Reply::Result(filed) => came_of(alloc, filed.result())?,
+        Reply::Result(finished) => came_of(alloc, finished.result())?,
         Reply::Stage(stage) => stage_of(alloc, stage)?,
         Reply::GivenUp => format!(in alloc; "given up")?,
         Reply::Logged(count) => format!(in alloc; "{count} calls")?,

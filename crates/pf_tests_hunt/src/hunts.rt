@@ -2,7 +2,8 @@
 
 use crate::jobs::{LOST_UPDATE, Told, job_by, job_of, rows_of, summary};
 use pf_hunt::{first_in, hunt, hunt_all, tally_in};
-use pf_sched::{Job, JobChoices};
+use pf_request::RunChoices;
+use pf_sched::Job;
 use std::alloc::Global;
 use std::test::Fail;
 use std::thread::Threads;
@@ -102,7 +103,7 @@ main() -> self() ! hi, receive hi -> ok end.\n";
 
 /// The rows of its runs within 7 steps by the seeds from 0 to 9. Where the two may go no word of these seeds is 9 modulo 10.
 fn to_itself(alloc: Global, run: u32, deliver: u32) -> Result<String, Fail> {
-    let choices = JobChoices::Weighted {
+    let choices = RunChoices::Weighted {
         seed: 5,
         run,
         deliver,

@@ -2,8 +2,9 @@
 
 use pf_hunt::{Failure, Tally, Watch};
 use pf_model::report::Outcome;
-use pf_sched::{Job, JobChoices, JobKind};
-use pf_store::{Source, Stored};
+use pf_module::ReadModule;
+use pf_request::{Kind, Request, RunChoices, ShortBytes, Source};
+use pf_sched::Job;
 use std::alloc::Global;
 use std::test::Fail;
 
@@ -18,7 +19,7 @@ counter(N) -> receive {read, P} -> P ! {value, N}, counter(N);\n\
 
 /// The job of a source from its `main`.
 pub(crate) fn job_of(alloc: Global, source: &str, property: &str, limit: u32) -> Result<Job, Fail> {
-    job_by(alloc, source, property, JobChoices::Seed(0), limit)
+    job_by(alloc, source, property, RunChoices::Seed(0), limit)
 }
 
 /// The same by these choices.
@@ -26,15 +27,19 @@ pub(crate) fn job_by(
     alloc: Global,
     source: &str,
     property: &str,
-    choices: JobChoices,
+    choices: RunChoices,
     limit: u32,
 ) -> Result<Job, Fail> {
     let mut bytes = Vec::new(alloc);
     bytes.extend_from_slice(source.as_bytes())?;
-    let stored = Stored::read(alloc, &Source::new(alloc, bytes)?)?;
-    let kind = JobKind::Trial(choices);
-    let property = property.as_bytes();
-    Ok(Job::new(alloc, stored, b"main", property, kind, limit, 1)?)
+    let module = ReadModule::read(alloc, &Source::new(alloc, bytes)?)?;
+    let request = Request {
+        root: ShortBytes::from_slice(alloc, b"main")?,
+        property: ShortBytes::from_slice(alloc, property.as_bytes())?,
+        kind: Kind::Run(choices),
+        limit,
+    };
+    Ok(Job::new(alloc, module, &request, 1)?)
 }
 
 /// The seed of a failure, with how many events its report has.

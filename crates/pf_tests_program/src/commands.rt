@@ -1,4 +1,4 @@
-//! Whole inputs of commands: what is left where a call of a reader or a writer fails.
+//! Whole inputs of commands: what is left if a call of a reader or a writer fails.
 
 use crate::pipes::{Ended, Failing, carry_out};
 use std::alloc::Global;
@@ -16,7 +16,7 @@ p1 usage 1 52 1 100 2\np2 usage 1 52 1 100 2\nw0 done\nw0 not now N2\n\
 p1 report 4\n0/1 <0> end normal\nfinished 7\nsteps 4\nproperty holds\n\
 p2 refused B5\np2 refused B3\nw0 not now N2\n";
 
-/// How many calls of the reader fail in turn before none does and the text is whole. Where the first fails nothing goes out; else all.
+/// How many calls of the reader fail in turn before none does and the text is whole. If the first fails nothing goes out; else all.
 fn failed_reads(alloc: Global, keys: RandomState) -> Option<u64> {
     for k in 1..1000u64 {
         let failing = Failing { read: k, write: 0 };

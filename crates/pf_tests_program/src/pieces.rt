@@ -92,7 +92,7 @@ fn tell_by<L: Ledger, M: Ledger>(
     Told { ended, tally }
 }
 
-/// Carries out commands that come in pieces of this size, where call `failing` of the reader fails; none does where it is 0.
+/// Carries out commands that come in pieces of this size, where call `failing` of the reader fails; none does if it is 0.
 fn tell(alloc: Global, keys: RandomState, input: &[u8], size: usize, failing: u64) -> Told {
     tell_by::<Brand, Brand>(
         alloc,

@@ -1,14 +1,17 @@
 //! The work of `run`, of `shrink` and of `steps` between a reader and a writer in memory that may fail.
 
-ghost use Rattle.std.specs.Prelude.{◌≡◌, ◌<◌};
+ghost use Rattle.std.specs.Prelude.{◌≡◌, ◌<◌, true};
+ghost use Rattle.pf_request.specs.Request.{choices_in, may_weigh};
+ghost use Rattle.pf_request.specs.View.{view_of_kind};
 
-use pf_command::{run_source, shrink_source};
+use pf_cli::{Edition, RunArgs};
+use pf_command::{Answering, Run, Shrink, serve};
 use pf_fault::OrNoMemory;
-use pf_sched::{JobChoices, Watch};
+use pf_request::{Kind, Request, RunChoices, ShortBytes};
+use pf_sched::Observer;
 use pf_terms::{Counted, FailAt, StreamFault};
 use pf_wire::run_steps;
-use pf_words::{Edition, RunWords, ShrinkWords};
-use std::alloc::Global;
+use std::alloc::{AllocError, Global};
 use std::hash::RandomState;
 use std::io;
 use std::io::{ErrorKind, Write};
@@ -67,9 +70,9 @@ pub fn end_of(answer: Result<u8, OrNoMemory<StreamFault>>) -> Ended {
     }
 }
 
-fn run_by<L: Ledger, M: Ledger>(
+fn serve_by<C: Answering + Drop, L: Ledger, M: Ledger>(
     alloc: Global,
-    words: &RunWords,
+    command: C,
     input: &[u8],
     failing: Failing,
     reads: Blank,
@@ -87,55 +90,55 @@ fn run_by<L: Ledger, M: Ledger>(
     };
     let mut reader = Counted::<FailAt<&[u8]>, L>::new(FailAt::new(input, failing.read), reads);
     let mut writer = Counted::<FailAt<Narrow>, M>::new(FailAt::new(narrow, failing.write), writes);
-    let ended = end_of(run_source(alloc, &mut reader, words, &mut writer));
+    let ended = end_of(serve(alloc, &mut reader, command, &mut writer));
     let Counted { inner, .. } = writer;
     let FailAt { inner: narrow, .. } = inner;
     let Narrow { taken: out } = narrow;
     Worked { out, ended }
 }
 
-/// Runs `main` of a source in memory by a seed within 1,000 steps, with calls that fail.
-pub fn run(alloc: Global, input: &[u8], failing: Failing) -> Worked {
-    let words = RunWords {
-        file: None,
-        root: "main",
-        limit: 1_000,
-        edition: Edition::First,
-        choices: JobChoices::Seed(0),
-        property: "returns",
-    };
-    run_by::<Brand, Brand>(alloc, &words, input, failing, Blank::new(1), Blank::new(1))
+/// Answers a source in memory by a command, with calls that fail.
+fn answer<C: Answering + Drop>(
+    alloc: Global,
+    command: C,
+    input: &[u8],
+    failing: Failing,
+) -> Worked {
+    let (reads, writes) = (Blank::new(1), Blank::new(1));
+    serve_by::<C, Brand, Brand>(alloc, command, input, failing, reads, writes)
 }
 
-fn shrink_by<L: Ledger, M: Ledger>(
-    alloc: Global,
-    words: &ShrinkWords,
-    input: &[u8],
-    watch: &mut impl Watch,
-    reads: Blank,
-    writes: Blank,
-) -> Worked
-    requires reads { reads.name ≡ L.name }
-    requires read_parts { reads.parts ≡ L.parts }
-    requires some_reads { 0 < reads.parts }
-    requires writes { writes.name ≡ M.name }
-    requires write_parts { writes.parts ≡ M.parts }
-    requires some_writes { 0 < writes.parts }
+/// What is asked for of `main` within 1,000 steps.
+pub fn asked<'a>(alloc: Global, property: &str, kind: Kind) -> Result<RunArgs<'a>, AllocError>
+    requires { may_weigh (choices_in (view_of_kind kind)) ≡ true }
 {
-    let narrow = Narrow {
-        taken: Vec::new(alloc),
-    };
-    let mut reader = Counted::<&[u8], L>::new(input, reads);
-    let mut writer = Counted::<Narrow, M>::new(narrow, writes);
-    let ended = end_of(shrink_source(alloc, &mut reader, words, &mut writer, watch));
-    let Counted { inner: narrow, .. } = writer;
-    let Narrow { taken: out } = narrow;
-    Worked { out, ended }
+    Ok(RunArgs {
+        file: None,
+        request: Request {
+            root: ShortBytes::from_slice(alloc, b"main")?,
+            property: ShortBytes::from_slice(alloc, property.as_bytes())?,
+            kind,
+            limit: 1_000,
+        },
+        edition: Edition::First,
+    })
+}
+
+/// Runs `main` of a source in memory by a seed within 1,000 steps, with calls that fail.
+pub fn run(alloc: Global, input: &[u8], failing: Failing) -> Result<Worked, AllocError> {
+    let args = asked(alloc, "returns", Kind::Run(RunChoices::Seed(0)))?;
+    Ok(answer(alloc, Run { args: &args }, input, failing))
 }
 
 /// Shrinks a schedule of a source in memory.
-pub fn shrink(alloc: Global, words: &ShrinkWords, input: &[u8], watch: &mut impl Watch) -> Worked {
-    shrink_by::<Brand, Brand>(alloc, words, input, watch, Blank::new(1), Blank::new(1))
+pub fn shrink(
+    alloc: Global,
+    args: &RunArgs,
+    input: &[u8],
+    observer: impl Observer + Drop,
+) -> Worked {
+    let none = Failing { read: 0, write: 0 };
+    answer(alloc, Shrink { args, observer }, input, none)
 }
 
 fn carry_out_by<L: Ledger, M: Ledger>(

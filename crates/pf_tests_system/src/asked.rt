@@ -1,12 +1,12 @@
 //! Runs that are asked of the scheduler, as they print.
 
+use pf_module::ReadModule;
+use pf_request::{Kind, Request, RunChoices, ShortBytes, Source};
 use pf_sched::{
-    Finished, Job, JobChoices, JobKind, JobResult, Nobody, Scratch, Slice, run_slice, start, whole,
+    Finished, Job, JobResult, Scratch, Silent, Slice, report_of_run, run_slice, run_to_end, start,
 };
-use pf_store::{Source, Store, Stored};
 use pf_trace::{Report, put_found, put_report};
 use std::alloc::Global;
-use std::hash::RandomState;
 use std::sync::Arc;
 use std::test::Fail;
 
@@ -14,81 +14,111 @@ use std::test::Fail;
 const ENOUGH: u32 = 1000;
 
 /// The module of a source.
-pub(crate) fn stored(alloc: Global, keys: RandomState, source: &str) -> Result<Stored, Fail> {
+pub(crate) fn module_of(alloc: Global, source: &str) -> Result<ReadModule, Fail> {
     let mut bytes = Vec::new(alloc);
     bytes.extend_from_slice(source.as_bytes())?;
-    let source = Source::new(alloc, bytes)?;
-    let mut store = Store::new(alloc, keys);
-    Ok(store.take_or_read(alloc, &source)?)
+    Ok(ReadModule::read(alloc, &Source::new(alloc, bytes)?)?)
+}
+
+/// A request of runs from a function of this name.
+pub(crate) fn request_of(
+    alloc: Global,
+    root: &str,
+    property: &str,
+    kind: Kind,
+    limit: u32,
+) -> Result<Request, Fail> {
+    Ok(Request {
+        root: ShortBytes::from_slice(alloc, root.as_bytes())?,
+        property: ShortBytes::from_slice(alloc, property.as_bytes())?,
+        kind,
+        limit,
+    })
 }
 
 /// The choices of a schedule of these numbers.
-pub(crate) fn scheduled(alloc: Global, numbers: &[u32]) -> Result<JobChoices, Fail> {
+pub(crate) fn scheduled(alloc: Global, numbers: &[u32]) -> Result<RunChoices, Fail> {
     let mut own = Vec::new(alloc);
     own.extend_from_slice(numbers)?;
-    Ok(JobChoices::schedule(alloc, own)?)
+    Ok(RunChoices::schedule(alloc, own)?)
 }
 
 /// The job of a run of `main`.
 pub(crate) fn job_of(
     alloc: Global,
-    stored: &Stored,
-    property: &[u8],
-    choices: JobChoices,
+    module: &ReadModule,
+    property: &str,
+    choices: RunChoices,
     limit: u32,
 ) -> Result<Arc<Job>, Fail> {
-    job_of_kind(alloc, stored, property, JobKind::Trial(choices), limit)
+    job_of_kind(alloc, module, property, Kind::Run(choices), limit)
 }
 
 /// The job of runs of `main`.
 pub(crate) fn job_of_kind(
     alloc: Global,
-    stored: &Stored,
-    property: &[u8],
-    kind: JobKind,
+    module: &ReadModule,
+    property: &str,
+    kind: Kind,
     limit: u32,
 ) -> Result<Arc<Job>, Fail> {
-    let job = Job::new(alloc, stored.share()?, b"main", property, kind, limit, 1)?;
+    let request = request_of(alloc, "main", property, kind, limit)?;
+    let job = Job::new(alloc, module.share()?, &request, 1)?;
     Ok(Arc::new(alloc, job)?)
 }
 
 /// The report of a run that is over.
 pub(crate) fn report_of(finished: &Finished) -> Result<&Report, Fail> {
     match finished.result() {
-        JobResult::Report(report) => Ok(report),
+        Some(JobResult::Report(report)) => Ok(report),
         _ => Err(Fail::from("a run comes to a report")),
     }
 }
 
-/// The text of what came of a job.
-pub(crate) fn text_of(alloc: Global, finished: &Finished) -> Result<String, Fail> {
-    if !finished.is_whole() {
-        return Err(Fail::from("memory ran out"));
-    }
-    let mut text = Vec::new(alloc);
-    let atoms = finished.job().module().atoms();
-    match finished.result() {
-        JobResult::Report(report) => put_report(alloc, &mut text, atoms, report)?,
-        JobResult::Shrunk {
-            schedule,
-            complete,
-            report,
-        } => {
-            put_found(alloc, &mut text, schedule, *complete)?;
-            put_report(alloc, &mut text, atoms, report)?;
-        }
-        JobResult::NothingFails => text.extend_from_slice(b"nothing fails\n")?,
-    }
+fn string_of(text: Vec<u8>) -> Result<String, Fail> {
     match String::from_utf8(text) {
         Ok(text) => Ok(text),
         Err(_) => Err(Fail::from("the text of a report is no UTF-8")),
     }
 }
 
+/// The text of what came of a job.
+pub(crate) fn text_of(alloc: Global, finished: &Finished) -> Result<String, Fail> {
+    let Some(result) = finished.result() else {
+        return Err(Fail::from("memory ran out"));
+    };
+    let mut text = Vec::new(alloc);
+    let atoms = finished.job().module().atoms();
+    match result {
+        JobResult::Report(report) => put_report(&mut text, atoms, report)?,
+        JobResult::Shrunk {
+            schedule,
+            complete,
+            report,
+        } => {
+            put_found(&mut text, schedule, *complete)?;
+            put_report(&mut text, atoms, report)?;
+        }
+        JobResult::NothingFails => text.extend_from_slice(b"nothing fails\n")?,
+    }
+    string_of(text)
+}
+
 /// The end of a run that is made whole.
 pub(crate) fn run_whole(alloc: Global, job: &Arc<Job>) -> Result<Finished, Fail> {
     let mut scratch = Scratch::new(alloc);
-    Ok(whole(alloc, Arc::try_clone(job)?, &mut scratch, &mut Nobody)?)
+    Ok(run_to_end(alloc, Arc::try_clone(job)?, &mut scratch, &mut Silent)?)
+}
+
+/// The text of the report of a job that is one run.
+pub(crate) fn text_of_run(alloc: Global, job: &Job) -> Result<String, Fail> {
+    if job.runs() > 0 {
+        return Err(Fail::from("the job is a shrinking"));
+    }
+    let report = report_of_run(alloc, job, &mut Scratch::new(alloc))?;
+    let mut text = Vec::new(alloc);
+    put_report(&mut text, job.module().atoms(), &report)?;
+    string_of(text)
 }
 
 /// The end of a run by slices of so many turns, which share their spare nodes.

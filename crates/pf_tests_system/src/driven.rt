@@ -24,7 +24,7 @@ fn read_main(alloc: Global, source: &str) -> Result<(Arc<Module>, FunctionId), F
 /// The text of a report.
 fn text_of(alloc: Global, module: &Module, report: &Report) -> Result<String, Fail> {
     let mut text = Vec::new(alloc);
-    put_report(alloc, &mut text, module.atoms(), report)?;
+    put_report(&mut text, module.atoms(), report)?;
     match String::from_utf8(text) {
         Ok(text) => Ok(text),
         Err(_) => Err(Fail::from("the text of a report is no UTF-8")),

@@ -1,12 +1,12 @@
 //! Jobs that are refused, and the bounds of those that aren't.
 
-use crate::asked::{scheduled, stored};
+use crate::asked::{module_of, request_of, scheduled};
 use pf_fault::OrNoMemory;
 use pf_model::limits::MOST_CHOICES;
-use pf_sched::{Job, JobChoices, JobKind, JobRefusal};
-use pf_store::Stored;
+use pf_module::ReadModule;
+use pf_request::{Kind, RunChoices};
+use pf_sched::{Job, JobRefusal};
 use std::alloc::Global;
-use std::hash::RandomState;
 use std::test::Fail;
 
 const MODULE: &str = "-module(m).\n-export([main/0, other/1]).\n\
@@ -15,15 +15,14 @@ main() -> hidden().\nother(X) -> X.\nhidden() -> ok.\n";
 /// What a job is refused for.
 fn refused(
     alloc: Global,
-    stored: &Stored,
+    module: &ReadModule,
     root: &str,
     property: &str,
-    choices: JobChoices,
+    choices: RunChoices,
     limit: u32,
 ) -> Result<Option<JobRefusal>, Fail> {
-    let (root, property) = (root.as_bytes(), property.as_bytes());
-    let kind = JobKind::Trial(choices);
-    match Job::new(alloc, stored.share()?, root, property, kind, limit, 1) {
+    let request = request_of(alloc, root, property, Kind::Run(choices), limit)?;
+    match Job::new(alloc, module.share()?, &request, 1) {
         Ok(_) => Ok(None),
         Err(OrNoMemory::Fault(refusal)) => Ok(Some(refusal)),
         Err(OrNoMemory::NoMemory) => Err(Fail::from("memory ran out")),
@@ -57,11 +56,11 @@ const JOBS: [(&str, &str, u32, Option<JobRefusal>); 14] = [
 ];
 
 /// The first of these jobs that is refused for something else, or isn't.
-fn other_refusal(alloc: Global, keys: RandomState) -> Result<Option<usize>, Fail> {
-    let stored = stored(alloc, keys, MODULE)?;
+fn other_refusal(alloc: Global) -> Result<Option<usize>, Fail> {
+    let module = module_of(alloc, MODULE)?;
     for (at, (root, property, limit, wanted)) in JOBS.iter().enumerate() {
-        let choices = JobChoices::Seed(1);
-        if refused(alloc, &stored, root, property, choices, *limit)? != *wanted {
+        let choices = RunChoices::Seed(1);
+        if refused(alloc, &module, root, property, choices, *limit)? != *wanted {
             return Ok(Some(at));
         }
     }
@@ -70,8 +69,7 @@ fn other_refusal(alloc: Global, keys: RandomState) -> Result<Option<usize>, Fail
 
 #[test]
 fn jobs_are_refused_in_order(rt: HostRuntime) -> Result<(), Fail> {
-    let keys = RandomState::new(&rt)?;
-    assert_eq!(rt; other_refusal(rt.alloc(), keys)?, None);
+    assert_eq!(rt; other_refusal(rt.alloc())?, None);
     Ok(())
 }
 
@@ -87,15 +85,15 @@ const WEIGHED: [(u32, u32, u32, Option<JobRefusal>); 7] = [
 ];
 
 /// The first of these jobs that is refused for something else, or isn't.
-fn other_weights(alloc: Global, keys: RandomState) -> Result<Option<usize>, Fail> {
-    let stored = stored(alloc, keys, MODULE)?;
+fn other_weights(alloc: Global) -> Result<Option<usize>, Fail> {
+    let module = module_of(alloc, MODULE)?;
     for (at, (run, deliver, limit, wanted)) in WEIGHED.iter().enumerate() {
-        let choices = JobChoices::Weighted {
+        let choices = RunChoices::Weighted {
             seed: 1,
             run: *run,
             deliver: *deliver,
         };
-        if refused(alloc, &stored, "main", "returns", choices, *limit)? != *wanted {
+        if refused(alloc, &module, "main", "returns", choices, *limit)? != *wanted {
             return Ok(Some(at));
         }
     }
@@ -104,40 +102,38 @@ fn other_weights(alloc: Global, keys: RandomState) -> Result<Option<usize>, Fail
 
 #[test]
 fn weights_are_within_bounds_and_refused_last(rt: HostRuntime) -> Result<(), Fail> {
-    let keys = RandomState::new(&rt)?;
-    assert_eq!(rt; other_weights(rt.alloc(), keys)?, None);
+    assert_eq!(rt; other_weights(rt.alloc())?, None);
     Ok(())
 }
 
 /// The edition of a job of the second, and that of its run by a seed.
-fn editions(alloc: Global, keys: RandomState) -> Result<(u32, u32), Fail> {
-    let stored = stored(alloc, keys, MODULE)?;
-    let kind = JobKind::Trial(JobChoices::Seed(1));
-    let job = Job::new(alloc, stored, b"main", b"returns", kind, 1, 2)?;
+fn editions(alloc: Global) -> Result<(u32, u32), Fail> {
+    let module = module_of(alloc, MODULE)?;
+    let kind = Kind::Run(RunChoices::Seed(1));
+    let request = request_of(alloc, "main", "returns", kind, 1)?;
+    let job = Job::new(alloc, module, &request, 2)?;
     Ok((job.edition(), job.by_seed(7)?.edition()))
 }
 
 #[test]
 fn a_job_keeps_its_edition(rt: HostRuntime) -> Result<(), Fail> {
-    let keys = RandomState::new(&rt)?;
-    assert_eq!(rt; editions(rt.alloc(), keys)?, (2, 2));
+    assert_eq!(rt; editions(rt.alloc())?, (2, 2));
     Ok(())
 }
 
 /// What a job with a schedule of so many zeros is refused for.
-fn of_zeros(alloc: Global, keys: RandomState, count: usize) -> Result<Option<JobRefusal>, Fail> {
+fn of_zeros(alloc: Global, count: usize) -> Result<Option<JobRefusal>, Fail> {
     let zeros = vec![in alloc; 0; count]?;
     let choices = scheduled(alloc, &zeros)?;
-    let stored = stored(alloc, keys, MODULE)?;
-    refused(alloc, &stored, "main", "returns", choices, 1)
+    let module = module_of(alloc, MODULE)?;
+    refused(alloc, &module, "main", "returns", choices, 1)
 }
 
 #[test]
 fn schedules_are_within_bounds(rt: HostRuntime) -> Result<(), Fail> {
-    let keys = RandomState::new(&rt)?;
     let most = MOST_CHOICES as usize;
-    assert_eq!(rt; of_zeros(rt.alloc(), keys, most)?, None);
-    assert_eq!(rt; of_zeros(rt.alloc(), keys, most + 1)?, OUT_OF_RANGE);
+    assert_eq!(rt; of_zeros(rt.alloc(), most)?, None);
+    assert_eq!(rt; of_zeros(rt.alloc(), most + 1)?, OUT_OF_RANGE);
     Ok(())
 }
 

@@ -1,9 +1,9 @@
 //! Shrinkings, whole and slice by slice.
 
-use crate::asked::{job_of_kind, run_sliced, run_whole, stored, text_of};
-use pf_sched::{Job, JobKind};
+use crate::asked::{job_of_kind, module_of, run_sliced, run_whole, text_of};
+use pf_request::Kind;
+use pf_sched::Job;
 use std::alloc::Global;
-use std::hash::RandomState;
 use std::sync::Arc;
 use std::test::Fail;
 
@@ -13,11 +13,11 @@ main() -> P = self(), spawn(m, a, [P]), spawn(m, b, [P]), receive M -> M == 1 en
 a(P) -> P ! 1.\nb(P) -> P ! 2.\n";
 
 /// The shrinking of a schedule of the race within so many runs.
-fn race(alloc: Global, keys: RandomState, property: &[u8], runs: u32) -> Result<Arc<Job>, Fail> {
-    let stored = stored(alloc, keys, RACE)?;
+fn race(alloc: Global, property: &str, runs: u32) -> Result<Arc<Job>, Fail> {
+    let module = module_of(alloc, RACE)?;
     let schedule = Arc::new(alloc, vec![in alloc; 0, 0, 0, 0, 0, 0, 0, 3, 1]?)?;
-    let kind = JobKind::Shrinking { schedule, runs };
-    job_of_kind(alloc, &stored, property, kind, 1000)
+    let kind = Kind::Shrink { schedule, runs };
+    job_of_kind(alloc, &module, property, kind, 1000)
 }
 
 /// Whether it comes to these first and last lines, whole and in slices of one event, of three and of seven.
@@ -50,9 +50,8 @@ const LAST: &str = "finished false\nsteps 22\nproperty fails\n";
 fn a_race_is_shrunk_within_nineteen_runs_and_known_to_be_least_by_twenty(
     rt: HostRuntime,
 ) -> Result<(), Fail> {
-    let keys = RandomState::new(&rt)?;
     for (runs, first) in FRONTS {
-        let job = race(rt.alloc(), keys, b"true", runs)?;
+        let job = race(rt.alloc(), "true", runs)?;
         assert!(rt; comes_to(rt.alloc(), &job, first, LAST)?, "{runs} runs");
     }
     Ok(())
@@ -60,7 +59,7 @@ fn a_race_is_shrunk_within_nineteen_runs_and_known_to_be_least_by_twenty(
 
 #[test]
 fn a_schedule_that_does_not_fail_is_not_shrunk(rt: HostRuntime) -> Result<(), Fail> {
-    let job = race(rt.alloc(), RandomState::new(&rt)?, b"withinlimit", 1000)?;
+    let job = race(rt.alloc(), "withinlimit", 1000)?;
     assert!(rt; comes_to(rt.alloc(), &job, "nothing fails\n", "")?);
     Ok(())
 }

@@ -1,9 +1,11 @@
 //! Runs slice by slice.
 
-use crate::asked::{job_of, report_of, run_sliced, run_whole, scheduled, stored, text_of};
-use pf_sched::{Finished, JobChoices, Parked, Scratch, Slice, run_slice, start};
+use crate::asked::{
+    job_of, module_of, report_of, run_sliced, run_whole, scheduled, text_of, text_of_run,
+};
+use pf_request::RunChoices;
+use pf_sched::{Finished, Parked, Scratch, Slice, run_slice, start};
 use std::alloc::Global;
-use std::hash::RandomState;
 use std::test::Fail;
 
 /// A child takes its two messages in the other order. With no number on its schedule the run has 15 events.
@@ -11,16 +13,15 @@ const SWAPPED: &str = "-module(m).\n-export([main/0, kid/1]).\n\
 main() -> C = spawn(m, kid, [self()]), C ! a, C ! b, receive done -> true end.\n\
 kid(P) -> receive b -> receive a -> P ! done end end.\n";
 
-/// Slices of one event, of three and of the whole run come to the same text.
-fn slices_agree(
-    alloc: Global,
-    keys: RandomState,
-    choices: &JobChoices,
-) -> Result<(String, Vec<u32>), Fail> {
-    let stored = stored(alloc, keys, SWAPPED)?;
-    let job = job_of(alloc, &stored, b"true", choices.share()?, 1000)?;
-    let whole = run_whole(alloc, &job)?;
+/// Slices of one event, of three and of the whole run come to the same text, and so does the run without slices.
+fn slices_agree(alloc: Global, choices: &RunChoices) -> Result<(String, Vec<u32>), Fail> {
+    let module = module_of(alloc, SWAPPED)?;
+    let job = job_of(alloc, &module, "true", choices.share()?, 1000)?;
+    let whole = run_whole(alloc, &job)?.share()?;
     let text = text_of(alloc, &whole)?;
+    if text_of_run(alloc, &job)?.as_str() != text.as_str() {
+        return Err(Fail::from("the run without slices comes to another report"));
+    }
     for turns in [1, 3] {
         let sliced = text_of(alloc, &run_sliced(alloc, &job, turns)?)?;
         if sliced.as_str() != text.as_str() {
@@ -38,7 +39,7 @@ fn slices_agree(
 fn slices_by_a_schedule_agree(rt: HostRuntime) -> Result<(), Fail> {
     let alloc = rt.alloc();
     let choices = scheduled(alloc, &[1, 0, 2, 1, 1, 0, 1])?;
-    slices_agree(alloc, RandomState::new(&rt)?, &choices)?;
+    slices_agree(alloc, &choices)?;
     Ok(())
 }
 
@@ -46,7 +47,7 @@ fn slices_by_a_schedule_agree(rt: HostRuntime) -> Result<(), Fail> {
 fn slices_by_a_seed_agree(rt: HostRuntime) -> Result<(), Fail> {
     let alloc = rt.alloc();
     for seed in [1, 2, 3] {
-        slices_agree(alloc, RandomState::new(&rt)?, &JobChoices::Seed(seed))?;
+        slices_agree(alloc, &RunChoices::Seed(seed))?;
     }
     Ok(())
 }
@@ -55,12 +56,12 @@ fn slices_by_a_seed_agree(rt: HostRuntime) -> Result<(), Fail> {
 fn slices_by_weights_agree(rt: HostRuntime) -> Result<(), Fail> {
     let alloc = rt.alloc();
     for (run, deliver) in [(9, 1), (1, 9)] {
-        let choices = JobChoices::Weighted {
+        let choices = RunChoices::Weighted {
             seed: 3,
             run,
             deliver,
         };
-        slices_agree(alloc, RandomState::new(&rt)?, &choices)?;
+        slices_agree(alloc, &choices)?;
     }
     Ok(())
 }
@@ -70,26 +71,15 @@ const TO_ITSELF: &str = "-module(m).\n-export([main/0]).\n\
 main() -> self() ! hi, receive hi -> ok end.\n";
 
 /// Whether the run by seed 7 and these weights is the run by this schedule. Word 1 of seed 7 is 6 modulo 10.
-fn is_by(
-    alloc: Global,
-    keys: RandomState,
-    (run, deliver): (u32, u32),
-    schedule: &[u32],
-) -> Result<bool, Fail> {
-    let stored = stored(alloc, keys, TO_ITSELF)?;
-    let weighted = JobChoices::Weighted {
+fn is_by(alloc: Global, (run, deliver): (u32, u32), schedule: &[u32]) -> Result<bool, Fail> {
+    let module = module_of(alloc, TO_ITSELF)?;
+    let weighted = RunChoices::Weighted {
         seed: 7,
         run,
         deliver,
     };
-    let by_weights = job_of(alloc, &stored, b"returns", weighted, 1000)?;
-    let by_numbers = job_of(
-        alloc,
-        &stored,
-        b"returns",
-        scheduled(alloc, schedule)?,
-        1000,
-    )?;
+    let by_weights = job_of(alloc, &module, "returns", weighted, 1000)?;
+    let by_numbers = job_of(alloc, &module, "returns", scheduled(alloc, schedule)?, 1000)?;
     let told = text_of(alloc, &run_whole(alloc, &by_weights)?)?;
     let wanted = text_of(alloc, &run_whole(alloc, &by_numbers)?)?;
     Ok(told.as_str() == wanted.as_str())
@@ -97,18 +87,18 @@ fn is_by(
 
 #[test]
 fn the_heavier_goes_first(rt: HostRuntime) -> Result<(), Fail> {
-    let (alloc, keys) = (rt.alloc(), RandomState::new(&rt)?);
-    let waits = is_by(alloc, keys, (9, 1), &[])?;
-    assert!(rt; waits && is_by(alloc, keys, (1, 9), &[0, 1])?);
+    let alloc = rt.alloc();
+    let waits = is_by(alloc, (9, 1), &[])?;
+    assert!(rt; waits && is_by(alloc, (1, 9), &[0, 1])?);
     Ok(())
 }
 
 #[test]
 fn the_choices_of_a_seed_come_to_its_report(rt: HostRuntime) -> Result<(), Fail> {
     let alloc = rt.alloc();
-    let (text, numbers) = slices_agree(alloc, RandomState::new(&rt)?, &JobChoices::Seed(7))?;
-    let again = JobChoices::schedule(alloc, numbers)?;
-    let (replayed, _) = slices_agree(alloc, RandomState::new(&rt)?, &again)?;
+    let (text, numbers) = slices_agree(alloc, &RunChoices::Seed(7))?;
+    let again = RunChoices::schedule(alloc, numbers)?;
+    let (replayed, _) = slices_agree(alloc, &again)?;
     assert_eq!(rt; replayed.as_str(), text.as_str());
     Ok(())
 }
@@ -133,9 +123,9 @@ fn ended(alloc: Global, parked: Parked, scratch: &mut Scratch) -> Result<Finishe
 }
 
 /// How many events a run has, and whether its property holds, that goes on behind 14 events and is over with one more.
-fn over(alloc: Global, keys: RandomState) -> Result<(usize, Option<bool>), Fail> {
-    let stored = stored(alloc, keys, SWAPPED)?;
-    let job = job_of(alloc, &stored, b"returns", scheduled(alloc, &[])?, 1000)?;
+fn over(alloc: Global) -> Result<(usize, Option<bool>), Fail> {
+    let module = module_of(alloc, SWAPPED)?;
+    let job = job_of(alloc, &module, "returns", scheduled(alloc, &[])?, 1000)?;
     let mut scratch = Scratch::new(alloc);
     let parked = gone(alloc, start(alloc, job)?, &mut scratch, 14)?;
     let finished = ended(alloc, parked, &mut scratch)?;
@@ -145,7 +135,6 @@ fn over(alloc: Global, keys: RandomState) -> Result<(usize, Option<bool>), Fail>
 
 #[test]
 fn a_run_is_over_behind_its_last_event(rt: HostRuntime) -> Result<(), Fail> {
-    let keys = RandomState::new(&rt)?;
-    assert_eq!(rt; over(rt.alloc(), keys)?, (15, Some(true)));
+    assert_eq!(rt; over(rt.alloc())?, (15, Some(true)));
     Ok(())
 }

@@ -34,7 +34,7 @@ fn values_print_without_blanks(rt: HostRuntime) -> Result<(), Fail> {
     let quoted = atoms.enter(alloc, b"odd\nname")?;
     let value = each_kind(alloc, plain, quoted)?;
     let mut out = Vec::new(alloc);
-    put_term(alloc, &mut out, &atoms, &value)?;
+    put_term(&mut out, &atoms, &value)?;
     let want = "{a,'odd\\nname',[1,-2],#Ref<3>,<4>,[],{}}";
     assert_eq!(rt; out.as_slice(), want.as_bytes());
     Ok(())

@@ -89,23 +89,23 @@ pub fn schedule_of(alloc: Global, text: &[u8]) -> Result<Option<Vec<u32>>, Alloc
 }
 
 /// Puts numbers behind another, each after a comma.
-fn put_others(alloc: Global, out: &mut Vec<u8>, others: &[u32]) -> Result<(), NoMemory>
+fn put_others(out: &mut Vec<u8>, others: &[u32]) -> Result<(), NoMemory>
     ensures { OnOk result (out.new.items ≡ out.old.items ++ flat_map (λ n. codes "," ++ digits_of n) others.now) }
 {
     for number in others {
         put(out, b",")?;
-        put_number(alloc, out, u64::from(*number))?;
+        put_number(out, u64::from(*number))?;
     }
     Ok(())
 }
 
 /// Puts the numbers of a schedule with commas between them, or `none`.
-pub fn put_schedule(alloc: Global, out: &mut Vec<u8>, numbers: &[u32]) -> Result<(), NoMemory>
+pub fn put_schedule(out: &mut Vec<u8>, numbers: &[u32]) -> Result<(), NoMemory>
     ensures { OnOk result (out.new.items ≡ out.old.items ++ schedule_text numbers.now) }
 {
     let Some((first, others)) = numbers.split_first() else {
         return put(out, b"none");
     };
-    put_number(alloc, out, u64::from(*first))?;
-    put_others(alloc, out, others)
+    put_number(out, u64::from(*first))?;
+    put_others(out, others)
 }

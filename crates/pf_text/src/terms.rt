@@ -10,113 +10,87 @@ ghost use Rattle.pf_model.specs.TermText.{pid_text, rest_text, value_text};
 use crate::names::put_atom;
 use crate::text::{put, put_number, put_signed};
 use pf_terms::{AtomTable, Elements, List, NoMemory, Term};
-use std::alloc::Global;
 
 /// Puts a pid, as `<0>`.
-pub fn put_pid(alloc: Global, out: &mut Vec<u8>, pid: u32) -> Result<(), NoMemory>
+pub fn put_pid(out: &mut Vec<u8>, pid: u32) -> Result<(), NoMemory>
     ensures { OnOk result (out.new.items ≡ out.old.items ++ pid_text pid) }
 {
     put(out, b"<")?;
-    put_number(alloc, out, u64::from(pid))?;
+    put_number(out, u64::from(pid))?;
     put(out, b">")
 }
 
 /// Puts a reference, as `#Ref<0>`.
-pub fn put_reference(alloc: Global, out: &mut Vec<u8>, reference: u64) -> Result<(), NoMemory>
+pub fn put_reference(out: &mut Vec<u8>, reference: u64) -> Result<(), NoMemory>
     ensures { OnOk result (out.new.items ≡ out.old.items ++ reference_text reference) }
 {
     put(out, b"#Ref<")?;
-    put_number(alloc, out, reference)?;
+    put_number(out, reference)?;
     put(out, b">")
 }
 
 /// Puts a term without blanks.
 #[cycle(terms)]
-pub fn put_term(
-    alloc: Global,
-    out: &mut Vec<u8>,
-    atoms: &AtomTable,
-    term: &Term,
-) -> Result<(), NoMemory>
+pub fn put_term(out: &mut Vec<u8>, atoms: &AtomTable, term: &Term) -> Result<(), NoMemory>
     ensures { OnOk result (out.new.items ≡ out.old.items ++ value_text (name_of atoms.now) (value_of term.now)) }
 {
     match term {
-        Term::Int(number) => put_signed(alloc, out, *number),
+        Term::Int(number) => put_signed(out, *number),
         Term::Atom(atom) => put_atom(out, atoms.name(*atom)),
-        Term::Ref(reference) => put_reference(alloc, out, *reference),
-        Term::Pid(pid) => put_pid(alloc, out, *pid),
-        Term::Tuple(elements) => put_tuple(alloc, out, atoms, elements),
-        Term::List(list) => put_list(alloc, out, atoms, list),
+        Term::Ref(reference) => put_reference(out, *reference),
+        Term::Pid(pid) => put_pid(out, *pid),
+        Term::Tuple(elements) => put_tuple(out, atoms, elements),
+        Term::List(list) => put_list(out, atoms, list),
     }
 }
 
 #[cycle(terms)]
-fn put_tuple(
-    alloc: Global,
-    out: &mut Vec<u8>,
-    atoms: &AtomTable,
-    elements: &Elements,
-) -> Result<(), NoMemory>
+fn put_tuple(out: &mut Vec<u8>, atoms: &AtomTable, elements: &Elements) -> Result<(), NoMemory>
     ensures { OnOk result (out.new.items ≡ out.old.items ++ value_text (name_of atoms.now) (tuple elements.now)) }
 {
     put(out, b"{")?;
     if let Some((first, others)) = elements.as_slice().split_first() {
-        put_term(alloc, out, atoms, first)?;
-        put_others(alloc, out, atoms, others)?;
+        put_term(out, atoms, first)?;
+        put_others(out, atoms, others)?;
     }
     put(out, b"}")
 }
 
 /// Puts elements behind the first, each after a comma.
 #[cycle(terms)]
-fn put_others(
-    alloc: Global,
-    out: &mut Vec<u8>,
-    atoms: &AtomTable,
-    others: &[Term],
-) -> Result<(), NoMemory>
+fn put_others(out: &mut Vec<u8>, atoms: &AtomTable, others: &[Term]) -> Result<(), NoMemory>
     ensures { OnOk result (out.new.items ≡ out.old.items ++ rest_text (name_of atoms.now) (values_of others.now)) }
 {
     let mut rest = others;
     while let Some((first, behind)) = rest.split_first() {
         put(out, b",")?;
-        put_term(alloc, out, atoms, first)?;
+        put_term(out, atoms, first)?;
         rest = behind;
     }
     Ok(())
 }
 
 #[cycle(terms)]
-fn put_list(
-    alloc: Global,
-    out: &mut Vec<u8>,
-    atoms: &AtomTable,
-    elements: &List,
-) -> Result<(), NoMemory>
+fn put_list(out: &mut Vec<u8>, atoms: &AtomTable, elements: &List) -> Result<(), NoMemory>
     ensures { OnOk result (out.new.items ≡ out.old.items ++ value_text (name_of atoms.now) (list (elements_of elements.now))) }
 {
     put(out, b"[")?;
     if let Some((first, others)) = elements.split() {
-        put_term(alloc, out, atoms, first)?;
-        put_tail(alloc, out, atoms, others)?;
+        put_term(out, atoms, first)?;
+        put_tail(out, atoms, others)?;
     }
     put(out, b"]")
 }
 
 /// Puts the elements of a tail, each after a comma.
 #[cycle(terms)]
-fn put_tail(
-    alloc: Global,
-    out: &mut Vec<u8>,
-    atoms: &AtomTable,
-    tail: &List,
-) -> Result<(), NoMemory>
+fn put_tail(out: &mut Vec<u8>, atoms: &AtomTable, tail: &List) -> Result<(), NoMemory>
     ensures { OnOk result (out.new.items ≡ out.old.items ++ rest_text (name_of atoms.now) (elements_of tail.now)) }
 {
     let mut rest = tail;
     while let Some((first, behind)) = rest.split() {
         put(out, b",")?;
-        put_term(alloc, out, atoms, first)?;
+        put_term(out, atoms, first)?;
         rest = behind;
     }
     Ok(())

@@ -3,10 +3,10 @@
 ghost use Rattle.std.specs.Prelude.{◌≡◌, ◌+◌, ◌<◌, ◌≤◌, ◌++◌, ◌∷◌, [], length, vec_capacity, vec_len, OnErr, OnOk};
 ghost use Rattle.std.specs.Fmt.{decimal, signed_decimal};
 
+use itoa::Buffer;
 use pf_terms::NoMemory;
-use std::alloc::Global;
 
-/// Puts bytes at the end, or nothing where there is no room and a growth was refused.
+/// Puts bytes at the end, or nothing if there is no room and a growth was refused.
 pub fn put(out: &mut Vec<u8>, bytes: &[u8]) -> Result<(), NoMemory>
     ensures ok { OnOk result (out.new.items ≡ out.old.items ++ bytes.now) }
     ensures err { OnErr result (out.new.items ≡ out.old.items) }
@@ -16,7 +16,7 @@ pub fn put(out: &mut Vec<u8>, bytes: &[u8]) -> Result<(), NoMemory>
     Ok(())
 }
 
-/// Puts one byte at the end, or nothing where there is no room and a growth was refused.
+/// Puts one byte at the end, or nothing if there is no room and a growth was refused.
 pub fn put_byte(out: &mut Vec<u8>, byte: u8) -> Result<(), NoMemory>
     ensures ok { OnOk result (out.new.items ≡ out.old.items ++ byte ∷ []) }
     ensures err { OnErr result (out.new.items ≡ out.old.items) }
@@ -26,20 +26,20 @@ pub fn put_byte(out: &mut Vec<u8>, byte: u8) -> Result<(), NoMemory>
     Ok(())
 }
 
-/// Puts the digits of a number, or nothing where a growth was refused.
-pub fn put_number(alloc: Global, out: &mut Vec<u8>, number: u64) -> Result<(), NoMemory>
+/// Puts the digits of a number, or nothing if a growth was refused.
+pub fn put_number(out: &mut Vec<u8>, number: u64) -> Result<(), NoMemory>
     ensures ok { OnOk result (out.new.items ≡ out.old.items ++ decimal number) }
     ensures err { OnErr result (out.new.items ≡ out.old.items) }
 {
-    let digits = format!(in alloc; "{number}")?;
-    put(out, digits.as_bytes())
+    let mut digits = Buffer::new();
+    put(out, digits.format(number).as_bytes())
 }
 
-/// Puts a number that may have a sign, or nothing where a growth was refused.
-pub(crate) fn put_signed(alloc: Global, out: &mut Vec<u8>, value: i64) -> Result<(), NoMemory>
+/// Puts a number that may have a sign, or nothing if a growth was refused.
+pub(crate) fn put_signed(out: &mut Vec<u8>, value: i64) -> Result<(), NoMemory>
     ensures ok { OnOk result (out.new.items ≡ out.old.items ++ signed_decimal value) }
     ensures err { OnErr result (out.new.items ≡ out.old.items) }
 {
-    let digits = format!(in alloc; "{value}")?;
-    put(out, digits.as_bytes())
+    let mut digits = Buffer::new();
+    put(out, digits.format(value).as_bytes())
 }

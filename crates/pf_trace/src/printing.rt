@@ -46,6 +46,6 @@ pub fn print_report<W: Write, M: Ledger>(
         writer.old.failures.total writer.new.failures.total) }
 {
     let mut text = Vec::new(alloc);
-    put_report(alloc, &mut text, atoms, report)?;
+    put_report(&mut text, atoms, report)?;
     print_text(&text, writer)
 }

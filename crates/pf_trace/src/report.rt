@@ -11,90 +11,74 @@ use crate::labels::put_label;
 use pf_model::report::{Actor, Event, Outcome, Report};
 use pf_terms::{AtomTable, NoMemory};
 use pf_text::{put, put_byte, put_number, put_pid, put_term};
-use std::alloc::Global;
 
-fn put_actor(alloc: Global, out: &mut Vec<u8>, actor: Actor) -> Result<(), NoMemory>
+fn put_actor(out: &mut Vec<u8>, actor: Actor) -> Result<(), NoMemory>
     ensures { OnOk result (out.new.items ≡ out.old.items ++ actor_text (actor_of actor)) }
 {
     match actor {
-        Actor::Process(pid) => put_pid(alloc, out, pid),
+        Actor::Process(pid) => put_pid(out, pid),
         Actor::Channel { from, to } => {
-            put_pid(alloc, out, from)?;
+            put_pid(out, from)?;
             put(out, b"->")?;
-            put_pid(alloc, out, to)
+            put_pid(out, to)
         }
     }
 }
 
 /// Puts the line of an event: CHOICE/N, who acts, what it did.
-fn put_event(
-    alloc: Global,
-    out: &mut Vec<u8>,
-    atoms: &AtomTable,
-    event: &Event,
-) -> Result<(), NoMemory>
+fn put_event(out: &mut Vec<u8>, atoms: &AtomTable, event: &Event) -> Result<(), NoMemory>
     ensures { OnOk result (out.new.items ≡ out.old.items
         ++ line (event_text (name_of atoms.now) (event_of event.now))) }
 {
-    put_number(alloc, out, u64::from(event.choice))?;
+    put_number(out, u64::from(event.choice))?;
     put(out, b"/")?;
-    put_number(alloc, out, u64::from(event.count))?;
+    put_number(out, u64::from(event.count))?;
     put(out, b" ")?;
-    put_actor(alloc, out, event.actor)?;
+    put_actor(out, event.actor)?;
     put(out, b" ")?;
-    put_label(alloc, out, atoms, &event.label)?;
+    put_label(out, atoms, &event.label)?;
     put_byte(out, b'\n')
 }
 
-fn put_events(
-    alloc: Global,
-    out: &mut Vec<u8>,
-    atoms: &AtomTable,
-    events: &[Event],
-) -> Result<(), NoMemory>
+fn put_events(out: &mut Vec<u8>, atoms: &AtomTable, events: &[Event]) -> Result<(), NoMemory>
     ensures { OnOk result (out.new.items ≡ out.old.items
         ++ flat_map (λ e. line (event_text (name_of atoms.now) (event_of e))) events.now) }
 {
     for event in events {
-        put_event(alloc, out, atoms, event)?;
+        put_event(out, atoms, event)?;
     }
     Ok(())
 }
 
 /// Puts pids, each after a blank.
-fn put_pids(alloc: Global, out: &mut Vec<u8>, pids: &[u32]) -> Result<(), NoMemory>
+fn put_pids(out: &mut Vec<u8>, pids: &[u32]) -> Result<(), NoMemory>
     ensures { OnOk result (out.new.items ≡ out.old.items
         ++ flat_map (λ p. codes " " ++ pid_text p) pids.now) }
 {
     for pid in pids {
         put(out, b" ")?;
-        put_pid(alloc, out, *pid)?;
+        put_pid(out, *pid)?;
     }
     Ok(())
 }
 
 /// Puts how a run came out, as a line.
-pub fn put_outcome(
-    alloc: Global,
-    out: &mut Vec<u8>,
-    atoms: &AtomTable,
-    outcome: &Outcome,
-) -> Result<(), NoMemory>
+pub fn put_outcome(out: &mut Vec<u8>, atoms: &AtomTable, outcome: &Outcome) -> Result<(), NoMemory>
     ensures { OnOk result (out.new.items ≡ out.old.items
         ++ line (outcome_text (name_of atoms.now) (outcome_of outcome.now))) }
 {
     match outcome {
         Outcome::Finished(value) => {
             put(out, b"finished ")?;
-            put_term(alloc, out, atoms, value)?;
+            put_term(out, atoms, value)?;
         }
         Outcome::Ended(reason) => {
             put(out, b"ended ")?;
-            put_term(alloc, out, atoms, reason)?;
+            put_term(out, atoms, reason)?;
         }
         Outcome::Deadlock(pids) => {
             put(out, b"deadlock")?;
-            put_pids(alloc, out, pids)?;
+            put_pids(out, pids)?;
         }
         Outcome::Limit => put(out, b"limit")?,
         Outcome::Memory => put(out, b"memory")?,
@@ -112,26 +96,21 @@ fn put_verdict(out: &mut Vec<u8>, verdict: Option<bool>) -> Result<(), NoMemory>
     }
 }
 
-fn put_steps(alloc: Global, out: &mut Vec<u8>, steps: u32) -> Result<(), NoMemory>
+fn put_steps(out: &mut Vec<u8>, steps: u32) -> Result<(), NoMemory>
     ensures { OnOk result (out.new.items ≡ out.old.items ++ line (codes "steps " ++ decimal steps)) }
 {
     put(out, b"steps ")?;
-    put_number(alloc, out, u64::from(steps))?;
+    put_number(out, u64::from(steps))?;
     put_byte(out, b'\n')
 }
 
 /// Puts the text of a report.
-pub fn put_report(
-    alloc: Global,
-    out: &mut Vec<u8>,
-    atoms: &AtomTable,
-    report: &Report,
-) -> Result<(), NoMemory>
+pub fn put_report(out: &mut Vec<u8>, atoms: &AtomTable, report: &Report) -> Result<(), NoMemory>
     ensures { OnOk result (out.new.items ≡ out.old.items
         ++ report_text (name_of atoms.now) (report_of report.now)) }
 {
-    put_events(alloc, out, atoms, &report.events)?;
-    put_outcome(alloc, out, atoms, &report.outcome)?;
-    put_steps(alloc, out, report.steps)?;
+    put_events(out, atoms, &report.events)?;
+    put_outcome(out, atoms, &report.outcome)?;
+    put_steps(out, report.steps)?;
     put_verdict(out, report.verdict)
 }

@@ -7,7 +7,6 @@ ghost use Rattle.pf_model.specs.TermText.{line};
 
 use pf_terms::NoMemory;
 use pf_text::{put, put_byte, put_schedule};
-use std::alloc::Global;
 
 /// Puts whether no candidate of a schedule fails, on a line.
 fn put_complete(out: &mut Vec<u8>, complete: bool) -> Result<(), NoMemory>
@@ -21,16 +20,11 @@ fn put_complete(out: &mut Vec<u8>, complete: bool) -> Result<(), NoMemory>
 }
 
 /// Puts the schedule that a shrinking found, and whether no candidate of it fails, each on a line.
-pub fn put_found(
-    alloc: Global,
-    out: &mut Vec<u8>,
-    schedule: &[u32],
-    complete: bool,
-) -> Result<(), NoMemory>
+pub fn put_found(out: &mut Vec<u8>, schedule: &[u32], complete: bool) -> Result<(), NoMemory>
     ensures { OnOk result (out.new.items ≡ out.old.items ++ found_text (found schedule.now complete)) }
 {
     put(out, b"schedule ")?;
-    put_schedule(alloc, out, schedule)?;
+    put_schedule(out, schedule)?;
     put_byte(out, b'\n')?;
     put_complete(out, complete)
 }

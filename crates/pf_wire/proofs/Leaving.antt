@@ -16,12 +16,12 @@ use Rattle.pf_desks.specs.World.{World, Step, Answer, AnswersInTurn}
 use Rattle.pf_book.specs.Profile.{IsRight, ForRight}
 use Rattle.pf_wire.specs.Steps.{AnswersOne, AnswersInPart, AreRead, StepsAnswered, StepsAnsweredInPart, StepsLeaves, WholeAnswered, last_text}
 use Rattle.pf_wire.specs.Turns.{Follows, Turns, Tells, so_far, no_more, TellsUpTo, TellsAll, TellsInPart, TurnsLeave, TakesPiece, PieceLeaves}
-use Rattle.pf_wire.specs.Whole.{is_due, is_whole, WholeCommands, unfinished}
+use Rattle.pf_lines.specs.Complete.{is_due, is_complete, CompleteCommands, unfinished}
 use Rattle.pf_wire.specs.declared.steps.TheConstants.{MOST_BYTES}
-use Rattle.pf_wire.proofs.Shorter.{command_shorter}
+use Rattle.pf_lines.proofs.Shorter.{command_shorter}
 use Rattle.pf_wire.proofs.Progress.{begun, none_due, nothing_due, turn_of_one, turns_both, turns_later, finished_well, finished_ill, goes_on}
 
--- a text, and the beginning of what goes on behind it
+-- a text, and the beginning of what goes on after it
 front_both : (w0 w1 w2 : Option (List ℕ)) (a b more : List ℕ) → Appends w0 w1 a → AppendsFront w1 w2 b → AppendsFront w0 w2 ((a ++ b) ++ more)
 front_both w0 w1 w2 a b more h k = (
   a ++ k.0,
@@ -46,14 +46,14 @@ some_due : (b : ℕ) (bs : List ℕ) → is_due true (b ∷ bs) ≡ false → �
 some_due b bs h = omega (arith, eqb-true (length (b ∷ bs)) 0 (not_false (length (b ∷ bs) == 0) h))
 
 -- what follows what is due is shorter
-pub shorter_behind : (over : Bool) (rest behind : List ℕ) (k : ℕ) (w w' : World) (text : List ℕ) → is_due over rest ≡ true → AnswersOne rest k w text (Some behind) w'
-    → length behind < length rest
-shorter_behind over [] behind k w w' text due a = absurd (nothing_due over due)
-shorter_behind over (b ∷ bs) behind k w w' text due a = omega (arith, command_shorter b bs a.0 behind a.2)
+pub shorter_after : (over : Bool) (rest after : List ℕ) (k : ℕ) (w w' : World) (text : List ℕ) → is_due over rest ≡ true → AnswersOne rest k w text (Some after) w'
+    → length after < length rest
+shorter_after over [] after k w w' text due a = absurd (nothing_due over due)
+shorter_after over (b ∷ bs) after k w w' text due a = omega (arith, command_shorter b bs a.0 after a.2)
 
 -- ---- turns that are gathered
 
--- what went out, and behind it what is gathered, is the text of commands up to a rest
+-- what went out, and after it what is gathered, is the text of commands up to a rest
 abbrev pub AtHand : Profile → Bool → (bytes : List ℕ) → World → ℕ → (gathered rest : List ℕ) → World → ℕ → (written_old written_new : Option (List ℕ)) → Type 0
 AtHand p over bytes v j gathered rest w k w0 w1 = (out : List ℕ) × Appends w0 w1 out × Turns p over bytes v j (out ++ gathered) rest w k
 
@@ -90,29 +90,29 @@ module _ (p : Profile) where
   leaves_at over bytes v j w0 w1 (Write e) n0 n n1 k c h = (omega (arith, k, c), h)
 
 module _ (p : Profile) (right : IsRight p) where
-  one_more : (over : Bool) (bytes rest behind : List ℕ) (v w w' : World) (j k : ℕ) (front text : List ℕ) → Turns p over bytes v j front rest w k → is_due over rest ≡ true
-      → AnswersOne rest k w text (Some behind) w' → Turns p over bytes v j (front ++ text) behind w' (k + 1)
-  one_more over bytes rest behind v w w' j k front text t due a =
-      let one = turn_of_one p over rest behind w w' k a.0 a.1 due a.2 (a.4 p right) in
-      turns_both p over bytes rest behind v w w' j k (k + 1) front text t
-      (subst (λ (s : List ℕ). Turns p over rest w k s behind w' (k + 1)) (sym a.3) one)
+  one_more : (over : Bool) (bytes rest after : List ℕ) (v w w' : World) (j k : ℕ) (front text : List ℕ) → Turns p over bytes v j front rest w k → is_due over rest ≡ true
+      → AnswersOne rest k w text (Some after) w' → Turns p over bytes v j (front ++ text) after w' (k + 1)
+  one_more over bytes rest after v w w' j k front text t due a =
+      let one = turn_of_one p over rest after w w' k a.0 a.1 due a.2 (a.4 p right) in
+      turns_both p over bytes rest after v w w' j k (k + 1) front text t
+      (subst (λ (s : List ℕ). Turns p over rest w k s after w' (k + 1)) (sym a.3) one)
 
   -- the answer is gathered too
-  pub at_hand_more : (over : Bool) (bytes g g' rest behind : List ℕ) (v w w' : World) (j k : ℕ) (w0 w1 w2 : Option (List ℕ)) (text : List ℕ) → AtHand p over bytes v j g rest w k w0 w1
-      → is_due over rest ≡ true → AnswersOne rest k w text (Some behind) w' → IsAdded g text g' w1 w2 → AtHand p over bytes v j g' behind w' (k + 1) w0 w2
-  at_hand_more over bytes g g' rest behind v w w' j k w0 w1 w2 text h due a added = (
+  pub at_hand_more : (over : Bool) (bytes g g' rest after : List ℕ) (v w w' : World) (j k : ℕ) (w0 w1 w2 : Option (List ℕ)) (text : List ℕ) → AtHand p over bytes v j g rest w k w0 w1
+      → is_due over rest ≡ true → AnswersOne rest k w text (Some after) w' → IsAdded g text g' w1 w2 → AtHand p over bytes v j g' after w' (k + 1) w0 w2
+  at_hand_more over bytes g g' rest after v w w' j k w0 w1 w2 text h due a added = (
     h.0 ++ added.0,
     appends_both w0 w1 w2 h.0 added.0 h.1 added.1,
-    subst (λ (t : List ℕ). Turns p over bytes v j t behind w' (k + 1)) (moved h.0 added.0 g g' text added.2)
-        (one_more over bytes rest behind v w w' j k (h.0 ++ g) text h.2 due a),
+    subst (λ (t : List ℕ). Turns p over bytes v j t after w' (k + 1)) (moved h.0 added.0 g g' text added.2)
+        (one_more over bytes rest after v w w' j k (h.0 ++ g) text h.2 due a),
   )
 
   -- a beginning of it went out, with what was gathered before
   pub more_in_part : (over : Bool) (bytes g rest : List ℕ) (v w w' : World) (j k : ℕ) (w0 w1 w2 : Option (List ℕ)) (text : List ℕ) (next : Option (List ℕ))
       → AtHand p over bytes v j g rest w k w0 w1 → is_due over rest ≡ true → AnswersOne rest k w text next w' → AppendsFront w1 w2 (g ++ text) → TellsInPart p over bytes v j w0 w2
-  more_in_part over bytes g rest v w w' j k w0 w1 w2 text (Some behind) h due a f = (
+  more_in_part over bytes g rest v w w' j k w0 w1 w2 text (Some after) h due a f = (
     (h.0 ++ g) ++ text,
-    so_far behind w' (k + 1) (one_more over bytes rest behind v w w' j k (h.0 ++ g) text h.2 due a),
+    so_far after w' (k + 1) (one_more over bytes rest after v w w' j k (h.0 ++ g) text h.2 due a),
     subst (AppendsFront w0 w2) (sym (append_assoc h.0 g text)) (front_of_both w0 w1 w2 h.0 (g ++ text) h.1 f),
   )
   more_in_part over bytes g rest v w w' j k w0 w1 w2 text None h due a f = (
@@ -216,18 +216,19 @@ stands_taken_more over bytes w k taken r0 r1 r2 w0 w1 piece s le h =
     let sum : length (s.0 ++ piece) ≡ taken + length piece = omega (arith, length-append s.0 piece, s.2) in
     (s.0 ++ piece, subst (λ (n : ℕ). n ≤ MOST_BYTES) (sym sum) le, Consumes-trans r0 r1 r2 s.0 piece s.1 h)
 
--- a piece more was read
-pub stands_later : (over : Bool) (bytes bytes' : List ℕ) (w : World) (k taken taken' : ℕ) (r0 r1 r2 w0 w1 : Option (List ℕ)) → Stands false bytes w k taken r0 r1 w0 w1
-    → TakesPiece r1 r2 bytes bytes' taken taken' over → Stands over bytes' w k taken' r0 r2 w0 w1
-stands_later over bytes bytes' w k taken taken' r0 r1 r2 w0 w1 s t = (
-  s.0 ++ t.0,
-  Consumes-trans r0 r1 r2 s.0 t.0 s.1 t.1,
-  omega (arith, length-append s.0 t.0, s.2, t.3),
-  t.4,
-  λ p right.
-      let one = s.4 p right in
-      (one.0, subst (λ (bs : List ℕ). Turns p over (s.0 ++ t.0) [] 1 one.0 bs w k) (sym t.2) (turns_later p over s.0 bytes t.0 [] w 1 k one.0 one.1), one.2),
-)
+-- a piece more was read, of an input that wasn't over
+pub stands_later : {was over : Bool} {bytes bytes' : List ℕ} {w : World} {k taken taken' : ℕ} (r0 r1 r2 w0 w1 : Option (List ℕ)) → was ≡ false
+    → Stands was bytes w k taken r0 r1 w0 w1 → TakesPiece r1 r2 bytes bytes' taken taken' over → Stands over bytes' w k taken' r0 r2 w0 w1
+stands_later {was} {over} {bytes} {bytes'} {w} {k} {taken} {taken'} r0 r1 r2 w0 w1 going stood t =
+    let s = subst (λ (b : Bool). Stands b bytes w k taken r0 r1 w0 w1) going stood in (
+      s.0 ++ t.0,
+      Consumes-trans r0 r1 r2 s.0 t.0 s.1 t.1,
+      omega (arith, length-append s.0 t.0, s.2, t.3),
+      t.4,
+      λ p right.
+          let one = s.4 p right in
+          (one.0, subst (λ (bs : List ℕ). Turns p over (s.0 ++ t.0) [] 1 one.0 bs w k) (sym t.2) (turns_later p over s.0 bytes t.0 [] w 1 k one.0 one.1), one.2),
+    )
 
 -- some commands more were answered
 pub stands_further : (over : Bool) (bytes rest : List ℕ) (w w' : World) (k l taken : ℕ) (r0 r1 w0 w1 w2 : Option (List ℕ)) → Stands over bytes w k taken r0 r1 w0 w1
@@ -292,12 +293,12 @@ module _ (p : Profile) (right : IsRight p) where
   stands_without_memory over bytes w k taken r0 r1 r2 w0 w1 m0 m1 n0 n1 s le m n = (m, n, stands_in_part over bytes w k taken r0 r1 w0 w1 s le)
 
   -- the whole commands are answered
-  whole_answered : (bytes : List ℕ) (w : World) (k taken : ℕ) (r0 r1 r2 w0 w1 : Option (List ℕ)) → Stands false bytes w k taken r0 r1 w0 w1 → is_whole bytes ≡ false
+  whole_answered : (bytes : List ℕ) (w : World) (k taken : ℕ) (r0 r1 r2 w0 w1 : Option (List ℕ)) → Stands false bytes w k taken r0 r1 w0 w1 → is_complete bytes ≡ false
       → Keeps r1 r2 → WholeAnswered p r0 r2 w0 w1
   whole_answered bytes w k taken r0 r1 r2 w0 w1 s rest kept =
       let t = s.4 p right in
       let turns = t.1 in
-      let left : WholeCommands (bytes ++ []) [] = subst (λ (bs : List ℕ). WholeCommands bs []) (sym (append-nil bytes)) (unfinished bytes rest) in
+      let left : CompleteCommands (bytes ++ []) [] = subst (λ (bs : List ℕ). CompleteCommands bs []) (sym (append-nil bytes)) (unfinished bytes rest) in
       let all = turns.wholes refl [] [] left in
       let steps : turns.steps ++ [] ≡ turns.steps = append-nil turns.steps in
       let outcomes : turns.outcomes ++ [] ≡ turns.outcomes = append-nil turns.outcomes in (
@@ -305,7 +306,7 @@ module _ (p : Profile) (right : IsRight p) where
         turns.steps,
         turns.outcomes,
         Consumes-kept r0 r1 r2 s.0 s.1 kept,
-        subst (λ (bs : List ℕ). WholeCommands bs turns.steps) (append-nil s.0) (subst (WholeCommands (s.0 ++ [])) steps all),
+        subst (λ (bs : List ℕ). CompleteCommands bs turns.steps) (append-nil s.0) (subst (CompleteCommands (s.0 ++ [])) steps all),
         subst (λ (xs : List (Option Answer)). AnswersInTurn p [] turns.steps xs) outcomes
             (subst (λ (ss : List Step). AnswersInTurn p [] ss (turns.outcomes ++ [])) steps (turns.in_turn [] [] tt)),
         subst (Appends w0 w1) turns.writes t.2,
@@ -313,7 +314,7 @@ module _ (p : Profile) (right : IsRight p) where
 
   -- a piece could not be read
   pub stands_unread : (e : OrNoMemory StreamFault) (bytes : List ℕ) (w : World) (k taken : ℕ) (r0 r1 r2 w0 w1 : Option (List ℕ)) (m0 m1 m2 n0 n1 : ℕ)
-      → Stands false bytes w k taken r0 r1 w0 w1 → taken ≤ MOST_BYTES → is_whole bytes ≡ false → m1 ≡ m0 → n1 ≡ n0 → PieceLeaves e r1 r2 m1 m2
+      → Stands false bytes w k taken r0 r1 w0 w1 → taken ≤ MOST_BYTES → is_complete bytes ≡ false → m1 ≡ m0 → n1 ≡ n0 → PieceLeaves e r1 r2 m1 m2
       → StepsLeaves p e r0 r2 w0 w1 m0 m2 n0 n1
   stands_unread NoMemory bytes w k taken r0 r1 r2 w0 w1 m0 m1 m2 n0 n1 s le rest m n t =
       (t ∙ m, n, stands_in_part false bytes w k taken r0 r1 w0 w1 s le)

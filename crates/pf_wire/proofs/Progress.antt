@@ -6,13 +6,13 @@ use Rattle.pf_desks.specs.Desk.{Profile}
 use Rattle.pf_desks.specs.World.{World, Step, Answer, step, answers, told, alone, AnswersStep, AnswersInTurn}
 use Rattle.pf_desks.specs.Told.{outcome_text, outcomes_text}
 use Rattle.pf_desks.proofs.Isolated.{isolated}
-use Rattle.pf_wire.specs.Commands as commands
-use Rattle.pf_wire.specs.Commands.{Commands, command_at}
+use Rattle.pf_lines.specs.Commands as commands
+use Rattle.pf_lines.specs.Commands.{Commands, command_at}
 use Rattle.pf_wire.specs.Steps.{StepsText, last_text, steps_status}
 use Rattle.pf_wire.specs.Turns.{Follows, Turns, IsNoCommand}
-use Rattle.pf_wire.specs.Whole.{is_due, is_whole, WholeCommands, command}
-use Rattle.pf_wire.proofs.Shorter.{command_shorter}
-use Rattle.pf_wire.proofs.Wholes.{with_more, command_stays, whole_stays}
+use Rattle.pf_lines.specs.Complete.{is_due, is_complete, CompleteCommands, command}
+use Rattle.pf_lines.proofs.Shorter.{command_shorter}
+use Rattle.pf_lines.proofs.Completed.{with_more, command_stays, complete_stays}
 
 -- ---- worlds
 
@@ -85,20 +85,20 @@ due_stays false rest more due f = command_stays rest more due
 due_stays true rest more due f =
     rw (f refl) (ap command_at (append-nil rest) ∙ sym (with_none (command_at rest)))
 
-one_due : (over : Bool) (rest behind more : List ℕ) (s : Step) (ss : List Step) (good : Bool) → is_due over rest ≡ true → Follows over more
-    → command_at rest ≡ Some (s, behind) → Commands (behind ++ more) ss good → Commands (rest ++ more) (s ∷ ss) good
-one_due over [] behind more s ss good due f e c = absurd (nothing_due over due)
-one_due over (b ∷ bs) behind more s ss good due f e c =
-    commands.command b (bs ++ more) (behind ++ more) s ss good (due_stays over (b ∷ bs) more due f ∙ ap (with_more more) e) c
+one_due : (over : Bool) (rest after more : List ℕ) (s : Step) (ss : List Step) (good : Bool) → is_due over rest ≡ true → Follows over more
+    → command_at rest ≡ Some (s, after) → Commands (after ++ more) ss good → Commands (rest ++ more) (s ∷ ss) good
+one_due over [] after more s ss good due f e c = absurd (nothing_due over due)
+one_due over (b ∷ bs) after more s ss good due f e c =
+    commands.command b (bs ++ more) (after ++ more) s ss good (due_stays over (b ∷ bs) more due f ∙ ap (with_more more) e) c
 
-whole_due : (over : Bool) (rest : List ℕ) → over ≡ false → is_due over rest ≡ true → is_whole rest ≡ true
+whole_due : (over : Bool) (rest : List ℕ) → over ≡ false → is_due over rest ≡ true → is_complete rest ≡ true
 whole_due false rest o due = due
 whole_due true rest o due = absurd cc
 
-one_whole : (rest behind more : List ℕ) (s : Step) (ss : List Step) → is_whole rest ≡ true → command_at rest ≡ Some (s, behind) → WholeCommands (behind ++ more) ss
-    → WholeCommands (rest ++ more) (s ∷ ss)
-one_whole rest behind more s ss whole e c =
-    command (rest ++ more) (behind ++ more) s ss (whole_stays rest more whole) (command_stays rest more whole ∙ ap (with_more more) e) c
+one_whole : (rest after more : List ℕ) (s : Step) (ss : List Step) → is_complete rest ≡ true → command_at rest ≡ Some (s, after) → CompleteCommands (after ++ more) ss
+    → CompleteCommands (rest ++ more) (s ∷ ss)
+one_whole rest after more s ss whole e c =
+    command (rest ++ more) (after ++ more) s ss (complete_stays rest more whole) (command_stays rest more whole ∙ ap (with_more more) e) c
 
 -- a line that is due and no command is none, whatever follows
 pub none_due : (over : Bool) (rest : List ℕ) → is_due over rest ≡ true → command_at rest ≡ None → IsNoCommand over rest
@@ -120,13 +120,13 @@ begun p over bytes v j = record {
 }
 
 -- one command is its turn
-pub turn_of_one : (p : Profile) (over : Bool) (rest behind : List ℕ) (w w' : World) (k : ℕ) (s : Step) (x : Option Answer) → is_due over rest ≡ true
-    → command_at rest ≡ Some (s, behind) → AnswersStep p w s x w' → Turns p over rest w k (outcome_text s x) behind w' (k + 1)
-turn_of_one p over rest behind w w' k s x due e h = record {
+pub turn_of_one : (p : Profile) (over : Bool) (rest after : List ℕ) (w w' : World) (k : ℕ) (s : Step) (x : Option Answer) → is_due over rest ≡ true
+    → command_at rest ≡ Some (s, after) → AnswersStep p w s x w' → Turns p over rest w k (outcome_text s x) after w' (k + 1)
+turn_of_one p over rest after w w' k s x due e h = record {
   steps = s ∷ [];
   outcomes = x ∷ [];
-  commands = λ more f ss good c. one_due over rest behind more s ss good due f e c;
-  wholes = λ o more ss c. one_whole rest behind more s ss (whole_due over rest o due) e c;
+  commands = λ more f ss good c. one_due over rest after more s ss good due f e c;
+  wholes = λ o more ss c. one_whole rest after more s ss (whole_due over rest o due) e c;
   in_turn = λ ss xs c. (w', h, c);
   paired = refl;
   writes = sym (append-nil (outcome_text s x));
@@ -143,7 +143,7 @@ turns_both p over bytes rest left v w x j k l text more_text a b = record {
       subst (λ (ts : List Step). Commands (bytes ++ more) ts good) (sym (append_assoc a.steps b.steps ss))
       (a.commands more f (b.steps ++ ss) good (b.commands more f ss good c));
   wholes = λ o more ss c.
-      subst (WholeCommands (bytes ++ more)) (sym (append_assoc a.steps b.steps ss)) (a.wholes o more (b.steps ++ ss) (b.wholes o more ss c));
+      subst (CompleteCommands (bytes ++ more)) (sym (append_assoc a.steps b.steps ss)) (a.wholes o more (b.steps ++ ss) (b.wholes o more ss c));
   in_turn = λ ss xs c.
       subst (λ (ts : List Step). AnswersInTurn p v ts ((a.outcomes ++ b.outcomes) ++ xs)) (sym (append_assoc a.steps b.steps ss))
       (subst (λ (ys : List (Option Answer)). AnswersInTurn p v (a.steps ++ (b.steps ++ ss)) ys) (sym (append_assoc a.outcomes b.outcomes xs))
@@ -167,8 +167,8 @@ turns_later p over bytes rest piece v w j k text a = record {
       (a.commands (piece ++ more) (λ (o : false ≡ true). absurd cc) ss good
       (subst (λ (bs : List ℕ). Commands bs ss good) (append_assoc rest piece more) c));
   wholes = λ o more ss c.
-      subst (λ (bs : List ℕ). WholeCommands bs (a.steps ++ ss)) (sym (append_assoc bytes piece more))
-      (a.wholes refl (piece ++ more) ss (subst (λ (bs : List ℕ). WholeCommands bs ss) (append_assoc rest piece more) c));
+      subst (λ (bs : List ℕ). CompleteCommands bs (a.steps ++ ss)) (sym (append_assoc bytes piece more))
+      (a.wholes refl (piece ++ more) ss (subst (λ (bs : List ℕ). CompleteCommands bs ss) (append_assoc rest piece more) c));
   in_turn = a.in_turn;
   paired = a.paired;
   writes = a.writes;

@@ -1,8 +1,3 @@
-pub mod Faults
-pub mod Commands
-pub mod Cuts
-pub mod View
 pub mod Outcomes
-pub mod Whole
 pub mod Steps
 pub mod Turns

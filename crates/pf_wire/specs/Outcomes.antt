@@ -12,7 +12,7 @@ abbrev pub requester_of : Step → Requester
 requester_of (client project c) = Client project
 requester_of (worker project k) = Worker project
 
--- the answer that an outcome is, where no growth was refused
+-- the answer that an outcome is, if no growth was refused
 abbrev pub outcome_seen : Outcome → Option Answer
 outcome_seen (Replied r) = Some (replied (reply_seen r))
 outcome_seen Done = Some work_done

@@ -14,8 +14,8 @@ use Rattle.pf_desks.specs.World.{World, Step, Answer, told, alone, AnswersStep, 
 use Rattle.pf_desks.specs.Told.{outcome_text, outcomes_text}
 use Rattle.pf_desks.specs.Desk.{Profile}
 use Rattle.pf_book.specs.Profile.{ForRight}
-use Rattle.pf_wire.specs.Commands.{Commands, command_at}
-use Rattle.pf_wire.specs.Whole.{WholeCommands}
+use Rattle.pf_lines.specs.Commands.{Commands, command_at}
+use Rattle.pf_lines.specs.Complete.{CompleteCommands}
 use Rattle.pf_wire.specs.declared.steps.TheConstants.{MOST_BYTES}
 
 -- command number k, counted from 1, is none
@@ -26,13 +26,13 @@ abbrev pub steps_status : Bool → ℕ
 steps_status good = if good then 0 else 2
 
 -- the text that the command in front, number k, is answered with in a world, where these bytes follow it and that world; nothing
--- follows where it is no command
+-- follows if it is no command
 abbrev pub AnswersOne : List ℕ → ℕ → World → List ℕ → Option (List ℕ) → World → Type 0
 AnswersOne bytes k w text (Some rest) w' =
     (s : Step) × (x : Option Answer) × (command_at bytes ≡ Some (s, rest)) × (text ≡ outcome_text s x) × ForRight (λ p. AnswersStep p w s x w')
 AnswersOne bytes k w text None w' = (command_at bytes ≡ None) × (text ≡ last_text false k)
 
--- the text and the status that some bytes are answered with: what came of the steps of their commands, and where a line is no command
+-- the text and the status that some bytes are answered with: what came of the steps of their commands, and if a line is no command
 -- that it is none. Up to the first step in which a growth was refused, each project is told what it is told alone
 pub record StepsText (p : Profile) (bytes text : List ℕ) (status : ℕ) : Type 0 where
   pub steps : List Step
@@ -51,7 +51,7 @@ pub record StepsText (p : Profile) (bytes text : List ℕ) (status : ℕ) : Type
 abbrev pub AnswersInPart : Profile → List ℕ → (written_old written_new : Option (List ℕ)) → Type 0
 AnswersInPart p bytes w0 w1 = (text : List ℕ) × (status : ℕ) × StepsText p bytes text status × AppendsFront w0 w1 text
 
--- the bytes that are read are the first 67,108,864, where it is known what there is
+-- the bytes that are read are the first 67,108,864, if it is known what there is
 abbrev pub AreRead : Option (List ℕ) → List ℕ → Type 0
 AreRead r0 bytes = IfSome r0 (λ input. bytes ≡ take MOST_BYTES input)
 
@@ -63,10 +63,10 @@ StepsAnswered p r0 w0 w1 status = (bytes : List ℕ) × (text : List ℕ) × Are
 abbrev pub StepsAnsweredInPart : Profile → (read_old written_old written_new : Option (List ℕ)) → Type 0
 StepsAnsweredInPart p r0 w0 w1 = (bytes : List ℕ) × AreRead r0 bytes × AnswersInPart p bytes w0 w1
 
--- the commands that stand whole in what was read are answered, each with its whole text
+-- the complete commands in what was read are answered, each with its whole text
 abbrev pub WholeAnswered : Profile → (read_old read_new written_old written_new : Option (List ℕ)) → Type 0
 WholeAnswered p r0 r1 w0 w1 = (bytes : List ℕ) × (steps : List Step) × (outcomes : List (Option Answer)) × Consumes r0 r1 bytes
-    × WholeCommands bytes steps × AnswersInTurn p [] steps outcomes × Appends w0 w1 (outcomes_text steps outcomes)
+    × CompleteCommands bytes steps × AnswersInTurn p [] steps outcomes × Appends w0 w1 (outcomes_text steps outcomes)
 
 -- what a fault leaves: which stream failed once more, and what went out
 abbrev pub StepsLeaves : Profile → OrNoMemory StreamFault → (read_old read_new written_old written_new : Option (List ℕ)) → (reads_old reads_new writes_old writes_new : ℕ) → Type 0

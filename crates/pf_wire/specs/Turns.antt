@@ -9,16 +9,16 @@ use Rattle.pf_terms.specs.Streams.{AppendsFront}
 use Rattle.pf_desks.specs.Desk.{Profile}
 use Rattle.pf_desks.specs.World.{World, Step, Answer, AnswersInTurn}
 use Rattle.pf_desks.specs.Told.{outcomes_text}
-use Rattle.pf_wire.specs.Commands.{Commands}
-use Rattle.pf_wire.specs.Whole.{WholeCommands}
+use Rattle.pf_lines.specs.Commands.{Commands}
+use Rattle.pf_lines.specs.Complete.{CompleteCommands}
 use Rattle.pf_wire.specs.Steps.{last_text}
 use Rattle.pf_wire.specs.declared.steps.TheConstants.{MOST_BYTES}
 
--- what may follow: anything, but nothing where the input is over
+-- what may follow: anything, but nothing if the input is over
 abbrev pub Follows : Bool → List ℕ → Type 0
 Follows over more = over ≡ true → more ≡ []
 
--- Turns p over bytes v j text rest w k: whatever follows, the bytes are some commands and then the rest, which are whole commands unless the
+-- Turns p over bytes v j text rest w k: whatever follows, the bytes are some commands and then the rest, which are complete commands unless the
 -- input is over; their steps lead from the world v to w, the text is what came of them, and they are numbered from j up to k
 pub record Turns (p : Profile) (over : Bool) (bytes : List ℕ) (v : World) (j : ℕ) (text rest : List ℕ) (w : World) (k : ℕ) : Type 0 where
   pub steps : List Step
@@ -26,7 +26,7 @@ pub record Turns (p : Profile) (over : Bool) (bytes : List ℕ) (v : World) (j :
   pub commands : (more : List ℕ) → Follows over more → (ss : List Step) (good : Bool)
       → Commands (rest ++ more) ss good → Commands (bytes ++ more) (steps ++ ss) good
   pub wholes : over ≡ false → (more : List ℕ) (ss : List Step)
-      → WholeCommands (rest ++ more) ss → WholeCommands (bytes ++ more) (steps ++ ss)
+      → CompleteCommands (rest ++ more) ss → CompleteCommands (bytes ++ more) (steps ++ ss)
   pub in_turn : (ss : List Step) (xs : List (Option Answer)) → AnswersInTurn p w ss xs → AnswersInTurn p v (steps ++ ss) (outcomes ++ xs)
   pub paired : length steps ≡ length outcomes
   pub writes : text ≡ outcomes_text steps outcomes

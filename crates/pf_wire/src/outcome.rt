@@ -6,16 +6,18 @@ ghost use Rattle.pf_fault.specs.declared.code.Code.TheVariants.{NotNow};
 ghost use Rattle.pf_desks.specs.World.{Step, AnswersStep};
 ghost use Rattle.pf_model.specs.TermText.{line};
 ghost use Rattle.pf_desks.specs.Told.{memory_text, outcome_text};
-ghost use Rattle.pf_wire.specs.View.{command_seen};
+ghost use Rattle.pf_lines.specs.View.{view_of_command};
 ghost use Rattle.pf_book.specs.Answers.{Answers};
 ghost use Rattle.pf_book.specs.Profile.{ForRight};
-ghost use Rattle.pf_book.specs.View.{call_seen};
+ghost use Rattle.pf_request.specs.View.{view_of_call};
 ghost use Rattle.pf_wire.specs.Outcomes.{requester_of, outcome_seen};
 
-use crate::command::Command;
 use crate::reply::{put_code, put_project, put_reply};
-use pf_book::{Book, Call, Reply};
+use pf_book::{Book, Reply};
 use pf_fault::Code;
+use pf_lines::Command;
+use pf_request::Call;
+use pf_sched::Scratch;
 use pf_terms::NoMemory;
 use pf_text::{put, put_byte};
 use std::alloc::Global;
@@ -43,7 +45,7 @@ pub enum Outcome {
 impl Requester {
     /// Who made a command.
     pub fn of(command: &Command) -> Requester
-        ensures { result ≡ requester_of (command_seen command.now) }
+        ensures { result ≡ requester_of (view_of_command command.now) }
     {
         match command {
             Command::Client(project, _) => Requester::Client(*project),
@@ -54,7 +56,7 @@ impl Requester {
 
 /// Makes a call of a client.
 fn make_call(alloc: Global, book: &mut Book, project: u32, call: Call) -> Result<Reply, NoMemory>
-    ensures { Answers book.old project (call_seen call) result book.new }
+    ensures { Answers book.old project (view_of_call call) result book.new }
 {
     match call {
         Call::Submit(source) => book.submit(alloc, project, source),
@@ -69,16 +71,16 @@ fn make_call(alloc: Global, book: &mut Book, project: u32, call: Call) -> Result
     }
 }
 
-/// Does what a command asks for.
-pub fn perform(alloc: Global, book: &mut Book, command: Command) -> Outcome
-    ensures { ForRight (λ p. AnswersStep p book.old (command_seen command) (outcome_seen result) book.new) }
+/// Does what a command asks for. What stands in the scratch makes no difference.
+pub fn perform(alloc: Global, book: &mut Book, scratch: &mut Scratch, command: Command) -> Outcome
+    ensures { ForRight (λ p. AnswersStep p book.old (view_of_command command) (outcome_seen result) book.new) }
 {
     match command {
         Command::Client(project, call) => match make_call(alloc, book, project, call) {
             Ok(reply) => Outcome::Replied(reply),
             Err(NoMemory) => Outcome::Memory,
         },
-        Command::Once(project, ticket) => match book.once(alloc, project, ticket) {
+        Command::Once(project, ticket) => match book.once(alloc, scratch, project, ticket) {
             Ok(true) => Outcome::Done,
             Ok(false) => Outcome::NotNow,
             Err(NoMemory) => Outcome::Memory,
@@ -96,13 +98,13 @@ fn put_not_now(alloc: Global, out: &mut Vec<u8>) -> Result<(), NoMemory>
 }
 
 /// Puts that a growth was refused.
-fn put_memory(alloc: Global, out: &mut Vec<u8>, requester: Requester) -> Result<(), NoMemory>
+fn put_memory(out: &mut Vec<u8>, requester: Requester) -> Result<(), NoMemory>
     ensures { (s : Step) → requester ≡ requester_of s
         → OnOk result (out.new.items ≡ out.old.items ++ memory_text s) }
 {
     match requester {
         Requester::Client(project) => {
-            put_project(alloc, out, project)?;
+            put_project(out, project)?;
             put(out, b"refused NoMemory\n")
         }
         Requester::Worker(_) => put(out, b"w0 no memory\n"),
@@ -127,6 +129,6 @@ pub fn put_outcome(
         },
         Outcome::Done => put(out, b"w0 done\n"),
         Outcome::NotNow => put_not_now(alloc, out),
-        Outcome::Memory => put_memory(alloc, out, requester),
+        Outcome::Memory => put_memory(out, requester),
     }
 }

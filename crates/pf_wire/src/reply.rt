@@ -6,41 +6,40 @@ ghost use Rattle.pf_fault.specs.Codes.{code_text};
 ghost use Rattle.pf_model.specs.Reports.{report_of};
 ghost use Rattle.pf_model.specs.Text.{complete_text};
 ghost use Rattle.pf_desks.specs.Told.{lines_of, reply_head, reply_rest, reply_text, result_head, result_rest, stage_text, usage_text};
-ghost use Rattle.pf_sched.specs.Views.{result_of};
 ghost use Rattle.pf_book.specs.View.{reply_seen, stage_seen};
 
 use pf_book::{Reply, Stage};
 use pf_fault::Code;
 use pf_model::report::Report;
 use pf_quota::Usage;
-use pf_sched::JobResult;
-use pf_terms::{AtomTable, NoMemory};
+use pf_sched::{Finished, JobResult, memory_report};
+use pf_terms::NoMemory;
 use pf_text::{put, put_byte, put_number, put_schedule};
 use pf_trace::put_report;
 use std::alloc::Global;
 
 /// Puts whom a line is for.
-pub(crate) fn put_project(alloc: Global, out: &mut Vec<u8>, project: u32) -> Result<(), NoMemory>
+pub(crate) fn put_project(out: &mut Vec<u8>, project: u32) -> Result<(), NoMemory>
     ensures { OnOk result (out.new.items ≡ out.old.items ++ (codes "p" ++ decimal project ++ codes " ")) }
 {
     put(out, b"p")?;
-    put_number(alloc, out, u64::from(project))?;
+    put_number(out, u64::from(project))?;
     put(out, b" ")
 }
 
 /// Puts what a project uses: modules, bytes, trials, steps and calls.
-fn put_usage(alloc: Global, out: &mut Vec<u8>, usage: Usage) -> Result<(), NoMemory>
+fn put_usage(out: &mut Vec<u8>, usage: Usage) -> Result<(), NoMemory>
     ensures { OnOk result (out.new.items ≡ out.old.items ++ usage_text usage) }
 {
-    put_number(alloc, out, usage.modules)?;
+    put_number(out, usage.modules)?;
     put(out, b" ")?;
-    put_number(alloc, out, usage.bytes)?;
+    put_number(out, usage.bytes)?;
     put(out, b" ")?;
-    put_number(alloc, out, usage.trials)?;
+    put_number(out, usage.trials)?;
     put(out, b" ")?;
-    put_number(alloc, out, usage.steps)?;
+    put_number(out, usage.steps)?;
     put(out, b" ")?;
-    put_number(alloc, out, usage.calls)
+    put_number(out, usage.calls)
 }
 
 /// Puts a code of the table of refusals.
@@ -52,10 +51,10 @@ pub(crate) fn put_code(alloc: Global, out: &mut Vec<u8>, code: Code) -> Result<(
 }
 
 /// Puts how many lines a report has.
-fn put_lines(alloc: Global, out: &mut Vec<u8>, report: &Report) -> Result<(), NoMemory>
+fn put_lines(out: &mut Vec<u8>, report: &Report) -> Result<(), NoMemory>
     ensures { OnOk result (out.new.items ≡ out.old.items ++ decimal (lines_of (report_of report.now))) }
 {
-    put_number(alloc, out, report.events.len() as u64 + 3)
+    put_number(out, report.events.len() as u64 + 3)
 }
 
 /// Puts whether no candidate of a schedule fails.
@@ -69,48 +68,52 @@ fn put_complete(out: &mut Vec<u8>, complete: bool) -> Result<(), NoMemory>
     }
 }
 
-/// Puts what the first line says of what came of a trial.
-fn put_result_head(alloc: Global, out: &mut Vec<u8>, came: &JobResult) -> Result<(), NoMemory>
-    ensures { OnOk result (out.new.items ≡ out.old.items ++ result_head (result_of came.now)) }
+/// Puts what the first line says of what a job came to.
+fn put_result_head(alloc: Global, out: &mut Vec<u8>, finished: &Finished) -> Result<(), NoMemory>
+    ensures { OnOk result (out.new.items ≡ out.old.items ++ result_head finished.now.result) }
 {
-    match came {
-        JobResult::Report(report) => {
+    match finished.result() {
+        Some(JobResult::Report(report)) => {
             put(out, b"report ")?;
-            put_lines(alloc, out, report)
+            put_lines(out, report)
         }
-        JobResult::Shrunk {
-            schedule,
-            complete,
-            report,
-        } => {
+        Some(
+            JobResult::Shrunk {
+                schedule,
+                complete,
+                report,
+            },
+        ) => {
             put(out, b"shrunk ")?;
-            put_schedule(alloc, out, schedule.as_slice())?;
+            put_schedule(out, schedule.as_slice())?;
             put(out, b" ")?;
             put_complete(out, *complete)?;
             put(out, b" ")?;
-            put_lines(alloc, out, report)
+            put_lines(out, report)
         }
-        JobResult::NothingFails => {
+        Some(JobResult::NothingFails) => {
             put(out, b"shrunk ")?;
             put_code(alloc, out, Code::NothingFails)
+        }
+        None => {
+            put(out, b"report ")?;
+            put_lines(out, &memory_report(alloc))
         }
     }
 }
 
-/// Puts the lines of what came of a trial that follow the first: those of its report.
-fn put_result_rest(
-    alloc: Global,
-    out: &mut Vec<u8>,
-    atoms: &AtomTable,
-    came: &JobResult,
-) -> Result<(), NoMemory>
-    ensures { OnOk result (out.new.items ≡ out.old.items ++ result_rest atoms.now (result_of came.now)) }
+/// Puts the lines of what a job came to that follow the first: those of its report.
+fn put_result_rest(alloc: Global, out: &mut Vec<u8>, finished: &Finished) -> Result<(), NoMemory>
+    ensures { OnOk result (out.new.items ≡ out.old.items
+        ++ result_rest finished.now.job.asked.code.atoms finished.now.result) }
 {
-    match came {
-        JobResult::Report(report) | JobResult::Shrunk { report, .. } => {
-            put_report(alloc, out, atoms, report)
+    let atoms = finished.job().module().atoms();
+    match finished.result() {
+        Some(JobResult::Report(report) | JobResult::Shrunk { report, .. }) => {
+            put_report(out, atoms, report)
         }
-        JobResult::NothingFails => Ok(()),
+        Some(JobResult::NothingFails) => Ok(()),
+        None => put_report(out, atoms, &memory_report(alloc)),
     }
 }
 
@@ -132,22 +135,22 @@ fn put_head(alloc: Global, out: &mut Vec<u8>, reply: &Reply) -> Result<(), NoMem
     match reply {
         Reply::Module(number) => {
             put(out, b"module ")?;
-            put_number(alloc, out, *number)
+            put_number(out, *number)
         }
         Reply::Ticket(ticket) => {
             put(out, b"ticket ")?;
-            put_number(alloc, out, *ticket)
+            put_number(out, *ticket)
         }
-        Reply::Result(told) => put_result_head(alloc, out, told.result()),
+        Reply::Result(finished) => put_result_head(alloc, out, finished),
         Reply::Stage(stage) => put_stage(out, *stage),
         Reply::GivenUp | Reply::HasEdition => put(out, b"done"),
         Reply::Usage(usage) => {
             put(out, b"usage ")?;
-            put_usage(alloc, out, *usage)
+            put_usage(out, *usage)
         }
         Reply::Logged(count) => {
             put(out, b"log ")?;
-            put_number(alloc, out, *count)
+            put_number(out, *count)
         }
         Reply::Refused(refusal) => {
             put(out, b"refused ")?;
@@ -161,7 +164,7 @@ fn put_rest(alloc: Global, out: &mut Vec<u8>, reply: &Reply) -> Result<(), NoMem
     ensures { OnOk result (out.new.items ≡ out.old.items ++ reply_rest (reply_seen reply.now)) }
 {
     match reply {
-        Reply::Result(told) => put_result_rest(alloc, out, told.atoms(), told.result()),
+        Reply::Result(finished) => put_result_rest(alloc, out, finished),
         _ => Ok(()),
     }
 }
@@ -175,7 +178,7 @@ pub(crate) fn put_reply(
 ) -> Result<(), NoMemory>
     ensures { OnOk result (out.new.items ≡ out.old.items ++ reply_text project (reply_seen reply.now)) }
 {
-    put_project(alloc, out, project)?;
+    put_project(out, project)?;
     put_head(alloc, out, reply)?;
     put_byte(out, b'\n')?;
     put_rest(alloc, out, reply)

@@ -6,18 +6,18 @@ ghost use Rattle.std.specs.Io.KnownBytes.{Consumes};
 ghost use Rattle.pf_desks.specs.World.{Answer, AnswersStep};
 ghost use Rattle.pf_desks.specs.Told.{outcome_text};
 ghost use Rattle.pf_book.specs.Profile.{ForRight};
-ghost use Rattle.pf_wire.specs.View.{command_seen};
+ghost use Rattle.pf_lines.specs.View.{view_of_command};
 ghost use Rattle.pf_wire.specs.Steps.{last_text, AnswersOne, StepsAnswered, StepsLeaves};
 ghost use Rattle.pf_wire.specs.Turns.{TellsAll, TellsUpTo, TurnsLeave};
-ghost use Rattle.pf_wire.specs.Whole.{is_due};
+ghost use Rattle.pf_lines.specs.Complete.{is_due};
 
-use crate::command::{Command, NoCommand, read_command};
 use crate::outcome::{Requester, perform, put_outcome};
 use crate::reply::put_code;
 use crate::stream::{Gathered, Input, ROOM};
-use crate::whole::is_due;
 use pf_book::Book;
 use pf_fault::{Code, NoMemory, OrNoMemory};
+use pf_lines::{Command, NoCommand, is_due, read_command};
+use pf_sched::Scratch;
 use pf_terms::{Counted, StreamFault};
 use pf_text::{put, put_byte, put_number};
 use std::alloc::Global;
@@ -29,12 +29,17 @@ use std::sync::ledger::Ledger;
 pub const MOST_BYTES: usize = 67_108_864;
 
 /// Does what a command asks for, and gives the text of what came of it.
-fn answer(alloc: Global, book: &mut Book, command: Command) -> Result<Vec<u8>, NoMemory>
-    ensures { IfOk result (λ text. (x : Option Answer) × (text.items ≡ outcome_text (command_seen command) x)
-        × ForRight (λ p. AnswersStep p book.old (command_seen command) x book.new)) }
+fn answer(
+    alloc: Global,
+    book: &mut Book,
+    scratch: &mut Scratch,
+    command: Command,
+) -> Result<Vec<u8>, NoMemory>
+    ensures { IfOk result (λ text. (x : Option Answer) × (text.items ≡ outcome_text (view_of_command command) x)
+        × ForRight (λ p. AnswersStep p book.old (view_of_command command) x book.new)) }
 {
     let requester = Requester::of(&command);
-    let outcome = perform(alloc, book, command);
+    let outcome = perform(alloc, book, scratch, command);
     let mut text = Vec::new(alloc);
     put_outcome(alloc, &mut text, requester, &outcome)?;
     Ok(text)
@@ -46,14 +51,14 @@ fn refuse(alloc: Global, number: u64) -> Result<Vec<u8>, NoMemory>
 {
     let mut text = Vec::new(alloc);
     put(&mut text, b"command ")?;
-    put_number(alloc, &mut text, number)?;
+    put_number(&mut text, number)?;
     put(&mut text, b" refused ")?;
     put_code(alloc, &mut text, Code::NoCommand)?;
     put_byte(&mut text, b'\n')?;
     Ok(text)
 }
 
-/// The text that a command is answered with, and what follows the command; nothing does where the line is none.
+/// The text that a command is answered with, and what follows the command; nothing does if the line is none.
 #[derive(Drop)]
 struct Answered<'a> {
     text: Vec<u8>,
@@ -64,6 +69,7 @@ struct Answered<'a> {
 fn answer_front<'a>(
     alloc: Global,
     book: &mut Book,
+    scratch: &mut Scratch,
     bytes: &'a [u8],
     number: u64,
 ) -> Result<Answered<'a>, NoMemory>
@@ -72,7 +78,7 @@ fn answer_front<'a>(
 {
     match read_command(alloc, bytes) {
         Ok((command, rest)) => Ok(Answered {
-            text: answer(alloc, book, command)?,
+            text: answer(alloc, book, scratch, command)?,
             rest: Some(rest),
         }),
         Err(OrNoMemory::Fault(NoCommand)) => Ok(Answered {
@@ -83,18 +89,19 @@ fn answer_front<'a>(
     }
 }
 
-/// What was left behind the commands that were answered, and the number of the next.
+/// What is left after the commands that were answered, and the number of the next.
 #[derive(Clone, Copy)]
 struct Left<'a> {
     rest: &'a [u8],
     number: u64,
 }
 
-/// Answers the commands that are due, the first of which has this number, up to a line that is none; behind that there
-/// is nothing left.
+/// Answers the commands that are due, the first of which has this number, up to a line that is none; after that there is
+/// nothing left.
 fn answer_due<'a, W: Write, M: Ledger>(
     alloc: Global,
     book: &mut Book,
+    scratch: &mut Scratch,
     first: u64,
     input: &'a [u8],
     is_over: bool,
@@ -118,7 +125,7 @@ fn answer_due<'a, W: Write, M: Ledger>(
     let mut rest = input;
     let mut number = first;
     while is_due(rest, is_over) {
-        let answered = match answer_front(alloc, book, rest, number) {
+        let answered = match answer_front(alloc, book, scratch, rest, number) {
             Ok(answered) => answered,
             Err(NoMemory) => {
                 gathered.send(writer)?;
@@ -126,19 +133,19 @@ fn answer_due<'a, W: Write, M: Ledger>(
             }
         };
         gathered.add(writer, &answered.text)?;
-        let Some(behind) = answered.rest else {
+        let Some(after) = answered.rest else {
             gathered.send(writer)?;
             return Ok(None);
         };
-        rest = behind;
+        rest = after;
         number += 1;
     }
     gathered.send(writer)?;
     Ok(Some(Left { rest, number }))
 }
 
-/// Reads at most 64 MiB, piece by piece, answers each command before it waits for more, and gives the status: 2 where a
-/// line is no command, behind which nothing is done, and else 0. The book hashes with these keys, which no answer depends on.
+/// Reads at most 64 MiB, piece by piece, answers each command before it waits for more, and gives the status: 2 if a
+/// line is no command, after which nothing is done, and else 0. The book hashes with these keys, which no answer depends on.
 pub fn run_steps<R: Read, W: Write, L: Ledger, M: Ledger>(
     alloc: Global,
     keys: RandomState,
@@ -161,12 +168,21 @@ pub fn run_steps<R: Read, W: Write, L: Ledger, M: Ledger>(
     let piece = room.as_mut_slice();
     let mut input = Input::new(alloc);
     let mut book = Book::new(alloc, keys);
+    let mut scratch = Scratch::new(alloc);
     let mut number: u64 = 1;
     let mut is_over = false;
     while !is_over {
         is_over = input.take_piece(reader, piece)?;
         if input.is_due(is_over) {
-            let Some(left) = answer_due(alloc, &mut book, number, &input.bytes, is_over, writer)?
+            let Some(left) = answer_due(
+                alloc,
+                &mut book,
+                &mut scratch,
+                number,
+                &input.bytes,
+                is_over,
+                writer,
+            )?
             else {
                 return Ok(2);
             };

@@ -3,14 +3,13 @@
 ghost use Rattle.std.specs.Prelude.{◌≡◌, ◌≤◌, ◌<◌, ◌+◌, ◌++◌, [], List, ℕ, length, false, true, IfErr, IfOk, OnErr, OnOk};
 ghost use Rattle.std.specs.Io.KnownBytes.{Appends, Consumes};
 ghost use Rattle.pf_terms.specs.Streams.{AppendsFront, CountsWrite};
-ghost use Rattle.pf_wire.specs.Commands.{first_line};
+ghost use Rattle.pf_lines.specs.Commands.{first_line};
 ghost use Rattle.pf_wire.specs.Turns.{TakesPiece, PieceLeaves};
-ghost use Rattle.pf_wire.specs.Whole.{is_due};
+ghost use Rattle.pf_lines.specs.Complete.{is_due};
 
-use crate::cut::first_line;
 use crate::steps::MOST_BYTES;
-use crate::whole::is_due;
 use pf_fault::OrNoMemory;
+use pf_lines::{first_line, is_due};
 use pf_terms::{Counted, StreamFault};
 use std::alloc::Global;
 use std::io::{Read, Write};
@@ -137,7 +136,7 @@ impl Gathered {
         writer.put(text)
     }
 
-    /// Adds a text, and writes all where there is no room for it.
+    /// Adds a text, and writes all if there is no room for it.
     pub fn add<W: Write, M: Ledger>(
         &mut self,
         writer: &mut Counted<W, M>,

@@ -1,12 +1,12 @@
 //! How far a hunt or a shrinking came, in a line of the terminal that standard error is.
 
-use pf_sched::{Course, Watch};
+use pf_sched::{Observer, Progress};
 use std::cell::Cell;
 use std::io::{IsTerminal, Stderr, Write};
 use std::time::{Clock, Duration, Instant};
 use std::{fmt, io};
 
-/// A line of the terminal that standard error is, written over again and again; none where that is no terminal. Faults of its writing are ignored.
+/// A line of the terminal that standard error is, written over again and again; none if that is no terminal. Faults of its writing are ignored.
 #[derive(Drop)]
 pub struct Line {
     terminal: Option<Stderr>,
@@ -50,13 +50,13 @@ impl Line {
 /// How far a shrinking of at most so many runs came.
 #[derive(Drop)]
 struct RunsDone {
-    course: Course,
+    progress: Progress,
     most: u32,
 }
 
 impl fmt::Display for RunsDone {
     fn fmt<W: fmt::Write>(&self, f: &mut fmt::Formatter<W>) -> fmt::Result {
-        let Course { runs, length } = self.course;
+        let Progress { runs, length } = self.progress;
         write!(f, "{runs} of {} runs, {length} numbers", self.most)
     }
 }
@@ -77,17 +77,17 @@ impl<'a> Runs<'a> {
     }
 }
 
-impl Watch for Runs<'_> {
-    fn tell(&mut self, course: Course) {
-        if self.told != Some(course.runs) {
-            self.told = Some(course.runs);
+impl Observer for Runs<'_> {
+    fn progress(&mut self, progress: Progress) {
+        if self.told != Some(progress.runs) {
+            self.told = Some(progress.runs);
             let most = self.most;
-            self.line.show(&RunsDone { course, most });
+            self.line.show(&RunsDone { progress, most });
         }
     }
 }
 
-/// How far a hunt over so many seeds came, and in what time where that is known.
+/// How far a hunt over so many seeds came, and in what time if that is known.
 #[derive(Drop)]
 struct SeedsDone {
     done: u64,
@@ -119,7 +119,7 @@ pub struct Seeds<'a, C> {
     line: &'a Line,
     clock: &'a C,
     seeds: u64,
-    /// When it began, where the clock tells.
+    /// When it began, if the clock tells.
     start: Option<Instant>,
     /// When it told last, from its start on.
     told: Option<Duration>,
@@ -136,7 +136,7 @@ impl<'a, C: Clock> Seeds<'a, C> {
         }
     }
 
-    /// The time since its start, where the clock tells.
+    /// The time since its start, if the clock tells.
     fn time(&self) -> Option<Duration> {
         self.start?.elapsed(self.clock).ok()
     }
@@ -163,12 +163,12 @@ impl<C: Clock> pf_hunt::Watch for Seeds<'_, C> {
 
 /// A writer that empties the line before it writes.
 #[derive(Drop)]
-pub struct Behind<'a, W> {
+pub struct Clearing<'a, W> {
     pub line: &'a Line,
     pub inner: W,
 }
 
-impl<W: Write> Write for Behind<'_, W> {
+impl<W: Write> Write for Clearing<'_, W> {
     fn write(&mut self, buf: &[u8]) -> io::Result<usize> {
         self.line.clear();
         self.inner.write(buf)

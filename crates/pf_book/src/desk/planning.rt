@@ -1,28 +1,31 @@
 //! What each call to a desk comes to.
 
 ghost use Rattle.std.specs.Prelude.{◌≡◌, ◌≤◌, IfOk, IsSome, MatchResult, OnErr, OnOk, Ok};
+ghost use Rattle.pf_request.specs.Calls as calls;
 ghost use Rattle.pf_desks.specs.Desk as desk;
 ghost use Rattle.pf_desks.specs.Desk.{held_at};
 ghost use Rattle.pf_desks.specs.Calls.{fetched, is_edition};
 ghost use Rattle.pf_store.specs.Sources.{holders, HeldOnceLess};
-ghost use Rattle.pf_book.specs.View.{order_seen, code_of};
+ghost use Rattle.pf_request.specs.View.{view_of_order};
+ghost use Rattle.pf_book.specs.View.{code_of};
 ghost use Rattle.pf_book.specs.Kept.{Counts};
 ghost use Rattle.pf_book.specs.Orders.{Asked};
 ghost use Rattle.pf_book.specs.Plans.{IsPlan, IsCharged, CanChange, KeepsModules, FollowsPlan};
 
-use crate::call::Order;
 use crate::desk::Desk;
 use crate::entry::Entry;
 use crate::job::job_of;
 use crate::numbers::numbered;
 use crate::plan::{Change, Plan};
 use crate::refusal::Refusal;
-use crate::reply::{FiledResult, Reply};
+use crate::reply::Reply;
 use crate::trial::Trial;
 use pf_fault::OrNoMemory;
+use pf_module::ReadModule;
 use pf_quota::{Charge, Held, Usage, trial_steps};
-use pf_sched::Job;
-use pf_store::{Source, Store, Stored};
+use pf_request::{Order, Source};
+use pf_sched::{Finished, Job};
+use pf_store::Store;
 use pf_terms::NoMemory;
 use std::alloc::Global;
 use std::sync::Arc;
@@ -36,7 +39,7 @@ impl Desk {
         usage: Usage,
     ) -> Result<Plan, NoMemory>
         requires charged { IsCharged self.now usage }
-        ensures plan { IfOk result (λ p. IsPlan self.now (desk.submit source) p) }
+        ensures plan { IfOk result (λ p. IsPlan self.now (calls.submit source) p) }
         ensures can { IfOk result (λ p. CanChange self.now p.change) }
         ensures store { FollowsPlan store.old store.new self.now result }
     {
@@ -46,11 +49,11 @@ impl Desk {
             return Ok(source_refused(source, Refusal::PastLimit(limit), usage));
         }
         match store.take_or_read(alloc, &source) {
-            Ok(stored) => {
+            Ok(module) => {
                 let number = self.modules.len() as u64 + 1;
                 Ok(Plan {
-                    noted: Entry::Submitted(source_held(store, &stored)?, number),
-                    change: Change::Module(stored),
+                    noted: Entry::Submitted(source_held(store, &module)?, number),
+                    change: Change::Module(module),
                     reply: Reply::Module(number),
                     usage: with_module,
                 })
@@ -69,7 +72,7 @@ impl Desk {
         usage: Usage,
     ) -> Result<Plan, NoMemory>
         requires charged { IsCharged self.now usage }
-        ensures plan { IfOk result (λ p. IsPlan self.now (order_seen order) p) }
+        ensures plan { IfOk result (λ p. IsPlan self.now (view_of_order order) p) }
         ensures can { IfOk result (λ p. CanChange self.now p.change) }
         ensures modules { IfOk result (λ p. KeepsModules p.change) }
     {
@@ -84,12 +87,12 @@ impl Desk {
         }
     }
 
-    /// A job that was ordered, of a module that is held: one ticket more, where the project passes no limit with it.
+    /// A job that was ordered, of a module that is held: one ticket more, if the project passes no limit with it.
     fn ordered(&self, order: Arc<Order>, job: Arc<Job>, usage: Usage) -> Plan
         requires charged { IsCharged self.now usage }
         requires asked { Asked self.now.edition self.now.modules order.value (Ok job.value) }
         requires held { IsSome (held_at self.now.modules order.value.module) }
-        ensures plan { IsPlan self.now (order_seen order.value) result }
+        ensures plan { IsPlan self.now (view_of_order order.value) result }
         ensures can { CanChange self.now result.change }
         ensures modules { KeepsModules result.change }
     {
@@ -111,13 +114,13 @@ impl Desk {
 
     pub(super) fn fetching(&self, ticket: u64, usage: Usage) -> Result<Plan, NoMemory>
         requires charged { IsCharged self.now usage }
-        ensures plan { IfOk result (λ p. IsPlan self.now (desk.fetch ticket) p) }
+        ensures plan { IfOk result (λ p. IsPlan self.now (calls.fetch ticket) p) }
         ensures nothing { IfOk result (λ p. p.change ≡ Change.Nothing) }
     {
         match filed_result(&self.trials, ticket) {
-            Ok(filed) => {
-                let noted = Entry::Fetched(ticket, filed.share()?);
-                Ok(Plan::reply_alone(noted, Reply::Result(filed.share()?), usage))
+            Ok(finished) => {
+                let noted = Entry::Fetched(ticket, finished.share()?);
+                Ok(Plan::reply_alone(noted, Reply::Result(finished.share()?), usage))
             }
             Err(refusal) => {
                 let noted = Entry::FetchRefused(ticket, refusal);
@@ -128,7 +131,7 @@ impl Desk {
 
     pub(super) fn standing(&self, ticket: u64, usage: Usage) -> Plan
         requires charged { IsCharged self.now usage }
-        ensures plan { IsPlan self.now (desk.status ticket) result }
+        ensures plan { IsPlan self.now (calls.status ticket) result }
         ensures nothing { result.change ≡ Change.Nothing }
     {
         match numbered(&self.trials, ticket) {
@@ -146,7 +149,7 @@ impl Desk {
 
     pub(super) fn dropping(&self, ticket: u64, usage: Usage) -> Plan
         requires charged { IsCharged self.now usage }
-        ensures plan { IsPlan self.now (desk.drop_trial ticket) result }
+        ensures plan { IsPlan self.now (calls.drop_trial ticket) result }
         ensures can { CanChange self.now result.change }
         ensures modules { KeepsModules result.change }
     {
@@ -168,7 +171,7 @@ impl Desk {
     pub(super) fn withdrawal(&self, store: &mut Store, number: u64, usage: Usage) -> Plan
         requires counts { Counts store.old self.now }
         requires charged { IsCharged self.now usage }
-        ensures plan { IsPlan self.now (desk.withdraw number) result }
+        ensures plan { IsPlan self.now (calls.withdraw number) result }
         ensures can { CanChange self.now result.change }
         ensures store { FollowsPlan store.old store.new self.now (Ok result) }
     {
@@ -193,7 +196,7 @@ impl Desk {
 
     pub(super) fn using(&self, alloc: Global, usage: Usage) -> Result<Plan, NoMemory>
         requires charged { IsCharged self.now usage }
-        ensures plan { IfOk result (λ p. IsPlan self.now desk.usage p) }
+        ensures plan { IfOk result (λ p. IsPlan self.now calls.usage p) }
         ensures nothing { IfOk result (λ p. p.change ≡ Change.Nothing) }
     {
         let noted = Entry::Used(Box::new(alloc, self.usage)?);
@@ -202,7 +205,7 @@ impl Desk {
 
     pub(super) fn counting(&self, usage: Usage) -> Plan
         requires charged { IsCharged self.now usage }
-        ensures plan { IsPlan self.now desk.log result }
+        ensures plan { IsPlan self.now calls.log result }
         ensures nothing { result.change ≡ Change.Nothing }
     {
         let calls = self.usage.calls;
@@ -211,7 +214,7 @@ impl Desk {
 
     pub(super) fn moving(&self, edition: u32, usage: Usage) -> Plan
         requires charged { IsCharged self.now usage }
-        ensures plan { IsPlan self.now (desk.edition edition) result }
+        ensures plan { IsPlan self.now (calls.edition edition) result }
         ensures can { CanChange self.now result.change }
         ensures modules { KeepsModules result.change }
     {
@@ -231,10 +234,10 @@ impl Desk {
     }
 }
 
-/// What came of the trial of a ticket, where it is filed.
-fn filed_result(trials: &[Option<Trial>], ticket: u64) -> Result<&FiledResult, Refusal>
+/// What came of the trial of a ticket, if it is filed.
+fn filed_result(trials: &[Option<Trial>], ticket: u64) -> Result<&Finished, Refusal>
     ensures { MatchResult result
-        (λ r. fetched (held_at trials.now ticket) ≡ desk.result r.now.0 r.now.1)
+        (λ f. fetched (held_at trials.now ticket) ≡ desk.result f.now.job.asked.code.atoms f.now.result)
         (λ e. fetched (held_at trials.now ticket) ≡ desk.refused (code_of e)) }
 {
     numbered(trials, ticket).ok_or(Refusal::NoTrial)?.filed()
@@ -287,15 +290,15 @@ fn move_refused(edition: u32, refusal: Refusal, usage: Usage) -> Plan
 }
 
 /// The bytes under which a module is kept that the store counts one holder more of. Where memory runs out it counts one less again.
-fn source_held(store: &mut Store, stored: &Stored) -> Result<Source, NoMemory>
-    requires { 1 ≤ holders store.old stored.now.source }
-    ensures source { IfOk result (λ s. s ≡ stored.now.source) }
+fn source_held(store: &mut Store, held: &ReadModule) -> Result<Source, NoMemory>
+    requires { 1 ≤ holders store.old held.now.source }
+    ensures source { IfOk result (λ s. s ≡ held.now.source) }
     ensures ok { OnOk result (store.new ≡ store.old) }
-    ensures err { OnErr result (HeldOnceLess stored.now.source store.old store.new) }
+    ensures err { OnErr result (HeldOnceLess held.now.source store.old store.new) }
 {
-    let source = stored.source().share();
+    let source = held.source().share();
     if source.is_err() {
-        store.give_up(stored.source());
+        store.give_up(held.source());
     }
     source
 }

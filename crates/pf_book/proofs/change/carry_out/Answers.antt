@@ -1,7 +1,8 @@
 use Rattle.std.proofs.Common.{rules, arith, ◌≡◌, ◌≤◌, ◌-◌, ℕ, List, [], ◌∷◌, ◌++◌, Option, Some, None, sym, subst, ap, ◌∙◌}
 use Rattle.std.specs.Prelude.{slice_index, slice_set, IsSome}
+use Rattle.pf_request.specs.Module.{ReadModule}
 use Rattle.pf_desks.specs.Desk as desk
-use Rattle.pf_desks.specs.Desk.{Stored, Trial, held_at, with_held}
+use Rattle.pf_desks.specs.Desk.{Trial, held_at, with_held}
 use Rattle.pf_desks.specs.Calls.{users_of}
 use Rattle.pf_book.specs.Plans.{CanChange}
 use Rattle.pf_book.specs.Users.{holding, CountUsers}
@@ -43,11 +44,11 @@ returns-in-Module-clause-counts c =
     let us = c.args.users.now.items in
     let ms = c.args.modules.now.items in
     let ts = c.args.trials.now.items in
-    let s = c.in-Module.stored in
+    let s = c.in-Module.module in
     let made = module_more us ms ts s c.requires.counts in
     let one : CountUsers c.push_reserved-in-Module.new.self.items (ms ++ Some s ∷ []) ts =
     subst (λ (l : List ℕ). CountUsers l (ms ++ Some s ∷ []) ts) (sym c.push_reserved-in-Module.ensures.items) made in
-    subst (λ (l : List (Option Stored)). CountUsers c.push_reserved-in-Module.new.self.items l ts) (sym c.push_reserved.ensures.items) one
+    subst (λ (l : List (Option ReadModule)). CountUsers c.push_reserved-in-Module.new.self.items l ts) (sym c.push_reserved.ensures.items) one
 
 pub returns-in-Trial-clause-counts : goal.returns-in-Trial-clause-counts
 returns-in-Trial-clause-counts c =
@@ -93,4 +94,4 @@ returns-in-Withdraw-clause-counts c =
     let ts = c.args.trials.now.items in
     let n = c.in-Withdraw.number in
     let can : users_of (holding c.args.edition.now ms ts) n ≡ 0 = subst (CanChange (holding c.args.edition.now ms ts)) c.in-Withdraw.is c.requires.can in
-    subst (λ (l : List (Option Stored)). CountUsers us l ts) (sym c.give_up-in-Withdraw.ensures.items) (module_less us ms ts n can c.requires.counts)
+    subst (λ (l : List (Option ReadModule)). CountUsers us l ts) (sym c.give_up-in-Withdraw.ensures.items) (module_less us ms ts n can c.requires.counts)

@@ -1,6 +1,5 @@
 use Rattle.std.proofs.Common.{subst, arith}
 use Rattle.std.specs.Prelude.{option_map}
-use Rattle.pf_desks.specs.Desk.{job_meant}
 use Rattle.pf_hunt.specs.Hunts.{FirstFailing, none_fails}
 use Rattle.pf_hunt.specs.Views.{failure_of}
 use Rattle.pf_hunt.proofs.Firsts.{in_first, in_second, none_in_parts, none_of}
@@ -8,7 +7,7 @@ use Rattle.pf_hunt.proofs.blocks.hunt.Goals as goal
 
 pub returns-in-Some : goal.returns-in-Some
 returns-in-Some g c =
-    let j = job_meant c.args.job.now in
+    let j = c.args.job.now.asked in
     let at = c.loop-at in
     let next = c.block_end-next.result in
     let found = subst (λ f. FirstFailing j at.at next (option_map failure_of f)) c.in-Some.is c.in_ok-failure.ensures in
@@ -16,7 +15,7 @@ returns-in-Some g c =
 
 pub loop-at-preserved : goal.loop-at-preserved
 loop-at-preserved g c =
-    let j = job_meant c.args.job.now in
+    let j = c.args.job.now.asked in
     let at = c.loop-at in
     let next = c.block_end-next.result in
     let none = subst (λ f. FirstFailing j at.at next (option_map failure_of f)) c.in_default.is c.in_ok-failure.ensures in

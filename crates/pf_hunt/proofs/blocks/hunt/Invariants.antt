@@ -1,5 +1,4 @@
 use Rattle.std.proofs.Common.{◌≤◌, ◌-◌}
-use Rattle.pf_desks.specs.Desk.{job_meant}
 use Rattle.pf_hunt.specs.Hunts.{NoneFails}
 use Rattle.pf_hunt.proofs.blocks.hunt.Given as goal
 
@@ -7,7 +6,7 @@ use Rattle.pf_hunt.proofs.blocks.hunt.Given as goal
 abbrev pub invariant-loop-at : goal.invariant-loop-at
 invariant-loop-at g l = record {
   behind : l.from ≤ l.at;
-  none : NoneFails (job_meant l.job) l.from l.at;
+  none : NoneFails l.job.asked l.from l.at;
 }
 
 abbrev pub decreases-loop-at : goal.decreases-loop-at

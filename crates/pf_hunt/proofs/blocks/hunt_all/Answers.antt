@@ -1,5 +1,4 @@
 use Rattle.std.proofs.Common.{inl, inr, refl, sym, subst, arith}
-use Rattle.pf_desks.specs.Desk.{job_meant}
 use Rattle.pf_hunt.specs.Hunts.{Tallies, no_seed}
 use Rattle.pf_hunt.specs.Views.{rows_of}
 use Rattle.pf_hunt.proofs.Counting.{counted_both, ends_there, parts_are_the_whole}
@@ -11,14 +10,14 @@ loop-at-init g c =
     record {
       behind = omega arith;
       within = inl refl;
-      rows = subst (Tallies (job_meant c.args.job.now) from from) (sym c.new-tally.ensures) (no_seed from (omega arith));
+      rows = subst (Tallies c.args.job.now.asked from from) (sym c.new-tally.ensures) (no_seed from (omega arith));
     }
 
 pub join-requires : goal.join-requires
 join-requires g c =
     let at = c.loop-at in
     let next = c.block_end-next.ensures in
-    counted_both (job_meant c.args.job.now) c.args.from at.at c.block_end-next.result _ _ at.invariant.behind (omega (arith, next.0))
+    counted_both c.args.job.now.asked c.args.from at.at c.block_end-next.result _ _ at.invariant.behind (omega (arith, next.0))
     (omega (arith, next.1, c.ranges.end.fits)) at.invariant.rows c.in_ok-tally_all.ensures
 
 pub loop-at-preserved : goal.loop-at-preserved
@@ -30,7 +29,7 @@ loop-at-preserved g c =
       within = inr next.1;
       rows =
           rw c.in_ok-join.ensures
-          (parts_are_the_whole (job_meant c.args.job.now) c.args.from at.at c.block_end-next.result _ _ at.invariant.behind (omega (arith, next.0))
+          (parts_are_the_whole c.args.job.now.asked c.args.from at.at c.block_end-next.result _ _ at.invariant.behind (omega (arith, next.0))
           at.invariant.rows c.in_ok-tally_all.ensures);
     }
 
@@ -38,4 +37,4 @@ pub returns : goal.returns
 returns g c =
     let at = c.loop-at in
     let over = c.loop-at-test.false in
-    ends_there (job_meant c.args.job.now) c.args.from c.args.end at.at (rows_of at.tally) at.invariant.rows at.invariant.within (omega (arith, over))
+    ends_there c.args.job.now.asked c.args.from c.args.end at.at (rows_of at.tally) at.invariant.rows at.invariant.within (omega (arith, over))

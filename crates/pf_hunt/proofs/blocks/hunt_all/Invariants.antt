@@ -1,5 +1,4 @@
 use Rattle.std.proofs.Common.{◌≡◌, ◌⊎◌, ◌≤◌, ◌-◌}
-use Rattle.pf_desks.specs.Desk.{job_meant}
 use Rattle.pf_hunt.specs.Hunts.{Tallies}
 use Rattle.pf_hunt.specs.Views.{rows_of}
 use Rattle.pf_hunt.proofs.blocks.hunt_all.Given as goal
@@ -9,7 +8,7 @@ abbrev pub invariant-loop-at : goal.invariant-loop-at
 invariant-loop-at g l = record {
   behind : l.from ≤ l.at;
   within : (l.at ≡ l.from) ⊎ (l.at ≤ l.end);
-  rows : Tallies (job_meant l.job) l.from l.at (rows_of l.tally);
+  rows : Tallies l.job.asked l.from l.at (rows_of l.tally);
 }
 
 abbrev pub decreases-loop-at : goal.decreases-loop-at

@@ -1,6 +1,5 @@
 use Rattle.std.proofs.Common.{sym, arith}
 use Rattle.pf_model.specs.Reports.{report_of}
-use Rattle.pf_desks.specs.Desk.{job_meant}
 use Rattle.pf_hunt.specs.Hunts.{first, none_fails}
 use Rattle.pf_hunt.proofs.Firsts.{one_more}
 use Rattle.pf_hunt.proofs.failure.first_in.Goals as goal
@@ -8,7 +7,7 @@ use Rattle.pf_hunt.proofs.failure.first_in.Goals as goal
 pub loop-seed-preserved : goal.loop-seed-preserved
 loop-seed-preserved c =
     let at = c.loop-seed in
-    one_more (job_meant c.args.job.now) c.args.from at.seed (report_of c.in_ok-report.report) at.invariant c.in_ok-report.ensures (sym c.if-fails.ensures)
+    one_more c.args.job.now.asked c.args.from at.seed (report_of c.in_ok-report.report) at.invariant c.in_ok-report.ensures (sym c.if-fails.ensures)
 
 pub returns-then-fails : goal.returns-then-fails
 returns-then-fails c =

@@ -1,5 +1,4 @@
 use Rattle.std.proofs.Common.{inl, inr, refl, sym, ap, subst, arith}
-use Rattle.pf_desks.specs.Desk.{job_meant}
 use Rattle.pf_model.specs.Reports.{report_of}
 use Rattle.pf_hunt.specs.Hunts.{Tallies, no_seed}
 use Rattle.pf_hunt.specs.Views.{rows_of}
@@ -8,7 +7,7 @@ use Rattle.pf_hunt.proofs.tally.tally_in.Goals as goal
 
 pub loop-seed-init : goal.loop-seed-init
 loop-seed-init c =
-    let j = job_meant c.args.job.now in
+    let j = c.args.job.now.asked in
     record {
       rows = subst (Tallies j c.args.from c.args.from) (sym c.new-tally.ensures) (no_seed c.args.from (omega arith));
       at = inl refl;
@@ -17,7 +16,7 @@ loop-seed-init c =
 pub add-requires : goal.add-requires
 add-requires c =
     let at = c.loop-seed in
-    let counted = each_is_counted (job_meant c.args.job.now) c.args.from at.seed (rows_of at.tally) at.invariant.rows in
+    let counted = each_is_counted c.args.job.now.asked c.args.from at.seed (rows_of at.tally) at.invariant.rows in
     let one = ap (λ x. x.count) c.met.ensures in
     let fits = c.ranges.end.fits in
     let more = c.loop-seed-test.true in
@@ -26,7 +25,7 @@ add-requires c =
 pub loop-seed-preserved : goal.loop-seed-preserved
 loop-seed-preserved c =
     let at = c.loop-seed in
-    let j = job_meant c.args.job.now in
+    let j = c.args.job.now.asked in
     let r = report_of c.in_ok-report.report in
     record {
       rows =
@@ -38,4 +37,4 @@ loop-seed-preserved c =
 pub returns : goal.returns
 returns c =
     let at = c.loop-seed in
-    ends_there (job_meant c.args.job.now) c.args.from c.args.end at.seed (rows_of at.tally) at.invariant.rows at.invariant.at (omega (arith, c.loop-seed-test.false))
+    ends_there c.args.job.now.asked c.args.from c.args.end at.seed (rows_of at.tally) at.invariant.rows at.invariant.at (omega (arith, c.loop-seed-test.false))

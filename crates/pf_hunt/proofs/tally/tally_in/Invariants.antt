@@ -1,5 +1,4 @@
 use Rattle.std.proofs.Common.{◌≡◌, ◌≤◌, ◌⊎◌}
-use Rattle.pf_desks.specs.Desk.{job_meant}
 use Rattle.pf_hunt.specs.Hunts.{Tallies}
 use Rattle.pf_hunt.specs.Views.{rows_of}
 use Rattle.pf_hunt.proofs.tally.tally_in.Given as goal
@@ -7,6 +6,6 @@ use Rattle.pf_hunt.proofs.tally.tally_in.Given as goal
 -- the runs before are counted
 abbrev pub invariant-loop-seed : goal.invariant-loop-seed
 invariant-loop-seed l = record {
-  rows : Tallies (job_meant l.job) l.from l.seed (rows_of l.tally);
+  rows : Tallies l.job.asked l.from l.seed (rows_of l.tally);
   at : (l.seed ≡ l.from) ⊎ (l.seed ≤ l.end);
 }

@@ -2,7 +2,6 @@ use denote.Param.Send.{sendable}
 use Rattle.std.proofs.Common.{Ok, ap, ◌∙◌}
 use Rattle.std.specs.Prelude.{option_map}
 use Rattle.std.proofs.lemmas.Result.{IfOk-at_ok, IfOk-weaker}
-use Rattle.pf_desks.specs.Desk.{job_meant}
 use Rattle.pf_hunt.specs.Hunts.{FirstFailing}
 use Rattle.pf_hunt.specs.Views.{failure_of}
 use Rattle.pf_sched.proofs.Crossing as sched
@@ -18,7 +17,7 @@ join-front-requires-send-A g t c κs = search (crosses, sendable) depth 30
 
 pub returns-in-Some : goal.returns-in-Some
 returns-in-Some g t c =
-    let j = job_meant c.args.job.now in
+    let j = c.args.job.now.asked in
     let from = c.args.from in
     let middle = c.edge-middle.result in
     let some = c.in_ok-failure.was ∙ ap Ok c.in-Some.is in
@@ -27,7 +26,7 @@ returns-in-Some g t c =
 
 pub returns-in-None : goal.returns-in-None
 returns-in-None g t c =
-    let j = job_meant c.args.job.now in
+    let j = c.args.job.now.asked in
     let from = c.args.from in
     let middle = c.edge-middle.result in
     let end = c.args.end in

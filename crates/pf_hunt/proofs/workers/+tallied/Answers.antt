@@ -1,6 +1,5 @@
 use denote.Param.Send.{sendable}
 use Rattle.std.proofs.lemmas.Result.{IfOk-at_ok}
-use Rattle.pf_desks.specs.Desk.{job_meant}
 use Rattle.pf_hunt.specs.Hunts.{Tallies}
 use Rattle.pf_hunt.specs.Views.{rows_of}
 use Rattle.pf_sched.proofs.Crossing as sched
@@ -12,7 +11,7 @@ join-front-requires-send-F g t c κs = search (sched.crosses, c.requires, sendab
 
 pub join-requires : goal.join-requires
 join-requires g t c =
-    let j = job_meant c.args.job.now in
+    let j = c.args.job.now.asked in
     let from = c.args.from in
     let middle = c.edge-middle.result in
     let end = c.args.end in
@@ -22,7 +21,7 @@ join-requires g t c =
 
 pub returns : goal.returns
 returns g t c =
-    let j = job_meant c.args.job.now in
+    let j = c.args.job.now.asked in
     let from = c.args.from in
     let middle = c.edge-middle.result in
     let end = c.args.end in

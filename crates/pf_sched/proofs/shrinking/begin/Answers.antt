@@ -1,7 +1,6 @@
 use Rattle.std.proofs.Common.{◌≡◌, ◌+◌, None, length, arith}
 use Rattle.pf_model.specs.Meaning.{schedule}
 use Rattle.pf_shrink.specs.Hunts.{next_of}
-use Rattle.pf_desks.specs.Desk.{job_meant}
 use Rattle.pf_sched.specs.Views.{result_of}
 use Rattle.pf_sched.proofs.Hunted.{hunt_comes, hunt_has}
 use Rattle.pf_sched.proofs.Shrunk.{opens_next, opens_none}
@@ -18,6 +17,6 @@ pub returns-in_ok-found-in-None : goal.returns-in_ok-found-in-None
 returns-in_ok-found-in-None c =
     let j = c.args.job.now in
     let e : next_of c.args.hunt ≡ None = opens_none (next_of c.args.hunt) (rw c.in-None.is at c.in_ok-choices.ensures) in (
-      hunt_comes (job_meant j) c.args.hunt c.args.before c.requires.hunt e (result_of c.in_ok-found-in-None.field-0) (c.in_ok-found-in-None.ensures j c.requires.report),
-      (c.args.before, hunt_has (job_meant j) c.args.hunt c.args.before c.requires.hunt e, omega arith),
+      hunt_comes j.asked c.args.hunt c.args.before c.requires.hunt e (result_of c.in_ok-found-in-None.field-0) (c.in_ok-found-in-None.ensures j c.requires.report),
+      (c.args.before, hunt_has j.asked c.args.hunt c.args.before c.requires.hunt e, omega arith),
     )

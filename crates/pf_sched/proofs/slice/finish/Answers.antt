@@ -1,6 +1,7 @@
-use Rattle.std.proofs.Common.{inl, length, ap, subst, sym}
-use Rattle.pf_sched.specs.Slices.{EndsBy}
-use Rattle.pf_sched.proofs.Sliced.{run_ends}
+use Rattle.std.proofs.Common.{length}
+use Rattle.pf_model.specs.Reports.{report_of}
+use Rattle.pf_model.specs.Shrinking as shrinking
+use Rattle.pf_sched.proofs.Sliced.{ends_so, run_ends}
 use Rattle.pf_sched.proofs.slice.finish.Goals as goal
 
 pub whole-requires : goal.whole-requires
@@ -8,5 +9,6 @@ whole-requires c = (run_ends c.args.job.value c.deref.result.now c.deref.ensures
 
 pub returns-in-Ok-clause-result : goal.returns-in-Ok-clause-result
 returns-in-Ok-clause-result c =
-    let e = run_ends c.args.job.value c.deref.result.now c.deref.ensures c.args.run c.requires.run c.requires.over c.in-Ok.report c.in-Ok.ensures in
-    inl (subst (EndsBy c.args.job.value (length c.args.run.events.items)) (sym (ap (λ f. f.result) c.whole.ensures)) e)
+    let j = c.args.job.value in
+    ends_so j (length c.args.run.events.items) (shrinking.report (report_of c.in-Ok.report)) c.whole.result.result
+    (run_ends j c.deref.result.now c.deref.ensures c.args.run c.requires.run c.requires.over c.in-Ok.report c.in-Ok.ensures) c.whole.ensures.result

@@ -12,4 +12,4 @@ held_then source k k' more =
     omega arith
 
 pub give_up-requires : goal.give_up-requires
-give_up-requires c = held_then _ _ _ c.in_ok-stored.ensures.held
+give_up-requires c = held_then _ _ _ c.in_ok-module.ensures.held

@@ -3,7 +3,7 @@ use Rattle.std.specs.Prelude.{IfErr, IsErr, IsErrAnd}
 use Rattle.pf_fault.specs.declared.fault.OrNoMemory.{OrNoMemory}
 use Rattle.pf_fault.specs.declared.fault.OrNoMemory.TheVariants.{Fault}
 use Rattle.pf_terms.specs.declared.stream.StreamFault.{StreamFault}
-use Rattle.pf_wire.proofs.Leaving.{at_hand_first, at_hand_sent, at_hand_in_part, at_hand_more, more_in_part, ends_ill, ends_ill_in_part, in_part, leaves_at, shorter_behind}
+use Rattle.pf_wire.proofs.Leaving.{at_hand_first, at_hand_sent, at_hand_in_part, at_hand_more, more_in_part, ends_ill, ends_ill_in_part, in_part, leaves_at, shorter_after}
 use Rattle.pf_wire.proofs.steps.answer_due.Goals as goal
 
 -- a fault of a stream is handed on
@@ -72,17 +72,17 @@ pub loop-alloc-smaller : goal.loop-alloc-smaller
 loop-alloc-smaller g c =
     let l = c.loop-alloc in
     let due = sym c.is_due.ensures ∙ c.loop-alloc-test.true in
-    shorter_behind c.args.is_over l.rest.now c.in-Some.behind.now l.number l.book c.answer_front.new.book c.in-Ok.answered.text.items due (rw c.in-Some.is at c.in-Ok.ensures)
+    shorter_after c.args.is_over l.rest.now c.in-Some.after.now l.number l.book c.answer_front.new.book c.in-Ok.answered.text.items due (rw c.in-Some.is at c.in-Ok.ensures)
 
 pub loop-alloc-preserved : goal.loop-alloc-preserved
 loop-alloc-preserved g c =
     let l = c.loop-alloc in
     let due = sym c.is_due.ensures ∙ c.loop-alloc-test.true in
     let one = rw c.in-Some.is at c.in-Ok.ensures in
-    let less = shorter_behind c.args.is_over l.rest.now c.in-Some.behind.now l.number l.book c.answer_front.new.book c.in-Ok.answered.text.items due one in
+    let less = shorter_after c.args.is_over l.rest.now c.in-Some.after.now l.number l.book c.answer_front.new.book c.in-Ok.answered.text.items due one in
     record {
       so_far = λ p right.
-          at_hand_more p right c.args.is_over c.args.input.now l.gathered.text.items c.add.new.self.text.items l.rest.now c.in-Some.behind.now c.args.book.now l.book
+          at_hand_more p right c.args.is_over c.args.input.now l.gathered.text.items c.add.new.self.text.items l.rest.now c.in-Some.after.now c.args.book.now l.book
           c.answer_front.new.book c.args.first l.number _ _ _ c.in-Ok.answered.text.items (l.invariant.so_far p right) due one
           (rw c.deref.ensures.value at c.in_ok-add.ensures.added);
       same = c.in_ok-add.ensures.kept ∙ l.invariant.same;

@@ -61,18 +61,14 @@ pub returns-in_err-left-clause-taken : goal.returns-in_err-left-clause-taken
 returns-in_err-left-clause-taken g c =
     let l = c.loop-is_over in
     let t = c.in_ok-is_over.ensures.piece in
-    let s =
-    stands_later c.in_ok-is_over.is_over l.input.bytes.items c.take_piece.new.self.bytes.items l.book l.number l.input.taken c.take_piece.new.self.taken _ _ _ _ _
-    (rw c.loop-is_over-test.true at l.invariant.stands) t in
+    let s = stands_later _ _ _ _ _ c.loop-is_over-test.true l.invariant.stands t in
     stands_taken c.in_ok-is_over.is_over c.take_piece.new.self.bytes.items l.book l.number c.take_piece.new.self.taken _ _ _ _ s t.6
 
 pub returns-in_err-left-clause-fault : goal.returns-in_err-left-clause-fault
 returns-in_err-left-clause-fault g c =
     let l = c.loop-is_over in
     let t = c.in_ok-is_over.ensures.piece in
-    let s =
-    stands_later c.in_ok-is_over.is_over l.input.bytes.items c.take_piece.new.self.bytes.items l.book l.number l.input.taken c.take_piece.new.self.taken _ _ _ _ _
-    (rw c.loop-is_over-test.true at l.invariant.stands) t in
+    let s = stands_later _ _ _ _ _ c.loop-is_over-test.true l.invariant.stands t in
     handed_on c.from_residual-in_err-left.result c.in_err-left.field-0.0 _ c.from_residual-in_err-left.ensures
     (λ p right.
     stands_stopped p right c.in_ok-is_over.is_over c.take_piece.new.self.bytes.items l.book l.number c.take_piece.new.self.taken _ _ _ _ _ c.in_err-left.field-0.0 _ _ _ _ _ s t.6
@@ -82,9 +78,7 @@ pub returns-in_default-clause-answered : goal.returns-in_default-clause-answered
 returns-in_default-clause-answered g c =
     let l = c.loop-is_over in
     let t = c.in_ok-is_over.ensures.piece in
-    let s =
-    stands_later c.in_ok-is_over.is_over l.input.bytes.items c.take_piece.new.self.bytes.items l.book l.number l.input.taken c.take_piece.new.self.taken _ _ _ _ _
-    (rw c.loop-is_over-test.true at l.invariant.stands) t in
+    let s = stands_later _ _ _ _ _ c.loop-is_over-test.true l.invariant.stands t in
     λ p right.
     stands_ended_ill p right c.in_ok-is_over.is_over c.take_piece.new.self.bytes.items l.book l.number c.take_piece.new.self.taken _ _ _ _ _ s t.6
     ((rw (c.in_default.is, c.deref.ensures.value) at c.in_ok-left.ensures.answered) p right)
@@ -93,27 +87,21 @@ pub returns-in_default-clause-taken : goal.returns-in_default-clause-taken
 returns-in_default-clause-taken g c =
     let l = c.loop-is_over in
     let t = c.in_ok-is_over.ensures.piece in
-    let s =
-    stands_later c.in_ok-is_over.is_over l.input.bytes.items c.take_piece.new.self.bytes.items l.book l.number l.input.taken c.take_piece.new.self.taken _ _ _ _ _
-    (rw c.loop-is_over-test.true at l.invariant.stands) t in
+    let s = stands_later _ _ _ _ _ c.loop-is_over-test.true l.invariant.stands t in
     stands_taken c.in_ok-is_over.is_over c.take_piece.new.self.bytes.items l.book l.number c.take_piece.new.self.taken _ _ _ _ s t.6
 
 pub returns-in_err-rest-clause-taken : goal.returns-in_err-rest-clause-taken
 returns-in_err-rest-clause-taken g c =
     let l = c.loop-is_over in
     let t = c.in_ok-is_over.ensures.piece in
-    let s =
-    stands_later c.in_ok-is_over.is_over l.input.bytes.items c.take_piece.new.self.bytes.items l.book l.number l.input.taken c.take_piece.new.self.taken _ _ _ _ _
-    (rw c.loop-is_over-test.true at l.invariant.stands) t in
+    let s = stands_later _ _ _ _ _ c.loop-is_over-test.true l.invariant.stands t in
     stands_taken c.in_ok-is_over.is_over c.take_piece.new.self.bytes.items l.book l.number c.take_piece.new.self.taken _ _ _ _ s t.6
 
 pub returns-in_err-rest-clause-fault : goal.returns-in_err-rest-clause-fault
 returns-in_err-rest-clause-fault g c =
     let l = c.loop-is_over in
     let t = c.in_ok-is_over.ensures.piece in
-    let s =
-    stands_later c.in_ok-is_over.is_over l.input.bytes.items c.take_piece.new.self.bytes.items l.book l.number l.input.taken c.take_piece.new.self.taken _ _ _ _ _
-    (rw c.loop-is_over-test.true at l.invariant.stands) t in
+    let s = stands_later _ _ _ _ _ c.loop-is_over-test.true l.invariant.stands t in
     let a = rw (c.in-Some.is, c.deref.ensures.value) at c.in_ok-left.ensures.answered in
     let s' =
     stands_further c.in_ok-is_over.is_over c.take_piece.new.self.bytes.items c.in-Some.left.rest.now l.book c.answer_due.new.book l.number c.in-Some.left.number
@@ -135,9 +123,7 @@ pub loop-is_over-preserved-then-is_due : goal.loop-is_over-preserved-then-is_due
 loop-is_over-preserved-then-is_due g c =
     let l = c.loop-is_over in
     let t = c.in_ok-is_over.ensures.piece in
-    let s =
-    stands_later c.in_ok-is_over.is_over l.input.bytes.items c.take_piece.new.self.bytes.items l.book l.number l.input.taken c.take_piece.new.self.taken _ _ _ _ _
-    (rw c.loop-is_over-test.true at l.invariant.stands) t in
+    let s = stands_later _ _ _ _ _ c.loop-is_over-test.true l.invariant.stands t in
     let a = rw (c.in-Some.is, c.deref.ensures.value) at c.in_ok-left.ensures.answered in
     let s' =
     stands_further c.in_ok-is_over.is_over c.take_piece.new.self.bytes.items c.in-Some.left.rest.now l.book c.answer_due.new.book l.number c.in-Some.left.number
@@ -166,8 +152,7 @@ loop-is_over-preserved g c =
     let l = c.loop-is_over in
     let t = c.in_ok-is_over.ensures.piece in
     record {
-      stands = stands_later c.in_ok-is_over.is_over l.input.bytes.items c.take_piece.new.self.bytes.items l.book l.number l.input.taken c.take_piece.new.self.taken _ _ _ _ _
-          (rw c.loop-is_over-test.true at l.invariant.stands) t;
+      stands = stands_later _ _ _ _ _ c.loop-is_over-test.true l.invariant.stands t;
       unfinished = sym c.is_due.ensures ∙ c.if-is_due.false;
       reads = c.in_ok-is_over.ensures.kept ∙ l.invariant.reads;
       writes = l.invariant.writes;

@@ -2,11 +2,11 @@ use Rattle.std.proofs.Common.{◌≡◌, nat_eq, Ok, Some, None, sym, ap, ◌∙
 use Rattle.std.specs.Map.{lookup}
 use Rattle.std.proofs.lemmas.Result.{err_from_is_err_and}
 use Rattle.indexmap.specs.IndexMap.{insert_entry}
+use Rattle.pf_request.specs.View.{view_of_call}
 use Rattle.pf_desks.specs.Desk.{Desk, no_desk}
 use Rattle.pf_desks.specs.World.{World, desk_at, put_desk}
 use Rattle.pf_book.specs.Answers.{DeskAnswers}
 use Rattle.pf_book.specs.Kept.{CountsAll}
-use Rattle.pf_book.specs.View.{call_seen}
 use Rattle.pf_book.proofs.Counts.{counts_one, counts_put}
 use Rattle.pf_book.proofs.Placed.{at_some, at_none, put_set, put_same, put_insert, answers, answers_all, empty_room}
 use Rattle.pf_book.proofs.book.Book.call.Goals as goal
@@ -40,7 +40,7 @@ returns-in-Some c =
     let here : desk_at q c.args.self.now ≡ d = ap (desk_at q) (sym seen) ∙ at_some q es d found in
     let put = (c.get_mut.follows.holds c.call.new.self).0 ∙ put_set q es d c.call.new.self found ∙ ap (put_desk q c.call.new.self) seen in
     let same : put_desk q d c.args.self.now ≡ c.args.self.now = ap (put_desk q d) (sym seen) ∙ put_same q es d found ∙ seen in
-    answers_all q c.args.self.now (call_seen c.args.call) d c.call.new.self here _ put same c.call.result c.call.ensures.answer
+    answers_all q c.args.self.now (view_of_call c.args.call) d c.call.new.self here _ put same c.call.result c.call.ensures.answer
 
 pub returns-in_err-reserve : goal.returns-in_err-reserve
 returns-in_err-reserve c =
@@ -89,6 +89,6 @@ returns c =
     ∙ ap (λ (w : World). insert_entry nat_eq w q d') (c.reserve.ensures.entries ∙ ap (λ m. m.entries) c.get_mut.follows.holds-at-none)
     ∙ put_insert q es d'
     ∙ ap (put_desk q d') seen in
-    let made : DeskAnswers no_desk (call_seen c.args.call) (Ok reply) d' =
-    subst (λ (k : Desk). DeskAnswers k (call_seen c.args.call) (Ok reply) d') c.new-desk.ensures c.in_ok-reply.ensures.answer in
-    answers q c.args.self.now (call_seen c.args.call) no_desk d' here _ put reply made
+    let made : DeskAnswers no_desk (view_of_call c.args.call) (Ok reply) d' =
+    subst (λ (k : Desk). DeskAnswers k (view_of_call c.args.call) (Ok reply) d') c.new-desk.ensures c.in_ok-reply.ensures.answer in
+    answers q c.args.self.now (view_of_call c.args.call) no_desk d' here _ put reply made

@@ -2,27 +2,28 @@ use Rattle.std.proofs.Common.{rules, ◌≡◌, List, [], ◌∷◌, ◌++◌, m
 use Rattle.std.proofs.lemmas.List.{map_push}
 use Rattle.pf_quota.specs.declared.charges.Charge.TheVariants as charge
 use Rattle.pf_quota.specs.Checks.{refusal_of}
+use Rattle.pf_request.specs.View.{view_of_call}
 use Rattle.pf_desks.specs.Desk as desk
-use Rattle.pf_desks.specs.Desk.{Desk, Stored, Trial, called}
+use Rattle.pf_desks.specs.Desk.{Desk, Trial, called}
 use Rattle.pf_desks.specs.Calls.{HasRoom}
 use Rattle.pf_book.specs.Answers.{DeskAnswers}
 use Rattle.pf_book.specs.Kept.{desk_in}
 use Rattle.pf_book.specs.Plans.{with_change, IsPlan}
 use Rattle.pf_book.specs.Users.{holding}
-use Rattle.pf_book.specs.View.{call_seen, reply_seen, entry_seen}
+use Rattle.pf_book.specs.View.{reply_seen, view_of_entry}
 use Rattle.pf_book.specs.declared.entry.Entry.{Entry}
-use Rattle.pf_book.proofs.Called.{has_room, changed_desk, called_answers, called_kept}
+use Rattle.pf_book.proofs.Called.{has_room, changed_desk, called_answers, called_valid}
 use Rattle.pf_book.proofs.desk.Desk.call.Goals as goal
 
 pub invariant_of-self-3 : goal.invariant_of-self-3
 invariant_of-self-3 c =
     let b = c.self.inside in
     let d = desk_in b in
-    let call = call_seen c.args.call in
+    let call = view_of_call c.args.call in
     let plan = c.in_ok-change.field-0 in
     let room = c.make_call_room in
-    let grown : Desk = record { edition = b.edition; modules = room.new.modules.items; trials = room.new.trials.items; history = map entry_seen room.new.history.items } in
-    let same : grown ≡ d = λ i. record { edition = b.edition; modules = room.ensures.modules i; trials = room.ensures.trials i; history = map entry_seen (room.ensures.history i) } in
+    let grown : Desk = record { edition = b.edition; modules = room.new.modules.items; trials = room.new.trials.items; history = map view_of_entry room.new.history.items } in
+    let same : grown ≡ d = λ i. record { edition = b.edition; modules = room.ensures.modules i; trials = room.ensures.trials i; history = map view_of_entry (room.ensures.history i) } in
     let planned : IsPlan d call plan = subst (λ (k : Desk). IsPlan k call plan) same c.in_ok-change.ensures.plan in
     let within : refusal_of b.edition b.usage charge.Call ≡ None = search rules in
     let has : HasRoom d = has_room d b.usage c.self.invariant.sums within in
@@ -30,22 +31,22 @@ invariant_of-self-3 c =
     let made : holding c.carry_out.new.edition c.carry_out.new.modules.items c.carry_out.new.trials.items ≡ with_change (holding d.edition d.modules d.trials) plan.change =
     c.carry_out.ensures.held
     ∙ (λ i. with_change (holding b.edition (room.ensures.modules i) (room.ensures.trials i)) plan.change) in
-    let noted : map entry_seen c.push_reserved.new.self.items ≡ d.history ++ e ∷ [] =
-    ap (map entry_seen) (c.push_reserved.ensures.items ∙ ap (λ (l : List Entry). l ++ plan.noted ∷ []) room.ensures.history)
-    ∙ map_push entry_seen b.history.items plan.noted
+    let noted : map view_of_entry c.push_reserved.new.self.items ≡ d.history ++ e ∷ [] =
+    ap (map view_of_entry) (c.push_reserved.ensures.items ∙ ap (λ (l : List Entry). l ++ plan.noted ∷ []) room.ensures.history)
+    ∙ map_push view_of_entry b.history.items plan.noted
     ∙ ap (λ (x : desk.Entry). d.history ++ x ∷ []) planned.notes in
     let is = changed_desk d plan.change e c.carry_out.new.edition c.carry_out.new.modules.items c.carry_out.new.trials.items _ made noted in
-    called_kept d call plan planned has _ is _ refl refl c.carry_out.ensures.edition c.carry_out.ensures.counts c.self.invariant.legal
+    called_valid d call plan planned has _ is _ refl refl c.carry_out.ensures.edition c.carry_out.ensures.counts c.self.invariant.legal
 
 pub returns-clause-answer : goal.returns-clause-answer
 returns-clause-answer c =
     let b = c.self.inside in
     let d = desk_in b in
-    let call = call_seen c.args.call in
+    let call = view_of_call c.args.call in
     let plan = c.in_ok-change.field-0 in
     let room = c.make_call_room in
-    let grown : Desk = record { edition = b.edition; modules = room.new.modules.items; trials = room.new.trials.items; history = map entry_seen room.new.history.items } in
-    let same : grown ≡ d = λ i. record { edition = b.edition; modules = room.ensures.modules i; trials = room.ensures.trials i; history = map entry_seen (room.ensures.history i) } in
+    let grown : Desk = record { edition = b.edition; modules = room.new.modules.items; trials = room.new.trials.items; history = map view_of_entry room.new.history.items } in
+    let same : grown ≡ d = λ i. record { edition = b.edition; modules = room.ensures.modules i; trials = room.ensures.trials i; history = map view_of_entry (room.ensures.history i) } in
     let planned : IsPlan d call plan = subst (λ (k : Desk). IsPlan k call plan) same c.in_ok-change.ensures.plan in
     let within : refusal_of b.edition b.usage charge.Call ≡ None = search rules in
     let has : HasRoom d = has_room d b.usage c.self.invariant.sums within in
@@ -53,9 +54,9 @@ returns-clause-answer c =
     let made : holding c.carry_out.new.edition c.carry_out.new.modules.items c.carry_out.new.trials.items ≡ with_change (holding d.edition d.modules d.trials) plan.change =
     c.carry_out.ensures.held
     ∙ (λ i. with_change (holding b.edition (room.ensures.modules i) (room.ensures.trials i)) plan.change) in
-    let noted : map entry_seen c.push_reserved.new.self.items ≡ d.history ++ e ∷ [] =
-    ap (map entry_seen) (c.push_reserved.ensures.items ∙ ap (λ (l : List Entry). l ++ plan.noted ∷ []) room.ensures.history)
-    ∙ map_push entry_seen b.history.items plan.noted
+    let noted : map view_of_entry c.push_reserved.new.self.items ≡ d.history ++ e ∷ [] =
+    ap (map view_of_entry) (c.push_reserved.ensures.items ∙ ap (λ (l : List Entry). l ++ plan.noted ∷ []) room.ensures.history)
+    ∙ map_push view_of_entry b.history.items plan.noted
     ∙ ap (λ (x : desk.Entry). d.history ++ x ∷ []) planned.notes in
     let is = changed_desk d plan.change e c.carry_out.new.edition c.carry_out.new.modules.items c.carry_out.new.trials.items _ made noted in
     let d' =

@@ -5,13 +5,14 @@ use Rattle.pf_quota.specs.declared.usage.Usage.{Usage}
 use Rattle.pf_quota.specs.declared.charges.Held.TheVariants as held
 use Rattle.pf_quota.specs.declared.charges.Charge.TheVariants as charge
 use Rattle.pf_quota.specs.Usage.{Covers, charged, refunded}
+use Rattle.pf_request.specs.Module.{ReadModule}
 use Rattle.pf_store.specs.Sources.{holders, HeldOnceLess}
-use Rattle.pf_desks.specs.Desk.{Desk, Stored, held_at}
+use Rattle.pf_desks.specs.Desk.{Desk, held_at}
 use Rattle.pf_desks.specs.Calls.{usage_in, users_of}
-use Rattle.pf_book.specs.Kept.{desk_in, IsKept}
+use Rattle.pf_book.specs.Kept.{desk_in, IsValid}
 use Rattle.pf_book.specs.Plans.{with_change}
 use Rattle.pf_book.specs.Users.{CountUsers}
-use Rattle.pf_book.specs.View.{reply_seen, entry_seen}
+use Rattle.pf_book.specs.View.{reply_seen, view_of_entry}
 use Rattle.pf_book.specs.declared.plan.Plan.{Plan}
 use Rattle.pf_book.specs.declared.desk.Desk.TheInside.{Inside}
 use Rattle.pf_book.proofs.Counted.{count_is, number_within}
@@ -21,13 +22,13 @@ use Rattle.pf_book.proofs.Sums.{module_covers}
 use Rattle.pf_book.proofs.desk.Desk.withdrawal.Goals as goal
 
 -- the count of a module that is held is that of its users
-counted : (b : Inside) (d : Desk) (n : ℕ) (m : Stored) → IsKept b → desk_in b ≡ d → held_at d.modules n ≡ Some m → slice_index b.users.items (n - 1) ≡ users_of d n
+counted : (b : Inside) (d : Desk) (n : ℕ) (m : ReadModule) → IsValid b → desk_in b ≡ d → held_at d.modules n ≡ Some m → slice_index b.users.items (n - 1) ≡ users_of d n
 counted b d n m kept here found =
     let counts : CountUsers b.users.items b.modules.items b.trials.items = record { counted = kept.counted; exact = kept.users; used = kept.used } in
     let held : IsSome (held_at b.modules.items n) = ap is_some (ap (λ (k : Desk). held_at k.modules n) here ∙ found) in
     count_is b.users.items b.modules.items b.trials.items n held counts ∙ ap (λ (k : Desk). users_of k n) here
 
-within : (b : Inside) (d : Desk) (n : ℕ) (m : Stored) → IsKept b → desk_in b ≡ d → held_at d.modules n ≡ Some m → n - 1 < length b.users.items
+within : (b : Inside) (d : Desk) (n : ℕ) (m : ReadModule) → IsValid b → desk_in b ≡ d → held_at d.modules n ≡ Some m → n - 1 < length b.users.items
 within b d n m kept here found =
     let counts : CountUsers b.users.items b.modules.items b.trials.items = record { counted = kept.counted; exact = kept.users; used = kept.used } in
     let held : IsSome (held_at b.modules.items n) = ap is_some (ap (λ (k : Desk). held_at k.modules n) here ∙ found) in
@@ -45,7 +46,7 @@ returns-then-index-gt0-clause-plan c =
     let some : 0 < users_of d n = omega (arith, users, value, c.if-index-gt0.true) in
     let is = c.withdrawal_refused-then-index-gt0.ensures in
     withdrawal_in_use d c.args.usage c.requires.charged c.withdrawal_refused-then-index-gt0.result n m found some
-    (ap (λ (p : Plan). with_change d p.change) is) (ap (λ (p : Plan). reply_seen p.reply) is) (ap (λ (p : Plan). p.usage) is) (ap (λ (p : Plan). entry_seen p.noted) is)
+    (ap (λ (p : Plan). with_change d p.change) is) (ap (λ (p : Plan). reply_seen p.reply) is) (ap (λ (p : Plan). p.usage) is) (ap (λ (p : Plan). view_of_entry p.noted) is)
 
 pub refund-requires : goal.refund-requires
 refund-requires c =

@@ -23,7 +23,7 @@ returns-in-None c j cs e run =
     (c.in_ok-go.ensures g.last g.stands) in
     let count : length c.loop.self.events.items ≤ length c.args.self.now.events.items + c.args.turns = omega arith in
     let there =
-    same j.stored.code (profile_of cs) (words_of cs) j.limit (start j.root j.edition) c.loop.self.events.items s c.go.new.system c.loop.self.choices c.go.new.choices g w.1 w.2 in
+    same j.asked.code (profile_of cs) (words_of cs) j.asked.limit (start j.asked.root j.asked.edition) c.loop.self.events.items s c.go.new.system c.loop.self.choices c.go.new.choices g w.1 w.2 in
     (there, (omega arith, count, (g.last, subst (λ z. z.standing ≡ Some g.last) (sym w.1) g.stands, inl w.0)))
 
 pub loop-preserved : goal.loop-preserved
@@ -34,11 +34,11 @@ loop-preserved c j cs e run =
     let w =
     subst (λ o. MayHaveGone (c.args.limit - c.steps-in-loop.result) g.last s c.loop.self.choices o c.go.new.system c.go.new.choices) c.in-Some.is
     (c.in_ok-go.ensures g.last g.stands) in
-    let left : c.args.limit - c.steps-in-loop.result ≡ j.limit - s.steps = omega arith in
-    let some : s.steps < j.limit = omega arith in
+    let left : c.args.limit - c.steps-in-loop.result ≡ j.asked.limit - s.steps = omega arith in
+    let some : s.steps < j.asked.limit = omega arith in
     let went = subst (λ n. Went n g.last s c.loop.self.choices c.in-Some.event c.go.new.system c.go.new.choices) left w in
     let there =
-    next j.stored.code (profile_of cs) (words_of cs) j.limit (start j.root j.edition) c.loop.self.events.items s c.go.new.system c.loop.self.choices c.go.new.choices g c.in-Some.event some went in
+    next j.asked.code (profile_of cs) (words_of cs) j.asked.limit (start j.asked.root j.asked.edition) c.loop.self.events.items s c.go.new.system c.loop.self.choices c.go.new.choices g c.in-Some.event some went in
     let more = length_last c.loop.self.events.items c.in-Some.event in
     rw c.in_ok-push-in-Some.ensures.items (there, omega arith)
 

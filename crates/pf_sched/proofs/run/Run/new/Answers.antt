@@ -8,9 +8,9 @@ pub returns-clause-run : goal.returns-clause-run
 returns-clause-run c cs first =
     let j = c.args.job.now in
     let s = c.in_ok-new.field-0 in
-    let stands : s.standing ≡ Some (start j.root j.edition) =
-    ap (λ z. z.standing) c.in_ok-new.ensures ∙ ap (λ k. Some (start k.root c.edition.result)) c.job.view_is
-    ∙ ap (λ e. Some (start j.root e)) c.edition.ensures.edition in
+    let stands : s.standing ≡ Some (start j.asked.root j.asked.edition) =
+    ap (λ z. z.standing) c.in_ok-new.ensures ∙ ap (λ k. Some (start k.asked.root c.edition.result)) c.job.view_is
+    ∙ ap (λ e. Some (start j.asked.root e)) c.edition.ensures.edition in
     rw c.new-2.ensures.items
-    (begins j.stored.code (profile_of cs) (words_of cs) j.limit (start j.root j.edition) s c.args.choices (ap (λ z. z.code) c.in_ok-new.ensures ∙ c.module.ensures) stands
+    (begins j.asked.code (profile_of cs) (words_of cs) j.asked.limit (start j.asked.root j.asked.edition) s c.args.choices (ap (λ z. z.code) c.in_ok-new.ensures ∙ c.module.ensures) stands
     (ap (λ z. z.steps) c.in_ok-new.ensures) first.at first.profile)

@@ -11,9 +11,9 @@ returns c cs run over =
     let j = c.args.job.now in
     let es = c.args.self.events.items in
     let o = c.in_ok-outcome.outcome in
-    let told : c.verdict-verdict.result ≡ verdict j.property (labels_of es) (outcome_of o) =
-    c.verdict-verdict.ensures ∙ ap (λ k. verdict k.property (labels_of c.as_slice.result.now) (outcome_of o)) c.job.view_is
-    ∙ ap (λ xs. verdict j.property (labels_of xs) (outcome_of o)) (c.as_slice.ensures.value ∙ c.shrink_to_fit.ensures.items) in
+    let told : c.verdict-verdict.result ≡ verdict j.asked.property (labels_of es) (outcome_of o) =
+    c.verdict-verdict.ensures ∙ ap (λ k. verdict k.asked.property (labels_of c.as_slice.result.now) (outcome_of o)) c.job.view_is
+    ∙ ap (λ xs. verdict j.asked.property (labels_of xs) (outcome_of o)) (c.as_slice.ensures.value ∙ c.shrink_to_fit.ensures.items) in
     let r : Report = record { events = c.shrink_to_fit.new.self; outcome = o; steps = c.steps-steps.result; verdict = c.verdict-verdict.result } in (
       means j cs es c.args.self.system c.args.self.choices run over.0 over.1 over.2 r c.shrink_to_fit.ensures.items c.in_ok-outcome.ensures.outcome c.steps-steps.ensures told,
       ap length c.shrink_to_fit.ensures.items,

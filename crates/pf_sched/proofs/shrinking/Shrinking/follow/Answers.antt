@@ -5,20 +5,20 @@ use Rattle.pf_model.specs.Shrinking.{is_failure}
 use Rattle.pf_sched.specs.Parts.{events_so_far}
 use Rattle.pf_sched.specs.Slices.{runs_left}
 use Rattle.pf_sched.proofs.Asking.{within_bounds}
-use Rattle.pf_sched.proofs.Hunted.{few_behind}
+use Rattle.pf_sched.proofs.Hunted.{few_before}
 use Rattle.pf_sched.proofs.Sliced.{few_so_far}
 use Rattle.pf_sched.proofs.Shrunk.{fewer_runs, follows_so, hunt_goes_on, report_goes_on}
 use Rattle.pf_sched.proofs.shrinking.Shrinking.follow.Goals as goal
 
-pub overflow_add-behind : goal.overflow_add-behind
-overflow_add-behind c =
+pub overflow_add-after : goal.overflow_add-after
+overflow_add-after c =
     let j = c.args.job.now in
     let s = c.args.self in
     let x = c.requires.shrinking in
-    let bounds = within_bounds j c.requires.kept in
-    let behind = few_behind j c.requires.kept s.hunt s.before x.hunt in
+    let bounds = within_bounds j c.requires.valid in
+    let made = few_before j c.requires.valid s.hunt s.before x.hunt in
     let events = few_so_far j (schedule x.next) s.run x.run in
-    omega (arith, behind, events, bounds.0, c.len.ensures, s.run.events.ok.0)
+    omega (arith, made, events, bounds.0, c.len.ensures, s.run.events.ok.0)
 
 pub begin-requires-clause-hunt : goal.begin-requires-clause-hunt
 begin-requires-clause-hunt c =

@@ -16,7 +16,7 @@ returns-in_default c =
 pub invariant_of-self : goal.invariant_of-self
 invariant_of-self c =
     let h = c.index_mut.result.now in
-    written_kept c.self.inside.modules c.args.source.now c.in-Some.index h (record { stored = h.stored; holders = c.index.result.now.holders - 1 }) c.self.invariant
+    written_kept c.self.inside.modules c.args.source.now c.in-Some.index h (record { «module» = h.module; holders = c.index.result.now.holders - 1 }) c.self.invariant
     c.get_index_of.ensures.unique (sym c.in-Some.ensures.index) c.index_mut.ensures.value (sym c.in-Some.ensures.value ∙ c.index_mut.ensures.value) refl (omega arith)
 
 pub invariant_of-self-else-holders-gt1 : goal.invariant_of-self-else-holders-gt1
@@ -30,7 +30,7 @@ pub returns-then-holders-gt1 : goal.returns-then-holders-gt1
 returns-then-holders-gt1 c =
     let h = c.index_mut.result.now in
     let same = ap (λ x. x.holders) (same_Some h c.index.result.now (sym c.index_mut.ensures.value ∙ c.index.ensures)) in
-    let w : Held = record { stored = h.stored; holders = c.index.result.now.holders - 1 } in
+    let w : Held = record { «module» = h.module; holders = c.index.result.now.holders - 1 } in
     subst (λ k. HeldOnceLess c.args.source.now k (kept_in (with_value_at c.self.inside.modules c.in-Some.index w).entries)) c.self.view_is
     (written_less c.self.inside.modules c.args.source.now c.in-Some.index h w c.self.invariant
     c.get_index_of.ensures.unique (sym c.in-Some.ensures.index) c.index_mut.ensures.value (sym c.in-Some.ensures.value ∙ c.index_mut.ensures.value) (omega arith))

@@ -1,9 +1,10 @@
 use Rattle.std.proofs.Common.{◌≡◌, sym, subst, ap, ◌∙◌, refl, arith}
 use Rattle.std.proofs.lemmas.Option.{same_Some}
 use Rattle.indexmap.specs.IndexMap.{with_value_at}
+use Rattle.pf_module.specs.Reading.{IsReadAs}
 use Rattle.pf_store.specs.declared.store.Held.{Held}
 use Rattle.pf_store.specs.Held.{kept_in}
-use Rattle.pf_store.specs.Sources.{HeldOnceMore, IsReadAs, holders}
+use Rattle.pf_store.specs.Sources.{HeldOnceMore, holders}
 use Rattle.pf_store.proofs.Holding.{nobody_holds, written_kept, written_more, known}
 use Rattle.pf_store.proofs.store.Store.hold_once_more.Goals as goal
 
@@ -14,7 +15,7 @@ returns-in_default-clause-held c =
 pub invariant_of-self : goal.invariant_of-self
 invariant_of-self c =
     let h = c.index_mut.result.now in
-    written_kept c.self.inside.modules c.args.source.now c.in-Some.index h (record { stored = h.stored; holders = c.in-Some-checked_add.holders }) c.self.invariant
+    written_kept c.self.inside.modules c.args.source.now c.in-Some.index h (record { «module» = h.module; holders = c.in-Some-checked_add.holders }) c.self.invariant
     c.get_index_of.ensures.unique (sym c.in-Some.ensures.index) c.index_mut.ensures.value (sym c.in-Some.ensures.value ∙ c.index_mut.ensures.value) refl (omega arith)
 
 pub returns-clause-held : goal.returns-clause-held
@@ -25,10 +26,10 @@ returns-clause-held c =
     let counts : h.holders ≡ c.index-held.result.now.holders = ap (λ x. x.holders) same in
     let found = sym c.in-Some.ensures.value ∙ c.index_mut.ensures.value in
     let of = (known m c.args.source.now c.in-Some.index h h c.self.invariant c.get_index_of.ensures.unique (sym c.in-Some.ensures.index) c.index_mut.ensures.value found).0 in
-    let stored = c.in_ok-stored.ensures ∙ ap (λ x. x.stored) (sym same) in
-    let w : Held = record { stored = h.stored; holders = c.in-Some-checked_add.holders } in (
-      ap (λ s. s.source) stored ∙ of.0,
-      subst (IsReadAs c.args.source.now) (sym stored) of.1,
+    let same_module = c.in_ok-module.ensures ∙ ap (λ x. x.module) (sym same) in
+    let w : Held = record { «module» = h.module; holders = c.in-Some-checked_add.holders } in (
+      ap (λ s. s.source) same_module ∙ of.0,
+      subst (IsReadAs c.args.source.now) (sym same_module) of.1,
       subst (λ k. HeldOnceMore c.args.source.now k (kept_in (with_value_at m c.in-Some.index w).entries)) c.self.view_is
           (written_more m c.args.source.now c.in-Some.index h w c.self.invariant
           c.get_index_of.ensures.unique (sym c.in-Some.ensures.index) c.index_mut.ensures.value found (omega arith)),

@@ -1,6 +1,6 @@
 use Rattle.std.proofs.Common.{◌≡◌, Bool, true, false, not, refl, sym, ap, ◌∙◌}
-use Rattle.pf_wire.specs.Commands.{Line}
-use Rattle.pf_wire.proofs.Wholes.{open_stays}
+use Rattle.pf_lines.specs.Commands.{Line}
+use Rattle.pf_lines.proofs.Completed.{open_stays}
 use Rattle.pf_wire.proofs.stream.Input.take_piece.Goals as goal
 use Rattle.pf_wire.proofs.stream.Input.take_piece.Goals.{then-self, else-self}
 
@@ -11,7 +11,7 @@ not_true false h = refl
 differ : {A : Type 0} → false ≡ true → A
 differ h = absurd cc
 
--- no line ends among bytes and more bytes, where none ends among either
+-- no line ends among bytes and more bytes if none ends among either
 pub invariant_of-self-2 : goal.invariant_of-self-2
 invariant_of-self-2 g c = record {
   «open» = elim c.if-self.branch [

@@ -1,0 +1,13 @@
+use Rattle.std.proofs.Common.{◌≡◌, ap, rules}
+use Rattle.std.proofs.lemmas.Result.{on_ok_weaker}
+use Rattle.pf_terms.specs.Atoms.{name_of}
+use Rattle.pf_model.specs.Reports.{label_of}
+use Rattle.pf_model.specs.Text.{label_text}
+use Rattle.pf_chart.specs.Chart.{twice}
+use Rattle.pf_chart.proofs.Drawn.{in_turn, renamed}
+use Rattle.pf_chart.proofs.events.put_event.Goals as goal
+
+pub returns : goal.returns
+returns c =
+    let text : c.deref.result.now ≡ label_text (name_of c.args.atoms.now) (label_of c.args.event.now.label) = search rules in
+    on_ok_weaker c.put_mark.result (λ h. renamed (ap twice text) (in_turn c.in_ok-put_opening.ensures h)) c.put_mark.ensures

@@ -1,0 +1,6 @@
+use Rattle.std.proofs.lemmas.Result.{on_ok_weaker}
+use Rattle.pf_chart.proofs.Drawn.{in_turn}
+use Rattle.pf_chart.proofs.heads.put_spawn.Goals as goal
+
+pub returns : goal.returns
+returns c = on_ok_weaker c.close_group.result (λ h. in_turn c.in_ok-put.ensures (in_turn c.in_ok-path.ensures h)) c.close_group.ensures

@@ -1,0 +1,5 @@
+pub mod Parsed
+pub mod Alike
+pub mod Alone
+pub mod Told
+pub mod Named

@@ -1,0 +1,503 @@
+-- What the words of the command line ask for.
+use Rattle.std.specs.Prelude.{◌≡◌, ◌⊎◌, ℕ, List, [], ◌∷◌, Option, Some, None, option_map, option_and_then, codes, Bool, true, false, not, ◌==◌, ◌&&◌, ◌||◌, nat_le, nat_lt, if◌then◌else◌}
+use Rattle.std.specs.List.{list_any, before_first, after_first}
+use Rattle.std.specs.Str.{bytes_eq}
+use Rattle.clap.specs.Words.{IsAmong, App, Shape, Rule, Row, Text, new_app, new_rule, with_rule, with_subcommand, Kinds, first_of, subcommand_of, fault_of}
+use Rattle.clap.specs.declared.builder.action.ArgAction.TheVariants.{SetTrue}
+use Rattle.clap.specs.declared.error.kind.ErrorKind.{ErrorKind}
+use Rattle.clap.specs.declared.error.kind.ErrorKind.TheVariants as kind
+use Rattle.pf_model.specs.Meaning.{Choices, seed, schedule, weighted_seed}
+use Rattle.pf_text.specs.Numbers.{number_of, long_number_of, schedule_of}
+use Rattle.pf_request.specs.Request as requests
+use Rattle.pf_request.specs.Request.{Request, Kind}
+use Rattle.pf_request.specs.View.{view_of_request}
+use Rattle.pf_cli.specs.declared.args.Edition.{Edition}
+use Rattle.pf_cli.specs.declared.args.Edition.TheVariants.{First, Second}
+use Rattle.pf_cli.specs.declared.args.Weights.{Weights}
+use Rattle.pf_cli.specs.declared.args.RunArgs as run_code
+use Rattle.pf_cli.specs.declared.args.HuntArgs as hunt_code
+use Rattle.pf_cli.specs.declared.args.Sought as sought_code
+use Rattle.pf_cli.specs.declared.args.Sought.TheVariants.{Failure, Outcomes}
+use Rattle.pf_cli.specs.declared.args.Args as args_code
+use Rattle.pf_cli.specs.declared.args.Args.TheVariants.{Run, Hunt, Shrink, Chart, Check, Steps}
+use Rattle.pf_cli.specs.declared.reading.Reading as reading_code
+use Rattle.pf_cli.specs.declared.reading.Reading.TheVariants as read
+
+-- ---- the words that are taken
+
+-- a file comes without a name before it
+abbrev pub file_rule : Rule
+file_rule = record (new_rule (codes "file")) { value_names = 1 }
+
+-- an option has one value, and may be left out
+abbrev pub option_rule : Text → Rule
+option_rule name = record (new_rule name) { long = Some name; value_names = 1 }
+
+-- an option must be given
+abbrev pub required_rule : Text → Rule
+required_rule name = record (option_rule name) { required = true }
+
+-- a flag has no value, and may be left out
+abbrev pub flag_rule : Text → Rule
+flag_rule name = record (new_rule name) { long = Some name; action = Some SetTrue }
+
+-- all runs have a source and a root: NAME [FILE] --root F
+abbrev pub rooted_app : Text → App
+rooted_app name = with_rule (with_rule (new_app name) file_rule) (required_rule (codes "root"))
+
+-- and bounds, whatever their choices are: --limit N [--edition E]
+abbrev pub bounded_app : Text → App
+bounded_app name = with_rule (with_rule (rooted_app name) (required_rule (codes "limit"))) (option_rule (codes "edition"))
+
+-- a command of one run: after these [--seed N] [--weights R:D]
+abbrev pub weighted_app : Text → App
+weighted_app name = with_rule (with_rule (bounded_app name) (option_rule (codes "seed"))) (option_rule (codes "weights"))
+
+-- and then [--schedule L] [--property P]
+abbrev pub one_run_app : Text → App
+one_run_app name = with_rule (with_rule (weighted_app name) (option_rule (codes "schedule"))) (option_rule (codes "property"))
+
+-- `run` and `chart` take the same words
+abbrev pub run_app : App
+run_app = one_run_app (codes "run")
+
+abbrev pub chart_app : App
+chart_app = one_run_app (codes "chart")
+
+-- what is hunted: hunt [FILE] --root F --limit N [--edition E] --property P --seeds A..B
+abbrev pub seeded_app : App
+seeded_app = with_rule (with_rule (bounded_app (codes "hunt")) (required_rule (codes "property"))) (required_rule (codes "seeds"))
+
+-- and how: after these [--weights R:D] [--workers N]
+abbrev pub working_app : App
+working_app = with_rule (with_rule seeded_app (option_rule (codes "weights"))) (option_rule (codes "workers"))
+
+-- and what is told: [--all] [--shrink N]
+abbrev pub hunt_app : App
+hunt_app = with_rule (with_rule working_app (flag_rule (codes "all"))) (option_rule (codes "shrink"))
+
+-- shrink [FILE] --root F --limit N [--edition E] --schedule L --property P --runs N
+abbrev pub shrink_app : App
+shrink_app =
+    with_rule (with_rule (with_rule (bounded_app (codes "shrink")) (required_rule (codes "schedule"))) (required_rule (codes "property"))) (required_rule (codes "runs"))
+
+-- check [FILE] [--explain]
+abbrev pub check_app : App
+check_app = with_rule (with_rule (new_app (codes "check")) file_rule) (flag_rule (codes "explain"))
+
+-- steps [FILE]
+abbrev pub steps_app : App
+steps_app = with_rule (new_app (codes "steps")) file_rule
+
+-- the program has a version, wants a command, and has no command `help`
+abbrev pub top_shape : Shape
+top_shape =
+    record (new_app (codes "pulsefarm")).top { has_version = true; subcommand_required = true; disable_help_subcommand = true }
+
+-- the program without its commands
+abbrev pub bare_app : App
+bare_app = record (new_app (codes "pulsefarm")) { top = top_shape }
+
+-- with the commands that find a run, and then with those that make something of one
+abbrev pub finding_app : App
+finding_app = with_subcommand (with_subcommand bare_app run_app.top) hunt_app.top
+
+abbrev pub runs_app : App
+runs_app = with_subcommand (with_subcommand finding_app shrink_app.top) chart_app.top
+
+-- the command line
+abbrev pub pulsefarm : App
+pulsefarm = with_subcommand (with_subcommand runs_app check_app.top) steps_app.top
+
+-- ---- what is asked for
+
+-- a run, a chart or a shrinking is asked for: a request of the module that a file holds, in an edition
+pub record RunArgs : Type 0 where
+  pub request : Request
+  pub edition : ℕ
+
+-- what is sought among seeds: the least that fails, whose schedule is shrunk within so many runs where that is asked for; or each outcome
+pub data Sought : Type 0 where
+  failure : (runs : Option ℕ) → Sought
+  outcomes : Sought
+
+-- a hunt is asked for: the request is the run by the seed 0, in whose place the seeds from a first to before an end go; by so many workers if
+-- these are named
+pub record HuntArgs : Type 0 where
+  pub request : Request
+  pub edition : ℕ
+  pub seeds : ℕ × ℕ
+  pub workers : Option ℕ
+  pub sought : Sought
+
+abbrev pub request_by : (root property : Text) → Kind → (limit : ℕ) → Request
+request_by root property kind limit = record { root = root; property = property; kind = kind; limit = limit }
+
+-- a request and an edition, by the limit and the edition that are named
+abbrev pub args_by : (root property : Text) → Kind → (bounds : ℕ × ℕ) → RunArgs
+args_by root property kind bounds = record { request = request_by root property kind bounds.0; edition = bounds.1 }
+
+-- the number that the value of an option is
+abbrev pub number_in : Text → List Row → Option ℕ
+number_in name rows = option_and_then number_of (first_of name rows)
+
+abbrev pub both : Option ℕ → Option ℕ → Option (ℕ × ℕ)
+both (Some a) (Some b) = Some (a, b)
+both _ _ = None
+
+-- the edition is 1 or 2
+abbrev pub as_edition : ℕ → Option ℕ
+as_edition n = if n == 1 || n == 2 then Some n else None
+
+-- where none is named it is 1
+abbrev pub edition_named : Option Text → Option ℕ
+edition_named None = Some 1
+edition_named (Some word) = option_and_then as_edition (number_of word)
+
+-- the limit and the edition
+abbrev pub bounds_in : List Row → Option (ℕ × ℕ)
+bounds_in rows = both (number_in (codes "limit") rows) (edition_named (first_of (codes "edition") rows))
+
+-- a weight is 1 to 9
+abbrev pub as_weight : ℕ → Option ℕ
+as_weight n = if nat_le 1 n && nat_le n 9 then Some n else None
+
+abbrev pub weight_of : Text → Option ℕ
+weight_of text = option_and_then as_weight (number_of text)
+
+-- weights are R:D: that of a process is before the first colon, that of a channel after it
+abbrev pub is_colon : ℕ → Bool
+is_colon c = c == 58
+
+abbrev pub weights_of : Text → Option (ℕ × ℕ)
+weights_of text = both (weight_of (before_first is_colon text)) (weight_of (after_first is_colon text))
+
+-- where none are named it is left open which they are
+abbrev pub weights_named : Option Text → Option (Option (ℕ × ℕ))
+weights_named None = Some None
+weights_named (Some word) = option_map Some (weights_of word)
+
+-- the choices of a seed, by weights where there are any
+abbrev pub seeded : Option (ℕ × ℕ) → ℕ → Choices
+seeded None n = seed n
+seeded (Some w) n = weighted_seed n w.0 w.1
+
+abbrev pub seeded_by : (weights : Option (Option (ℕ × ℕ))) → (number : Option ℕ) → Option Choices
+seeded_by (Some weights) (Some n) = Some (seeded weights n)
+seeded_by _ _ = None
+
+-- a schedule may stand in a file: `@FILE` names it
+abbrev pub file_at : Text → Option Text
+file_at [] = None
+file_at (c ∷ name) = if c == 64 then Some name else None
+
+abbrev pub placed : (text word : Text) → (file : Option Text) → Text
+placed text word None = word
+placed text word (Some file) = text
+
+-- where the text of the file is known, it stands in place of the word that names the file
+abbrev pub in_place : (text : Option Text) → (word : Text) → Text
+in_place None word = word
+in_place (Some text) word = placed text word (file_at word)
+
+abbrev pub numbers_of : (text : Option Text) → (word : Text) → Option (List ℕ)
+numbers_of text word = schedule_of (in_place text word)
+
+-- the choices of a seed or of a schedule; one of the two is given, and not both; weights are given beside a seed alone
+abbrev pub choices_named : (text seeded weighted scheduled : Option Text) → Option Choices
+choices_named text (Some word) weights None = seeded_by (weights_named weights) (long_number_of word)
+choices_named text None None (Some word) = option_map schedule (numbers_of text word)
+choices_named text _ _ _ = None
+
+-- the property that a word names; `returns` where there is none
+abbrev pub property_named : Option Text → Text
+property_named None = codes "returns"
+property_named (Some word) = word
+
+abbrev pub run_asked : (root : Option Text) → (bounds : Option (ℕ × ℕ)) → Option Choices → (property : Text) → Option RunArgs
+run_asked (Some root) (Some bounds) (Some choices) property = Some (args_by root property (requests.run choices) bounds)
+run_asked _ _ _ property = None
+
+abbrev pub choices_in : (text : Option Text) → List Row → Option Choices
+choices_in text rows =
+    choices_named text (first_of (codes "seed") rows) (first_of (codes "weights") rows) (first_of (codes "schedule") rows)
+
+abbrev pub run_of : (text : Option Text) → List Row → Option RunArgs
+run_of text rows =
+    run_asked (first_of (codes "root") rows) (bounds_in rows) (choices_in text rows) (property_named (first_of (codes "property") rows))
+
+abbrev pub shrinking_asked : (root property : Option Text) → (bounds : Option (ℕ × ℕ)) → (runs : Option ℕ) → (schedule : Option (List ℕ)) → Option RunArgs
+shrinking_asked (Some root) (Some property) (Some bounds) (Some runs) (Some numbers) =
+    Some (args_by root property (requests.shrink numbers runs) bounds)
+shrinking_asked _ _ _ _ _ = None
+
+-- the numbers that the schedule is
+abbrev pub schedule_in : (text : Option Text) → List Row → Option (List ℕ)
+schedule_in text rows = option_and_then (numbers_of text) (first_of (codes "schedule") rows)
+
+abbrev pub shrink_of : (text : Option Text) → List Row → Option RunArgs
+shrink_of text rows =
+    shrinking_asked (first_of (codes "root") rows) (first_of (codes "property") rows) (bounds_in rows) (number_in (codes "runs") rows)
+    (schedule_in text rows)
+
+-- seeds are A..B, with A below B: A is before the first dot, B after one dot more
+abbrev pub is_dot : ℕ → Bool
+is_dot c = c == 46
+
+abbrev pub after_dot : List ℕ → Option ℕ
+after_dot [] = None
+after_dot (c ∷ text) = if is_dot c then long_number_of text else None
+
+abbrev pub seeds_between : (first end : Option ℕ) → Option (ℕ × ℕ)
+seeds_between (Some a) (Some b) = if nat_lt a b then Some (a, b) else None
+seeds_between _ _ = None
+
+abbrev pub seeds_of : Text → Option (ℕ × ℕ)
+seeds_of text = seeds_between (long_number_of (before_first is_dot text)) (after_dot (after_first is_dot text))
+
+-- workers are 1 to 64
+abbrev pub as_workers : ℕ → Option ℕ
+as_workers n = if nat_le 1 n && nat_le n 64 then Some n else None
+
+-- where none are named it is left open how many there are
+abbrev pub workers_named : Option Text → Option (Option ℕ)
+workers_named None = Some None
+workers_named (Some word) = option_map Some (option_and_then as_workers (number_of word))
+
+-- a flag that is given has the value `true`
+abbrev pub is_given : Option Text → Bool
+is_given None = false
+is_given (Some value) = bytes_eq value (codes "true")
+
+-- each outcome and a shrinking aren't sought together
+abbrev pub sought_named : (all : Bool) → (shrink : Option Text) → Option Sought
+sought_named false None = Some (failure None)
+sought_named false (Some word) = option_map (λ n. failure (Some n)) (number_of word)
+sought_named true None = Some outcomes
+sought_named true (Some word) = None
+
+abbrev pub sought_in : List Row → Option Sought
+sought_in rows = sought_named (is_given (first_of (codes "all") rows)) (first_of (codes "shrink") rows)
+
+abbrev pub hunt_by : (root property : Text) → Choices → (bounds seeds : ℕ × ℕ) → (workers : Option ℕ) → Sought → HuntArgs
+hunt_by root property choices bounds seeds workers sought =
+    record {
+      request = request_by root property (requests.run choices) bounds.0;
+      edition = bounds.1;
+      seeds = seeds;
+      workers = workers;
+      sought = sought;
+    }
+
+abbrev pub hunt_asked : Option Sought → (root property : Option Text) → (bounds seeds : Option (ℕ × ℕ)) → (weights : Option (Option (ℕ × ℕ))) → (workers : Option (Option ℕ)) → Option HuntArgs
+hunt_asked (Some sought) (Some root) (Some property) (Some bounds) (Some seeds) (Some weights) (Some workers) =
+    Some (hunt_by root property (seeded weights 0) bounds seeds workers sought)
+hunt_asked _ _ _ _ _ _ _ = None
+
+abbrev pub seeds_in : List Row → Option (ℕ × ℕ)
+seeds_in rows = option_and_then seeds_of (first_of (codes "seeds") rows)
+
+abbrev pub weights_in : List Row → Option (Option (ℕ × ℕ))
+weights_in rows = weights_named (first_of (codes "weights") rows)
+
+abbrev pub workers_in : List Row → Option (Option ℕ)
+workers_in rows = workers_named (first_of (codes "workers") rows)
+
+abbrev pub hunt_of : List Row → Option HuntArgs
+hunt_of rows =
+    hunt_asked (sought_in rows) (first_of (codes "root") rows) (first_of (codes "property") rows) (bounds_in rows) (seeds_in rows)
+    (weights_in rows) (workers_in rows)
+
+-- whether a refusal is to be explained
+abbrev pub explain_of : List Row → Bool
+explain_of rows = is_given (first_of (codes "explain") rows)
+
+-- a command asks for a run, for a hunt over seeds, for the shrinking of a schedule, for the chart of a run, for a check that may explain what
+-- it refuses, or for the steps that a file lists
+pub data Wanted : Type 0 where
+  run : RunArgs → Wanted
+  hunt : HuntArgs → Wanted
+  shrink : RunArgs → Wanted
+  chart : RunArgs → Wanted
+  check : (explain : Bool) → Wanted
+  steps : Wanted
+
+-- what a command without runs of its own asks for
+abbrev pub of_other : Text → List Row → Option Wanted
+of_other name rows =
+    if bytes_eq name (codes "check") then Some (check (explain_of rows))
+    else (if bytes_eq name (codes "steps") then Some steps else None)
+
+-- what the command of this name asks for by the values of its options, and by the text of its schedule's file where it is known
+abbrev pub of_command : (text : Option Text) → (name : Text) → List Row → Option Wanted
+of_command text name rows =
+    if bytes_eq name (codes "run") then option_map run (run_of text rows)
+    else (if bytes_eq name (codes "chart") then option_map chart (run_of text rows)
+    else (if bytes_eq name (codes "hunt") then option_map hunt (hunt_of rows)
+    else (if bytes_eq name (codes "shrink") then option_map shrink (shrink_of text rows) else of_other name rows)))
+
+abbrev pub asked : {T : Type 0} → (Text → List Row → Option T) → Option (Text × List Row) → Option T
+asked read None = None
+asked read (Some p) = read p.0 p.1
+
+abbrev pub unless_refused : {T : Type 0} → Kinds → Option T → Option T
+unless_refused [] r = r
+unless_refused (k ∷ ks) r = None
+
+-- what the words ask for, the first of which names the program, with a text in place of the file that they name for a schedule; nothing where
+-- they are refused, or ask for help or the version
+unfoldable pub wanted_by : (text : Option Text) → List Text → Option Wanted
+wanted_by text words = unless_refused (fault_of pulsefarm words) (asked (of_command text) (subcommand_of pulsefarm words))
+
+-- what the words ask for as they stand
+abbrev pub wanted_of : List Text → Option Wanted
+wanted_of words = wanted_by None words
+
+-- the file that a word names; the word `-` names none
+abbrev pub file_named : Option Text → Option Text
+file_named None = None
+file_named (Some name) = if bytes_eq name (codes "-") then None else Some name
+
+-- the file of the source or of the steps; none where it is the standard input
+unfoldable pub file_of : List Text → Option Text
+file_of words = asked (λ name rows. file_named (first_of (codes "file") rows)) (subcommand_of pulsefarm words)
+
+-- the file that the words name for a schedule
+unfoldable pub schedule_file_of : List Text → Option Text
+schedule_file_of words = asked (λ name rows. option_and_then file_at (first_of (codes "schedule") rows)) (subcommand_of pulsefarm words)
+
+-- the number of an edition
+abbrev pub edition_number : Edition → ℕ
+edition_number First = 1
+edition_number Second = 2
+
+-- ---- what the code's own stand for
+
+abbrev pub weights_by : Weights → ℕ × ℕ
+weights_by w = (w.run, w.deliver)
+
+abbrev pub sought_by : sought_code.Sought → Sought
+sought_by (Failure runs) = failure runs
+sought_by Outcomes = outcomes
+
+abbrev pub view_of_run_args : run_code.RunArgs → RunArgs
+view_of_run_args a = record { request = view_of_request a.request; edition = edition_number a.edition }
+
+abbrev pub view_of_hunt_args : hunt_code.HuntArgs → HuntArgs
+view_of_hunt_args a =
+    record {
+      request = view_of_request a.request;
+      edition = edition_number a.edition;
+      seeds = (a.first, a.end);
+      workers = a.workers;
+      sought = sought_by a.sought;
+    }
+
+abbrev pub view_of_args : args_code.Args → Wanted
+view_of_args (Run a) = run (view_of_run_args a)
+view_of_args (Hunt a) = hunt (view_of_hunt_args a)
+view_of_args (Chart a) = chart (view_of_run_args a)
+view_of_args (Shrink a) = shrink (view_of_run_args a)
+view_of_args (Check a) = check a.explain
+view_of_args (Steps a) = steps
+
+abbrev pub named_file : args_code.Args → Option Text
+named_file (Run a) = option_map (λ s. s.now) a.file
+named_file (Hunt a) = option_map (λ s. s.now) a.file
+named_file (Chart a) = option_map (λ s. s.now) a.file
+named_file (Shrink a) = option_map (λ s. s.now) a.file
+named_file (Check a) = option_map (λ s. s.now) a.file
+named_file (Steps a) = option_map (λ s. s.now) a.file
+
+-- ---- words that ask for nothing
+
+-- the kinds that ask for a text
+abbrev pub is_shown : ErrorKind → Bool
+is_shown kind.DisplayHelp = true
+is_shown kind.DisplayVersion = true
+is_shown _ = false
+
+-- help and the version are no fault
+abbrev pub status_of_kind : ErrorKind → ℕ
+status_of_kind k = if is_shown k then 0 else 2
+
+-- a seed or weights beside a schedule, neither a seed nor a schedule, or else a value that is none
+abbrev pub values_fault : (seeded weighted scheduled : Option Text) → ErrorKind
+values_fault (Some _) _ (Some _) = kind.ArgumentConflict
+values_fault None (Some _) (Some _) = kind.ArgumentConflict
+values_fault None _ None = kind.MissingRequiredArgument
+values_fault _ _ _ = kind.InvalidValue
+
+abbrev pub run_fault : List Row → ErrorKind
+run_fault rows = values_fault (first_of (codes "seed") rows) (first_of (codes "weights") rows) (first_of (codes "schedule") rows)
+
+-- each outcome beside a shrinking, or else a value that is none
+abbrev pub sought_fault : (all : Bool) → (shrink : Option Text) → ErrorKind
+sought_fault true (Some _) = kind.ArgumentConflict
+sought_fault _ _ = kind.InvalidValue
+
+abbrev pub hunt_fault : List Row → ErrorKind
+hunt_fault rows = sought_fault (is_given (first_of (codes "all") rows)) (first_of (codes "shrink") rows)
+
+abbrev pub fault_under : Text → List Row → ErrorKind
+fault_under name rows =
+    if bytes_eq name (codes "run") then run_fault rows
+    else (if bytes_eq name (codes "chart") then run_fault rows
+    else (if bytes_eq name (codes "hunt") then hunt_fault rows else kind.InvalidValue))
+
+abbrev pub own_fault : Option (Text × List Row) → ErrorKind
+own_fault None = kind.InvalidValue
+own_fault (Some p) = fault_under p.0 p.1
+
+-- what the command line finds in the words, or else the fault of a command's values
+abbrev pub IsFaultBy : (text : Option Text) → ErrorKind → List Text → Type 0
+IsFaultBy text k words =
+    (wanted_by text words ≡ None)
+    × (IsAmong k (fault_of pulsefarm words) ⊎ ((fault_of pulsefarm words ≡ []) × (k ≡ own_fault (subcommand_of pulsefarm words))))
+
+abbrev pub IsFaultOf : ErrorKind → List Text → Type 0
+IsFaultOf k words = IsFaultBy None k words
+
+-- the status of words that ask for no work: 0 where they ask for help or the version, else 2
+unfoldable pub words_status : List Text → ℕ
+words_status words = if list_any is_shown (fault_of pulsefarm words) then 0 else 2
+
+-- words that ask for nothing have the status of each kind that they may fail by
+abbrev pub StatusesAgree : Type 0
+StatusesAgree = (words : List Text) (k : ErrorKind) → IsFaultOf k words → status_of_kind k ≡ words_status words
+
+-- ---- what words come to
+
+-- work, on this file; a schedule to be read first, from this file; or a text, with the status that the program ends with, which tells a fault or
+-- doesn't
+pub data Reading : Type 0 where
+  works : Wanted → (file : Option Text) → Reading
+  reads : (file : Text) → Reading
+  tells : (status : ℕ) → (is_fault : Bool) → Reading
+
+abbrev pub told : (status : ℕ) → Reading
+told status = tells status (not (status == 0))
+
+abbrev pub works_by : Wanted → (file schedule_file : Option Text) → Reading
+works_by wanted file None = works wanted file
+works_by wanted file (Some schedule_file) = reads schedule_file
+
+-- without work a text is told; with it the file of the schedule is read first, where there is one
+abbrev pub reading_by : Option Wanted → (file schedule_file : Option Text) → (status : ℕ) → Reading
+reading_by None file schedule_file status = told status
+reading_by (Some wanted) file schedule_file status = works_by wanted file schedule_file
+
+-- what the words come to, with a text in place of the file of the schedule; where the text isn't known yet, whether they ask for work is told by a
+-- schedule of no numbers
+abbrev pub reading_of : (text : Option Text) → List Text → Reading
+reading_of None words = reading_by (wanted_by (Some (codes "none")) words) (file_of words) (schedule_file_of words) (words_status words)
+reading_of (Some text) words = reading_by (wanted_by (Some text) words) (file_of words) None (words_status words)
+
+abbrev pub view_of_reading : reading_code.Reading → Reading
+view_of_reading (read.Args args) = works (view_of_args args) (named_file args)
+view_of_reading (read.ScheduleIn file) = reads file.now
+view_of_reading (read.Text text status is_fault) = tells status is_fault
+
+-- a text for a schedule changes nothing of words that name no file for it
+abbrev pub StandsAlone : Type 0
+StandsAlone = (text : Text) (words : List Text) → schedule_file_of words ≡ None → wanted_by (Some text) words ≡ wanted_of words

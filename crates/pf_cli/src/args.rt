@@ -1,0 +1,141 @@
+//! What the words of a command line ask for.
+
+ghost use Rattle.std.specs.Prelude.{◌≡◌, true};
+ghost use Rattle.pf_model.specs.Meaning.{weighted_seed};
+ghost use Rattle.pf_request.specs.Request.{choices_in, may_weigh};
+ghost use Rattle.pf_request.specs.View.{view_of_kind};
+
+use pf_request::{Request, RunChoices};
+
+/// Which limits runs have.
+#[derive(Drop, Clone, Copy)]
+pub enum Edition {
+    First,
+    Second,
+}
+
+impl Edition {
+    ghost use Rattle.std.specs.Prelude.{◌≡◌};
+    ghost use Rattle.pf_model.specs.Limits.{IsEdition};
+    ghost use Rattle.pf_cli.specs.Args.{edition_number};
+
+    /// Its number, 1 or 2.
+    pub fn number(self) -> u32
+        ensures number { result ≡ edition_number self }
+        ensures known { IsEdition result }
+    {
+        match self {
+            Edition::First => 1,
+            Edition::Second => 2,
+        }
+    }
+}
+
+/// The weight of a process and that of a channel, each from 1 to 9.
+#[derive(Drop, Clone, Copy)]
+pub(crate) struct Weights {
+    pub run: u32,
+    pub deliver: u32,
+    ghost within: { may_weigh (weighted_seed 0 run deliver) ≡ true },
+}
+
+impl Weights {
+    ghost use Rattle.std.specs.Prelude.{◌≡◌, true, option_map};
+    ghost use Rattle.pf_request.specs.Request.{may_weigh};
+    ghost use Rattle.pf_request.specs.View.{view_of_choices};
+    ghost use Rattle.pf_cli.specs.Args.{seeded, weights_by};
+
+    /// The choices of a seed, by weights where there are any.
+    pub(crate) fn seeded(weights: Option<Weights>, seed: u64) -> RunChoices
+        ensures choices { view_of_choices result ≡ seeded (option_map weights_by weights) seed }
+        ensures weighs { may_weigh (view_of_choices result) ≡ true }
+    {
+        match weights {
+            Some(Weights { run, deliver }) => RunChoices::Weighted { seed, run, deliver },
+            None => RunChoices::Seed(seed),
+        }
+    }
+}
+
+/// What `run`, `chart` or `shrink` asks for: a request of the module that a file holds, in an edition.
+#[derive(Drop)]
+pub struct RunArgs<'a> {
+    /// The file of the source; the standard input where there is none.
+    pub file: Option<&'a str>,
+    pub request: Request,
+    /// The edition of each run.
+    pub edition: Edition,
+    ghost weighs: { may_weigh (choices_in (view_of_kind request.kind)) ≡ true },
+}
+
+/// What is sought among seeds.
+#[derive(Drop, Clone, Copy)]
+pub enum Sought {
+    /// The least seed whose run fails; with runs its schedule is shrunk too.
+    Failure { runs: Option<u32> },
+    /// Each outcome that is met.
+    Outcomes,
+}
+
+/// What `hunt` asks for: `request` is the run by the seed 0, by the weights that are named, in whose place those by the seeds from `first` to
+/// before `end` go.
+#[derive(Drop)]
+pub struct HuntArgs<'a> {
+    /// The file of the source; the standard input where there is none.
+    pub file: Option<&'a str>,
+    pub request: Request,
+    /// The edition of each run.
+    pub edition: Edition,
+    /// The first seed.
+    pub first: u64,
+    /// The seed before which the hunt ends; above the first.
+    pub end: u64,
+    /// How many threads run seeds, from 1 to 64, where it is named.
+    pub workers: Option<u32>,
+    pub sought: Sought,
+    ghost weighs: { may_weigh (choices_in (view_of_kind request.kind)) ≡ true },
+}
+
+/// What `check` asks for.
+#[derive(Drop)]
+pub struct CheckArgs<'a> {
+    /// The file of the source; the standard input where there is none.
+    pub file: Option<&'a str>,
+    /// Whether a refusal is explained.
+    pub explain: bool,
+}
+
+/// What `steps` asks for.
+#[derive(Drop)]
+pub struct StepsArgs<'a> {
+    /// The file of the commands; the standard input where there is none.
+    pub file: Option<&'a str>,
+}
+
+/// What the words ask for.
+#[derive(Drop)]
+pub enum Args<'a> {
+    Run(RunArgs<'a>),
+    Hunt(HuntArgs<'a>),
+    Chart(RunArgs<'a>),
+    Shrink(RunArgs<'a>),
+    Check(CheckArgs<'a>),
+    Steps(StepsArgs<'a>),
+}
+
+impl<'a> Args<'a> {
+    ghost use Rattle.std.specs.Prelude.{◌≡◌, option_map};
+    ghost use Rattle.pf_cli.specs.Args.{named_file};
+
+    /// The file that is read; the standard input where there is none.
+    pub fn file(&self) -> Option<&'a str>
+        ensures { option_map (λ s. s.now) result ≡ named_file self.now }
+    {
+        match self {
+            Args::Run(args) | Args::Chart(args) | Args::Shrink(args) => args.file,
+            Args::Hunt(args) => args.file,
+            Args::Check(args) => args.file,
+            Args::Steps(args) => args.file,
+        }
+    }
+}

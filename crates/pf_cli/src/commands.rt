@@ -1,0 +1,322 @@
+//! The commands as the command line takes them, with the texts of their help.
+
+ghost use Rattle.std.specs.Prelude.{◌≡◌, IfOk, false, codes};
+ghost use Rattle.clap.specs.Words.{app_of, rule_of, new_app};
+ghost use Rattle.clap.specs.declared.builder.command.Command.TheViews.{out-Command};
+ghost use Rattle.pf_cli.specs.Args.{bare_app, bounded_app, chart_app, check_app, file_rule, flag_rule, finding_app, hunt_app, one_run_app, option_rule, pulsefarm, required_rule, rooted_app, run_app, runs_app, seeded_app, shrink_app, steps_app, weighted_app, working_app};
+
+use clap::{Arg, ArgAction, Command};
+use std::alloc::{AllocError, Global};
+
+const SOURCE_HELP: &str =
+    "File of the module's source, at most 65,536 bytes; `-` is standard input [default: -]";
+
+const SCHEDULE_HELP: &str =
+    "Scheduler's numbers, each from 0 to 4294967295, at most 100,000 with commas between them, or `none`";
+
+const FAILING_HELP: &str =
+    "Property that fails: `returns`, `true`, `nocrash`, `nodeadlock`, `withinlimit` or `never:PATTERN`";
+
+const JUDGING_HELP: &str =
+    "Property that each run is judged by: `returns`, `true`, `nocrash`, `nodeadlock`, `withinlimit` or `never:PATTERN`";
+
+const RUN_USAGE: &str =
+    "pulsefarm run [OPTIONS] --root <F> --limit <N> <--seed <N>|--schedule <L>> [FILE]";
+
+const CHART_USAGE: &str =
+    "pulsefarm chart [OPTIONS] --root <F> --limit <N> <--seed <N>|--schedule <L>> [FILE]";
+
+/// A file that comes without a name before it.
+fn file<'a>(alloc: Global, help: &'a str) -> Arg<'a>
+    ensures rule { rule_of result ≡ file_rule }
+    ensures local { result.global ≡ false }
+{
+    Arg::new(alloc, "file").value_name("FILE").help(help)
+}
+
+/// An option with its one value, which may be left out.
+fn option<'a>(alloc: Global, name: &'a str, value: &'a str, help: &'a str) -> Arg<'a>
+    ensures rule { rule_of result ≡ option_rule name.entry.now }
+    ensures local { result.global ≡ false }
+{
+    Arg::new(alloc, name)
+        .long(name)
+        .value_name(value)
+        .help(help)
+}
+
+/// An option that must be given.
+fn required<'a>(alloc: Global, name: &'a str, value: &'a str, help: &'a str) -> Arg<'a>
+    ensures rule { rule_of result ≡ required_rule name.entry.now }
+    ensures local { result.global ≡ false }
+{
+    option(alloc, name, value, help).required(true)
+}
+
+/// An option without a value, which may be left out.
+fn flag<'a>(alloc: Global, name: &'a str, help: &'a str) -> Arg<'a>
+    ensures rule { rule_of result ≡ flag_rule name.entry.now }
+    ensures local { result.global ≡ false }
+{
+    Arg::new(alloc, name)
+        .long(name)
+        .action(ArgAction::SetTrue)
+        .help(help)
+}
+
+fn root<'a>(alloc: Global) -> Arg<'a>
+    ensures rule { rule_of result ≡ required_rule (codes "root") }
+    ensures local { result.global ≡ false }
+{
+    let help = "Name of the function that runs first, exported and without arguments";
+    required(alloc, "root", "F", help)
+}
+
+fn limit<'a>(alloc: Global) -> Arg<'a>
+    ensures rule { rule_of result ≡ required_rule (codes "limit") }
+    ensures local { result.global ≡ false }
+{
+    let help = "Most steps of a run, from 1 to 100,000";
+    required(alloc, "limit", "N", help)
+}
+
+fn edition<'a>(alloc: Global) -> Arg<'a>
+    ensures rule { rule_of result ≡ option_rule (codes "edition") }
+    ensures local { result.global ≡ false }
+{
+    let help = "Edition, 1 with at most 256 processes in a run or 2 with 1,024 [default: 1]";
+    option(alloc, "edition", "E", help)
+}
+
+fn seed<'a>(alloc: Global) -> Arg<'a>
+    ensures rule { rule_of result ≡ option_rule (codes "seed") }
+    ensures local { result.global ≡ false }
+{
+    let help = "Seed of the scheduler's numbers, from 0 to 18446744073709551615";
+    option(alloc, "seed", "N", help)
+}
+
+fn weights<'a>(alloc: Global) -> Arg<'a>
+    ensures rule { rule_of result ≡ option_rule (codes "weights") }
+    ensures local { result.global ≡ false }
+{
+    let help =
+        "Weight of a process and that of a channel where a seed chooses, each from 1 to 9 [default: 1:1]";
+    option(alloc, "weights", "R:D", help)
+}
+
+fn schedule<'a>(alloc: Global) -> Arg<'a>
+    ensures rule { rule_of result ≡ option_rule (codes "schedule") }
+    ensures local { result.global ≡ false }
+{
+    option(alloc, "schedule", "L", SCHEDULE_HELP)
+}
+
+fn property<'a>(alloc: Global) -> Arg<'a>
+    ensures rule { rule_of result ≡ option_rule (codes "property") }
+    ensures local { result.global ≡ false }
+{
+    let help =
+        "Property that the run is judged by: `returns`, `true`, `nocrash`, `nodeadlock`, `withinlimit` or `never:PATTERN` [default: returns]";
+    option(alloc, "property", "P", help)
+}
+
+/// A command without its arguments.
+fn bare<'a>(alloc: Global, name: &'a str, about: &'a str) -> Command<'a>
+    ensures app { app_of result ≡ new_app name.entry.now }
+    ensures local { (out-Command result).has_globals ≡ false }
+{
+    Command::new(alloc, name).about(about)
+}
+
+/// A command of runs without the options of its bounds, its choices and its property.
+fn rooted<'a>(alloc: Global, name: &'a str, about: &'a str) -> Result<Command<'a>, AllocError>
+    ensures app { IfOk result (λ c. app_of c ≡ rooted_app name.entry.now) }
+    ensures local { IfOk result (λ c. (out-Command c).has_globals ≡ false) }
+{
+    let rooted = bare(alloc, name, about)
+        .arg(file(alloc, SOURCE_HELP))?
+        .arg(root(alloc))?;
+    Ok(rooted)
+}
+
+/// The same with the options of its bounds.
+fn bounded<'a>(alloc: Global, name: &'a str, about: &'a str) -> Result<Command<'a>, AllocError>
+    ensures app { IfOk result (λ c. app_of c ≡ bounded_app name.entry.now) }
+    ensures local { IfOk result (λ c. (out-Command c).has_globals ≡ false) }
+{
+    let bounded = rooted(alloc, name, about)?
+        .arg(limit(alloc))?
+        .arg(edition(alloc))?;
+    Ok(bounded)
+}
+
+/// A command of one run without its schedule and its property.
+fn weighted<'a>(
+    alloc: Global,
+    name: &'a str,
+    about: &'a str,
+    usage: &'a str,
+) -> Result<Command<'a>, AllocError>
+    ensures app { IfOk result (λ c. app_of c ≡ weighted_app name.entry.now) }
+    ensures local { IfOk result (λ c. (out-Command c).has_globals ≡ false) }
+{
+    let weighted = bounded(alloc, name, about)?
+        .override_usage(usage)
+        .arg(seed(alloc))?
+        .arg(weights(alloc))?;
+    Ok(weighted)
+}
+
+/// A command of one run.
+fn one_run<'a>(
+    alloc: Global,
+    name: &'a str,
+    about: &'a str,
+    usage: &'a str,
+) -> Result<Command<'a>, AllocError>
+    ensures app { IfOk result (λ c. app_of c ≡ one_run_app name.entry.now) }
+    ensures local { IfOk result (λ c. (out-Command c).has_globals ≡ false) }
+{
+    let run = weighted(alloc, name, about, usage)?
+        .arg(schedule(alloc))?
+        .arg(property(alloc))?;
+    Ok(run)
+}
+
+/// `run`.
+pub(crate) fn run_command<'a>(alloc: Global) -> Result<Command<'a>, AllocError>
+    ensures app { IfOk result (λ c. app_of c ≡ run_app) }
+    ensures local { IfOk result (λ c. (out-Command c).has_globals ≡ false) }
+{
+    let about = "Runs a module by a seed or a schedule and reports each turn and delivery";
+    one_run(alloc, "run", about, RUN_USAGE)
+}
+
+/// `chart`.
+pub(crate) fn chart_command<'a>(alloc: Global) -> Result<Command<'a>, AllocError>
+    ensures app { IfOk result (λ c. app_of c ≡ chart_app) }
+    ensures local { IfOk result (λ c. (out-Command c).has_globals ≡ false) }
+{
+    let about = "Draws a run as a message sequence chart in SVG";
+    one_run(alloc, "chart", about, CHART_USAGE)
+}
+
+/// A hunt without the options of how it is done and of what it tells.
+fn seeded<'a>(alloc: Global, about: &'a str) -> Result<Command<'a>, AllocError>
+    ensures app { IfOk result (λ c. app_of c ≡ seeded_app) }
+    ensures local { IfOk result (λ c. (out-Command c).has_globals ≡ false) }
+{
+    let seeds = "Seeds from A to before B, each from 0 to 18446744073709551615";
+    let seeded = bounded(alloc, "hunt", about)?
+        .arg(required(alloc, "property", "P", JUDGING_HELP))?
+        .arg(required(alloc, "seeds", "A..B", seeds))?;
+    Ok(seeded)
+}
+
+/// A hunt without the options of what it tells.
+fn working<'a>(alloc: Global, about: &'a str) -> Result<Command<'a>, AllocError>
+    ensures app { IfOk result (λ c. app_of c ≡ working_app) }
+    ensures local { IfOk result (λ c. (out-Command c).has_globals ≡ false) }
+{
+    let workers = "Threads that run seeds, from 1 to 64 [default: the machine's processors]";
+    let working = seeded(alloc, about)?
+        .arg(weights(alloc))?
+        .arg(option(alloc, "workers", "N", workers))?;
+    Ok(working)
+}
+
+/// `hunt`.
+pub(crate) fn hunt_command<'a>(alloc: Global) -> Result<Command<'a>, AllocError>
+    ensures app { IfOk result (λ c. app_of c ≡ hunt_app) }
+    ensures local { IfOk result (λ c. (out-Command c).has_globals ≡ false) }
+{
+    let about = "Runs a module by many seeds and reports the least that fails a property";
+    let all = "Tells each outcome, by how many seeds and the least of them, and runs all seeds";
+    let shrink = "Shrinks the schedule of the seed that fails, within N runs from 1 to 1,000";
+    let hunt = working(alloc, about)?
+        .arg(flag(alloc, "all", all))?
+        .arg(option(alloc, "shrink", "N", shrink))?;
+    Ok(hunt)
+}
+
+/// `shrink`.
+pub(crate) fn shrink_command<'a>(alloc: Global) -> Result<Command<'a>, AllocError>
+    ensures app { IfOk result (λ c. app_of c ≡ shrink_app) }
+    ensures local { IfOk result (λ c. (out-Command c).has_globals ≡ false) }
+{
+    let about = "Shrinks a schedule that fails and reports the run of the schedule that is found";
+    let runs = "Most runs, from 1 to 1,000; that of the given schedule is the first";
+    let shrink = bounded(alloc, "shrink", about)?
+        .arg(required(alloc, "schedule", "L", SCHEDULE_HELP))?
+        .arg(required(alloc, "property", "P", FAILING_HELP))?
+        .arg(required(alloc, "runs", "N", runs))?;
+    Ok(shrink)
+}
+
+fn check_command<'a>(alloc: Global) -> Result<Command<'a>, AllocError>
+    ensures app { IfOk result (λ c. app_of c ≡ check_app) }
+    ensures local { IfOk result (λ c. (out-Command c).has_globals ≡ false) }
+{
+    let about = "Reads a module and tells `ok`, or its first refusal with the place";
+    let explain = "Shows the line of a refusal too, and tells how to mend it";
+    let check = bare(alloc, "check", about)
+        .arg(file(alloc, SOURCE_HELP))?
+        .arg(flag(alloc, "explain", explain))?;
+    Ok(check)
+}
+
+fn steps_command<'a>(alloc: Global) -> Result<Command<'a>, AllocError>
+    ensures app { IfOk result (λ c. app_of c ≡ steps_app) }
+    ensures local { IfOk result (λ c. (out-Command c).has_globals ≡ false) }
+{
+    let about = "Carries out commands, one after another, and answers each as it comes";
+    let commands =
+        "File of the commands, at most 67,108,864 bytes; `-` is standard input [default: -]";
+    let steps = bare(alloc, "steps", about).arg(file(alloc, commands))?;
+    Ok(steps)
+}
+
+/// The program without its commands.
+fn top<'a>(alloc: Global) -> Command<'a>
+    ensures app { app_of result ≡ bare_app }
+    ensures local { (out-Command result).has_globals ≡ false }
+{
+    Command::new(alloc, "pulsefarm")
+        .version("0.1.0")
+        .about("Tests Erlang programs for races")
+        .subcommand_required(true)
+        .disable_help_subcommand(true)
+}
+
+/// The program with the commands that find a run.
+fn commands_that_find<'a>(alloc: Global) -> Result<Command<'a>, AllocError>
+    ensures app { IfOk result (λ c. app_of c ≡ finding_app) }
+    ensures local { IfOk result (λ c. (out-Command c).has_globals ≡ false) }
+{
+    let some = top(alloc)
+        .subcommand(run_command(alloc)?)?
+        .subcommand(hunt_command(alloc)?)?;
+    Ok(some)
+}
+
+/// The program with the commands of runs alone.
+fn commands_of_runs<'a>(alloc: Global) -> Result<Command<'a>, AllocError>
+    ensures app { IfOk result (λ c. app_of c ≡ runs_app) }
+    ensures local { IfOk result (λ c. (out-Command c).has_globals ≡ false) }
+{
+    let more = commands_that_find(alloc)?
+        .subcommand(shrink_command(alloc)?)?
+        .subcommand(chart_command(alloc)?)?;
+    Ok(more)
+}
+
+/// The whole command line.
+pub(crate) fn command<'a>(alloc: Global) -> Result<Command<'a>, AllocError>
+    ensures { IfOk result (λ c. app_of c ≡ pulsefarm) }
+{
+    let whole = commands_of_runs(alloc)?
+        .subcommand(check_command(alloc)?)?
+        .subcommand(steps_command(alloc)?)?;
+    Ok(whole)
+}

@@ -1,0 +1,16 @@
+use Rattle.std.proofs.lemmas.Result.{IfOk-weaker}
+use Rattle.pf_fault.specs.Codes.{refusal_text}
+use Rattle.pf_cli.specs.Args.{view_of_hunt_args}
+use Rattle.pf_command.specs.Answers.{Refuses}
+use Rattle.pf_command.specs.Hunts.{AsksFor, HuntAnswers, TellsSought}
+use Rattle.pf_command.proofs.Rows.{row_refused}
+use Rattle.pf_command.proofs.hunt.answer_hunt.Goals as goal
+
+pub returns-in-Err-Fault : goal.returns-in-Err-Fault
+returns-in-Err-Fault g c =
+    let refusal = c.in-Err-Fault.refusal in
+    let h = view_of_hunt_args c.args.args.now in
+    let bytes = c.args.bytes.items in
+    let reads = rw c.in-Err-Fault.field-0-is at c.in-Err-Fault.ensures.fault in
+    IfOk-weaker c.refused_at.result (λ a. Refuses a (refusal_text refusal.code refusal.place)) (λ a. HuntAnswers h bytes a.text.items a.status)
+    (λ a is. row_refused (AsksFor h h.sought) (λ j. TellsSought h bytes j h.sought) bytes a refusal.code refusal.place reads is) c.refused_at.ensures

@@ -1,0 +1,38 @@
+-- What a source is answered with of which the chart of a run is asked for: the text that goes out and the status.
+use Rattle.std.specs.Prelude.{◌≡◌, ℕ, List, []}
+use Rattle.pf_fault.specs.Codes.{code_text}
+use Rattle.pf_fault.specs.declared.code.Code.TheVariants as code
+use Rattle.pf_terms.specs.Atoms.{name_of}
+use Rattle.pf_model.specs.Meaning.{Report}
+use Rattle.pf_model.specs.Shrinking.{Found, Result, IsResult, report, shrunk_to, nothing_fails}
+use Rattle.pf_model.specs.TermText.{line}
+use Rattle.pf_request.specs.Job.{Job}
+use Rattle.pf_chart.specs.Chart.{IsChart}
+use Rattle.pf_cli.specs.Args.{RunArgs}
+use Rattle.pf_command.specs.Answers.{AnswersBy, AsksOf, Refuses, names_of, run_status}
+use Rattle.pf_command.specs.declared.answer.Answer.{Answer}
+
+-- what is told of a job from this root: a chart of its run with the status of that, or of a shrinking that of the run which it found. If memory
+-- runs out within it nothing is told
+pub data Draws (root : List ℕ) (j : Job) : List ℕ → ℕ → Type 0 where
+  run_drawn : (r : Report) (text : List ℕ) → IsResult j.asked (report r) → IsChart (names_of j) root r [] text
+      → Draws root j text (run_status r.verdict)
+  found_drawn : (f : Found) (r : Report) (text : List ℕ) → IsResult j.asked (shrunk_to f r) → IsChart (names_of j) root r [] text
+      → Draws root j text (run_status r.verdict)
+  none_drawn : IsResult j.asked nothing_fails → Draws root j (line (code_text code.NothingFails)) 2
+
+-- a source of these bytes, of which the chart of a run is asked for, is answered with this text and this status
+abbrev pub ChartAnswers : RunArgs → (bytes text : List ℕ) → ℕ → Type 0
+ChartAnswers a = AnswersBy (AsksOf a) (Draws a.request.root)
+
+-- ---- the code's own answers
+
+-- the answer draws a run, if atoms have these names
+abbrev pub DrawsRun : (atoms : List (List ℕ)) → (root : List ℕ) → Report → Answer → Type 0
+DrawsRun atoms root r a = IsChart (name_of atoms) root r [] a.text.items × (a.status ≡ run_status r.verdict)
+
+-- the answer draws a result
+abbrev pub DrawsResult : (atoms : List (List ℕ)) → (root : List ℕ) → Result → Answer → Type 0
+DrawsResult atoms root (report r) a = DrawsRun atoms root r a
+DrawsResult atoms root (shrunk_to f r) a = DrawsRun atoms root r a
+DrawsResult atoms root nothing_fails a = Refuses a (code_text code.NothingFails)

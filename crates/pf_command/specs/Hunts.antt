@@ -1,0 +1,99 @@
+-- What a source is answered with whose runs by many seeds are asked for: the text that goes out and the status.
+use Rattle.std.specs.Prelude.{◌≡◌, ◌⊎◌, ℕ, ◌-◌, Bool, true, false, if◌then◌else◌, List, [], ◌++◌, map, flat_map, codes, Option, None, Some, Result, Ok, Err}
+use Rattle.std.specs.List.{list_any}
+use Rattle.std.specs.Fmt.{decimal}
+use Rattle.pf_fault.specs.declared.code.Code.{Code}
+use Rattle.pf_model.specs.Meaning.{Report}
+use Rattle.pf_model.specs.Shrinking.{is_failure}
+use Rattle.pf_model.specs.TermText.{line}
+use Rattle.pf_model.specs.Text.{outcome_text, report_text, schedule_text}
+use Rattle.pf_request.specs.Module.{ReadModule}
+use Rattle.pf_request.specs.Request.{shrink}
+use Rattle.pf_request.specs.Job.{Job, memory_report}
+use Rattle.pf_sched.specs.Asked.{Asks}
+use Rattle.pf_hunt.specs.Hunts.{FirstFailing, Tallies}
+use Rattle.pf_hunt.specs.Rows.{Row}
+use Rattle.pf_cli.specs.Args.{HuntArgs, RunArgs, Sought, failure, outcomes}
+use Rattle.pf_command.specs.declared.answer.Answer.{Answer}
+use Rattle.pf_command.specs.Answers.{Answers, AnswersBy, AsksOf, names_of}
+
+-- ---- what is asked for
+
+-- the shrinking of a schedule that a hunt finds
+abbrev pub shrinking_of : HuntArgs → (numbers : List ℕ) → (runs : ℕ) → RunArgs
+shrinking_of h numbers runs = record { request = record h.request { kind = shrink numbers runs }; edition = h.edition }
+
+-- if a schedule is to be shrunk, the shrinking of the empty one isn't refused
+abbrev pub MayShrink : HuntArgs → Sought → ReadModule → Type 0
+MayShrink h (failure (Some runs)) m = (j : Job) × AsksOf (shrinking_of h [] runs) m (Ok j)
+MayShrink h (failure None) m = Unit {0}
+MayShrink h outcomes m = Unit {0}
+
+-- AsksFor h sought m x: the run in whose place those by the seeds go is this job, or what is asked for is refused for this: first the shrinking
+-- of the empty schedule, if one is to be shrunk, and then the run
+pub data AsksFor (h : HuntArgs) : Sought → ReadModule → Result Job Code → Type 0 where
+  shrinking_refused : (runs : ℕ) (m : ReadModule) (code : Code) → AsksOf (shrinking_of h [] runs) m (Err code)
+      → AsksFor h (failure (Some runs)) m (Err code)
+  run_asked : (sought : Sought) (m : ReadModule) (x : Result Job Code) → MayShrink h sought m → Asks m h.edition h.request x
+      → AsksFor h sought m x
+
+-- ---- what is told
+
+-- the choices of a run, event by event: by them as a schedule it runs so again
+abbrev pub choices_of : Report → List ℕ
+choices_of r = map (λ e. e.choice) r.events
+
+abbrev pub none_text : (seeds : ℕ) → List ℕ
+none_text seeds = codes "no failure in " ++ decimal seeds ++ codes " seeds\n"
+
+-- a seed and the choices of its run, each on a line
+abbrev pub seed_text : (seed : ℕ) → (choices : List ℕ) → List ℕ
+seed_text seed choices = codes "seed " ++ decimal seed ++ codes "\nschedule " ++ schedule_text choices ++ codes "\n"
+
+abbrev pub verdict_text : Option Bool → List ℕ
+verdict_text (Some true) = codes "holds "
+verdict_text (Some false) = codes "fails "
+verdict_text None = codes "no verdict "
+
+-- whether the property holds, by how many seeds the outcome was met, the least of them, and the outcome's line
+abbrev pub row_text : (ℕ → List ℕ) → Row → List ℕ
+row_text name x =
+    verdict_text x.verdict ++ decimal x.count ++ codes " seeds, least " ++ decimal x.least ++ codes ": " ++ line (outcome_text name x.outcome)
+
+-- 1 if the property of some run fails, else 0
+abbrev pub rows_status : List Row → ℕ
+rows_status rows = if list_any (λ x. is_failure x.verdict) rows then 1 else 0
+
+-- TellsSought h bytes j sought text status: what is told of the runs of a job by the seeds, by what is sought, if the source has these bytes
+pub data TellsSought (h : HuntArgs) (bytes : List ℕ) (j : Job) : Sought → List ℕ → ℕ → Type 0 where
+  -- no run fails
+  none_fails : (runs : Option ℕ) → FirstFailing j.asked h.seeds.0 h.seeds.1 None
+      → TellsSought h bytes j (failure runs) (none_text (h.seeds.1 - h.seeds.0)) 0
+  -- the least seed whose run fails, the choices of that run, and its report
+  seed_fails : (s : ℕ) (r : Report) → FirstFailing j.asked h.seeds.0 h.seeds.1 (Some (s, r))
+      → TellsSought h bytes j (failure None) (seed_text s (choices_of r) ++ report_text (names_of j) r) 1
+  -- or what the shrinking of these choices is answered with
+  seed_shrunk : (s : ℕ) (r : Report) (runs : ℕ) (text : List ℕ) (status : ℕ) → FirstFailing j.asked h.seeds.0 h.seeds.1 (Some (s, r))
+      → Answers (shrinking_of h (choices_of r) runs) bytes text status
+      → TellsSought h bytes j (failure (Some runs)) (seed_text s (choices_of r) ++ text) status
+  -- or, if memory ran out within the shrinking, that it did
+  seed_alone : (s : ℕ) (r : Report) (runs : ℕ) → FirstFailing j.asked h.seeds.0 h.seeds.1 (Some (s, r))
+      → TellsSought h bytes j (failure (Some runs)) (seed_text s (choices_of r) ++ report_text (names_of j) memory_report) 2
+  -- each outcome that is met
+  tallied : (rows : List Row) → Tallies j.asked h.seeds.0 h.seeds.1 rows
+      → TellsSought h bytes j outcomes (flat_map (row_text (names_of j)) rows) (rows_status rows)
+
+-- a source of these bytes, of whose runs by many seeds this is sought, is answered with this text and this status
+abbrev pub SoughtAnswers : HuntArgs → Sought → (bytes text : List ℕ) → ℕ → Type 0
+SoughtAnswers h sought bytes = AnswersBy (AsksFor h sought) (λ j. TellsSought h bytes j sought) bytes
+
+abbrev pub HuntAnswers : HuntArgs → (bytes text : List ℕ) → ℕ → Type 0
+HuntAnswers h = SoughtAnswers h h.sought
+
+-- ---- the code's own answers
+
+-- the answer tells a seed with the choices of its run, and then what the shrinking of these is answered with, or that memory ran out within it
+abbrev pub TellsShrunk : HuntArgs → (bytes : List ℕ) → Job → ℕ → Report → (runs : ℕ) → Answer → Type 0
+TellsShrunk h bytes j s r runs a =
+    ((text : List ℕ) × (a.text.items ≡ seed_text s (choices_of r) ++ text) × Answers (shrinking_of h (choices_of r) runs) bytes text a.status)
+    ⊎ ((a.text.items ≡ seed_text s (choices_of r) ++ report_text (names_of j) memory_report) × (a.status ≡ 2))

@@ -1,0 +1,51 @@
+-- What goes out between a reader and a writer, of which it is said what answers which bytes.
+use Rattle.std.specs.Prelude.{◌≡◌, ◌≤◌, ◌+◌, ℕ, List, length, take, Option, IfSome}
+use Rattle.std.specs.Io.KnownBytes.{Appends, Consumes}
+use Rattle.pf_fault.specs.declared.fault.OrNoMemory.{OrNoMemory}
+use Rattle.pf_fault.specs.declared.fault.OrNoMemory.TheVariants.{NoMemory, Fault}
+use Rattle.pf_terms.specs.Streams.{AppendsFront}
+use Rattle.pf_terms.specs.declared.stream.StreamFault.{StreamFault}
+use Rattle.pf_terms.specs.declared.stream.StreamFault.TheVariants.{Read, Write}
+use Rattle.pf_command.specs.declared.serving.TheConstants.{MOST_BYTES}
+
+-- a reader and a writer: what is still to be read and what was written, if it is known, and how many calls of each failed
+pub record Streams : Type 0 where
+  pub unread : Option (List ℕ)
+  pub written : Option (List ℕ)
+  pub failed_reads : ℕ
+  pub failed_writes : ℕ
+
+abbrev pub streams : (unread written : Option (List ℕ)) → (failed_reads failed_writes : ℕ) → Streams
+streams unread written failed_reads failed_writes =
+    record { unread = unread; written = written; failed_reads = failed_reads; failed_writes = failed_writes }
+
+-- which texts and statuses answer which bytes
+abbrev pub Answering : Type 1
+Answering = (bytes text : List ℕ) → ℕ → Type 0
+
+-- these are the first MOST_BYTES bytes of what was to be read, if it is known
+abbrev pub AreRead : Streams → List ℕ → Type 0
+AreRead s bytes = IfSome s.unread (λ input. bytes ≡ take MOST_BYTES input)
+
+-- what was read is answered with the text that went out and the status
+abbrev pub Answered : Answering → (old new : Streams) → ℕ → Type 0
+Answered P old new status = (bytes : List ℕ) × (text : List ℕ) × AreRead old bytes × P bytes text status × Appends old.written new.written text
+
+-- a beginning of the text of an answer went out
+abbrev pub AnsweredInPart : Answering → (old new : Streams) → Type 0
+AnsweredInPart P old new =
+    (bytes : List ℕ) × (text : List ℕ) × (status : ℕ) × AreRead old bytes × P bytes text status × AppendsFront old.written new.written text
+
+-- at most MOST_BYTES bytes were read
+abbrev pub Takes : (old new : Streams) → Type 0
+Takes old new = (bytes : List ℕ) × (length bytes ≤ MOST_BYTES) × Consumes old.unread new.unread bytes
+
+-- no call failed
+abbrev pub NoneFailed : (old new : Streams) → Type 0
+NoneFailed old new = (new.failed_reads ≡ old.failed_reads) × (new.failed_writes ≡ old.failed_writes)
+
+-- what a fault leaves: which stream failed once more, and what went out
+abbrev pub Leaves : OrNoMemory StreamFault → Answering → (old new : Streams) → Type 0
+Leaves NoMemory P old new = NoneFailed old new × (new.written ≡ old.written)
+Leaves (Fault (Read e)) P old new = (new.failed_reads ≡ old.failed_reads + 1) × (new.failed_writes ≡ old.failed_writes) × (new.written ≡ old.written)
+Leaves (Fault (Write e)) P old new = (new.failed_reads ≡ old.failed_reads) × (new.failed_writes ≡ old.failed_writes + 1) × AnsweredInPart P old new

@@ -1,0 +1,176 @@
+//! What a source is answered with of which a run or a shrinking is asked for.
+
+ghost use Rattle.std.specs.Prelude.{◌≡◌, List, ℕ, zero, IfOk};
+ghost use Rattle.pf_model.specs.Reports.{report_of};
+ghost use Rattle.pf_model.specs.Shrinking.{found, report, shrunk_to};
+ghost use Rattle.pf_model.specs.Text.{report_text};
+ghost use Rattle.pf_terms.specs.Atoms.{name_of};
+ghost use Rattle.pf_sched.specs.Views.{result_of};
+ghost use Rattle.pf_request.specs.Job.{memory_report};
+ghost use Rattle.pf_command.specs.Answers.{Answers, IsModuleOf, Tells, TellsResult, run_args};
+
+use crate::answer::{Answer, FAILED, read_source, refused_at, refused_by_code, run_status};
+use crate::serving::Answering;
+use pf_cli::{Edition, RunArgs};
+use pf_fault::{Code, NoMemory, OrNoMemory};
+use pf_model::report::Report;
+use pf_module::ReadModule;
+use pf_request::Request;
+use pf_sched::{Finished, Job, JobResult, Observer, Scratch, Silent, memory_report, run_to_end};
+use pf_terms::AtomTable;
+use pf_trace::{put_found, put_report};
+use std::alloc::Global;
+use std::sync::Arc;
+
+/// The answer of a run: its report, with the status of its verdict.
+fn tell_run(alloc: Global, atoms: &AtomTable, told: &Report) -> Result<Answer, NoMemory>
+    ensures { IfOk result (TellsResult atoms.now (report (report_of told.now))) }
+{
+    let mut text = Vec::new(alloc);
+    put_report(&mut text, atoms, told)?;
+    let status = run_status(told.verdict);
+    Ok(Answer { text, status })
+}
+
+/// The answer of a shrinking: the schedule that it found, whether no candidate of that fails, and the report of its run, which fails.
+fn tell_shrunk(
+    alloc: Global,
+    atoms: &AtomTable,
+    schedule: &[u32],
+    complete: bool,
+    told: &Report,
+) -> Result<Answer, NoMemory>
+    ensures { IfOk result (TellsResult atoms.now
+        (shrunk_to (found schedule.now complete) (report_of told.now))) }
+{
+    let mut text = Vec::new(alloc);
+    put_found(&mut text, schedule, complete)?;
+    put_report(&mut text, atoms, told)?;
+    Ok(Answer {
+        text,
+        status: FAILED,
+    })
+}
+
+/// The answer of what a job came to. If the given schedule doesn't fail, that is refused.
+fn tell_result(alloc: Global, atoms: &AtomTable, told: &JobResult) -> Result<Answer, NoMemory>
+    ensures { IfOk result (TellsResult atoms.now (result_of told.now)) }
+{
+    match told {
+        JobResult::Report(report) => tell_run(alloc, atoms, report),
+        JobResult::Shrunk {
+            schedule,
+            complete,
+            report,
+        } => tell_shrunk(alloc, atoms, schedule, *complete, report),
+        JobResult::NothingFails => refused_by_code(alloc, Code::NothingFails),
+    }
+}
+
+/// The answer of a job within which memory ran out: of a run that this is so, of a shrinking none.
+fn tell_no_memory(alloc: Global, atoms: &AtomTable, job: &Job) -> Result<Answer, NoMemory>
+    ensures { IfOk result (λ a. (job.now.asked.runs ≡ zero)
+        × TellsResult atoms.now (report memory_report) a) }
+{
+    if job.runs() > 0 {
+        return Err(NoMemory);
+    }
+    tell_run(alloc, atoms, &memory_report(alloc))
+}
+
+/// The answer of a job whose runs are over.
+fn tell_finished(alloc: Global, finished: &Finished) -> Result<Answer, NoMemory>
+    ensures { IfOk result (λ a. Tells finished.now.job a.text.items a.status) }
+{
+    let job = finished.job();
+    let atoms = job.module().atoms();
+    match finished.result() {
+        Some(result) => tell_result(alloc, atoms, result),
+        None => tell_no_memory(alloc, atoms, job),
+    }
+}
+
+/// The answer of a job, which is run to its end.
+fn answer_job(alloc: Global, job: Job, observer: &mut impl Observer) -> Result<Answer, NoMemory>
+    ensures { IfOk result (λ a. Tells job a.text.items a.status) }
+{
+    let job = Arc::new(alloc, job)?;
+    let finished = run_to_end(alloc, job, &mut Scratch::new(alloc), observer)?;
+    tell_finished(alloc, &finished)
+}
+
+/// The answer to a module of which this is asked for.
+pub(crate) fn answer_module(
+    alloc: Global,
+    request: &Request,
+    edition: Edition,
+    module: ReadModule,
+    observer: &mut impl Observer,
+) -> Result<Answer, NoMemory>
+    ensures { IfOk result (λ a. (bytes : List ℕ) → IsModuleOf bytes «module»
+        → Answers (run_args request.now edition) bytes a.text.items a.status) }
+{
+    match Job::new(alloc, module, request, edition.number()) {
+        Ok(job) => answer_job(alloc, job, observer),
+        Err(OrNoMemory::Fault(refusal)) => refused_by_code(alloc, refusal.code()),
+        Err(OrNoMemory::NoMemory) => Err(NoMemory),
+    }
+}
+
+/// The answer to a source of these bytes of which this is asked for. The observer receives the progress of a shrinking.
+fn answer_source(
+    alloc: Global,
+    request: &Request,
+    edition: Edition,
+    bytes: Vec<u8>,
+    observer: &mut impl Observer,
+) -> Result<Answer, NoMemory>
+    ensures { IfOk result (λ a. Answers (run_args request.now edition) bytes.items a.text.items a.status) }
+{
+    match read_source(alloc, bytes) {
+        Ok(module) => answer_module(alloc, request, edition, module, observer),
+        Err(OrNoMemory::Fault(refusal)) => refused_at(alloc, refusal),
+        Err(OrNoMemory::NoMemory) => Err(NoMemory),
+    }
+}
+
+/// A run is asked for.
+#[derive(Drop)]
+pub struct Run<'a> {
+    pub args: &'a RunArgs<'a>,
+}
+
+impl Answering for Run<'_> {
+    ghost use Rattle.pf_cli.specs.Args.{view_of_run_args};
+    ghost use Rattle.pf_command.specs.Answers.{Answers};
+
+    ghost answers = { λ c. Answers (view_of_run_args c.args.now) };
+
+    fn answer(self, alloc: Global, bytes: Vec<u8>) -> Result<Answer, NoMemory> {
+        let RunArgs {
+            request,
+            edition,
+            ..
+        } = self.args;
+        answer_source(alloc, request, *edition, bytes, &mut Silent)
+    }
+}
+
+/// A shrinking is asked for, whose progress the observer receives.
+#[derive(Drop)]
+pub struct Shrink<'a, O> {
+    pub args: &'a RunArgs<'a>,
+    pub observer: O,
+}
+
+impl<O: Observer + Drop> Answering for Shrink<'_, O> {
+    ghost use Rattle.pf_cli.specs.Args.{view_of_run_args};
+    ghost use Rattle.pf_command.specs.Answers.{Answers};
+
+    ghost answers = { λ c. Answers (view_of_run_args c.args.now) };
+
+    fn answer(self, alloc: Global, bytes: Vec<u8>) -> Result<Answer, NoMemory> {
+        let Shrink { args, mut observer } = self;
+        answer_source(alloc, &args.request, args.edition, bytes, &mut observer)
+    }
+}

@@ -1,0 +1,60 @@
+//! The work of a command between a reader and a writer: it reads, answers, and writes.
+
+ghost use Rattle.std.specs.Prelude.{IfErr, IfOk, OnOk};
+ghost use Rattle.pf_command.specs.Streams.{Answered, Leaves, NoneFailed, Takes, streams};
+
+use crate::answer::Answer;
+use pf_fault::OrNoMemory;
+use pf_terms::{Counted, NoMemory, StreamFault};
+use pf_tokens::MOST_SOURCE_BYTES;
+use std::alloc::Global;
+use std::io::{Read, Write};
+use std::sync::ledger::Ledger;
+
+/// The most bytes that are read: one more than a source may have.
+pub const MOST_BYTES: usize = MOST_SOURCE_BYTES + 1;
+
+/// A command of a source. Its contract says which texts and statuses answer which bytes.
+pub trait Answering {
+    ghost use Rattle.std.specs.Prelude.{ℕ, List, IfOk};
+
+    ghost answers: { Self → (bytes text : List ℕ) → ℕ → Type 0 };
+
+    /// The answer to a source of these bytes.
+    fn answer(self, alloc: Global, bytes: Vec<u8>) -> Result<Answer, NoMemory>
+        ensures { IfOk result (λ a. answers self bytes.items a.text.items a.status) };
+}
+
+/// Answers a source by a command: reads at most one byte more than a source may have, writes a text and gives the status.
+pub fn serve<R: Read, W: Write, L: Ledger, M: Ledger, C: Answering + Drop>(
+    alloc: Global,
+    reader: &mut Counted<R, L>,
+    command: C,
+    writer: &mut Counted<W, M>,
+) -> Result<u8, OrNoMemory<StreamFault>>
+    ensures answered { IfOk result (λ status. Answered (C.answers command)
+        (streams (R.remaining reader.old.inner) (W.contents writer.old.inner)
+        reader.old.failures.total writer.old.failures.total)
+        (streams (R.remaining reader.new.inner) (W.contents writer.new.inner)
+        reader.new.failures.total writer.new.failures.total) status) }
+    ensures counts { OnOk result (NoneFailed
+        (streams (R.remaining reader.old.inner) (W.contents writer.old.inner)
+        reader.old.failures.total writer.old.failures.total)
+        (streams (R.remaining reader.new.inner) (W.contents writer.new.inner)
+        reader.new.failures.total writer.new.failures.total)) }
+    ensures taken { Takes
+        (streams (R.remaining reader.old.inner) (W.contents writer.old.inner)
+        reader.old.failures.total writer.old.failures.total)
+        (streams (R.remaining reader.new.inner) (W.contents writer.new.inner)
+        reader.new.failures.total writer.new.failures.total) }
+    ensures fault { IfErr result (λ e. Leaves e (C.answers command)
+        (streams (R.remaining reader.old.inner) (W.contents writer.old.inner)
+        reader.old.failures.total writer.old.failures.total)
+        (streams (R.remaining reader.new.inner) (W.contents writer.new.inner)
+        reader.new.failures.total writer.new.failures.total)) }
+{
+    let source = reader.take_front(alloc, MOST_BYTES)?;
+    let answer = command.answer(alloc, source)?;
+    writer.put(&answer.text)?;
+    Ok(answer.status)
+}

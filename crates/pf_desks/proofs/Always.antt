@@ -1,0 +1,75 @@
+-- What each call and each step of a worker keeps is true of each desk after all steps.
+use Rattle.std.proofs.Common.{◌≡◌, ℕ, ◌==◌, Bool, true, false, List, [], ◌∷◌, Option, Some, None, refl, sym, subst}
+use Rattle.std.specs.Prelude.{if◌then◌else◌, option_and_then}
+use Rattle.pf_request.specs.Calls.{Call}
+use Rattle.pf_request.specs.Job.{Job}
+use Rattle.pf_desks.specs.Desk.{Profile, Desk, no_desk, State, queued, running, done, Entry, claimed, filed, handed_back, Mark, marked_whole, held_at}
+use Rattle.pf_desks.specs.Calls.{after_call, with_entry}
+use Rattle.pf_desks.specs.Work.{is_queued, is_running, after_claim, after_file, after_back, with_state, result_marked, Work, claim, file, hand_back, once, claim_step, file_step, worker_step}
+use Rattle.pf_desks.specs.World.{World, Step, client, worker, desk_at, put_desk, worked, step}
+use Rattle.pf_desks.specs.Legality.{after_steps}
+use Rattle.pf_desks.proofs.Isolated.{desk_placed}
+
+-- a step that can be done where this holds is this desk
+pub where_so : (b : Bool) (d d' : Desk) → (if b then Some d else None) ≡ Some d' → d' ≡ d
+where_so true d d' h = cc
+where_so false d d' h = absurd (cc)
+
+module _ (p : Profile) (P : Desk → Type 0) (by_call : (d : Desk) (c : Call) → P d → P (after_call p d c))
+    (by_work : (d d' : Desk) (k : Work) → worker_step p d k ≡ Some d' → P d → P d') where
+  placed : (q r : ℕ) (d : Desk) (w : World) → P d → P (desk_at q w) → P (desk_at q (put_desk r d w))
+  placed q r d w new old = subst P (sym (desk_placed q r d w)) (by (r == q))
+    where
+      by : (b : Bool) → P (if b then d else desk_at q w)
+      by true = new
+      by false = old
+
+  kept : (w : World) (s : Step) → ((q : ℕ) → P (desk_at q w)) → (q : ℕ) → P (desk_at q (step p w s).0)
+  kept w (client r c) h q = placed q r (after_call p (desk_at r w) c) w (by_call (desk_at r w) c (h r)) (h q)
+  kept w (worker r k) h q = by (worker_step p (desk_at r w) k) refl
+    where
+      by : (o : Option Desk) → worker_step p (desk_at r w) k ≡ o → P (desk_at q (worked r w o).0)
+      by (Some d) e = placed q r d w (by_work (desk_at r w) d k e (h r)) (h q)
+      by None e = h q
+
+  kept_from : (w : World) (ss : List Step) → ((q : ℕ) → P (desk_at q w)) → (q : ℕ) → P (desk_at q (after_steps p w ss))
+  kept_from w [] h = h
+  kept_from w (s ∷ ss) h = kept_from (step p w s).0 ss (kept w s h)
+
+  pub always : P no_desk → (q : ℕ) (ss : List Step) → P (desk_at q (after_steps p [] ss))
+  always h q ss = kept_from [] ss (λ r. h) q
+
+-- what is noted of the work of workers
+pub data OfWork : Entry → Type 0 where
+  of_claim : (t : ℕ) → OfWork (claimed t)
+  of_file : (t : ℕ) (m : Mark) → OfWork (filed t m)
+  of_back : (t : ℕ) → OfWork (handed_back t)
+
+-- the desk after a trial's state changed, with this noted
+abbrev pub moved : Desk → ℕ → (Job → State) → Entry → Desk
+moved d t f e = with_entry (record d { trials = with_state d.trials t f }) e
+
+-- what each change of a trial's state keeps is kept by each step of a worker
+module _ (p : Profile) (P : Desk → Type 0) (by_move : (d : Desk) (t : ℕ) (f : Job → State) (e : Entry) → OfWork e → P d → P (moved d t f e)) where
+  by_claim : (d d' : Desk) (t : ℕ) → worker_step p d (claim t) ≡ Some d' → P d → P d'
+  by_claim d d' t h k = subst P (sym (where_so (is_queued (held_at d.trials t)) (after_claim d t) d' h)) (by_move d t (λ j. running) (claimed t) (of_claim t) k)
+
+  by_file : (d d' : Desk) (t : ℕ) (m : Mark) → worker_step p d (file t m) ≡ Some d' → P d → P d'
+  by_file d d' t m h k =
+      subst P (sym (where_so (is_running (held_at d.trials t)) (after_file p d t m) d' h)) (by_move d t (λ j. done (result_marked p m j)) (filed t m) (of_file t m) k)
+
+  by_back : (d d' : Desk) (t : ℕ) → worker_step p d (hand_back t) ≡ Some d' → P d → P d'
+  by_back d d' t h k = subst P (sym (where_so (is_running (held_at d.trials t)) (after_back d t) d' h)) (by_move d t (λ j. queued) (handed_back t) (of_back t) k)
+
+  by_once : (d d' : Desk) (t : ℕ) → worker_step p d (once t) ≡ Some d' → P d → P d'
+  by_once d d' t h k = by (claim_step d t) refl h
+    where
+      by : (o : Option Desk) → claim_step d t ≡ o → option_and_then (λ x. file_step p x t marked_whole) o ≡ Some d' → P d'
+      by (Some x) e h = by_file x d' t marked_whole h (by_claim d x t e k)
+      by None e h = absurd (cc)
+
+  pub moves : (d d' : Desk) (k : Work) → worker_step p d k ≡ Some d' → P d → P d'
+  moves d d' (claim t) h k = by_claim d d' t h k
+  moves d d' (file t m) h k = by_file d d' t m h k
+  moves d d' (hand_back t) h k = by_back d d' t h k
+  moves d d' (once t) h k = by_once d d' t h k

@@ -1,0 +1,138 @@
+-- The numbers that a project is told count up.
+use Rattle.std.proofs.Common.{◌≡◌, ℕ, zero, suc, ◌+◌, Bool, true, false, List, [], ◌∷◌, length, Option, Some, None, refl, sym, subst, ◌∙◌}
+use Rattle.std.specs.Prelude.{filter_map, Result, Ok, Err, if◌then◌else◌, unwrap_or}
+use Rattle.std.specs.List.{cons_option}
+use Rattle.std.proofs.lemmas.List.{length-append}
+use lib.ListN.{length-set}
+use Rattle.pf_fault.specs.declared.code.Code.{Code}
+use Rattle.pf_fault.specs.declared.code.Code.TheVariants as code
+use Rattle.pf_quota.specs.declared.charges.Charge.TheVariants as charge
+use Rattle.pf_request.specs.Calls.{Call, submit, order, fetch, status, drop_trial, withdraw, usage, log, edition}
+use Rattle.pf_request.specs.Job.{Job}
+use Rattle.pf_request.specs.Module.{ReadModule}
+use Rattle.pf_desks.specs.Desk.{Profile, Desk, no_desk, Entry, State, queued, running, done, Trial, Reading, readable, faulty, Reply, ticket, has_edition, refused, job_ordered, held_at, with_held}
+use Rattle.pf_desks.specs.Calls.{within_limits, passed_by, submitted, with_job, ordered, fetched, stage_told, dropped, users_of, withdrawn, in_edition, answered, noted, after_call, reply_to}
+use Rattle.pf_desks.specs.Work.{Work, worker_step}
+use Rattle.pf_desks.specs.World.{Step, client, worker, all_answers, told, own_steps, replies_along}
+use Rattle.pf_desks.specs.Numbers.{number_in, ticket_in, CountUp}
+use Rattle.pf_desks.proofs.Isolated.{isolated}
+use Rattle.pf_desks.proofs.Always.{OfWork, moved, moves}
+
+-- so many were told, then this, and then so many are told
+abbrev Tells : ℕ → Option ℕ → ℕ → Type 0
+Tells k None k' = k' ≡ k
+Tells k (Some n) k' = (n ≡ k + 1) × (k' ≡ k + 1)
+
+-- what a desk and a reply tell where the desk was another
+abbrev TellsNext : Desk → Desk × Reply → Type 0
+TellsNext d x = Tells (length d.modules) (number_in x.1) (length x.0.modules) × Tells (length d.trials) (ticket_in x.1) (length x.0.trials)
+
+length_held : {T : Type 0} (xs : List (Option T)) (n : ℕ) (x : Option T) → length (with_held xs n x) ≡ length xs
+length_held xs zero x = refl
+length_held xs (suc i) x = length-set xs i x
+
+module _ (p : Profile) (d : Desk) where
+  told_within : (o : Option Code) (x : Desk × Reply) → TellsNext d x → TellsNext d (within_limits d o x)
+  told_within None x h = h
+  told_within (Some e) x h = (refl, refl)
+
+  submission_tells : (text : List ℕ) (r : Reading) → TellsNext d (submitted d text r)
+  submission_tells text (readable m) = ((refl, length-append d.modules _), refl)
+  submission_tells text (faulty n) = (refl, refl)
+
+  order_tells : (n : ℕ) (r : Result Job Code) → TellsNext d (ordered d n r)
+  order_tells n (Ok j) =
+      told_within _ (with_job d n j, ticket _) (refl, (refl, length-append d.trials _))
+  order_tells n (Err e) = (refl, refl)
+
+  fetch_tells : (o : Option Trial) → TellsNext d (d, fetched o)
+  fetch_tells None = (refl, refl)
+  fetch_tells (Some t) = by t.state
+    where
+      by : (s : State) → TellsNext d (d, fetched (Some (record t { state = s })))
+      by queued = (refl, refl)
+      by running = (refl, refl)
+      by (done r) = (refl, refl)
+
+  status_tells : (o : Option Trial) → TellsNext d (d, stage_told o)
+  status_tells None = (refl, refl)
+  status_tells (Some t) = (refl, refl)
+
+  drop_tells : (t : ℕ) (o : Option Trial) → TellsNext d (dropped d t o)
+  drop_tells t None = (refl, refl)
+  drop_tells t (Some x) = (refl, length_held d.trials t None)
+
+  withdrawal_tells : (n : ℕ) (o : Option ReadModule) (k : ℕ) → TellsNext d (withdrawn d n o k)
+  withdrawal_tells n None k = (refl, refl)
+  withdrawal_tells n (Some m) zero = (length_held d.modules n None, refl)
+  withdrawal_tells n (Some m) (suc k) = (refl, refl)
+
+  edition_tells : (e : ℕ) → TellsNext d (in_edition d e)
+  edition_tells e = by _ _
+    where
+      by : (b f : Bool)
+          → TellsNext d (if◌then◌else◌ {A = Desk × Reply} b (if f then (d, refused code.EditionTooLow) else (record d { edition = e }, has_edition)) (d, refused code.NoEdition))
+      by true true = (refl, refl)
+      by true false = (refl, refl)
+      by false f = (refl, refl)
+
+  answer_tells : (c : Call) → TellsNext d (answered p d c)
+  answer_tells (submit text) =
+      told_within _ (submitted d text (p.reading text)) (submission_tells text (p.reading text))
+  answer_tells (order n r) = order_tells n (job_ordered p d.edition (held_at d.modules n) r)
+  answer_tells (fetch t) = fetch_tells (held_at d.trials t)
+  answer_tells (status t) = status_tells (held_at d.trials t)
+  answer_tells (drop_trial t) = drop_tells t (held_at d.trials t)
+  answer_tells (withdraw n) = withdrawal_tells n (held_at d.modules n) (users_of d n)
+  answer_tells usage = (refl, refl)
+  answer_tells log = (refl, refl)
+  answer_tells (edition e) = edition_tells e
+
+  call_tells : (c : Call) → TellsNext d (after_call p d c, reply_to p d c)
+  call_tells c = told_within (passed_by d charge.Call) (noted c (answered p d c)) (answer_tells c)
+
+-- so many numbers of modules and of trials were told at a desk
+abbrev Told : ℕ → ℕ → Desk → Type 0
+Told k t d = (length d.modules ≡ k) × (length d.trials ≡ t)
+
+move_tells_none : (k t : ℕ) (d : Desk) (n : ℕ) (f : Job → State) (e : Entry) → OfWork e → Told k t d → Told k t (moved d n f e)
+move_tells_none k t d n f e of h = (h.0, length_held d.trials n _ ∙ h.1)
+
+work_tells_none : (p : Profile) (d : Desk) (k : Work) → Told (length d.modules) (length d.trials) (unwrap_or (worker_step p d k) d)
+work_tells_none p d k = by (worker_step p d k) refl
+  where
+    by : (o : Option Desk) → worker_step p d k ≡ o → Told (length d.modules) (length d.trials) (unwrap_or o d)
+    by (Some d') e = moves p (Told (length d.modules) (length d.trials)) (move_tells_none (length d.modules) (length d.trials)) d d' k e (refl, refl)
+    by None e = (refl, refl)
+
+-- numbers that count up go on after one that is told
+count_on : (k k' : ℕ) (o : Option ℕ) (ns : List ℕ) → Tells k o k' → CountUp (k' + 1) ns → CountUp (k + 1) (cons_option o ns)
+count_on k k' None ns h rest = subst (λ n. CountUp (n + 1) ns) h rest
+count_on k k' (Some n) ns h rest = (h.0, subst (λ x. CountUp (x + 1) ns) h.1 rest)
+
+module _ (p : Profile) where
+  numbers_along : (d : Desk) (ss : List Step) → CountUp (length d.modules + 1) (filter_map number_in (replies_along p d ss))
+  numbers_along d [] = tt
+  numbers_along d (client q c ∷ ss) =
+      count_on (length d.modules) (length (after_call p d c).modules) (number_in (reply_to p d c)) (filter_map number_in (replies_along p (after_call p d c) ss))
+      (call_tells p d c).0 (numbers_along (after_call p d c) ss)
+  numbers_along d (worker q k ∷ ss) =
+      let d' : Desk = unwrap_or (worker_step p d k) d in
+      subst (λ n. CountUp (n + 1) (filter_map number_in (replies_along p d' ss))) (work_tells_none p d k).0 (numbers_along d' ss)
+
+  tickets_along : (d : Desk) (ss : List Step) → CountUp (length d.trials + 1) (filter_map ticket_in (replies_along p d ss))
+  tickets_along d [] = tt
+  tickets_along d (client q c ∷ ss) =
+      count_on (length d.trials) (length (after_call p d c).trials) (ticket_in (reply_to p d c)) (filter_map ticket_in (replies_along p (after_call p d c) ss))
+      (call_tells p d c).1 (tickets_along (after_call p d c) ss)
+  tickets_along d (worker q k ∷ ss) =
+      let d' : Desk = unwrap_or (worker_step p d k) d in
+      subst (λ n. CountUp (n + 1) (filter_map ticket_in (replies_along p d' ss))) (work_tells_none p d k).1 (tickets_along d' ss)
+
+pub counted : (p : Profile) (q : ℕ) (ss : List Step)
+    → CountUp 1 (filter_map number_in (told q ss (all_answers p ss))) × CountUp 1 (filter_map ticket_in (told q ss (all_answers p ss)))
+counted p q ss =
+    let own = own_steps q ss (all_answers p ss) in (
+      subst (λ (rs : List Reply). CountUp 1 (filter_map number_in rs)) (sym (isolated p q ss)) (numbers_along p no_desk own),
+      subst (λ (rs : List Reply). CountUp 1 (filter_map ticket_in rs)) (sym (isolated p q ss)) (tickets_along p no_desk own),
+    )

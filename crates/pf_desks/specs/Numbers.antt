@@ -1,0 +1,25 @@
+-- The numbers that a project is told.
+use Rattle.std.specs.Prelude.{◌≡◌, ℕ, ◌+◌, List, [], ◌∷◌, filter_map, Option, Some, None}
+use Rattle.pf_desks.specs.Desk.{Profile, Reply, number, ticket}
+use Rattle.pf_desks.specs.World.{Step, all_answers, told}
+
+-- the module's number that a reply tells
+abbrev pub number_in : Reply → Option ℕ
+number_in (number n) = Some n
+number_in _ = None
+
+-- the ticket that a reply tells
+abbrev pub ticket_in : Reply → Option ℕ
+ticket_in (ticket t) = Some t
+ticket_in _ = None
+
+-- CountUp n ns: the first of these is n, and each other is one above the one before
+abbrev pub CountUp : ℕ → List ℕ → Type 0
+CountUp n [] = Unit {0}
+CountUp n (m ∷ ms) = (m ≡ n) × CountUp (n + 1) ms
+
+-- whatever steps there are, from the world in which no desk is open, the modules' numbers that a project is told are 1, 2, 3 and so on, and
+-- so are its tickets: none is told twice, whatever was given up
+abbrev pub NoNumberTwice : Type 0
+NoNumberTwice = (p : Profile) (q : ℕ) (ss : List Step)
+    → CountUp 1 (filter_map number_in (told q ss (all_answers p ss))) × CountUp 1 (filter_map ticket_in (told q ss (all_answers p ss)))

@@ -1,0 +1,158 @@
+-- Commands: what the bytes that `steps` reads ask for. One command stands on a line, its words parted by single spaces.
+use Rattle.std.specs.Prelude.{◌≡◌, ℕ, ◌==◌, Bool, true, false, ◌&&◌, ◌||◌, not, nat_le, if◌then◌else◌, List, [], ◌∷◌, length, take, drop, Option, Some, None, codes}
+use Rattle.std.specs.List.{list_any, slice_split}
+use Rattle.std.specs.Option.{option_map}
+use Rattle.std.specs.Str.{bytes_eq}
+use Rattle.pf_text.specs.Numbers.{long_number_of, number_of, schedule_of}
+use Rattle.pf_model.specs.Meaning.{Choices, seed, schedule, weighted_seed}
+use Rattle.pf_request.specs.Calls.{Call, submit, order, fetch, status, drop_trial, withdraw, usage, log, edition}
+use Rattle.pf_request.specs.Request.{Kind, run, shrink}
+use Rattle.pf_desks.specs.Work.{once}
+use Rattle.pf_desks.specs.World.{Step, client, worker}
+
+-- ---- lines and words
+
+-- the first line without its end, whether it has one, and what follows
+pub record Line : Type 0 where
+  pub text : List ℕ
+  pub is_ended : Bool
+  pub rest : List ℕ
+
+abbrev pub with_byte : ℕ → Line → Line
+with_byte b l = record { text = b ∷ l.text; is_ended = l.is_ended; rest = l.rest }
+
+abbrev pub first_line : List ℕ → Line
+first_line [] = record { text = []; is_ended = false; rest = [] }
+first_line (b ∷ bs) = if b == 10 then record { text = []; is_ended = true; rest = bs } else with_byte b (first_line bs)
+
+-- a word isn't empty, and has no tabulator and no carriage return
+abbrev pub is_word : List ℕ → Bool
+is_word [] = false
+is_word (b ∷ bs) = not (list_any (λ c. (c == 9) || (c == 13)) (b ∷ bs))
+
+-- what stands between such bytes, before the first and after the last
+abbrev pub parts_at : ℕ → List ℕ → List (List ℕ)
+parts_at at text = slice_split (λ b. b == at) text
+
+abbrev pub words_of : List ℕ → List (List ℕ)
+words_of text = parts_at 32 text
+
+-- ---- what a line asks for
+
+-- a line asks for a step, or for the submission of a source whose bytes follow it
+pub data Asked : Type 0 where
+  made : Step → Asked
+  submission : (project size : ℕ) → Asked
+
+abbrev pub with_two : (ℕ → ℕ → Asked) → Option ℕ → Option ℕ → Option Asked
+with_two f (Some m) (Some n) = Some (f m n)
+with_two f _ _ = None
+
+abbrev pub with_one : (ℕ → Asked) → Option ℕ → Option Asked
+with_one f (Some n) = Some (f n)
+with_one f None = None
+
+-- the words after the first, which are two numbers, or one
+abbrev pub of_two : (ℕ → ℕ → Asked) → List (List ℕ) → Option Asked
+of_two f (a ∷ b ∷ []) = with_two f (number_of a) (number_of b)
+of_two f _ = None
+
+abbrev pub of_one : (ℕ → Asked) → List (List ℕ) → Option Asked
+of_one f (a ∷ []) = with_one f (number_of a)
+of_one f _ = None
+
+abbrev pub with_weights : (number process channel : Option ℕ) → Option Choices
+with_weights (Some n) (Some process) (Some channel) = Some (weighted_seed n process channel)
+with_weights _ _ _ = None
+
+-- N, or N:R:D: a long number, and by weights two numbers more, the weight of a process and that of a channel
+abbrev pub of_seed : List (List ℕ) → Option Choices
+of_seed (n ∷ []) = option_map seed (long_number_of n)
+of_seed (n ∷ process ∷ channel ∷ []) = with_weights (long_number_of n) (number_of process) (number_of channel)
+of_seed _ = None
+
+-- choices are `seed:`, a seed and maybe its weights, parted by colons, or else a schedule
+abbrev pub choices_at : List ℕ → Option Choices
+choices_at text =
+    if bytes_eq (take 5 text) (codes "seed:") then of_seed (parts_at 58 (drop 5 text)) else option_map schedule (schedule_of text)
+
+-- an order of a module of a project: from a root, with a property, of a kind and within a limit
+abbrev pub with_order : (root property : List ℕ) → (project n : Option ℕ) → Option Kind → (limit : Option ℕ) → Option Asked
+with_order root property (Some project) (Some n) (Some k) (Some limit) =
+    Some (made (client project (order n (record { root = root; property = property; kind = k; limit = limit }))))
+with_order root property _ _ _ _ = None
+
+-- P M ROOT PROPERTY CHOICES LIMIT
+abbrev pub of_order : List (List ℕ) → Option Asked
+of_order (p ∷ m ∷ root ∷ property ∷ choices ∷ limit ∷ []) =
+    if is_word root && is_word property
+    then with_order root property (number_of p) (number_of m) (option_map run (choices_at choices)) (number_of limit)
+    else None
+of_order _ = None
+
+-- the shrinking of a schedule within so many runs
+abbrev pub with_runs : Option (List ℕ) → Option ℕ → Option Kind
+with_runs (Some ns) (Some runs) = Some (shrink ns runs)
+with_runs _ _ = None
+
+-- P M ROOT PROPERTY LIST RUNS LIMIT
+abbrev pub of_shrink : List (List ℕ) → Option Asked
+of_shrink (p ∷ m ∷ root ∷ property ∷ numbers ∷ runs ∷ limit ∷ []) =
+    if is_word root && is_word property
+    then with_order root property (number_of p) (number_of m) (with_runs (schedule_of numbers) (number_of runs)) (number_of limit)
+    else None
+of_shrink _ = None
+
+-- P, or P and a number: a call of a project, which names nothing more or a number
+abbrev pub of_project : Call → List (List ℕ) → Option Asked
+of_project c ws = of_one (λ p. made (client p c)) ws
+
+abbrev pub of_call : (ℕ → Call) → List (List ℕ) → Option Asked
+of_call f ws = of_two (λ p n. made (client p (f n))) ws
+
+-- the first word names the command
+abbrev pub asked_by : List (List ℕ) → Option Asked
+asked_by [] = None
+asked_by (w ∷ ws) =
+    if bytes_eq w (codes "submit") then of_two submission ws
+    else (if bytes_eq w (codes "order") then of_order ws
+    else (if bytes_eq w (codes "shrink") then of_shrink ws
+    else (if bytes_eq w (codes "fetch") then of_call fetch ws
+    else (if bytes_eq w (codes "status") then of_call status ws
+    else (if bytes_eq w (codes "drop") then of_call drop_trial ws
+    else (if bytes_eq w (codes "withdraw") then of_call withdraw ws
+    else (if bytes_eq w (codes "usage") then of_project usage ws
+    else (if bytes_eq w (codes "log") then of_project log ws
+    else (if bytes_eq w (codes "edition") then of_call edition ws
+    else (if bytes_eq w (codes "once") then of_two (λ p t. made (worker p (once t))) ws
+    else None))))))))))
+
+-- ---- what some bytes begin with
+
+-- what follows the bytes of a source: a line end, unless nothing follows
+abbrev pub after_source : Step → List ℕ → Option (Step × List ℕ)
+after_source s [] = Some (s, [])
+after_source s (b ∷ bs) = if b == 10 then Some (s, bs) else None
+
+-- the source of so many bytes stands in the lines that follow an ended line
+abbrev pub with_source : Bool → (project size : ℕ) → List ℕ → Option (Step × List ℕ)
+with_source ended project size rest =
+    if ended && nat_le size (length rest)
+    then after_source (client project (submit (take size rest))) (drop size rest)
+    else None
+
+abbrev pub complete_command : Option Asked → Bool → List ℕ → Option (Step × List ℕ)
+complete_command None ended rest = None
+complete_command (Some (made s)) ended rest = Some (s, rest)
+complete_command (Some (submission project size)) ended rest = with_source ended project size rest
+
+-- the command that some bytes begin with, and what follows it
+abbrev pub command_at : List ℕ → Option (Step × List ℕ)
+command_at bytes = complete_command (asked_by (words_of (first_line bytes).text)) (first_line bytes).is_ended (first_line bytes).rest
+
+-- Commands bytes steps good: the bytes are the commands of these steps; then they are over, or a line follows that is no command
+pub data Commands : List ℕ → List Step → Bool → Type 0 where
+  over : Commands [] [] true
+  no_command : (b : ℕ) (bs : List ℕ) → command_at (b ∷ bs) ≡ None → Commands (b ∷ bs) [] false
+  command : (b : ℕ) (bs rest : List ℕ) (s : Step) (ss : List Step) (good : Bool) → command_at (b ∷ bs) ≡ Some (s, rest)
+      → Commands rest ss good → Commands (b ∷ bs) (s ∷ ss) good

@@ -1,0 +1,8 @@
+-- Why no command was read.
+use Rattle.pf_fault.specs.declared.fault.OrNoMemory.{OrNoMemory}
+use Rattle.pf_fault.specs.declared.fault.OrNoMemory.TheVariants.{Fault}
+use Rattle.pf_lines.specs.declared.command.NoCommand.{NoCommand}
+
+-- the line is none
+abbrev pub no_command : OrNoMemory NoCommand
+no_command = Fault (record {})

@@ -1,0 +1,7 @@
+pub mod Module
+pub mod Request
+pub mod Job
+pub mod Calls
+pub mod ReportEncoding
+pub mod Encoding
+pub mod View

@@ -1,0 +1,48 @@
+//! The progress of a shrinking.
+
+ghost use Rattle.std.specs.Prelude.{◌≡◌};
+
+use pf_model::report::Report;
+use pf_shrink::Hunt;
+
+/// The progress of a shrinking: how many runs are over, and how many numbers the schedule has that it stands at.
+#[derive(Clone, Copy, PartialEq, Eq, Debug)]
+pub struct Progress {
+    pub runs: u32,
+    pub length: usize,
+}
+
+impl Progress {
+    /// That before the first run.
+    pub(crate) fn new(length: usize) -> Progress
+        ensures { result ≡ record { runs = 0; length = length } }
+    {
+        Progress { runs: 0, length }
+    }
+
+    /// That after one run more, the one of the hunt's next schedule.
+    pub(crate) fn further(self, hunt: &Hunt, ended: &Report) -> Progress {
+        let length = match hunt.next() {
+            Some(next) if ended.verdict == Some(false) => next.len(),
+            _ => self.length,
+        };
+        Progress {
+            runs: self.runs.saturating_add(1),
+            length,
+        }
+    }
+}
+
+/// Receives the progress of a shrinking. What it does makes no difference to what the shrinking comes to.
+pub trait Observer {
+    /// A slice of a shrinking was made, and more are to come.
+    fn progress(&mut self, progress: Progress);
+}
+
+/// Ignores all progress.
+#[derive(Drop)]
+pub struct Silent;
+
+impl Observer for Silent {
+    fn progress(&mut self, _progress: Progress) {}
+}

@@ -1,0 +1,13 @@
+//! Tests of the words of the command line.
+#![tactic(auto)]
+
+#[cfg(test)]
+mod hunts;
+#[cfg(test)]
+mod readings;
+#[cfg(test)]
+mod requests;
+#[cfg(test)]
+mod weights;
+#[cfg(test)]
+mod words;

@@ -1,9 +1,0 @@
-//! Tests of the words of the command line.
-#![tactic(auto)]
-
-#[cfg(test)]
-mod hunts;
-#[cfg(test)]
-mod weights;
-#[cfg(test)]
-mod words;

@@ -1,8 +1,0 @@
-//! Laws of the definitions: functions with empty bodies, whose contracts are the laws.
-
-ghost use Rattle.pf_words.specs.Words.{StatusesAgree};
-
-/// Words that are refused, or ask for help or the version, have one status, whichever kind of error they fail by.
-pub fn statuses_agree()
-    ensures { StatusesAgree }
-{}

@@ -1,0 +1,16 @@
+use Rattle.std.proofs.Common.{◌∙◌, refl, sym, ap}
+use Rattle.pf_cli.specs.Args.{view_of_reading}
+use Rattle.pulsefarm.proofs.Unread.{reads_not, told_as, works_not}
+use Rattle.pulsefarm.proofs.obey.obey.Goals as goal
+
+pub returns-in-Args : goal.returns-in-Args
+returns-in-Args g c status is_fault e =
+    absurd (works_not _ _ status is_fault (sym (ap view_of_reading c.in-Args.is) ∙ c.in_ok-args.ensures ∙ e))
+
+pub returns-in-ScheduleIn : goal.returns-in-ScheduleIn
+returns-in-ScheduleIn g c status is_fault e =
+    absurd (reads_not _ status is_fault (sym (ap view_of_reading c.in-ScheduleIn.is) ∙ c.in_ok-args.ensures ∙ e))
+
+pub returns-in-Text : goal.returns-in-Text
+returns-in-Text g c status is_fault e =
+    (refl, refl, told_as _ _ _ _ _ _ _ _ _ (sym (ap view_of_reading c.in-Text.is) ∙ c.in_ok-args.ensures ∙ e) c.tell.ensures)

@@ -1,0 +1,97 @@
+//! What the program says of words that ask for no work, and of faults.
+
+ghost use Rattle.std.specs.Prelude.{false};
+ghost use Rattle.pulsefarm.specs.Unread.{TellsText};
+
+use crate::escape::{Shown, without_tip};
+use pf_fault::NoMemory;
+use pf_terms::{Counted, StreamFault};
+use std::io::{self, Write};
+use std::sync::ledger::Ledger;
+
+/// The status if something is refused, can't be read or written, or memory runs out.
+pub const REFUSED: u8 = 2;
+
+/// Exit status on a broken pipe: 128 + SIGPIPE.
+const BROKEN_PIPE: u8 = 128 + 13;
+
+/// Says that memory ran out.
+pub fn no_memory(rt: &impl Print) -> u8 {
+    let _printed = println!(rt; "{NoMemory}");
+    REFUSED
+}
+
+/// The same on standard error, for a command whose replies went out before.
+pub fn no_more_memory(rt: &impl Eprint) -> u8 {
+    let _printed = eprintln!(rt; "pulsefarm: {NoMemory}");
+    REFUSED
+}
+
+/// Says what failed, and why; a file by its name. If nobody reads the output any more, that is no fault to speak of.
+pub fn failed(rt: &(impl Print + Eprint), file: Option<&str>, fault: &StreamFault) -> u8 {
+    let error = fault.error();
+    if error.kind() == io::ErrorKind::BrokenPipe {
+        return BROKEN_PIPE;
+    }
+    match (fault, file) {
+        (StreamFault::Read(_), Some(text)) => {
+            let shown = Shown {
+                text,
+                has_lines: false,
+            };
+            let _printed = eprintln!(rt; "pulsefarm: {shown}: {error}");
+        }
+        _ => {
+            let _printed = eprintln!(rt; "pulsefarm: {fault}: {error}");
+        }
+    }
+    REFUSED
+}
+
+/// Says what is wrong with words.
+fn tell_fault(rt: &impl Eprint, text: &str) {
+    let (front, back) = without_tip(text);
+    for text in [front, back] {
+        let shown = Shown {
+            text,
+            has_lines: true,
+        };
+        let _printed = eprint!(rt; "{shown}");
+    }
+}
+
+/// Prints a text; its status, unless it can't be written.
+fn tell_text<W: Write, M: Ledger>(
+    rt: &(impl Print + Eprint),
+    text: &str,
+    status: u8,
+    writer: &mut Counted<W, M>,
+) -> u8
+    ensures { TellsText false status result
+        (W.contents writer.old.inner) (W.contents writer.new.inner)
+        writer.old.failures.total writer.new.failures.total }
+{
+    match writer.put(text.as_bytes()) {
+        Ok(()) => status,
+        Err(fault) => failed(rt, None, &fault),
+    }
+}
+
+/// Prints the text of words that ask for no work, help, the version or what is wrong with them; their status.
+pub fn tell<W: Write, M: Ledger>(
+    rt: &(impl Print + Eprint),
+    text: &str,
+    status: u8,
+    is_fault: bool,
+    writer: &mut Counted<W, M>,
+) -> u8
+    ensures { TellsText is_fault status result
+        (W.contents writer.old.inner) (W.contents writer.new.inner)
+        writer.old.failures.total writer.new.failures.total }
+{
+    if is_fault {
+        tell_fault(rt, text);
+        return status;
+    }
+    tell_text(rt, text, status, writer)
+}

@@ -1,0 +1,86 @@
+//! What the program does with its words.
+
+ghost use Rattle.std.specs.Prelude.{◌≡◌, ℕ, Bool, map, None, Some, option_map, MatchResult};
+ghost use Rattle.pf_cli.specs.Args.{reading_of, tells, view_of_reading};
+ghost use Rattle.pf_command.specs.Streams.{streams};
+ghost use Rattle.pulsefarm.specs.Unread.{LeavesUnread};
+
+use crate::messages::{failed, no_memory, tell};
+use crate::progress::Line;
+use crate::schedule::{contents, schedule_in};
+use crate::work::work;
+use pf_cli::{Reading, read};
+use pf_fault::NoMemory;
+use pf_terms::{Counted, StreamFault};
+use std::alloc::AllocGlobal;
+use std::fs::Files;
+use std::io::{self, Read, Write};
+use std::random::RandomSource;
+use std::sync::ledger::Ledger;
+use std::thread::Threads;
+use std::time::Clock;
+
+/// Says why the file of a schedule can't be read.
+fn unread_file(rt: &(impl Print + Eprint), file: &str, error: io::Error) -> u8 {
+    if error.kind() == io::ErrorKind::OutOfMemory {
+        return no_memory(rt);
+    }
+    failed(rt, Some(file), &StreamFault::Read(error))
+}
+
+/// Does what words ask for by the schedule in a file.
+fn obey_schedule<R, I: Read, W: Write, L: Ledger, M: Ledger>(
+    rt: &R,
+    words: &[&str],
+    file: &str,
+    stdin: &mut Counted<I, L>,
+    writer: &mut Counted<W, M>,
+    line: &Line,
+) -> Result<u8, NoMemory>
+where
+    R: Files + Print + Eprint + AllocGlobal + RandomSource + Clock + Threads + Sync,
+{
+    let contents = match contents(rt, file) {
+        Ok(contents) => contents,
+        Err(error) => return Ok(unread_file(rt, file, error)),
+    };
+    match read(rt.alloc(), words, Some(schedule_in(&contents)))? {
+        Reading::Args(args) => Ok(work(rt, &args, stdin, writer, line)),
+        Reading::Text {
+            text,
+            status,
+            is_fault,
+        } => Ok(tell(rt, &text, status, is_fault, writer)),
+        Reading::ScheduleIn(_) => unreachable!(),
+    }
+}
+
+/// Does what words ask for, the first of which names the program; its status. If they ask for no work, nothing is read, and only their text
+/// goes out.
+pub fn obey<R, I: Read, W: Write, L: Ledger, M: Ledger>(
+    rt: &R,
+    words: &[&str],
+    stdin: &mut Counted<I, L>,
+    writer: &mut Counted<W, M>,
+    line: &Line,
+) -> Result<u8, NoMemory>
+where
+    R: Files + Print + Eprint + AllocGlobal + RandomSource + Clock + Threads + Sync,
+    ensures { (status : ℕ) (is_fault : Bool)
+        → reading_of None (map (λ w. w.now) words.now) ≡ tells status is_fault
+        → LeavesUnread is_fault status result
+        (streams (I.remaining stdin.old.inner) (W.contents writer.old.inner)
+        stdin.old.failures.total writer.old.failures.total)
+        (streams (I.remaining stdin.new.inner) (W.contents writer.new.inner)
+        stdin.new.failures.total writer.new.failures.total) }
+{
+    match read(rt.alloc(), words, None)? {
+        Reading::Args(args) => Ok(work(rt, &args, stdin, writer, line)),
+        Reading::Text {
+            text,
+            status,
+            is_fault,
+        } => Ok(tell(rt, &text, status, is_fault, writer)),
+        Reading::ScheduleIn(file) => obey_schedule(rt, words, file, stdin, writer, line),
+    }
+}

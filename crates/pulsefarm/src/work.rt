@@ -1,0 +1,162 @@
+//! The work that words ask for, between readers and writers.
+
+ghost use Rattle.std.specs.Prelude.{◌≡◌, ◌<◌};
+
+use crate::args::open;
+use crate::messages::{failed, no_memory, no_more_memory};
+use crate::progress::{Line, Runs, Seeds};
+use pf_cli::{Args, HuntArgs, Sought};
+use pf_command::{Chart, Check, Run, Shrink, hunt_source, serve};
+use pf_fault::OrNoMemory;
+use pf_profile::run_steps;
+use pf_terms::{Counted, StreamFault};
+use std::alloc::AllocGlobal;
+use std::fs::Files;
+use std::hash::RandomState;
+use std::io::{self, Read, Write};
+use std::marker::Brand;
+use std::random::RandomSource;
+use std::sync::ledger::{Blank, Ledger};
+use std::thread::{Threads, available_parallelism};
+use std::time::Clock;
+
+/// What the work of a command ends with: a status, or what stopped it.
+type Answered = Result<u8, OrNoMemory<StreamFault>>;
+
+/// Answers commands. The keys of its tables are random, so that no choice of projects or sources makes it slow.
+fn answer_steps<R: Read, W: Write, L: Ledger, M: Ledger>(
+    rt: &(impl AllocGlobal + RandomSource),
+    reader: &mut Counted<R, L>,
+    writer: &mut Counted<W, M>,
+) -> Answered {
+    match RandomState::new(rt) {
+        Ok(keys) => run_steps(rt.alloc(), keys, reader, writer),
+        Err(_) => {
+            let reason = "the system gives no random numbers";
+            let error = io::Error::new(io::ErrorKind::Other, reason);
+            Err(OrNoMemory::Fault(StreamFault::Read(error)))
+        }
+    }
+}
+
+/// How many threads run the seeds of a hunt: those that are named, or one for each of the machine's processors, at most 64.
+fn workers_of(rt: &impl Threads, args: &HuntArgs) -> u64 {
+    match (args.workers, available_parallelism(rt)) {
+        (Some(named), _) => u64::from(named),
+        (None, Ok(count)) => u64::try_from(count.get()).unwrap_or(1).min(64),
+        (None, Err(_)) => 1,
+    }
+}
+
+/// The runs that the schedule of a seed may be shrunk within.
+fn most_runs(args: &HuntArgs) -> u32 {
+    match args.sought {
+        Sought::Failure { runs: Some(runs) } => runs,
+        Sought::Failure { runs: None } | Sought::Outcomes => 0,
+    }
+}
+
+/// Answers a source whose seeds are run; the line tells how far that came.
+fn answer_hunt<R: Read, W: Write, L: Ledger, M: Ledger>(
+    rt: &(impl AllocGlobal + Clock + Threads + Sync),
+    args: &HuntArgs,
+    reader: &mut Counted<R, L>,
+    writer: &mut Counted<W, M>,
+    line: &Line,
+) -> Answered {
+    let workers = workers_of(rt, args);
+    let mut seeds = Seeds::new(line, rt, args.end.saturating_sub(args.first));
+    let mut runs = Runs::new(line, most_runs(args));
+    hunt_source(
+        rt,
+        rt.alloc(),
+        reader,
+        args,
+        workers,
+        writer,
+        &mut seeds,
+        &mut runs,
+    )
+}
+
+/// Does what is asked for between a reader and a writer; the line tells how far a hunt or a shrinking came, and is empty at the end.
+fn answer<R: Read, W: Write, L: Ledger, M: Ledger>(
+    rt: &(impl AllocGlobal + RandomSource + Clock + Threads + Sync),
+    asked: &Args,
+    reader: &mut Counted<R, L>,
+    writer: &mut Counted<W, M>,
+    line: &Line,
+) -> Answered {
+    let alloc = rt.alloc();
+    let answered = match asked {
+        Args::Run(args) => serve(alloc, reader, Run { args }, writer),
+        Args::Chart(args) => serve(alloc, reader, Chart { args }, writer),
+        Args::Hunt(args) => answer_hunt(rt, args, reader, writer, line),
+        Args::Shrink(args) => {
+            let observer = Runs::new(line, args.request.kind.runs());
+            serve(alloc, reader, Shrink { args, observer }, writer)
+        }
+        Args::Check(args) => {
+            let explain = args.explain;
+            serve(alloc, reader, Check { explain }, writer)
+        }
+        Args::Steps(_) => answer_steps(rt, reader, writer),
+    };
+    line.clear();
+    answered
+}
+
+/// The same with what a file holds.
+fn answer_file<R: Read + Drop, W: Write, L: Ledger, M: Ledger>(
+    rt: &(impl AllocGlobal + RandomSource + Clock + Threads + Sync),
+    asked: &Args,
+    file: R,
+    writer: &mut Counted<W, M>,
+    line: &Line,
+    reads: Blank,
+) -> Answered
+    requires reads { reads.name ≡ L.name }
+    requires read_parts { reads.parts ≡ L.parts }
+    requires some_reads { 0 < reads.parts }
+{
+    let mut reader = Counted::<R, L>::new(file, reads);
+    answer(rt, asked, &mut reader, writer, line)
+}
+
+/// The status of a command, and what is said of its end.
+fn end(rt: &(impl Print + Eprint), asked: &Args, file: Option<&str>, answered: Answered) -> u8 {
+    match answered {
+        Ok(status) => status,
+        Err(OrNoMemory::Fault(fault)) if fault.error().kind() != io::ErrorKind::OutOfMemory => {
+            failed(rt, file, &fault)
+        }
+        Err(_) => match asked {
+            Args::Steps(_) => no_more_memory(rt),
+            _ => no_memory(rt),
+        },
+    }
+}
+
+/// Does what is asked for, with the file that is named or with the standard input; its status.
+pub fn work<R, I: Read, W: Write, L: Ledger, M: Ledger>(
+    rt: &R,
+    asked: &Args,
+    stdin: &mut Counted<I, L>,
+    writer: &mut Counted<W, M>,
+    line: &Line,
+) -> u8
+where
+    R: Files + Print + Eprint + AllocGlobal + RandomSource + Clock + Threads + Sync,
+{
+    let Some(name) = asked.file() else {
+        let answered = answer(rt, asked, stdin, writer, line);
+        return end(rt, asked, None, answered);
+    };
+    let answered = match open(rt, name) {
+        Ok(file) => {
+            answer_file::<R::File, W, Brand, M>(rt, asked, file, writer, line, Blank::new(1))
+        }
+        Err(error) => Err(OrNoMemory::Fault(StreamFault::Read(error))),
+    };
+    end(rt, asked, Some(name), answered)
+}

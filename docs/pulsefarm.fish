@@ -1,0 +1,42 @@
+# Completions of pulsefarm for fish: a copy in ~/.config/fish/completions, or in the folder that fish reads for packages.
+
+set -l commands run hunt shrink chart check steps
+
+function __pulsefarm_roots --description 'The exported functions without arguments of the files among the words'
+    for word in (commandline -opc)
+        if test -f $word
+            string match -rag '([a-z][A-Za-z0-9_@]*)/0' < $word
+        end
+    end | sort -u
+end
+
+function __pulsefarm_schedules --description 'No choices, or files that have them'
+    echo none
+    string replace -r '^' @ -- (__fish_complete_path (string replace -r '^@' '' -- (commandline -ct)))
+end
+
+complete -c pulsefarm -n "not __fish_seen_subcommand_from $commands" -f
+complete -c pulsefarm -n "not __fish_seen_subcommand_from $commands" -s h -l help -d 'Print help'
+complete -c pulsefarm -n "not __fish_seen_subcommand_from $commands" -s V -l version -d 'Print version'
+complete -c pulsefarm -n "not __fish_seen_subcommand_from $commands" -a run -d 'Report a run'
+complete -c pulsefarm -n "not __fish_seen_subcommand_from $commands" -a hunt -d 'Run many seeds'
+complete -c pulsefarm -n "not __fish_seen_subcommand_from $commands" -a shrink -d 'Shrink a schedule that fails'
+complete -c pulsefarm -n "not __fish_seen_subcommand_from $commands" -a chart -d 'Draw a run'
+complete -c pulsefarm -n "not __fish_seen_subcommand_from $commands" -a check -d 'Read a module'
+complete -c pulsefarm -n "not __fish_seen_subcommand_from $commands" -a steps -d 'Carry out commands'
+
+complete -c pulsefarm -n "__fish_seen_subcommand_from $commands" -s h -l help -d 'Print help'
+complete -c pulsefarm -n '__fish_seen_subcommand_from run hunt shrink chart' -l root -x -a '(__pulsefarm_roots)' -d 'Function that runs first'
+complete -c pulsefarm -n '__fish_seen_subcommand_from run hunt shrink chart' -l limit -x -d 'Most steps of a run'
+complete -c pulsefarm -n '__fish_seen_subcommand_from run hunt shrink chart' -l edition -x -a '1 2' -d 'Edition'
+complete -c pulsefarm -n '__fish_seen_subcommand_from run hunt shrink chart' -l property -x \
+    -a 'returns true nocrash nodeadlock withinlimit never:' -d 'What a run is judged by'
+complete -c pulsefarm -n '__fish_seen_subcommand_from run chart' -l seed -x -d 'Seed'
+complete -c pulsefarm -n '__fish_seen_subcommand_from run hunt chart' -l weights -x -d 'Weights R:D'
+complete -c pulsefarm -n '__fish_seen_subcommand_from run shrink chart' -l schedule -x -a '(__pulsefarm_schedules)' -d 'Choices, or @FILE'
+complete -c pulsefarm -n '__fish_seen_subcommand_from hunt' -l seeds -x -d 'Seeds A..B'
+complete -c pulsefarm -n '__fish_seen_subcommand_from hunt' -l workers -x -d 'Threads'
+complete -c pulsefarm -n '__fish_seen_subcommand_from hunt' -l all -d 'Tell each outcome'
+complete -c pulsefarm -n '__fish_seen_subcommand_from hunt' -l shrink -x -d 'Shrink within so many runs'
+complete -c pulsefarm -n '__fish_seen_subcommand_from shrink' -l runs -x -d 'Most runs'
+complete -c pulsefarm -n '__fish_seen_subcommand_from check' -l explain -d 'Tell how to mend a refusal'

@@ -1,0 +1,55 @@
+#compdef pulsefarm
+# Completions of pulsefarm for zsh: as `_pulsefarm` in a folder of $fpath.
+
+# The exported functions without arguments of the files among the words.
+_pulsefarm_roots() {
+  local -a found
+  local word
+  for word in $words; do
+    [[ -f $word ]] && found+=(${(f)"$(grep -o '[a-z][A-Za-z0-9_@]*/0' -- $word | cut -d/ -f1)"})
+  done
+  compadd -a found
+}
+
+# No choices, or `@` and a file that has them.
+_pulsefarm_schedules() {
+  if compset -P @; then _files; else compadd none && compadd -S '' @; fi
+}
+
+_pulsefarm_properties() {
+  compadd returns true nocrash nodeadlock withinlimit
+  compadd -S '' never:
+}
+
+_pulsefarm() {
+  local -a job weights schedule
+  job=(
+    '--root[function that runs first]:function:_pulsefarm_roots'
+    '--limit[most steps of a run]:steps: '
+    '--edition[edition]:edition:(1 2)'
+    '--property[what a run is judged by]:property:_pulsefarm_properties'
+  )
+  weights='--weights[weights of a process and of a channel]:R\:D: '
+  schedule="--schedule[scheduler's numbers]:schedule:_pulsefarm_schedules"
+  if ((CURRENT == 2)); then
+    compadd run hunt shrink chart check steps
+    _arguments '(-h --help)'{-h,--help}'[print help]' '(-V --version)'{-V,--version}'[print version]'
+    return
+  fi
+  local command=$words[2]
+  shift words
+  ((CURRENT--))
+  local -a own
+  case $command in
+    run | chart) own=($job '--seed[seed]:seed: ' $weights $schedule) ;;
+    hunt)
+      own=($job '--seeds[seeds A..B]:seeds: ' $weights '--workers[threads]:threads: ' '--all[tell each outcome]'
+        '--shrink[shrink within so many runs]:runs: ')
+      ;;
+    shrink) own=($job $schedule '--runs[most runs]:runs: ') ;;
+    check) own=('--explain[tell how to mend a refusal]') ;;
+  esac
+  _arguments $own '(-h --help)'{-h,--help}'[print help]' '*:file:_files'
+}
+
+_pulsefarm "$@"
