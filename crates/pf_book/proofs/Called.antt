@@ -21,7 +21,7 @@ use Rattle.pf_book.specs.Kept.{desk_in, IsValid}
 use Rattle.pf_book.specs.Plans.{with_change, IsPlan}
 use Rattle.pf_book.specs.Profile.{ForRight}
 use Rattle.pf_book.specs.Users.{holding, CountUsers}
-use Rattle.pf_book.specs.View.{reply_seen, view_of_entry}
+use Rattle.pf_book.specs.View.{view_of_reply, view_of_entry}
 use Rattle.pf_book.specs.declared.desk.Desk.TheInside.{Inside}
 use Rattle.pf_book.specs.declared.plan.Change.{Change}
 use Rattle.pf_book.specs.declared.plan.Change.TheVariants as change
@@ -59,7 +59,7 @@ module _ (d : Desk) (u : Usage) (sums : u ≡ usage_in d) where
   has_room h = told_limit None h
 
   -- a call that the log has no room for is answered so, and the desk stays
-  pub full_answers : (limit : Limit) (c : Call) (r : Reply) → refusal_of d.edition u charge.Call ≡ Some limit → reply_seen r ≡ desk.refused (quota.code_of limit)
+  pub full_answers : (limit : Limit) (c : Call) (r : Reply) → refusal_of d.edition u charge.Call ≡ Some limit → view_of_reply r ≡ desk.refused (quota.code_of limit)
       → (d' : Desk) → d' ≡ d → DeskAnswers d c (Ok r) d'
   full_answers limit c r h told d' same p right =
       let full = told_limit (Some limit) h in (
@@ -90,9 +90,9 @@ changed_desk d a e edition ms ts es made noted =
     ∙ ap (λ (k : Desk). with_entry k e) (sym (with_history d a))
 
 module _ (d : Desk) (c : Call) (plan : Plan) (planned : IsPlan d c plan) (room : HasRoom d) (d' : Desk)
-    (is : d' ≡ with_entry (with_change d plan.change) (called c (reply_seen plan.reply))) where
+    (is : d' ≡ with_entry (with_change d plan.change) (called c (view_of_reply plan.reply))) where
   abbrev told : desk.Reply
-  told = reply_seen plan.reply
+  told = view_of_reply plan.reply
 
   longer : d'.history ≡ d.history ++ called c told ∷ []
   longer = ap (λ (k : Desk). k.history) is ∙ ap (λ es. es ++ called c told ∷ []) (same_history d plan.change)
@@ -110,7 +110,7 @@ module _ (d : Desk) (c : Call) (plan : Plan) (planned : IsPlan d c plan) (room :
       ∙ sym (ap (λ (o : Option Code). (within_limits d o (noted c (answered p d c))).1) room)
 
   pub called_answers : (reply : Reply) → reply ≡ plan.reply → DeskAnswers d c (Ok reply) d'
-  called_answers reply same p right = (ap reply_seen same ∙ reply_is p right, called_is p right)
+  called_answers reply same p right = (ap view_of_reply same ∙ reply_is p right, called_is p right)
 
   called_legal : ForRight (λ p. IsLegalDesk p d) → ForRight (λ p. IsLegalDesk p d')
   called_legal h p right = desk_more p d d' (called c told) (h p right) (room, reply_is p right, called_is p right) longer

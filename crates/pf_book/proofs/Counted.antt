@@ -12,9 +12,9 @@ use Rattle.pf_desks.specs.Desk.{Trial, held_at, with_held, all_held}
 use Rattle.pf_book.specs.Users.{CountUsers}
 use Rattle.pf_book.proofs.Held.{held_push, Around, around, gap}
 
--- ---- counts by place
+-- ---- counts by index
 
--- each place has the number of it that a function says
+-- each index has the number of it that a function says
 abbrev AreAll : List ℕ → (ℕ → ℕ) → Type 0
 AreAll us U = (i : ℕ) → IfSome (slice_get us i) (λ k. k ≡ U i)
 

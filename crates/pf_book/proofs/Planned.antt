@@ -29,7 +29,7 @@ use Rattle.pf_book.specs.declared.plan.Plan.{Plan}
 use Rattle.pf_book.specs.Orders.{Asked}
 use Rattle.pf_book.specs.Plans.{with_change, IsPlan, IsCharged}
 use Rattle.pf_book.specs.Profile.{ForRight}
-use Rattle.pf_book.specs.View.{view_of_entry, reply_seen}
+use Rattle.pf_book.specs.View.{view_of_entry, view_of_reply}
 use Rattle.pf_book.proofs.Profiles.{submitted_read, submitted_refused}
 use Rattle.pf_book.proofs.Sums.{module_charged, module_refunded, trial_charged, trial_refunded}
 
@@ -38,7 +38,7 @@ Answer = Desk × desk.Reply
 
 module _ (d : Desk) (u : Usage) (counts : IsCharged d u) (plan : Plan) where
   -- a plan that changes nothing
-  pub alone : (c : Call) (r : desk.Reply) → with_change d plan.change ≡ d → reply_seen plan.reply ≡ r → plan.usage ≡ u
+  pub alone : (c : Call) (r : desk.Reply) → with_change d plan.change ≡ d → view_of_reply plan.reply ≡ r → plan.usage ≡ u
       → ForRight (λ p. ◌≡◌ {A = Answer} (answered p d c) (d, r)) → view_of_entry plan.noted ≡ desk.called c r → IsPlan d c plan
   alone c r same told uses so noted = record {
     answers = λ p right. (λ i. (same i, told i)) ∙ sym (so p right);
@@ -47,7 +47,7 @@ module _ (d : Desk) (u : Usage) (counts : IsCharged d u) (plan : Plan) where
   }
 
   -- a plan that leads to another desk
-  changed : (c : Call) (d' : Desk) (r : desk.Reply) → with_change d plan.change ≡ d' → reply_seen plan.reply ≡ r
+  changed : (c : Call) (d' : Desk) (r : desk.Reply) → with_change d plan.change ≡ d' → view_of_reply plan.reply ≡ r
       → plan.usage ≡ charged (usage_in d') charge.Call
       → ForRight (λ p. ◌≡◌ {A = Answer} (answered p d c) (d', r)) → view_of_entry plan.noted ≡ desk.called c r → IsPlan d c plan
   changed c d' r leads told uses so noted = record {
@@ -59,7 +59,7 @@ module _ (d : Desk) (u : Usage) (counts : IsCharged d u) (plan : Plan) where
   -- ---- drops and withdrawals
 
   pub drop_planned : (t : ℕ) (x : Trial) → held_at d.trials t ≡ Some x → with_change d plan.change ≡ record d { trials = with_held d.trials t None }
-      → reply_seen plan.reply ≡ desk.given_up → view_of_entry plan.noted ≡ desk.called (calls.drop_trial t) desk.given_up
+      → view_of_reply plan.reply ≡ desk.given_up → view_of_entry plan.noted ≡ desk.called (calls.drop_trial t) desk.given_up
       → plan.usage ≡ refunded u (held.Trial (steps_of_trial x.job.asked.limit x.job.asked.runs)) → IsPlan d (calls.drop_trial t) plan
   drop_planned t x h leads told noted uses =
       changed (calls.drop_trial t) (record d { trials = with_held d.trials t None }) desk.given_up leads told
@@ -68,7 +68,7 @@ module _ (d : Desk) (u : Usage) (counts : IsCharged d u) (plan : Plan) where
 
   pub withdrawal_planned : (n : ℕ) (m : ReadModule) → held_at d.modules n ≡ Some m → users_of d n ≡ 0
       → with_change d plan.change ≡ record d { modules = with_held d.modules n None }
-      → reply_seen plan.reply ≡ desk.given_up → view_of_entry plan.noted ≡ desk.called (calls.withdraw n) desk.given_up
+      → view_of_reply plan.reply ≡ desk.given_up → view_of_entry plan.noted ≡ desk.called (calls.withdraw n) desk.given_up
       → plan.usage ≡ refunded u (held.Module (length m.source)) → IsPlan d (calls.withdraw n) plan
   withdrawal_planned n m h free leads told noted uses =
       changed (calls.withdraw n) (record d { modules = with_held d.modules n None }) desk.given_up leads told
@@ -77,7 +77,7 @@ module _ (d : Desk) (u : Usage) (counts : IsCharged d u) (plan : Plan) where
 
   -- a module that a held trial uses isn't withdrawn
   pub withdrawal_in_use : (n : ℕ) (m : ReadModule) → held_at d.modules n ≡ Some m → 0 < users_of d n → with_change d plan.change ≡ d
-      → reply_seen plan.reply ≡ desk.refused fault.ModuleInUse → plan.usage ≡ u
+      → view_of_reply plan.reply ≡ desk.refused fault.ModuleInUse → plan.usage ≡ u
       → view_of_entry plan.noted ≡ desk.called (calls.withdraw n) (desk.refused fault.ModuleInUse) → IsPlan d (calls.withdraw n) plan
   withdrawal_in_use n m h some same told uses noted =
       alone (calls.withdraw n) (desk.refused fault.ModuleInUse) same told uses
@@ -100,7 +100,7 @@ module _ (d : Desk) (u : Usage) (counts : IsCharged d u) (plan : Plan) where
 
   module _ (text : List ℕ) where
     pub source_past_limit : (limit : Limit) → refusal_of d.edition u (charge.Module (length text)) ≡ Some limit → with_change d plan.change ≡ d
-        → reply_seen plan.reply ≡ desk.refused (quota.code_of limit) → plan.usage ≡ u
+        → view_of_reply plan.reply ≡ desk.refused (quota.code_of limit) → plan.usage ≡ u
         → view_of_entry plan.noted ≡ desk.called (calls.submit text) (desk.refused (quota.code_of limit)) → IsPlan d (calls.submit text) plan
     source_past_limit limit past same told uses noted =
         alone (calls.submit text) (desk.refused (quota.code_of limit)) same told uses
@@ -110,16 +110,16 @@ module _ (d : Desk) (u : Usage) (counts : IsCharged d u) (plan : Plan) where
       no_limit : (p : Profile) → ◌≡◌ {A = Answer} (answered p d (calls.submit text)) (submitted d text (p.reading text))
       no_limit p = ap (λ (o : Option Code). within_limits d o (submitted d text (p.reading text))) (module_limit (length text) None within)
 
-      pub source_no_module : (code : Code) (place : ℕ) → Reads text (refused code place) → with_change d plan.change ≡ d
-          → reply_seen plan.reply ≡ desk.refused code → plan.usage ≡ u
+      pub source_no_module : (code : Code) (index : ℕ) → Reads text (refused code index) → with_change d plan.change ≡ d
+          → view_of_reply plan.reply ≡ desk.refused code → plan.usage ≡ u
           → view_of_entry plan.noted ≡ desk.called (calls.submit text) (desk.refused code) → IsPlan d (calls.submit text) plan
-      source_no_module code place reads same told uses noted =
+      source_no_module code index reads same told uses noted =
           alone (calls.submit text) (desk.refused code) same told uses
-          (λ p right. no_limit p ∙ sym (submitted_refused p right d text code place reads)) noted
+          (λ p right. no_limit p ∙ sym (submitted_refused p right d text code index reads)) noted
 
       pub source_planned : (s : ReadModule) → s.source ≡ text → IsReadAs text s
           → with_change d plan.change ≡ record d { modules = d.modules ++ Some s ∷ [] }
-          → reply_seen plan.reply ≡ desk.number (length d.modules + 1) → plan.usage ≡ charged u (charge.Module (length text))
+          → view_of_reply plan.reply ≡ desk.number (length d.modules + 1) → plan.usage ≡ charged u (charge.Module (length text))
           → view_of_entry plan.noted ≡ desk.called (calls.submit text) (desk.number (length d.modules + 1)) → IsPlan d (calls.submit text) plan
       source_planned s same reads leads told uses noted =
           changed (calls.submit text) (record d { modules = d.modules ++ Some s ∷ [] }) (desk.number (length d.modules + 1)) leads told
@@ -136,14 +136,14 @@ module _ (d : Desk) (u : Usage) (counts : IsCharged d u) (plan : Plan) where
     asked_answered r asked p right = ap (ordered d o.module) (asked p right)
 
     pub order_refused : (code : Code) → Asked d.edition d.modules o (Err code) → with_change d plan.change ≡ d
-        → reply_seen plan.reply ≡ desk.refused code → plan.usage ≡ u
+        → view_of_reply plan.reply ≡ desk.refused code → plan.usage ≡ u
         → view_of_entry plan.noted ≡ desk.called (view_of_order o) (desk.refused code) → IsPlan d (view_of_order o) plan
     order_refused code asked same told uses noted =
         alone (view_of_order o) (desk.refused code) same told uses (asked_answered (Err code) asked) noted
 
     module _ (j : Job) (asked : Asked d.edition d.modules o (Ok j)) where
       pub order_past_limit : (limit : Limit) → refusal_of d.edition u (charge.Trial (steps_of_trial j.asked.limit j.asked.runs)) ≡ Some limit → with_change d plan.change ≡ d
-          → reply_seen plan.reply ≡ desk.refused (quota.code_of limit) → plan.usage ≡ u
+          → view_of_reply plan.reply ≡ desk.refused (quota.code_of limit) → plan.usage ≡ u
           → view_of_entry plan.noted ≡ desk.called (view_of_order o) (desk.refused (quota.code_of limit)) → IsPlan d (view_of_order o) plan
       order_past_limit limit past same told uses noted =
           alone (view_of_order o) (desk.refused (quota.code_of limit)) same told uses
@@ -152,7 +152,7 @@ module _ (d : Desk) (u : Usage) (counts : IsCharged d u) (plan : Plan) where
           (trial_limit (steps_of_trial j.asked.limit j.asked.runs) (Some limit) past)) noted
 
       pub order_planned : refusal_of d.edition u (charge.Trial (steps_of_trial j.asked.limit j.asked.runs)) ≡ None → with_change d plan.change ≡ with_job d o.module j
-          → reply_seen plan.reply ≡ desk.ticket (length d.trials + 1) → plan.usage ≡ charged u (charge.Trial (steps_of_trial j.asked.limit j.asked.runs))
+          → view_of_reply plan.reply ≡ desk.ticket (length d.trials + 1) → plan.usage ≡ charged u (charge.Trial (steps_of_trial j.asked.limit j.asked.runs))
           → view_of_entry plan.noted ≡ desk.called (view_of_order o) (desk.ticket (length d.trials + 1)) → IsPlan d (view_of_order o) plan
       order_planned within leads told uses noted =
           changed (view_of_order o) (with_job d o.module j) (desk.ticket (length d.trials + 1)) leads told
@@ -177,19 +177,19 @@ module _ (d : Desk) (u : Usage) (counts : IsCharged d u) (plan : Plan) where
       else (d, desk.refused fault.NoEdition)
 
   module _ (e : ℕ) where
-    pub no_such_edition : is_edition e ≡ false → with_change d plan.change ≡ d → reply_seen plan.reply ≡ desk.refused fault.NoEdition
+    pub no_such_edition : is_edition e ≡ false → with_change d plan.change ≡ d → view_of_reply plan.reply ≡ desk.refused fault.NoEdition
         → plan.usage ≡ u → view_of_entry plan.noted ≡ desk.called (calls.edition e) (desk.refused fault.NoEdition) → IsPlan d (calls.edition e) plan
     no_such_edition there same told uses noted =
         alone (calls.edition e) (desk.refused fault.NoEdition) same told uses (λ p right. edition_so e false (nat_lt e d.edition) there refl) noted
 
     module _ (there : is_edition e ≡ true) where
-      pub edition_below : nat_lt e d.edition ≡ true → with_change d plan.change ≡ d → reply_seen plan.reply ≡ desk.refused fault.EditionTooLow
+      pub edition_below : nat_lt e d.edition ≡ true → with_change d plan.change ≡ d → view_of_reply plan.reply ≡ desk.refused fault.EditionTooLow
           → plan.usage ≡ u → view_of_entry plan.noted ≡ desk.called (calls.edition e) (desk.refused fault.EditionTooLow) → IsPlan d (calls.edition e) plan
       edition_below below same told uses noted =
           alone (calls.edition e) (desk.refused fault.EditionTooLow) same told uses (λ p right. edition_so e true true there below) noted
 
       pub edition_planned : nat_lt e d.edition ≡ false → with_change d plan.change ≡ record d { edition = e }
-          → reply_seen plan.reply ≡ desk.has_edition → plan.usage ≡ u
+          → view_of_reply plan.reply ≡ desk.has_edition → plan.usage ≡ u
           → view_of_entry plan.noted ≡ desk.called (calls.edition e) desk.has_edition → IsPlan d (calls.edition e) plan
       edition_planned above leads told uses noted =
           changed (calls.edition e) (record d { edition = e }) desk.has_edition leads told (uses ∙ counts)

@@ -26,9 +26,9 @@ module _ (p : Profile) (right : IsRight p) where
       ∙ ap (submitted d bytes) (sym (right.reads bytes (accepted s.code.name s.code.atoms s.code.functions) h))
 
   -- what a source is answered with that was refused
-  pub submitted_refused : (d : Desk) (bytes : List ℕ) (code : Code) (place : ℕ) → Reads bytes (refused code place)
+  pub submitted_refused : (d : Desk) (bytes : List ℕ) (code : Code) (index : ℕ) → Reads bytes (refused code index)
       → ◌≡◌ {A = Desk × Reply} (d, desk.refused code) (submitted d bytes (p.reading bytes))
-  submitted_refused d bytes code place h = ap (submitted d bytes) (sym (right.reads bytes (refused code place) h))
+  submitted_refused d bytes code index h = ap (submitted d bytes) (sym (right.reads bytes (refused code index) h))
 
   -- a request that comes to this job, or is refused for this, does so to the profile
   request_so : (m : ReadModule) (e : ℕ) (r : Request) (x : Result Job Code) → Asks m e r x → job_ordered p e (Some m) r ≡ x

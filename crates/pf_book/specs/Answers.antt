@@ -9,12 +9,12 @@ use Rattle.pf_desks.specs.Work.{is_queued, once, worker_step}
 use Rattle.pf_desks.specs.World.{World, Answer, replied, work_done, not_now, desk_at, step, client, worker}
 use Rattle.pf_book.specs.declared.reply.Reply.{Reply}
 use Rattle.pf_book.specs.Profile.{ForRight}
-use Rattle.pf_book.specs.View.{reply_seen}
+use Rattle.pf_book.specs.View.{view_of_reply}
 
 -- DeskAnswers d c r d': a desk answers a call so and goes on to the next desk; memory runs out only where the log has room for the call, and
 -- leaves the desk as it was
 abbrev pub DeskAnswers : desk.Desk → Call → Result Reply NoMemory → desk.Desk → Type 0
-DeskAnswers d c (Ok r) d' = ForRight (λ p. (reply_seen r ≡ reply_to p d c) × (d' ≡ after_call p d c))
+DeskAnswers d c (Ok r) d' = ForRight (λ p. (view_of_reply r ≡ reply_to p d c) × (d' ≡ after_call p d c))
 DeskAnswers d c (Err e) d' = HasRoom d × (d' ≡ d)
 
 -- DeskWorks d t r d': a worker runs the trial of a ticket whole and the desk goes on to the next one, or the trial isn't queued; memory
@@ -27,7 +27,7 @@ DeskWorks d t (Err e) d' = (is_queued (held_at d.trials t) ≡ true) × (d' ≡ 
 -- Answers w q c r w': a project's call is answered so, as the world's step says, and leads to the next world; memory runs out only where the
 -- project's log has room for the call, and leaves the world as it was
 abbrev pub Answers : World → ℕ → Call → Result Reply NoMemory → World → Type 0
-Answers w q c (Ok r) w' = ForRight (λ p. ◌≡◌ {A = World × Answer} (step p w (client q c)) (w', replied (reply_seen r)))
+Answers w q c (Ok r) w' = ForRight (λ p. ◌≡◌ {A = World × Answer} (step p w (client q c)) (w', replied (view_of_reply r)))
 Answers w q c (Err e) w' = HasRoom (desk_at q w) × (w' ≡ w)
 
 -- Works w q t r w': a worker runs the trial of a project's ticket whole, as the world's step says, and leads to the next world; memory

@@ -14,7 +14,7 @@ use Rattle.pf_book.specs.declared.plan.Change.TheVariants as change
 use Rattle.pf_book.specs.declared.plan.Plan.{Plan}
 use Rattle.pf_book.specs.Kept.{FollowsDesk}
 use Rattle.pf_book.specs.Profile.{ForRight}
-use Rattle.pf_book.specs.View.{view_of_entry, reply_seen}
+use Rattle.pf_book.specs.View.{view_of_entry, view_of_reply}
 
 -- the desk with what a call changes
 abbrev pub with_change : desk.Desk → Change → desk.Desk
@@ -27,8 +27,8 @@ with_change d (change.Edition e) = record d { edition = e }
 
 -- what a call to a desk comes to is what it is answered with, which is noted so; and what is used then, with the call itself
 pub record IsPlan (d : desk.Desk) (c : Call) (plan : Plan) : Type 0 where
-  pub answers : ForRight (λ p. ◌≡◌ {A = desk.Desk × desk.Reply} (with_change d plan.change, reply_seen plan.reply) (answered p d c))
-  pub notes : view_of_entry plan.noted ≡ desk.called c (reply_seen plan.reply)
+  pub answers : ForRight (λ p. ◌≡◌ {A = desk.Desk × desk.Reply} (with_change d plan.change, view_of_reply plan.reply) (answered p d c))
+  pub notes : view_of_entry plan.noted ≡ desk.called c (view_of_reply plan.reply)
   pub usage : plan.usage ≡ charged (usage_in (with_change d plan.change)) charge.Call
 
 -- what is used, with a call that is charged already

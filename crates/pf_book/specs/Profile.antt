@@ -7,10 +7,10 @@ use Rattle.pf_property.specs.Texts.{IsPropertyOf}
 use Rattle.pf_model.specs.Meaning.{Job}
 use Rattle.pf_desks.specs.Desk.{Reading, readable, faulty, Profile}
 
--- what desks see of an outcome: a module, or the code of a refusal without its place
+-- what desks see of an outcome: a module, or the code of a refusal without its offset
 abbrev pub reading_from : Outcome → Reading
 reading_from (accepted name atoms functions) = readable (record { name = name; atoms = atoms; functions = functions })
-reading_from (refused code place) = faulty code
+reading_from (refused code index) = faulty code
 
 -- however a source is read, the profile reads it so; whatever property bytes are, or none, they are to the profile; whatever a job comes to in
 -- the language, it comes to that to the profile

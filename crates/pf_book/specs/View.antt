@@ -31,21 +31,21 @@ code_of refusal.NoEdition = code.NoEdition
 code_of refusal.EditionTooLow = code.EditionTooLow
 code_of (refusal.PastLimit q) = quota.code_of q
 
-abbrev pub stage_seen : Stage → desk.Stage
-stage_seen stage.Queued = desk.at_queue
-stage_seen stage.Running = desk.at_work
-stage_seen stage.Done = desk.at_end
+abbrev pub view_of_stage : Stage → desk.Stage
+view_of_stage stage.Queued = desk.at_queue
+view_of_stage stage.Running = desk.at_work
+view_of_stage stage.Done = desk.at_end
 
-abbrev pub reply_seen : Reply → desk.Reply
-reply_seen (reply.Module n) = desk.number n
-reply_seen (reply.Ticket t) = desk.ticket t
-reply_seen (reply.Result f) = desk.result f.job.asked.code.atoms f.result
-reply_seen (reply.Stage s) = desk.stage (stage_seen s)
-reply_seen reply.GivenUp = desk.given_up
-reply_seen (reply.Usage u) = desk.uses u
-reply_seen (reply.Logged n) = desk.logged n
-reply_seen reply.HasEdition = desk.has_edition
-reply_seen (reply.Refused e) = desk.refused (code_of e)
+abbrev pub view_of_reply : Reply → desk.Reply
+view_of_reply (reply.Module n) = desk.number n
+view_of_reply (reply.Ticket t) = desk.ticket t
+view_of_reply (reply.Result f) = desk.result f.job.asked.code.atoms f.result
+view_of_reply (reply.Stage s) = desk.stage (view_of_stage s)
+view_of_reply reply.GivenUp = desk.given_up
+view_of_reply (reply.Usage u) = desk.uses u
+view_of_reply (reply.Logged n) = desk.logged n
+view_of_reply reply.HasEdition = desk.has_edition
+view_of_reply (reply.Refused e) = desk.refused (code_of e)
 
 abbrev pub view_of_entry : Entry → desk.Entry
 view_of_entry (entry.Submitted s n) = desk.called (calls.submit s) (desk.number n)
@@ -54,7 +54,7 @@ view_of_entry (entry.Ordered o t) = desk.called (view_of_order o.value) (desk.ti
 view_of_entry (entry.OrderRefused o e) = desk.called (view_of_order o.value) (desk.refused (code_of e))
 view_of_entry (entry.Fetched t f) = desk.called (calls.fetch t) (desk.result f.job.asked.code.atoms f.result)
 view_of_entry (entry.FetchRefused t e) = desk.called (calls.fetch t) (desk.refused (code_of e))
-view_of_entry (entry.Stood t s) = desk.called (calls.status t) (desk.stage (stage_seen s))
+view_of_entry (entry.Stood t s) = desk.called (calls.status t) (desk.stage (view_of_stage s))
 view_of_entry (entry.StatusRefused t e) = desk.called (calls.status t) (desk.refused (code_of e))
 view_of_entry (entry.Dropped t) = desk.called (calls.drop_trial t) desk.given_up
 view_of_entry (entry.DropRefused t e) = desk.called (calls.drop_trial t) (desk.refused (code_of e))

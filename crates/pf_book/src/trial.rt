@@ -5,7 +5,7 @@ ghost use Rattle.std.specs.Option.{option_map};
 ghost use Rattle.pf_quota.specs.Charges.{steps_of_trial};
 ghost use Rattle.pf_desks.specs.Desk as desk;
 ghost use Rattle.pf_desks.specs.Calls.{result_in, stage_of};
-ghost use Rattle.pf_book.specs.View.{code_of, stage_seen};
+ghost use Rattle.pf_book.specs.View.{code_of, view_of_stage};
 ghost use Rattle.pf_book.specs.Queued.{queued_job};
 
 use crate::refusal::Refusal;
@@ -83,7 +83,7 @@ impl Trial {
 
     /// How far it is.
     pub fn stage(&self) -> Stage
-        ensures { stage_seen result ≡ stage_of self.now.state }
+        ensures { view_of_stage result ≡ stage_of self.now.state }
     {
         match &self.state {
             State::Queued(_) => Stage::Queued,

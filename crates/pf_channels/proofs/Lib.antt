@@ -1,5 +1,5 @@
 pub mod Sorted
 pub mod Rows
-pub mod Places
+pub mod Indices
 pub mod Heads
 pub mod Crossing

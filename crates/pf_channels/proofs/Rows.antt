@@ -1,4 +1,4 @@
--- One row: what sending and taking at a place make of it.
+-- One row: what sending and taking at an index make of it.
 use Rattle.std.proofs.Common.{◌≡◌, ℕ, ◌<◌, [], ◌∷◌, Option, Some, None, Result, Ok, Err, OnOk, sym, ap, subst, ◌∙◌, length, slice_index_or, slice_set}
 use Rattle.std.specs.List.{insert, remove}
 use Rattle.pf_model.specs.Channels.{Signal, Queue, Row, with_last, left_in}
@@ -7,7 +7,7 @@ use Rattle.pf_channels.specs.Rows.{taken_in}
 use Rattle.pf_channels.specs.Sorted.{Rises, IsAt, IsGapFor}
 use Rattle.pf_channels.proofs.Sorted.{got_at, got_gap, key_at, put_at, put_gap, without_at, rises_set, remove_set}
 
--- the queue to b stands at a place of a row, and was read there with its receiver
+-- the queue to b stands at an index of a row, and was read there with its receiver
 pub record Found (b : ℕ) (r : Row) (i : ℕ) (old : ℕ × Queue) : Type 0 where
   pub rises : Rises 0 r
   pub at : IsAt b r i

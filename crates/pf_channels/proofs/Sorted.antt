@@ -1,4 +1,4 @@
--- Lists by rising key: what a search finds in them, and what a change at its place makes of them.
+-- Lists by rising key: what a search finds in them, and what a change at its index makes of them.
 use Rattle.std.proofs.Common.{◌≡◌, ℕ, zero, suc, ◌+◌, ◌<◌, ◌≤◌, ◌^◌, ◌==◌, nat_lt, true, false, List, [], ◌∷◌, Some, None}
 use Rattle.std.proofs.Common.{Result, Ok, Err, MatchResult, refl, sym, ap, ◌∙◌, arith, length, slice_index_or, slice_set}
 use Rattle.std.specs.List.{insert, remove}
@@ -41,7 +41,7 @@ keys_rise low (p ∷ ps) zero (suc j) d h le l = omega (arith, key_from (suc p.0
 keys_rise low (p ∷ ps) (suc i) zero d h le l = absurd (omega arith)
 keys_rise low (p ∷ ps) (suc i) (suc j) d h le l = keys_rise (suc p.0) ps i j d h.1 (omega arith) (omega arith)
 
--- a place within that has the key is the key's
+-- an index within that has the key is the key's
 at_from : {T : Type 0} → (low k : ℕ) (ps : List (ℕ × T)) (i : ℕ) (d : ℕ × T) → Rises low ps → i < length ps → (slice_index_or ps i d).0 ≡ k
     → IsAt k ps i
 at_from low k [] i d h l e = absurd (omega arith)
@@ -49,7 +49,7 @@ at_from low k (p ∷ ps) zero d h l e = e
 at_from low k (p ∷ ps) (suc i) d h l e =
     let q = key_from (suc p.0) ps i d h.1 (omega arith) in (omega arith, at_from (suc p.0) k ps i d h.1 (omega arith) e)
 
--- a place between smaller keys and greater ones is the key's gap
+-- an index between smaller keys and greater ones is the key's gap
 gap_from : {T : Type 0} → (k : ℕ) (ps : List (ℕ × T)) (i : ℕ) → i ≤ length ps
     → ((j : ℕ) (d : ℕ × T) → j < i → (slice_index_or ps j d).0 < k) → ((j : ℕ) (d : ℕ × T) → i ≤ j → j < length ps → k < (slice_index_or ps j d).0)
     → IsGapFor k ps i
@@ -100,7 +100,7 @@ got_gap k low [] i h g = refl
 got_gap k low (p ∷ ps) zero h g = let q = above p.0 k g in rw q (got_below k (suc p.0) ps (omega arith) h.1)
 got_gap k low (p ∷ ps) (suc i) h g = let q = below p.0 k g.0 in rw q (got_gap k (suc p.0) ps i h.1 g.1)
 
--- ---- changes at a place
+-- ---- changes at an index
 
 pub put_at : {T : Type 0} → (k : ℕ) (ps : List (ℕ × T)) (i a : ℕ) (x : T) → IsAt k ps i → a ≡ k → slice_set ps i (a, x) ≡ put k x ps
 put_at k [] i a x h e = absurd h

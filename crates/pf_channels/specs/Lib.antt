@@ -1,3 +1,3 @@
-pub mod Codes
+pub mod Encoding
 pub mod Sorted
 pub mod Rows

@@ -29,7 +29,7 @@ impl Model for Queue {
     ghost use Rattle.std.specs.Prelude.{map};
     ghost use Rattle.pf_model.specs.Channels.{Queue as Signals};
     ghost use Rattle.pf_model.specs.Signals.{signal_of};
-    ghost use Rattle.pf_channels.specs.Codes.{coded_queue};
+    ghost use Rattle.pf_channels.specs.Encoding.{coded_queue};
 
     ghost Value = { Signals };
 

@@ -22,7 +22,7 @@ pub(crate) struct Row {
 
 impl Model for Row {
     ghost use Rattle.pf_model.specs.Channels.{Row as Queues};
-    ghost use Rattle.pf_channels.specs.Codes.{coded_row};
+    ghost use Rattle.pf_channels.specs.Encoding.{coded_row};
     ghost use Rattle.pf_channels.specs.Sorted.{Rises};
 
     ghost Value = { Queues };
@@ -51,7 +51,7 @@ impl Row {
         self.queues.len()
     }
 
-    /// The receiver of the queue at this place.
+    /// The receiver of the queue at this index.
     pub(crate) fn receiver(&self, at: usize) -> u32
         requires { at < length self.now }
         ensures { slice_get (map (λ queue. queue.0) self.now) at ≡ Some result }

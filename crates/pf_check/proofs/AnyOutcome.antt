@@ -5,9 +5,9 @@ use Rattle.pf_tokens.specs.Rules.{HasTokens}
 use Rattle.pf_tokens.specs.Scan.{Read, tokens}
 use Rattle.pf_tokens.proofs.Texts.{Tells, tokens_tell}
 use Rattle.pf_syntax.specs.Module.{Checked, empty}
-use Rattle.pf_numbered.specs.NumberedTokens.{NumberedToken, atoms_of, numbered}
+use Rattle.pf_intern.specs.NumberedTokens.{NumberedToken, atoms_of, numbered}
 use Rattle.pf_grammar.specs.Grammar.{HasHead, DerivesTree}
-use Rattle.pf_syntax.specs.WrittenModule.{Tree}
+use Rattle.pf_syntax.specs.ExprModule.{Tree}
 use Rattle.pf_grammar.specs.Parse.{begins, tree}
 use Rattle.pf_grammar.proofs.Whole.{begins_sound, begins_complete, tree_sound, tree_complete}
 use Rattle.pf_fault.specs.Codes.{rank_of}
@@ -34,14 +34,14 @@ compare (suc a) (suc b) = further (compare a b)
     further (inr (inr h)) = inr (inr (omega (arith, h)))
 
 either_first : (f g : Refusal) → NotAfter f g ⊎ NotAfter g f
-either_first f g = by_offset (compare f.place g.place)
+either_first f g = by_offset (compare f.offset g.offset)
   where
-    by_rank : f.place ≡ g.place → (rank_of f.code < rank_of g.code) ⊎ ((rank_of f.code ≡ rank_of g.code) ⊎ (rank_of g.code < rank_of f.code)) → NotAfter f g ⊎ NotAfter g f
+    by_rank : f.offset ≡ g.offset → (rank_of f.code < rank_of g.code) ⊎ ((rank_of f.code ≡ rank_of g.code) ⊎ (rank_of g.code < rank_of f.code)) → NotAfter f g ⊎ NotAfter g f
     by_rank e (inl h) = inl (inr (e, omega (arith, h)))
     by_rank e (inr (inl h)) = inl (inr (e, omega (arith, h)))
     by_rank e (inr (inr h)) = inr (inr (sym e, omega (arith, h)))
 
-    by_offset : (f.place < g.place) ⊎ ((f.place ≡ g.place) ⊎ (g.place < f.place)) → NotAfter f g ⊎ NotAfter g f
+    by_offset : (f.offset < g.offset) ⊎ ((f.offset ≡ g.offset) ⊎ (g.offset < f.offset)) → NotAfter f g ⊎ NotAfter g f
     by_offset (inl h) = inl (inl h)
     by_offset (inr (inl h)) = by_rank h (compare (rank_of f.code) (rank_of g.code))
     by_offset (inr (inr h)) = inr (inl h)
@@ -109,7 +109,7 @@ module _ (bytes : List ℕ) where
     by_faults : (m : Tree) (all : List Refusal) → faults_of (atoms_of ts) m ≡ all → DerivesTree (atoms_of ts) m (numbered ts) → Outcomes
     by_faults m [] e d = let c = some_module (atoms_of ts) m (numbered ts) d e in (accepted_as c.0, checked ts m c.0 has d e c.1)
     by_faults m (f ∷ fs) e d =
-        let g = some_first f fs in (refused g.0.code g.0.place, static ts m g.0 has d (subst (λ l. IsFirst l g.0) (sym e) g.1))
+        let g = some_first f fs in (refused g.0.code g.0.offset, static ts m g.0 has d (subst (λ l. IsFirst l g.0) (sym e) g.1))
 
     no_derivation : (m : Tree) → tree (atoms_of ts) (numbered ts) ≡ None → DerivesTree (atoms_of ts) m (numbered ts) → ⊥
     no_derivation m e d = let k = tree_complete (atoms_of ts) (numbered ts) m d in cc

@@ -6,19 +6,19 @@ use Rattle.std.proofs.lemmas.List.Quantifiers.{position-Some}
 use Rattle.pf_fault.specs.declared.code.Code.TheVariants.{DefinedTwice}
 use Rattle.pf_terms.specs.Atoms.{name_of}
 use Rattle.pf_syntax.specs.Tree.{Builtin}
-use Rattle.pf_syntax.specs.Source.{Head}
-use Rattle.pf_syntax.specs.WrittenModule.{Tree}
-use Rattle.pf_forms.specs.Forms.{builtin_named}
+use Rattle.pf_syntax.specs.SyntaxTree.{Head}
+use Rattle.pf_syntax.specs.ExprModule.{Tree}
+use Rattle.pf_builtins.specs.Forms.{builtin_named}
 use Rattle.pf_rules.specs.Static.{fault_if, parameters_of, is_named, own_in, is_builtin, defined_faults, names_of, faults_of}
 use Rattle.pf_lower.proofs.Exists.{left_empty, right_empty}
 use Rattle.pf_check.proofs.NoFaults.{none_defined_twice}
 
 -- ---- names
 
-none_second : (a b : Bool) (place : ℕ) → fault_if (a || b) DefinedTwice place ≡ [] → b ≡ false
-none_second true b place e = cc
-none_second false true place e = cc
-none_second false false place e = refl
+none_second : (a b : Bool) (offset : ℕ) → fault_if (a || b) DefinedTwice offset ≡ [] → b ≡ false
+none_second true b offset e = cc
+none_second false true offset e = cc
+none_second false false offset e = refl
 
 -- the name of a function isn't that of a built-in one
 not_built_in : (atoms : List (List ℕ)) (earlier : List (List Head)) (h : Head) (hs : List Head) (f k : ℕ)

@@ -4,18 +4,18 @@ use Rattle.std.proofs.Common.{◌≡◌, inl, inr, ℕ, ◌<◌, ◌≤◌, Bool
 use Rattle.std.proofs.lemmas.List.Elements.{All-nil, All-cons}
 use Rattle.pf_terms.specs.Value.{IsWithinLimits, nodes_in, depth_in}
 use Rattle.pf_syntax.specs.Tree.{plus, minus, times, quotient, remainder, append, equal, unequal, less, at_most, greater, at_least}
-use Rattle.pf_syntax.specs.WrittenPattern as s
-use Rattle.pf_syntax.specs.WrittenPattern.{WrittenPattern, WrittenPatterns, no_written_patterns, written_pattern}
-use Rattle.pf_syntax.specs.WrittenExpression as p
-use Rattle.pf_syntax.specs.WrittenExpression.{WrittenExpression, WrittenExpressions, Condition, Branches, no_written_expressions, written_expression, no_tests, tests, no_branches, branch}
-use Rattle.pf_syntax.specs.Source.{Head}
+use Rattle.pf_syntax.specs.ExprPattern as s
+use Rattle.pf_syntax.specs.ExprPattern.{ExprPattern, ExprPatterns, no_expr_patterns, expr_pattern}
+use Rattle.pf_syntax.specs.Expr as p
+use Rattle.pf_syntax.specs.Expr.{Expr, Exprs, Condition, Branches, no_exprs, expr, no_tests, tests, no_branches, branch}
+use Rattle.pf_syntax.specs.SyntaxTree.{Head}
 use Rattle.pf_syntax.specs.Naming.{characters, string}
-use Rattle.pf_numbered.specs.declared.limits.TheConstants.{MOST_TEXT_CHARACTERS}
-use Rattle.pf_numbered.specs.NumberedTokens.{NumberedToken}
+use Rattle.pf_intern.specs.declared.limits.TheConstants.{MOST_TEXT_CHARACTERS}
+use Rattle.pf_intern.specs.NumberedTokens.{NumberedToken}
 use Rattle.pf_grammar.specs.Grammar.{Names, Infix, operator, and_also, or_else, send, Grouping, leftwards, rightwards, alone, binding_of, left_in, right_in, level_of, left_level, right_level, top, element, Guarded, FrontIs}
-use Rattle.pf_grammar.specs.Grammar.{DerivesWrittenPattern, DerivesWrittenPatterns, Derives, DerivesAll, DerivesBody, DerivesGuard, DerivesBranches, DerivesHead, DerivesHeads, DerivesFunction, DerivesFunctions, DerivesTree}
-use Rattle.pf_syntax.specs.WrittenModule.{unguarded, Tree}
-use Rattle.pf_rules.specs.Formed.{WrittenPatternFormed, WrittenPatternsFormed, WrittenExpressionFormed, WrittenExpressionsFormed, ConditionFormed, BranchesFormed, HasFirst, HasAlternative, HeadFormed, FunctionFormed, AreFormed}
+use Rattle.pf_grammar.specs.Grammar.{DerivesExprPattern, DerivesExprPatterns, Derives, DerivesAll, DerivesBody, DerivesGuard, DerivesBranches, DerivesHead, DerivesHeads, DerivesFunction, DerivesFunctions, DerivesTree}
+use Rattle.pf_syntax.specs.ExprModule.{unguarded, Tree}
+use Rattle.pf_rules.specs.Formed.{ExprPatternFormed, ExprPatternsFormed, ExprFormed, ExprsFormed, ConditionFormed, BranchesFormed, HasFirst, HasAlternative, HeadFormed, FunctionFormed, AreFormed}
 
 -- ---- strings
 
@@ -78,21 +78,21 @@ module _ (n : Names) where
   -- ---- patterns
 
   mutual
-    pub written_pattern_formed : (q : WrittenPattern) (ts : List NumberedToken) → DerivesWrittenPattern n q ts → WrittenPatternFormed q
-    written_pattern_formed (s.integer z) ts h = tt
-    written_pattern_formed (s.atom a) ts h = tt
-    written_pattern_formed (s.variable x at) ts h = tt
-    written_pattern_formed s.anything ts h = tt
-    written_pattern_formed (s.text cs) ts h = text_within cs h.0
-    written_pattern_formed (s.tuple qs) ts h = written_patterns_formed qs h.4.0 h.4.4
-    written_pattern_formed (s.list qs) ts h = written_patterns_formed qs h.4.0 h.4.4
-    written_pattern_formed (s.list_on qs q) ts h =
-        let parts = h.1.4.4 in (written_patterns_formed qs parts.0 parts.5, written_pattern_formed q parts.2 parts.6)
+    pub expr_pattern_formed : (q : ExprPattern) (ts : List NumberedToken) → DerivesExprPattern n q ts → ExprPatternFormed q
+    expr_pattern_formed (s.integer z) ts h = tt
+    expr_pattern_formed (s.atom a) ts h = tt
+    expr_pattern_formed (s.variable x at) ts h = tt
+    expr_pattern_formed s.anything ts h = tt
+    expr_pattern_formed (s.text cs) ts h = text_within cs h.0
+    expr_pattern_formed (s.tuple qs) ts h = expr_patterns_formed qs h.4.0 h.4.4
+    expr_pattern_formed (s.list qs) ts h = expr_patterns_formed qs h.4.0 h.4.4
+    expr_pattern_formed (s.list_on qs q) ts h =
+        let parts = h.1.4.4 in (expr_patterns_formed qs parts.0 parts.5, expr_pattern_formed q parts.2 parts.6)
 
-    written_patterns_formed : (qs : WrittenPatterns) (ts : List NumberedToken) → DerivesWrittenPatterns n qs ts → WrittenPatternsFormed qs
-    written_patterns_formed no_written_patterns ts h = tt
-    written_patterns_formed (written_pattern q no_written_patterns) ts h = (written_pattern_formed q ts h, tt)
-    written_patterns_formed (written_pattern q (written_pattern r qs)) ts h = (written_pattern_formed q h.0 h.5, written_patterns_formed (written_pattern r qs) h.2 h.6)
+    expr_patterns_formed : (qs : ExprPatterns) (ts : List NumberedToken) → DerivesExprPatterns n qs ts → ExprPatternsFormed qs
+    expr_patterns_formed no_expr_patterns ts h = tt
+    expr_patterns_formed (expr_pattern q no_expr_patterns) ts h = (expr_pattern_formed q ts h, tt)
+    expr_patterns_formed (expr_pattern q (expr_pattern r qs)) ts h = (expr_pattern_formed q h.0 h.5, expr_patterns_formed (expr_pattern r qs) h.2 h.6)
 
   -- ---- expressions
 
@@ -108,53 +108,53 @@ module _ (n : Names) where
   guarded_formed c ts guard (inl h) = unguarded_formed c h.0
   guarded_formed c ts guard (inr h) = guard h.1 h.4
 
-  front_formed : (choice : Bool) (q : WrittenPattern) (c : Condition) (ts : List NumberedToken) → ((us : List NumberedToken) → DerivesGuard n c us → IsGuard c)
-      → FrontIs choice q c (DerivesWrittenPattern n q) (DerivesGuard n c) ts → WrittenPatternFormed q × IsGuard c
-  front_formed false q c ts guard h = (written_pattern_formed q h.0 h.3, guarded_formed c h.1 guard h.4)
-  front_formed true q c ts guard h = (subst WrittenPatternFormed (sym h.0) tt, guard ts h.1)
+  front_formed : (choice : Bool) (q : ExprPattern) (c : Condition) (ts : List NumberedToken) → ((us : List NumberedToken) → DerivesGuard n c us → IsGuard c)
+      → FrontIs choice q c (DerivesExprPattern n q) (DerivesGuard n c) ts → ExprPatternFormed q × IsGuard c
+  front_formed false q c ts guard h = (expr_pattern_formed q h.0 h.3, guarded_formed c h.1 guard h.4)
+  front_formed true q c ts guard h = (subst ExprPatternFormed (sym h.0) tt, guard ts h.1)
 
   mutual
     -- at a level below that of a match there is none
-    written_expression_formed : (m g : Bool) (e : WrittenExpression) (level : ℕ) (ts : List NumberedToken) → (element ≤ level → IsTrue m) → Derives n g e level ts → WrittenExpressionFormed m e
-    written_expression_formed m g (p.integer z) level ts k h = tt
-    written_expression_formed m g (p.atom a) level ts k h = tt
-    written_expression_formed m g (p.text cs) level ts k h = text_within cs h.0
-    written_expression_formed m g (p.variable x at) level ts k h = tt
-    written_expression_formed m g (p.anonymous at) level ts k h = tt
-    written_expression_formed m g (p.parentheses a) level ts k h = written_expression_formed false g a top h.4.0 whole_tight h.4.4
-    written_expression_formed m g (p.tuple es) level ts k h = all_formed g es h.4.0 h.4.4
-    written_expression_formed m g (p.list es) level ts k h = all_formed g es h.4.0 h.4.4
-    written_expression_formed m g (p.list_on es e) level ts k h =
-        let parts = h.1.4.4 in (all_formed g es parts.0 parts.5, written_expression_formed false g e top parts.2 whole_tight parts.6)
-    written_expression_formed m g (p.call f at es) level ts k h = all_formed g es h.6.4.0 h.6.4.4
-    written_expression_formed m g (p.binary o a b) level ts k h =
+    expr_formed : (m g : Bool) (e : Expr) (level : ℕ) (ts : List NumberedToken) → (element ≤ level → IsTrue m) → Derives n g e level ts → ExprFormed m e
+    expr_formed m g (p.integer z) level ts k h = tt
+    expr_formed m g (p.atom a) level ts k h = tt
+    expr_formed m g (p.text cs) level ts k h = text_within cs h.0
+    expr_formed m g (p.variable x at) level ts k h = tt
+    expr_formed m g (p.anonymous at) level ts k h = tt
+    expr_formed m g (p.parentheses a) level ts k h = expr_formed false g a top h.4.0 whole_tight h.4.4
+    expr_formed m g (p.tuple es) level ts k h = all_formed g es h.4.0 h.4.4
+    expr_formed m g (p.list es) level ts k h = all_formed g es h.4.0 h.4.4
+    expr_formed m g (p.list_on es e) level ts k h =
+        let parts = h.1.4.4 in (all_formed g es parts.0 parts.5, expr_formed false g e top parts.2 whole_tight parts.6)
+    expr_formed m g (p.call f at es) level ts k h = all_formed g es h.6.4.0 h.6.4.4
+    expr_formed m g (p.binary o a b) level ts k h =
         let i = operator o in
-        (written_expression_formed false g a (left_level i) h.2.0 (left_tight i) h.2.5, written_expression_formed false g b (right_level i) h.2.2 (right_tight i) h.2.6)
-    written_expression_formed m g (p.negate a) level ts k h = written_expression_formed false g a 0 h.1.1 zero_tight h.1.4
-    written_expression_formed m g (p.and_also a b) level ts k h =
-        (written_expression_formed false g a 5 h.2.0 (left_tight and_also) h.2.5, written_expression_formed false g b 6 h.2.2 (right_tight and_also) h.2.6)
-    written_expression_formed m g (p.or_else a b) level ts k h =
-        (written_expression_formed false g a 6 h.2.0 (left_tight or_else) h.2.5, written_expression_formed false g b 7 h.2.2 (right_tight or_else) h.2.6)
-    written_expression_formed m g (p.send a b) level ts k h =
-        (written_expression_formed false g a 7 h.2.0 (left_tight send) h.2.5, written_expression_formed false g b 8 h.2.2 (right_tight send) h.2.6)
-    written_expression_formed m g (p.match q a) level ts k h =
-        (k h.0, written_pattern_formed q h.1.0 h.1.5, written_expression_formed true g a element h.1.2 (λ _. refl) h.1.6)
-    written_expression_formed m g (p.case a bs) level ts k h =
-        let parts = h.1.4.4 in (written_expression_formed false g a top parts.0 whole_tight parts.5, branches_formed false bs parts.2 parts.6)
-    written_expression_formed m g (p.if_expression bs) level ts k h = branches_formed true bs h.1.4.0 h.1.4.4
-    written_expression_formed m g (p.receive bs) level ts k h = branches_formed false bs h.1.4.0 h.1.4.4
+        (expr_formed false g a (left_level i) h.2.0 (left_tight i) h.2.5, expr_formed false g b (right_level i) h.2.2 (right_tight i) h.2.6)
+    expr_formed m g (p.negate a) level ts k h = expr_formed false g a 0 h.1.1 zero_tight h.1.4
+    expr_formed m g (p.and_also a b) level ts k h =
+        (expr_formed false g a 5 h.2.0 (left_tight and_also) h.2.5, expr_formed false g b 6 h.2.2 (right_tight and_also) h.2.6)
+    expr_formed m g (p.or_else a b) level ts k h =
+        (expr_formed false g a 6 h.2.0 (left_tight or_else) h.2.5, expr_formed false g b 7 h.2.2 (right_tight or_else) h.2.6)
+    expr_formed m g (p.send a b) level ts k h =
+        (expr_formed false g a 7 h.2.0 (left_tight send) h.2.5, expr_formed false g b 8 h.2.2 (right_tight send) h.2.6)
+    expr_formed m g (p.match q a) level ts k h =
+        (k h.0, expr_pattern_formed q h.1.0 h.1.5, expr_formed true g a element h.1.2 (λ _. refl) h.1.6)
+    expr_formed m g (p.case a bs) level ts k h =
+        let parts = h.1.4.4 in (expr_formed false g a top parts.0 whole_tight parts.5, branches_formed false bs parts.2 parts.6)
+    expr_formed m g (p.if_expression bs) level ts k h = branches_formed true bs h.1.4.0 h.1.4.4
+    expr_formed m g (p.receive bs) level ts k h = branches_formed false bs h.1.4.0 h.1.4.4
 
-    all_formed : (g : Bool) (es : WrittenExpressions) (ts : List NumberedToken) → DerivesAll n g es ts → WrittenExpressionsFormed false es
-    all_formed g no_written_expressions ts h = tt
-    all_formed g (written_expression e no_written_expressions) ts h = (written_expression_formed false g e top ts whole_tight h, tt)
-    all_formed g (written_expression e (written_expression f es)) ts h =
-        (written_expression_formed false g e top h.0 whole_tight h.5, all_formed g (written_expression f es) h.2 h.6)
+    all_formed : (g : Bool) (es : Exprs) (ts : List NumberedToken) → DerivesAll n g es ts → ExprsFormed false es
+    all_formed g no_exprs ts h = tt
+    all_formed g (expr e no_exprs) ts h = (expr_formed false g e top ts whole_tight h, tt)
+    all_formed g (expr e (expr f es)) ts h =
+        (expr_formed false g e top h.0 whole_tight h.5, all_formed g (expr f es) h.2 h.6)
 
-    body_formed : (es : WrittenExpressions) (ts : List NumberedToken) → DerivesBody n es ts → HasFirst es × WrittenExpressionsFormed true es
-    body_formed no_written_expressions ts h = absurd h
-    body_formed (written_expression e no_written_expressions) ts h = (tt, (written_expression_formed true false e element ts (λ _. refl) h, tt))
-    body_formed (written_expression e (written_expression f es)) ts h =
-        (tt, (written_expression_formed true false e element h.0 (λ _. refl) h.5, (body_formed (written_expression f es) h.2 h.6).1))
+    body_formed : (es : Exprs) (ts : List NumberedToken) → DerivesBody n es ts → HasFirst es × ExprsFormed true es
+    body_formed no_exprs ts h = absurd h
+    body_formed (expr e no_exprs) ts h = (tt, (expr_formed true false e element ts (λ _. refl) h, tt))
+    body_formed (expr e (expr f es)) ts h =
+        (tt, (expr_formed true false e element h.0 (λ _. refl) h.5, (body_formed (expr f es) h.2 h.6).1))
 
     guard_formed : (c : Condition) (ts : List NumberedToken) → DerivesGuard n c ts → IsGuard c
     guard_formed no_tests ts h = absurd h
@@ -181,7 +181,7 @@ module _ (n : Names) where
       let front = d.parts.5 in
       let guard = guarded_formed h.condition front.1 (λ us k. guard_formed h.condition us k) front.4 in
       let body = body_formed h.body d.parts.2 d.parts.6 in
-      (written_patterns_formed h.parameters front.3.4.0 front.3.4.4, guard.0, guard.1, body.0, body.1)
+      (expr_patterns_formed h.parameters front.3.4.0 front.3.4.4, guard.0, guard.1, body.0, body.1)
 
   heads_formed : (hs : List Head) (ts : List NumberedToken) → DerivesHeads n hs ts → FunctionFormed hs
   heads_formed [] ts d = absurd d

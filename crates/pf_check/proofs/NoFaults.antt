@@ -1,7 +1,7 @@
 -- Where a module has no fault, it has none of each kind.
 use Rattle.std.proofs.Common.{◌≡◌, ℕ, List, [], ◌++◌, flat_map}
 use Rattle.pf_fault.specs.declared.refusal.Refusal.{Refusal}
-use Rattle.pf_syntax.specs.WrittenModule.{Tree}
+use Rattle.pf_syntax.specs.ExprModule.{Tree}
 use Rattle.pf_rules.specs.Static.{export_fault, defined_faults, unlike_faults, head_faults, names_of, faults_of}
 use Rattle.pf_lower.proofs.Exists.{left_empty, right_empty}
 

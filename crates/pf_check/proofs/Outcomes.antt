@@ -9,9 +9,9 @@ use Rattle.pf_fault.specs.declared.code.Code.TheVariants.{NoHead, NotGrammar}
 use Rattle.pf_tokens.specs.TokenKinds.{Placed}
 use Rattle.pf_tokens.specs.Rules.{HasTokens, IsFaultOf}
 use Rattle.pf_syntax.specs.Module.{Checked}
-use Rattle.pf_numbered.specs.NumberedTokens.{atoms_of, numbered}
+use Rattle.pf_intern.specs.NumberedTokens.{atoms_of, numbered}
 use Rattle.pf_grammar.specs.Grammar.{DerivesTree}
-use Rattle.pf_syntax.specs.WrittenModule.{Tree}
+use Rattle.pf_syntax.specs.ExprModule.{Tree}
 use Rattle.pf_reader.specs.Outcome.{IsRefused, IsTreeFault}
 use Rattle.pf_rules.specs.Static.{faults_of}
 use Rattle.pf_rules.specs.Checks.{IsModule}
@@ -24,17 +24,17 @@ use Rattle.std.proofs.Common.{length, sym}
 
 pub tokens_refused : (bytes : List ℕ) (f : OrNoMemory Refusal) → IsFaultOf bytes f → IsRefusalOf bytes f
 tokens_refused bytes NoMemory h = tt
-tokens_refused bytes (Fault r) h = token_fault r.code r.place h
+tokens_refused bytes (Fault r) h = token_fault r.code r.offset h
 
 module _ (bytes : List ℕ) (ts : List Placed) (has : HasTokens bytes ts) where
-  grammar_refused : (code : Code) (place : ℕ) → IsRefused (atoms_of ts) (numbered ts) (length bytes) code place → Reads bytes (refused code place)
-  grammar_refused NoHead place h = subst (λ at. Reads bytes (refused NoHead at)) (sym h.1) (no_head ts has h.0)
-  grammar_refused NotGrammar place h = no_tree ts place has h.0 h.1 h.2
-  grammar_refused _ place h = absurd h
+  grammar_refused : (code : Code) (offset : ℕ) → IsRefused (atoms_of ts) (numbered ts) (length bytes) code offset → Reads bytes (refused code offset)
+  grammar_refused NoHead offset h = subst (λ at. Reads bytes (refused NoHead at)) (sym h.1) (no_head ts has h.0)
+  grammar_refused NotGrammar offset h = no_tree ts offset has h.0 h.1 h.2
+  grammar_refused _ offset h = absurd h
 
   pub tree_refused : (f : OrNoMemory Refusal) → IsTreeFault (atoms_of ts) (numbered ts) (length bytes) f → IsRefusalOf bytes f
   tree_refused NoMemory h = tt
-  tree_refused (Fault r) h = grammar_refused r.code r.place h
+  tree_refused (Fault r) h = grammar_refused r.code r.offset h
 
 -- ---- where there is one
 

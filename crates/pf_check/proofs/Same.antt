@@ -11,11 +11,11 @@ use Rattle.pf_tokens.specs.Scan.{Read}
 use Rattle.pf_tokens.proofs.Texts.{tokens_again, tokens_fail}
 use Rattle.pf_syntax.specs.Tree.{Function, FunctionClause}
 use Rattle.pf_syntax.specs.Module.{Checked}
-use Rattle.pf_syntax.specs.Source.{Export, Head}
+use Rattle.pf_syntax.specs.SyntaxTree.{Export, Head}
 use Rattle.pf_syntax.specs.Naming.{Names, HeadIs}
-use Rattle.pf_numbered.specs.NumberedTokens.{atoms_of, numbered}
+use Rattle.pf_intern.specs.NumberedTokens.{atoms_of, numbered}
 use Rattle.pf_grammar.specs.Grammar.{HasHead, DerivesTree}
-use Rattle.pf_syntax.specs.WrittenModule.{Tree}
+use Rattle.pf_syntax.specs.ExprModule.{Tree}
 use Rattle.pf_grammar.proofs.Whole.{one_tree}
 use Rattle.pf_rules.specs.Static.{faults_of, names_of, NotAfter, IsFirst}
 use Rattle.pf_rules.specs.Checks.{Pairwise, FunctionIs, IsModule}
@@ -47,18 +47,18 @@ tokens_or_fault text ts f m a b =
 
 -- ---- the first fault
 
-same_place : (f g : Refusal) → NotAfter f g → NotAfter g f → (f.code ≡ g.code) × (f.place ≡ g.place)
-same_place f g (inl a) (inl b) = absurd (omega (arith, a, b))
-same_place f g (inl a) (inr b) = let e = b.0 in absurd (omega (arith, a, e))
-same_place f g (inr a) (inl b) = let e = a.0 in absurd (omega (arith, b, e))
-same_place f g (inr a) (inr b) =
+same_offset : (f g : Refusal) → NotAfter f g → NotAfter g f → (f.code ≡ g.code) × (f.offset ≡ g.offset)
+same_offset f g (inl a) (inl b) = absurd (omega (arith, a, b))
+same_offset f g (inl a) (inr b) = let e = b.0 in absurd (omega (arith, a, e))
+same_offset f g (inr a) (inl b) = let e = a.0 in absurd (omega (arith, b, e))
+same_offset f g (inr a) (inr b) =
     let e = a.1 in
     let k = b.1 in
     let same : rank_of f.code ≡ rank_of g.code = omega (arith, e, k) in
     (rank_apart f.code g.code same, a.0)
 
-one_first : (all : List Refusal) (f g : Refusal) → IsFirst all f → IsFirst all g → (f.code ≡ g.code) × (f.place ≡ g.place)
-one_first all f g a b = same_place f g (a.1 g b.0) (b.1 f a.0)
+one_first : (all : List Refusal) (f g : Refusal) → IsFirst all f → IsFirst all g → (f.code ≡ g.code) × (f.offset ≡ g.offset)
+one_first all f g a b = same_offset f g (a.1 g b.0) (b.1 f a.0)
 
 none_first : (all : List Refusal) (f : Refusal) → all ≡ [] → IsFirst all f → ⊥
 none_first all f e h =
@@ -151,7 +151,7 @@ module _ (bytes : List ℕ) where
       told_here P us o k d h =
           subst (P (atoms_of ts)) (tree_is us o k d) (subst (λ l. P (atoms_of l) o) (one_tokens bytes ts us has k) h)
 
-      static_only : (f : Refusal) → IsFirst (faults_of (atoms_of ts) m) f → (p : Outcome) → Reads bytes p → SameOutcome (refused f.code f.place) p
+      static_only : (f : Refusal) → IsFirst (faults_of (atoms_of ts) m) f → (p : Outcome) → Reads bytes p → SameOutcome (refused f.code f.offset) p
       static_only f first _ (token_fault g to k) = absurd (tokens_or_fault bytes ts g to has k)
       static_only f first _ (no_head us k none) = absurd (no_head_not us k none)
       static_only f first _ (no_tree us to k head none there) = absurd (no_tree_not us k none)

@@ -4,5 +4,5 @@
 mod laws;
 mod reading;
 
-pub use laws::{one_outcome, places_are_within, some_outcome};
+pub use laws::{offsets_are_within, one_outcome, some_outcome};
 pub use reading::read;

@@ -1,23 +1,27 @@
 //! A source, from its bytes to a checked module.
 
 ghost use Rattle.std.specs.Prelude.{◌≡◌, [], IfErr, IfOk, OnOk};
-ghost use Rattle.pf_syntax.specs.WrittenModule.{tree_of};
+ghost use Rattle.pf_syntax.specs.ExprModule.{tree_of};
 ghost use Rattle.pf_rules.specs.Static.{faults_of};
 ghost use Rattle.pf_rules.specs.Checks.{IsModule};
 ghost use Rattle.pf_rules.specs.Formed.{AreFormed};
 ghost use Rattle.pf_check.specs.Reads.{IsFirstOf, IsRefusalOf, Reads, accepted_as};
 
 use pf_fault::{OrNoMemory, Refusal};
-use pf_first_fault::first_fault;
 use pf_lower::module_of;
 use pf_reader::{ReadModule, read_tree};
-use pf_syntax::{Module, Source};
+use pf_static_check::first_fault;
+use pf_syntax::{Module, SyntaxTree};
 use pf_terms::AtomTable;
 use pf_tokens::tokens;
 use std::alloc::Global;
 
 /// Whether a module as it is read has no static fault; else its first one.
-fn no_fault(alloc: Global, source: &Source, atoms: &AtomTable) -> Result<(), OrNoMemory<Refusal>>
+fn no_fault(
+    alloc: Global,
+    source: &SyntaxTree,
+    atoms: &AtomTable,
+) -> Result<(), OrNoMemory<Refusal>>
     ensures none { OnOk result (faults_of atoms.now (tree_of source.now) ≡ []) }
     ensures first { IfErr result (IsFirstOf (faults_of atoms.now (tree_of source.now))) }
 {
@@ -28,7 +32,11 @@ fn no_fault(alloc: Global, source: &Source, atoms: &AtomTable) -> Result<(), OrN
 }
 
 /// The checked module of a module as it is read, or its first static fault.
-fn check(alloc: Global, source: &Source, atoms: AtomTable) -> Result<Module, OrNoMemory<Refusal>>
+fn check(
+    alloc: Global,
+    source: &SyntaxTree,
+    atoms: AtomTable,
+) -> Result<Module, OrNoMemory<Refusal>>
     ensures checked { IfOk result (λ m. (faults_of atoms (tree_of source.now) ≡ []) × (AreFormed source.now.functions → IsModule atoms (tree_of source.now) m)) }
     ensures fault { IfErr result (IsFirstOf (faults_of atoms (tree_of source.now))) }
 {
@@ -36,7 +44,7 @@ fn check(alloc: Global, source: &Source, atoms: AtomTable) -> Result<Module, OrN
     Ok(module_of(alloc, source, atoms)?)
 }
 
-/// The module that the bytes of a source are, or its first refusal and its place. Where the grammar refuses, the place is one of
+/// The module that the bytes of a source are, or its first refusal and its offset. Where the grammar refuses, the offset is one of
 /// the tokens or the end: which one, tests show.
 pub fn read(alloc: Global, source: &[u8]) -> Result<Module, OrNoMemory<Refusal>>
     ensures read { IfOk result (λ m. Reads source.now (accepted_as m)) }

@@ -10,10 +10,10 @@ use Rattle.pf_model.specs.Shrinking.{is_failure}
 use Rattle.pf_model.specs.Text.{report_text}
 use Rattle.pf_model.specs.declared.report.Report as code
 use Rattle.pf_request.specs.Job.{Job}
-use Rattle.pf_hunt.specs.Hunts.{FirstFailing, Tallies}
-use Rattle.pf_hunt.specs.Rows as rows
-use Rattle.pf_hunt.specs.Views.{row_of, rows_in}
-use Rattle.pf_hunt.specs.declared.row.Row.{Row}
+use Rattle.pf_seeds.specs.Hunts.{FirstFailing, Tallies}
+use Rattle.pf_seeds.specs.Rows as rows
+use Rattle.pf_seeds.specs.Views.{row_of, rows_in}
+use Rattle.pf_seeds.specs.declared.row.Row.{Row}
 use Rattle.pf_cli.specs.Args.{HuntArgs, failure, outcomes}
 use Rattle.pf_command.specs.Answers.{names_of}
 use Rattle.pf_command.specs.Hunts.{TellsShrunk, TellsSought, choices_of, none_text, row_text, rows_status, seed_text}

@@ -16,9 +16,9 @@ use Rattle.pf_command.specs.Checks.{Checks, explained, is_module, is_refused}
 use Rattle.pf_command.specs.declared.answer.Answer.{Answer}
 
 module _ (asks : ReadModule → Result Job Code → Type 0) (tells : Job → List ℕ → ℕ → Type 0) where
-  pub row_refused : (bytes : List ℕ) (a : Answer) (code : Code) (place : ℕ) → Reads bytes (refused code place)
-      → Refuses a (refusal_text code place) → AnswersBy asks tells bytes a.text.items a.status
-  row_refused bytes a code place reads is = rw (is.0, is.1) (source_refused code place reads)
+  pub row_refused : (bytes : List ℕ) (a : Answer) (code : Code) (offset : ℕ) → Reads bytes (refused code offset)
+      → Refuses a (refusal_text code offset) → AnswersBy asks tells bytes a.text.items a.status
+  row_refused bytes a code offset reads is = rw (is.0, is.1) (source_refused code offset reads)
 
   pub row_job_refused : (m : ReadModule) (bytes : List ℕ) (a : Answer) (code : Code) → IsModuleOf bytes m → asks m (Err code)
       → Refuses a (code_text code) → AnswersBy asks tells bytes a.text.items a.status
@@ -46,6 +46,6 @@ pub row_module : (explain : Bool) (m : Checked) (bytes text : List ℕ) (status 
     → text ≡ line (codes "ok") → status ≡ 0 → Checks explain bytes text status
 row_module explain m bytes text status reads e s = rw (e, s) (is_module m.name m.atoms m.functions reads)
 
-pub row_check_refused : (explain : Bool) (bytes text : List ℕ) (status : ℕ) (code : Code) (place : ℕ) → Reads bytes (refused code place)
-    → text ≡ line (refusal_text code place) ++ explained explain bytes code place → status ≡ 2 → Checks explain bytes text status
-row_check_refused explain bytes text status code place reads e s = rw (e, s) (is_refused code place reads)
+pub row_check_refused : (explain : Bool) (bytes text : List ℕ) (status : ℕ) (code : Code) (offset : ℕ) → Reads bytes (refused code offset)
+    → text ≡ line (refusal_text code offset) ++ explained explain bytes code offset → status ≡ 2 → Checks explain bytes text status
+row_check_refused explain bytes text status code offset reads e s = rw (e, s) (is_refused code offset reads)

@@ -27,8 +27,8 @@ IsModuleOf bytes m = (m.source ≡ bytes) × IsReadAs bytes m
 -- asked for of a module or what it is refused for, and `tells` what is told of a job
 pub data AnswersBy (asks : ReadModule → Result Job Code → Type 0) (tells : Job → List ℕ → ℕ → Type 0) (bytes : List ℕ) : List ℕ → ℕ → Type 0 where
   -- the source is refused
-  source_refused : (code : Code) (place : ℕ) → Reads bytes (refused code place)
-      → AnswersBy asks tells bytes (line (refusal_text code place)) 2
+  source_refused : (code : Code) (offset : ℕ) → Reads bytes (refused code offset)
+      → AnswersBy asks tells bytes (line (refusal_text code offset)) 2
   -- what is asked for of the module is refused
   job_refused : (m : ReadModule) (code : Code) → IsModuleOf bytes m → asks m (Err code)
       → AnswersBy asks tells bytes (line (code_text code)) 2

@@ -8,9 +8,9 @@ use Rattle.pf_check.specs.Reads.{Reads, accepted, refused}
 use Rattle.pf_explain.specs.Explanation.{explanation}
 
 -- what follows the line of a refusal: its explanation, where that is asked for
-abbrev pub explained : (explain : Bool) → (bytes : List ℕ) → Code → (place : ℕ) → List ℕ
-explained true bytes code place = explanation bytes code place
-explained false bytes code place = []
+abbrev pub explained : (explain : Bool) → (bytes : List ℕ) → Code → (offset : ℕ) → List ℕ
+explained true bytes code offset = explanation bytes code offset
+explained false bytes code offset = []
 
 -- Checks explain bytes text status: a source of these bytes is answered with this text and this status
 pub data Checks (explain : Bool) (bytes : List ℕ) : List ℕ → ℕ → Type 0 where
@@ -18,5 +18,5 @@ pub data Checks (explain : Bool) (bytes : List ℕ) : List ℕ → ℕ → Type 
   is_module : (name : ℕ) (atoms : List (List ℕ)) (functions : Program) → Reads bytes (accepted name atoms functions)
       → Checks explain bytes (line (codes "ok")) 0
   -- the source is refused
-  is_refused : (code : Code) (place : ℕ) → Reads bytes (refused code place)
-      → Checks explain bytes (line (refusal_text code place) ++ explained explain bytes code place) 2
+  is_refused : (code : Code) (offset : ℕ) → Reads bytes (refused code offset)
+      → Checks explain bytes (line (refusal_text code offset) ++ explained explain bytes code offset) 2

@@ -11,8 +11,8 @@ use Rattle.pf_request.specs.Module.{ReadModule}
 use Rattle.pf_request.specs.Request.{shrink}
 use Rattle.pf_request.specs.Job.{Job, memory_report}
 use Rattle.pf_sched.specs.Asked.{Asks}
-use Rattle.pf_hunt.specs.Hunts.{FirstFailing, Tallies}
-use Rattle.pf_hunt.specs.Rows.{Row}
+use Rattle.pf_seeds.specs.Hunts.{FirstFailing, Tallies}
+use Rattle.pf_seeds.specs.Rows.{Row}
 use Rattle.pf_cli.specs.Args.{HuntArgs, RunArgs, Sought, failure, outcomes}
 use Rattle.pf_command.specs.declared.answer.Answer.{Answer}
 use Rattle.pf_command.specs.Answers.{Answers, AnswersBy, AsksOf, names_of}

@@ -45,9 +45,9 @@ pub(crate) fn refused_by_code(alloc: Global, code: Code) -> Result<Answer, NoMem
     refused(alloc, &words)
 }
 
-/// A code with its place, as `E6 at 41`.
+/// A code with its offset, as `E6 at 41`.
 pub(crate) fn refused_at(alloc: Global, refusal: Refusal) -> Result<Answer, NoMemory>
-    ensures { IfOk result (λ a. Refuses a (refusal_text refusal.code refusal.place)) }
+    ensures { IfOk result (λ a. Refuses a (refusal_text refusal.code refusal.offset)) }
 {
     let words = format!(in alloc; "{refusal}")?;
     refused(alloc, &words)

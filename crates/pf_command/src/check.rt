@@ -24,8 +24,8 @@ fn accepted(alloc: Global) -> Result<Answer, NoMemory>
 
 /// The answer to a source that is refused, with its explanation if that is asked for.
 fn refuse(alloc: Global, explain: bool, source: &[u8], refusal: Refusal) -> Result<Answer, NoMemory>
-    ensures { IfOk result (λ a. (a.text.items ≡ line (refusal_text refusal.code refusal.place)
-        ++ explained explain source.now refusal.code refusal.place) × (a.status ≡ 2)) }
+    ensures { IfOk result (λ a. (a.text.items ≡ line (refusal_text refusal.code refusal.offset)
+        ++ explained explain source.now refusal.code refusal.offset) × (a.status ≡ 2)) }
 {
     let Answer { mut text, status } = refused_at(alloc, refusal)?;
     if explain {

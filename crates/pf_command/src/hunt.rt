@@ -24,7 +24,7 @@ fn answer_hunt<T: Threads + Sync>(
     args: &HuntArgs,
     bytes: Vec<u8>,
     workers: u64,
-    seeds: &mut impl pf_hunt::Watch,
+    seeds: &mut impl pf_seeds::HuntObserver,
     observer: &mut impl Observer,
 ) -> Result<Answer, NoMemory>
     ensures { IfOk result (λ a. HuntAnswers (view_of_hunt_args args.now) bytes.items a.text.items a.status) }
@@ -45,7 +45,7 @@ pub fn hunt_source<R: Read, W: Write, L: Ledger, M: Ledger, T: Threads + Sync>(
     args: &HuntArgs,
     workers: u64,
     writer: &mut Counted<W, M>,
-    seeds: &mut impl pf_hunt::Watch,
+    seeds: &mut impl pf_seeds::HuntObserver,
     observer: &mut impl Observer,
 ) -> Result<u8, OrNoMemory<StreamFault>>
     ensures answered { IfOk result (λ status. Answered (HuntAnswers (view_of_hunt_args args.now))

@@ -7,12 +7,12 @@ ghost use Rattle.pf_model.specs.Reports.{outcome_of, report_of};
 ghost use Rattle.pf_model.specs.Shrinking.{is_failure};
 ghost use Rattle.pf_model.specs.TermText.{line};
 ghost use Rattle.pf_model.specs.Text.{outcome_text};
-ghost use Rattle.pf_hunt.specs.Views.{row_of};
+ghost use Rattle.pf_seeds.specs.Views.{row_of};
 ghost use Rattle.pf_command.specs.Hunts.{choices_of, none_text, row_text, seed_text, verdict_text};
 
 use crate::answer::FAILED;
-use pf_hunt::{HashedOutcome, Row};
 use pf_model::report::Report;
+use pf_seeds::{HashedOutcome, Row};
 use pf_terms::{AtomTable, NoMemory};
 use pf_text::{put, put_byte, put_number, put_schedule};
 use pf_trace::put_outcome;

@@ -7,8 +7,8 @@ ghost use Rattle.pf_model.specs.Shrinking.{is_failure};
 ghost use Rattle.pf_model.specs.Text.{report_text};
 ghost use Rattle.pf_request.specs.Job.{memory_report};
 ghost use Rattle.pf_sched.specs.Asked.{IsRefusal};
-ghost use Rattle.pf_hunt.specs.Hunts.{FirstFailing};
-ghost use Rattle.pf_hunt.specs.Views.{failure_of, row_of};
+ghost use Rattle.pf_seeds.specs.Hunts.{FirstFailing};
+ghost use Rattle.pf_seeds.specs.Views.{failure_of, row_of};
 ghost use Rattle.pf_cli.specs.Args.{failure, outcomes, view_of_hunt_args};
 ghost use Rattle.pf_command.specs.Answers.{Answers, AsksOf, IsModuleOf, names_of, run_args};
 ghost use Rattle.pf_command.specs.Hunts.{AsksFor, HuntAnswers, MayShrink, SoughtAnswers, TellsShrunk, TellsSought};
@@ -19,10 +19,10 @@ use crate::run::answer_module;
 use crate::seeds::{choices_of, put_none, put_rows, put_seed, rows_status};
 use pf_cli::{HuntArgs, Sought};
 use pf_fault::{NoMemory, OrNoMemory};
-use pf_hunt::{Failure, Tally, hunt, hunt_all};
 use pf_module::ReadModule;
 use pf_request::{Kind, Request, ShortBytes};
 use pf_sched::{Job, JobRefusal, Observer, memory_report};
+use pf_seeds::{Failure, Tally, first_failing, tally_all};
 use pf_text::put;
 use pf_trace::put_report;
 use std::alloc::Global;
@@ -248,13 +248,13 @@ fn seek_failure<T: Threads + Sync>(
     job: &Job,
     runs: Option<u32>,
     workers: u64,
-    seeds: &mut impl pf_hunt::Watch,
+    seeds: &mut impl pf_seeds::HuntObserver,
     observer: &mut impl Observer,
 ) -> Result<Answer, NoMemory>
     ensures { IfOk result (λ a. (bytes : List ℕ) → IsModuleOf bytes «module»
         → TellsSought (view_of_hunt_args args.now) bytes job.now (failure runs) a.text.items a.status) }
 {
-    match hunt(rt, alloc, job, args.first, args.end, workers, seeds)? {
+    match first_failing(rt, alloc, job, args.first, args.end, workers, seeds)? {
         Some(failure) => tell_found(alloc, args, module, job, &failure, runs, observer),
         None => tell_none(alloc, args),
     }
@@ -268,7 +268,7 @@ fn hunt_failure<T: Threads + Sync>(
     module: ReadModule,
     runs: Option<u32>,
     workers: u64,
-    seeds: &mut impl pf_hunt::Watch,
+    seeds: &mut impl pf_seeds::HuntObserver,
     observer: &mut impl Observer,
 ) -> Result<Answer, NoMemory>
     ensures { IfOk result (λ a. (bytes : List ℕ) → IsModuleOf bytes «module»
@@ -302,12 +302,12 @@ fn seek_outcomes<T: Threads + Sync>(
     args: &HuntArgs,
     job: &Job,
     workers: u64,
-    seeds: &mut impl pf_hunt::Watch,
+    seeds: &mut impl pf_seeds::HuntObserver,
 ) -> Result<Answer, NoMemory>
     ensures { IfOk result (λ a. (bytes : List ℕ)
         → TellsSought (view_of_hunt_args args.now) bytes job.now outcomes a.text.items a.status) }
 {
-    let tally = hunt_all(rt, alloc, job, args.first, args.end, workers, seeds)?;
+    let tally = tally_all(rt, alloc, job, args.first, args.end, workers, seeds)?;
     tell_rows(alloc, job, &tally)
 }
 
@@ -318,7 +318,7 @@ fn hunt_outcomes<T: Threads + Sync>(
     args: &HuntArgs,
     module: ReadModule,
     workers: u64,
-    seeds: &mut impl pf_hunt::Watch,
+    seeds: &mut impl pf_seeds::HuntObserver,
 ) -> Result<Answer, NoMemory>
     ensures { IfOk result (λ a. (bytes : List ℕ) → IsModuleOf bytes «module»
         → SoughtAnswers (view_of_hunt_args args.now) outcomes bytes a.text.items a.status) }
@@ -337,7 +337,7 @@ pub(crate) fn hunt_module<T: Threads + Sync>(
     args: &HuntArgs,
     module: ReadModule,
     workers: u64,
-    seeds: &mut impl pf_hunt::Watch,
+    seeds: &mut impl pf_seeds::HuntObserver,
     observer: &mut impl Observer,
 ) -> Result<Answer, NoMemory>
     ensures { IfOk result (λ a. (bytes : List ℕ) → IsModuleOf bytes «module»

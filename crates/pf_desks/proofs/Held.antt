@@ -44,13 +44,13 @@ module _ {T : Type 0} where
     other = λ z. ap (λ (l : List T). y ∷ l) (a.other z);
   }
 
-  around_place : (xs : List (Option T)) (i : ℕ) (x : T) → slice_get xs i ≡ Some (Some x) → Around xs (suc i) x
-  around_place [] i x h = absurd (cc)
-  around_place (o ∷ xs) zero x h = let e : o ≡ Some x = cc in here xs x o e
-  around_place (o ∷ xs) (suc i) x h = behind o xs i x (around_place xs i x h)
+  around_index : (xs : List (Option T)) (i : ℕ) (x : T) → slice_get xs i ≡ Some (Some x) → Around xs (suc i) x
+  around_index [] i x h = absurd (cc)
+  around_index (o ∷ xs) zero x h = let e : o ≡ Some x = cc in here xs x o e
+  around_index (o ∷ xs) (suc i) x h = behind o xs i x (around_index xs i x h)
 
-  at_place : (xs : List (Option T)) (i : ℕ) (x : T) → held_at xs (suc i) ≡ Some x → slice_get xs i ≡ Some (Some x)
-  at_place xs i x h = by (slice_get xs i) refl h
+  at_index : (xs : List (Option T)) (i : ℕ) (x : T) → held_at xs (suc i) ≡ Some x → slice_get xs i ≡ Some (Some x)
+  at_index xs i x h = by (slice_get xs i) refl h
     where
       by : (o : Option (Option T)) → slice_get xs i ≡ o → held_at xs (suc i) ≡ Some x → slice_get xs i ≡ Some (Some x)
       by None e h = absurd (cc)
@@ -58,19 +58,19 @@ module _ {T : Type 0} where
 
   pub around : (xs : List (Option T)) (n : ℕ) (x : T) → held_at xs n ≡ Some x → Around xs n x
   around xs zero x h = absurd (cc)
-  around xs (suc i) x h = around_place xs i x (at_place xs i x h)
+  around xs (suc i) x h = around_index xs i x (at_index xs i x h)
 
   -- nothing changes where nothing is held
-  gap_place : (xs : List (Option T)) (i : ℕ) → held_at xs (suc i) ≡ None → all_held (slice_set xs i None) ≡ all_held xs
-  gap_place [] i h = refl
-  gap_place (None ∷ xs) zero h = refl
-  gap_place (Some y ∷ xs) zero h = absurd (cc)
-  gap_place (None ∷ xs) (suc i) h = gap_place xs i h
-  gap_place (Some y ∷ xs) (suc i) h = ap (λ (l : List T). y ∷ l) (gap_place xs i h)
+  gap_index : (xs : List (Option T)) (i : ℕ) → held_at xs (suc i) ≡ None → all_held (slice_set xs i None) ≡ all_held xs
+  gap_index [] i h = refl
+  gap_index (None ∷ xs) zero h = refl
+  gap_index (Some y ∷ xs) zero h = absurd (cc)
+  gap_index (None ∷ xs) (suc i) h = gap_index xs i h
+  gap_index (Some y ∷ xs) (suc i) h = ap (λ (l : List T). y ∷ l) (gap_index xs i h)
 
   pub gap : (xs : List (Option T)) (n : ℕ) → held_at xs n ≡ None → all_held (with_held xs n None) ≡ all_held xs
   gap xs zero h = refl
-  gap xs (suc i) h = gap_place xs i h
+  gap xs (suc i) h = gap_index xs i h
 
 pub one_gone : {T : Type 0} (xs : List (Option T)) (n : ℕ) (x : T) → held_at xs n ≡ Some x → OneMore (with_held xs n None) xs x
 one_gone xs n x h =

@@ -1,9 +1,9 @@
--- What stands of a line in front of a place and from it on, by the indices of newlines.
+-- What stands of a line in front of a position and from it on, by the indices of newlines.
 use Rattle.std.proofs.Common.{◌≡◌, ◌≤◌, ◌<◌, ◌-◌, ℕ, Bool, List, true, false, not, length, get_or, take, drop, ap, sym, ◌∙◌, arith}
 use Rattle.std.proofs.lemmas.List.{take_all, length-drop}
 use Rattle.std.proofs.lemmas.List.Sums.{prefix_len_is, suffix_len_is}
 use Rattle.std.specs.List.{prefix_len, suffix_len}
-use Rattle.pf_explain.specs.Places.{is_newline, since_newline, up_to_newline}
+use Rattle.pf_explain.specs.Positions.{is_newline, since_newline, up_to_newline}
 
 abbrev pub is_other : ℕ → Bool
 is_other byte = not (is_newline byte)

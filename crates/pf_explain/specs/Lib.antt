@@ -1,4 +1,4 @@
-pub mod Places
+pub mod Positions
 pub mod Shown
 pub mod Sentences
 pub mod Explanation

@@ -1,6 +1,6 @@
--- The line of a place as it is shown, and the caret below the place.
+-- The line of a position as it is shown, and the caret below the position.
 use Rattle.std.specs.Prelude.{ℕ, ◌-◌, ◌&&◌, nat_lt, List, ◌++◌, length, take, drop, map, replicate, codes, if◌then◌else◌}
-use Rattle.pf_explain.specs.Places.{since_newline, up_to_newline}
+use Rattle.pf_explain.specs.Positions.{since_newline, up_to_newline}
 use Rattle.pf_explain.specs.declared.shown.TheConstants.{MOST_SHOWN}
 
 -- a byte as it is shown: itself from the blank to `~`, else `?`
@@ -15,10 +15,10 @@ nearest before = drop (length before - MOST_SHOWN) before
 abbrev pub farthest : List ℕ → List ℕ
 farthest behind = take MOST_SHOWN behind
 
--- the line around a place, by the bytes in front of the place and those from it on
+-- the line around a position, by the bytes in front of the position and those from it on
 abbrev pub shown_line : (front behind : List ℕ) → List ℕ
 shown_line front behind = map shown_byte (nearest (since_newline front)) ++ map shown_byte (farthest (up_to_newline behind))
 
--- a caret in the column of the place, behind as many blanks as bytes are shown in front of it
+-- a caret in the column of the position, behind as many blanks as bytes are shown in front of it
 abbrev pub caret_line : (front : List ℕ) → List ℕ
 caret_line front = replicate (length (nearest (since_newline front))) 32 ++ codes "^"

@@ -3,17 +3,17 @@
 ghost use Rattle.std.specs.Prelude.{◌≡◌, ◌++◌, OnErr, OnOk};
 ghost use Rattle.pf_explain.specs.Shown.{caret_line, shown_line};
 ghost use Rattle.pf_explain.specs.Sentences.{sentence_of};
-ghost use Rattle.pf_explain.specs.Explanation.{explanation, line, place_text};
+ghost use Rattle.pf_explain.specs.Explanation.{explanation, line, position_text};
 
-use crate::place::{column, line_number, since_newline, up_to_newline};
+use crate::position::{column, line_number, since_newline, up_to_newline};
 use crate::sentences::sentence;
 use crate::shown::{farthest, nearest, put_blanks, put_shown};
 use pf_fault::{Code, NoMemory, Refusal};
 use std::alloc::Global;
 
-/// Puts the line and the column of a place, by the bytes in front of it.
-fn put_place(alloc: Global, out: &mut Vec<u8>, front: &[u8]) -> Result<(), NoMemory>
-    ensures { OnOk result (out.new.items ≡ out.old.items ++ line (place_text front.now)) }
+/// Puts the line and the column of a position, by the bytes in front of it.
+fn put_position(alloc: Global, out: &mut Vec<u8>, front: &[u8]) -> Result<(), NoMemory>
+    ensures { OnOk result (out.new.items ≡ out.old.items ++ line (position_text front.now)) }
 {
     let line = line_number(front);
     let column = column(front);
@@ -22,7 +22,7 @@ fn put_place(alloc: Global, out: &mut Vec<u8>, front: &[u8]) -> Result<(), NoMem
     Ok(())
 }
 
-/// Puts the line around a place.
+/// Puts the line around a position.
 fn put_line(out: &mut Vec<u8>, front: &[u8], behind: &[u8]) -> Result<(), NoMemory>
     ensures { OnOk result (out.new.items ≡ out.old.items ++ line (shown_line front.now behind.now)) }
 {
@@ -32,7 +32,7 @@ fn put_line(out: &mut Vec<u8>, front: &[u8], behind: &[u8]) -> Result<(), NoMemo
     Ok(())
 }
 
-/// Puts a caret below the place.
+/// Puts a caret below the position.
 fn put_caret(out: &mut Vec<u8>, front: &[u8]) -> Result<(), NoMemory>
     ensures { OnOk result (out.new.items ≡ out.old.items ++ line (caret_line front.now)) }
 {
@@ -58,18 +58,18 @@ fn put_lines(
     refusal: Refusal,
 ) -> Result<(), NoMemory>
     ensures { OnOk result (out.new.items
-        ≡ out.old.items ++ explanation source.now refusal.code refusal.place) }
+        ≡ out.old.items ++ explanation source.now refusal.code refusal.position) }
 {
-    let place = refusal.place.min(source.len());
-    let (front, behind) = source.split_at(place);
-    put_place(alloc, out, front)?;
+    let position = refusal.position.min(source.len());
+    let (front, behind) = source.split_at(position);
+    put_position(alloc, out, front)?;
     put_line(out, front, behind)?;
     put_caret(out, front)?;
     put_sentence(out, refusal.code)
 }
 
-/// Puts what is wrong with a source that is refused: the line and the column of the place, the line around it, a caret below it,
-/// and a sentence. A place past the end counts as the end. Where memory runs out nothing is put.
+/// Puts what is wrong with a source that is refused: the line and the column of the position, the line around it, a caret below it,
+/// and a sentence. A position past the end counts as the end. Where memory runs out nothing is put.
 pub fn put_explanation(
     alloc: Global,
     out: &mut Vec<u8>,
@@ -77,7 +77,7 @@ pub fn put_explanation(
     refusal: Refusal,
 ) -> Result<(), NoMemory>
     ensures put { OnOk result (out.new.items
-        ≡ out.old.items ++ explanation source.now refusal.code refusal.place) }
+        ≡ out.old.items ++ explanation source.now refusal.code refusal.position) }
     ensures err { OnErr result (out.new.items ≡ out.old.items) }
 {
     let mut text = Vec::new(alloc);

@@ -2,7 +2,7 @@
 #![tactic(auto)]
 
 mod explanation;
-mod place;
+mod position;
 mod sentences;
 mod shown;
 

@@ -1,11 +1,11 @@
-//! The line of a place as it is shown, and the caret below the place.
+//! The line of a position as it is shown, and the caret below the position.
 
 ghost use Rattle.std.specs.Prelude.{◌≡◌, ◌++◌, OnOk, map, replicate};
 ghost use Rattle.pf_explain.specs.Shown.{nearest, farthest, shown_byte};
 
 use pf_fault::NoMemory;
 
-/// The most bytes of a line that are shown in front of a place, and from the place on.
+/// The most bytes of a line that are shown in front of a position, and from the position on.
 pub const MOST_SHOWN: usize = 100;
 
 /// A byte as it is shown: a blank or a visible character as it is, and any other as `?`.
@@ -18,7 +18,7 @@ fn shown_byte(byte: u8) -> u8
     }
 }
 
-/// The bytes in front of a place that are shown, the last ones.
+/// The bytes in front of a position that are shown, the last ones.
 pub(crate) fn nearest(before: &[u8]) -> &[u8]
     ensures { result.now ≡ nearest before.now }
 {
@@ -26,7 +26,7 @@ pub(crate) fn nearest(before: &[u8]) -> &[u8]
     &before[hidden..]
 }
 
-/// The bytes from a place on that are shown, the first ones.
+/// The bytes from a position on that are shown, the first ones.
 pub(crate) fn farthest(behind: &[u8]) -> &[u8]
     ensures { result.now ≡ farthest behind.now }
 {

@@ -4,7 +4,7 @@ ghost use Rattle.std.specs.Prelude.{◌≡◌};
 ghost use Rattle.pf_fault.specs.Codes.{rank_of};
 ghost use Rattle.pf_fault.specs.declared.code.Code.{Code};
 
-/// No two codes have one place in the table.
+/// No two codes have one index in the table.
 pub fn codes_are_apart()
     ensures { (c d : Code) → rank_of c ≡ rank_of d → c ≡ d }
 {}

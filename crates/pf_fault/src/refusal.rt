@@ -7,29 +7,29 @@ use crate::code::Code;
 use crate::fault::OrNoMemory;
 use std::fmt;
 
-/// A refusal, and its place in bytes from 0. It prints as `E6 at 41`.
+/// A refusal, and its offset in bytes from 0. It prints as `E6 at 41`.
 #[derive(Clone, Copy, Debug, PartialEq, Eq)]
 pub struct Refusal {
     pub code: Code,
-    pub place: usize,
+    pub offset: usize,
 }
 
 impl fmt::Display for Refusal {
     ghost use Rattle.std.specs.Prelude.{Some};
     ghost use Rattle.pf_fault.specs.Codes.{refusal_text};
 
-    ghost output = { λ refusal. Some (refusal_text refusal.code refusal.place) };
+    ghost output = { λ refusal. Some (refusal_text refusal.code refusal.offset) };
 
     fn fmt<W: fmt::Write>(&self, f: &mut fmt::Formatter<W>) -> fmt::Result {
-        write!(f, "{} at {}", self.code, self.place)
+        write!(f, "{} at {}", self.code, self.offset)
     }
 }
 
 impl OrNoMemory<Refusal> {
-    /// The refusal of this code at this place.
-    pub fn refusal(code: Code, place: usize) -> OrNoMemory<Refusal>
-        ensures { result ≡ Fault (record { code = code; place = place }) }
+    /// The refusal of this code at this offset.
+    pub fn refusal(code: Code, offset: usize) -> OrNoMemory<Refusal>
+        ensures { result ≡ Fault (record { code = code; offset = offset }) }
     {
-        OrNoMemory::Fault(Refusal { code, place })
+        OrNoMemory::Fault(Refusal { code, offset })
     }
 }

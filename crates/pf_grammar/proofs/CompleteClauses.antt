@@ -3,10 +3,10 @@ use Rattle.std.proofs.Common.{◌≡◌, ℕ, ◌≤◌, ◌<◌, List, [], ◌�
 use Rattle.std.proofs.lemmas.List.{length-append}
 use Rattle.pf_tokens.specs.declared.marks.Mark.TheVariants as marks
 use Rattle.pf_tokens.specs.declared.words.Reserved.TheVariants as words
-use Rattle.pf_syntax.specs.WrittenExpression.{WrittenExpression, Condition, Branches, condition_depth, branches_depth}
-use Rattle.pf_numbered.specs.NumberedTokens.{NumberedKind, mark, reserved, NumberedToken}
+use Rattle.pf_syntax.specs.Expr.{Expr, Condition, Branches, condition_depth, branches_depth}
+use Rattle.pf_intern.specs.NumberedTokens.{NumberedKind, mark, reserved, NumberedToken}
 use Rattle.pf_grammar.specs.Grammar.{Names, Guarded, top, element as body_level, infix_of, DerivesGuard, DerivesBranches}
-use Rattle.pf_grammar.specs.Parse.{Clause, is, after, tests_of, guard, when, when_step, front as front_of, body, clause, branches, readers, expr, element}
+use Rattle.pf_grammar.specs.Parse.{Clause, is, after, tests_of, guard, when, when_step, front as front_of, body, clause, branches, readers, parse_expr, element}
 use Rattle.pf_grammar.proofs.Single.{after_here, after_none}
 use Rattle.pf_grammar.proofs.Lists.{CompleteFor, Several, opens_length, items_complete}
 use Rattle.pf_grammar.proofs.Patterns.{pattern_complete}
@@ -52,7 +52,7 @@ arrow_tests rest a = let w = a.whole in rw w (tests_end (mark marks.Arrow) a.arr
 
 -- ---- what derives a part is some tokens
 
-pub fits_some : (n : Names) (g : Bool) (level d : ℕ) (e : WrittenExpression) (front : List NumberedToken) → Fits n g level d e front → 0 < length front
+pub fits_some : (n : Names) (g : Bool) (level d : ℕ) (e : Expr) (front : List NumberedToken) → Fits n g level d e front → 0 < length front
 fits_some n g level d e front h = opens_length (mark marks.CloseParenthesis) front (starts_opens true (mark marks.CloseParenthesis) front refl (expression_starts n g e level front h.0))
 
 several_some : (A : Type 0) (s : NumberedKind) (P : A → List NumberedToken → Type 0) → ((x : A) (front : List NumberedToken) → P x front → 0 < length front) → (xs : List A) (front : List NumberedToken) → Several s P xs front → 0 < length front
@@ -60,8 +60,8 @@ several_some A s P some [] front h = absurd (h.1 refl)
 several_some A s P some (x ∷ []) front h = some x front h.0
 several_some A s P some (x ∷ y ∷ xs) front h = let a = h.0 in let w = ap length a.4 in omega (arith, w, length-append a.0 (a.1 ∷ a.2))
 
-tests_some : (n : Names) (d : ℕ) (es : List WrittenExpression) (front : List NumberedToken) → FitsTests n d es front → 0 < length front
-tests_some n d = several_some WrittenExpression (mark marks.Comma) (Fits n true top d) (fits_some n true top d)
+tests_some : (n : Names) (d : ℕ) (es : List Expr) (front : List NumberedToken) → FitsTests n d es front → 0 < length front
+tests_some n d = several_some Expr (mark marks.Comma) (Fits n true top d) (fits_some n true top d)
 
 pub clause_some : (n : Names) (choice : Bool) (d : ℕ) (c : Clause) (front : List NumberedToken) → FitsClause n choice d c front → 0 < length front
 clause_some n choice d c front h = let w = ap length h.4 in omega (arith, w, length-append h.0 (h.1 ∷ h.2))
@@ -69,25 +69,25 @@ clause_some n choice d c front h = let w = ap length h.4 in omega (arith, w, len
 -- ---- what reads expressions and elements no deeper than a limit
 
 abbrev pub ExpressionsRead : Names → ℕ → Type 0
-ExpressionsRead n d = (g : Bool) (level : ℕ) → 1 ≤ level → level ≤ top → CompleteFor (expr n g d level) (Fits n g level d) (Stops g level)
+ExpressionsRead n d = (g : Bool) (level : ℕ) → 1 ≤ level → level ≤ top → CompleteFor (parse_expr n g d level) (Fits n g level d) (Stops g level)
 
 abbrev pub ElementsRead : Names → ℕ → Type 0
 ElementsRead n d = CompleteFor (element n d) (Fits n false body_level d) ElementEnds
 
-module _ (n : Names) (d : ℕ) (exprs : ExpressionsRead n d) where
-  tests_complete : CompleteFor (tests_of (expr n true d top)) (FitsTests n d) TestsEnd
+module _ (n : Names) (d : ℕ) (parse_exprs : ExpressionsRead n d) where
+  tests_complete : CompleteFor (tests_of (parse_expr n true d top)) (FitsTests n d) TestsEnd
   tests_complete es front rest h ends =
-      items_complete WrittenExpression (mark marks.Comma) (Fits n true top d) (expr n true d top) (Stops true top) refl (exprs true top (omega arith) (omega arith)) (fits_some n true top d)
+      items_complete Expr (mark marks.Comma) (Fits n true top d) (parse_expr n true d top) (Stops true top) refl (parse_exprs true top (omega arith) (omega arith)) (fits_some n true top d)
       (λ t ts e. stops_kind true top (mark marks.Comma) t ts e refl refl) es front rest (length (front ++ rest)) h ends.0 ends.1 (omega (arith, length-append front rest))
 
-  guard_complete : (c : Condition) (front rest : List NumberedToken) → DerivesGuard n c front → condition_depth c ≤ d → ArrowAhead rest → guard (expr n true d top) (front ++ rest) ≡ Some (c, rest)
+  guard_complete : (c : Condition) (front rest : List NumberedToken) → DerivesGuard n c front → condition_depth c ≤ d → ArrowAhead rest → guard (parse_expr n true d top) (front ++ rest) ≡ Some (c, rest)
   guard_complete c front rest h le ahead =
-      let listed = items_complete (List WrittenExpression) (mark marks.Semicolon) (FitsTests n d) (tests_of (expr n true d top)) TestsEnd refl tests_complete (tests_some n d)
+      let listed = items_complete (List Expr) (mark marks.Semicolon) (FitsTests n d) (tests_of (parse_expr n true d top)) TestsEnd refl tests_complete (tests_some n d)
       (λ t ts e. tests_end (mark marks.Semicolon) t ts e refl refl refl) (tests_list c) front rest (length (front ++ rest)) (guard_to n d c front h le) (arrow_tests rest ahead) (arrow_other (mark marks.Semicolon) rest ahead refl) (omega (arith, length-append front rest)) in
       let back = condition_back c in
       rw (listed, back) refl
 
-  pub when_complete : (c : Condition) (front rest : List NumberedToken) → Guarded c (DerivesGuard n c) front → condition_depth c ≤ d → ArrowAhead rest → when (expr n true d top) (front ++ rest) ≡ Some (c, rest)
+  pub when_complete : (c : Condition) (front rest : List NumberedToken) → Guarded c (DerivesGuard n c) front → condition_depth c ≤ d → ArrowAhead rest → when (parse_expr n true d top) (front ++ rest) ≡ Some (c, rest)
   when_complete c front rest (inl h) le ahead =
       let bare = h.0 in
       let w = h.1 in
@@ -96,7 +96,7 @@ module _ (n : Names) (d : ℕ) (exprs : ExpressionsRead n d) where
   when_complete c front rest (inr h) le ahead =
       let regroup : front ++ rest ≡ h.0 ∷ (h.1 ++ rest) = ap (λ (l : List NumberedToken). l ++ rest) h.3 in
       let word = after_here (reserved words.When) h.0 (h.1 ++ rest) refl h.2 in
-      ap (when (expr n true d top)) regroup ∙ ap (when_step (expr n true d top) (h.0 ∷ (h.1 ++ rest))) word ∙ guard_complete c h.1 rest h.4 le ahead
+      ap (when (parse_expr n true d top)) regroup ∙ ap (when_step (parse_expr n true d top) (h.0 ∷ (h.1 ++ rest))) word ∙ guard_complete c h.1 rest h.4 le ahead
 
   front_complete : (choice : Bool) → CompleteFor (front_of (readers n d) choice) (FitsFront n choice d) ArrowAhead
   front_complete false f front rest h ahead =
@@ -114,15 +114,15 @@ module _ (n : Names) (d : ℕ) (exprs : ExpressionsRead n d) where
 module _ (n : Names) (d : ℕ) (elements : ElementsRead n d) where
   pub body_complete : CompleteFor (body (element n d)) (Several (mark marks.Comma) (Fits n false body_level d)) ClauseEnds
   body_complete es front rest h ends =
-      items_complete WrittenExpression (mark marks.Comma) (Fits n false body_level d) (element n d) ElementEnds refl elements (fits_some n false body_level d) (λ t ts e. element_ends (mark marks.Comma) t ts e refl refl refl)
+      items_complete Expr (mark marks.Comma) (Fits n false body_level d) (element n d) ElementEnds refl elements (fits_some n false body_level d) (λ t ts e. element_ends (mark marks.Comma) t ts e refl refl refl)
       es front rest (length (front ++ rest)) h ends.0 ends.1 (omega (arith, length-append front rest))
 
-module _ (n : Names) (d : ℕ) (exprs : ExpressionsRead n d) (elements : ElementsRead n d) where
+module _ (n : Names) (d : ℕ) (parse_exprs : ExpressionsRead n d) (elements : ElementsRead n d) where
   clause_complete : (choice : Bool) → CompleteFor (clause (readers n d) choice) (FitsClause n choice d) ClauseEnds
   clause_complete choice c front rest h ends =
       let behind = h.1 ∷ (h.2 ++ rest) in
       let regroup : front ++ rest ≡ h.0 ++ behind = ap (λ (l : List NumberedToken). l ++ rest) h.4 ∙ append_assoc h.0 (h.1 ∷ h.2) rest in
-      let one = front_complete n d exprs choice c.0 h.0 behind h.5 (record { arrow = h.1; behind = h.2 ++ rest; arrow_is = h.3; whole = refl }) in
+      let one = front_complete n d parse_exprs choice c.0 h.0 behind h.5 (record { arrow = h.1; behind = h.2 ++ rest; arrow_is = h.3; whole = refl }) in
       let arrow = after_here (mark marks.Arrow) h.1 (h.2 ++ rest) refl h.3 in
       let es = body_complete n d elements c.1 h.2 rest h.6 ends in
       ap (clause (readers n d) choice) regroup ∙ rw (one, arrow, es) refl

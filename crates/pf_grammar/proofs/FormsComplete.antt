@@ -3,18 +3,18 @@ use Rattle.std.proofs.Common.{◌≡◌, ℕ, zero, suc, ◌≤◌, ◌<◌, Lis
 use Rattle.std.specs.Prelude.{flat_map, codes}
 use Rattle.std.proofs.lemmas.List.{length-append}
 use Rattle.pf_tokens.specs.declared.marks.Mark.TheVariants as marks
-use Rattle.pf_syntax.specs.WrittenPattern.{WrittenPattern}
-use Rattle.pf_syntax.specs.Source.{Export, Head}
-use Rattle.pf_numbered.specs.declared.limits.TheConstants.{MOST_TREE_DEPTH}
-use Rattle.pf_numbered.specs.NumberedTokens.{dot, mark, NumberedToken}
+use Rattle.pf_syntax.specs.ExprPattern.{ExprPattern}
+use Rattle.pf_syntax.specs.SyntaxTree.{Export, Head}
+use Rattle.pf_intern.specs.declared.limits.TheConstants.{MOST_TREE_DEPTH}
+use Rattle.pf_intern.specs.NumberedTokens.{dot, mark, NumberedToken}
 use Rattle.pf_grammar.specs.Grammar.{Names, DerivesHead, DerivesHeads, DerivesFunction, DerivesFunctions, DerivesEntry, DerivesEntries, DerivesExport, DerivesExports}
 use Rattle.pf_grammar.specs.Parse.{after, pattern, head, function, functions, entry, export, exports}
 use Rattle.pf_grammar.proofs.Single.{after_here, after_none, atom_no_mark, named_is, number_is, word_is, closing_parenthesis}
 use Rattle.pf_grammar.proofs.Lists.{CompleteFor, Any, Separated, Several, Opens, opens_front, opens_on, items_complete, until_complete}
-use Rattle.pf_grammar.proofs.Patterns.{FitsPattern, pattern_complete, written_pattern_opens, written_pattern_list, written_patterns_back, written_patterns_to}
-use Rattle.pf_grammar.proofs.Groups.{written_expression_list, written_expressions_back, body_to}
+use Rattle.pf_grammar.proofs.Patterns.{FitsPattern, pattern_complete, expr_pattern_opens, expr_pattern_list, expr_patterns_back, expr_patterns_to}
+use Rattle.pf_grammar.proofs.Groups.{expr_list, exprs_back, body_to}
 use Rattle.pf_grammar.proofs.CompleteClauses.{ClauseEnds, clause_ends, when_complete, body_complete}
-use Rattle.pf_grammar.proofs.Complete.{expr_complete, element_complete}
+use Rattle.pf_grammar.proofs.Complete.{parse_expr_complete, element_complete}
 
 -- ---- functions
 
@@ -28,16 +28,16 @@ head_complete n h front rest d ends =
     let more : d.more ++ rest ≡ b.0 ∷ (b.1 ++ (k.1 ++ behind)) = ap (λ (l : List NumberedToken). l ++ rest) q.4 ∙ append_assoc q.0 (q.1 ∷ q.2) rest ∙ ap (λ (l : List NumberedToken). l ++ behind) k.2 ∙ append_assoc k.0 k.1 behind
     ∙ ap (λ (l : List NumberedToken). l ++ (k.1 ++ behind)) b.3 in
     let regroup : front ++ rest ≡ d.name ∷ b.0 ∷ (b.1 ++ (k.1 ++ behind)) = ap (λ (l : List NumberedToken). l ++ rest) d.whole ∙ ap (λ (l : List NumberedToken). d.name ∷ l) more in
-    let name = named_is n h.name h.offset d.name (b.0 ∷ (b.1 ++ (k.1 ++ behind))) d.name_is d.place_is in
+    let name = named_is n h.name h.offset d.name (b.0 ∷ (b.1 ++ (k.1 ++ behind))) d.name_is d.offset_is in
     let opens = after_here (mark marks.OpenParenthesis) b.0 (b.1 ++ (k.1 ++ behind)) refl b.2 in
-    let qs = until_complete WrittenPattern (mark marks.CloseParenthesis) (FitsPattern n MOST_TREE_DEPTH) (pattern n MOST_TREE_DEPTH) Any refl refl (pattern_complete n MOST_TREE_DEPTH) (λ r xs f. written_pattern_opens n marks.CloseParenthesis closing_parenthesis r xs f.0)
-    (λ t ts u. tt) (λ t ts u. tt) (written_pattern_list h.parameters) b.1 (k.1 ++ behind) (c.0, c.1, c.2, c.3, written_patterns_to n MOST_TREE_DEPTH h.parameters c.0 c.4 d.shallow_parameters) in
-    let condition = when_complete n MOST_TREE_DEPTH (expr_complete n MOST_TREE_DEPTH) h.condition k.1 behind k.4 d.shallow_condition (record { arrow = q.1; behind = q.2 ++ rest; arrow_is = q.3; whole = refl }) in
+    let qs = until_complete ExprPattern (mark marks.CloseParenthesis) (FitsPattern n MOST_TREE_DEPTH) (pattern n MOST_TREE_DEPTH) Any refl refl (pattern_complete n MOST_TREE_DEPTH) (λ r xs f. expr_pattern_opens n marks.CloseParenthesis closing_parenthesis r xs f.0)
+    (λ t ts u. tt) (λ t ts u. tt) (expr_pattern_list h.parameters) b.1 (k.1 ++ behind) (c.0, c.1, c.2, c.3, expr_patterns_to n MOST_TREE_DEPTH h.parameters c.0 c.4 d.shallow_parameters) in
+    let condition = when_complete n MOST_TREE_DEPTH (parse_expr_complete n MOST_TREE_DEPTH) h.condition k.1 behind k.4 d.shallow_condition (record { arrow = q.1; behind = q.2 ++ rest; arrow_is = q.3; whole = refl }) in
     let arrow = after_here (mark marks.Arrow) q.1 (q.2 ++ rest) refl q.3 in
-    let es = body_complete n MOST_TREE_DEPTH (element_complete n MOST_TREE_DEPTH) (written_expression_list h.body) q.2 rest (body_to n MOST_TREE_DEPTH h.body q.2 q.6 d.shallow_body) ends in
-    let written_patterns = written_patterns_back h.parameters in
-    let elements = written_expressions_back h.body in
-    ap (head n) regroup ∙ rw (name, opens, qs, condition, arrow, es, written_patterns, elements) refl
+    let es = body_complete n MOST_TREE_DEPTH (element_complete n MOST_TREE_DEPTH) (expr_list h.body) q.2 rest (body_to n MOST_TREE_DEPTH h.body q.2 q.6 d.shallow_body) ends in
+    let expr_patterns = expr_patterns_back h.parameters in
+    let elements = exprs_back h.body in
+    ap (head n) regroup ∙ rw (name, opens, qs, condition, arrow, es, expr_patterns, elements) refl
 
 head_some : (n : Names) (h : Head) (front : List NumberedToken) → DerivesHead n h front → 0 < length front
 head_some n h front d = let w = ap length d.whole in omega (arith, w)
@@ -87,7 +87,7 @@ functions_open n (f ∷ fs) ts d = ap (after (mark marks.Minus)) d.2 ∙ opens_f
 
 entry_complete : (n : Names) → CompleteFor (entry n) (DerivesEntry n) Any
 entry_complete n x front rest d u =
-    let name = named_is n x.name x.offset d.name (d.slash ∷ d.arity ∷ rest) d.name_is d.place_is in
+    let name = named_is n x.name x.offset d.name (d.slash ∷ d.arity ∷ rest) d.name_is d.offset_is in
     let slash = after_here (mark marks.Slash) d.slash (d.arity ∷ rest) refl d.slash_is in
     let k = number_is x.arity d.arity rest d.arity_is in
     ap (λ (l : List NumberedToken). entry n (l ++ rest)) d.whole ∙ rw (name, slash, k) refl

@@ -2,17 +2,17 @@
 use Rattle.std.proofs.Common.{◌≡◌, ℕ, zero, suc, List, [], ◌∷◌, ◌++◌, length, true, Option, Some, None, refl, ap, subst, ◌∙◌, arith}
 use Rattle.std.specs.Prelude.{flat_map, codes}
 use Rattle.pf_tokens.specs.declared.marks.Mark.TheVariants as marks
-use Rattle.pf_syntax.specs.WrittenPattern.{WrittenPattern}
-use Rattle.pf_syntax.specs.Source.{Export, Head}
-use Rattle.pf_numbered.specs.declared.limits.TheConstants.{MOST_TREE_DEPTH}
-use Rattle.pf_numbered.specs.NumberedTokens.{dot, mark, NumberedToken}
+use Rattle.pf_syntax.specs.ExprPattern.{ExprPattern}
+use Rattle.pf_syntax.specs.SyntaxTree.{Export, Head}
+use Rattle.pf_intern.specs.declared.limits.TheConstants.{MOST_TREE_DEPTH}
+use Rattle.pf_intern.specs.NumberedTokens.{dot, mark, NumberedToken}
 use Rattle.pf_grammar.specs.Grammar.{Names, top, DerivesHead, DerivesHeads, DerivesFunction, DerivesFunctions, DerivesEntry, DerivesEntries, DerivesExport, DerivesExports}
-use Rattle.pf_grammar.specs.Parse.{after, named, number, word, items, until, written_patterns_of, written_expressions_of, pattern, when, body, expr, element, head, function, functions, entry, export, exports_step, exports}
+use Rattle.pf_grammar.specs.Parse.{after, named, number, word, items, until, expr_patterns_of, exprs_of, pattern, when, body, parse_expr, element, head, function, functions, entry, export, exports_step, exports}
 use Rattle.pf_grammar.proofs.Single.{bind_some, some_is, after_some, named_some, number_some, word_some}
 use Rattle.pf_grammar.proofs.Lists.{Took, SoundFor, took_is, grow, Separated, Several, items_sound, until_sound}
-use Rattle.pf_grammar.proofs.Patterns.{FitsPattern, pattern_sound, written_patterns_from}
+use Rattle.pf_grammar.proofs.Patterns.{FitsPattern, pattern_sound, expr_patterns_from}
 use Rattle.pf_grammar.proofs.Groups.{body_from}
-use Rattle.pf_grammar.proofs.Sound.{when_sound, body_sound, expr_sound, element_sound}
+use Rattle.pf_grammar.proofs.Sound.{when_sound, body_sound, parse_expr_sound, element_sound}
 
 -- ---- functions
 
@@ -21,20 +21,20 @@ head_sound n ts x e =
     let a = bind_some (named n ts) _ x e in
     let b = bind_some (after (mark marks.OpenParenthesis) a.0.1) _ x a.2 in
     let c = bind_some (until (mark marks.CloseParenthesis) (pattern n MOST_TREE_DEPTH) b.0) _ x b.2 in
-    let w = bind_some (when (expr n true MOST_TREE_DEPTH top) c.0.1) _ x c.2 in
+    let w = bind_some (when (parse_expr n true MOST_TREE_DEPTH top) c.0.1) _ x c.2 in
     let g = bind_some (after (mark marks.Arrow) w.0.1) _ x w.2 in
     let k = bind_some (body (element n MOST_TREE_DEPTH) g.0) _ x g.2 in
     let t = named_some n ts a.0 a.1 in
     let opens = after_some (mark marks.OpenParenthesis) a.0.1 b.0 b.1 in
-    let qs = until_sound WrittenPattern (mark marks.CloseParenthesis) (FitsPattern n MOST_TREE_DEPTH) (pattern n MOST_TREE_DEPTH) (pattern_sound n MOST_TREE_DEPTH) b.0 c.0 c.1 in
-    let condition = when_sound n MOST_TREE_DEPTH (expr n true MOST_TREE_DEPTH top) (expr_sound n true MOST_TREE_DEPTH top (omega arith)) c.0.1 w.0 w.1 in
+    let qs = until_sound ExprPattern (mark marks.CloseParenthesis) (FitsPattern n MOST_TREE_DEPTH) (pattern n MOST_TREE_DEPTH) (pattern_sound n MOST_TREE_DEPTH) b.0 c.0 c.1 in
+    let condition = when_sound n MOST_TREE_DEPTH (parse_expr n true MOST_TREE_DEPTH top) (parse_expr_sound n true MOST_TREE_DEPTH top (omega arith)) c.0.1 w.0 w.1 in
     let arrow = after_some (mark marks.Arrow) w.0.1 g.0 g.1 in
     let es = body_sound n MOST_TREE_DEPTH (element n MOST_TREE_DEPTH) (element_sound n MOST_TREE_DEPTH) g.0 k.0 k.1 in
     let inside = qs.holds in
     let guarded = condition.holds in
-    let parameters = written_patterns_from n MOST_TREE_DEPTH c.0.0 inside.0 inside.4 in
+    let parameters = expr_patterns_from n MOST_TREE_DEPTH c.0.0 inside.0 inside.4 in
     let elements = body_from n MOST_TREE_DEPTH k.0.0 es.front es.holds in
-    let made : Head = record { name = a.0.0.0; offset = a.0.0.1; parameters = written_patterns_of c.0.0; condition = w.0.0; body = written_expressions_of k.0.0 } in
+    let made : Head = record { name = a.0.0.0; offset = a.0.0.1; parameters = expr_patterns_of c.0.0; condition = w.0.0; body = exprs_of k.0.0 } in
     let first : a.0.1 ≡ (opens.0 ∷ qs.front) ++ c.0.1 = opens.2 ∙ ap (λ (l : List NumberedToken). opens.0 ∷ l) qs.parts in
     let before : List NumberedToken = (opens.0 ∷ qs.front) ++ condition.front in
     let upto : a.0.1 ≡ before ++ w.0.1 = grow a.0.1 (opens.0 ∷ qs.front) c.0.1 condition.front w.0.1 first condition.parts in
@@ -47,7 +47,7 @@ head_sound n ts x e =
         more = before ++ arrow.0 ∷ es.front;
         whole = refl;
         name_is = t.1;
-        place_is = t.2;
+        offset_is = t.2;
         parts = (before, arrow.0, es.front, arrow.1, refl, (opens.0 ∷ qs.front, condition.front, refl, (opens.0, qs.front, opens.1, refl, (inside.0, inside.1, inside.2, inside.3, parameters.0)), guarded.0), elements.0);
         shallow_parameters = parameters.1;
         shallow_condition = guarded.1;
@@ -94,7 +94,7 @@ entry_sound n ts x e =
     took_is (DerivesEntry n) ts (made, c.0.1) x c.2 (record {
       front = t.0 ∷ slash.0 ∷ k.0 ∷ [];
       parts = t.3 ∙ ap (λ (l : List NumberedToken). t.0 ∷ l) (slash.2 ∙ ap (λ (l : List NumberedToken). slash.0 ∷ l) k.2);
-      holds = record { name = t.0; slash = slash.0; arity = k.0; whole = refl; name_is = t.1; place_is = t.2; slash_is = slash.1; arity_is = k.1 };
+      holds = record { name = t.0; slash = slash.0; arity = k.0; whole = refl; name_is = t.1; offset_is = t.2; slash_is = slash.1; arity_is = k.1 };
     })
 
 entries_from : (n : Names) (es : List Export) (ts : List NumberedToken) → Separated (mark marks.Comma) (DerivesEntry n) es ts → DerivesEntries n es ts

@@ -2,7 +2,7 @@
 use Rattle.std.proofs.Common.{◌≡◌, ℕ, zero, suc, ◌≤◌, ◌<◌, List, [], ◌∷◌, ◌++◌, length, false, Option, Some, None, refl, sym, ap, subst, ◌∙◌, arith, append_assoc}
 use Rattle.std.proofs.lemmas.List.{length-append}
 use Rattle.pf_tokens.specs.declared.marks.Mark.TheVariants as marks
-use Rattle.pf_numbered.specs.NumberedTokens.{NumberedKind, mark, NumberedToken}
+use Rattle.pf_intern.specs.NumberedTokens.{NumberedKind, mark, NumberedToken}
 use Rattle.pf_grammar.specs.Grammar.{Before, Apart}
 use Rattle.pf_grammar.specs.Parse.{◌>>=◌, Parse, is, after, items_step, items, until_step, until, Listed, tail_step, listed_step, listed}
 use Rattle.pf_grammar.proofs.Single.{bind_some, some_is, after_some, after_here, after_other, after_none, Plain}

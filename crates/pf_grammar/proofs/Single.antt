@@ -10,8 +10,8 @@ use Rattle.pf_tokens.specs.declared.marks.Mark.TheVariants as marks
 use Rattle.pf_tokens.specs.declared.words.Reserved.{Reserved}
 use Rattle.pf_tokens.specs.declared.words.Reserved.TheVariants as words
 use Rattle.pf_syntax.specs.Tree.{plus, minus, times, quotient, remainder, append, equal, unequal, less, at_most, greater, at_least}
-use Rattle.pf_numbered.specs.declared.limits.TheConstants.{MOST_NAME_BYTES, MOST_TEXT_CHARACTERS}
-use Rattle.pf_numbered.specs.NumberedTokens.{NumberedKind, integer, atom, own_module, dot, mark, reserved, NumberedToken}
+use Rattle.pf_intern.specs.declared.limits.TheConstants.{MOST_NAME_BYTES, MOST_TEXT_CHARACTERS}
+use Rattle.pf_intern.specs.NumberedTokens.{NumberedKind, integer, atom, own_module, dot, mark, reserved, NumberedToken}
 use Rattle.pf_grammar.specs.Grammar.{
   Names,
   IsAtom,
@@ -182,7 +182,7 @@ pub atom_no_mark : (n : Names) (a : ℕ) (t : NumberedToken) (m : Mark) → IsAt
 atom_no_mark n a t m (inl h) = let e = h.0 in rw e refl
 atom_no_mark n a t m (inr h) = let e = h.0 in rw e refl
 
--- a name and its place
+-- a name and its offset
 pub named_some : (n : Names) (ts : List NumberedToken) (x : (ℕ × ℕ) × List NumberedToken) → named n ts ≡ Some x → (t : NumberedToken) × IsAtom n x.0.0 t × (t.at ≡ x.0.1) × (ts ≡ t ∷ x.1)
 named_some n [] x e = absurd cc
 named_some n (t ∷ ts) x e =
@@ -191,7 +191,7 @@ named_some n (t ∷ ts) x e =
     (t, atom_in_some n t.kind t x.0.0 refl (b.1 ∙ ap (λ (y : (ℕ × ℕ) × List NumberedToken). Some y.0.0) same), ap (λ (y : (ℕ × ℕ) × List NumberedToken). y.0.1) same, ap (λ (y : (ℕ × ℕ) × List NumberedToken). t ∷ y.1) same)
 
 pub named_is : (n : Names) (a at : ℕ) (t : NumberedToken) (ts : List NumberedToken) → IsAtom n a t → t.at ≡ at → named n (t ∷ ts) ≡ Some ((a, at), ts)
-named_is n a at t ts h place = let e = atom_in_is n a t h in rw (e, place) refl
+named_is n a at t ts h offset = let e = atom_in_is n a t h in rw (e, offset) refl
 
 -- ---- integers and words
 

@@ -5,8 +5,8 @@ use Rattle.std.proofs.lemmas.Bool.{leb-true, le-leb}
 use Rattle.std.proofs.lemmas.List.{length-append}
 use Rattle.pf_terms.specs.Atoms.{name_of}
 use Rattle.pf_tokens.specs.declared.marks.Mark.TheVariants as marks
-use Rattle.pf_numbered.specs.declared.limits.TheConstants.{MOST_NAME_BYTES}
-use Rattle.pf_numbered.specs.NumberedTokens.{NumberedKind, atom, dot, mark, NumberedToken}
+use Rattle.pf_intern.specs.declared.limits.TheConstants.{MOST_NAME_BYTES}
+use Rattle.pf_intern.specs.NumberedTokens.{NumberedKind, atom, dot, mark, NumberedToken}
 use Rattle.pf_grammar.specs.Grammar.{Names, Begins, Tree, DerivesTree}
 use Rattle.pf_grammar.specs.Parse.{after, word, functions, exports, atom_kind, any_atom, begins, behind, tree}
 use Rattle.pf_grammar.proofs.Single.{bind_some, cond_some, some_is, after_some, after_here, word_some, word_is}

@@ -4,16 +4,16 @@ use Rattle.pf_terms.specs.Atoms.{name_of}
 use Rattle.pf_tokens.specs.declared.marks.Mark.TheVariants as marks
 use Rattle.pf_tokens.specs.declared.words.Reserved.TheVariants as words
 use Rattle.pf_syntax.specs.Tree.{Operator, plus, minus, times, quotient, remainder, append, equal, unequal, less, at_most, greater, at_least, Builtin}
-use Rattle.pf_syntax.specs.WrittenPattern as s
-use Rattle.pf_syntax.specs.WrittenPattern.{WrittenPattern, WrittenPatterns, no_written_patterns, written_pattern, written_patterns_depth}
-use Rattle.pf_syntax.specs.WrittenExpression as p
-use Rattle.pf_syntax.specs.WrittenExpression.{WrittenExpression, WrittenExpressions, Condition, Branches, no_written_expressions, written_expression, no_tests, tests, no_branches, branch, written_expressions_depth, condition_depth}
-use Rattle.pf_syntax.specs.Source.{Export, Head}
+use Rattle.pf_syntax.specs.ExprPattern as s
+use Rattle.pf_syntax.specs.ExprPattern.{ExprPattern, ExprPatterns, no_expr_patterns, expr_pattern, expr_patterns_depth}
+use Rattle.pf_syntax.specs.Expr as p
+use Rattle.pf_syntax.specs.Expr.{Expr, Exprs, Condition, Branches, no_exprs, expr, no_tests, tests, no_branches, branch, exprs_depth, condition_depth}
+use Rattle.pf_syntax.specs.SyntaxTree.{Export, Head}
 use Rattle.pf_syntax.specs.Naming.{arity_of}
-use Rattle.pf_forms.specs.Forms.{builtin_named, appending, deciding, choosing, receiving, sending, calling, may_stand}
-pub use Rattle.pf_syntax.specs.WrittenModule.{Tree, tree_of, unguarded}
-use Rattle.pf_numbered.specs.declared.limits.TheConstants.{MOST_NAME_BYTES, MOST_TREE_DEPTH, MOST_TEXT_CHARACTERS}
-use Rattle.pf_numbered.specs.NumberedTokens.{NumberedKind, integer, atom, variable, anonymous, text, own_module, dot, mark, reserved, NumberedToken}
+use Rattle.pf_builtins.specs.Forms.{builtin_named, appending, deciding, choosing, receiving, sending, calling, may_stand}
+pub use Rattle.pf_syntax.specs.ExprModule.{Tree, tree_of, unguarded}
+use Rattle.pf_intern.specs.declared.limits.TheConstants.{MOST_NAME_BYTES, MOST_TREE_DEPTH, MOST_TEXT_CHARACTERS}
+use Rattle.pf_intern.specs.NumberedTokens.{NumberedKind, integer, atom, variable, anonymous, text, own_module, dot, mark, reserved, NumberedToken}
 
 -- what numbers in tokens stand for: the names of atoms, and the number of the module's own name
 pub record Names : Type 0 where
@@ -173,33 +173,33 @@ abbrev pub Parenthesized : (List NumberedToken → Type 0) → List NumberedToke
 Parenthesized = Between (mark marks.OpenParenthesis) (mark marks.CloseParenthesis)
 
 -- there is one at least
-abbrev pub HasPattern : WrittenPatterns → Type 0
-HasPattern no_written_patterns = ⊥
-HasPattern (written_pattern q qs) = Unit {0}
+abbrev pub HasPattern : ExprPatterns → Type 0
+HasPattern no_expr_patterns = ⊥
+HasPattern (expr_pattern q qs) = Unit {0}
 
-abbrev pub HasExpression : WrittenExpressions → Type 0
-HasExpression no_written_expressions = ⊥
-HasExpression (written_expression e es) = Unit {0}
+abbrev pub HasExpression : Exprs → Type 0
+HasExpression no_exprs = ⊥
+HasExpression (expr e es) = Unit {0}
 
 -- ---- patterns
 
 abbrev mutual
-  pub DerivesWrittenPattern : Names → WrittenPattern → List NumberedToken → Type 0
-  DerivesWrittenPattern n (s.integer z) ts = (k : ℕ) × (((z ≡ pos k) × IsOne (integer k) ts) ⊎ ((z ≡ neg_ℤ (pos k)) × Behind (mark marks.Minus) (IsOne (integer k)) ts))
-  DerivesWrittenPattern n (s.atom a) ts = (t : NumberedToken) × IsAtom n a t × (ts ≡ t ∷ [])
-  DerivesWrittenPattern n (s.text cs) ts = IsText cs ts
-  DerivesWrittenPattern n (s.variable x at) ts = (t : NumberedToken) × (t.kind ≡ variable x) × (t.at ≡ at) × (ts ≡ t ∷ [])
-  DerivesWrittenPattern n s.anything ts = IsOne anonymous ts
-  DerivesWrittenPattern n (s.tuple qs) ts = Braced (DerivesWrittenPatterns n qs) ts
-  DerivesWrittenPattern n (s.list qs) ts = Bracketed (DerivesWrittenPatterns n qs) ts
-  DerivesWrittenPattern n (s.list_on qs q) ts = HasPattern qs × Bracketed (Apart (mark marks.Bar) (DerivesWrittenPatterns n qs) (DerivesWrittenPattern n q)) ts
+  pub DerivesExprPattern : Names → ExprPattern → List NumberedToken → Type 0
+  DerivesExprPattern n (s.integer z) ts = (k : ℕ) × (((z ≡ pos k) × IsOne (integer k) ts) ⊎ ((z ≡ neg_ℤ (pos k)) × Behind (mark marks.Minus) (IsOne (integer k)) ts))
+  DerivesExprPattern n (s.atom a) ts = (t : NumberedToken) × IsAtom n a t × (ts ≡ t ∷ [])
+  DerivesExprPattern n (s.text cs) ts = IsText cs ts
+  DerivesExprPattern n (s.variable x at) ts = (t : NumberedToken) × (t.kind ≡ variable x) × (t.at ≡ at) × (ts ≡ t ∷ [])
+  DerivesExprPattern n s.anything ts = IsOne anonymous ts
+  DerivesExprPattern n (s.tuple qs) ts = Braced (DerivesExprPatterns n qs) ts
+  DerivesExprPattern n (s.list qs) ts = Bracketed (DerivesExprPatterns n qs) ts
+  DerivesExprPattern n (s.list_on qs q) ts = HasPattern qs × Bracketed (Apart (mark marks.Bar) (DerivesExprPatterns n qs) (DerivesExprPattern n q)) ts
 
   -- patterns with commas between them, or none
-  pub DerivesWrittenPatterns : Names → WrittenPatterns → List NumberedToken → Type 0
-  DerivesWrittenPatterns n no_written_patterns ts = ts ≡ []
-  DerivesWrittenPatterns n (written_pattern q no_written_patterns) ts = DerivesWrittenPattern n q ts
-  DerivesWrittenPatterns n (written_pattern q (written_pattern r qs)) ts =
-      Apart (mark marks.Comma) (DerivesWrittenPattern n q) (DerivesWrittenPatterns n (written_pattern r qs)) ts
+  pub DerivesExprPatterns : Names → ExprPatterns → List NumberedToken → Type 0
+  DerivesExprPatterns n no_expr_patterns ts = ts ≡ []
+  DerivesExprPatterns n (expr_pattern q no_expr_patterns) ts = DerivesExprPattern n q ts
+  DerivesExprPatterns n (expr_pattern q (expr_pattern r qs)) ts =
+      Apart (mark marks.Comma) (DerivesExprPattern n q) (DerivesExprPatterns n (expr_pattern r qs)) ts
 
 -- ---- expressions
 
@@ -217,13 +217,13 @@ abbrev pub Guarded : Condition → (List NumberedToken → Type 0) → List Numb
 Guarded c G ts = ((c ≡ unguarded) × (ts ≡ [])) ⊎ Behind (reserved words.When) G ts
 
 -- what stands before the arrow of a clause: its pattern, with its guard or none; in an `if`, where the flag says so, its guard alone
-abbrev pub FrontIs : Bool → WrittenPattern → Condition → (List NumberedToken → Type 0) → (List NumberedToken → Type 0) → List NumberedToken → Type 0
+abbrev pub FrontIs : Bool → ExprPattern → Condition → (List NumberedToken → Type 0) → (List NumberedToken → Type 0) → List NumberedToken → Type 0
 FrontIs false q c P G ts = Together P (Guarded c G) ts
 FrontIs true q c P G ts = (q ≡ s.anything) × G ts
 
 abbrev mutual
   -- an expression of at most this level, in a guard where the flag says so
-  pub Derives : Names → Bool → WrittenExpression → ℕ → List NumberedToken → Type 0
+  pub Derives : Names → Bool → Expr → ℕ → List NumberedToken → Type 0
   Derives n g (p.integer z) level ts = (k : ℕ) × (z ≡ pos k) × IsOne (integer k) ts
   Derives n g (p.atom a) level ts = (t : NumberedToken) × IsAtom n a t × (ts ≡ t ∷ [])
   Derives n g (p.text cs) level ts = IsText cs ts
@@ -241,7 +241,7 @@ abbrev mutual
   Derives n g (p.and_also a b) level ts = Joined g and_also level (Derives n g a) (Derives n g b) ts
   Derives n g (p.or_else a b) level ts = Joined g or_else level (Derives n g a) (Derives n g b) ts
   Derives n g (p.send a b) level ts = Joined g send level (Derives n g a) (Derives n g b) ts
-  Derives n g (p.match q e) level ts = (element ≤ level) × Apart (mark marks.Match) (DerivesWrittenPattern n q) (Derives n g e element) ts
+  Derives n g (p.match q e) level ts = (element ≤ level) × Apart (mark marks.Match) (DerivesExprPattern n q) (Derives n g e element) ts
   Derives n g (p.case e bs) level ts =
       IsTrue (may_stand g deciding)
       × Between (reserved words.Case) (reserved words.End) (Apart (reserved words.Of) (Derives n g e top) (DerivesBranches n false bs)) ts
@@ -251,18 +251,18 @@ abbrev mutual
       IsTrue (may_stand g receiving) × Between (reserved words.Receive) (reserved words.End) (DerivesBranches n false bs) ts
 
   -- expressions with commas between them, or none
-  pub DerivesAll : Names → Bool → WrittenExpressions → List NumberedToken → Type 0
-  DerivesAll n g no_written_expressions ts = ts ≡ []
-  DerivesAll n g (written_expression e no_written_expressions) ts = Derives n g e top ts
-  DerivesAll n g (written_expression e (written_expression f es)) ts =
-      Apart (mark marks.Comma) (Derives n g e top) (DerivesAll n g (written_expression f es)) ts
+  pub DerivesAll : Names → Bool → Exprs → List NumberedToken → Type 0
+  DerivesAll n g no_exprs ts = ts ≡ []
+  DerivesAll n g (expr e no_exprs) ts = Derives n g e top ts
+  DerivesAll n g (expr e (expr f es)) ts =
+      Apart (mark marks.Comma) (Derives n g e top) (DerivesAll n g (expr f es)) ts
 
   -- a body: elements with commas between them
-  pub DerivesBody : Names → WrittenExpressions → List NumberedToken → Type 0
-  DerivesBody n no_written_expressions ts = ⊥
-  DerivesBody n (written_expression e no_written_expressions) ts = Derives n false e element ts
-  DerivesBody n (written_expression e (written_expression f es)) ts =
-      Apart (mark marks.Comma) (Derives n false e element) (DerivesBody n (written_expression f es)) ts
+  pub DerivesBody : Names → Exprs → List NumberedToken → Type 0
+  DerivesBody n no_exprs ts = ⊥
+  DerivesBody n (expr e no_exprs) ts = Derives n false e element ts
+  DerivesBody n (expr e (expr f es)) ts =
+      Apart (mark marks.Comma) (Derives n false e element) (DerivesBody n (expr f es)) ts
 
   -- a guard: alternatives with semicolons between them, each tests with commas between them
   pub DerivesGuard : Names → Condition → List NumberedToken → Type 0
@@ -273,9 +273,9 @@ abbrev mutual
   -- clauses with semicolons between them
   pub DerivesBranches : Names → Bool → Branches → List NumberedToken → Type 0
   DerivesBranches n choice no_branches ts = ⊥
-  DerivesBranches n choice (branch q c es no_branches) ts = Apart (mark marks.Arrow) (FrontIs choice q c (DerivesWrittenPattern n q) (DerivesGuard n c)) (DerivesBody n es) ts
+  DerivesBranches n choice (branch q c es no_branches) ts = Apart (mark marks.Arrow) (FrontIs choice q c (DerivesExprPattern n q) (DerivesGuard n c)) (DerivesBody n es) ts
   DerivesBranches n choice (branch q c es (branch r d fs bs)) ts =
-      Apart (mark marks.Semicolon) (Apart (mark marks.Arrow) (FrontIs choice q c (DerivesWrittenPattern n q) (DerivesGuard n c)) (DerivesBody n es))
+      Apart (mark marks.Semicolon) (Apart (mark marks.Arrow) (FrontIs choice q c (DerivesExprPattern n q) (DerivesGuard n c)) (DerivesBody n es))
       (DerivesBranches n choice (branch r d fs bs)) ts
 
 -- ---- functions
@@ -287,11 +287,11 @@ pub record DerivesHead (n : Names) (h : Head) (ts : List NumberedToken) : Type 0
   pub more : List NumberedToken
   pub whole : ts ≡ name ∷ more
   pub name_is : IsAtom n h.name name
-  pub place_is : name.at ≡ h.offset
-  pub parts : Apart (mark marks.Arrow) (Together (Parenthesized (DerivesWrittenPatterns n h.parameters)) (Guarded h.condition (DerivesGuard n h.condition))) (DerivesBody n h.body) more
-  pub shallow_parameters : written_patterns_depth h.parameters ≤ MOST_TREE_DEPTH
+  pub offset_is : name.at ≡ h.offset
+  pub parts : Apart (mark marks.Arrow) (Together (Parenthesized (DerivesExprPatterns n h.parameters)) (Guarded h.condition (DerivesGuard n h.condition))) (DerivesBody n h.body) more
+  pub shallow_parameters : expr_patterns_depth h.parameters ≤ MOST_TREE_DEPTH
   pub shallow_condition : condition_depth h.condition ≤ MOST_TREE_DEPTH
-  pub shallow_body : written_expressions_depth h.body ≤ MOST_TREE_DEPTH
+  pub shallow_body : exprs_depth h.body ≤ MOST_TREE_DEPTH
 
 -- clauses with semicolons between them
 abbrev pub DerivesHeads : Names → List Head → List NumberedToken → Type 0
@@ -317,7 +317,7 @@ pub record DerivesEntry (n : Names) (e : Export) (ts : List NumberedToken) : Typ
   pub arity : NumberedToken
   pub whole : ts ≡ name ∷ slash ∷ arity ∷ []
   pub name_is : IsAtom n e.name name
-  pub place_is : name.at ≡ e.offset
+  pub offset_is : name.at ≡ e.offset
   pub slash_is : slash.kind ≡ mark marks.Slash
   pub arity_is : arity.kind ≡ integer e.arity
 

@@ -6,14 +6,14 @@ use Rattle.pf_tokens.specs.declared.marks.Mark.{Mark}
 use Rattle.pf_tokens.specs.declared.marks.Mark.TheVariants as marks
 use Rattle.pf_tokens.specs.declared.words.Reserved.{Reserved}
 use Rattle.pf_tokens.specs.declared.words.Reserved.TheVariants as words
-use Rattle.pf_syntax.specs.WrittenPattern as s
-use Rattle.pf_syntax.specs.WrittenPattern.{WrittenPattern, WrittenPatterns, no_written_patterns, written_pattern}
-use Rattle.pf_syntax.specs.WrittenExpression as p
-use Rattle.pf_syntax.specs.WrittenExpression.{WrittenExpression, WrittenExpressions, Condition, Branches, no_written_expressions, written_expression, no_tests, tests, no_branches, branch, written_expression_depth}
-use Rattle.pf_syntax.specs.Source.{Export, Head}
-use Rattle.pf_numbered.specs.declared.limits.TheConstants.{MOST_NAME_BYTES, MOST_TREE_DEPTH, MOST_TEXT_CHARACTERS}
-use Rattle.pf_numbered.specs.NumberedTokens.{NumberedKind, integer, atom, variable, anonymous, text, own_module, dot, mark, reserved, NumberedToken}
-use Rattle.pf_forms.specs.Forms.{deciding, choosing, receiving, may_stand}
+use Rattle.pf_syntax.specs.ExprPattern as s
+use Rattle.pf_syntax.specs.ExprPattern.{ExprPattern, ExprPatterns, no_expr_patterns, expr_pattern}
+use Rattle.pf_syntax.specs.Expr as p
+use Rattle.pf_syntax.specs.Expr.{Expr, Exprs, Condition, Branches, no_exprs, expr, no_tests, tests, no_branches, branch, expr_depth}
+use Rattle.pf_syntax.specs.SyntaxTree.{Export, Head}
+use Rattle.pf_intern.specs.declared.limits.TheConstants.{MOST_NAME_BYTES, MOST_TREE_DEPTH, MOST_TEXT_CHARACTERS}
+use Rattle.pf_intern.specs.NumberedTokens.{NumberedKind, integer, atom, variable, anonymous, text, own_module, dot, mark, reserved, NumberedToken}
+use Rattle.pf_builtins.specs.Forms.{deciding, choosing, receiving, may_stand}
 use Rattle.pf_grammar.specs.Grammar.{Names, Infix, operator, and_also, or_else, send, infix_of, level_of, left_level, right_level, infix_stands, call_stands, top, unguarded, Tree}
 
 infixl 10 ◌>>=◌
@@ -102,7 +102,7 @@ atom_in n (atom a) = if nat_le (length (name_of n.atoms a)) MOST_NAME_BYTES then
 atom_in n own_module = Some n.own
 atom_in n _ = None
 
--- a name and its place
+-- a name and its offset
 abbrev pub named : Names → List NumberedToken → Option ((ℕ × ℕ) × List NumberedToken)
 named n [] = None
 named n (t ∷ ts) = atom_in n t.kind >>= λ a. Some ((a, t.at), ts)
@@ -144,13 +144,13 @@ until_step last item ts None = items (mark marks.Comma) item (length ts) ts >>= 
 abbrev pub until : {A : Type 0} → NumberedKind → Parse A → Parse (List A)
 until last item ts = until_step last item ts (after last ts)
 
-abbrev pub written_patterns_of : List WrittenPattern → WrittenPatterns
-written_patterns_of [] = no_written_patterns
-written_patterns_of (q ∷ qs) = written_pattern q (written_patterns_of qs)
+abbrev pub expr_patterns_of : List ExprPattern → ExprPatterns
+expr_patterns_of [] = no_expr_patterns
+expr_patterns_of (q ∷ qs) = expr_pattern q (expr_patterns_of qs)
 
-abbrev pub written_expressions_of : List WrittenExpression → WrittenExpressions
-written_expressions_of [] = no_written_expressions
-written_expressions_of (e ∷ es) = written_expression e (written_expressions_of es)
+abbrev pub exprs_of : List Expr → Exprs
+exprs_of [] = no_exprs
+exprs_of (e ∷ es) = expr e (exprs_of es)
 
 -- items with commas between them, between brackets whose first one is read: with a bar and a last item behind them, or without
 abbrev pub Listed : Type 0 → Type 0
@@ -169,48 +169,48 @@ listed item ts = listed_step item ts (after (mark marks.CloseBracket) ts)
 
 -- ---- patterns
 
-abbrev pub atom_written_pattern : Option ℕ → List NumberedToken → Option (WrittenPattern × List NumberedToken)
-atom_written_pattern None ts = None
-atom_written_pattern (Some a) ts = Some (s.atom a, ts)
+abbrev pub atom_expr_pattern : Option ℕ → List NumberedToken → Option (ExprPattern × List NumberedToken)
+atom_expr_pattern None ts = None
+atom_expr_pattern (Some a) ts = Some (s.atom a, ts)
 
 -- a string that is within the limits of values
 abbrev pub is_short : List ℕ → Bool
 is_short cs = nat_le (length cs) MOST_TEXT_CHARACTERS
 
 -- an integer behind a minus
-abbrev pub negative : List NumberedToken → Option (WrittenPattern × List NumberedToken)
+abbrev pub negative : List NumberedToken → Option (ExprPattern × List NumberedToken)
 negative ts = number ts >>= λ k. Some (s.integer (neg_ℤ (pos k.0)), k.1)
 
-abbrev pub tuple_written_pattern : Parse WrittenPattern → List NumberedToken → Option (WrittenPattern × List NumberedToken)
-tuple_written_pattern inner ts = until (mark marks.CloseBrace) inner ts >>= λ x. Some (s.tuple (written_patterns_of x.0), x.1)
+abbrev pub tuple_expr_pattern : Parse ExprPattern → List NumberedToken → Option (ExprPattern × List NumberedToken)
+tuple_expr_pattern inner ts = until (mark marks.CloseBrace) inner ts >>= λ x. Some (s.tuple (expr_patterns_of x.0), x.1)
 
-abbrev pub listed_written_pattern : Listed WrittenPattern → WrittenPattern
-listed_written_pattern (qs, None) = s.list (written_patterns_of qs)
-listed_written_pattern (qs, Some q) = s.list_on (written_patterns_of qs) q
+abbrev pub listed_expr_pattern : Listed ExprPattern → ExprPattern
+listed_expr_pattern (qs, None) = s.list (expr_patterns_of qs)
+listed_expr_pattern (qs, Some q) = s.list_on (expr_patterns_of qs) q
 
-abbrev pub list_written_pattern : Parse WrittenPattern → List NumberedToken → Option (WrittenPattern × List NumberedToken)
-list_written_pattern inner ts = listed inner ts >>= λ x. Some (listed_written_pattern x.0, x.1)
+abbrev pub list_expr_pattern : Parse ExprPattern → List NumberedToken → Option (ExprPattern × List NumberedToken)
+list_expr_pattern inner ts = listed inner ts >>= λ x. Some (listed_expr_pattern x.0, x.1)
 
-abbrev pub marked_written_pattern : Parse WrittenPattern → Mark → List NumberedToken → Option (WrittenPattern × List NumberedToken)
-marked_written_pattern inner marks.Minus ts = negative ts
-marked_written_pattern inner marks.OpenBrace ts = tuple_written_pattern inner ts
-marked_written_pattern inner marks.OpenBracket ts = list_written_pattern inner ts
-marked_written_pattern inner _ ts = None
+abbrev pub marked_expr_pattern : Parse ExprPattern → Mark → List NumberedToken → Option (ExprPattern × List NumberedToken)
+marked_expr_pattern inner marks.Minus ts = negative ts
+marked_expr_pattern inner marks.OpenBrace ts = tuple_expr_pattern inner ts
+marked_expr_pattern inner marks.OpenBracket ts = list_expr_pattern inner ts
+marked_expr_pattern inner _ ts = None
 
-abbrev pub written_pattern_kind : Names → Parse WrittenPattern → NumberedKind → ℕ → List NumberedToken → Option (WrittenPattern × List NumberedToken)
-written_pattern_kind n inner (integer k) at ts = Some (s.integer (pos k), ts)
-written_pattern_kind n inner (text cs) at ts = if is_short cs then Some (s.text cs, ts) else None
-written_pattern_kind n inner (variable x) at ts = Some (s.variable x at, ts)
-written_pattern_kind n inner anonymous at ts = Some (s.anything, ts)
-written_pattern_kind n inner (mark m) at ts = marked_written_pattern inner m ts
-written_pattern_kind n inner kind at ts = atom_written_pattern (atom_in n kind) ts
+abbrev pub expr_pattern_kind : Names → Parse ExprPattern → NumberedKind → ℕ → List NumberedToken → Option (ExprPattern × List NumberedToken)
+expr_pattern_kind n inner (integer k) at ts = Some (s.integer (pos k), ts)
+expr_pattern_kind n inner (text cs) at ts = if is_short cs then Some (s.text cs, ts) else None
+expr_pattern_kind n inner (variable x) at ts = Some (s.variable x at, ts)
+expr_pattern_kind n inner anonymous at ts = Some (s.anything, ts)
+expr_pattern_kind n inner (mark m) at ts = marked_expr_pattern inner m ts
+expr_pattern_kind n inner kind at ts = atom_expr_pattern (atom_in n kind) ts
 
-abbrev pub pattern_with : Names → Parse WrittenPattern → Parse WrittenPattern
+abbrev pub pattern_with : Names → Parse ExprPattern → Parse ExprPattern
 pattern_with n inner [] = None
-pattern_with n inner (t ∷ ts) = written_pattern_kind n inner t.kind t.at ts
+pattern_with n inner (t ∷ ts) = expr_pattern_kind n inner t.kind t.at ts
 
 -- a pattern no deeper than the limit
-unfoldable pub pattern : Names → ℕ → Parse WrittenPattern
+unfoldable pub pattern : Names → ℕ → Parse ExprPattern
 pattern n zero ts = None
 pattern n (suc d) ts = pattern_with n (pattern n d) ts
 
@@ -225,86 +225,86 @@ abbrev pub infix_ahead : Bool → ℕ → ℕ → List NumberedToken → Option 
 infix_ahead guard floor level [] = None
 infix_ahead guard floor level (t ∷ ts) = infix_of t.kind >>= λ i. if infix_fits guard floor level i then Some (i, ts) else None
 
-abbrev pub joined : Infix → WrittenExpression → WrittenExpression → WrittenExpression
+abbrev pub joined : Infix → Expr → Expr → Expr
 joined (operator o) a b = p.binary o a b
 joined and_also a b = p.and_also a b
 joined or_else a b = p.or_else a b
 joined send a b = p.send a b
 
 -- a tree, where it is no deeper than the limit
-abbrev pub within : ℕ → WrittenExpression → List NumberedToken → Option (WrittenExpression × List NumberedToken)
-within limit e ts = if nat_le (written_expression_depth e) limit then Some (e, ts) else None
+abbrev pub within : ℕ → Expr → List NumberedToken → Option (Expr × List NumberedToken)
+within limit e ts = if nat_le (expr_depth e) limit then Some (e, ts) else None
 
 -- Behind a left operand: infixes of at most this level, each with its right operand, which `deeper` reads. What has been read is the
 -- left operand of the next infix; `floor` is its level. The number of tokens bounds the turns
-abbrev pub more_step : (ℕ → Parse WrittenExpression) → ℕ → (ℕ → WrittenExpression → Parse WrittenExpression) → WrittenExpression → List NumberedToken → Option (Infix × List NumberedToken) → Option (WrittenExpression × List NumberedToken)
+abbrev pub more_step : (ℕ → Parse Expr) → ℕ → (ℕ → Expr → Parse Expr) → Expr → List NumberedToken → Option (Infix × List NumberedToken) → Option (Expr × List NumberedToken)
 more_step deeper limit go left ts None = Some (left, ts)
 more_step deeper limit go left ts (Some i) =
     deeper (right_level i.0) i.1 >>= λ right. within limit (joined i.0 left right.0) right.1 >>= λ x. go (level_of i.0) x.0 x.1
 
-unfoldable pub more : (ℕ → Parse WrittenExpression) → Bool → ℕ → ℕ → ℕ → ℕ → WrittenExpression → Parse WrittenExpression
+unfoldable pub more : (ℕ → Parse Expr) → Bool → ℕ → ℕ → ℕ → ℕ → Expr → Parse Expr
 more deeper guard limit level zero floor left ts = Some (left, ts)
 more deeper guard limit level (suc turns) floor left ts =
     more_step deeper limit (more deeper guard limit level turns) left ts (infix_ahead guard floor level ts)
 
 -- a part, behind a minus or not
-abbrev pub unary_step : Parse WrittenExpression → ℕ → List NumberedToken → Option (List NumberedToken) → Option (WrittenExpression × List NumberedToken)
+abbrev pub unary_step : Parse Expr → ℕ → List NumberedToken → Option (List NumberedToken) → Option (Expr × List NumberedToken)
 unary_step prim limit ts None = prim ts
 unary_step prim limit ts (Some rest) = prim rest >>= λ x. within limit (p.negate x.0) x.1
 
-abbrev pub unary : Parse WrittenExpression → ℕ → Parse WrittenExpression
+abbrev pub unary : Parse Expr → ℕ → Parse Expr
 unary prim limit ts = unary_step prim limit ts (after (mark marks.Minus) ts)
 
 -- an expression of at most this level, which is 1 at least
-abbrev pub level_with : Parse WrittenExpression → (ℕ → Parse WrittenExpression) → Bool → ℕ → ℕ → Parse WrittenExpression
+abbrev pub level_with : Parse Expr → (ℕ → Parse Expr) → Bool → ℕ → ℕ → Parse Expr
 level_with prim deeper guard limit level ts = unary prim limit ts >>= λ x. more deeper guard limit level (length x.1) 1 x.0 x.1
 
 -- ---- clauses
 
 -- the alternatives of a guard, and the tests of each
-abbrev pub tests_of : Parse WrittenExpression → Parse (List WrittenExpression)
+abbrev pub tests_of : Parse Expr → Parse (List Expr)
 tests_of test ts = items (mark marks.Comma) test (length ts) ts
 
-abbrev pub condition_of : List (List WrittenExpression) → Condition
+abbrev pub condition_of : List (List Expr) → Condition
 condition_of [] = no_tests
-condition_of (es ∷ ess) = tests (written_expressions_of es) (condition_of ess)
+condition_of (es ∷ ess) = tests (exprs_of es) (condition_of ess)
 
-abbrev pub guard : Parse WrittenExpression → Parse Condition
+abbrev pub guard : Parse Expr → Parse Condition
 guard test ts = items (mark marks.Semicolon) (tests_of test) (length ts) ts >>= λ x. Some (condition_of x.0, x.1)
 
-abbrev pub when_step : Parse WrittenExpression → List NumberedToken → Option (List NumberedToken) → Option (Condition × List NumberedToken)
+abbrev pub when_step : Parse Expr → List NumberedToken → Option (List NumberedToken) → Option (Condition × List NumberedToken)
 when_step test ts None = Some (unguarded, ts)
 when_step test ts (Some rest) = guard test rest
 
-abbrev pub when : Parse WrittenExpression → Parse Condition
+abbrev pub when : Parse Expr → Parse Condition
 when test ts = when_step test ts (after (reserved words.When) ts)
 
 -- how the parts of an expression are read: patterns, tests of guards, elements of bodies
 pub record Readers : Type 0 where
-  pub patterns : Parse WrittenPattern
-  pub tests : Parse WrittenExpression
-  pub elements : Parse WrittenExpression
+  pub patterns : Parse ExprPattern
+  pub tests : Parse Expr
+  pub elements : Parse Expr
 
 -- what stands before the arrow of a clause: in an `if`, where the flag says so, a guard alone
 abbrev pub Front : Type 0
-Front = WrittenPattern × Condition
+Front = ExprPattern × Condition
 
 abbrev pub front : Readers → Bool → Parse Front
 front r false ts = r.patterns ts >>= λ q. when r.tests q.1 >>= λ c. Some ((q.0, c.0), c.1)
 front r true ts = guard r.tests ts >>= λ c. Some ((s.anything, c.0), c.1)
 
-abbrev pub body : Parse WrittenExpression → Parse (List WrittenExpression)
+abbrev pub body : Parse Expr → Parse (List Expr)
 body element ts = items (mark marks.Comma) element (length ts) ts
 
 abbrev pub Clause : Type 0
-Clause = Front × List WrittenExpression
+Clause = Front × List Expr
 
 abbrev pub clause : Readers → Bool → Parse Clause
 clause r choice ts = front r choice ts >>= λ f. after (mark marks.Arrow) f.1 >>= λ rest. body r.elements rest >>= λ es. Some ((f.0, es.0), es.1)
 
 abbrev pub branches_of : List Clause → Branches
 branches_of [] = no_branches
-branches_of (c ∷ cs) = branch c.0.0 c.0.1 (written_expressions_of c.1) (branches_of cs)
+branches_of (c ∷ cs) = branch c.0.0 c.0.1 (exprs_of c.1) (branches_of cs)
 
 -- clauses up to `end`, which is read too
 abbrev pub branches : Readers → Bool → Parse Branches
@@ -313,52 +313,52 @@ branches r choice ts =
 
 -- ---- parts. Expressions in them are read by `inner`
 
-abbrev pub call_behind : Names → Bool → ℕ → ℕ → List WrittenExpression → List NumberedToken → Option (WrittenExpression × List NumberedToken)
-call_behind n guard a at es ts = if call_stands n guard a (length es) then Some (p.call a at (written_expressions_of es), ts) else None
+abbrev pub call_behind : Names → Bool → ℕ → ℕ → List Expr → List NumberedToken → Option (Expr × List NumberedToken)
+call_behind n guard a at es ts = if call_stands n guard a (length es) then Some (p.call a at (exprs_of es), ts) else None
 
-abbrev pub call_step : Names → Bool → Parse WrittenExpression → ℕ → ℕ → List NumberedToken → Option (List NumberedToken) → Option (WrittenExpression × List NumberedToken)
+abbrev pub call_step : Names → Bool → Parse Expr → ℕ → ℕ → List NumberedToken → Option (List NumberedToken) → Option (Expr × List NumberedToken)
 call_step n guard inner a at ts None = Some (p.atom a, ts)
 call_step n guard inner a at ts (Some rest) = until (mark marks.CloseParenthesis) inner rest >>= λ x. call_behind n guard a at x.0 x.1
 
-abbrev pub atom_or_call : Names → Bool → Parse WrittenExpression → Option ℕ → ℕ → List NumberedToken → Option (WrittenExpression × List NumberedToken)
+abbrev pub atom_or_call : Names → Bool → Parse Expr → Option ℕ → ℕ → List NumberedToken → Option (Expr × List NumberedToken)
 atom_or_call n guard inner None at ts = None
 atom_or_call n guard inner (Some a) at ts = call_step n guard inner a at ts (after (mark marks.OpenParenthesis) ts)
 
-abbrev pub parenthesized : Parse WrittenExpression → Parse WrittenExpression
+abbrev pub parenthesized : Parse Expr → Parse Expr
 parenthesized inner ts = inner ts >>= λ x. after (mark marks.CloseParenthesis) x.1 >>= λ rest. Some (p.parentheses x.0, rest)
 
-abbrev pub tuple : Parse WrittenExpression → Parse WrittenExpression
-tuple inner ts = until (mark marks.CloseBrace) inner ts >>= λ x. Some (p.tuple (written_expressions_of x.0), x.1)
+abbrev pub tuple : Parse Expr → Parse Expr
+tuple inner ts = until (mark marks.CloseBrace) inner ts >>= λ x. Some (p.tuple (exprs_of x.0), x.1)
 
-abbrev pub listed_expression : Listed WrittenExpression → WrittenExpression
-listed_expression (es, None) = p.list (written_expressions_of es)
-listed_expression (es, Some e) = p.list_on (written_expressions_of es) e
+abbrev pub listed_expression : Listed Expr → Expr
+listed_expression (es, None) = p.list (exprs_of es)
+listed_expression (es, Some e) = p.list_on (exprs_of es) e
 
-abbrev pub list : Parse WrittenExpression → Parse WrittenExpression
+abbrev pub list : Parse Expr → Parse Expr
 list inner ts = listed inner ts >>= λ x. Some (listed_expression x.0, x.1)
 
-abbrev pub marked : Parse WrittenExpression → Mark → Parse WrittenExpression
+abbrev pub marked : Parse Expr → Mark → Parse Expr
 marked inner marks.OpenParenthesis ts = parenthesized inner ts
 marked inner marks.OpenBrace ts = tuple inner ts
 marked inner marks.OpenBracket ts = list inner ts
 marked inner _ ts = None
 
-abbrev pub case_of : Readers → Parse WrittenExpression → Parse WrittenExpression
+abbrev pub case_of : Readers → Parse Expr → Parse Expr
 case_of r inner ts = inner ts >>= λ x. after (reserved words.Of) x.1 >>= λ rest. branches r false rest >>= λ bs. Some (p.case x.0 bs.0, bs.1)
 
-abbrev pub if_of : Readers → Parse WrittenExpression
+abbrev pub if_of : Readers → Parse Expr
 if_of r ts = branches r true ts >>= λ bs. Some (p.if_expression bs.0, bs.1)
 
-abbrev pub receive_of : Readers → Parse WrittenExpression
+abbrev pub receive_of : Readers → Parse Expr
 receive_of r ts = branches r false ts >>= λ bs. Some (p.receive bs.0, bs.1)
 
-abbrev pub worded : Readers → Bool → Parse WrittenExpression → Reserved → Parse WrittenExpression
+abbrev pub worded : Readers → Bool → Parse Expr → Reserved → Parse Expr
 worded r guard inner words.Case ts = if may_stand guard deciding then case_of r inner ts else None
 worded r guard inner words.If ts = if may_stand guard choosing then if_of r ts else None
 worded r guard inner words.Receive ts = if may_stand guard receiving then receive_of r ts else None
 worded r guard inner _ ts = None
 
-abbrev pub prim_kind : Names → Readers → Bool → Parse WrittenExpression → NumberedKind → ℕ → Parse WrittenExpression
+abbrev pub prim_kind : Names → Readers → Bool → Parse Expr → NumberedKind → ℕ → Parse Expr
 prim_kind n r guard inner (integer k) at ts = Some (p.integer (pos k), ts)
 prim_kind n r guard inner (text cs) at ts = if is_short cs then Some (p.text cs, ts) else None
 prim_kind n r guard inner (variable x) at ts = Some (p.variable x at, ts)
@@ -367,45 +367,45 @@ prim_kind n r guard inner (mark m) at ts = marked inner m ts
 prim_kind n r guard inner (reserved w) at ts = worded r guard inner w ts
 prim_kind n r guard inner kind at ts = atom_or_call n guard inner (atom_in n kind) at ts
 
-abbrev pub prim_with : Names → Readers → Bool → Parse WrittenExpression → Parse WrittenExpression
+abbrev pub prim_with : Names → Readers → Bool → Parse Expr → Parse Expr
 prim_with n r guard inner [] = None
 prim_with n r guard inner (t ∷ ts) = prim_kind n r guard inner t.kind t.at ts
 
 -- ---- expressions and elements, no deeper than the limit
 
 -- a pattern before `=`, and what follows both
-abbrev pub match_ahead : Parse WrittenPattern → Parse WrittenPattern
+abbrev pub match_ahead : Parse ExprPattern → Parse ExprPattern
 match_ahead pat ts = pat ts >>= λ q. after (mark marks.Match) q.1 >>= λ rest. Some (q.0, rest)
 
-abbrev pub element_step : Parse WrittenExpression → Parse WrittenExpression → ℕ → List NumberedToken → Option (WrittenPattern × List NumberedToken) → Option (WrittenExpression × List NumberedToken)
-element_step expr element limit ts None = expr ts
-element_step expr element limit ts (Some q) = element q.1 >>= λ x. within limit (p.match q.0 x.0) x.1
+abbrev pub element_step : Parse Expr → Parse Expr → ℕ → List NumberedToken → Option (ExprPattern × List NumberedToken) → Option (Expr × List NumberedToken)
+element_step parse_expr element limit ts None = parse_expr ts
+element_step parse_expr element limit ts (Some q) = element q.1 >>= λ x. within limit (p.match q.0 x.0) x.1
 
 -- an expression, where those in it are read by `deeper`, by their levels
-abbrev pub expr_with : Names → Readers → Bool → (ℕ → Parse WrittenExpression) → ℕ → ℕ → Parse WrittenExpression
-expr_with n r guard deeper = level_with (prim_with n r guard (deeper top)) deeper guard
+abbrev pub parse_expr_with : Names → Readers → Bool → (ℕ → Parse Expr) → ℕ → ℕ → Parse Expr
+parse_expr_with n r guard deeper = level_with (prim_with n r guard (deeper top)) deeper guard
 
 unfoldable mutual
   -- an expression of at most this level, in a guard where the flag says so
-  pub expr : Names → Bool → ℕ → ℕ → Parse WrittenExpression
-  expr n guard zero level ts = None
-  expr n guard (suc d) level ts =
-      expr_with n (record { patterns = pattern n d; tests = expr n true d top; elements = element n d }) guard (expr n guard d) (suc d) level ts
+  pub parse_expr : Names → Bool → ℕ → ℕ → Parse Expr
+  parse_expr n guard zero level ts = None
+  parse_expr n guard (suc d) level ts =
+      parse_expr_with n (record { patterns = pattern n d; tests = parse_expr n true d top; elements = element n d }) guard (parse_expr n guard d) (suc d) level ts
 
   -- an element of a body
-  pub element : Names → ℕ → Parse WrittenExpression
+  pub element : Names → ℕ → Parse Expr
   element n zero ts = None
   element n (suc d) ts =
       element_step
-      (expr_with n (record { patterns = pattern n d; tests = expr n true d top; elements = element n d }) false (expr n false d) (suc d) top)
+      (parse_expr_with n (record { patterns = pattern n d; tests = parse_expr n true d top; elements = element n d }) false (parse_expr n false d) (suc d) top)
       (element n d) (suc d) ts (match_ahead (pattern n d) ts)
 
 -- how the parts of an expression of this limit are read
 abbrev pub readers : Names → ℕ → Readers
-readers n limit = record { patterns = pattern n limit; tests = expr n true limit top; elements = element n limit }
+readers n limit = record { patterns = pattern n limit; tests = parse_expr n true limit top; elements = element n limit }
 
-abbrev pub prim : Names → Bool → ℕ → Parse WrittenExpression
-prim n guard limit = prim_with n (readers n (limit - 1)) guard (expr n guard (limit - 1) top)
+abbrev pub prim : Names → Bool → ℕ → Parse Expr
+prim n guard limit = prim_with n (readers n (limit - 1)) guard (parse_expr n guard (limit - 1) top)
 
 -- ---- functions
 
@@ -414,10 +414,10 @@ head n ts = do
   name ← named n ts
   ts1 ← after (mark marks.OpenParenthesis) name.1
   qs ← until (mark marks.CloseParenthesis) (pattern n MOST_TREE_DEPTH) ts1
-  c ← when (expr n true MOST_TREE_DEPTH top) qs.1
+  c ← when (parse_expr n true MOST_TREE_DEPTH top) qs.1
   ts2 ← after (mark marks.Arrow) c.1
   es ← body (element n MOST_TREE_DEPTH) ts2
-  Some (record { name = name.0.0; offset = name.0.1; parameters = written_patterns_of qs.0; condition = c.0; body = written_expressions_of es.0 }, es.1)
+  Some (record { name = name.0.0; offset = name.0.1; parameters = expr_patterns_of qs.0; condition = c.0; body = exprs_of es.0 }, es.1)
 
 abbrev pub function : Names → Parse (List Head)
 function n ts = do

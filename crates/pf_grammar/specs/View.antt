@@ -7,16 +7,16 @@ use Rattle.pf_grammar.specs.declared.infix.Grouping.{Grouping}
 use Rattle.pf_grammar.specs.declared.infix.Grouping.TheVariants.{Leftwards, Rightwards, Alone}
 use Rattle.pf_grammar.specs.declared.infix.Binding.{Binding}
 
-abbrev pub infix_seen : Infix → g.Infix
-infix_seen (Operator o) = g.operator (operator_of o)
-infix_seen AndAlso = g.and_also
-infix_seen OrElse = g.or_else
-infix_seen Send = g.send
+abbrev pub view_of_infix : Infix → g.Infix
+view_of_infix (Operator o) = g.operator (operator_of o)
+view_of_infix AndAlso = g.and_also
+view_of_infix OrElse = g.or_else
+view_of_infix Send = g.send
 
-abbrev pub grouping_seen : Grouping → g.Grouping
-grouping_seen Leftwards = g.leftwards
-grouping_seen Rightwards = g.rightwards
-grouping_seen Alone = g.alone
+abbrev pub view_of_grouping : Grouping → g.Grouping
+view_of_grouping Leftwards = g.leftwards
+view_of_grouping Rightwards = g.rightwards
+view_of_grouping Alone = g.alone
 
-abbrev pub binding_seen : Binding → g.Binding
-binding_seen b = record { level = b.level; grouping = grouping_seen b.grouping }
+abbrev pub view_of_binding : Binding → g.Binding
+view_of_binding b = record { level = b.level; grouping = view_of_grouping b.grouping }

@@ -3,12 +3,12 @@
 ghost use Rattle.std.specs.Prelude.{◌≡◌, option_map};
 ghost use Rattle.pf_grammar.specs.Grammar.{binding_of, infix_of, infix_stands, left_level, level_of, right_level};
 ghost use Rattle.pf_grammar.specs.Parse.{infix_fits};
-ghost use Rattle.pf_numbered.specs.NumberedTokens as NumberedTokens;
-ghost use Rattle.pf_numbered.specs.View.{kind_of};
-ghost use Rattle.pf_grammar.specs.View.{binding_seen, infix_seen};
+ghost use Rattle.pf_intern.specs.NumberedTokens as NumberedTokens;
+ghost use Rattle.pf_intern.specs.View.{kind_of};
+ghost use Rattle.pf_grammar.specs.View.{view_of_binding, view_of_infix};
 
-use pf_forms::{Form, may_stand};
-use pf_numbered::NumberedKind;
+use pf_builtins::{Form, may_stand};
+use pf_intern::NumberedKind;
 use pf_syntax::Operator;
 use pf_tokens::{Mark, Reserved};
 
@@ -38,7 +38,7 @@ pub struct Binding {
 
 /// The infix that a mark is.
 fn mark_infix(mark: Mark) -> Option<Infix>
-    ensures { option_map infix_seen result ≡ infix_of (NumberedTokens.mark mark) }
+    ensures { option_map view_of_infix result ≡ infix_of (NumberedTokens.mark mark) }
 {
     match mark {
         Mark::Times => Some(Infix::Operator(Operator::Times)),
@@ -58,7 +58,7 @@ fn mark_infix(mark: Mark) -> Option<Infix>
 
 /// The infix that a kind of token is.
 pub fn infix_of(kind: NumberedKind<'_>) -> Option<Infix>
-    ensures { option_map infix_seen result ≡ infix_of (kind_of kind.entry) }
+    ensures { option_map view_of_infix result ≡ infix_of (kind_of kind.entry) }
 {
     match kind {
         NumberedKind::Mark(mark) => mark_infix(mark),
@@ -81,7 +81,7 @@ fn binds(level: u32, grouping: Grouping) -> Binding
 impl Infix {
     /// How tightly it binds, and how it groups. Level 1 is a part behind a minus or not.
     pub fn binding(self) -> Binding
-        ensures { binding_seen result ≡ binding_of (infix_seen self) }
+        ensures { view_of_binding result ≡ binding_of (view_of_infix self) }
     {
         match self {
             Infix::Operator(Operator::Times) => binds(2, Grouping::Leftwards),
@@ -104,14 +104,14 @@ impl Infix {
 
     /// Its level.
     pub fn level(self) -> u32
-        ensures { result ≡ level_of (infix_seen self) }
+        ensures { result ≡ level_of (view_of_infix self) }
     {
         self.binding().level
     }
 
     /// The greatest level of its left operand.
     pub fn left_level(self) -> u32
-        ensures { result ≡ left_level (infix_seen self) }
+        ensures { result ≡ left_level (view_of_infix self) }
     {
         let binding = self.binding();
         match binding.grouping {
@@ -122,7 +122,7 @@ impl Infix {
 
     /// The greatest level of its right operand.
     pub fn right_level(self) -> u32
-        ensures { result ≡ right_level (infix_seen self) }
+        ensures { result ≡ right_level (view_of_infix self) }
     {
         let binding = self.binding();
         match binding.grouping {
@@ -133,7 +133,7 @@ impl Infix {
 
     /// Whether it may stand, in a guard where the flag says so.
     pub fn stands(self, guard: bool) -> bool
-        ensures { result ≡ infix_stands guard (infix_seen self) }
+        ensures { result ≡ infix_stands guard (view_of_infix self) }
     {
         match self {
             Infix::Operator(Operator::Append) => may_stand(guard, Form::Appending),
@@ -144,7 +144,7 @@ impl Infix {
 
     /// Whether it may stand behind a left operand of the level `floor`, in an expression of this level.
     pub fn fits(self, guard: bool, floor: u32, level: u32) -> bool
-        ensures { result ≡ infix_fits guard floor level (infix_seen self) }
+        ensures { result ≡ infix_fits guard floor level (view_of_infix self) }
     {
         self.stands(guard) && floor <= self.left_level() && self.level() <= level
     }

@@ -5,42 +5,42 @@ use Rattle.std.specs.List.{All}
 use Rattle.std.proofs.lemmas.List.{take_all}
 use Rattle.std.proofs.Math.Seq.{take-append_seam}
 use Rattle.std.proofs.lemmas.List.Elements.{All-nil, All-cons, All-head, All-tail, All-append, All-pop, All-weaker}
-use Rattle.pf_syntax.specs.WrittenPattern as s
-use Rattle.pf_syntax.specs.WrittenPattern.{WrittenPattern, WrittenPatterns, no_written_patterns, written_pattern, written_pattern_depth}
-use Rattle.pf_syntax.specs.WrittenExpression as p
-use Rattle.pf_syntax.specs.WrittenExpression.{WrittenExpression, WrittenExpressions, Condition, Branches, no_written_expressions, written_expression, no_tests, tests, no_branches, branch, written_expressions_depth, condition_depth, branches_depth}
+use Rattle.pf_syntax.specs.ExprPattern as s
+use Rattle.pf_syntax.specs.ExprPattern.{ExprPattern, ExprPatterns, no_expr_patterns, expr_pattern, expr_pattern_depth}
+use Rattle.pf_syntax.specs.Expr as p
+use Rattle.pf_syntax.specs.Expr.{Expr, Exprs, Condition, Branches, no_exprs, expr, no_tests, tests, no_branches, branch, exprs_depth, condition_depth, branches_depth}
 use Rattle.pf_syntax.specs.Pattern.{pattern}
 use Rattle.pf_syntax.specs.Tree as tr
 use Rattle.pf_syntax.specs.Tree.{Tree, no_trees, no_alternatives, no_guard}
-use Rattle.pf_syntax.specs.Source.{NodeTable, Head, written_pattern_at, written_expression_at}
-use Rattle.pf_syntax.specs.SourceOver.{written_expressions_at, alternatives_at, condition_over, branches_over, branch_depth}
-use Rattle.pf_syntax.specs.Scope.{Scope, has, after, after_written_pattern}
+use Rattle.pf_syntax.specs.SyntaxTree.{NodeTable, Head, expr_pattern_at, expr_at}
+use Rattle.pf_syntax.specs.SyntaxTreeOver.{exprs_at, alternatives_at, condition_over, branches_over, branch_depth}
+use Rattle.pf_syntax.specs.Scope.{Scope, has, after, after_expr_pattern}
 use Rattle.pf_syntax.specs.Naming as w
 use Rattle.pf_syntax.specs.Naming.{ElementIs, BodyIs, GuardIs, BranchesAre, behind, ending}
 use Rattle.pf_syntax.specs.Module.{Checked, Tables, pattern_at}
 use Rattle.pf_syntax.specs.Over.{part_over, patterns_at, alternatives_over, guard_from, clauses_over}
-use Rattle.pf_syntax.specs.Within.{PatternStands, PartStands, ClauseStands}
+use Rattle.pf_syntax.specs.Within.{PatternRepresents, OperandRepresents, ClauseRepresents}
 use Rattle.pf_syntax.proofs.Extends.{Extends, patterns_kept, part_kept, guard_kept, all_patterns_stand, part_stands, pattern_stands, guard_stands}
 use Rattle.pf_syntax.specs.declared.node.PatternId.{PatternId}
-use Rattle.pf_syntax.specs.declared.node.Part.{Part}
+use Rattle.pf_syntax.specs.declared.node.Operand.{Operand}
 use Rattle.pf_syntax.specs.declared.node.Alternative.{Alternative}
 use Rattle.pf_syntax.specs.declared.node.Guard.{Guard}
 use Rattle.pf_syntax.specs.declared.node.Clause.{Clause}
-use Rattle.pf_syntax.specs.declared.written.WrittenExpressionId.{WrittenExpressionId}
-use Rattle.pf_syntax.specs.declared.written.Tests.{Tests}
-use Rattle.pf_syntax.specs.declared.written.Branch.{Branch}
-use Rattle.pf_syntax.specs.WrittenModule.{unguarded}
+use Rattle.pf_syntax.specs.declared.expr.ExprId.{ExprId}
+use Rattle.pf_syntax.specs.declared.expr.Tests.{Tests}
+use Rattle.pf_syntax.specs.declared.expr.Branch.{Branch}
+use Rattle.pf_syntax.specs.ExprModule.{unguarded}
 use Rattle.pf_lower.specs.declared.bodies.Element.{Element}
-use Rattle.pf_rules.specs.Static.{names_of, written_pattern_faults, written_expression_faults, written_expressions_faults, condition_faults, branches_faults}
-use Rattle.pf_rules.specs.Formed.{WrittenExpressionsFormed, ConditionFormed, BranchesFormed, HasFirst, HasAlternative}
+use Rattle.pf_rules.specs.Static.{names_of, expr_pattern_faults, expr_faults, exprs_faults, condition_faults, branches_faults}
+use Rattle.pf_rules.specs.Formed.{ExprsFormed, ConditionFormed, BranchesFormed, HasFirst, HasAlternative}
 use Rattle.pf_lower.specs.Bound.{bound_by, all_bound_by, bound_after, all_bound_after, IsPlain}
 use Rattle.pf_lower.specs.Grown.{Grown, PartPut}
-use Rattle.pf_lower.specs.Built.{Lowers, WrittenPatternBecomes, ElementBecomes, BodyBecomes, WrittenPatternMeans, WrittenExpressionMeans, WrittenExpressionsMean, ElementMeans, BodyMeans, GuardMeans, BranchesMean}
-use Rattle.pf_lower.specs.Bodies.{ElementStands, binds, ElementBuilt, EachElementMeans, BranchGuardBecomes, BranchBodyBecomes, BranchMeans}
-use Rattle.pf_lower.proofs.Growing.{grown_on, grown_itself, becomes_on, written_pattern_means_on, written_expressions_mean_on, guard_means_on}
+use Rattle.pf_lower.specs.Built.{Lowers, ExprPatternBecomes, ElementBecomes, BodyBecomes, ExprPatternMeans, ExprMeans, ExprsMean, ElementMeans, BodyMeans, GuardMeans, BranchesMean}
+use Rattle.pf_lower.specs.Bodies.{ElementRepresents, binds, ElementBuilt, EachElementMeans, BranchGuardBecomes, BranchBodyBecomes, BranchMeans}
+use Rattle.pf_lower.proofs.Growing.{grown_on, grown_itself, becomes_on, expr_pattern_means_on, exprs_mean_on, guard_means_on}
 use Rattle.pf_lower.proofs.Threads.{Threaded, SoFar}
-use Rattle.pf_lower.proofs.WrittenPatterns_mean.{left_empty, right_empty, written_pattern_bound}
-use Rattle.pf_lower.proofs.WrittenExpressions_mean.{element_bound, plain_formed, plain_bound}
+use Rattle.pf_lower.proofs.ExprPatterns_mean.{left_empty, right_empty, expr_pattern_bound}
+use Rattle.pf_lower.proofs.Exprs_mean.{element_bound, plain_formed, plain_bound}
 
 -- ---- names that were bound stay the first ones
 
@@ -59,7 +59,7 @@ begins_one names x true = begins_itself names
 begins_one names x false = (x ∷ [], refl)
 
 mutual
-  pub begins_by : (names : List ℕ) (q : WrittenPattern) → Begins names (bound_by names q)
+  pub begins_by : (names : List ℕ) (q : ExprPattern) → Begins names (bound_by names q)
   begins_by names (s.variable x at) = begins_one names x (has names x)
   begins_by names (s.tuple qs) = begins_by_all names qs
   begins_by names (s.list qs) = begins_by_all names qs
@@ -69,11 +69,11 @@ mutual
   begins_by names (s.text cs) = begins_itself names
   begins_by names s.anything = begins_itself names
 
-  pub begins_by_all : (names : List ℕ) (qs : WrittenPatterns) → Begins names (all_bound_by names qs)
-  begins_by_all names no_written_patterns = begins_itself names
-  begins_by_all names (written_pattern q qs) = begins_on names _ _ (begins_by names q) (begins_by_all (bound_by names q) qs)
+  pub begins_by_all : (names : List ℕ) (qs : ExprPatterns) → Begins names (all_bound_by names qs)
+  begins_by_all names no_expr_patterns = begins_itself names
+  begins_by_all names (expr_pattern q qs) = begins_on names _ _ (begins_by names q) (begins_by_all (bound_by names q) qs)
 
-begins_after : (names : List ℕ) (e : WrittenExpression) → Begins names (bound_after names e)
+begins_after : (names : List ℕ) (e : Expr) → Begins names (bound_after names e)
 begins_after names (p.match q a) = begins_on names _ _ (begins_after names a) (begins_by (bound_after names a) q)
 begins_after names (p.integer z) = begins_itself names
 begins_after names (p.atom a) = begins_itself names
@@ -94,12 +94,12 @@ begins_after names (p.case a bs) = begins_itself names
 begins_after names (p.if_expression bs) = begins_itself names
 begins_after names (p.receive bs) = begins_itself names
 
-begins_after_all : (names : List ℕ) (es : WrittenExpressions) → Begins names (all_bound_after names es)
-begins_after_all names no_written_expressions = begins_itself names
-begins_after_all names (written_expression e es) = begins_on names _ _ (begins_after names e) (begins_after_all (bound_after names e) es)
+begins_after_all : (names : List ℕ) (es : Exprs) → Begins names (all_bound_after names es)
+begins_after_all names no_exprs = begins_itself names
+begins_after_all names (expr e es) = begins_on names _ _ (begins_after names e) (begins_after_all (bound_after names e) es)
 
 -- so the first ones alone are left when the others are forgotten
-pub forgotten : (names : List ℕ) (q : WrittenPattern) (es : WrittenExpressions) → take (length names) (all_bound_after (bound_by names q) es) ≡ names
+pub forgotten : (names : List ℕ) (q : ExprPattern) (es : Exprs) → take (length names) (all_bound_after (bound_by names q) es) ≡ names
 forgotten names q es =
     let h = begins_on names _ _ (begins_by names q) (begins_after_all (bound_by names q) es) in
     ap (take (length names)) h.1 ∙ take-append_seam names h.0
@@ -111,7 +111,7 @@ patterns_behind t [] y = refl
 patterns_behind t (x ∷ ys) y = ap (pattern (pattern_at t x.0)) (patterns_behind t ys y)
 
 module _ (fs : List (List Head)) where
-  pub element_means_on : (t u : Checked) → Grown t u → (names : List ℕ) (e : WrittenExpression) (ys : List PatternId) (x : Part) → ElementMeans fs t names e ys x → ElementMeans fs u names e ys x
+  pub element_means_on : (t u : Checked) → Grown t u → (names : List ℕ) (e : Expr) (ys : List PatternId) (x : Operand) → ElementMeans fs t names e ys x → ElementMeans fs u names e ys x
   element_means_on t u on names e ys x h =
       let front : patterns_at u.tables ys ≡ patterns_at t.tables ys = patterns_kept t.tables u.tables on.tables ys h.patterns_stand in
       let value : part_over u.tables x ≡ part_over t.tables x = part_kept t.tables u.tables on.tables x h.stands in
@@ -123,20 +123,20 @@ module _ (fs : List (List Head)) where
             (subst (λ v. ElementBecomes (names_of t.atoms fs) names e v (part_over t.tables x)) (sym front) h.means);
       }
 
-  pub plain_lowers : (m0 m1 : Checked) (b names : List ℕ) (e : WrittenExpression) (x : Part) → IsPlain e → Lowers m0 m1 b names (λ t. WrittenExpressionMeans fs t names e x)
+  pub plain_lowers : (m0 m1 : Checked) (b names : List ℕ) (e : Expr) (x : Operand) → IsPlain e → Lowers m0 m1 b names (λ t. ExprMeans fs t names e x)
       → Lowers m0 m1 b (bound_after names e) (λ t. ElementMeans fs t names e [] x)
   plain_lowers m0 m1 b names e x plain d = record {
     grown = d.grown;
     bound_is = d.bound_is ∙ sym (plain_bound e names plain);
     answer = record {
-      patterns_stand = All-nil (PatternStands m1.tables);
+      patterns_stand = All-nil (PatternRepresents m1.tables);
       stands = d.answer.stands;
       means = λ g h f k. w.plain g e _ (d.answer.means g h (plain_formed e plain f) k);
     };
   }
 
-  pub match_lowers : (m0 m1 m2 : Checked) (b1 b2 names : List ℕ) (q : WrittenPattern) (a e : WrittenExpression) (ys : List PatternId) (y : PatternId) (x : Part) → e ≡ p.match q a
-      → Lowers m0 m1 b1 (bound_after names a) (λ t. ElementMeans fs t names a ys x) → Lowers m1 m2 b2 (bound_by b1 q) (λ t. WrittenPatternMeans fs t b1 q y)
+  pub match_lowers : (m0 m1 m2 : Checked) (b1 b2 names : List ℕ) (q : ExprPattern) (a e : Expr) (ys : List PatternId) (y : PatternId) (x : Operand) → e ≡ p.match q a
+      → Lowers m0 m1 b1 (bound_after names a) (λ t. ElementMeans fs t names a ys x) → Lowers m1 m2 b2 (bound_by b1 q) (λ t. ExprPatternMeans fs t b1 q y)
       → Lowers m0 m2 b2 (bound_after names e) (λ t. ElementMeans fs t names e (ys ++ y ∷ []) x)
   match_lowers m0 m1 m2 b1 b2 names q a e ys y x is d r =
       let inner = element_means_on m1 m2 r.grown names a ys x d.answer in
@@ -145,11 +145,11 @@ module _ (fs : List (List Head)) where
         grown = grown_on m0 m1 m2 d.grown r.grown;
         bound_is = r.bound_is ∙ ap (λ n. bound_by n q) d.bound_is;
         answer = record {
-          patterns_stand = All-append (PatternStands m2.tables) ys (y ∷ []) inner.patterns_stand (All-cons (PatternStands m2.tables) y [] r.answer.stands (All-nil (PatternStands m2.tables)));
+          patterns_stand = All-append (PatternRepresents m2.tables) ys (y ∷ []) inner.patterns_stand (All-cons (PatternRepresents m2.tables) y [] r.answer.stands (All-nil (PatternRepresents m2.tables)));
           stands = inner.stands;
           means = λ g h f k.
-              let here : written_expression_faults (names_of m2.atoms fs) g a ≡ [] = left_empty (written_expression_faults (names_of m2.atoms fs) g a) _ k in
-              let later : written_pattern_faults (after g a) q ≡ [] = right_empty (written_expression_faults (names_of m2.atoms fs) g a) _ k in
+              let here : expr_faults (names_of m2.atoms fs) g a ≡ [] = left_empty (expr_faults (names_of m2.atoms fs) g a) _ k in
+              let later : expr_pattern_faults (after g a) q ≡ [] = right_empty (expr_faults (names_of m2.atoms fs) g a) _ k in
               let seen : (after g a).bound ≡ b1 = element_bound (names_of m2.atoms fs) g a f.2 here ∙ ap (λ n. bound_after n a) h ∙ sym d.bound_is in
               subst (λ v. ElementIs (names_of m2.atoms fs) g (p.match q a) v (part_over m2.tables x)) (sym (patterns_behind m2.tables ys y))
               (w.match g q a _ _ _ (inner.means g h f.2 here) (r.answer.means (after g a) seen f.1 later));
@@ -157,28 +157,28 @@ module _ (fs : List (List Head)) where
       })
 
 module _ (fs : List (List Head)) (b : NodeTable) where
-  abbrev pub next_element : List ℕ → WrittenExpressionId → List ℕ
-  next_element names id = bound_after names (written_expression_at b id.0)
+  abbrev pub next_element : List ℕ → ExprId → List ℕ
+  next_element names id = bound_after names (expr_at b id.0)
 
-  abbrev pub EachElement : Checked → List ℕ → WrittenExpressionId → Element → Type 0
-  EachElement t names id x = ElementBuilt fs t names (written_expression_at b id.0) x
+  abbrev pub EachElement : Checked → List ℕ → ExprId → Element → Type 0
+  EachElement t names id x = ElementBuilt fs t names (expr_at b id.0) x
 
-  pub each_element_on : (t u : Checked) → Grown t u → (names : List ℕ) (id : WrittenExpressionId) (x : Element) → EachElement t names id x → EachElement u names id x
-  each_element_on t u e names id x h = element_means_on fs t u e names (written_expression_at b id.0) x.patterns.items x.value h
+  pub each_element_on : (t u : Checked) → Grown t u → (names : List ℕ) (id : ExprId) (x : Element) → EachElement t names id x → EachElement u names id x
+  each_element_on t u e names id x h = element_means_on fs t u e names (expr_at b id.0) x.patterns.items x.value h
 
-  each_mean : (t : Checked) (names : List ℕ) (ids : List WrittenExpressionId) (xs : List Element) → Threaded next_element (EachElement t) names ids xs → EachElementMeans fs b t names ids xs
+  each_mean : (t : Checked) (names : List ℕ) (ids : List ExprId) (xs : List Element) → Threaded next_element (EachElement t) names ids xs → EachElementMeans fs b t names ids xs
   each_mean t names [] [] h = tt
   each_mean t names (id ∷ ids) (x ∷ xs) h = (h.0, each_mean t (next_element names id) ids xs h.1)
   each_mean t names [] (x ∷ xs) h = absurd h
   each_mean t names (id ∷ ids) [] h = absurd h
 
-  all_next_element : (names : List ℕ) (ids : List WrittenExpressionId) → fold next_element names ids ≡ all_bound_after names (written_expressions_at b ids)
+  all_next_element : (names : List ℕ) (ids : List ExprId) → fold next_element names ids ≡ all_bound_after names (exprs_at b ids)
   all_next_element names [] = refl
   all_next_element names (id ∷ ids) = all_next_element (next_element names id) ids
 
-  pub elements_done : (m0 m1 : Checked) (names now : List ℕ) (ids : List WrittenExpressionId) (k : ℕ) (xs : List Element) → length ids ≤ k
+  pub elements_done : (m0 m1 : Checked) (names now : List ℕ) (ids : List ExprId) (k : ℕ) (xs : List Element) → length ids ≤ k
       → SoFar next_element EachElement m0 m1 names now (take k ids) xs
-      → Lowers m0 m1 now (all_bound_after names (written_expressions_at b ids)) (λ t. EachElementMeans fs b t names ids xs)
+      → Lowers m0 m1 now (all_bound_after names (exprs_at b ids)) (λ t. EachElementMeans fs b t names ids xs)
   elements_done m0 m1 names now ids k xs le h =
       let whole : SoFar next_element EachElement m0 m1 names now ids xs = subst (λ l. SoFar next_element EachElement m0 m1 names now l xs) (take_all k ids le) h in
       record {
@@ -189,59 +189,59 @@ module _ (fs : List (List Head)) (b : NodeTable) where
 
   -- ---- bodies
 
-  pub each_stands : (t : Checked) (names : List ℕ) (ids : List WrittenExpressionId) (xs : List Element) → EachElementMeans fs b t names ids xs → All (ElementStands t.tables) xs
-  each_stands t names [] [] h = All-nil (ElementStands t.tables)
-  each_stands t names (id ∷ ids) (x ∷ xs) h = All-cons (ElementStands t.tables) x xs (h.0.patterns_stand, h.0.stands) (each_stands t (next_element names id) ids xs h.1)
+  pub each_stands : (t : Checked) (names : List ℕ) (ids : List ExprId) (xs : List Element) → EachElementMeans fs b t names ids xs → All (ElementRepresents t.tables) xs
+  each_stands t names [] [] h = All-nil (ElementRepresents t.tables)
+  each_stands t names (id ∷ ids) (x ∷ xs) h = All-cons (ElementRepresents t.tables) x xs (h.0.patterns_stand, h.0.stands) (each_stands t (next_element names id) ids xs h.1)
   each_stands t names [] (x ∷ xs) h = absurd h
   each_stands t names (id ∷ ids) [] h = absurd h
 
-  no_elements : (t : Checked) (names : List ℕ) (ids : List WrittenExpressionId) (xs : List Element) → xs ≡ [] → EachElementMeans fs b t names ids xs → HasFirst (written_expressions_at b ids) → ⊥
+  no_elements : (t : Checked) (names : List ℕ) (ids : List ExprId) (xs : List Element) → xs ≡ [] → EachElementMeans fs b t names ids xs → HasFirst (exprs_at b ids) → ⊥
   no_elements t names [] xs e h f = f
   no_elements t names (id ∷ ids) [] e h f = h
   no_elements t names (id ∷ ids) (x ∷ xs) e h f = cc
 
-  body_is : (t : Checked) (names : List ℕ) (ids : List WrittenExpressionId) (front : List Element) (last : Element) → EachElementMeans fs b t names ids (front ++ last ∷ [])
-      → (g : Scope) → g.bound ≡ names → WrittenExpressionsFormed true (written_expressions_at b ids) → written_expressions_faults (names_of t.atoms fs) g (written_expressions_at b ids) ≡ []
-      → BodyIs (names_of t.atoms fs) g (written_expressions_at b ids) (binds t.tables front (ending (patterns_at t.tables last.patterns.items) (part_over t.tables last.value)))
+  body_is : (t : Checked) (names : List ℕ) (ids : List ExprId) (front : List Element) (last : Element) → EachElementMeans fs b t names ids (front ++ last ∷ [])
+      → (g : Scope) → g.bound ≡ names → ExprsFormed true (exprs_at b ids) → exprs_faults (names_of t.atoms fs) g (exprs_at b ids) ≡ []
+      → BodyIs (names_of t.atoms fs) g (exprs_at b ids) (binds t.tables front (ending (patterns_at t.tables last.patterns.items) (part_over t.tables last.value)))
   body_is t names [] [] last h g e f k = absurd h
   body_is t names [] (x ∷ front) last h g e f k = absurd h
   body_is t names (id ∷ []) [] last h g e f k =
-      w.last g (written_expression_at b id.0) _ _ (h.0.means g e f.0 (left_empty (written_expression_faults (names_of t.atoms fs) g (written_expression_at b id.0)) _ k))
+      w.last g (expr_at b id.0) _ _ (h.0.means g e f.0 (left_empty (expr_faults (names_of t.atoms fs) g (expr_at b id.0)) _ k))
   body_is t names (id ∷ other ∷ ids) [] last h g e f k = absurd h.1
   body_is t names (id ∷ ids) (x ∷ front) last h g e f k =
-      let e0 = written_expression_at b id.0 in
-      let here : written_expression_faults (names_of t.atoms fs) g e0 ≡ [] = left_empty (written_expression_faults (names_of t.atoms fs) g e0) _ k in
-      let later : written_expressions_faults (names_of t.atoms fs) (after g e0) (written_expressions_at b ids) ≡ [] = right_empty (written_expression_faults (names_of t.atoms fs) g e0) _ k in
-      w.before g e0 (written_expressions_at b ids) _ _ _ (h.0.means g e f.0 here)
+      let e0 = expr_at b id.0 in
+      let here : expr_faults (names_of t.atoms fs) g e0 ≡ [] = left_empty (expr_faults (names_of t.atoms fs) g e0) _ k in
+      let later : exprs_faults (names_of t.atoms fs) (after g e0) (exprs_at b ids) ≡ [] = right_empty (expr_faults (names_of t.atoms fs) g e0) _ k in
+      w.before g e0 (exprs_at b ids) _ _ _ (h.0.means g e f.0 here)
       (body_is t (next_element names id) ids front last h.1 (after g e0) (element_bound (names_of t.atoms fs) g e0 f.0 here ∙ ap (λ n. bound_after n e0) e) f.1 later)
 
-  pub no_body : (m0 m1 : Checked) (bound wanted names : List ℕ) (ids : List WrittenExpressionId) (xs : List Element) (x : Part) → PartStands m1.tables x → xs ≡ []
-      → Lowers m0 m1 bound wanted (λ t. EachElementMeans fs b t names ids xs) → Lowers m0 m1 bound wanted (λ t. BodyMeans fs t names (written_expressions_at b ids) x)
+  pub no_body : (m0 m1 : Checked) (bound wanted names : List ℕ) (ids : List ExprId) (xs : List Element) (x : Operand) → OperandRepresents m1.tables x → xs ≡ []
+      → Lowers m0 m1 bound wanted (λ t. EachElementMeans fs b t names ids xs) → Lowers m0 m1 bound wanted (λ t. BodyMeans fs t names (exprs_at b ids) x)
   no_body m0 m1 bound wanted names ids xs x st e d = record {
     grown = d.grown;
     bound_is = d.bound_is;
     answer = record { stands = st; means = λ g h i f k. absurd (no_elements m1 names ids xs e d.answer i) };
   }
 
-binds_kept : (t u : Tables) → Extends t u → (es : List Element) (x : Tree) → All (ElementStands t) es → binds u es x ≡ binds t es x
+binds_kept : (t u : Tables) → Extends t u → (es : List Element) (x : Tree) → All (ElementRepresents t) es → binds u es x ≡ binds t es x
 binds_kept t u on [] x h = refl
 binds_kept t u on (e ∷ es) x h =
-    let s = All-head (ElementStands t) e es h in
+    let s = All-head (ElementRepresents t) e es h in
     let front = patterns_kept t u on e.patterns.items s.0 in
     let value = part_kept t u on e.value s.1 in
-    let rest = binds_kept t u on es x (All-tail (ElementStands t) e es h) in
+    let rest = binds_kept t u on es x (All-tail (ElementRepresents t) e es h) in
     cc
 
-pub elements_stand_on : (t u : Tables) → Extends t u → (es : List Element) → All (ElementStands t) es → All (ElementStands u) es
-elements_stand_on t u on es h = All-weaker (ElementStands t) (ElementStands u) (λ e s. (all_patterns_stand t u on e.patterns.items s.0, part_stands t u on e.value s.1)) es h
+pub elements_stand_on : (t u : Tables) → Extends t u → (es : List Element) → All (ElementRepresents t) es → All (ElementRepresents u) es
+elements_stand_on t u on es h = All-weaker (ElementRepresents t) (ElementRepresents u) (λ e s. (all_patterns_stand t u on e.patterns.items s.0, part_stands t u on e.value s.1)) es h
 
-pub body_done : (fs : List (List Head)) (b : NodeTable) (m0 m1 m2 m3 : Checked) (bound wanted names : List ℕ) (ids : List WrittenExpressionId) (xs front : List Element) (last : Element) (end x : Part)
+pub body_done : (fs : List (List Head)) (b : NodeTable) (m0 m1 m2 m3 : Checked) (bound wanted names : List ℕ) (ids : List ExprId) (xs front : List Element) (last : Element) (end x : Operand)
     → xs ≡ front ++ last ∷ [] → Lowers m0 m1 bound wanted (λ t. EachElementMeans fs b t names ids xs)
     → PartPut m1 m2 (ending (patterns_at m1.tables last.patterns.items) (part_over m1.tables last.value)) end
-    → PartPut m2 m3 (binds m2.tables front (part_over m2.tables end)) x → Lowers m0 m3 bound wanted (λ t. BodyMeans fs t names (written_expressions_at b ids) x)
+    → PartPut m2 m3 (binds m2.tables front (part_over m2.tables end)) x → Lowers m0 m3 bound wanted (λ t. BodyMeans fs t names (exprs_at b ids) x)
 body_done fs b m0 m1 m2 m3 bound wanted names ids xs front last end x e d put_end put =
     let each : EachElementMeans fs b m1 names ids (front ++ last ∷ []) = subst (EachElementMeans fs b m1 names ids) e d.answer in
-    let stand = All-pop (ElementStands m1.tables) xs front (Some last) e (each_stands fs b m1 names ids xs d.answer) in
+    let stand = All-pop (ElementRepresents m1.tables) xs front (Some last) e (each_stands fs b m1 names ids xs d.answer) in
     let whole : binds m2.tables front (part_over m2.tables end) ≡ binds m1.tables front (ending (patterns_at m1.tables last.patterns.items) (part_over m1.tables last.value)) =
     ap (binds m2.tables front) put_end.is ∙ binds_kept m1.tables m2.tables put_end.grown.tables front _ stand.0 in
     let on = grown_on m1 m2 m3 put_end.grown put.grown in
@@ -250,7 +250,7 @@ body_done fs b m0 m1 m2 m3 bound wanted names ids xs front last end x e d put_en
       bound_is = d.bound_is;
       answer = record {
         stands = put.stands;
-        means = becomes_on (λ n y. BodyBecomes n names (written_expressions_at b ids) y) fs m1 m3 _ _ on (put.is ∙ whole) (λ g h i f k. body_is fs b m1 names ids front last each g h f k);
+        means = becomes_on (λ n y. BodyBecomes n names (exprs_at b ids) y) fs m1 m3 _ _ on (put.is ∙ whole) (λ g h i f k. body_is fs b m1 names ids front last each g h f k);
       };
     }
 
@@ -258,12 +258,12 @@ binds_last : (t : Tables) (es : List Element) (e : Element) (x : Tree) → binds
 binds_last t [] e x = refl
 binds_last t (d ∷ es) e x = ap (tr.bind (patterns_at t d.patterns.items) (part_over t d.value)) (binds_last t es e x)
 
-pub bind_step : (m0 m1 m2 : Checked) (all rest : List Element) (e : Element) (l k : Part) (whole : Tree) → all ≡ rest ++ e ∷ [] → Grown m0 m1
-    → All (ElementStands m0.tables) all → PartPut m1 m2 (tr.bind (patterns_at m1.tables e.patterns.items) (part_over m1.tables e.value) (part_over m1.tables l)) k
+pub bind_step : (m0 m1 m2 : Checked) (all rest : List Element) (e : Element) (l k : Operand) (whole : Tree) → all ≡ rest ++ e ∷ [] → Grown m0 m1
+    → All (ElementRepresents m0.tables) all → PartPut m1 m2 (tr.bind (patterns_at m1.tables e.patterns.items) (part_over m1.tables e.value) (part_over m1.tables l)) k
     → binds m0.tables all (part_over m1.tables l) ≡ whole
-    → All (ElementStands m0.tables) rest × (binds m0.tables rest (part_over m2.tables k) ≡ whole)
+    → All (ElementRepresents m0.tables) rest × (binds m0.tables rest (part_over m2.tables k) ≡ whole)
 bind_step m0 m1 m2 all rest e l k whole is g h put was =
-    let parts = All-pop (ElementStands m0.tables) all rest (Some e) is h in
+    let parts = All-pop (ElementRepresents m0.tables) all rest (Some e) is h in
     let front = patterns_kept m0.tables m1.tables g.tables e.patterns.items parts.1.0 in
     let value = part_kept m0.tables m1.tables g.tables e.value parts.1.1 in (
       parts.0,
@@ -278,17 +278,17 @@ module _ (fs : List (List Head)) (b : NodeTable) where
   next_tests names g = names
 
   abbrev pub EachTests : Checked → List ℕ → Tests → Alternative → Type 0
-  EachTests t names g a = WrittenExpressionsMean fs t names (written_expressions_at b g.tests.items) a.tests.items
+  EachTests t names g a = ExprsMean fs t names (exprs_at b g.tests.items) a.tests.items
 
   pub each_tests_on : (t u : Checked) → Grown t u → (names : List ℕ) (g : Tests) (a : Alternative) → EachTests t names g a → EachTests u names g a
-  each_tests_on t u on names g a h = written_expressions_mean_on fs t u on names (written_expressions_at b g.tests.items) a.tests.items h
+  each_tests_on t u on names g a h = exprs_mean_on fs t u on names (exprs_at b g.tests.items) a.tests.items h
 
-  abbrev AlternativeStands : Tables → Alternative → Type 0
-  AlternativeStands t a = All (PartStands t) a.tests.items
+  abbrev AlternativeRepresents : Tables → Alternative → Type 0
+  AlternativeRepresents t a = All (OperandRepresents t) a.tests.items
 
-  alternatives_stand : (t : Checked) (names : List ℕ) (gs : List Tests) (ds : List Alternative) → Threaded next_tests (EachTests t) names gs ds → All (AlternativeStands t.tables) ds
-  alternatives_stand t names [] [] h = All-nil (AlternativeStands t.tables)
-  alternatives_stand t names (g ∷ gs) (d ∷ ds) h = All-cons (AlternativeStands t.tables) d ds h.0.stands (alternatives_stand t names gs ds h.1)
+  alternatives_stand : (t : Checked) (names : List ℕ) (gs : List Tests) (ds : List Alternative) → Threaded next_tests (EachTests t) names gs ds → All (AlternativeRepresents t.tables) ds
+  alternatives_stand t names [] [] h = All-nil (AlternativeRepresents t.tables)
+  alternatives_stand t names (g ∷ gs) (d ∷ ds) h = All-cons (AlternativeRepresents t.tables) d ds h.0.stands (alternatives_stand t names gs ds h.1)
   alternatives_stand t names [] (d ∷ ds) h = absurd h
   alternatives_stand t names (g ∷ gs) [] h = absurd h
 
@@ -297,9 +297,9 @@ module _ (fs : List (List Head)) (b : NodeTable) where
       → GuardIs (names_of t.atoms fs) s (alternatives_at b gs) (alternatives_over t.tables ds)
   alternatives_mean t names [] [] h s e f k = w.no_more_tests s
   alternatives_mean t names (g ∷ gs) (d ∷ ds) h s e f k =
-      let es = written_expressions_at b g.tests.items in
-      w.or_tests s es (alternatives_at b gs) _ _ (h.0.means s e f.0 (left_empty (written_expressions_faults (names_of t.atoms fs) s es) _ k))
-      (alternatives_mean t names gs ds h.1 s e f.1 (right_empty (written_expressions_faults (names_of t.atoms fs) s es) _ k))
+      let es = exprs_at b g.tests.items in
+      w.or_tests s es (alternatives_at b gs) _ _ (h.0.means s e f.0 (left_empty (exprs_faults (names_of t.atoms fs) s es) _ k))
+      (alternatives_mean t names gs ds h.1 s e f.1 (right_empty (exprs_faults (names_of t.atoms fs) s es) _ k))
   alternatives_mean t names [] (d ∷ ds) h s e f k = absurd h
   alternatives_mean t names (g ∷ gs) [] h s e f k = absurd h
 
@@ -317,10 +317,10 @@ module _ (fs : List (List Head)) (b : NodeTable) where
     grown = grown_itself m;
     bound_is = refl;
     answer = record {
-      stands = subst (All (AlternativeStands m.tables)) (sym none) (All-nil (AlternativeStands m.tables));
+      stands = subst (All (AlternativeRepresents m.tables)) (sym none) (All-nil (AlternativeRepresents m.tables));
       means = λ s _ some f k.
           subst (λ ds. GuardIs (names_of m.atoms fs) s c (guard_from m.tables ds)) (sym none)
-          (subst (λ x. GuardIs (names_of m.atoms fs) s x no_guard) (sym e) (w.or_tests s no_written_expressions no_tests no_trees no_alternatives (w.no_more s) (w.no_more_tests s)));
+          (subst (λ x. GuardIs (names_of m.atoms fs) s x no_guard) (sym e) (w.or_tests s no_exprs no_tests no_trees no_alternatives (w.no_more s) (w.no_more_tests s)));
     };
   }
 
@@ -343,25 +343,25 @@ module _ (fs : List (List Head)) (b : NodeTable) where
 
   -- ---- clauses
 
-  pub branch_done : (m0 m1 m2 m3 : Checked) (b1 b2 b3 b4 names : List ℕ) (r : Branch) (y : PatternId) (d : Guard) (x : Part)
-      → Lowers m0 m1 b1 (bound_by names (written_pattern_at b r.written_pattern.0)) (λ t. WrittenPatternMeans fs t names (written_pattern_at b r.written_pattern.0) y)
+  pub branch_done : (m0 m1 m2 m3 : Checked) (b1 b2 b3 b4 names : List ℕ) (r : Branch) (y : PatternId) (d : Guard) (x : Operand)
+      → Lowers m0 m1 b1 (bound_by names (expr_pattern_at b r.expr_pattern.0)) (λ t. ExprPatternMeans fs t names (expr_pattern_at b r.expr_pattern.0) y)
       → Lowers m1 m2 b2 b1 (λ t. GuardMeans fs t b1 (condition_over b r.condition) d)
-      → Lowers m2 m3 b3 (all_bound_after b2 (written_expressions_at b r.body.items)) (λ t. BodyMeans fs t b2 (written_expressions_at b r.body.items) x)
+      → Lowers m2 m3 b3 (all_bound_after b2 (exprs_at b r.body.items)) (λ t. BodyMeans fs t b2 (exprs_at b r.body.items) x)
       → b4 ≡ take (length names) b3
       → Lowers m0 m3 b4 names (λ t. BranchMeans fs b t names r (record { pattern = y; guard = d; body = x }))
   branch_done m0 m1 m2 m3 b1 b2 b3 b4 names r y d x p1 p2 p3 cut =
-      let q = written_pattern_at b r.written_pattern.0 in
-      let asked = written_pattern_means_on fs m1 m3 (grown_on m1 m2 m3 p2.grown p3.grown) names q y p1.answer in
+      let q = expr_pattern_at b r.expr_pattern.0 in
+      let asked = expr_pattern_means_on fs m1 m3 (grown_on m1 m2 m3 p2.grown p3.grown) names q y p1.answer in
       let guarded = guard_means_on fs m2 m3 p3.grown b1 (condition_over b r.condition) d p2.answer in
       let at2 : b2 ≡ bound_by names q = p2.bound_is ∙ p1.bound_is in
       record {
         grown = grown_on m0 m1 m3 p1.grown (grown_on m1 m2 m3 p2.grown p3.grown);
-        bound_is = cut ∙ ap (take (length names)) (p3.bound_is ∙ ap (λ n. all_bound_after n (written_expressions_at b r.body.items)) at2) ∙ forgotten names q (written_expressions_at b r.body.items);
+        bound_is = cut ∙ ap (take (length names)) (p3.bound_is ∙ ap (λ n. all_bound_after n (exprs_at b r.body.items)) at2) ∙ forgotten names q (exprs_at b r.body.items);
         answer = record {
           stands = (asked.stands, guarded.stands, p3.answer.stands);
           pattern = asked.means;
-          guard = λ g e here some f k. guarded.means (after_written_pattern g q) (written_pattern_bound g q here ∙ ap (λ n. bound_by n q) e ∙ sym p1.bound_is) some f k;
-          body = λ g e here i f k. p3.answer.means (after_written_pattern g q) (written_pattern_bound g q here ∙ ap (λ n. bound_by n q) e ∙ sym at2) i f k;
+          guard = λ g e here some f k. guarded.means (after_expr_pattern g q) (expr_pattern_bound g q here ∙ ap (λ n. bound_by n q) e ∙ sym p1.bound_is) some f k;
+          body = λ g e here i f k. p3.answer.means (after_expr_pattern g q) (expr_pattern_bound g q here ∙ ap (λ n. bound_by n q) e ∙ sym at2) i f k;
         };
       }
 
@@ -375,14 +375,14 @@ module _ (fs : List (List Head)) (b : NodeTable) where
   each_branch_on t u on names r c h =
       record {
         stands = (pattern_stands t.tables u.tables on.tables c.pattern h.stands.0, guard_stands t.tables u.tables on.tables c.guard h.stands.1, part_stands t.tables u.tables on.tables c.body h.stands.2);
-        pattern = becomes_on (λ n y. WrittenPatternBecomes n names (written_pattern_at b r.written_pattern.0) y) fs t u _ _ on (on.tables.patterns c.pattern.0 h.stands.0) h.pattern;
+        pattern = becomes_on (λ n y. ExprPatternBecomes n names (expr_pattern_at b r.expr_pattern.0) y) fs t u _ _ on (on.tables.patterns c.pattern.0 h.stands.0) h.pattern;
         guard = becomes_on (λ n d. BranchGuardBecomes n b names r d) fs t u _ _ on (guard_kept t.tables u.tables on.tables c.guard h.stands.1) h.guard;
         body = becomes_on (λ n x. BranchBodyBecomes n b names r x) fs t u _ _ on (part_kept t.tables u.tables on.tables c.body h.stands.2) h.body;
       }
 
-  branches_stand : (t : Checked) (names : List ℕ) (rs : List Branch) (cs : List Clause) → Threaded next_branch (EachBranch t) names rs cs → All (ClauseStands t.tables) cs
-  branches_stand t names [] [] h = All-nil (ClauseStands t.tables)
-  branches_stand t names (r ∷ rs) (c ∷ cs) h = All-cons (ClauseStands t.tables) c cs h.0.stands (branches_stand t names rs cs h.1)
+  branches_stand : (t : Checked) (names : List ℕ) (rs : List Branch) (cs : List Clause) → Threaded next_branch (EachBranch t) names rs cs → All (ClauseRepresents t.tables) cs
+  branches_stand t names [] [] h = All-nil (ClauseRepresents t.tables)
+  branches_stand t names (r ∷ rs) (c ∷ cs) h = All-cons (ClauseRepresents t.tables) c cs h.0.stands (branches_stand t names rs cs h.1)
   branches_stand t names [] (c ∷ cs) h = absurd h
   branches_stand t names (r ∷ rs) [] h = absurd h
 
@@ -391,16 +391,16 @@ module _ (fs : List (List Head)) (b : NodeTable) where
       → BranchesAre (names_of t.atoms fs) g (branches_over b rs) (clauses_over t.tables cs)
   branches_mean t names [] [] h g e f k = w.no_more_branches g
   branches_mean t names (r ∷ rs) (c ∷ cs) h g e f k =
-      let q = written_pattern_at b r.written_pattern.0 in
+      let q = expr_pattern_at b r.expr_pattern.0 in
       let n = names_of t.atoms fs in
       let c1 = condition_over b r.condition in
-      let es = written_expressions_at b r.body.items in
-      let first : (written_pattern_faults g q ++ condition_faults n (after_written_pattern g q) c1) ++ written_expressions_faults n (after_written_pattern g q) es ≡ [] = left_empty _ (branches_faults n g (branches_over b rs)) k in
-      let rest : branches_faults n g (branches_over b rs) ≡ [] = right_empty ((written_pattern_faults g q ++ condition_faults n (after_written_pattern g q) c1) ++ written_expressions_faults n (after_written_pattern g q) es) _ k in
-      let in_body : written_expressions_faults n (after_written_pattern g q) es ≡ [] = right_empty (written_pattern_faults g q ++ condition_faults n (after_written_pattern g q) c1) _ first in
-      let two : written_pattern_faults g q ++ condition_faults n (after_written_pattern g q) c1 ≡ [] = left_empty _ (written_expressions_faults n (after_written_pattern g q) es) first in
-      let here : written_pattern_faults g q ≡ [] = left_empty (written_pattern_faults g q) _ two in
-      let in_guard : condition_faults n (after_written_pattern g q) c1 ≡ [] = right_empty (written_pattern_faults g q) _ two in
+      let es = exprs_at b r.body.items in
+      let first : (expr_pattern_faults g q ++ condition_faults n (after_expr_pattern g q) c1) ++ exprs_faults n (after_expr_pattern g q) es ≡ [] = left_empty _ (branches_faults n g (branches_over b rs)) k in
+      let rest : branches_faults n g (branches_over b rs) ≡ [] = right_empty ((expr_pattern_faults g q ++ condition_faults n (after_expr_pattern g q) c1) ++ exprs_faults n (after_expr_pattern g q) es) _ k in
+      let in_body : exprs_faults n (after_expr_pattern g q) es ≡ [] = right_empty (expr_pattern_faults g q ++ condition_faults n (after_expr_pattern g q) c1) _ first in
+      let two : expr_pattern_faults g q ++ condition_faults n (after_expr_pattern g q) c1 ≡ [] = left_empty _ (exprs_faults n (after_expr_pattern g q) es) first in
+      let here : expr_pattern_faults g q ≡ [] = left_empty (expr_pattern_faults g q) _ two in
+      let in_guard : condition_faults n (after_expr_pattern g q) c1 ≡ [] = right_empty (expr_pattern_faults g q) _ two in
       w.and_branches g q c1 es (branches_over b rs) _ _ _ _ (h.0.pattern g e f.0 here) (h.0.guard g e here f.1 f.2 in_guard) (h.0.body g e here f.3 f.4 in_body)
       (branches_mean t names rs cs h.1 g e f.5 rest)
   branches_mean t names [] (c ∷ cs) h g e f k = absurd h
@@ -425,7 +425,7 @@ module _ (fs : List (List Head)) (b : NodeTable) where
 
 -- ---- parts are no deeper than the whole
 
-pub tests_shallow : (b : NodeTable) (gs : List Tests) (k : ℕ) (d : Tests) → k < length gs → written_expressions_depth (written_expressions_at b (get_or gs k d).tests.items) ≤ condition_depth (alternatives_at b gs)
+pub tests_shallow : (b : NodeTable) (gs : List Tests) (k : ℕ) (d : Tests) → k < length gs → exprs_depth (exprs_at b (get_or gs k d).tests.items) ≤ condition_depth (alternatives_at b gs)
 tests_shallow b [] k d lt = absurd (omega arith)
 tests_shallow b (g ∷ gs) zero d lt = omega arith
 tests_shallow b (g ∷ gs) (suc k) d lt = let h = tests_shallow b gs k d (omega arith) in omega arith

@@ -7,19 +7,19 @@ use Rattle.pf_fault.specs.declared.refusal.Refusal.{Refusal}
 use Rattle.pf_fault.specs.declared.code.Code.TheVariants.{Unbound, Undefined, Unsafe}
 use Rattle.pf_terms.specs.Value.{int, atom as atom_value}
 use Rattle.pf_syntax.specs.Pattern.{Pattern, Patterns, any, new, slot, known, tuple_of, no_patterns, pattern}
-use Rattle.pf_syntax.specs.WrittenPattern as s
-use Rattle.pf_syntax.specs.WrittenPattern.{WrittenPattern, WrittenPatterns, no_written_patterns, written_pattern}
-use Rattle.pf_syntax.specs.WrittenExpression as p
-use Rattle.pf_syntax.specs.WrittenExpression.{WrittenExpression, WrittenExpressions, Condition, Branches, no_written_expressions, written_expression, no_tests, tests, no_branches, branch}
+use Rattle.pf_syntax.specs.ExprPattern as s
+use Rattle.pf_syntax.specs.ExprPattern.{ExprPattern, ExprPatterns, no_expr_patterns, expr_pattern}
+use Rattle.pf_syntax.specs.Expr as p
+use Rattle.pf_syntax.specs.Expr.{Expr, Exprs, Condition, Branches, no_exprs, expr, no_tests, tests, no_branches, branch}
 use Rattle.pf_syntax.specs.Tree as t
 use Rattle.pf_syntax.specs.Tree.{Builtin, Tree, Trees, Clauses, Guard, lit, var, no_trees, tree, no_clauses, clause, no_alternatives, alternative, Function, FunctionClause, Program}
-use Rattle.pf_syntax.specs.Source.{Export, Head}
-use Rattle.pf_syntax.specs.Scope.{Scope, no_scope, has, is_unsafe, is_new, after_written_pattern, after_written_patterns, after, after_all}
+use Rattle.pf_syntax.specs.SyntaxTree.{Export, Head}
+use Rattle.pf_syntax.specs.Scope.{Scope, no_scope, has, is_unsafe, is_new, after_expr_pattern, after_expr_patterns, after, after_all}
 use Rattle.pf_syntax.specs.Naming as w
-use Rattle.pf_syntax.specs.Naming.{Names, WrittenPatternIs, WrittenPatternsAre, WrittenExpressionIs, WrittenExpressionsAre, ElementIs, BodyIs, GuardIs, BranchesAre, HeadIs, IsPlaceOf, arity_of, behind, ending, conses, conses_of, empty_list, string}
-use Rattle.pf_rules.specs.Static.{fault_if, parameters_of, is_defined, written_pattern_faults, written_patterns_faults, written_expression_faults, written_expressions_faults, condition_faults, branches_faults, head_faults}
+use Rattle.pf_syntax.specs.Naming.{Names, ExprPatternIs, ExprPatternsAre, ExprIs, ExprsAre, ElementIs, BodyIs, GuardIs, BranchesAre, HeadIs, IsSlotOf, arity_of, behind, ending, conses, conses_of, empty_list, string}
+use Rattle.pf_rules.specs.Static.{fault_if, parameters_of, is_defined, expr_pattern_faults, expr_patterns_faults, expr_faults, exprs_faults, condition_faults, branches_faults, head_faults}
 use Rattle.pf_rules.specs.Checks.{Pairwise, FunctionIs, is_exported}
-use Rattle.pf_rules.specs.Formed.{WrittenExpressionFormed, WrittenExpressionsFormed, ConditionFormed, BranchesFormed, HasFirst, HeadFormed, FunctionFormed, AreFormed}
+use Rattle.pf_rules.specs.Formed.{ExprFormed, ExprsFormed, ConditionFormed, BranchesFormed, HasFirst, HeadFormed, FunctionFormed, AreFormed}
 
 -- two lists are empty where they are so together
 pub left_empty : {X : Type 0} → (xs ys : List X) → xs ++ ys ≡ [] → xs ≡ []
@@ -43,10 +43,10 @@ no_or false c e h = h
 same_name : (x y : ℕ) → nat_eq y x ≡ true → y ≡ x
 same_name x y e = grind (arith, nat_tests)
 
--- a name that is among others has a place
-place_of : (x : ℕ) (names : List ℕ) → has names x ≡ true → (k : ℕ) × (slice_get names k ≡ Some x)
-place_of x [] h = cc
-place_of x (y ∷ names) h = by_first (y == x) refl (place_of x names)
+-- a name that is among others has a slot
+slot_of : (x : ℕ) (names : List ℕ) → has names x ≡ true → (k : ℕ) × (slice_get names k ≡ Some x)
+slot_of x [] h = cc
+slot_of x (y ∷ names) h = by_first (y == x) refl (slot_of x names)
   where
     by_first : (b : Bool) → y == x ≡ b → (has names x ≡ true → (k : ℕ) × (slice_get names k ≡ Some x)) → (k : ℕ) × (slice_get (y ∷ names) k ≡ Some x)
     by_first true e further = (zero, ap Some (same_name x y e))
@@ -66,136 +66,136 @@ bound_by_tests at false false h = cc
 module _ (n : Names) where
   -- ---- patterns
 
-  variable_written_pattern : (g : Scope) (x at : ℕ) → fault_if (is_unsafe g x) Unsafe at ≡ [] → (y : Pattern) × WrittenPatternIs n g (s.variable x at) y
-  variable_written_pattern g x at h = by_bound (has g.bound x) refl
+  variable_expr_pattern : (g : Scope) (x at : ℕ) → fault_if (is_unsafe g x) Unsafe at ≡ [] → (y : Pattern) × ExprPatternIs n g (s.variable x at) y
+  variable_expr_pattern g x at h = by_bound (has g.bound x) refl
     where
-      by_bound : (b : Bool) → has g.bound x ≡ b → (y : Pattern) × WrittenPatternIs n g (s.variable x at) y
-      by_bound true e = let k = place_of x g.bound e in (slot k.0, w.bound g x at k.0 k.1)
+      by_bound : (b : Bool) → has g.bound x ≡ b → (y : Pattern) × ExprPatternIs n g (s.variable x at) y
+      by_bound true e = let k = slot_of x g.bound e in (slot k.0, w.bound g x at k.0 k.1)
       by_bound false e = (new, w.fresh g x at (new_by_tests at (is_unsafe g x) (has g.bound x) h e))
 
   mutual
-    pub some_written_pattern : (g : Scope) (q : WrittenPattern) → written_pattern_faults g q ≡ [] → (y : Pattern) × WrittenPatternIs n g q y
-    some_written_pattern g (s.integer z) h = (known (int z), w.integer g z)
-    some_written_pattern g (s.atom a) h = (known (atom_value (n.atom_of a)), w.atom g a)
-    some_written_pattern g (s.text cs) h = (known (string cs), w.text g cs)
-    some_written_pattern g s.anything h = (any, w.anything g)
-    some_written_pattern g (s.variable x at) h = variable_written_pattern g x at h
-    some_written_pattern g (s.tuple qs) h = let i = some_written_patterns g qs h in (tuple_of i.0, w.tuple g qs i.0 i.1)
-    some_written_pattern g (s.list qs) h = let i = some_written_patterns g qs h in (conses_of i.0 (known empty_list), w.list g qs i.0 i.1)
-    some_written_pattern g (s.list_on qs q) h =
-        let i = some_written_patterns g qs (left_empty (written_patterns_faults g qs) _ h) in
-        let j = some_written_pattern (after_written_patterns g qs) q (right_empty (written_patterns_faults g qs) _ h) in
+    pub some_expr_pattern : (g : Scope) (q : ExprPattern) → expr_pattern_faults g q ≡ [] → (y : Pattern) × ExprPatternIs n g q y
+    some_expr_pattern g (s.integer z) h = (known (int z), w.integer g z)
+    some_expr_pattern g (s.atom a) h = (known (atom_value (n.atom_of a)), w.atom g a)
+    some_expr_pattern g (s.text cs) h = (known (string cs), w.text g cs)
+    some_expr_pattern g s.anything h = (any, w.anything g)
+    some_expr_pattern g (s.variable x at) h = variable_expr_pattern g x at h
+    some_expr_pattern g (s.tuple qs) h = let i = some_expr_patterns g qs h in (tuple_of i.0, w.tuple g qs i.0 i.1)
+    some_expr_pattern g (s.list qs) h = let i = some_expr_patterns g qs h in (conses_of i.0 (known empty_list), w.list g qs i.0 i.1)
+    some_expr_pattern g (s.list_on qs q) h =
+        let i = some_expr_patterns g qs (left_empty (expr_patterns_faults g qs) _ h) in
+        let j = some_expr_pattern (after_expr_patterns g qs) q (right_empty (expr_patterns_faults g qs) _ h) in
         (conses_of i.0 j.0, w.list_on g qs q i.0 j.0 i.1 j.1)
 
-    some_written_patterns : (g : Scope) (qs : WrittenPatterns) → written_patterns_faults g qs ≡ [] → (ys : Patterns) × WrittenPatternsAre n g qs ys
-    some_written_patterns g no_written_patterns h = (no_patterns, w.no_more_written_patterns g)
-    some_written_patterns g (written_pattern q qs) h =
-        let i = some_written_pattern g q (left_empty (written_pattern_faults g q) _ h) in
-        let j = some_written_patterns (after_written_pattern g q) qs (right_empty (written_pattern_faults g q) _ h) in
-        (pattern i.0 j.0, w.and_written_patterns g q qs i.0 j.0 i.1 j.1)
+    some_expr_patterns : (g : Scope) (qs : ExprPatterns) → expr_patterns_faults g qs ≡ [] → (ys : Patterns) × ExprPatternsAre n g qs ys
+    some_expr_patterns g no_expr_patterns h = (no_patterns, w.no_more_expr_patterns g)
+    some_expr_patterns g (expr_pattern q qs) h =
+        let i = some_expr_pattern g q (left_empty (expr_pattern_faults g q) _ h) in
+        let j = some_expr_patterns (after_expr_pattern g q) qs (right_empty (expr_pattern_faults g q) _ h) in
+        (pattern i.0 j.0, w.and_expr_patterns g q qs i.0 j.0 i.1 j.1)
 
   -- ---- expressions and elements of bodies
 
   -- what an expression is, or where the flag says so an element of a body
-  abbrev SomeWrittenExpression : Bool → Scope → WrittenExpression → Type 0
-  SomeWrittenExpression false g e = (x : Tree) × WrittenExpressionIs n g e x
-  SomeWrittenExpression true g e = (ys : Patterns) × (x : Tree) × ElementIs n g e ys x
+  abbrev SomeExpr : Bool → Scope → Expr → Type 0
+  SomeExpr false g e = (x : Tree) × ExprIs n g e x
+  SomeExpr true g e = (ys : Patterns) × (x : Tree) × ElementIs n g e ys x
 
-  standing : (m : Bool) (g : Scope) (e : WrittenExpression) (x : Tree) → WrittenExpressionIs n g e x → SomeWrittenExpression m g e
+  standing : (m : Bool) (g : Scope) (e : Expr) (x : Tree) → ExprIs n g e x → SomeExpr m g e
   standing false g e x h = (x, h)
   standing true g e x h = (no_patterns, x, w.plain g e x h)
 
-  variable_written_expression : (g : Scope) (x at : ℕ) → fault_if (is_unsafe g x) Unsafe at ++ fault_if (is_new g x) Unbound at ≡ [] → (k : ℕ) × WrittenExpressionIs n g (p.variable x at) (var k)
-  variable_written_expression g x at h = let k = place_of x g.bound (bound_by_tests at (is_unsafe g x) (has g.bound x) h) in (k.0, w.variable g x at k.0 k.1)
+  variable_expr : (g : Scope) (x at : ℕ) → fault_if (is_unsafe g x) Unsafe at ++ fault_if (is_new g x) Unbound at ≡ [] → (k : ℕ) × ExprIs n g (p.variable x at) (var k)
+  variable_expr g x at h = let k = slot_of x g.bound (bound_by_tests at (is_unsafe g x) (has g.bound x) h) in (k.0, w.variable g x at k.0 k.1)
 
   no_fault_there : (at : ℕ) → fault_if true Unbound at ≡ [] → ⊥
   no_fault_there at h = cc
 
-  callee_by : (g : Scope) (f at : ℕ) (es : WrittenExpressions) (xs : Trees) (o : Option ℕ) (b : Option Builtin) → n.own_of f (arity_of es) ≡ o → n.builtin_of f (arity_of es) ≡ b
-      → (if is_some o || is_some b then [] else fault_if true Undefined at) ≡ [] → WrittenExpressionsAre n g es xs → (x : Tree) × WrittenExpressionIs n g (p.call f at es) x
+  callee_by : (g : Scope) (f at : ℕ) (es : Exprs) (xs : Trees) (o : Option ℕ) (b : Option Builtin) → n.own_of f (arity_of es) ≡ o → n.builtin_of f (arity_of es) ≡ b
+      → (if is_some o || is_some b then [] else fault_if true Undefined at) ≡ [] → ExprsAre n g es xs → (x : Tree) × ExprIs n g (p.call f at es) x
   callee_by g f at es xs (Some i) b e1 e2 h k = (t.call i xs, w.own g f at i es xs e1 k)
   callee_by g f at es xs None (Some b) e1 e2 h k = (t.builtin b xs, w.builtin g f at b es xs e2 k)
   callee_by g f at es xs None None e1 e2 h k = cc
 
-  matched : (m : Bool) (g : Scope) (q : WrittenPattern) (a : WrittenExpression) → IsTrue m → SomeWrittenExpression true g a → (y : Pattern) × WrittenPatternIs n (after g a) q y → SomeWrittenExpression m g (p.match q a)
+  matched : (m : Bool) (g : Scope) (q : ExprPattern) (a : Expr) → IsTrue m → SomeExpr true g a → (y : Pattern) × ExprPatternIs n (after g a) q y → SomeExpr m g (p.match q a)
   matched true g q a m i j = (behind i.0 j.0, i.1, w.match g q a i.0 j.0 i.1 i.2 j.1)
   matched false g q a m i j = cc
 
   mutual
-    some_written_expression : (m : Bool) (g : Scope) (e : WrittenExpression) → WrittenExpressionFormed m e → written_expression_faults n g e ≡ [] → SomeWrittenExpression m g e
-    some_written_expression m g (p.integer z) f h = standing m g _ _ (w.integer g z)
-    some_written_expression m g (p.atom a) f h = standing m g _ _ (w.atom g a)
-    some_written_expression m g (p.text cs) f h = standing m g _ _ (w.text g cs)
-    some_written_expression m g (p.variable x at) f h = standing m g _ _ (variable_written_expression g x at h).1
-    some_written_expression m g (p.anonymous at) f h = absurd (no_fault_there at h)
-    some_written_expression m g (p.parentheses a) f h = let i = some_written_expression false g a f h in standing m g _ _ (w.parentheses g a i.0 i.1)
-    some_written_expression m g (p.tuple es) f h = let i = some_written_expressions g es f h in standing m g _ _ (w.tuple g es i.0 i.1)
-    some_written_expression m g (p.list es) f h = let i = some_written_expressions g es f h in standing m g _ _ (w.list g es i.0 i.1)
-    some_written_expression m g (p.list_on es e) f h =
-        let i = some_written_expressions g es f.0 (left_empty (written_expressions_faults n g es) _ h) in
-        let j = some_written_expression false (after_all g es) e f.1 (right_empty (written_expressions_faults n g es) _ h) in
+    some_expr : (m : Bool) (g : Scope) (e : Expr) → ExprFormed m e → expr_faults n g e ≡ [] → SomeExpr m g e
+    some_expr m g (p.integer z) f h = standing m g _ _ (w.integer g z)
+    some_expr m g (p.atom a) f h = standing m g _ _ (w.atom g a)
+    some_expr m g (p.text cs) f h = standing m g _ _ (w.text g cs)
+    some_expr m g (p.variable x at) f h = standing m g _ _ (variable_expr g x at h).1
+    some_expr m g (p.anonymous at) f h = absurd (no_fault_there at h)
+    some_expr m g (p.parentheses a) f h = let i = some_expr false g a f h in standing m g _ _ (w.parentheses g a i.0 i.1)
+    some_expr m g (p.tuple es) f h = let i = some_exprs g es f h in standing m g _ _ (w.tuple g es i.0 i.1)
+    some_expr m g (p.list es) f h = let i = some_exprs g es f h in standing m g _ _ (w.list g es i.0 i.1)
+    some_expr m g (p.list_on es e) f h =
+        let i = some_exprs g es f.0 (left_empty (exprs_faults n g es) _ h) in
+        let j = some_expr false (after_all g es) e f.1 (right_empty (exprs_faults n g es) _ h) in
         standing m g _ _ (w.list_on g es e i.0 j.0 i.1 j.1)
-    some_written_expression m g (p.call a at es) f h =
+    some_expr m g (p.call a at es) f h =
         let undefined : List Refusal = if is_defined n a (arity_of es) then [] else fault_if true Undefined at in
-        let i = some_written_expressions g es f (right_empty undefined (written_expressions_faults n g es) h) in
-        let j = callee_by g a at es i.0 (n.own_of a (arity_of es)) (n.builtin_of a (arity_of es)) refl refl (left_empty undefined (written_expressions_faults n g es) h) i.1 in
+        let i = some_exprs g es f (right_empty undefined (exprs_faults n g es) h) in
+        let j = callee_by g a at es i.0 (n.own_of a (arity_of es)) (n.builtin_of a (arity_of es)) refl refl (left_empty undefined (exprs_faults n g es) h) i.1 in
         standing m g _ _ j.1
-    some_written_expression m g (p.binary o a b) f h =
-        let i = some_written_expression false g a f.0 (left_empty (written_expression_faults n g a) _ h) in
-        let j = some_written_expression false (after g a) b f.1 (right_empty (written_expression_faults n g a) _ h) in
+    some_expr m g (p.binary o a b) f h =
+        let i = some_expr false g a f.0 (left_empty (expr_faults n g a) _ h) in
+        let j = some_expr false (after g a) b f.1 (right_empty (expr_faults n g a) _ h) in
         standing m g _ _ (w.binary g o a b i.0 j.0 i.1 j.1)
-    some_written_expression m g (p.negate a) f h = let i = some_written_expression false g a f h in standing m g _ _ (w.negate g a i.0 i.1)
-    some_written_expression m g (p.and_also a b) f h =
-        let i = some_written_expression false g a f.0 (left_empty (written_expression_faults n g a) _ h) in
-        let j = some_written_expression false (after g a) b f.1 (right_empty (written_expression_faults n g a) _ h) in
+    some_expr m g (p.negate a) f h = let i = some_expr false g a f h in standing m g _ _ (w.negate g a i.0 i.1)
+    some_expr m g (p.and_also a b) f h =
+        let i = some_expr false g a f.0 (left_empty (expr_faults n g a) _ h) in
+        let j = some_expr false (after g a) b f.1 (right_empty (expr_faults n g a) _ h) in
         standing m g _ _ (w.and_also g a b i.0 j.0 i.1 j.1)
-    some_written_expression m g (p.or_else a b) f h =
-        let i = some_written_expression false g a f.0 (left_empty (written_expression_faults n g a) _ h) in
-        let j = some_written_expression false (after g a) b f.1 (right_empty (written_expression_faults n g a) _ h) in
+    some_expr m g (p.or_else a b) f h =
+        let i = some_expr false g a f.0 (left_empty (expr_faults n g a) _ h) in
+        let j = some_expr false (after g a) b f.1 (right_empty (expr_faults n g a) _ h) in
         standing m g _ _ (w.or_else g a b i.0 j.0 i.1 j.1)
-    some_written_expression m g (p.send a b) f h =
-        let i = some_written_expression false g a f.0 (left_empty (written_expression_faults n g a) _ h) in
-        let j = some_written_expression false (after g a) b f.1 (right_empty (written_expression_faults n g a) _ h) in
+    some_expr m g (p.send a b) f h =
+        let i = some_expr false g a f.0 (left_empty (expr_faults n g a) _ h) in
+        let j = some_expr false (after g a) b f.1 (right_empty (expr_faults n g a) _ h) in
         standing m g _ _ (w.send g a b i.0 j.0 i.1 j.1)
-    some_written_expression m g (p.match q a) f h =
-        matched m g q a f.0 (some_written_expression true g a f.2 (left_empty (written_expression_faults n g a) _ h)) (some_written_pattern (after g a) q (right_empty (written_expression_faults n g a) _ h))
-    some_written_expression m g (p.case a bs) f h =
-        let i = some_written_expression false g a f.0 (left_empty (written_expression_faults n g a) _ h) in
-        let j = some_branches (after g a) bs f.1 (right_empty (written_expression_faults n g a) _ h) in
+    some_expr m g (p.match q a) f h =
+        matched m g q a f.0 (some_expr true g a f.2 (left_empty (expr_faults n g a) _ h)) (some_expr_pattern (after g a) q (right_empty (expr_faults n g a) _ h))
+    some_expr m g (p.case a bs) f h =
+        let i = some_expr false g a f.0 (left_empty (expr_faults n g a) _ h) in
+        let j = some_branches (after g a) bs f.1 (right_empty (expr_faults n g a) _ h) in
         standing m g _ _ (w.case g a bs i.0 j.0 i.1 j.1)
-    some_written_expression m g (p.if_expression bs) f h = let i = some_branches g bs f h in standing m g _ _ (w.if_expression g bs i.0 i.1)
-    some_written_expression m g (p.receive bs) f h = let i = some_branches g bs f h in standing m g _ _ (w.receive g bs i.0 i.1)
+    some_expr m g (p.if_expression bs) f h = let i = some_branches g bs f h in standing m g _ _ (w.if_expression g bs i.0 i.1)
+    some_expr m g (p.receive bs) f h = let i = some_branches g bs f h in standing m g _ _ (w.receive g bs i.0 i.1)
 
-    some_written_expressions : (g : Scope) (es : WrittenExpressions) → WrittenExpressionsFormed false es → written_expressions_faults n g es ≡ [] → (xs : Trees) × WrittenExpressionsAre n g es xs
-    some_written_expressions g no_written_expressions f h = (no_trees, w.no_more g)
-    some_written_expressions g (written_expression e es) f h =
-        let i = some_written_expression false g e f.0 (left_empty (written_expression_faults n g e) _ h) in
-        let j = some_written_expressions (after g e) es f.1 (right_empty (written_expression_faults n g e) _ h) in
+    some_exprs : (g : Scope) (es : Exprs) → ExprsFormed false es → exprs_faults n g es ≡ [] → (xs : Trees) × ExprsAre n g es xs
+    some_exprs g no_exprs f h = (no_trees, w.no_more g)
+    some_exprs g (expr e es) f h =
+        let i = some_expr false g e f.0 (left_empty (expr_faults n g e) _ h) in
+        let j = some_exprs (after g e) es f.1 (right_empty (expr_faults n g e) _ h) in
         (tree i.0 j.0, w.and_more g e es i.0 j.0 i.1 j.1)
 
-    some_body : (g : Scope) (es : WrittenExpressions) → HasFirst es → WrittenExpressionsFormed true es → written_expressions_faults n g es ≡ [] → (x : Tree) × BodyIs n g es x
-    some_body g no_written_expressions first f h = absurd first
-    some_body g (written_expression e no_written_expressions) first f h =
-        let i = some_written_expression true g e f.0 (left_empty (written_expression_faults n g e) _ h) in (ending i.0 i.1, w.last g e i.0 i.1 i.2)
-    some_body g (written_expression e (written_expression d es)) first f h =
-        let i = some_written_expression true g e f.0 (left_empty (written_expression_faults n g e) _ h) in
-        let j = some_body (after g e) (written_expression d es) tt f.1 (right_empty (written_expression_faults n g e) _ h) in
-        (t.bind i.0 i.1 j.0, w.before g e (written_expression d es) i.0 i.1 j.0 i.2 j.1)
+    some_body : (g : Scope) (es : Exprs) → HasFirst es → ExprsFormed true es → exprs_faults n g es ≡ [] → (x : Tree) × BodyIs n g es x
+    some_body g no_exprs first f h = absurd first
+    some_body g (expr e no_exprs) first f h =
+        let i = some_expr true g e f.0 (left_empty (expr_faults n g e) _ h) in (ending i.0 i.1, w.last g e i.0 i.1 i.2)
+    some_body g (expr e (expr d es)) first f h =
+        let i = some_expr true g e f.0 (left_empty (expr_faults n g e) _ h) in
+        let j = some_body (after g e) (expr d es) tt f.1 (right_empty (expr_faults n g e) _ h) in
+        (t.bind i.0 i.1 j.0, w.before g e (expr d es) i.0 i.1 j.0 i.2 j.1)
 
     some_guard : (g : Scope) (c : Condition) → ConditionFormed c → condition_faults n g c ≡ [] → (d : Guard) × GuardIs n g c d
     some_guard g no_tests f h = (no_alternatives, w.no_more_tests g)
     some_guard g (tests es c) f h =
-        let i = some_written_expressions g es f.0 (left_empty (written_expressions_faults n g es) _ h) in
-        let j = some_guard g c f.1 (right_empty (written_expressions_faults n g es) _ h) in
+        let i = some_exprs g es f.0 (left_empty (exprs_faults n g es) _ h) in
+        let j = some_guard g c f.1 (right_empty (exprs_faults n g es) _ h) in
         (alternative i.0 j.0, w.or_tests g es c i.0 j.0 i.1 j.1)
 
     some_branches : (g : Scope) (bs : Branches) → BranchesFormed bs → branches_faults n g bs ≡ [] → (cs : Clauses) × BranchesAre n g bs cs
     some_branches g no_branches f h = (no_clauses, w.no_more_branches g)
     some_branches g (branch q c es bs) f h =
-        let seen = after_written_pattern g q in
-        let here = written_pattern_faults g q ++ condition_faults n seen c ++ written_expressions_faults n seen es in
-        let parts = all_three_empty (written_pattern_faults g q) (condition_faults n seen c) (written_expressions_faults n seen es) (left_empty here (branches_faults n g bs) h) in
-        let y = some_written_pattern g q parts.0 in
+        let seen = after_expr_pattern g q in
+        let here = expr_pattern_faults g q ++ condition_faults n seen c ++ exprs_faults n seen es in
+        let parts = all_three_empty (expr_pattern_faults g q) (condition_faults n seen c) (exprs_faults n seen es) (left_empty here (branches_faults n g bs) h) in
+        let y = some_expr_pattern g q parts.0 in
         let d = some_guard seen c f.2 parts.1 in
         let x = some_body seen es f.3 f.4 parts.2 in
         let cs = some_branches g bs f.5 (right_empty here (branches_faults n g bs) h) in
@@ -205,9 +205,9 @@ module _ (n : Names) where
 
   some_head : (h : Head) → HeadFormed h → head_faults n h ≡ [] → (c : FunctionClause) × HeadIs n h c
   some_head h f none =
-      let seen = after_written_patterns no_scope h.parameters in
-      let parts = all_three_empty (written_patterns_faults no_scope h.parameters) (condition_faults n seen h.condition) (written_expressions_faults n seen h.body) none in
-      let ys = some_written_patterns no_scope h.parameters parts.0 in
+      let seen = after_expr_patterns no_scope h.parameters in
+      let parts = all_three_empty (expr_patterns_faults no_scope h.parameters) (condition_faults n seen h.condition) (exprs_faults n seen h.body) none in
+      let ys = some_expr_patterns no_scope h.parameters parts.0 in
       let d = some_guard seen h.condition f.2 parts.1 in
       let x = some_body seen h.body f.3 f.4 parts.2 in
       (record { parameters = ys.0; guard = d.0; body = x.0 }, record { parameters = ys.1; guard = d.1; body = x.1 })

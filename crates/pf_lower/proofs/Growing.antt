@@ -1,8 +1,8 @@
 -- A module that grows: what was built stays what it is.
 use Rattle.std.proofs.Common.{◌≡◌, ℕ, List, refl, sym, ◌∙◌, subst}
-use Rattle.pf_syntax.specs.Source.{Head}
-use Rattle.pf_syntax.specs.WrittenPattern.{WrittenPattern, WrittenPatterns}
-use Rattle.pf_syntax.specs.WrittenExpression.{WrittenExpression, WrittenExpressions, Condition}
+use Rattle.pf_syntax.specs.SyntaxTree.{Head}
+use Rattle.pf_syntax.specs.ExprPattern.{ExprPattern, ExprPatterns}
+use Rattle.pf_syntax.specs.Expr.{Expr, Exprs, Condition}
 use Rattle.pf_syntax.specs.Pattern.{Pattern}
 use Rattle.pf_syntax.specs.Tree.{Tree}
 use Rattle.pf_syntax.specs.Naming.{Names}
@@ -11,7 +11,7 @@ use Rattle.pf_syntax.specs.Over.{with_pattern, with_tree, with_tables}
 use Rattle.pf_syntax.proofs.Extends.{extends_itself, extends_on, extends_pattern, extends_tree, part_kept, part_stands, parts_kept, all_parts_stand, pattern_stands, patterns_kept, all_patterns_stand, guard_kept, guard_stands}
 use Rattle.pf_syntax.specs.declared.node.PatternId.{PatternId}
 use Rattle.pf_syntax.specs.declared.node.PatternNode.{PatternNode}
-use Rattle.pf_syntax.specs.declared.node.Part.{Part}
+use Rattle.pf_syntax.specs.declared.node.Operand.{Operand}
 use Rattle.pf_syntax.specs.declared.node.Node.{Node}
 use Rattle.pf_syntax.specs.declared.node.Guard.{Guard}
 use Rattle.pf_rules.specs.Static.{names_of}
@@ -19,7 +19,7 @@ use Rattle.pf_lower.specs.Grown.{Grown}
 use Rattle.std.specs.Prelude.{Result, Ok, Err, IfOk}
 use Rattle.pf_lower.specs.Bound.{bound_by}
 use Rattle.pf_lower.specs.Grown.{PatternPut, PartPut}
-use Rattle.pf_lower.specs.Built.{Lowers, WrittenPatternBecomes, WrittenPatternsBecome, WrittenExpressionBecomes, WrittenExpressionsBecome, GuardBecomes, WrittenPatternMeans, WrittenPatternsMean, WrittenExpressionMeans, WrittenExpressionsMean, GuardMeans}
+use Rattle.pf_lower.specs.Built.{Lowers, ExprPatternBecomes, ExprPatternsBecome, ExprBecomes, ExprsBecome, GuardBecomes, ExprPatternMeans, ExprPatternsMean, ExprMeans, ExprsMean, GuardMeans}
 
 pub grown_itself : (m : Checked) → Grown m m
 grown_itself m = record { name = refl; atoms = refl; functions = refl; tables = extends_itself m.tables }
@@ -43,28 +43,28 @@ pub becomes_on : {X : Type 0} (B : Names → X → Type 0) (fs : List (List Head
 becomes_on B fs t u x y e d h = subst (λ (a : List (List ℕ)). B (names_of a fs) y) (sym e.atoms) (subst (B (names_of t.atoms fs)) (sym d) h)
 
 module _ (fs : List (List Head)) (t u : Checked) (e : Grown t u) (names : List ℕ) where
-  pub written_pattern_means_on : (q : WrittenPattern) (y : PatternId) → WrittenPatternMeans fs t names q y → WrittenPatternMeans fs u names q y
-  written_pattern_means_on q y h = record {
+  pub expr_pattern_means_on : (q : ExprPattern) (y : PatternId) → ExprPatternMeans fs t names q y → ExprPatternMeans fs u names q y
+  expr_pattern_means_on q y h = record {
     stands = pattern_stands t.tables u.tables e.tables y h.stands;
-    means = becomes_on (λ n z. WrittenPatternBecomes n names q z) fs t u _ _ e (e.tables.patterns y.0 h.stands) h.means;
+    means = becomes_on (λ n z. ExprPatternBecomes n names q z) fs t u _ _ e (e.tables.patterns y.0 h.stands) h.means;
   }
 
-  pub written_patterns_mean_on : (qs : WrittenPatterns) (ys : List PatternId) → WrittenPatternsMean fs t names qs ys → WrittenPatternsMean fs u names qs ys
-  written_patterns_mean_on qs ys h = record {
+  pub expr_patterns_mean_on : (qs : ExprPatterns) (ys : List PatternId) → ExprPatternsMean fs t names qs ys → ExprPatternsMean fs u names qs ys
+  expr_patterns_mean_on qs ys h = record {
     stands = all_patterns_stand t.tables u.tables e.tables ys h.stands;
-    means = becomes_on (λ n z. WrittenPatternsBecome n names qs z) fs t u _ _ e (patterns_kept t.tables u.tables e.tables ys h.stands) h.means;
+    means = becomes_on (λ n z. ExprPatternsBecome n names qs z) fs t u _ _ e (patterns_kept t.tables u.tables e.tables ys h.stands) h.means;
   }
 
-  pub written_expression_means_on : (x : WrittenExpression) (y : Part) → WrittenExpressionMeans fs t names x y → WrittenExpressionMeans fs u names x y
-  written_expression_means_on x y h = record {
+  pub expr_means_on : (x : Expr) (y : Operand) → ExprMeans fs t names x y → ExprMeans fs u names x y
+  expr_means_on x y h = record {
     stands = part_stands t.tables u.tables e.tables y h.stands;
-    means = becomes_on (λ n z. WrittenExpressionBecomes n names x z) fs t u _ _ e (part_kept t.tables u.tables e.tables y h.stands) h.means;
+    means = becomes_on (λ n z. ExprBecomes n names x z) fs t u _ _ e (part_kept t.tables u.tables e.tables y h.stands) h.means;
   }
 
-  pub written_expressions_mean_on : (xs : WrittenExpressions) (ys : List Part) → WrittenExpressionsMean fs t names xs ys → WrittenExpressionsMean fs u names xs ys
-  written_expressions_mean_on xs ys h = record {
+  pub exprs_mean_on : (xs : Exprs) (ys : List Operand) → ExprsMean fs t names xs ys → ExprsMean fs u names xs ys
+  exprs_mean_on xs ys h = record {
     stands = all_parts_stand t.tables u.tables e.tables ys h.stands;
-    means = becomes_on (λ n z. WrittenExpressionsBecome n names xs z) fs t u _ _ e (parts_kept t.tables u.tables e.tables ys h.stands) h.means;
+    means = becomes_on (λ n z. ExprsBecome n names xs z) fs t u _ _ e (parts_kept t.tables u.tables e.tables ys h.stands) h.means;
   }
 
   pub guard_means_on : (c : Condition) (d : Guard) → GuardMeans fs t names c d → GuardMeans fs u names c d
@@ -79,31 +79,31 @@ by_ok (Ok x) P Q h w = w x h
 by_ok (Err e) P Q h w = h
 
 -- a pattern that was put last is the whole answer
-pub written_pattern_put : (fs : List (List Head)) (m0 m1 m2 : Checked) (b names : List ℕ) (q q' : WrittenPattern) (y : Pattern) (p : PatternId)
+pub expr_pattern_put : (fs : List (List Head)) (m0 m1 m2 : Checked) (b names : List ℕ) (q q' : ExprPattern) (y : Pattern) (p : PatternId)
     → q' ≡ q → b ≡ bound_by names q' → Grown m0 m1
-    → WrittenPatternBecomes (names_of m1.atoms fs) names q' y
-    → PatternPut m1 m2 y p → Lowers m0 m2 b (bound_by names q) (λ t. WrittenPatternMeans fs t names q p)
-written_pattern_put fs m0 m1 m2 b names q q' y p same bound grown means put = subst (λ s. Lowers m0 m2 b (bound_by names s) (λ t. WrittenPatternMeans fs t names s p)) same
+    → ExprPatternBecomes (names_of m1.atoms fs) names q' y
+    → PatternPut m1 m2 y p → Lowers m0 m2 b (bound_by names q) (λ t. ExprPatternMeans fs t names q p)
+expr_pattern_put fs m0 m1 m2 b names q q' y p same bound grown means put = subst (λ s. Lowers m0 m2 b (bound_by names s) (λ t. ExprPatternMeans fs t names s p)) same
     (record {
       grown = grown_on m0 m1 m2 grown put.grown;
       bound_is = bound;
       answer = record {
         stands = put.stands;
-        means = becomes_on (λ n z. WrittenPatternBecomes n names q' z) fs m1 m2 _ _ put.grown put.is means;
+        means = becomes_on (λ n z. ExprPatternBecomes n names q' z) fs m1 m2 _ _ put.grown put.is means;
       };
     })
 
 -- a part that was put last is the whole answer
-pub written_expression_put : (fs : List (List Head)) (m0 m1 m2 : Checked) (b names : List ℕ) (e e' : WrittenExpression) (y : Tree) (x : Part)
+pub expr_put : (fs : List (List Head)) (m0 m1 m2 : Checked) (b names : List ℕ) (e e' : Expr) (y : Tree) (x : Operand)
     → e' ≡ e → b ≡ names → Grown m0 m1
-    → WrittenExpressionBecomes (names_of m1.atoms fs) names e' y
-    → PartPut m1 m2 y x → Lowers m0 m2 b names (λ t. WrittenExpressionMeans fs t names e x)
-written_expression_put fs m0 m1 m2 b names e e' y x same bound grown means put = subst (λ s. Lowers m0 m2 b names (λ t. WrittenExpressionMeans fs t names s x)) same
+    → ExprBecomes (names_of m1.atoms fs) names e' y
+    → PartPut m1 m2 y x → Lowers m0 m2 b names (λ t. ExprMeans fs t names e x)
+expr_put fs m0 m1 m2 b names e e' y x same bound grown means put = subst (λ s. Lowers m0 m2 b names (λ t. ExprMeans fs t names s x)) same
     (record {
       grown = grown_on m0 m1 m2 grown put.grown;
       bound_is = bound;
       answer = record {
         stands = put.stands;
-        means = becomes_on (λ n z. WrittenExpressionBecomes n names e' z) fs m1 m2 _ _ put.grown put.is means;
+        means = becomes_on (λ n z. ExprBecomes n names e' z) fs m1 m2 _ _ put.grown put.is means;
       };
     })

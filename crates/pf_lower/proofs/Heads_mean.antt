@@ -4,47 +4,47 @@ use Rattle.std.specs.Prelude.{fold, map, flat_map}
 use Rattle.std.specs.List.{All}
 use Rattle.std.proofs.lemmas.List.{take_all}
 use Rattle.std.proofs.lemmas.List.Elements.{All-nil, All-cons, All-head, All-tail}
-use Rattle.pf_syntax.specs.Source.{NodeTable, Head, Export}
-use Rattle.pf_syntax.specs.SourceOver.{written_patterns_at, written_expressions_at, condition_over, head_over}
-use Rattle.pf_syntax.specs.Scope.{no_scope, after_written_patterns}
-use Rattle.pf_syntax.specs.Naming.{Names, WrittenPatternsAre, GuardIs, BodyIs, HeadIs}
+use Rattle.pf_syntax.specs.SyntaxTree.{NodeTable, Head, Export}
+use Rattle.pf_syntax.specs.SyntaxTreeOver.{expr_patterns_at, exprs_at, condition_over, head_over}
+use Rattle.pf_syntax.specs.Scope.{no_scope, after_expr_patterns}
+use Rattle.pf_syntax.specs.Naming.{Names, ExprPatternsAre, GuardIs, BodyIs, HeadIs}
 use Rattle.pf_syntax.specs.Tree.{Function as Made}
 use Rattle.pf_syntax.specs.Module.{Checked}
 use Rattle.pf_syntax.specs.Over.{patterns_at, guard_over, part_over, function_clause_over}
-use Rattle.pf_syntax.specs.Within.{FunctionClauseStands, GuardStands, PartStands}
+use Rattle.pf_syntax.specs.Within.{FunctionClauseRepresents, GuardRepresents, OperandRepresents}
 use Rattle.pf_syntax.proofs.Extends.{patterns_kept, all_patterns_stand, guard_kept, guard_stands, part_kept, part_stands}
 use Rattle.pf_syntax.specs.declared.node.PatternId.{PatternId}
-use Rattle.pf_syntax.specs.declared.node.Part.{Part}
+use Rattle.pf_syntax.specs.declared.node.Operand.{Operand}
 use Rattle.pf_syntax.specs.declared.node.Guard.{Guard}
 use Rattle.pf_syntax.specs.declared.node.FunctionClause.{FunctionClause}
 use Rattle.pf_syntax.specs.declared.node.Function.{Function}
-use Rattle.pf_syntax.specs.declared.written.Head.{Head as HeadNode}
-use Rattle.pf_rules.specs.Static.{names_of, written_patterns_faults, condition_faults, written_expressions_faults, head_faults, parameters_of}
+use Rattle.pf_syntax.specs.declared.expr.Head.{Head as HeadNode}
+use Rattle.pf_rules.specs.Static.{names_of, expr_patterns_faults, condition_faults, exprs_faults, head_faults, parameters_of}
 use Rattle.pf_rules.specs.Formed.{HeadFormed, FunctionFormed, AreFormed}
 use Rattle.pf_lower.specs.Bound.{all_bound_by, all_bound_after}
 use Rattle.pf_rules.specs.Checks.{Pairwise, FunctionIs, is_exported}
 use Rattle.pf_lower.specs.Grown.{Grown}
-use Rattle.pf_lower.specs.Built.{Lowers, WrittenPatternsMean, GuardMeans, BodyMeans}
+use Rattle.pf_lower.specs.Built.{Lowers, ExprPatternsMean, GuardMeans, BodyMeans}
 use Rattle.pf_lower.specs.Heads.{HeadMeans, HeadsMean, FunctionMeans}
-use Rattle.pf_lower.proofs.Growing.{grown_on, becomes_on, written_patterns_mean_on, guard_means_on}
+use Rattle.pf_lower.proofs.Growing.{grown_on, becomes_on, expr_patterns_mean_on, guard_means_on}
 use Rattle.pf_lower.proofs.Threads.{Threaded, SoFar}
-use Rattle.pf_lower.proofs.WrittenPatterns_mean.{left_empty, right_empty, written_patterns_bound}
+use Rattle.pf_lower.proofs.ExprPatterns_mean.{left_empty, right_empty, expr_patterns_bound}
 
 module _ (fs : List (List Head)) (b : NodeTable) where
-  pub clause_done : (m0 m1 m2 m3 : Checked) (b1 b2 b3 b4 names : List ℕ) (h : HeadNode) (ys : List PatternId) (d : Guard) (x : Part) (c : FunctionClause)
+  pub clause_done : (m0 m1 m2 m3 : Checked) (b1 b2 b3 b4 names : List ℕ) (h : HeadNode) (ys : List PatternId) (d : Guard) (x : Operand) (c : FunctionClause)
       → names ≡ [] → c.parameters.items ≡ ys → c.guard ≡ d → c.body ≡ x
-      → Lowers m0 m1 b1 (all_bound_by names (written_patterns_at b h.parameters.items)) (λ t. WrittenPatternsMean fs t names (written_patterns_at b h.parameters.items) ys)
+      → Lowers m0 m1 b1 (all_bound_by names (expr_patterns_at b h.parameters.items)) (λ t. ExprPatternsMean fs t names (expr_patterns_at b h.parameters.items) ys)
       → Lowers m1 m2 b2 b1 (λ t. GuardMeans fs t b1 (condition_over b h.condition) d)
-      → Lowers m2 m3 b3 (all_bound_after b2 (written_expressions_at b h.body.items)) (λ t. BodyMeans fs t b2 (written_expressions_at b h.body.items) x)
+      → Lowers m2 m3 b3 (all_bound_after b2 (exprs_at b h.body.items)) (λ t. BodyMeans fs t b2 (exprs_at b h.body.items) x)
       → b4 ≡ [] → Lowers m0 m3 b4 [] (λ t. HeadMeans fs t (head_over b h) c)
   clause_done m0 m1 m2 m3 b1 b2 b3 b4 names h ys d x c none cys cd cx p1 p2 p3 cut =
       let n = names_of m3.atoms fs in
-      let qs = written_patterns_at b h.parameters.items in
+      let qs = expr_patterns_at b h.parameters.items in
       let c1 = condition_over b h.condition in
-      let es = written_expressions_at b h.body.items in
-      let s = after_written_patterns no_scope qs in
+      let es = exprs_at b h.body.items in
+      let s = after_expr_patterns no_scope qs in
       let on13 = grown_on m1 m2 m3 p2.grown p3.grown in
-      let asked = written_patterns_mean_on fs m1 m3 on13 names qs ys p1.answer in
+      let asked = expr_patterns_mean_on fs m1 m3 on13 names qs ys p1.answer in
       let guarded = guard_means_on fs m2 m3 p3.grown b1 c1 d p2.answer in
       let at2 : b2 ≡ all_bound_by names qs = p2.bound_is ∙ p1.bound_is in
       record {
@@ -53,17 +53,17 @@ module _ (fs : List (List Head)) (b : NodeTable) where
         answer = record {
           stands = (
             subst (λ l. All (λ q. q.0 < length m3.tables.patterns) l) (sym cys) asked.stands,
-            subst (λ g. GuardStands m3.tables g) (sym cd) guarded.stands,
-            subst (λ y. PartStands m3.tables y) (sym cx) p3.answer.stands,
+            subst (λ g. GuardRepresents m3.tables g) (sym cd) guarded.stands,
+            subst (λ y. OperandRepresents m3.tables y) (sym cx) p3.answer.stands,
           );
           means = λ f k.
-              let two : written_patterns_faults no_scope qs ++ condition_faults n s c1 ≡ [] = left_empty _ (written_expressions_faults n s es) k in
-              let in_body : written_expressions_faults n s es ≡ [] = right_empty (written_patterns_faults no_scope qs ++ condition_faults n s c1) _ k in
-              let here : written_patterns_faults no_scope qs ≡ [] = left_empty (written_patterns_faults no_scope qs) _ two in
-              let in_guard : condition_faults n s c1 ≡ [] = right_empty (written_patterns_faults no_scope qs) _ two in
-              let seen : s.bound ≡ all_bound_by names qs = written_patterns_bound no_scope qs here ∙ ap (λ l. all_bound_by l qs) (sym none) in
+              let two : expr_patterns_faults no_scope qs ++ condition_faults n s c1 ≡ [] = left_empty _ (exprs_faults n s es) k in
+              let in_body : exprs_faults n s es ≡ [] = right_empty (expr_patterns_faults no_scope qs ++ condition_faults n s c1) _ k in
+              let here : expr_patterns_faults no_scope qs ≡ [] = left_empty (expr_patterns_faults no_scope qs) _ two in
+              let in_guard : condition_faults n s c1 ≡ [] = right_empty (expr_patterns_faults no_scope qs) _ two in
+              let seen : s.bound ≡ all_bound_by names qs = expr_patterns_bound no_scope qs here ∙ ap (λ l. all_bound_by l qs) (sym none) in
               record {
-                parameters = subst (λ l. WrittenPatternsAre n no_scope qs (patterns_at m3.tables l)) (sym cys) (asked.means no_scope (sym none) f.0 here);
+                parameters = subst (λ l. ExprPatternsAre n no_scope qs (patterns_at m3.tables l)) (sym cys) (asked.means no_scope (sym none) f.0 here);
                 guard = subst (λ g. GuardIs n s c1 (guard_over m3.tables g)) (sym cd) (guarded.means s (seen ∙ sym p1.bound_is) f.1 f.2 in_guard);
                 body = subst (λ y. BodyIs n s es (part_over m3.tables y)) (sym cx) (p3.answer.means s (seen ∙ sym at2) f.3 f.4 in_body);
               };
@@ -92,12 +92,12 @@ module _ (fs : List (List Head)) (b : NodeTable) where
       }
 
   heads_mean : (t : Checked) (names : List ℕ) (hs : List HeadNode) (cs : List FunctionClause) → Threaded next_head (EachHead t) names hs cs → HeadsMean fs t (map (head_over b) hs) cs
-  heads_mean t names [] [] h = record { stands = All-nil (FunctionClauseStands t.tables); means = λ f k. tt }
+  heads_mean t names [] [] h = record { stands = All-nil (FunctionClauseRepresents t.tables); means = λ f k. tt }
   heads_mean t names (x ∷ hs) (c ∷ cs) h =
       let n = names_of t.atoms fs in
       let rest = heads_mean t [] hs cs h.1 in
       record {
-        stands = All-cons (FunctionClauseStands t.tables) c cs h.0.stands rest.stands;
+        stands = All-cons (FunctionClauseRepresents t.tables) c cs h.0.stands rest.stands;
         means = λ f k. (
           h.0.means (All-head HeadFormed (head_over b x) (map (head_over b) hs) f) (left_empty (head_faults n (head_over b x)) _ k),
           rest.means (All-tail HeadFormed (head_over b x) (map (head_over b) hs) f) (right_empty (head_faults n (head_over b x)) _ k),

@@ -6,10 +6,10 @@ use Rattle.std.specs.Ordering.{is_eq}
 use Rattle.std.proofs.lemmas.List.{take_more}
 use Rattle.std.proofs.lemmas.Iterator.Adapters.{position_from-zero}
 use Rattle.std.proofs.lemmas.Bool.Decides.{nat_tests}
-use Rattle.pf_syntax.specs.Source.{NodeTable, Head}
-use Rattle.pf_syntax.specs.SourceOver.{head_over, heads_over}
-use Rattle.pf_syntax.specs.declared.written.Head.{Head as HeadNode}
-use Rattle.pf_syntax.specs.declared.written.WrittenFunction.{WrittenFunction}
+use Rattle.pf_syntax.specs.SyntaxTree.{NodeTable, Head}
+use Rattle.pf_syntax.specs.SyntaxTreeOver.{head_over, heads_over}
+use Rattle.pf_syntax.specs.declared.expr.Head.{Head as HeadNode}
+use Rattle.pf_syntax.specs.declared.expr.ExprFunction.{ExprFunction}
 use Rattle.pf_rules.specs.Static.{own_in, is_named}
 use Rattle.pf_lower.specs.Knows.{key_order, same_key}
 use Rattle.pf_lower.specs.Heads.{first_of}
@@ -67,14 +67,14 @@ length-taken [] (suc k) h = absurd (omega arith)
 length-taken (x ∷ xs) (suc k) h = let e = length-taken xs k (omega arith) in omega arith
 
 -- the functions so far, and the next one
-pub next_function : (b : NodeTable) (ws : List WrittenFunction) (fs : List (List Head)) (k : ℕ) (x : WrittenFunction) → map (heads_over b) ws ≡ fs → k < length ws → x ≡ get_or ws k x
+pub next_function : (b : NodeTable) (ws : List ExprFunction) (fs : List (List Head)) (k : ℕ) (x : ExprFunction) → map (heads_over b) ws ≡ fs → k < length ws → x ≡ get_or ws k x
     → take (k + 1) fs ≡ take k fs ++ heads_over b x ∷ []
 next_function b ws fs k x e lt at =
     let more = take_more (map (heads_over b) ws) k (heads_over b x) (omega (arith, length_mapped (heads_over b) ws)) in
     let item = get_or-map (heads_over b) ws k x in
     ap (take (k + 1)) (sym e) ∙ more ∙ ap (λ y. take k (map (heads_over b) ws) ++ y ∷ []) (item ∙ ap (heads_over b) (sym at)) ∙ ap (λ l. take k l ++ heads_over b x ∷ []) e
 
-pub knows_more : (b : NodeTable) (ws : List WrittenFunction) (fs : List (List Head)) (k : ℕ) (x : WrittenFunction) (f a : ℕ) (old new : Option ℕ) → map (heads_over b) ws ≡ fs → k < length ws → x ≡ get_or ws k x
+pub knows_more : (b : NodeTable) (ws : List ExprFunction) (fs : List (List Head)) (k : ℕ) (x : ExprFunction) (f a : ℕ) (old new : Option ℕ) → map (heads_over b) ws ≡ fs → k < length ws → x ≡ get_or ws k x
     → old ≡ own_in (take k fs) f a → new ≡ first_of old (if is_named f a (heads_over b x) then Some k else None) → new ≡ own_in (take (k + 1) fs) f a
 knows_more b ws fs k x f a old new e lt at h n =
     let long : length (take k fs) ≡ k = length-taken fs k (omega (arith, ap length e, length_mapped (heads_over b) ws)) in

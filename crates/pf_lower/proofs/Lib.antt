@@ -1,10 +1,10 @@
 pub mod Exists
-pub mod Places_of
+pub mod Slots_of
 pub mod Growing
 pub mod Threads
-pub mod WrittenPatterns_mean
+pub mod ExprPatterns_mean
 pub mod Lists_put
-pub mod WrittenExpressions_mean
+pub mod Exprs_mean
 pub mod Bodies_mean
 pub mod Knows_more
 pub mod Heads_mean

@@ -1,45 +1,45 @@
 -- What the parts that were built are: where no static rule is broken, what the names become.
 use Rattle.std.specs.Prelude.{◌≡◌, ℕ, List, [], false, true}
 use Rattle.std.specs.List.{All}
-use Rattle.pf_syntax.specs.WrittenPattern.{WrittenPattern, WrittenPatterns}
-use Rattle.pf_syntax.specs.WrittenExpression.{WrittenExpression, WrittenExpressions, Condition, Branches}
-use Rattle.pf_syntax.specs.Source.{Head}
+use Rattle.pf_syntax.specs.ExprPattern.{ExprPattern, ExprPatterns}
+use Rattle.pf_syntax.specs.Expr.{Expr, Exprs, Condition, Branches}
+use Rattle.pf_syntax.specs.SyntaxTree.{Head}
 use Rattle.pf_syntax.specs.Scope.{Scope}
-use Rattle.pf_syntax.specs.Naming.{Names, WrittenPatternIs, WrittenPatternsAre, WrittenExpressionIs, WrittenExpressionsAre, ElementIs, BodyIs, GuardIs, BranchesAre}
+use Rattle.pf_syntax.specs.Naming.{Names, ExprPatternIs, ExprPatternsAre, ExprIs, ExprsAre, ElementIs, BodyIs, GuardIs, BranchesAre}
 use Rattle.pf_syntax.specs.Pattern.{Pattern, Patterns}
 use Rattle.pf_syntax.specs.Tree.{Tree, Trees, Clauses}
 use Rattle.pf_syntax.specs.Tree.{Guard as GuardTree}
 use Rattle.pf_syntax.specs.Module.{Checked, pattern_at}
 use Rattle.pf_syntax.specs.Over.{patterns_at, part_over, parts_over, guard_over, clauses_over}
-use Rattle.pf_syntax.specs.Within.{PatternStands, PartStands, GuardStands, ClauseStands}
+use Rattle.pf_syntax.specs.Within.{PatternRepresents, OperandRepresents, GuardRepresents, ClauseRepresents}
 use Rattle.pf_syntax.specs.declared.node.PatternId.{PatternId}
-use Rattle.pf_syntax.specs.declared.node.Part.{Part}
+use Rattle.pf_syntax.specs.declared.node.Operand.{Operand}
 use Rattle.pf_syntax.specs.declared.node.Guard.{Guard}
 use Rattle.pf_syntax.specs.declared.node.Clause.{Clause}
-use Rattle.pf_rules.specs.Static.{names_of, written_pattern_faults, written_patterns_faults, written_expression_faults, written_expressions_faults, condition_faults, branches_faults}
-use Rattle.pf_rules.specs.Formed.{WrittenPatternFormed, WrittenPatternsFormed, WrittenExpressionFormed, WrittenExpressionsFormed, ConditionFormed, BranchesFormed, HasFirst, HasAlternative}
+use Rattle.pf_rules.specs.Static.{names_of, expr_pattern_faults, expr_patterns_faults, expr_faults, exprs_faults, condition_faults, branches_faults}
+use Rattle.pf_rules.specs.Formed.{ExprPatternFormed, ExprPatternsFormed, ExprFormed, ExprsFormed, ConditionFormed, BranchesFormed, HasFirst, HasAlternative}
 use Rattle.pf_lower.specs.Grown.{Grown}
 
 -- ---- what each of them becomes, where these names are bound: where it has no fault, what the names say
 
 module _ (n : Names) (names : List ℕ) where
-  abbrev pub WrittenPatternBecomes : WrittenPattern → Pattern → Type 0
-  WrittenPatternBecomes q y = (g : Scope) → g.bound ≡ names → WrittenPatternFormed q → written_pattern_faults g q ≡ [] → WrittenPatternIs n g q y
+  abbrev pub ExprPatternBecomes : ExprPattern → Pattern → Type 0
+  ExprPatternBecomes q y = (g : Scope) → g.bound ≡ names → ExprPatternFormed q → expr_pattern_faults g q ≡ [] → ExprPatternIs n g q y
 
-  abbrev pub WrittenPatternsBecome : WrittenPatterns → Patterns → Type 0
-  WrittenPatternsBecome qs ys = (g : Scope) → g.bound ≡ names → WrittenPatternsFormed qs → written_patterns_faults g qs ≡ [] → WrittenPatternsAre n g qs ys
+  abbrev pub ExprPatternsBecome : ExprPatterns → Patterns → Type 0
+  ExprPatternsBecome qs ys = (g : Scope) → g.bound ≡ names → ExprPatternsFormed qs → expr_patterns_faults g qs ≡ [] → ExprPatternsAre n g qs ys
 
-  abbrev pub WrittenExpressionBecomes : WrittenExpression → Tree → Type 0
-  WrittenExpressionBecomes e x = (g : Scope) → g.bound ≡ names → WrittenExpressionFormed false e → written_expression_faults n g e ≡ [] → WrittenExpressionIs n g e x
+  abbrev pub ExprBecomes : Expr → Tree → Type 0
+  ExprBecomes e x = (g : Scope) → g.bound ≡ names → ExprFormed false e → expr_faults n g e ≡ [] → ExprIs n g e x
 
-  abbrev pub WrittenExpressionsBecome : WrittenExpressions → Trees → Type 0
-  WrittenExpressionsBecome es xs = (g : Scope) → g.bound ≡ names → WrittenExpressionsFormed false es → written_expressions_faults n g es ≡ [] → WrittenExpressionsAre n g es xs
+  abbrev pub ExprsBecome : Exprs → Trees → Type 0
+  ExprsBecome es xs = (g : Scope) → g.bound ≡ names → ExprsFormed false es → exprs_faults n g es ≡ [] → ExprsAre n g es xs
 
-  abbrev pub ElementBecomes : WrittenExpression → Patterns → Tree → Type 0
-  ElementBecomes e ys x = (g : Scope) → g.bound ≡ names → WrittenExpressionFormed true e → written_expression_faults n g e ≡ [] → ElementIs n g e ys x
+  abbrev pub ElementBecomes : Expr → Patterns → Tree → Type 0
+  ElementBecomes e ys x = (g : Scope) → g.bound ≡ names → ExprFormed true e → expr_faults n g e ≡ [] → ElementIs n g e ys x
 
-  abbrev pub BodyBecomes : WrittenExpressions → Tree → Type 0
-  BodyBecomes es x = (g : Scope) → g.bound ≡ names → HasFirst es → WrittenExpressionsFormed true es → written_expressions_faults n g es ≡ [] → BodyIs n g es x
+  abbrev pub BodyBecomes : Exprs → Tree → Type 0
+  BodyBecomes es x = (g : Scope) → g.bound ≡ names → HasFirst es → ExprsFormed true es → exprs_faults n g es ≡ [] → BodyIs n g es x
 
   abbrev pub GuardBecomes : Condition → GuardTree → Type 0
   GuardBecomes c d = (g : Scope) → g.bound ≡ names → HasAlternative c → ConditionFormed c → condition_faults n g c ≡ [] → GuardIs n g c d
@@ -50,37 +50,37 @@ module _ (n : Names) (names : List ℕ) where
 -- ---- each of them in a module, whose atoms name the built-in functions
 
 module _ (fs : List (List Head)) (m : Checked) (names : List ℕ) where
-  pub record WrittenPatternMeans (q : WrittenPattern) (y : PatternId) : Type 0 where
-    pub stands : PatternStands m.tables y
-    pub means : WrittenPatternBecomes (names_of m.atoms fs) names q (pattern_at m.tables y.0)
+  pub record ExprPatternMeans (q : ExprPattern) (y : PatternId) : Type 0 where
+    pub stands : PatternRepresents m.tables y
+    pub means : ExprPatternBecomes (names_of m.atoms fs) names q (pattern_at m.tables y.0)
 
-  pub record WrittenPatternsMean (qs : WrittenPatterns) (ys : List PatternId) : Type 0 where
-    pub stands : All (PatternStands m.tables) ys
-    pub means : WrittenPatternsBecome (names_of m.atoms fs) names qs (patterns_at m.tables ys)
+  pub record ExprPatternsMean (qs : ExprPatterns) (ys : List PatternId) : Type 0 where
+    pub stands : All (PatternRepresents m.tables) ys
+    pub means : ExprPatternsBecome (names_of m.atoms fs) names qs (patterns_at m.tables ys)
 
-  pub record WrittenExpressionMeans (e : WrittenExpression) (x : Part) : Type 0 where
-    pub stands : PartStands m.tables x
-    pub means : WrittenExpressionBecomes (names_of m.atoms fs) names e (part_over m.tables x)
+  pub record ExprMeans (e : Expr) (x : Operand) : Type 0 where
+    pub stands : OperandRepresents m.tables x
+    pub means : ExprBecomes (names_of m.atoms fs) names e (part_over m.tables x)
 
-  pub record WrittenExpressionsMean (es : WrittenExpressions) (xs : List Part) : Type 0 where
-    pub stands : All (PartStands m.tables) xs
-    pub means : WrittenExpressionsBecome (names_of m.atoms fs) names es (parts_over m.tables xs)
+  pub record ExprsMean (es : Exprs) (xs : List Operand) : Type 0 where
+    pub stands : All (OperandRepresents m.tables) xs
+    pub means : ExprsBecome (names_of m.atoms fs) names es (parts_over m.tables xs)
 
-  pub record ElementMeans (e : WrittenExpression) (ys : List PatternId) (x : Part) : Type 0 where
-    pub patterns_stand : All (PatternStands m.tables) ys
-    pub stands : PartStands m.tables x
+  pub record ElementMeans (e : Expr) (ys : List PatternId) (x : Operand) : Type 0 where
+    pub patterns_stand : All (PatternRepresents m.tables) ys
+    pub stands : OperandRepresents m.tables x
     pub means : ElementBecomes (names_of m.atoms fs) names e (patterns_at m.tables ys) (part_over m.tables x)
 
-  pub record BodyMeans (es : WrittenExpressions) (x : Part) : Type 0 where
-    pub stands : PartStands m.tables x
+  pub record BodyMeans (es : Exprs) (x : Operand) : Type 0 where
+    pub stands : OperandRepresents m.tables x
     pub means : BodyBecomes (names_of m.atoms fs) names es (part_over m.tables x)
 
   pub record GuardMeans (c : Condition) (d : Guard) : Type 0 where
-    pub stands : GuardStands m.tables d
+    pub stands : GuardRepresents m.tables d
     pub means : GuardBecomes (names_of m.atoms fs) names c (guard_over m.tables d)
 
   pub record BranchesMean (bs : Branches) (cs : List Clause) : Type 0 where
-    pub stands : All (ClauseStands m.tables) cs
+    pub stands : All (ClauseRepresents m.tables) cs
     pub means : BranchesBecome (names_of m.atoms fs) names bs (clauses_over m.tables cs)
 
 -- ---- what a call lowered: the module grew, these names became bound, and the answer means this in the new module

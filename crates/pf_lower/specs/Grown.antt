@@ -4,10 +4,10 @@ use Rattle.pf_syntax.specs.Module.{Checked, pattern_at}
 use Rattle.pf_syntax.specs.Pattern.{Pattern}
 use Rattle.pf_syntax.specs.Tree.{Tree}
 use Rattle.pf_syntax.specs.Over.{part_over}
-use Rattle.pf_syntax.specs.Within.{PatternStands, PartStands}
+use Rattle.pf_syntax.specs.Within.{PatternRepresents, OperandRepresents}
 use Rattle.pf_syntax.proofs.Extends.{Extends}
 use Rattle.pf_syntax.specs.declared.node.PatternId.{PatternId}
-use Rattle.pf_syntax.specs.declared.node.Part.{Part}
+use Rattle.pf_syntax.specs.declared.node.Operand.{Operand}
 
 pub record Grown (old new : Checked) : Type 0 where
   pub name : new.name ≡ old.name
@@ -18,11 +18,11 @@ pub record Grown (old new : Checked) : Type 0 where
 -- a pattern is in the tables now
 pub record PatternPut (old new : Checked) (y : Pattern) (q : PatternId) : Type 0 where
   pub grown : Grown old new
-  pub stands : PatternStands new.tables q
+  pub stands : PatternRepresents new.tables q
   pub is : pattern_at new.tables q.0 ≡ y
 
 -- a tree is in the tables now
-pub record PartPut (old new : Checked) (y : Tree) (x : Part) : Type 0 where
+pub record PartPut (old new : Checked) (y : Tree) (x : Operand) : Type 0 where
   pub grown : Grown old new
-  pub stands : PartStands new.tables x
+  pub stands : OperandRepresents new.tables x
   pub is : part_over new.tables x ≡ y

@@ -1,11 +1,11 @@
 -- Clauses of functions, and functions, as they were built.
 use Rattle.std.specs.Prelude.{◌≡◌, ℕ, List, [], flat_map, map, Option, Some, None}
 use Rattle.std.specs.List.{All}
-use Rattle.pf_syntax.specs.Source.{Head, Export}
+use Rattle.pf_syntax.specs.SyntaxTree.{Head, Export}
 use Rattle.pf_syntax.specs.Naming.{HeadIs}
 use Rattle.pf_syntax.specs.Module.{Checked}
 use Rattle.pf_syntax.specs.Over.{function_clause_over, function_over}
-use Rattle.pf_syntax.specs.Within.{FunctionClauseStands, FunctionStands}
+use Rattle.pf_syntax.specs.Within.{FunctionClauseRepresents, FunctionRepresents}
 use Rattle.pf_syntax.specs.declared.node.FunctionClause.{FunctionClause}
 use Rattle.pf_syntax.specs.declared.node.Function.{Function}
 use Rattle.pf_rules.specs.Static.{names_of, head_faults}
@@ -19,17 +19,17 @@ first_of None other = other
 
 -- a clause of a function
 pub record HeadMeans (fs : List (List Head)) (m : Checked) (h : Head) (c : FunctionClause) : Type 0 where
-  pub stands : FunctionClauseStands m.tables c
+  pub stands : FunctionClauseRepresents m.tables c
   pub means : HeadFormed h → head_faults (names_of m.atoms fs) h ≡ [] → HeadIs (names_of m.atoms fs) h (function_clause_over m.tables c)
 
 -- all clauses of a function
 pub record HeadsMean (fs : List (List Head)) (m : Checked) (hs : List Head) (cs : List FunctionClause) : Type 0 where
-  pub stands : All (FunctionClauseStands m.tables) cs
+  pub stands : All (FunctionClauseRepresents m.tables) cs
   pub means : All HeadFormed hs → flat_map (head_faults (names_of m.atoms fs)) hs ≡ [] → Pairwise (HeadIs (names_of m.atoms fs)) hs (map (function_clause_over m.tables) cs)
 
 -- a function
 pub record FunctionMeans (fs : List (List Head)) (exports : List Export) (m : Checked) (hs : List Head) (f : Function) : Type 0 where
-  pub stands : FunctionStands m.tables f
+  pub stands : FunctionRepresents m.tables f
   pub means : FunctionFormed hs → flat_map (head_faults (names_of m.atoms fs)) hs ≡ [] → FunctionIs (names_of m.atoms fs) exports hs (function_over m.tables f)
 
 -- the functions of a source were added to a module that had none

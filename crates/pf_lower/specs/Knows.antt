@@ -3,7 +3,7 @@ use Rattle.std.specs.Prelude.{◌≡◌, ℕ, List, nat_eq, ◌&&◌, Bool}
 use Rattle.std.specs.declared.cmp.Ordering.{Ordering}
 use Rattle.std.specs.Ordering.{nat_cmp, ordering_then}
 use Rattle.std.specs.BTreeMap.{get}
-use Rattle.pf_syntax.specs.Source.{Head}
+use Rattle.pf_syntax.specs.SyntaxTree.{Head}
 use Rattle.pf_lower.specs.declared.function_table.FunctionTable.{FunctionTable}
 use Rattle.pf_rules.specs.Static.{own_in}
 

@@ -1,13 +1,13 @@
 //! A pattern that stands by itself, in no module.
 
 ghost use Rattle.std.specs.Prelude.{IfOk};
-ghost use Rattle.pf_syntax.specs.Source.{written_pattern_at};
+ghost use Rattle.pf_syntax.specs.SyntaxTree.{expr_pattern_at};
 ghost use Rattle.pf_syntax.specs.Module.{pattern_at};
 ghost use Rattle.pf_lower.specs.Alone.{BecomesAlone};
 
 use crate::patterns::pattern;
-use crate::places::Places;
-use pf_syntax::{Module, PatternId, Source, WrittenPatternId};
+use crate::slots::Slots;
+use pf_syntax::{ExprPatternId, Module, PatternId, SyntaxTree};
 use pf_terms::NoMemory;
 use std::alloc::Global;
 
@@ -15,13 +15,13 @@ use std::alloc::Global;
 /// the module names them.
 pub fn pattern_alone(
     alloc: Global,
-    source: &Source,
+    source: &SyntaxTree,
     module: &mut Module,
-    id: WrittenPatternId,
+    id: ExprPatternId,
 ) -> Result<PatternId, NoMemory>
-    ensures { IfOk result (λ p. BecomesAlone (written_pattern_at source.now.node_table id.0)
+    ensures { IfOk result (λ p. BecomesAlone (expr_pattern_at source.now.node_table id.0)
         (pattern_at module.new.tables p.0)) }
 {
-    let mut places = Places::new(alloc);
-    pattern(alloc, source, &mut places, module, id)
+    let mut slots = Slots::new(alloc);
+    pattern(alloc, source, &mut slots, module, id)
 }

@@ -4,24 +4,24 @@ ghost use Rattle.std.specs.Prelude.{◌≡◌, IfOk, List};
 ghost use Rattle.std.specs.List.{All};
 ghost use Rattle.pf_syntax.specs.Naming.{ending};
 ghost use Rattle.pf_syntax.specs.Over.{part_over, patterns_at};
-ghost use Rattle.pf_syntax.specs.Within.{PartStands};
-ghost use Rattle.pf_lower.specs.Bodies.{binds, ElementStands};
+ghost use Rattle.pf_syntax.specs.Within.{OperandRepresents};
+ghost use Rattle.pf_lower.specs.Bodies.{binds, ElementRepresents};
 ghost use Rattle.pf_lower.specs.Grown.{PartPut};
 
 use crate::put::put_node;
-use pf_syntax::{Module, Node, Part, PatternId};
+use pf_syntax::{Module, Node, Operand, PatternId};
 use pf_terms::NoMemory;
 
 /// An element of a body: the patterns of its matches, the innermost first, and what they match.
 #[derive(Drop)]
 pub(crate) struct Element {
     pub patterns: Vec<PatternId>,
-    pub value: Part,
+    pub value: Operand,
 }
 
 /// Adds the last element of a body.
-pub(crate) fn put_last(module: &mut Module, element: Element) -> Result<Part, NoMemory>
-    requires { ElementStands module.old.tables element }
+pub(crate) fn put_last(module: &mut Module, element: Element) -> Result<Operand, NoMemory>
+    requires { ElementRepresents module.old.tables element }
     ensures { IfOk result (λ x. PartPut module.old module.new
         (ending (patterns_at module.old.tables element.patterns.items)
         (part_over module.old.tables element.value)) x) }
@@ -36,10 +36,10 @@ pub(crate) fn put_last(module: &mut Module, element: Element) -> Result<Part, No
 pub(crate) fn put_binds(
     module: &mut Module,
     elements: Vec<Element>,
-    rest: Part,
-) -> Result<Part, NoMemory>
-    requires elements_stand { All (ElementStands module.old.tables) elements.items }
-    requires rest_stands { PartStands module.old.tables rest }
+    rest: Operand,
+) -> Result<Operand, NoMemory>
+    requires elements_stand { All (ElementRepresents module.old.tables) elements.items }
+    requires rest_stands { OperandRepresents module.old.tables rest }
     ensures { IfOk result (λ x. PartPut module.old module.new
         (binds module.old.tables elements.items (part_over module.old.tables rest)) x) }
 {

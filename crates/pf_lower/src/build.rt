@@ -1,8 +1,8 @@
 //! The checked module of a module as it is written.
 
 ghost use Rattle.std.specs.Prelude.{◌≡◌, [], map, IfOk, List, OnOk};
-ghost use Rattle.pf_syntax.specs.SourceOver.{head_over, heads_over};
-ghost use Rattle.pf_syntax.specs.WrittenModule.{tree_of};
+ghost use Rattle.pf_syntax.specs.SyntaxTreeOver.{head_over, heads_over};
+ghost use Rattle.pf_syntax.specs.ExprModule.{tree_of};
 ghost use Rattle.pf_lower.specs.Built.{Lowers};
 ghost use Rattle.pf_rules.specs.Checks.{IsModule};
 ghost use Rattle.pf_rules.specs.Formed.{AreFormed};
@@ -14,37 +14,37 @@ ghost use Rattle.pf_rules.specs.Static.{faults_of};
 use crate::expressions::{body, guard};
 use crate::function_table::{FunctionTable, exports_of};
 use crate::patterns::patterns;
-use crate::places::Places;
+use crate::slots::Slots;
 use pf_rules::Signatures;
-use pf_syntax::{Function, FunctionClause, Head, Module, Source, WrittenFunction};
+use pf_syntax::{ExprFunction, Function, FunctionClause, Head, Module, SyntaxTree};
 use pf_terms::{AtomId, AtomTable, NoMemory};
 use std::alloc::Global;
 
 /// A clause of a function, which begins with no variable.
 fn clause(
     alloc: Global,
-    source: &Source,
+    source: &SyntaxTree,
     functions: &FunctionTable,
-    places: &mut Places,
+    slots: &mut Slots,
     module: &mut Module,
     head: &Head,
 ) -> Result<FunctionClause, NoMemory>
     requires knows { Knows functions.now source.now.functions }
-    requires none_bound { places.old ≡ [] }
-    ensures { IfOk result (λ c. Lowers module.old module.new places.new []
+    requires none_bound { slots.old ≡ [] }
+    ensures { IfOk result (λ c. Lowers module.old module.new slots.new []
         (λ t. HeadMeans source.now.functions t (head_over source.now.node_table head.now) c)) }
 {
-    let parameters = patterns(alloc, source, places, module, head.parameters.as_slice())?;
-    let guard = guard(alloc, source, functions, places, module, &head.condition)?;
+    let parameters = patterns(alloc, source, slots, module, head.parameters.as_slice())?;
+    let guard = guard(alloc, source, functions, slots, module, &head.condition)?;
     let body = body(
         alloc,
         source,
         functions,
-        places,
+        slots,
         module,
         head.body.as_slice(),
     )?;
-    places.truncate(0);
+    slots.truncate(0);
     Ok(FunctionClause {
         parameters,
         guard,
@@ -55,20 +55,20 @@ fn clause(
 /// The clauses of a function.
 fn clauses(
     alloc: Global,
-    source: &Source,
+    source: &SyntaxTree,
     functions: &FunctionTable,
-    places: &mut Places,
+    slots: &mut Slots,
     module: &mut Module,
     heads: &[Head],
 ) -> Result<Vec<FunctionClause>, NoMemory>
     requires knows { Knows functions.now source.now.functions }
-    requires none_bound { places.old ≡ [] }
-    ensures { IfOk result (λ cs. Lowers module.old module.new places.new []
+    requires none_bound { slots.old ≡ [] }
+    ensures { IfOk result (λ cs. Lowers module.old module.new slots.new []
         (λ t. HeadsMean source.now.functions t (map (head_over source.now.node_table) heads.now) cs.items)) }
 {
     let mut found = Vec::with_capacity(alloc, heads.len())?;
     for head in heads {
-        let one = clause(alloc, source, functions, places, module, head)?;
+        let one = clause(alloc, source, functions, slots, module, head)?;
         found.push(one)?;
     }
     Ok(found)
@@ -77,17 +77,17 @@ fn clauses(
 /// A function, named by its first clause. One with no clause, which the grammar has not, has no arguments.
 fn function(
     alloc: Global,
-    source: &Source,
+    source: &SyntaxTree,
     functions: &FunctionTable,
     exported: &Signatures,
-    places: &mut Places,
+    slots: &mut Slots,
     module: &mut Module,
-    written: &WrittenFunction,
+    written: &ExprFunction,
 ) -> Result<Function, NoMemory>
     requires knows { Knows functions.now source.now.functions }
     requires exports { Exports exported.now source.now.exports }
-    requires none_bound { places.old ≡ [] }
-    ensures { IfOk result (λ f. Lowers module.old module.new places.new []
+    requires none_bound { slots.old ≡ [] }
+    ensures { IfOk result (λ f. Lowers module.old module.new slots.new []
         (λ t. FunctionMeans source.now.functions source.now.exports t
         (heads_over source.now.node_table written.now) f)) }
 {
@@ -95,7 +95,7 @@ fn function(
         alloc,
         source,
         functions,
-        places,
+        slots,
         module,
         written.heads.as_slice(),
     )?;
@@ -124,7 +124,7 @@ fn function(
 /// Adds the functions of a source, which the tables know, to its module, which has none yet.
 fn add_each(
     alloc: Global,
-    source: &Source,
+    source: &SyntaxTree,
     functions: &FunctionTable,
     exported: &Signatures,
     module: &mut Module,
@@ -134,16 +134,10 @@ fn add_each(
     requires empty { module.old.functions ≡ [] }
     ensures { OnOk result (FunctionsAdded source.now.functions source.now.exports module.old module.new) }
 {
-    let mut places = Places::new(alloc);
+    let mut slots = Slots::new(alloc);
     for written in source.functions() {
         let one = function(
-            alloc,
-            source,
-            functions,
-            exported,
-            &mut places,
-            module,
-            written,
+            alloc, source, functions, exported, &mut slots, module, written,
         )?;
         module.add_function(one)?;
     }
@@ -151,7 +145,7 @@ fn add_each(
 }
 
 /// Adds the functions of a source to its module, which has none yet.
-fn add_functions(alloc: Global, source: &Source, module: &mut Module) -> Result<(), NoMemory>
+fn add_functions(alloc: Global, source: &SyntaxTree, module: &mut Module) -> Result<(), NoMemory>
     requires { module.old.functions ≡ [] }
     ensures { OnOk result (FunctionsAdded source.now.functions source.now.exports module.old module.new) }
 {
@@ -161,7 +155,7 @@ fn add_functions(alloc: Global, source: &Source, module: &mut Module) -> Result<
 }
 
 /// The checked module of a source that has no static fault and is formed as the grammar says; of another it is some module.
-pub fn module_of(alloc: Global, source: &Source, atoms: AtomTable) -> Result<Module, NoMemory>
+pub fn module_of(alloc: Global, source: &SyntaxTree, atoms: AtomTable) -> Result<Module, NoMemory>
     ensures { IfOk result (λ m. faults_of atoms (tree_of source.now) ≡ [] → AreFormed source.now.functions
         → IsModule atoms (tree_of source.now) m) }
 {

@@ -3,14 +3,14 @@
 ghost use Rattle.std.specs.Prelude.{◌≡◌, ℕ, if◌then◌else◌, IfOk, MatchOption, None, OnOk, Some};
 ghost use Rattle.std.specs.BTreeMap.{get};
 ghost use Rattle.pf_rules.specs.Static.{is_named, own_in};
-ghost use Rattle.pf_syntax.specs.Source.{NodeTable};
-ghost use Rattle.pf_syntax.specs.SourceOver.{heads_over};
+ghost use Rattle.pf_syntax.specs.SyntaxTree.{NodeTable};
+ghost use Rattle.pf_syntax.specs.SyntaxTreeOver.{heads_over};
 ghost use Rattle.pf_lower.specs.Knows.{key_order, same_key, Knows};
 ghost use Rattle.pf_lower.specs.Heads.{first_of};
 ghost use Rattle.pf_rules.specs.Listing.{Exports};
 
 use pf_rules::Signatures;
-use pf_syntax::{FunctionId, Source, WrittenFunction};
+use pf_syntax::{ExprFunction, FunctionId, SyntaxTree};
 use pf_terms::{AtomId, NoMemory};
 use std::alloc::Global;
 use std::collections::BTreeMap;
@@ -24,7 +24,7 @@ pub(crate) struct FunctionTable {
 
 impl FunctionTable {
     /// The functions of a source.
-    pub(crate) fn new(alloc: Global, source: &Source) -> Result<FunctionTable, NoMemory>
+    pub(crate) fn new(alloc: Global, source: &SyntaxTree) -> Result<FunctionTable, NoMemory>
         ensures { IfOk result (λ table. Knows table source.now.functions) }
     {
         let mut table = FunctionTable {
@@ -37,7 +37,7 @@ impl FunctionTable {
     }
 
     /// Notes the number of a function under the name of its first clause.
-    fn enter_function(&mut self, function: &WrittenFunction, number: usize) -> Result<(), NoMemory>
+    fn enter_function(&mut self, function: &ExprFunction, number: usize) -> Result<(), NoMemory>
         ensures { OnOk result ((b : NodeTable) (f a : ℕ) → get key_order self.new.numbers (f, a)
             ≡ first_of (get key_order self.old.numbers (f, a))
             (if is_named f a (heads_over b function.now) then Some number else None)) }
@@ -66,7 +66,7 @@ impl FunctionTable {
     }
 
     /// The first function of this name that takes so many arguments.
-    pub(crate) fn find(&self, source: &Source, name: AtomId, arity: usize) -> Option<FunctionId>
+    pub(crate) fn find(&self, source: &SyntaxTree, name: AtomId, arity: usize) -> Option<FunctionId>
         requires { Knows self.now source.now.functions }
         ensures { MatchOption result (own_in source.now.functions name.0 arity ≡ None)
             (λ f. own_in source.now.functions name.0 arity ≡ Some f.0) }
@@ -77,7 +77,7 @@ impl FunctionTable {
 }
 
 /// The functions that a source exports.
-pub(crate) fn exports_of(alloc: Global, source: &Source) -> Result<Signatures, NoMemory>
+pub(crate) fn exports_of(alloc: Global, source: &SyntaxTree) -> Result<Signatures, NoMemory>
     ensures { IfOk result (λ exported. Exports exported source.now.exports) }
 {
     let mut exported = Signatures::new(alloc);

@@ -1,4 +1,4 @@
-//! The checked module of a module as it is written: places in place of names, and nodes by number.
+//! The checked module of a module as it is written: slots in place of names, and nodes by number.
 #![tactic(auto)]
 
 mod alone;
@@ -7,8 +7,8 @@ mod build;
 mod expressions;
 mod function_table;
 mod patterns;
-mod places;
 mod put;
+mod slots;
 mod strings;
 
 pub use alone::pattern_alone;

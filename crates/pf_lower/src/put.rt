@@ -8,10 +8,10 @@ ghost use Rattle.pf_syntax.specs.Tree.{lit};
 ghost use Rattle.pf_syntax.specs.Module.{pattern_at};
 ghost use Rattle.pf_syntax.specs.Over.{part_over, parts_over, pattern_over, patterns_at, tree_over};
 ghost use Rattle.pf_syntax.specs.Naming.{conses, conses_of};
-ghost use Rattle.pf_syntax.specs.Within.{PartStands, PartsStand, PatternPartsStand, PatternStands};
+ghost use Rattle.pf_syntax.specs.Within.{OperandRepresents, PartsStand, PatternPartsStand, PatternRepresents};
 ghost use Rattle.pf_lower.specs.Grown.{PartPut, PatternPut};
 
-use pf_syntax::{Module, Node, Part, PatternId, PatternNode};
+use pf_syntax::{Module, Node, Operand, PatternId, PatternNode};
 use pf_terms::{NoMemory, Term};
 
 /// Adds a pattern after its parts.
@@ -38,8 +38,8 @@ pub(crate) fn put_list_pattern(
     elements: Vec<PatternId>,
     tail: PatternId,
 ) -> Result<PatternId, NoMemory>
-    requires elements_stand { All (PatternStands module.old.tables) elements.items }
-    requires tail_stands { PatternStands module.old.tables tail }
+    requires elements_stand { All (PatternRepresents module.old.tables) elements.items }
+    requires tail_stands { PatternRepresents module.old.tables tail }
     ensures { IfOk result (λ p. PatternPut module.old module.new
         (conses_of (patterns_at module.old.tables elements.items) (pattern_at module.old.tables tail.0)) p) }
 {
@@ -52,30 +52,30 @@ pub(crate) fn put_list_pattern(
 }
 
 /// Adds a node after its parts.
-pub(crate) fn put_node(module: &mut Module, node: Node) -> Result<Part, NoMemory>
+pub(crate) fn put_node(module: &mut Module, node: Node) -> Result<Operand, NoMemory>
     requires { PartsStand module.old.tables node }
     ensures { IfOk result (λ x. PartPut module.old module.new (tree_over module.old.tables node) x) }
 {
     let id = module.add_node(node)?;
-    Ok(Part::Node(id))
+    Ok(Operand::Node(id))
 }
 
 /// Adds a literal.
-pub(crate) fn put_literal(module: &mut Module, literal: Term) -> Result<Part, NoMemory>
+pub(crate) fn put_literal(module: &mut Module, literal: Term) -> Result<Operand, NoMemory>
     ensures { IfOk result (λ x. PartPut module.old module.new (lit (value_of literal)) x) }
 {
     let id = module.add_literal(literal)?;
-    Ok(Part::Literal(id))
+    Ok(Operand::Literal(id))
 }
 
 /// Adds a list of these elements before a tail.
 pub(crate) fn put_list(
     module: &mut Module,
-    elements: Vec<Part>,
-    tail: Part,
-) -> Result<Part, NoMemory>
-    requires elements_stand { All (PartStands module.old.tables) elements.items }
-    requires tail_stands { PartStands module.old.tables tail }
+    elements: Vec<Operand>,
+    tail: Operand,
+) -> Result<Operand, NoMemory>
+    requires elements_stand { All (OperandRepresents module.old.tables) elements.items }
+    requires tail_stands { OperandRepresents module.old.tables tail }
     ensures { IfOk result (λ x. PartPut module.old module.new
         (conses (parts_over module.old.tables elements.items) (part_over module.old.tables tail)) x) }
 {

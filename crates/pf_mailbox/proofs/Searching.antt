@@ -28,7 +28,7 @@ nothing_more (x ∷ xs) = ap (λ l. x ∷ l) (nothing_more xs)
 pub same_item : {A : Type 0} (x y : A) → Some x ≡ Some y → x ≡ y
 same_item x y p = cc
 
--- what stands at a place within
+-- what stands at an index within
 pub stands : {A : Type 0} (xs : List A) (k : ℕ) → k < length xs → (x : A) × (slice_get xs k ≡ Some x)
 stands xs k h = elim (slice_get_cases xs k).1 [ inl s ↦ (s.0, s.2) | inr s ↦ absurd (omega (arith, s.0, h)) ]
 
@@ -62,7 +62,7 @@ module _ (m : Checked) (ks : Clauses) (Answers : Term → Result Bool (Result Te
   pub finds_none : (o : Option Spot) → EndsAs Answers old new (Ok o) → Found new None
   finds_none o h = ended Answers old new (λ x a. says x (Ok true) a) o h ∙ ap length (sym e)
 
--- ---- from place to place
+-- ---- from index to index
 
 pub join_up : (P : Value → Type 0) (l l' : Mail Term) (to : ℕ) → AllUpTo P l l'.mark → l'.items ≡ l.items → AllUpTo P l' to → AllUpTo P l to
 join_up P l l' to a e b =
@@ -78,7 +78,7 @@ join_up P l l' to a e b =
 pub all_equal : (P : Value → Type 0) (v : Value) (l : Mail Term) (to : ℕ) → P v → AllEqual v l to → AllUpTo P l to
 all_equal P v l to p a = record { on = a.on; all = λ k x low below s. subst P (sym (a.all k x low below s)) p }
 
--- up to a place, and past those that are equal to the message there
+-- up to an index, and past those that are equal to the message there
 pub past_one : (P : Value → Type 0) (l l' : Mail Term) (v : Value) (to : ℕ) → AllUpTo P l l'.mark → l'.items ≡ l.items → P v → AllEqual v l' to → AllUpTo P l to
 past_one P l l' v to a e p b = join_up P l l' to a e (all_equal P v l' to p b)
 

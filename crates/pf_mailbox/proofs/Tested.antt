@@ -1,17 +1,17 @@
--- Messages by their places and as a list: which of them no clause picks, and how many are tested.
+-- Messages by their indices and as a list: which of them no clause picks, and how many are tested.
 use Rattle.std.proofs.Common.{◌≡◌, ℕ, zero, suc, ◌+◌, ◌-◌, ◌<◌, ◌≤◌, List, [], ◌∷◌, length, take, drop, refl, sym, ap, ◌∙◌, Some, None, inl, inr, arith}
 use Rattle.std.specs.Prelude.{map, slice_get}
 use Rattle.std.proofs.lemmas.Bool.{cases_lt}
 use Rattle.pf_terms.specs.Term.{value_of}
 use Rattle.pf_terms.specs.declared.term.Term.{Term}
 use Rattle.pf_syntax.specs.Tree.{Tree, Clauses}
-use Rattle.pf_model.specs.Code.{Code}
+use Rattle.pf_model.specs.Module.{Module}
 use Rattle.pf_model.specs.Contraction.{picked}
 use Rattle.pf_model.specs.Receive.{FitsNone}
 use Rattle.pf_mailbox.specs.Tests.{more_tests, tested}
 
-module _ (m : Code) (own : ℕ) (ks : Clauses) where
-  -- no clause picks a message of these places
+module _ (m : Module) (own : ℕ) (ks : Clauses) where
+  -- no clause picks a message of these indices
   abbrev pub NoneIn : List Term → ℕ → ℕ → Type 0
   NoneIn xs from to = (k : ℕ) (x : Term) → from ≤ k → k < to → slice_get xs k ≡ Some x → picked m own ks (value_of x) ≡ None
 
@@ -21,13 +21,13 @@ module _ (m : Code) (own : ℕ) (ks : Clauses) where
   to_list (x ∷ xs) zero h = tt
   to_list (x ∷ xs) (suc n) h = (h 0 x (omega arith) (omega arith) refl, to_list xs n (λ k y l b s. h (suc k) y (omega arith) (omega (arith, b)) s))
 
-  pub to_places : (xs : List Term) (n : ℕ) → FitsNone m own ks (take n (map value_of xs)) → NoneIn xs 0 n
-  to_places [] n h k x l b s = absurd cc
-  to_places (y ∷ xs) zero h k x l b s = absurd (omega (arith, b))
-  to_places (y ∷ xs) (suc n) h zero x l b s = let e : y ≡ x = cc in ap (λ z. picked m own ks (value_of z)) (sym e) ∙ h.0
-  to_places (y ∷ xs) (suc n) h (suc k) x l b s = to_places xs n h.1 k x (omega arith) (omega (arith, b)) s
+  pub to_indices : (xs : List Term) (n : ℕ) → FitsNone m own ks (take n (map value_of xs)) → NoneIn xs 0 n
+  to_indices [] n h k x l b s = absurd cc
+  to_indices (y ∷ xs) zero h k x l b s = absurd (omega (arith, b))
+  to_indices (y ∷ xs) (suc n) h zero x l b s = let e : y ≡ x = cc in ap (λ z. picked m own ks (value_of z)) (sym e) ∙ h.0
+  to_indices (y ∷ xs) (suc n) h (suc k) x l b s = to_indices xs n h.1 k x (omega arith) (omega (arith, b)) s
 
-  -- the places before the mark, and those from it on
+  -- the indices before the mark, and those from it on
   pub none_before : (xs : List Term) (mark to : ℕ) → NoneIn xs 0 mark → NoneIn xs mark to → NoneIn xs 0 to
   none_before xs mark to a b k x l below s = elim (cases_lt k mark) [ inl h ↦ a k x l h s | inr h ↦ b k x h below s ]
 

@@ -3,11 +3,11 @@ use Rattle.std.specs.Prelude.{ℕ, List, map}
 use Rattle.pf_terms.specs.Term.{value_of}
 use Rattle.pf_terms.specs.declared.term.Term.{Term}
 use Rattle.pf_nodes.specs.Mail.{Mail}
-use Rattle.pf_mailbox.specs.MailView.{MailView, mail_view}
+use Rattle.pf_mailbox.specs.MailView.{MailView, view_of_mailbox}
 
 -- a mailbox of these messages
 abbrev pub plain : List Term → ℕ → ℕ → MailView
-plain messages mark tests = mail_view (map value_of messages) mark tests
+plain messages mark tests = view_of_mailbox (map value_of messages) mark tests
 
 -- a mailbox over this list
 abbrev pub seen : Mail Term → ℕ → MailView

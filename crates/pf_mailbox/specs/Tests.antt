@@ -8,7 +8,7 @@ use Rattle.pf_syntax.specs.Over.{clauses_over}
 use Rattle.pf_syntax.specs.declared.node.Clause.{Clause}
 use Rattle.pf_patterns.specs.Slots.{activation}
 use Rattle.pf_patterns.specs.Substitution.{sub_clauses}
-use Rattle.pf_model.specs.Code.{Code}
+use Rattle.pf_model.specs.Module.{Module}
 use Rattle.pf_model.specs.Contraction.{picked}
 use Rattle.pf_model.specs.Receive.{FitsNone}
 use Rattle.pf_stepper.specs.MachineView.{MachineView}
@@ -20,7 +20,7 @@ abbrev pub awaited : Checked → ℕ → List Term → List Clause → Clauses
 awaited m base env l = sub_clauses (activation env base) (clauses_over m.tables l)
 
 -- no clause picks a message before the mark
-abbrev pub FitsNoneBefore : Code → ℕ → Clauses → MailView → Type 0
+abbrev pub FitsNoneBefore : Module → ℕ → Clauses → MailView → Type 0
 FitsNoneBefore m own ks b = FitsNone m own ks (take b.mark b.messages)
 
 -- the same of a `receive`: the messages that are passed over fit none of its clauses
@@ -37,7 +37,7 @@ more_tests (Some body) n = 0
 more_tests None n = n
 
 -- how many messages are tested, from the oldest on: up to and with the first that a clause picks, or all
-abbrev pub tested : Code → ℕ → Clauses → List Value → ℕ
+abbrev pub tested : Module → ℕ → Clauses → List Value → ℕ
 tested m own ks [] = 0
 tested m own ks (v ∷ vs) = suc (more_tests (picked m own ks v) (tested m own ks vs))
 

@@ -3,7 +3,7 @@
 ghost use Rattle.std.specs.Prelude.{◌≡◌, ◌-◌, ◌≤◌, drop, length};
 ghost use Rattle.std.specs.Prelude.{IfOk, IfSome, MatchOption, OnErr, OnOk};
 ghost use Rattle.pf_syntax.specs.Over.{clauses_over};
-ghost use Rattle.pf_model.specs.Code.{code_of};
+ghost use Rattle.pf_model.specs.Module.{module_of};
 ghost use Rattle.pf_stepper.specs.Readiness.{IsReadyForAll, receive_in};
 ghost use Rattle.pf_stepper.specs.Selected.{TakesMessage, TakesNothing};
 ghost use Rattle.pf_mailbox.specs.Tests.{IsReadyFor, awaited, risen, tested};
@@ -11,7 +11,7 @@ ghost use Rattle.pf_mailbox.specs.Tests.{IsReadyFor, awaited, risen, tested};
 use crate::mailbox::Mailbox;
 use pf_nodes::Pool;
 use pf_stepper::Inbox;
-use pf_syntax::{Clause, Module, Part};
+use pf_syntax::{Clause, Module, Operand};
 use pf_terms::{NoMemory, Term};
 use std::alloc::Global;
 
@@ -36,7 +36,7 @@ impl Inbox for Opened {
         env: &mut Vec<Term>,
         base: usize,
         own: u32,
-    ) -> Result<Option<(Part, Term)>, NoMemory>
+    ) -> Result<Option<(Operand, Term)>, NoMemory>
         requires slots { base ≤ length env.old.items }
         requires ready { IsReadyFor (receive_in code.now own base env.old.items clauses.now)
             self.old.mailbox }
@@ -52,7 +52,7 @@ impl Inbox for Opened {
             (λ _. IsReadyForAll (λ r. IsReadyFor r self.new.mailbox))) }
         ensures refused { OnErr result (self.new.mailbox.messages ≡ self.old.mailbox.messages) }
         ensures tests { OnOk result (self.new.mailbox.tests ≡ risen self.old.mailbox.tests
-            (tested (code_of code.now) own (awaited code.now base env.old.items clauses.now)
+            (tested (module_of code.now) own (awaited code.now base env.old.items clauses.now)
             (drop self.old.mailbox.mark self.old.mailbox.messages))) }
         ensures passed { OnErr result ((self.old.mailbox.mark ≤ self.new.mailbox.mark)
             × (self.new.mailbox.tests ≡ risen self.old.mailbox.tests

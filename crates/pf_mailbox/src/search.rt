@@ -8,7 +8,7 @@ ghost use Rattle.pf_mailbox.specs.Tests.{awaited};
 use pf_nodes::MailList;
 use pf_patterns::fits;
 use pf_stepper::choose;
-use pf_syntax::{Clause, Module, Part};
+use pf_syntax::{Clause, Module, Operand};
 use pf_terms::{NoMemory, Term, copy, equal};
 use std::alloc::Global;
 
@@ -84,7 +84,7 @@ pub(crate) fn search(
     env: &mut Vec<Term>,
     base: usize,
     own: u32,
-) -> Result<Option<Part>, NoMemory>
+) -> Result<Option<Operand>, NoMemory>
     requires { base ≤ length env.old.items }
     ensures items { list.new.items ≡ list.old.items }
     ensures passed { Passes code.now own

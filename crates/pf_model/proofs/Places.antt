@@ -1,4 +1,4 @@
--- A tree has one place at most.
+-- A tree has one context at most.
 use Rattle.std.proofs.Common.{◌≡◌, ℕ, true, false, List, [], ◌∷◌, Some, None, refl, sym, ap, ◌∙◌, option_map}
 use Rattle.std.specs.Prelude.{slice_get}
 use Rattle.pf_terms.specs.Value.{Value, Values, none, more}
@@ -8,11 +8,11 @@ use Rattle.pf_ops.specs.Arithmetic.{negated}
 use Rattle.pf_ops.specs.Operations.{limited, operated, consed}
 use Rattle.pf_ops.specs.Guards.{truth_of}
 use Rattle.pf_ops.specs.Reasons.{no_case}
-use Rattle.pf_model.specs.Code.{Code, name_in}
+use Rattle.pf_model.specs.Module.{Module, name_in}
 use Rattle.pf_model.specs.Contraction.{Change, Asks, Act, contract, as_value, as_values, add_value, with_both, worked_out, decided, entered, called, matched, bound, picked, body_or_raise}
 use Rattle.pf_model.specs.Contraction as c
-use Rattle.pf_model.specs.Place.{Frame, element_of, first_of, tail_of, left_of, right_of, negation, and_also_of, or_else_of, argument_of, builtin_argument_of, match_of, bind_of, case_of, receiver_of, message_of, after_values, around, fill}
-use Rattle.pf_model.specs.Laws.{OnePlace}
+use Rattle.pf_model.specs.Context.{Frame, element_of, first_of, tail_of, left_of, right_of, negation, and_also_of, or_else_of, argument_of, builtin_argument_of, match_of, bind_of, case_of, receiver_of, message_of, after_values, around, fill}
+use Rattle.pf_model.specs.Laws.{OneContext}
 
 around_no_value : (f : Frame) (x : Tree) → as_value (around f x) ≡ None
 around_no_value (element_of vs ts) x = refl
@@ -89,7 +89,7 @@ same_around (message_of v) (message_of w) x y hx hy e = (cc, cc)
 same_around (message_of v) (receiver_of b) x y hx hy e = absurd (no_value y v hy (cc))
 same_around (message_of v) g x y hx hy e = absurd (cc)
 
-module _ (m : Code) (own : ℕ) where
+module _ (m : Module) (own : ℕ) where
   redex_no_value : (r : Tree) (d : Change) → contract m own r ≡ Some d → as_value r ≡ None
   redex_no_value (lit v) d h = cc
   redex_no_value r d h = refl
@@ -130,7 +130,7 @@ module _ (m : Code) (own : ℕ) where
       let a = same_around f g (fill fs r) (fill gs s) (fill_no_value fs r d hr) (fill_no_value gs s e hs) q in
       let k = same_fill fs gs r s d e hr hs a.1 in (cc, k.1)
 
-pub one_place : OnePlace
-one_place m own t r s fs gs d e p q =
+pub one_context : OneContext
+one_context m own t r s fs gs d e p q =
     let k = same_fill m own fs gs r s d e p.redex q.redex (p.filled ∙ sym q.filled) in
     let h = ap (contract m own) k.1 in let a = p.redex in let b = q.redex in (k.0, k.1, cc)

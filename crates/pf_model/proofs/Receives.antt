@@ -2,11 +2,11 @@
 use Rattle.std.proofs.Common.{◌≡◌, ℕ, List, [], ◌∷◌, ◌++◌, Option, Some, None, refl, sym, ap, ◌∙◌, subst}
 use Rattle.pf_terms.specs.Value.{Value}
 use Rattle.pf_syntax.specs.Tree.{Tree, Clauses}
-use Rattle.pf_model.specs.Code.{Code}
+use Rattle.pf_model.specs.Module.{Module}
 use Rattle.pf_model.specs.Contraction.{picked}
 use Rattle.pf_model.specs.Receive.{Taken, taking, and_before, taken_or_later, selected, FitsNone, Takes, ReceiveIsRelation}
 
-module _ (m : Code) (own : ℕ) (ks : Clauses) where
+module _ (m : Module) (own : ℕ) (ks : Clauses) where
   -- a message that no clause picks stands before what is taken of the others
   takes_behind : (v : Value) (vs : List Value) (t : Taken) → picked m own ks v ≡ None → Takes m own ks vs t
       → Takes m own ks (v ∷ vs) (record t { others = v ∷ t.others })

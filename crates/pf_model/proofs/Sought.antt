@@ -1,4 +1,4 @@
--- What is sought in a tree is its value or its place, so each tree has one move.
+-- What is sought in a tree is its value or its context, so each tree has one move.
 use Rattle.std.proofs.Common.{◌≡◌, ℕ, true, false, List, [], Some, refl, sym, ap, ◌∙◌, subst, option_map}
 use Rattle.std.specs.Prelude.{slice_get}
 use Rattle.pf_terms.specs.Value.{Value, Values, none, more, list}
@@ -9,18 +9,18 @@ use Rattle.pf_ops.specs.Arithmetic.{negated}
 use Rattle.pf_ops.specs.Operations.{limited, operated, consed}
 use Rattle.pf_ops.specs.Guards.{truth_of}
 use Rattle.pf_ops.specs.Reasons.{no_case}
-use Rattle.pf_model.specs.Code.{Code, name_in}
+use Rattle.pf_model.specs.Module.{Module, name_in}
 use Rattle.pf_model.specs.Contraction as c
 use Rattle.pf_model.specs.Contraction.{Change, Raises, Asks, Awaits, contract, as_values, as_value, add_value, worked_out, decided, entered, called, matched, bound, picked, body_or_raise}
-use Rattle.pf_model.specs.Place.{Frame, element_of, first_of, tail_of, left_of, right_of, negation, and_also_of, or_else_of, argument_of, builtin_argument_of, match_of, bind_of, case_of, receiver_of, message_of, after_values, literals, around, Place, Move, returns, moved, Moves, at_value, at_place}
+use Rattle.pf_model.specs.Context.{Frame, element_of, first_of, tail_of, left_of, right_of, negation, and_also_of, or_else_of, argument_of, builtin_argument_of, match_of, bind_of, case_of, receiver_of, message_of, after_values, literals, around, Context, Move, returns, moved, Moves, at_value, at_index}
 use Rattle.pf_model.specs.Evaluation.{Sought, valued, placed, part, and_last, sought, sought_in, move_of}
-use Rattle.pf_model.proofs.Places.{one_place, fill_no_value}
+use Rattle.pf_model.proofs.Places.{one_context, fill_no_value}
 
-module _ (m : Code) (own : ℕ) where
-  -- a value that the tree is, or a place in it
+module _ (m : Module) (own : ℕ) where
+  -- a value that the tree is, or a context in it
   abbrev pub IsIn : Tree → Sought → Type 0
   IsIn t (valued v) = t ≡ lit v
-  IsIn t (placed fs r d) = Place m own t fs r d
+  IsIn t (placed fs r d) = Context m own t fs r d
 
   -- what is in a part is in the whole, where that is so once the part is a value
   part_is_in : (f : Frame) (a t : Tree) (s : Sought) (go : Value → Sought) → around f a ≡ t → IsIn a s
@@ -106,20 +106,20 @@ module _ (m : Code) (own : ℕ) where
 
   moves_as : (t : Tree) (s : Sought) → IsIn t s → Moves m own t (move_of s)
   moves_as t (valued v) h = at_value v h refl
-  moves_as t (placed fs r d) h = at_place fs r d h refl
+  moves_as t (placed fs r d) h = at_index fs r d h refl
 
   pub moves_as_sought : (t : Tree) → Moves m own t (move_of (sought m own t))
   moves_as_sought t = moves_as t (sought m own t) (sought_is_in t)
 
   -- ---- and no other
 
-  no_place_of_value : (t : Tree) (v : Value) (fs : List Frame) (r : Tree) (d : Change) → t ≡ lit v → Place m own t fs r d → ⊥
-  no_place_of_value t v fs r d e p =
+  no_index_of_value : (t : Tree) (v : Value) (fs : List Frame) (r : Tree) (d : Change) → t ≡ lit v → Context m own t fs r d → ⊥
+  no_index_of_value t v fs r d e p =
       let a = fill_no_value m own fs r d p.redex in let b = ap as_value (p.filled ∙ e) in cc
 
   pub one_move : (t : Tree) (x y : Move) → Moves m own t x → Moves m own t y → x ≡ y
   one_move t x y (at_value v e p) (at_value w d q) = let a : v ≡ w = cc in p ∙ ap returns a ∙ sym q
-  one_move t x y (at_value v e p) (at_place fs r d h q) = absurd (no_place_of_value t v fs r d e h)
-  one_move t x y (at_place fs r d h p) (at_value v e q) = absurd (no_place_of_value t v fs r d e h)
-  one_move t x y (at_place fs r d h p) (at_place gs s e k q) =
-      let o = one_place m own t r s fs gs d e h k in p ∙ ap (λ z. moved z d) o.0 ∙ ap (moved gs) o.2 ∙ sym q
+  one_move t x y (at_value v e p) (at_index fs r d h q) = absurd (no_index_of_value t v fs r d e h)
+  one_move t x y (at_index fs r d h p) (at_value v e q) = absurd (no_index_of_value t v fs r d e h)
+  one_move t x y (at_index fs r d h p) (at_index gs s e k q) =
+      let o = one_context m own t r s fs gs d e h k in p ∙ ap (λ z. moved z d) o.0 ∙ ap (moved gs) o.2 ∙ sym q

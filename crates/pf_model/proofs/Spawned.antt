@@ -8,8 +8,8 @@ use Rattle.pf_terms.specs.Value.{Values, none, more, count}
 use Rattle.pf_syntax.specs.Tree.{Function, Program}
 use Rattle.pf_syntax.specs.Module.{is_named, first_named}
 use Rattle.pf_syntax.specs.Root.{exported_of, exported_at}
-use Rattle.pf_model.specs.Code.{Code, exported_as}
-use Rattle.pf_model.specs.Place.{literals}
+use Rattle.pf_model.specs.Module.{Module, exported_as}
+use Rattle.pf_model.specs.Context.{literals}
 use Rattle.pf_model.specs.Actions.{begun, start_of}
 use Rattle.pf_model.specs.Closed.{trees_in, HasArity, AllAreClosed, StateIsClosed}
 
@@ -53,7 +53,7 @@ begun_closed : (fs : Program) (o : Option ℕ) (vs : Values) → ((f : ℕ) → 
 begun_closed fs None vs h = tt
 begun_closed fs (Some f) vs h = (rw (literals_count vs) (h f refl), literals_closed fs vs)
 
-pub start_closed : (m : Code) (w name : ℕ) (vs : Values) → StateIsClosed m.functions (start_of m w name vs)
+pub start_closed : (m : Module) (w name : ℕ) (vs : Values) → StateIsClosed m.functions (start_of m w name vs)
 start_closed m w name vs = by (w == m.name)
   where
     by : (b : Bool) → StateIsClosed m.functions (begun (if b then exported_as m name (count vs) else None) vs)

@@ -1,9 +1,9 @@
 -- Turns and transitions are what they are worked out to be.
 use Rattle.std.proofs.Common.{◌≡◌, ℕ, zero, suc, ◌<◌, true, List, Some, refl, sym, ap, ◌∙◌, subst, arith}
 use Rattle.pf_syntax.specs.Tree.{Tree}
-use Rattle.pf_model.specs.Code.{Code}
+use Rattle.pf_model.specs.Module.{Module}
 use Rattle.pf_model.specs.Contraction.{Change, Becomes, Raises, Exits, Asks, Awaits}
-use Rattle.pf_model.specs.Place.{Frame, State, running, waiting, ending, ended, returned, Move, goes_on, asks, awaits, returns, moved, Moves}
+use Rattle.pf_model.specs.Context.{Frame, State, running, waiting, ending, ended, returned, Move, goes_on, asks, awaits, returns, moved, Moves}
 use Rattle.pf_model.specs.Channels.{Queue, row_of, with_row, left_in, taken, taken_from}
 use Rattle.pf_model.specs.Maps.{got}
 use Rattle.pf_model.specs.Configuration.{Core, Configuration, of}
@@ -31,7 +31,7 @@ sought_goes_on : (s : Sought) → GoesOn (move_of s)
 sought_goes_on (valued v) = tt
 sought_goes_on (placed fs r d) = moved_goes_on fs d
 
-module _ (m : Code) (a : ℕ) (c : Core) where
+module _ (m : Module) (a : ℕ) (c : Core) where
   -- this deed and these steps are of a turn
   abbrev pub IsTurn : ℕ → State → Turned → Type 0
   IsTurn n s t = Turn m a c n s t.deed t.used
@@ -82,7 +82,7 @@ abbrev pub CanPass : Configuration → Actor → Type 0
 CanPass c (process a) = can_go (of c.core a).state ≡ true
 CanPass c (channel a b) = (q : Queue) × (got b (row_of a c.channels) ≡ Some q)
 
-module _ (m : Code) (n : ℕ) (c : Configuration) where
+module _ (m : Module) (n : ℕ) (c : Configuration) where
   pub passes_as : (x : Actor) → CanPass c x → Passes m n c x (pass_of m n c x)
   passes_as (process a) h = let t = turn_of m a c.core n (of c.core a).state in turn a t.used t.deed (turns_as m a c.core n (of c.core a).state h)
   passes_as (channel a b) h =
@@ -94,6 +94,6 @@ module _ (m : Code) (n : ℕ) (c : Configuration) where
   pass_only _ _ (turn a k d t) = ap (λ u. turn_passed a u c.channels) (turn_only m a c.core n (of c.core a).state d k t)
   pass_only _ _ (delivery a b s cs e) = ap (delivery_passed a b c) e
 
-pub pass_uses : (m : Code) (n : ℕ) (c : Configuration) (x : Actor) (p : Passed) → Passes m (suc n) c x p → 0 < p.used
+pub pass_uses : (m : Module) (n : ℕ) (c : Configuration) (x : Actor) (p : Passed) → Passes m (suc n) c x p → 0 < p.used
 pass_uses m n c _ _ (turn a k d t) = turn_uses m a c.core n (of c.core a).state d k t
 pass_uses m n c _ _ (delivery a b s cs e) = omega arith

@@ -2,7 +2,7 @@
 use Rattle.std.specs.Prelude.{ℕ, ◌==◌, not, ◌++◌, [], true, List, map, filter}
 use Rattle.pf_terms.specs.Value.{Value}
 use Rattle.pf_terms.specs.Fixed.{normal}
-use Rattle.pf_model.specs.Place.{End, returned, failed, ended}
+use Rattle.pf_model.specs.Context.{End, returned, failed, ended}
 use Rattle.pf_model.specs.Channels.{Signal, exit, down}
 use Rattle.pf_model.specs.Configuration.{Core, Left, leaving, fresh, of, with_process}
 

@@ -2,7 +2,7 @@
 use Rattle.std.specs.Prelude.{◌≡◌, ℕ, List, [], ◌∷◌, ◌++◌, Option, Some, None}
 use Rattle.pf_terms.specs.Value.{Value}
 use Rattle.pf_syntax.specs.Tree.{Tree, Clauses}
-use Rattle.pf_model.specs.Code.{Code}
+use Rattle.pf_model.specs.Module.{Module}
 use Rattle.pf_model.specs.Contraction.{picked}
 
 -- the message that is taken, the body of its clause, and the other messages in order
@@ -22,19 +22,19 @@ abbrev pub taken_or_later : Option Tree → Value → List Value → Option Take
 taken_or_later None v vs later = and_before v later
 taken_or_later (Some body) v vs later = Some (taking body v vs)
 
-abbrev pub selected : Code → ℕ → Clauses → List Value → Option Taken
+abbrev pub selected : Module → ℕ → Clauses → List Value → Option Taken
 selected m own ks [] = None
 selected m own ks (v ∷ vs) = taken_or_later (picked m own ks v) v vs (selected m own ks vs)
 
 -- ---- the same as a relation
 
 -- no clause picks any of these messages
-abbrev pub FitsNone : Code → ℕ → Clauses → List Value → Type 0
+abbrev pub FitsNone : Module → ℕ → Clauses → List Value → Type 0
 FitsNone m own ks [] = Unit {0}
 FitsNone m own ks (v ∷ vs) = (picked m own ks v ≡ None) × FitsNone m own ks vs
 
 -- the mailbox is `front`, the message and `back`; no clause picks any of `front`, and a clause picks the message
-pub record Takes (m : Code) (own : ℕ) (ks : Clauses) (mailbox : List Value) (t : Taken) : Type 0 where
+pub record Takes (m : Module) (own : ℕ) (ks : Clauses) (mailbox : List Value) (t : Taken) : Type 0 where
   pub front : List Value
   pub back : List Value
   pub mailbox_is : mailbox ≡ front ++ t.message ∷ back
@@ -43,10 +43,10 @@ pub record Takes (m : Code) (own : ℕ) (ks : Clauses) (mailbox : List Value) (t
   pub picks : picked m own ks t.message ≡ Some t.body
 
 -- function and relation agree: what is selected is what `receive` takes, and where nothing is selected no message fits
-pub record SelectsAsTakes (m : Code) (own : ℕ) (ks : Clauses) (mailbox : List Value) : Type 0 where
+pub record SelectsAsTakes (m : Module) (own : ℕ) (ks : Clauses) (mailbox : List Value) : Type 0 where
   pub some : (t : Taken) → selected m own ks mailbox ≡ Some t → Takes m own ks mailbox t
   pub only : (t : Taken) → Takes m own ks mailbox t → selected m own ks mailbox ≡ Some t
   pub nothing : selected m own ks mailbox ≡ None → FitsNone m own ks mailbox
 
 abbrev pub ReceiveIsRelation : Type 0
-ReceiveIsRelation = (m : Code) (own : ℕ) (ks : Clauses) (mailbox : List Value) → SelectsAsTakes m own ks mailbox
+ReceiveIsRelation = (m : Module) (own : ℕ) (ks : Clauses) (mailbox : List Value) → SelectsAsTakes m own ks mailbox

@@ -18,7 +18,7 @@ without_one [] = []
 without_one (n ∷ []) = []
 without_one (n ∷ m ∷ ns) = (m ∷ ns) ∷ behind n (without_one (m ∷ ns))
 
--- with one number above 0 halved downwards, by rising place
+-- with one number above 0 halved downwards, by rising index
 abbrev pub halved : List ℕ → List (List ℕ)
 halved [] = []
 halved (zero ∷ ns) = behind zero (halved ns)

@@ -3,8 +3,8 @@ use Rattle.std.specs.Prelude.{◌≡◌, ℕ, zero, suc, List, [], Option, Some,
 use Rattle.pf_terms.specs.Value.{Value}
 use Rattle.pf_syntax.specs.Tree.{Tree, Clauses, lit, receive}
 use Rattle.pf_ops.specs.Reasons.{ending_reason}
-use Rattle.pf_model.specs.Code.{Code}
-use Rattle.pf_model.specs.Place.{Frame, fill, State, running, waiting, ending, returned, failed, End, Move, goes_on, asks, awaits, returns, Moves}
+use Rattle.pf_model.specs.Module.{Module}
+use Rattle.pf_model.specs.Context.{Frame, fill, State, running, waiting, ending, returned, failed, End, Move, goes_on, asks, awaits, returns, Moves}
 use Rattle.pf_model.specs.Configuration.{Core, leaving, of, with_process, with_state}
 use Rattle.pf_model.specs.Labels as label
 use Rattle.pf_model.specs.Actions.{Acted, acted}
@@ -30,14 +30,14 @@ abbrev pub ended_so : Core → ℕ → End → Deed
 ended_so c a e = deed (ended_by c a e) (label.ends (reason_of e))
 
 -- what ends a turn: an action, a message that is taken or waited for, or the end; None where the process goes on by itself
-abbrev pub last_of_turn : Code → Core → ℕ → Move → Option Deed
+abbrev pub last_of_turn : Module → Core → ℕ → Move → Option Deed
 last_of_turn m c a (goes_on s) = None
 last_of_turn m c a (asks fs x) = Some (after_act a fs (acted m c a x))
 last_of_turn m c a (awaits fs ks) = Some (received c a fs ks (selected m a ks (of c a).mailbox))
 last_of_turn m c a (returns v) = Some (ended_so c a (returned v))
 
 -- Turn m a c n s d k: process a, in state s and with n steps left, does d within k steps
-pub data Turn (m : Code) (a : ℕ) (c : Core) : ℕ → State → Deed → ℕ → Type 0 where
+pub data Turn (m : Module) (a : ℕ) (c : Core) : ℕ → State → Deed → ℕ → Type 0 where
   cut_running : (t : Tree) → Turn m a c zero (running t) (deed (leaving (with_state c a (running t)) []) label.cut) zero
   cut_ending : (r : Value) → Turn m a c zero (ending r) (deed (leaving (with_state c a (ending r)) []) label.cut) zero
   end : (n : ℕ) (r : Value) → Turn m a c (suc n) (ending r) (ended_so c a (failed r)) 1

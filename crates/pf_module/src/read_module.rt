@@ -2,7 +2,7 @@
 
 ghost use Rattle.std.specs.Prelude.{◌≡◌, length, IfErr, IfOk};
 ghost use Rattle.pf_check.specs.Reads.{IsRefusalOf, Reads, accepted_as};
-ghost use Rattle.pf_model.specs.Code.{code_of};
+ghost use Rattle.pf_model.specs.Module.{module_of};
 ghost use Rattle.pf_module.specs.Reading.{IsReadAs};
 
 use pf_check::read;
@@ -24,7 +24,7 @@ pub struct ReadModule {
 impl Model for ReadModule {
     ghost use Rattle.std.specs.Arc.{arc_value};
     ghost use Rattle.pf_check.specs.Reads.{Reads, accepted_as};
-    ghost use Rattle.pf_model.specs.Code.{code_of};
+    ghost use Rattle.pf_model.specs.Module.{module_of};
     ghost use Rattle.pf_request.specs.Module as request;
     ghost use Rattle.pf_request.specs.Encoding.{coded_read_module};
 
@@ -32,7 +32,7 @@ impl Model for ReadModule {
 
     ghost coded = { coded_read_module };
 
-    ghost view = { λ s. record { source = s.source; code = code_of (arc_value s.module) } };
+    ghost view = { λ s. record { source = s.source; code = module_of (arc_value s.module) } };
 
     ghost invariant = { λ s. Reads s.source (accepted_as (arc_value s.module)) };
 }
@@ -61,7 +61,7 @@ impl ReadModule {
     }
 
     pub fn module(&self) -> &Arc<Module>
-        ensures code { code_of result.now.value ≡ self.now.code }
+        ensures code { module_of result.now.value ≡ self.now.code }
         ensures read { Reads self.now.source (accepted_as result.now.value) }
     {
         &self.module

@@ -1,8 +1,8 @@
--- Nodes that are found by their places, in a list that is cut at one of them.
+-- Nodes that are found by their references, in a list that is cut at one of them.
 use Rattle.std.proofs.Common.{◌≡◌, Bool, true, false, cond, List, [], ◌∷◌, ◌++◌, refl, sym, ap, ◌∙◌, Some, None}
 use Rattle.std.specs.Map.{lookup, remove_entry, set_value}
 use denote.RawPtr.{Ptr}
-use Rattle.pf_nodes.specs.Places.{same_ptr}
+use Rattle.pf_nodes.specs.NodeRefs.{same_ptr}
 use Rattle.pf_nodes.specs.Nodes.{Placed, IsApart}
 use Rattle.pf_nodes.specs.Links.{change}
 use Rattle.pf_nodes.proofs.Pointers.{same_ptr_refl, same_ptr_comm}
@@ -75,7 +75,7 @@ found_changed {X} test other f (e ∷ xs) x h =
     ] in there (test e.0) (other e.0) refl h
 
 module _ {T : Type 0} where
-  -- of nodes that lie apart, none before a node lies at its place
+  -- of nodes that lie apart, none before a node lies at its reference
   pub apart_before : (xs : List (Placed T)) (e : Placed T) (ys : List (Placed T)) → IsApart (xs ++ e ∷ ys) → Absent (same_ptr e.0) xs
   apart_before [] e ys h = refl
   apart_before (x ∷ xs) e ys h =

@@ -1,8 +1,8 @@
 -- What the walks of the raw functions share. Assumes `Logic`.
---     R, Nr, Sr, Pl, Lr, Mark      the rows of a value, a node, an owner, a place and a loose box, and of the owner's own field, which takes no bytes
---     mark_made      that field is made.        place_had, place_made, loose_had, loose_made      a place and a loose box by value
---     node_seen, node_out, node_back, node_in      of the nodes that are lent, or owned: the one at a place, taken out, put back, and added
---     fresh, knows      a node that is owned beside others lies at none of their places, and such a fact is learned
+--     R, Nr, Sr, Pl, Lr, Mark      the rows of a value, a node, an owner, a reference and a loose box, and of the owner's own field, which takes no bytes
+--     mark_made      that field is made.        node_ref_had, node_ref_made, loose_had, loose_made      a reference and a loose box by value
+--     node_seen, node_out, node_back, node_in      of the nodes that are lent, or owned: the one at a reference, taken out, put back, and added
+--     fresh, knows      a node that is owned beside others lies at none of their references, and such a fact is learned
 use mathlib.Core.Path.{◌≡◌, refl, sym, subst}
 use Prim.Native.Nat.{ℕ}
 use native.Mathlib.Omega.{arith}
@@ -35,13 +35,13 @@ use Rattle.std.specs.Prelude.{Some, None}
 use Rattle.std.specs.Box.Ownership.{box_owns}
 use Rattle.std.specs.Map.{lookup, remove_entry, set_value}
 use Rattle.std.proofs.RcSteps.{word}
-use Rattle.pf_nodes.specs.Places.{same_ptr}
+use Rattle.pf_nodes.specs.NodeRefs.{same_ptr}
 use Rattle.pf_nodes.specs.Ownership.{heap_token, nodes_own, nodes_lent}
 use Rattle.pf_nodes.proofs.Pointers.{same_ptr_eq}
-use Rattle.pf_nodes.specs.declared.raw.Place.{Place}
+use Rattle.pf_nodes.specs.declared.raw.NodeRef.{NodeRef}
 use Rattle.pf_nodes.specs.declared.raw.Node.{Node}
 use Rattle.pf_nodes.specs.contracts.raw.Loose as loose
-use Rattle.pf_nodes.specs.contracts.raw.Place as place
+use Rattle.pf_nodes.specs.contracts.raw.NodeRef as node_ref
 use Rattle.pf_nodes.specs.contracts.raw.Node as node
 use Rattle.pf_nodes.specs.contracts.raw.Nodes as nodes
 
@@ -68,17 +68,17 @@ pub mark_made : (T : RattleType) {M : Type 1} {𝓤 : Ura M} (𝓛 : Logic 𝓤)
 mark_made T 𝓛 = makes_shadow 𝓛 ((Mark T).own_val (tt, tt) (mark ∷ [])) (λ vss. (tt, ((λ uss. (tt, tt)), tt))) ((vstruct vnil ∷ [], tt), (refl, ((tt, (refl, tt)), tt)))
 
 abbrev pub Pl : RattleType
-Pl = place.the_row
+Pl = node_ref.the_row
 
 module _ {M : Type 1} {𝓤 : Ura M} {𝓛 : Logic 𝓤} {K : Type 0} {Γ : List (Item 𝓤)} {G : Goal 𝓤 𝓛.H} where
-  pub place_had : K → (c : Place) (vs : List Val) → (vs ≡ word c.ptr ∷ [] → Seq K 𝓛 Γ G) → Seq K 𝓛 (‵ (Pl.own_val c vs) ∷ Γ) G
-  place_had t c vs k = fpick t (λ vss. fsplit t $ feq_l t (λ ev. fsplit t $ feq_l t (λ e. drop t $
+  pub node_ref_had : K → (c : NodeRef) (vs : List Val) → (vs ≡ word c.ptr ∷ [] → Seq K 𝓛 Γ G) → Seq K 𝓛 (‵ (Pl.own_val c vs) ∷ Γ) G
+  node_ref_had t c vs k = fpick t (λ vss. fsplit t $ feq_l t (λ ev. fsplit t $ feq_l t (λ e. drop t $
       k (subst (λ (ws : List Val). vs ≡ vstruct (of_list (ws ++ [])) ∷ []) e ev))))
 
-  pub place_made : K → (c : Place) → Step K 𝓛 (‵ (Pl.own_val c (word c.ptr ∷ [])) ∷ Γ) G Γ G
-  place_made t c = step (λ s.
+  pub node_ref_made : K → (c : NodeRef) → Step K 𝓛 (‵ (Pl.own_val c (word c.ptr ∷ [])) ∷ Γ) G Γ G
+  node_ref_made t c = step (λ s.
       nothing t $ feq_i t (List Val) (ptr_val c.ptr ∷ []) (ptr_val c.ptr ∷ []) refl $ fjoin t $ feq_i t (List Val) (word c.ptr ∷ []) (word c.ptr ∷ []) refl $ fjoin t $
-      fpack t (Valss (RawPtr ∷ [])) (within (decl.shape place.the_type) (c.ptr, tt) (word c.ptr ∷ [])) (ptr_val c.ptr ∷ [], tt) $ s)
+      fpack t (Valss (RawPtr ∷ [])) (within (decl.shape node_ref.the_type) (c.ptr, tt) (word c.ptr ∷ [])) (ptr_val c.ptr ∷ [], tt) $ s)
 
 -- Some is not None
 none_is : {X : Type 0} (x : X) → None ≡ Some x → ⊥
@@ -160,7 +160,7 @@ node_size : (T : RattleType) (o : ℕ) → Within o o (size (lone (Nr T).mir))
 node_size T o = (omega arith, omega arith)
 
 module _ {M : Type 1} {𝓤 : Ura M} (𝓛 : Logic 𝓤) (𝓜 : Model 𝓤 𝓛.H) (T : RattleType) where
-  -- two nodes do not lie at one place
+  -- two nodes do not lie at one reference
   crowd : (p : Ptr) (x y : Node (R T).Denot) → ent 𝓤 (sep 𝓤 (sem 𝓛 (box_owns heap_token (Nr T) p x)) (sem 𝓛 (box_owns heap_token (Nr T) p y))) (never 𝓤)
   crowd null_ptr x y = via 𝓤 (sem 𝓛 (box_owns heap_token (Nr T) null_ptr x)) (fst∗ 𝓤 (sem 𝓛 (box_owns heap_token (Nr T) null_ptr x)) (sem 𝓛 (box_owns heap_token (Nr T) null_ptr y))) (fst∗ 𝓤 (never 𝓤) (sem 𝓛 (heap_token (bare (lone (Nr T).mir)) null_ptr)))
   crowd (block_ptr b o) x y =
@@ -170,7 +170,7 @@ module _ {M : Type 1} {𝓤 : Ura M} (𝓛 : Logic 𝓤) (𝓜 : Model 𝓤 𝓛
       move ! (2 ∷ []) $ use1 𝓛 (some (λ (w : Val). ‵ (fat full_share τ b o w) ⊛ ‵ (own y w))) (part_out 𝓛 (Nr T) refl full_share y b o) $ pick ! (λ w. split ! $ move ! (2 ∷ 0 ∷ []) $ keep ! (0 ∷ 1 ∷ []) $
       by ! (𝓜.room_at τ τ b o o o full_share w (node_size T o) (node_size T o))))
 
-  -- a node that is owned beside others lies at none of their places
+  -- a node that is owned beside others lies at none of their references
   pub fresh : (p : Ptr) (n : Node (R T).Denot) (ns : List (Ptr × Node (R T).Denot))
       → ent 𝓤 (sep 𝓤 (sem 𝓛 (box_owns heap_token (Nr T) p n)) (sem 𝓛 (nodes_own (R T) ns))) (fact 𝓤 (lookup (same_ptr p) ns ≡ None))
   fresh p n [] = fact_i 𝓤 (None ≡ None) _ refl

@@ -2,7 +2,7 @@
 use Rattle.std.proofs.Common.{◌≡◌, Bool, true, false, ◌&&◌, ◌==◌, refl, sym, subst, T, eqb→eq}
 use lib.Dec.{eqb_refl}
 use denote.RawPtr.{Ptr, block_ptr, null_ptr}
-use Rattle.pf_nodes.specs.Places.{same_ptr}
+use Rattle.pf_nodes.specs.NodeRefs.{same_ptr}
 
 true_of : (b : Bool) → T b → b ≡ true
 true_of true t = refl

@@ -3,15 +3,15 @@ use Rattle.std.proofs.Common.{◌≡◌, ℕ, ◌+◌, ◌-◌, ◌<◌, List, [
 use Rattle.std.proofs.lemmas.List.{reverse-append, length-append}
 use Rattle.std.specs.Map.{lookup, remove_entry}
 use denote.RawPtr.{Ptr}
-use Rattle.pf_nodes.specs.Places.{same_ptr, same_place, IsPlace}
-use Rattle.pf_nodes.specs.Nodes.{Placed, place_of, IsSpare, IsApart, IsStack, IsPool}
-use Rattle.pf_nodes.specs.declared.raw.Place.{Place}
+use Rattle.pf_nodes.specs.NodeRefs.{same_ptr, same_node_ref, IsNodeRef}
+use Rattle.pf_nodes.specs.Nodes.{Placed, node_ref_of, IsSpare, IsApart, IsStack, IsPool}
+use Rattle.pf_nodes.specs.declared.raw.NodeRef.{NodeRef}
 use Rattle.pf_nodes.specs.declared.raw.Node.{Node}
 use Rattle.pf_nodes.proofs.Cuts.{Absent, apart_push, apart_without, lookup_at, remove_at, some_none}
 use Rattle.pf_nodes.proofs.Chains.{ends}
 
 module _ {T : Type 0} where
-  pub pool_pushed : (ns : List (Placed T)) (top : Option Place) (count : ℕ) (p : Ptr) (n : Node T) → IsPool ns top count → Absent (same_ptr p) ns → IsSpare n → n.next ≡ top → (count ≡ 1024 → ⊥)
+  pub pool_pushed : (ns : List (Placed T)) (top : Option NodeRef) (count : ℕ) (p : Ptr) (n : Node T) → IsPool ns top count → Absent (same_ptr p) ns → IsSpare n → n.next ≡ top → (count ≡ 1024 → ⊥)
       → IsPool (ns ++ (p, n) ∷ []) (Some (record { ptr = p })) (count + 1)
   pool_pushed ns top count p n h fresh spare next_is room =
       let len = h.count_is in let within = h.within in
@@ -23,37 +23,37 @@ module _ {T : Type 0} where
       }
 
   -- the node on top of a stack, and those below it
-  record Top (ns : List (Placed T)) (place : Place) : Type 0 where
+  record Top (ns : List (Placed T)) (node_ref : NodeRef) : Type 0 where
     below : List (Placed T)
     node : Node T
-    cut : ns ≡ below ++ (place.ptr, node) ∷ []
+    cut : ns ≡ below ++ (node_ref.ptr, node) ∷ []
     spare : IsSpare node
     rest : IsStack node.next (reverse below)
 
-  top_of : (ns : List (Placed T)) (place : Place) → IsStack (Some place) (reverse ns) → Top ns place
-  top_of ns place h = elim (ends ns) [
-    | inl e ↦ some_none place (subst (λ l. IsStack (Some place) (reverse l)) e h)
+  top_of : (ns : List (Placed T)) (node_ref : NodeRef) → IsStack (Some node_ref) (reverse ns) → Top ns node_ref
+  top_of ns node_ref h = elim (ends ns) [
+    | inl e ↦ some_none node_ref (subst (λ l. IsStack (Some node_ref) (reverse l)) e h)
     | inr f ↦
-        let s = subst (λ l. IsStack (Some place) l) (ap reverse f.2 ∙ reverse-append f.0 (f.1 ∷ [])) h in
-        let same : place ≡ place_of f.1 = cc in
+        let s = subst (λ l. IsStack (Some node_ref) l) (ap reverse f.2 ∙ reverse-append f.0 (f.1 ∷ [])) h in
+        let same : node_ref ≡ node_ref_of f.1 = cc in
         record { below = f.0; node = f.1.1; cut = f.2 ∙ (λ i. f.0 ++ ((sym same i).ptr, f.1.1) ∷ []); spare = s.1; rest = s.2 }
   ]
 
-  module _ (ns : List (Placed T)) (place : Place) (count : ℕ) (h : IsPool ns (Some place) count) where
-    at_top : Top ns place
-    at_top = top_of ns place h.stacked
+  module _ (ns : List (Placed T)) (node_ref : NodeRef) (count : ℕ) (h : IsPool ns (Some node_ref) count) where
+    at_top : Top ns node_ref
+    at_top = top_of ns node_ref h.stacked
 
-    found : lookup (same_place place) ns ≡ Some at_top.node
-    found = ap (lookup (same_place place)) at_top.cut ∙ lookup_at at_top.below (place.ptr, at_top.node) [] (subst IsApart at_top.cut h.apart)
+    found : lookup (same_node_ref node_ref) ns ≡ Some at_top.node
+    found = ap (lookup (same_node_ref node_ref)) at_top.cut ∙ lookup_at at_top.below (node_ref.ptr, at_top.node) [] (subst IsApart at_top.cut h.apart)
 
-    pub pool_found : IsPlace ns place
+    pub pool_found : IsNodeRef ns node_ref
     pool_found = (at_top.node, found)
 
-    popped : IsPool (remove_entry (same_place place) ns) at_top.node.next (count - 1)
+    popped : IsPool (remove_entry (same_node_ref node_ref) ns) at_top.node.next (count - 1)
     popped =
-        let t = at_top in let e : Placed T = (place.ptr, t.node) in let apart = subst IsApart t.cut h.apart in
+        let t = at_top in let e : Placed T = (node_ref.ptr, t.node) in let apart = subst IsApart t.cut h.apart in
         let len = h.count_is in let within = h.within in let cut = ap length t.cut in
-        let left : t.below ++ [] ≡ remove_entry (same_place place) ns = sym (ap (remove_entry (same_place place)) t.cut ∙ remove_at t.below e [] apart) in
+        let left : t.below ++ [] ≡ remove_entry (same_node_ref node_ref) ns = sym (ap (remove_entry (same_node_ref node_ref)) t.cut ∙ remove_at t.below e [] apart) in
         subst (λ l. IsPool l t.node.next (count - 1)) (sym (append-nil t.below) ∙ left) (record {
           apart = subst IsApart (append-nil t.below) (apart_without t.below e [] apart);
           stacked = t.rest;
@@ -61,18 +61,18 @@ module _ {T : Type 0} where
           within = omega arith;
         })
 
-    pub pool_popped : (n : Node T) (rest : List (Placed T)) → lookup (same_place place) ns ≡ Some n → rest ≡ remove_entry (same_place place) ns → IsSpare n × (0 < count) × IsPool rest n.next (count - 1)
+    pub pool_popped : (n : Node T) (rest : List (Placed T)) → lookup (same_node_ref node_ref) ns ≡ Some n → rest ≡ remove_entry (same_node_ref node_ref) ns → IsSpare n × (0 < count) × IsPool rest n.next (count - 1)
     pool_popped n rest e left =
         let t = at_top in let f = found in let same : t.node ≡ n = cc in let len = h.count_is in let cut = ap length t.cut in (
           subst IsSpare same t.spare,
-          omega (arith, length-append t.below ((place.ptr, t.node) ∷ [])),
-          subst (λ l. IsPool l n.next (count - 1)) (sym left) (subst (λ m. IsPool (remove_entry (same_place place) ns) m.next (count - 1)) same popped),
+          omega (arith, length-append t.below ((node_ref.ptr, t.node) ∷ [])),
+          subst (λ l. IsPool l n.next (count - 1)) (sym left) (subst (λ m. IsPool (remove_entry (same_node_ref node_ref) ns) m.next (count - 1)) same popped),
         )
 
-  pub pool_empty : (ns : List (Placed T)) (top : Option Place) (count : ℕ) → IsPool ns top count → top ≡ None → count ≡ 0
+  pub pool_empty : (ns : List (Placed T)) (top : Option NodeRef) (count : ℕ) → IsPool ns top count → top ≡ None → count ≡ 0
   pool_empty ns top count h none = elim (ends ns) [
     | inl e ↦ h.count_is ∙ ap length e
     | inr f ↦
         let s = subst (λ l. IsStack top l) (ap reverse f.2 ∙ reverse-append f.0 (f.1 ∷ [])) h.stacked in
-        some_none (place_of f.1) (sym s.0 ∙ none)
+        some_none (node_ref_of f.1) (sym s.0 ∙ none)
   ]

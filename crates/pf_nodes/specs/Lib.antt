@@ -4,4 +4,4 @@ pub mod Links
 pub mod Mail
 pub mod Nodes
 pub mod Ownership
-pub mod Places
+pub mod NodeRefs

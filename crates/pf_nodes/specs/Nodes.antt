@@ -3,42 +3,42 @@ use Rattle.std.specs.Prelude.{◌≡◌, ℕ, ◌≤◌, List, [], ◌∷◌, le
 use Rattle.std.specs.List.{filter_map}
 use Rattle.std.specs.Map.{lookup}
 use denote.RawPtr.{Ptr}
-use Rattle.pf_nodes.specs.Places.{same_ptr}
-use Rattle.pf_nodes.specs.declared.raw.Place.{Place}
+use Rattle.pf_nodes.specs.NodeRefs.{same_ptr}
+use Rattle.pf_nodes.specs.declared.raw.NodeRef.{NodeRef}
 use Rattle.pf_nodes.specs.declared.raw.Node.{Node}
 
 -- the node has no value
 abbrev pub IsSpare : {T : Type 0} → Node T → Type 0
 IsSpare n = n.value ≡ None
 
--- a place, with the node that lies there
+-- a reference, with the node that lies there
 abbrev pub Placed : Type 0 → Type 0
 Placed T = Ptr × Node T
 
 module _ {T : Type 0} where
   -- where it lies
-  abbrev pub place_of : Placed T → Place
-  place_of e = record { ptr = e.0 }
+  abbrev pub node_ref_of : Placed T → NodeRef
+  node_ref_of e = record { ptr = e.0 }
 
-  -- no two nodes lie at one place
+  -- no two nodes lie at one reference
   abbrev pub IsApart : List (Placed T) → Type 0
   IsApart [] = Unit {0}
   IsApart (e ∷ es) = (lookup (same_ptr e.0) es ≡ None) × IsApart es
 
-  -- where the first node lies, or else the place a
-  abbrev pub first_or : List (Placed T) → Option Place → Option Place
+  -- where the first node lies, or else the reference a
+  abbrev pub first_or : List (Placed T) → Option NodeRef → Option NodeRef
   first_or [] a = a
-  first_or (e ∷ es) a = Some (place_of e)
+  first_or (e ∷ es) a = Some (node_ref_of e)
 
-  -- where the last node lies, or else the place b
-  abbrev pub last_or : Option Place → List (Placed T) → Option Place
+  -- where the last node lies, or else the reference b
+  abbrev pub last_or : Option NodeRef → List (Placed T) → Option NodeRef
   last_or b [] = b
-  last_or b (e ∷ es) = last_or (Some (place_of e)) es
+  last_or b (e ∷ es) = last_or (Some (node_ref_of e)) es
 
   -- each node leads back to the one before it and on to the one after it, from b before them to a after them
-  abbrev pub IsLinked : Option Place → List (Placed T) → Option Place → Type 0
+  abbrev pub IsLinked : Option NodeRef → List (Placed T) → Option NodeRef → Type 0
   IsLinked b [] a = Unit {0}
-  IsLinked b (e ∷ es) a = (e.1.prev ≡ b) × (e.1.next ≡ first_or es a) × IsLinked (Some (place_of e)) es a
+  IsLinked b (e ∷ es) a = (e.1.prev ≡ b) × (e.1.next ≡ first_or es a) × IsLinked (Some (node_ref_of e)) es a
 
   -- each node has a value
   abbrev pub IsFull : List (Placed T) → Type 0
@@ -49,8 +49,8 @@ module _ {T : Type 0} where
   abbrev pub values : List (Placed T) → List T
   values = filter_map (λ e. e.1.value)
 
-  -- the nodes of a list, with the places of its ends and its mark
-  pub record IsMail (nodes : List (Placed T)) (front back at : Option Place) (position count : ℕ) : Type 0 where
+  -- the nodes of a list, with the references of its ends and its mark
+  pub record IsMail (nodes : List (Placed T)) (front back at : Option NodeRef) (position count : ℕ) : Type 0 where
     pub apart : IsApart nodes
     pub linked : IsLinked None nodes None
     pub full : IsFull nodes
@@ -61,12 +61,12 @@ module _ {T : Type 0} where
     pub count_is : count ≡ length nodes
 
   -- the nodes below top in a stack, each with no value and leading on to the one below it
-  abbrev pub IsStack : Option Place → List (Placed T) → Type 0
+  abbrev pub IsStack : Option NodeRef → List (Placed T) → Type 0
   IsStack top [] = top ≡ None
-  IsStack top (e ∷ es) = (top ≡ Some (place_of e)) × IsSpare e.1 × IsStack e.1.next es
+  IsStack top (e ∷ es) = (top ≡ Some (node_ref_of e)) × IsSpare e.1 × IsStack e.1.next es
 
   -- the nodes of a pool, of which the last that came is on top
-  pub record IsPool (nodes : List (Placed T)) (top : Option Place) (count : ℕ) : Type 0 where
+  pub record IsPool (nodes : List (Placed T)) (top : Option NodeRef) (count : ℕ) : Type 0 where
     pub apart : IsApart nodes
     pub stacked : IsStack top (reverse nodes)
     pub count_is : count ≡ length nodes

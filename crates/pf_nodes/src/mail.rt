@@ -4,7 +4,7 @@ ghost use Rattle.std.specs.Fn.{FnReturnsAt};
 ghost use Rattle.pf_nodes.specs.Find.{IsAtMark, PassesRefused, EndsAs};
 ghost use Rattle.pf_nodes.specs.Mail.{mail};
 
-use crate::raw::{Loose, Node, Nodes, Place};
+use crate::raw::{Loose, Node, NodeRef, Nodes};
 use crate::spare::{CAPACITY, Pool};
 use std::alloc::Global;
 use std::marker::Model;
@@ -27,9 +27,9 @@ impl Spot {
 /// A list of items with a mark, which is a position from 0 to the length.
 pub struct MailList<T> {
     nodes: Nodes<T>,
-    front: Option<Place>,
-    back: Option<Place>,
-    at: Option<Place>,
+    front: Option<NodeRef>,
+    back: Option<NodeRef>,
+    at: Option<NodeRef>,
     position: usize,
     count: usize,
     alloc: Global,
@@ -104,8 +104,8 @@ impl<T> MailList<T> {
         ensures refused { PassesRefused (FnReturnsAt F.Fn f) self.old self.new }
         ensures found { EndsAs (FnReturnsAt F.Fn f) self.old self.new result }
     {
-        while let Some(place) = self.at {
-            let node = self.nodes.get(place);
+        while let Some(node_ref) = self.at {
+            let node = self.nodes.get(node_ref);
             let Some(item) = &node.value else {
                 unreachable!();
             };
@@ -144,11 +144,11 @@ impl<T: Drop> MailList<T> {
         };
         node.next = None;
         node.value = Some(value);
-        let place = self.nodes.add(Loose::of(node));
-        self.nodes.join(self.back, Some(place));
-        self.front = self.front.or(Some(place));
-        self.back = Some(place);
-        self.at = self.at.or(Some(place));
+        let node_ref = self.nodes.add(Loose::of(node));
+        self.nodes.join(self.back, Some(node_ref));
+        self.front = self.front.or(Some(node_ref));
+        self.back = Some(node_ref);
+        self.at = self.at.or(Some(node_ref));
         self.count += 1;
         Ok(())
     }
@@ -159,10 +159,10 @@ impl<T: Drop> MailList<T> {
         ensures item { slice_get self.old.items self.old.mark ≡ result.value.value }
         ensures others { self.new ≡ mail (remove self.old.items self.old.mark) self.old.mark }
     {
-        let Some(place) = self.at else {
+        let Some(node_ref) = self.at else {
             unreachable!();
         };
-        let node = self.nodes.remove(place).into_box(self.alloc);
+        let node = self.nodes.remove(node_ref).into_box(self.alloc);
         let prev = node.prev;
         let next = node.next;
         self.nodes.join(prev, next);

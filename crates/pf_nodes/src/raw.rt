@@ -6,7 +6,7 @@ ghost use Rattle.std.specs.Map.{lookup, remove_entry};
 ghost use denote.RawPtr.{Ptr};
 ghost use Rattle.pf_nodes.specs.declared.raw.Node.{Node};
 ghost use Rattle.pf_nodes.specs.Nodes.{IsSpare};
-ghost use Rattle.pf_nodes.specs.Places.{IsPlace, same_place};
+ghost use Rattle.pf_nodes.specs.NodeRefs.{IsNodeRef, same_node_ref};
 ghost use Rattle.pf_nodes.specs.Ownership.{heap_token, nodes_own, nodes_lent};
 
 use std::alloc::Global;
@@ -14,17 +14,17 @@ use std::marker::{Model, PhantomData, Send};
 
 /// Where a node lies. It owns nothing.
 #[derive(Clone, Copy)]
-pub struct Place {
+pub struct NodeRef {
     ptr: *mut u8,
 }
 
-unsafe impl Send for Place {}
+unsafe impl Send for NodeRef {}
 
-/// A node: the places of the one before it and the one after it, and its value.
+/// A node: the references of the one before it and the one after it, and its value.
 #[derive(Drop)]
 pub struct Node<T> {
-    pub(crate) prev: Option<Place>,
-    pub(crate) next: Option<Place>,
+    pub(crate) prev: Option<NodeRef>,
+    pub(crate) next: Option<NodeRef>,
     pub(crate) value: Option<T>,
 }
 
@@ -70,7 +70,7 @@ impl<X: Drop> Loose<X> {
     }
 }
 
-/// The owner of nodes, each known by its place. It takes no space.
+/// The owner of nodes, each known by its reference. It takes no space.
 pub struct Nodes<T> {
     mark: PhantomData<*mut Node<T>>,
     ghost items: { List (Ptr × Node T) },
@@ -101,41 +101,41 @@ impl<T> Nodes<T> {
     }
 
     /// Owns one more node, and says where it lies.
-    pub(crate) fn add(&mut self, node: Loose<Node<T>>) -> Place
-        ensures fresh { lookup (same_place result) self.old.items ≡ None }
+    pub(crate) fn add(&mut self, node: Loose<Node<T>>) -> NodeRef
+        ensures fresh { lookup (same_node_ref result) self.old.items ≡ None }
         ensures items { self.new.items ≡ self.old.items ++ (result.ptr, node.value) ∷ [] }
     {
         let Loose { ptr } = node;
-        Place {
+        NodeRef {
             ptr: ptr as *mut u8,
         }
     }
 
     /// Gives a node away.
-    pub(crate) fn remove(&mut self, place: Place) -> Loose<Node<T>>
-        requires { IsPlace self.old.items place }
-        ensures node { lookup (same_place place) self.old.items ≡ Some result.value }
-        ensures items { self.new.items ≡ remove_entry (same_place place) self.old.items }
+    pub(crate) fn remove(&mut self, node_ref: NodeRef) -> Loose<Node<T>>
+        requires { IsNodeRef self.old.items node_ref }
+        ensures node { lookup (same_node_ref node_ref) self.old.items ≡ Some result.value }
+        ensures items { self.new.items ≡ remove_entry (same_node_ref node_ref) self.old.items }
     {
         Loose {
-            ptr: place.ptr as *mut Node<T>,
+            ptr: node_ref.ptr as *mut Node<T>,
         }
     }
 
     /// Reads a node.
-    pub(crate) fn get(&self, place: Place) -> &Node<T>
-        requires { IsPlace self.now.items place }
-        ensures { lookup (same_place place) self.now.items ≡ Some result.now }
+    pub(crate) fn get(&self, node_ref: NodeRef) -> &Node<T>
+        requires { IsNodeRef self.now.items node_ref }
+        ensures { lookup (same_node_ref node_ref) self.now.items ≡ Some result.now }
     {
-        unsafe { &*(place.ptr as *mut Node<T>) }
+        unsafe { &*(node_ref.ptr as *mut Node<T>) }
     }
 
     /// Lends a node.
-    pub(crate) fn get_mut(&mut self, place: Place) -> &mut Node<T>
-        requires { IsPlace self.old.items place }
-        ensures* writes_back { sem 𝓛 (LendsNode T.row self.entry place result) }
-        ensures value { lookup (same_place place) self.old.items ≡ Some result.now }
+    pub(crate) fn get_mut(&mut self, node_ref: NodeRef) -> &mut Node<T>
+        requires { IsNodeRef self.old.items node_ref }
+        ensures* writes_back { sem 𝓛 (LendsNode T.row self.entry node_ref result) }
+        ensures value { lookup (same_node_ref node_ref) self.old.items ≡ Some result.now }
     {
-        unsafe { &mut *(place.ptr as *mut Node<T>) }
+        unsafe { &mut *(node_ref.ptr as *mut Node<T>) }
     }
 }

@@ -2,7 +2,7 @@
 ghost use Rattle.std.specs.Prelude.{◌≡◌, ℕ, ◌+◌, ◌-◌, ◌≤◌, MatchOption, min};
 ghost use Rattle.pf_nodes.specs.Nodes.{IsSpare};
 
-use crate::raw::{Loose, Node, Nodes, Place};
+use crate::raw::{Loose, Node, NodeRef, Nodes};
 use std::alloc::Global;
 use std::marker::Model;
 
@@ -12,7 +12,7 @@ pub(crate) const CAPACITY: usize = 1024;
 /// At most 1,024 spare nodes, none of which has a value. A contract sees how many they are.
 pub struct Pool<T> {
     nodes: Nodes<T>,
-    top: Option<Place>,
+    top: Option<NodeRef>,
     count: usize,
     alloc: Global,
 }
@@ -56,10 +56,10 @@ impl<T: Drop> Pool<T> {
     fn take(&mut self) -> Option<Box<Node<T>>>
         ensures { MatchOption result ((self.old ≡ 0) × (self.new ≡ 0)) (λ b. IsSpare b.value × (self.new + 1 ≡ self.old)) }
     {
-        let Some(place) = self.top else {
+        let Some(node_ref) = self.top else {
             return None;
         };
-        let node = self.nodes.remove(place).into_box(self.alloc);
+        let node = self.nodes.remove(node_ref).into_box(self.alloc);
         self.top = node.next;
         self.count -= 1;
         Some(node)
@@ -84,8 +84,8 @@ impl<T: Drop> Pool<T> {
             return;
         }
         node.next = self.top;
-        let place = self.nodes.add(Loose::of(node));
-        self.top = Some(place);
+        let node_ref = self.nodes.add(Loose::of(node));
+        self.top = Some(node_ref);
         self.count += 1;
     }
 }

@@ -77,11 +77,11 @@ fn tuple_size(value: &Term) -> Answer
     }
 }
 
-/// The item at a place, counted from 0.
-fn at(items: &[Term], place: usize) -> Option<&Term>
-    ensures { option_map (λ v. v.now) result ≡ slice_get items.now place }
+/// The item at an index, counted from 0.
+fn at(items: &[Term], index: usize) -> Option<&Term>
+    ensures { option_map (λ v. v.now) result ≡ slice_get items.now index }
 {
-    items.get(place)
+    items.get(index)
 }
 
 /// The element of this number, counted from 1.

@@ -20,7 +20,7 @@ use crate::build::{cons, tuple};
 use crate::builtins::compute;
 use crate::operators::apply;
 use pf_patterns::operand;
-use pf_syntax::{Builtin, Guard, Module, Node, Operator, Part};
+use pf_syntax::{Builtin, Guard, Module, Node, Operand, Operator};
 use pf_terms::{AtomId, List, NoMemory, Term};
 use std::alloc::Global;
 
@@ -52,14 +52,14 @@ fn is_true(worth: &Option<Term>) -> bool
 
 /// The value of a test, None where it is an error.
 #[cycle(worth)]
-fn worth(alloc: Global, around: &Surroundings, part: Part) -> Result<Option<Term>, NoMemory>
+fn worth(alloc: Global, around: &Surroundings, part: Operand) -> Result<Option<Term>, NoMemory>
     ensures { IfOk result (λ o. option_map value_of o
         ≡ worth_in around.now (part_over (tables_in around.now) part)) }
 {
     match operand(around.code, part, around.env, around.base)? {
         Some(value) => Ok(Some(value)),
         None => match part {
-            Part::Node(id) => match around.code.node(id) {
+            Operand::Node(id) => match around.code.node(id) {
                 Some(node) => node_worth(alloc, around, node),
                 None => Ok(Some(Term::List(List::Nil))),
             },
@@ -101,7 +101,7 @@ fn node_worth(alloc: Global, around: &Surroundings, node: &Node) -> Result<Optio
 fn all_worth(
     alloc: Global,
     around: &Surroundings,
-    parts: &[Part],
+    parts: &[Operand],
 ) -> Result<Option<Vec<Term>>, NoMemory>
     ensures { IfOk result (λ o. option_map (λ items. values_of items.items) o
         ≡ all_worth_in around.now (parts_over (tables_in around.now) parts.now)) }
@@ -121,7 +121,7 @@ fn all_worth(
 fn tuple_worth(
     alloc: Global,
     around: &Surroundings,
-    parts: &[Part],
+    parts: &[Operand],
 ) -> Result<Option<Term>, NoMemory>
     ensures { IfOk result (λ o. option_map value_of o
         ≡ worth_in around.now (tree.tuple (parts_over (tables_in around.now) parts.now))) }
@@ -137,8 +137,8 @@ fn tuple_worth(
 fn cons_worth(
     alloc: Global,
     around: &Surroundings,
-    first: Part,
-    rest: Part,
+    first: Operand,
+    rest: Operand,
 ) -> Result<Option<Term>, NoMemory>
     ensures { IfOk result (λ o. option_map value_of o ≡ worth_in around.now
         (tree.cons (part_over (tables_in around.now) first) (part_over (tables_in around.now) rest))) }
@@ -158,8 +158,8 @@ fn binary_worth(
     alloc: Global,
     around: &Surroundings,
     operator: Operator,
-    left: Part,
-    right: Part,
+    left: Operand,
+    right: Operand,
 ) -> Result<Option<Term>, NoMemory>
     ensures { IfOk result (λ o. option_map value_of o ≡ worth_in around.now (tree.op (operator_of operator)
         (part_over (tables_in around.now) left) (part_over (tables_in around.now) right))) }
@@ -175,7 +175,11 @@ fn binary_worth(
 
 /// Unary minus of a test.
 #[cycle(worth)]
-fn negated_worth(alloc: Global, around: &Surroundings, part: Part) -> Result<Option<Term>, NoMemory>
+fn negated_worth(
+    alloc: Global,
+    around: &Surroundings,
+    part: Operand,
+) -> Result<Option<Term>, NoMemory>
     ensures { IfOk result (λ o. option_map value_of o
         ≡ worth_in around.now (tree.neg (part_over (tables_in around.now) part))) }
 {
@@ -194,8 +198,8 @@ fn decided_worth(
     alloc: Global,
     around: &Surroundings,
     decides: bool,
-    left: Part,
-    right: Part,
+    left: Operand,
+    right: Operand,
 ) -> Result<Option<Term>, NoMemory>
     ensures { IfOk result (λ o. option_map value_of o ≡ decided_in around.now decides
         (part_over (tables_in around.now) left) (part_over (tables_in around.now) right)) }
@@ -216,7 +220,7 @@ fn builtin_worth(
     alloc: Global,
     around: &Surroundings,
     builtin: Builtin,
-    parts: &[Part],
+    parts: &[Operand],
 ) -> Result<Option<Term>, NoMemory>
     ensures { IfOk result (λ o. option_map value_of o ≡ worth_in around.now
         (tree.builtin (builtin_of builtin) (parts_over (tables_in around.now) parts.now))) }
@@ -231,7 +235,7 @@ fn builtin_worth(
 }
 
 /// Whether every test gives `true`.
-fn all_true(alloc: Global, around: &Surroundings, tests: &[Part]) -> Result<bool, NoMemory>
+fn all_true(alloc: Global, around: &Surroundings, tests: &[Operand]) -> Result<bool, NoMemory>
     ensures { IfOk result (λ b. b ≡ all_true_in around.now (parts_over (tables_in around.now) tests.now)) }
 {
     for test in tests {

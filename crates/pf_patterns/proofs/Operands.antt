@@ -2,7 +2,7 @@
 use Rattle.std.proofs.Common.{◌≡◌, ℕ, ◌-◌, length, None, ap}
 use Rattle.std.specs.Prelude.{slice_get}
 use Rattle.pf_syntax.specs.Module.{Tables}
-use Rattle.pf_syntax.specs.declared.node.Part.TheVariants as part
+use Rattle.pf_syntax.specs.declared.node.Operand.TheVariants as part
 use Rattle.pf_patterns.specs.Fit.{Scope}
 use Rattle.pf_patterns.specs.Substitution.{value_or_var}
 use Rattle.pf_patterns.specs.Operands.{HasNoValue}

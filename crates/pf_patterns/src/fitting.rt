@@ -35,7 +35,7 @@ pub fn bind(
                 env.push(copied(value)?)?;
                 Ok(true)
             }
-            PatternNode::Slot(place) => Ok(fits_slot(env.as_slice(), base, *place, value)),
+            PatternNode::Slot(index) => Ok(fits_slot(env.as_slice(), base, *index, value)),
             PatternNode::Int(n) => Ok(matches!(value, Term::Int(other) if n == other)),
             PatternNode::Atom(atom) => Ok(matches!(value, Term::Atom(other) if atom == other)),
             PatternNode::Nil => Ok(matches!(value, Term::List(list) if list.split().is_none())),

@@ -10,7 +10,7 @@ ghost use Rattle.pf_patterns.specs.Scopes.{scope_if};
 ghost use Rattle.pf_patterns.specs.Slots.{activation};
 ghost use Rattle.pf_patterns.specs.Operands.{IsOperand};
 
-use pf_syntax::{LiteralId, Module, Part};
+use pf_syntax::{LiteralId, Module, Operand};
 use pf_terms::{List, NoMemory, Term, copy, equal};
 
 /// The same value. Most are integers, and these need no call.
@@ -24,19 +24,19 @@ pub fn copied(value: &Term) -> Result<Term, NoMemory>
     }
 }
 
-/// The value of a place in the activation that begins at `base`.
-pub fn slot(env: &[Term], base: usize, place: u32) -> Option<&Term>
-    ensures { option_map (λ v. value_of v.now) result ≡ slice_get (activation env.now base) place }
+/// The value of a slot in the activation that begins at `base`.
+pub fn slot(env: &[Term], base: usize, index: u32) -> Option<&Term>
+    ensures { option_map (λ v. value_of v.now) result ≡ slice_get (activation env.now base) index }
 {
-    env.get(base..)?.get(place as usize)
+    env.get(base..)?.get(index as usize)
 }
 
-/// Whether a value is that of a place in the activation.
-pub(crate) fn fits_slot(env: &[Term], base: usize, place: u32, value: &Term) -> bool
-    ensures { fit (variable place) (value_of value.now) (activation env.now base)
+/// Whether a value is that of a slot in the activation.
+pub(crate) fn fits_slot(env: &[Term], base: usize, index: u32, value: &Term) -> bool
+    ensures { fit (variable index) (value_of value.now) (activation env.now base)
         ≡ scope_if result (drop base env.now) }
 {
-    match slot(env, base, place) {
+    match slot(env, base, index) {
         Some(known) => equal(known, value),
         None => false,
     }
@@ -66,21 +66,21 @@ pub(crate) fn fits_literal(code: &Module, id: LiteralId, value: &Term) -> bool
 #[inline(always)]
 pub fn operand(
     code: &Module,
-    part: Part,
+    part: Operand,
     env: &[Term],
     base: usize,
 ) -> Result<Option<Term>, NoMemory>
     ensures { IfOk result (λ o. IsOperand code.now.tables (activation env.now base) part o) }
 {
     match part {
-        Part::Slot(place) => match slot(env, base, place) {
+        Operand::Slot(index) => match slot(env, base, index) {
             Some(value) => Ok(Some(copied(value)?)),
             None => Ok(None),
         },
-        Part::Int(n) => Ok(Some(Term::Int(n))),
-        Part::Atom(atom) => Ok(Some(Term::Atom(atom))),
-        Part::Nil => Ok(Some(Term::List(List::Nil))),
-        Part::Literal(id) => Ok(Some(literal(code, id)?)),
-        Part::Node(_) => Ok(None),
+        Operand::Int(n) => Ok(Some(Term::Int(n))),
+        Operand::Atom(atom) => Ok(Some(Term::Atom(atom))),
+        Operand::Nil => Ok(Some(Term::List(List::Nil))),
+        Operand::Literal(id) => Ok(Some(literal(code, id)?)),
+        Operand::Node(_) => Ok(None),
     }
 }

@@ -24,16 +24,16 @@ pub(crate) struct Walk<'a> {
     value: &'a Term,
 }
 
-/// Whether a part is the value of a place in scope, where so many variables of the pattern are bound.
-fn fits_place(walk: &Walk, place: u32, value: Seen, bound: usize) -> bool
-    ensures { spec.fit (variable place) (seen_value value.entry) (scope_at walk.now bound)
+/// Whether a part is the value of a slot in scope, where so many variables of the pattern are bound.
+fn fits_index(walk: &Walk, index: u32, value: Seen, bound: usize) -> bool
+    ensures { spec.fit (variable index) (seen_value value.entry) (scope_at walk.now bound)
         ≡ spec.kept_if result (scope_at walk.now bound) }
 {
-    let place = place as usize;
-    match walk.scope.get(place) {
+    let index = index as usize;
+    match walk.scope.get(index) {
         Some(known) => equal_seen(Seen::Whole(known), value),
         None => {
-            let number = place - walk.scope.len();
+            let number = index - walk.scope.len();
             if number >= bound {
                 return false;
             }
@@ -66,7 +66,7 @@ fn fits_part(walk: &Walk, part: PatternId, value: Seen, bound: usize) -> Option<
         Some(node) => match node {
             PatternNode::Any => Some(bound),
             PatternNode::New => Some(bound + 1),
-            PatternNode::Slot(place) => fits_place(walk, *place, value, bound).then_some(bound),
+            PatternNode::Slot(index) => fits_index(walk, *index, value, bound).then_some(bound),
             PatternNode::Int(n) => {
                 matches!(value, Seen::Whole(Term::Int(other)) if n == other).then_some(bound)
             }

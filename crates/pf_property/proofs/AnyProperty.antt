@@ -12,8 +12,8 @@ use Rattle.pf_tokens.specs.Rules.{HasTokens}
 use Rattle.pf_tokens.specs.Scan.{Read, tokens}
 use Rattle.pf_tokens.proofs.Texts.{Tells, tokens_tell}
 use Rattle.pf_syntax.specs.Pattern.{Pattern}
-use Rattle.pf_syntax.specs.WrittenPattern.{WrittenPattern}
-use Rattle.pf_numbered.specs.NumberedTokens.{atoms_after, numbered_after}
+use Rattle.pf_syntax.specs.ExprPattern.{ExprPattern}
+use Rattle.pf_intern.specs.NumberedTokens.{atoms_after, numbered_after}
 use Rattle.pf_reader.specs.PatternAlone.{DerivesPatternAlone, LacksModule}
 use Rattle.pf_reader.proofs.Alone.{alone_complete, alone_sound, read_by}
 use Rattle.pf_lower.proofs.Patterns_alone.{some_alone}
@@ -45,10 +45,10 @@ module _ (names : List (List ℕ)) where
     PatternOrNone = ((p : Pattern) × ReadsPattern names text p) ⊎ ((p : Pattern) → ReadsPattern names text p → ⊥)
 
     module _ (ts : List Placed) (has : HasTokens text ts) where
-      none_derives : ((q : WrittenPattern) → DerivesPatternAlone names q ts → ⊥) → PatternOrNone
+      none_derives : ((q : ExprPattern) → DerivesPatternAlone names q ts → ⊥) → PatternOrNone
       none_derives none = inr (without_pattern names text ts has (Fault NoProperty) (refl, none)).1
 
-      by_reading : LacksModule ts → (o : Option WrittenPattern) → read_by (atoms_after names ts) (numbered_after names ts) ≡ o → PatternOrNone
+      by_reading : LacksModule ts → (o : Option ExprPattern) → read_by (atoms_after names ts) (numbered_after names ts) ≡ o → PatternOrNone
       by_reading lacks None e = none_derives (λ q d. let whole = alone_complete names ts q d in cc)
       by_reading lacks (Some q) e =
           let made = some_alone q in
@@ -60,7 +60,7 @@ module _ (names : List (List ℕ)) where
 
     by_tokens : (read : Read (List Placed)) → Tells text read → PatternOrNone
     by_tokens (Ok ts) has = by_module ts has (lacks_or_has ts)
-    by_tokens (Err e) fault = inr (λ p r. no_tokens text (record { code = e.0; place = e.1 }) fault (r.tokens, r.has_tokens))
+    by_tokens (Err e) fault = inr (λ p r. no_tokens text (record { code = e.0; offset = e.1 }) fault (r.tokens, r.has_tokens))
 
     pattern_or_none : PatternOrNone
     pattern_or_none = by_tokens (tokens text) (tokens_tell text)

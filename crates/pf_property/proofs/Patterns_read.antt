@@ -9,17 +9,17 @@ use Rattle.pf_tokens.specs.Rules.{HasTokens, HasFault, HasSomeTokens}
 use Rattle.pf_tokens.specs.Scan.{Read}
 use Rattle.pf_tokens.proofs.Texts.{tokens_again, tokens_fail}
 use Rattle.pf_syntax.specs.Pattern.{Pattern}
-use Rattle.pf_syntax.specs.WrittenPattern.{WrittenPattern}
+use Rattle.pf_syntax.specs.ExprPattern.{ExprPattern}
 use Rattle.pf_syntax.specs.Scope.{no_scope}
-use Rattle.pf_syntax.specs.Naming.{WrittenPatternIs}
-use Rattle.pf_numbered.specs.NumberedTokens.{numbered_after}
+use Rattle.pf_syntax.specs.Naming.{ExprPatternIs}
+use Rattle.pf_intern.specs.NumberedTokens.{numbered_after}
 use Rattle.pf_grammar.proofs.Single.{some_is}
 use Rattle.pf_reader.specs.PatternAlone.{names_after, DerivesPatternAlone}
 use Rattle.pf_reader.specs.PatternAlone as alone
 use Rattle.pf_reader.proofs.Alone.{alone_complete}
-use Rattle.pf_check.proofs.Derived.{written_pattern_formed}
+use Rattle.pf_check.proofs.Derived.{expr_pattern_formed}
 use Rattle.pf_check.proofs.Once.{none_seen}
-use Rattle.pf_check.proofs.Unique.{one_written_pattern}
+use Rattle.pf_check.proofs.Unique.{one_expr_pattern}
 use Rattle.pf_lower.specs.Alone.{only_atoms, BecomesAlone}
 use Rattle.pf_property.specs.Texts.{IsNoPatternText, ReadsPattern}
 
@@ -31,10 +31,10 @@ one_list ts us e = cc
 one_tokens : (text : List ℕ) (ts us : List Placed) → HasTokens text ts → HasTokens text us → ts ≡ us
 one_tokens text ts us a b = one_list ts us (sym (tokens_again text ts a) ∙ tokens_again text us b)
 
-pub no_tokens : (text : List ℕ) (r : Refusal) → HasFault text r.code r.place → HasSomeTokens text → ⊥
+pub no_tokens : (text : List ℕ) (r : Refusal) → HasFault text r.code r.offset → HasSomeTokens text → ⊥
 no_tokens text r fault has =
     let one = tokens_again text has.0 has.1 in
-    let other = tokens_fail text r.code r.place fault in
+    let other = tokens_fail text r.code r.offset fault in
     cc
 
 module _ (names : List (List ℕ)) (text : List ℕ) where
@@ -47,14 +47,14 @@ module _ (names : List (List ℕ)) (text : List ℕ) where
 
   -- ---- a text that is one
 
-  pub with_pattern : (ts : List Placed) → HasTokens text ts → (q : WrittenPattern) → DerivesPatternAlone names q ts → (p : Pattern) → BecomesAlone q p
+  pub with_pattern : (ts : List Placed) → HasTokens text ts → (q : ExprPattern) → DerivesPatternAlone names q ts → (p : Pattern) → BecomesAlone q p
       → ReadsPattern names text p
   with_pattern ts has q d p becomes = record {
     tokens = ts;
     has_tokens = has;
     written = q;
     derives = d;
-    becomes = becomes (written_pattern_formed (names_after names ts) q (numbered_after names ts) d.derives);
+    becomes = becomes (expr_pattern_formed (names_after names ts) q (numbered_after names ts) d.derives);
   }
 
   pub one_pattern : (p q : Pattern) → ReadsPattern names text p → ReadsPattern names text q → p ≡ q
@@ -62,4 +62,4 @@ module _ (names : List (List ℕ)) (text : List ℕ) where
       let tokens = one_tokens text b.tokens a.tokens b.has_tokens a.has_tokens in
       let derives = subst (DerivesPatternAlone names b.written) tokens b.derives in
       let written = some_is a.written b.written (sym (alone_complete names a.tokens a.written a.derives) ∙ alone_complete names a.tokens b.written derives) in
-      one_written_pattern only_atoms no_scope b.written p q none_seen (subst (λ w. WrittenPatternIs only_atoms no_scope w p) written a.becomes) b.becomes
+      one_expr_pattern only_atoms no_scope b.written p q none_seen (subst (λ w. ExprPatternIs only_atoms no_scope w p) written a.becomes) b.becomes

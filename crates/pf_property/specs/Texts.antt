@@ -7,9 +7,9 @@ use Rattle.pf_fault.specs.declared.fault.OrNoMemory.TheVariants.{NoMemory, Fault
 use Rattle.pf_tokens.specs.TokenKinds.{Placed}
 use Rattle.pf_tokens.specs.Rules.{HasTokens, HasSomeTokens}
 use Rattle.pf_syntax.specs.Pattern.{Pattern}
-use Rattle.pf_syntax.specs.WrittenPattern.{WrittenPattern}
+use Rattle.pf_syntax.specs.ExprPattern.{ExprPattern}
 use Rattle.pf_syntax.specs.Scope.{no_scope}
-use Rattle.pf_syntax.specs.Naming.{WrittenPatternIs}
+use Rattle.pf_syntax.specs.Naming.{ExprPatternIs}
 use Rattle.pf_reader.specs.PatternAlone.{DerivesPatternAlone}
 use Rattle.pf_lower.specs.Alone.{only_atoms}
 use Rattle.pf_model.specs.Properties.{Property, returns, returns_true, no_crash, no_deadlock, within_limit, never}
@@ -19,9 +19,9 @@ use Rattle.pf_model.specs.Properties.{Property, returns, returns_true, no_crash,
 pub record ReadsPattern (names : List (List ℕ)) (text : List ℕ) (p : Pattern) : Type 0 where
   pub tokens : List Placed
   pub has_tokens : HasTokens text tokens
-  pub written : WrittenPattern
+  pub written : ExprPattern
   pub derives : DerivesPatternAlone names written tokens
-  pub becomes : WrittenPatternIs only_atoms no_scope written p
+  pub becomes : ExprPatternIs only_atoms no_scope written p
 
 -- the bytes are the property
 abbrev pub ReadsProperty : List (List ℕ) → List ℕ → Property → Type 0

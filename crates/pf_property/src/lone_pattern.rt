@@ -30,7 +30,7 @@ pub struct LonePattern {
 
 impl Model for LonePattern {
     ghost use Rattle.pf_syntax.specs.Pattern.{Pattern};
-    ghost use Rattle.pf_syntax.specs.Code.{coded_pattern};
+    ghost use Rattle.pf_syntax.specs.Encoding.{coded_pattern};
     ghost use Rattle.pf_syntax.specs.Module.{pattern_at};
 
     ghost Value = { Pattern };

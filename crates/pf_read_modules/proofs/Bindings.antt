@@ -5,9 +5,9 @@ use Rattle.std.proofs.lemmas.List.{length-append}
 use Rattle.std.proofs.lemmas.Grind.{common_steps}
 use Rattle.std.proofs.lemmas.Option.{slice_get_within}
 use Rattle.pf_syntax.specs.Pattern.{Pattern, Patterns, known, no_patterns, pattern}
-use Rattle.pf_syntax.specs.WrittenPattern.{WrittenPattern, WrittenPatterns}
-use Rattle.pf_syntax.specs.Scope.{Scope, has, is_new, binding, after_written_pattern, after_written_patterns}
-use Rattle.pf_syntax.specs.Naming.{Names, conses_of, empty_list, WrittenPatternIs, WrittenPatternsAre, integer, atom, text, anything, bound, fresh, tuple, list, list_on, no_more_written_patterns, and_written_patterns}
+use Rattle.pf_syntax.specs.ExprPattern.{ExprPattern, ExprPatterns}
+use Rattle.pf_syntax.specs.Scope.{Scope, has, is_new, binding, after_expr_pattern, after_expr_patterns}
+use Rattle.pf_syntax.specs.Naming.{Names, conses_of, empty_list, ExprPatternIs, ExprPatternsAre, integer, atom, text, anything, bound, fresh, tuple, list, list_on, no_more_expr_patterns, and_expr_patterns}
 use Rattle.pf_rules.specs.Static.{parameters_of}
 use Rattle.pf_model.specs.Closed.{binds, all_bind, PatternIsClosed, PatternsAreClosed, patterns_in}
 
@@ -15,7 +15,7 @@ use Rattle.pf_model.specs.Closed.{binds, all_bind, PatternIsClosed, PatternsAreC
 abbrev pub many : Scope → ℕ
 many g = length g.bound
 
--- what stands at a place of the bound ones is bound
+-- what stands at an index of the bound ones is bound
 has_at : (xs : List ℕ) (k x : ℕ) → slice_get xs k ≡ Some x → has xs x ≡ true
 has_at [] k x h = absurd (cc)
 has_at (y ∷ ys) zero x h = let e : y ≡ x = cc in grind (arith, common_steps)
@@ -36,11 +36,11 @@ new_grows g x = by (is_new g x)
     by false h = absurd (cc)
 
 -- a pattern that is closed where g is seen, and what it binds
-abbrev pub Binds : Scope → WrittenPattern → Pattern → Type 0
-Binds g q y = PatternIsClosed (many g) y × (many (after_written_pattern g q) ≡ many g + binds y)
+abbrev pub Binds : Scope → ExprPattern → Pattern → Type 0
+Binds g q y = PatternIsClosed (many g) y × (many (after_expr_pattern g q) ≡ many g + binds y)
 
-abbrev pub AllBind : Scope → WrittenPatterns → Patterns → Type 0
-AllBind g qs ys = PatternsAreClosed (many g) ys × (many (after_written_patterns g qs) ≡ many g + all_bind ys) × (patterns_in ys ≡ parameters_of qs)
+abbrev pub AllBind : Scope → ExprPatterns → Patterns → Type 0
+AllBind g qs ys = PatternsAreClosed (many g) ys × (many (after_expr_patterns g qs) ≡ many g + all_bind ys) × (patterns_in ys ≡ parameters_of qs)
 
 conses_closed : (n k : ℕ) (ys : Patterns) (y : Pattern) → k ≡ n + all_bind ys → PatternsAreClosed n ys → PatternIsClosed k y
     → PatternIsClosed n (conses_of ys y) × (binds (conses_of ys y) ≡ all_bind ys + binds y)
@@ -50,7 +50,7 @@ conses_closed n k (pattern p ps) y e h c =
 
 module _ (n : Names) where
   mutual
-    pub pattern_binds : (g : Scope) (q : WrittenPattern) (y : Pattern) → WrittenPatternIs n g q y → Binds g q y
+    pub pattern_binds : (g : Scope) (q : ExprPattern) (y : Pattern) → ExprPatternIs n g q y → Binds g q y
     pattern_binds _ _ _ (integer g z) = (tt, omega arith)
     pattern_binds _ _ _ (atom g a) = (tt, omega arith)
     pattern_binds _ _ _ (text g cs) = (tt, omega arith)
@@ -64,14 +64,14 @@ module _ (n : Names) where
         let a = r.1 in let b = s.1 in (s.0, omega arith)
     pattern_binds _ _ _ (list_on g qs q ys y h k) =
         let r = patterns_bind g qs ys h in
-        let t = pattern_binds (after_written_patterns g qs) q y k in
-        let s = conses_closed (many g) (many (after_written_patterns g qs)) ys y r.1 r.0 t.0 in
+        let t = pattern_binds (after_expr_patterns g qs) q y k in
+        let s = conses_closed (many g) (many (after_expr_patterns g qs)) ys y r.1 r.0 t.0 in
         let a = r.1 in let b = s.1 in let c = t.1 in (s.0, omega arith)
 
-    pub patterns_bind : (g : Scope) (qs : WrittenPatterns) (ys : Patterns) → WrittenPatternsAre n g qs ys → AllBind g qs ys
-    patterns_bind _ _ _ (no_more_written_patterns g) = (tt, omega arith, refl)
-    patterns_bind _ _ _ (and_written_patterns g q qs y ys h k) =
+    pub patterns_bind : (g : Scope) (qs : ExprPatterns) (ys : Patterns) → ExprPatternsAre n g qs ys → AllBind g qs ys
+    patterns_bind _ _ _ (no_more_expr_patterns g) = (tt, omega arith, refl)
+    patterns_bind _ _ _ (and_expr_patterns g q qs y ys h k) =
         let r = pattern_binds g q y h in
-        let s = patterns_bind (after_written_pattern g q) qs ys k in
+        let s = patterns_bind (after_expr_pattern g q) qs ys k in
         let a = r.1 in let b = s.1 in let c = s.2 in
         ((r.0, subst (λ i. PatternsAreClosed i ys) r.1 s.0), omega arith, omega arith)

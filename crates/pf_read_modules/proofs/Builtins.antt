@@ -4,7 +4,7 @@ use Rattle.std.specs.Prelude.{◌&&◌, if◌then◌else◌}
 use Rattle.std.specs.Str.{bytes_eq}
 use Rattle.std.proofs.lemmas.Bool.{and_parts, eqb-true}
 use Rattle.pf_syntax.specs.Tree.{Builtin}
-use Rattle.pf_forms.specs.Forms.{Row, builtins, named_in, builtin_named}
+use Rattle.pf_builtins.specs.Forms.{Row, builtins, named_in, builtin_named}
 use Rattle.pf_model.specs.Closed.{builtin_arity}
 
 -- ---- numbers of arguments

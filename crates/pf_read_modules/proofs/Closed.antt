@@ -13,13 +13,13 @@ use Rattle.pf_terms.specs.Atoms.{name_of}
 use Rattle.pf_syntax.specs.Tree.{Function, FunctionClause, Program}
 use Rattle.pf_syntax.specs.Module.{Checked}
 use Rattle.pf_syntax.specs.Root.{root_of, root_at}
-use Rattle.pf_syntax.specs.Source.{Head}
+use Rattle.pf_syntax.specs.SyntaxTree.{Head}
 use Rattle.pf_syntax.specs.Naming.{Names, HeadIs}
-use Rattle.pf_syntax.specs.WrittenModule.{Tree}
+use Rattle.pf_syntax.specs.ExprModule.{Tree}
 use Rattle.pf_rules.specs.Static.{fault_if, parameters_of, is_named, own_in, unlike_fault, unlike_faults, names_of, faults_of}
 use Rattle.pf_rules.specs.Checks.{Pairwise, FunctionIs, IsModule}
 use Rattle.pf_check.specs.Reads.{Outcome, accepted, refused, Reads, token_fault, no_head, no_tree, static, checked}
-use Rattle.pf_model.specs.Closed.{HasArity, FunctionClauseIsClosed, CodeIsClosed}
+use Rattle.pf_model.specs.Closed.{HasArity, FunctionClauseIsClosed, ModuleIsClosed}
 use Rattle.pf_model.proofs.Spawned.{exported_has}
 use Rattle.pf_model.proofs.Closed.{closed_states_stay_closed}
 use Rattle.pf_read_modules.specs.ReadModules.{ReadModulesAreClosed}
@@ -28,7 +28,7 @@ use Rattle.pf_check.proofs.NoFaults.{none_unlike}
 use Rattle.pf_read_modules.proofs.Builtins.{named_is_right}
 use Rattle.pf_read_modules.proofs.Closing.{StandRight, head_closes}
 
--- what stands at a place of a list has its like at the same place of the other
+-- what stands at an index of a list has its like at the same index of the other
 like : {A B : Type 0} (R : A → B → Type 0) (xs : List A) (ys : List B) (i : ℕ) (x : A) → Pairwise R xs ys → slice_get xs i ≡ Some x
     → (y : B) × (slice_get ys i ≡ Some y) × R x y
 like R [] ys i x h e = absurd (cc)
@@ -109,11 +109,11 @@ module _ (atoms : List (List ℕ)) (m : Tree) (fs : Program) (all : Pairwise (Fu
 
 -- ---- modules
 
-module_closed : (atoms : List (List ℕ)) (m : Tree) (c : Checked) → faults_of atoms m ≡ [] → IsModule atoms m c → CodeIsClosed c.functions
+module_closed : (atoms : List (List ℕ)) (m : Tree) (c : Checked) → faults_of atoms m ≡ [] → IsModule atoms m c → ModuleIsClosed c.functions
 module_closed atoms m c none h = functions_closed atoms m c.functions h.functions m.functions c.functions h.functions (none_unlike atoms m none)
 
 abbrev OutcomeIsClosed : Outcome → Type 0
-OutcomeIsClosed (accepted name atoms functions) = CodeIsClosed functions
+OutcomeIsClosed (accepted name atoms functions) = ModuleIsClosed functions
 OutcomeIsClosed (refused code at) = Unit {0}
 
 read_is_closed : (bytes : List ℕ) (o : Outcome) → Reads bytes o → OutcomeIsClosed o

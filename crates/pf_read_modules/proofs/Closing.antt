@@ -3,11 +3,11 @@ use Rattle.std.proofs.Common.{◌≡◌, ℕ, ◌+◌, Some, refl, sym, ap, ◌�
 use Rattle.std.proofs.lemmas.Option.{slice_get_within}
 use Rattle.pf_syntax.specs.Pattern.{Pattern, Patterns, no_patterns, pattern}
 use Rattle.pf_syntax.specs.Tree.{Tree, Trees, Clauses, Guard, lit, no_trees, tree, Builtin, FunctionClause, Program}
-use Rattle.pf_syntax.specs.WrittenExpression.{WrittenExpression, WrittenExpressions, Condition, Branches}
-use Rattle.pf_syntax.specs.Source.{Head}
-use Rattle.pf_syntax.specs.Scope.{Scope, no_scope, after_written_pattern, after_written_patterns, after, after_all}
+use Rattle.pf_syntax.specs.Expr.{Expr, Exprs, Condition, Branches}
+use Rattle.pf_syntax.specs.SyntaxTree.{Head}
+use Rattle.pf_syntax.specs.Scope.{Scope, no_scope, after_expr_pattern, after_expr_patterns, after, after_all}
 use Rattle.pf_syntax.specs.Naming as e
-use Rattle.pf_syntax.specs.Naming.{Names, arity_of, conses, empty_list, behind, ending, WrittenExpressionIs, WrittenExpressionsAre, no_more, and_more, ElementIs, plain, BodyIs, last, before, GuardIs, no_more_tests, or_tests, BranchesAre, no_more_branches, and_branches, HeadIs}
+use Rattle.pf_syntax.specs.Naming.{Names, arity_of, conses, empty_list, behind, ending, ExprIs, ExprsAre, no_more, and_more, ElementIs, plain, BodyIs, last, before, GuardIs, no_more_tests, or_tests, BranchesAre, no_more_branches, and_branches, HeadIs}
 use Rattle.pf_rules.specs.Static.{parameters_of}
 use Rattle.pf_model.specs.Closed.{binds, all_bind, PatternIsClosed, PatternsAreClosed, trees_in, HasArity, builtin_arity, IsClosed, AllAreClosed, ClausesAreClosed, GuardIsClosed, FunctionClauseIsClosed}
 use Rattle.pf_read_modules.proofs.Bindings.{many, pattern_binds, patterns_bind}
@@ -33,14 +33,14 @@ module _ (fs : Program) where
     pub built_in : (f k : ℕ) (b : Builtin) → n.builtin_of f k ≡ Some b → builtin_arity b ≡ k
 
   -- an expression that is closed where g is seen, and binds nothing
-  abbrev Closes : Scope → WrittenExpression → Tree → Type 0
+  abbrev Closes : Scope → Expr → Tree → Type 0
   Closes g e x = IsClosed fs (many g) x × (many (after g e) ≡ many g)
 
-  abbrev AllClose : Scope → WrittenExpressions → Trees → Type 0
+  abbrev AllClose : Scope → Exprs → Trees → Type 0
   AllClose g es xs = AllAreClosed fs (many g) xs × (many (after_all g es) ≡ many g) × (trees_in xs ≡ arity_of es)
 
   -- an element of a body, which binds what its patterns do
-  abbrev ElementCloses : Scope → WrittenExpression → Patterns → Tree → Type 0
+  abbrev ElementCloses : Scope → Expr → Patterns → Tree → Type 0
   ElementCloses g e ys x = PatternsAreClosed (many g) ys × IsClosed fs (many g) x × (many (after g e) ≡ many g + all_bind ys)
 
   -- what is closed where as many variables are bound
@@ -48,12 +48,12 @@ module _ (fs : Program) where
   moved k n x q h = subst (λ i. IsClosed fs i x) q h
 
   module _ (n : Names) (right : StandRight n) where
-    two_close : (g : Scope) (a b : WrittenExpression) (x y : Tree) → Closes g a x → Closes (after g a) b y
+    two_close : (g : Scope) (a b : Expr) (x y : Tree) → Closes g a x → Closes (after g a) b y
         → (IsClosed fs (many g) x × IsClosed fs (many g) y) × (many (after (after g a) b) ≡ many g)
     two_close g a b x y h k = ((h.0, moved (many (after g a)) (many g) y h.1 k.0), k.1 ∙ h.1)
 
     mutual
-      expression_closes : (g : Scope) (a : WrittenExpression) (x : Tree) → WrittenExpressionIs n g a x → Closes g a x
+      expression_closes : (g : Scope) (a : Expr) (x : Tree) → ExprIs n g a x → Closes g a x
       expression_closes _ _ _ (e.integer g z) = (tt, refl)
       expression_closes _ _ _ (e.atom g a) = (tt, refl)
       expression_closes _ _ _ (e.text g cs) = (tt, refl)
@@ -85,14 +85,14 @@ module _ (fs : Program) where
       expression_closes _ _ _ (e.if_expression g bs cs h) = (branches_close g bs cs h, refl)
       expression_closes _ _ _ (e.receive g bs cs h) = (branches_close g bs cs h, refl)
 
-      expressions_close : (g : Scope) (es : WrittenExpressions) (xs : Trees) → WrittenExpressionsAre n g es xs → AllClose g es xs
+      expressions_close : (g : Scope) (es : Exprs) (xs : Trees) → ExprsAre n g es xs → AllClose g es xs
       expressions_close _ _ _ (no_more g) = (tt, refl, refl)
       expressions_close _ _ _ (and_more g a es x xs h k) =
           let r = expression_closes g a x h in
           let s = expressions_close (after g a) es xs k in
           ((r.0, subst (λ i. AllAreClosed fs i xs) r.1 s.0), s.1 ∙ r.1, ap (λ i. 1 + i) s.2)
 
-      element_closes : (g : Scope) (a : WrittenExpression) (ys : Patterns) (x : Tree) → ElementIs n g a ys x → ElementCloses g a ys x
+      element_closes : (g : Scope) (a : Expr) (ys : Patterns) (x : Tree) → ElementIs n g a ys x → ElementCloses g a ys x
       element_closes _ _ _ _ (plain g a x h) = let r = expression_closes g a x h in let d = r.1 in (tt, r.0, omega arith)
       element_closes _ _ _ _ (e.match g q a ys y x h k) =
           let r = element_closes g a ys x h in
@@ -100,7 +100,7 @@ module _ (fs : Program) where
           let t = behind_closed (many g) (many (after g a)) ys y r.2 r.0 s.0 in
           let c = r.2 in let d = s.1 in let f = t.1 in (t.0, r.1, omega arith)
 
-      body_closes : (g : Scope) (es : WrittenExpressions) (x : Tree) → BodyIs n g es x → IsClosed fs (many g) x
+      body_closes : (g : Scope) (es : Exprs) (x : Tree) → BodyIs n g es x → IsClosed fs (many g) x
       body_closes _ _ _ (last g a ys x h) = let r = element_closes g a ys x h in ending_closed (many g) ys x r.0 r.1
       body_closes _ _ _ (before g a es ys x rest h k) =
           let r = element_closes g a ys x h in
@@ -114,7 +114,7 @@ module _ (fs : Program) where
       branches_close _ _ _ (no_more_branches g) = tt
       branches_close _ _ _ (and_branches g q c es bs y d x cs h k l o) =
           let r = pattern_binds n g q y h in
-          let s = after_written_pattern g q in (
+          let s = after_expr_pattern g q in (
             r.0,
             subst (λ i. GuardIsClosed fs i d) r.1 (guard_closes s c d k),
             moved (many s) (many g + binds y) x r.1 (body_closes s es x l),
@@ -123,7 +123,7 @@ module _ (fs : Program) where
 
     pub head_closes : (h : Head) (c : FunctionClause) → HeadIs n h c → FunctionClauseIsClosed fs (parameters_of h.parameters) c
     head_closes h c k =
-        let s = after_written_patterns no_scope h.parameters in
+        let s = after_expr_patterns no_scope h.parameters in
         let r = patterns_bind n no_scope h.parameters c.parameters k.parameters in
         let d = r.1 in
         let q : many s ≡ all_bind c.parameters = omega arith in

@@ -3,12 +3,12 @@ use Rattle.std.specs.Prelude.{◌≡◌, ℕ, List, Some}
 use Rattle.pf_syntax.specs.Tree.{Program}
 use Rattle.pf_syntax.specs.Root.{root_of}
 use Rattle.pf_check.specs.Reads.{accepted, Reads}
-use Rattle.pf_model.specs.Closed.{HasArity, CodeIsClosed, RunsStayClosed}
+use Rattle.pf_model.specs.Closed.{HasArity, ModuleIsClosed, RunsStayClosed}
 
 -- it is closed, so no run of it comes to a variable without a value, to a call of a function that the module lacks, or to a built-in
 -- function with another number of arguments
 pub record IsClosedModule (name : ℕ) (atoms : List (List ℕ)) (functions : Program) : Type 0 where
-  pub code : CodeIsClosed functions
+  pub code : ModuleIsClosed functions
   pub runs : RunsStayClosed (record { name = name; atoms = atoms; functions = functions })
   -- what a run begins in, by the word that names it, is a function without arguments
   pub roots : (word : List ℕ) (root : ℕ) → root_of word atoms functions ≡ Some root → HasArity functions root 0

@@ -2,9 +2,9 @@
 use Rattle.std.proofs.Common.{◌≡◌, ℕ, List, [], ◌∷◌, Option, Some, None, refl, sym, ap, subst, ◌∙◌}
 use Rattle.std.proofs.lemmas.List.{append-nil}
 use Rattle.pf_tokens.specs.TokenKinds.{Placed}
-use Rattle.pf_syntax.specs.WrittenPattern.{WrittenPattern}
-use Rattle.pf_numbered.specs.declared.limits.TheConstants.{MOST_TREE_DEPTH}
-use Rattle.pf_numbered.specs.NumberedTokens.{atoms_after, numbered_after, NumberedToken}
+use Rattle.pf_syntax.specs.ExprPattern.{ExprPattern}
+use Rattle.pf_intern.specs.declared.limits.TheConstants.{MOST_TREE_DEPTH}
+use Rattle.pf_intern.specs.NumberedTokens.{atoms_after, numbered_after, NumberedToken}
 use Rattle.pf_grammar.specs.Grammar.{Names}
 use Rattle.pf_grammar.specs.Parse.{pattern}
 use Rattle.pf_grammar.proofs.Single.{some_is}
@@ -12,7 +12,7 @@ use Rattle.pf_grammar.proofs.Patterns.{FitsPattern, pattern_sound, pattern_compl
 use Rattle.pf_reader.specs.PatternAlone.{alone, names_after, DerivesPatternAlone, LacksModule}
 
 module _ (n : Names) (ts : List NumberedToken) where
-  of_read : (q : WrittenPattern) (o : Option (WrittenPattern × List NumberedToken)) → pattern n MOST_TREE_DEPTH ts ≡ o → alone o ≡ Some q → FitsPattern n MOST_TREE_DEPTH q ts
+  of_read : (q : ExprPattern) (o : Option (ExprPattern × List NumberedToken)) → pattern n MOST_TREE_DEPTH ts ≡ o → alone o ≡ Some q → FitsPattern n MOST_TREE_DEPTH q ts
   of_read q None e f = absurd cc
   of_read q (Some (p, t ∷ more)) e f = absurd cc
   of_read q (Some (p, [])) e f =
@@ -22,27 +22,27 @@ module _ (n : Names) (ts : List NumberedToken) where
       subst (λ r. FitsPattern n MOST_TREE_DEPTH r ts) (some_is p q f) fits
 
   -- what is read derives all the tokens, and isn't too deep
-  sound : (q : WrittenPattern) → alone (pattern n MOST_TREE_DEPTH ts) ≡ Some q → FitsPattern n MOST_TREE_DEPTH q ts
+  sound : (q : ExprPattern) → alone (pattern n MOST_TREE_DEPTH ts) ≡ Some q → FitsPattern n MOST_TREE_DEPTH q ts
   sound q f = of_read q (pattern n MOST_TREE_DEPTH ts) refl f
 
   -- what derives all the tokens, and isn't too deep, is read
-  complete : (q : WrittenPattern) → FitsPattern n MOST_TREE_DEPTH q ts → alone (pattern n MOST_TREE_DEPTH ts) ≡ Some q
+  complete : (q : ExprPattern) → FitsPattern n MOST_TREE_DEPTH q ts → alone (pattern n MOST_TREE_DEPTH ts) ≡ Some q
   complete q fits =
       ap (λ us. alone (pattern n MOST_TREE_DEPTH us)) (sym (append-nil ts))
       ∙ ap alone (pattern_complete n MOST_TREE_DEPTH q ts [] fits tt)
 
 -- reading tokens from left to right, by these names
-abbrev pub read_by : List (List ℕ) → List NumberedToken → Option WrittenPattern
+abbrev pub read_by : List (List ℕ) → List NumberedToken → Option ExprPattern
 read_by atoms us = alone (pattern (record { atoms = atoms; own = 0 }) MOST_TREE_DEPTH us)
 
-pub read_as : (atoms names : List (List ℕ)) (us vs : List NumberedToken) (o : Option WrittenPattern) → atoms ≡ names → us ≡ vs → read_by atoms us ≡ o → read_by names vs ≡ o
+pub read_as : (atoms names : List (List ℕ)) (us vs : List NumberedToken) (o : Option ExprPattern) → atoms ≡ names → us ≡ vs → read_by atoms us ≡ o → read_by names vs ≡ o
 read_as atoms names us vs o a t e = ap (λ ns. read_by ns vs) (sym a) ∙ ap (read_by atoms) (sym t) ∙ e
 
 module _ (names : List (List ℕ)) (ts : List Placed) where
-  pub alone_sound : (q : WrittenPattern) → LacksModule ts → read_by (atoms_after names ts) (numbered_after names ts) ≡ Some q → DerivesPatternAlone names q ts
+  pub alone_sound : (q : ExprPattern) → LacksModule ts → read_by (atoms_after names ts) (numbered_after names ts) ≡ Some q → DerivesPatternAlone names q ts
   alone_sound q lacks e =
       let fits = sound (names_after names ts) (numbered_after names ts) q e in
       record { no_module = lacks; derives = fits.0; shallow = fits.1 }
 
-  pub alone_complete : (q : WrittenPattern) → DerivesPatternAlone names q ts → read_by (atoms_after names ts) (numbered_after names ts) ≡ Some q
+  pub alone_complete : (q : ExprPattern) → DerivesPatternAlone names q ts → read_by (atoms_after names ts) (numbered_after names ts) ≡ Some q
   alone_complete q d = complete (names_after names ts) (numbered_after names ts) q (d.derives, d.shallow)

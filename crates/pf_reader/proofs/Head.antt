@@ -1,7 +1,7 @@
 -- The first form of a source, where there is one.
 use Rattle.std.proofs.Common.{◌≡◌, ℕ, List, Option, Some, sym, ap, ◌∙◌}
 use Rattle.std.specs.Prelude.{option_map}
-use Rattle.pf_numbered.specs.NumberedTokens.{NumberedToken}
+use Rattle.pf_intern.specs.NumberedTokens.{NumberedToken}
 use Rattle.pf_grammar.specs.Grammar.{HasHead}
 use Rattle.pf_grammar.specs.Parse.{begins}
 use Rattle.pf_grammar.proofs.Whole.{begins_sound}

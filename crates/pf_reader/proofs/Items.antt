@@ -6,7 +6,7 @@ use Rattle.pf_fault.specs.declared.fault.OrNoMemory.{OrNoMemory}
 use Rattle.pf_fault.specs.declared.fault.OrNoMemory.TheVariants.{NoMemory, Fault}
 use Rattle.pf_reader.specs.declared.fault.Syntax.{Syntax}
 use Rattle.pf_reader.specs.Given.{Fails, with_front}
-use Rattle.pf_numbered.specs.NumberedTokens.{NumberedKind, NumberedToken}
+use Rattle.pf_intern.specs.NumberedTokens.{NumberedKind, NumberedToken}
 use Rattle.pf_grammar.specs.Parse.{◌>>=◌, Parse, items, after}
 
 -- a fault of a part is a fault of the whole

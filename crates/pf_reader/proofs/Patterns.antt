@@ -5,15 +5,15 @@ use Rattle.std.specs.Option.{is_some}
 use Rattle.pf_terms.specs.Atoms.{name_of}
 use Rattle.pf_tokens.specs.declared.marks.Mark.{Mark}
 use Rattle.pf_tokens.specs.declared.marks.Mark.TheVariants as marks
-use Rattle.pf_syntax.specs.WrittenPattern as s
-use Rattle.pf_syntax.specs.WrittenPattern.{WrittenPattern, WrittenPatterns}
-use Rattle.pf_numbered.specs.declared.limits.TheConstants.{MOST_NAME_BYTES}
-use Rattle.pf_numbered.specs.declared.numbered_token.NumberedKind.{NumberedKind as CodeNumberedKind}
-use Rattle.pf_numbered.specs.declared.numbered_token.NumberedKind.TheVariants as kinds
-use Rattle.pf_numbered.specs.View.{kind_of}
-use Rattle.pf_numbered.specs.NumberedTokens.{NumberedKind, integer, atom, variable, anonymous, text, own_module, dot, mark, reserved, NumberedToken}
+use Rattle.pf_syntax.specs.ExprPattern as s
+use Rattle.pf_syntax.specs.ExprPattern.{ExprPattern, ExprPatterns}
+use Rattle.pf_intern.specs.declared.limits.TheConstants.{MOST_NAME_BYTES}
+use Rattle.pf_intern.specs.declared.numbered_token.NumberedKind.{NumberedKind as CodeNumberedKind}
+use Rattle.pf_intern.specs.declared.numbered_token.NumberedKind.TheVariants as kinds
+use Rattle.pf_intern.specs.View.{kind_of}
+use Rattle.pf_intern.specs.NumberedTokens.{NumberedKind, integer, atom, variable, anonymous, text, own_module, dot, mark, reserved, NumberedToken}
 use Rattle.pf_grammar.specs.Grammar.{Names}
-use Rattle.pf_grammar.specs.Parse.{Parse, after, atom_written_pattern, is_short, items, list_written_pattern, marked_written_pattern, match_ahead, pattern, pattern_with, until, written_pattern_kind, written_patterns_of}
+use Rattle.pf_grammar.specs.Parse.{Parse, after, atom_expr_pattern, is_short, items, list_expr_pattern, marked_expr_pattern, match_ahead, pattern, pattern_with, until, expr_pattern_kind, expr_patterns_of}
 
 pub pattern_zero : (n : Names) (limit : ℕ) (ts : List NumberedToken) → limit ≡ 0 → pattern n limit ts ≡ None
 unfolding pattern
@@ -26,39 +26,39 @@ pattern_is n (suc d) ts lt = let e : suc d - 1 ≡ d = omega arith in rw e refl
 
 -- ---- lists
 
-module _ (inner : Parse WrittenPattern) (ts r1 r2 : List NumberedToken) (qs : List WrittenPattern) (all : WrittenPatterns) (row : all ≡ written_patterns_of qs)
+module _ (inner : Parse ExprPattern) (ts r1 r2 : List NumberedToken) (qs : List ExprPattern) (all : ExprPatterns) (row : all ≡ expr_patterns_of qs)
     (none : after (mark marks.CloseBracket) ts ≡ None) (read : items (mark marks.Comma) inner (length ts) ts ≡ Some (qs, r1)) where
-  pub pattern_list : after (mark marks.Bar) r1 ≡ None → after (mark marks.CloseBracket) r1 ≡ Some r2 → list_written_pattern inner ts ≡ Some (s.list all, r2)
+  pub pattern_list : after (mark marks.Bar) r1 ≡ None → after (mark marks.CloseBracket) r1 ≡ Some r2 → list_expr_pattern inner ts ≡ Some (s.list all, r2)
   pattern_list b c = rw (none, read, b, c, row) refl
 
-  pub pattern_list_on : (r3 r4 : List NumberedToken) (q : WrittenPattern) → after (mark marks.Bar) r1 ≡ Some r2 → inner r2 ≡ Some (q, r3) → after (mark marks.CloseBracket) r3 ≡ Some r4
-      → list_written_pattern inner ts ≡ Some (s.list_on all q, r4)
+  pub pattern_list_on : (r3 r4 : List NumberedToken) (q : ExprPattern) → after (mark marks.Bar) r1 ≡ Some r2 → inner r2 ≡ Some (q, r3) → after (mark marks.CloseBracket) r3 ≡ Some r4
+      → list_expr_pattern inner ts ≡ Some (s.list_on all q, r4)
   pattern_list_on r3 r4 q b i c = rw (none, read, b, i, c, row) refl
 
-pub pattern_tuple : (inner : Parse WrittenPattern) (first : Mark) (ts rest : List NumberedToken) (qs : List WrittenPattern) (all : WrittenPatterns) → first ≡ marks.OpenBrace → all ≡ written_patterns_of qs → until (mark marks.CloseBrace) inner ts ≡ Some (qs, rest)
-    → marked_written_pattern inner first ts ≡ Some (s.tuple all, rest)
+pub pattern_tuple : (inner : Parse ExprPattern) (first : Mark) (ts rest : List NumberedToken) (qs : List ExprPattern) (all : ExprPatterns) → first ≡ marks.OpenBrace → all ≡ expr_patterns_of qs → until (mark marks.CloseBrace) inner ts ≡ Some (qs, rest)
+    → marked_expr_pattern inner first ts ≡ Some (s.tuple all, rest)
 pattern_tuple inner first ts rest qs all f row read = rw (f, read, row) refl
 
 -- ---- no match begins
 
 -- what a pattern before `=` is, where what is read first is known
-abbrev follows : Option (WrittenPattern × List NumberedToken) → Option (WrittenPattern × List NumberedToken)
+abbrev follows : Option (ExprPattern × List NumberedToken) → Option (ExprPattern × List NumberedToken)
 follows o = match_ahead (λ ts. o) []
 
 -- no `=` stands behind a pattern of one token
 module _ (ts : List NumberedToken) (e : after (mark marks.Match) ts ≡ None) where
-  of_one : (q : WrittenPattern) → follows (Some (q, ts)) ≡ None
+  of_one : (q : ExprPattern) → follows (Some (q, ts)) ≡ None
   of_one q = rw e refl
 
-  of_text : (q : WrittenPattern) (b : Bool) → follows (if b then Some (q, ts) else None) ≡ None
+  of_text : (q : ExprPattern) (b : Bool) → follows (if b then Some (q, ts) else None) ≡ None
   of_text q true = of_one q
   of_text q false = refl
 
-  of_atom : (a : ℕ) (b : Bool) → follows (atom_written_pattern (if b then Some a else None) ts) ≡ None
+  of_atom : (a : ℕ) (b : Bool) → follows (atom_expr_pattern (if b then Some a else None) ts) ≡ None
   of_atom a true = of_one (s.atom a)
   of_atom a false = refl
 
-  of_kind : (n : Names) (inner : Parse WrittenPattern) (k : NumberedKind) (at : ℕ) → ((m : Mark) → k ≡ mark m → ⊥) → follows (written_pattern_kind n inner k at ts) ≡ None
+  of_kind : (n : Names) (inner : Parse ExprPattern) (k : NumberedKind) (at : ℕ) → ((m : Mark) → k ≡ mark m → ⊥) → follows (expr_pattern_kind n inner k at ts) ≡ None
   of_kind n inner (integer k) at h = of_one (s.integer (pos k))
   of_kind n inner (atom a) at h = of_atom a (nat_le (length (name_of n.atoms a)) MOST_NAME_BYTES)
   of_kind n inner (variable x) at h = of_one (s.variable x at)

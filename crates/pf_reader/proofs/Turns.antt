@@ -1,13 +1,13 @@
 -- One turn of the loops over export forms and functions.
 use Rattle.std.proofs.Common.{◌≡◌, ℕ, zero, suc, ◌<◌, List, [], ◌∷◌, ◌++◌, Option, Some, None, true, refl, sym, ap, ◌∙◌, arith, length, append_assoc}
 use Rattle.pf_tokens.specs.declared.marks.Mark.TheVariants as marks
-use Rattle.pf_syntax.specs.WrittenPattern.{WrittenPattern, WrittenPatterns}
-use Rattle.pf_syntax.specs.WrittenExpression.{WrittenExpression, WrittenExpressions, Condition}
-use Rattle.pf_syntax.specs.Source.{Export, Head}
-use Rattle.pf_numbered.specs.declared.limits.TheConstants.{MOST_TREE_DEPTH}
-use Rattle.pf_numbered.specs.NumberedTokens.{NumberedToken, mark}
+use Rattle.pf_syntax.specs.ExprPattern.{ExprPattern, ExprPatterns}
+use Rattle.pf_syntax.specs.Expr.{Expr, Exprs, Condition}
+use Rattle.pf_syntax.specs.SyntaxTree.{Export, Head}
+use Rattle.pf_intern.specs.declared.limits.TheConstants.{MOST_TREE_DEPTH}
+use Rattle.pf_intern.specs.NumberedTokens.{NumberedToken, mark}
 use Rattle.pf_grammar.specs.Grammar.{Names, top}
-use Rattle.pf_grammar.specs.Parse.{◌>>=◌, after, body, element, export, exports, expr, function, functions, head, named, pattern, written_expressions_of, written_patterns_of, until, when}
+use Rattle.pf_grammar.specs.Parse.{◌>>=◌, after, body, element, export, exports, parse_expr, function, functions, head, named, pattern, exprs_of, expr_patterns_of, until, when}
 use Rattle.pf_reader.specs.Given.{with_front, with_first}
 
 front_joined : {A : Type 0} (front xs : List A) (o : Option (List A × List NumberedToken)) → with_front front (o >>= λ more. Some (xs ++ more.0, more.1)) ≡ with_front (front ++ xs) o
@@ -88,9 +88,9 @@ module _ (n : Names) where
   -- ---- a clause of a function
 
   -- its parts are seen anew where their source has grown
-  pub head_is : (ts r1 r2 r3 r4 r5 r6 : List NumberedToken) (a at : ℕ) (qs : List WrittenPattern) (g again : Condition) (es : List WrittenExpression) (all_written_patterns : WrittenPatterns) (all_written_expressions : WrittenExpressions)
-      → all_written_patterns ≡ written_patterns_of qs → again ≡ g → all_written_expressions ≡ written_expressions_of es
-      → named n ts ≡ Some ((a, at), r1) → after (mark marks.OpenParenthesis) r1 ≡ Some r2 → until (mark marks.CloseParenthesis) (pattern n MOST_TREE_DEPTH) r2 ≡ Some (qs, r3) → when (expr n true MOST_TREE_DEPTH top) r3 ≡ Some (g, r4)
+  pub head_is : (ts r1 r2 r3 r4 r5 r6 : List NumberedToken) (a at : ℕ) (qs : List ExprPattern) (g again : Condition) (es : List Expr) (all_expr_patterns : ExprPatterns) (all_exprs : Exprs)
+      → all_expr_patterns ≡ expr_patterns_of qs → again ≡ g → all_exprs ≡ exprs_of es
+      → named n ts ≡ Some ((a, at), r1) → after (mark marks.OpenParenthesis) r1 ≡ Some r2 → until (mark marks.CloseParenthesis) (pattern n MOST_TREE_DEPTH) r2 ≡ Some (qs, r3) → when (parse_expr n true MOST_TREE_DEPTH top) r3 ≡ Some (g, r4)
       → after (mark marks.Arrow) r4 ≡ Some r5 → body (element n MOST_TREE_DEPTH) r5 ≡ Some (es, r6)
-      → head n ts ≡ Some (record { name = a; offset = at; parameters = all_written_patterns; condition = again; body = all_written_expressions }, r6)
-  head_is ts r1 r2 r3 r4 r5 r6 a at qs g again es all_written_patterns all_written_expressions s c e h1 h2 h3 h4 h5 h6 = rw (s, c, e, h1, h2, h3, h4, h5, h6) refl
+      → head n ts ≡ Some (record { name = a; offset = at; parameters = all_expr_patterns; condition = again; body = all_exprs }, r6)
+  head_is ts r1 r2 r3 r4 r5 r6 a at qs g again es all_expr_patterns all_exprs s c e h1 h2 h3 h4 h5 h6 = rw (s, c, e, h1, h2, h3, h4, h5, h6) refl

@@ -2,21 +2,21 @@
 use Rattle.std.specs.Prelude.{◌≡◌, Option, Some, None, Result, Ok, Err}
 use Rattle.std.specs.Prelude.{List, map, ◌++◌}
 use Rattle.std.specs.List.{All}
-use Rattle.pf_syntax.specs.SourceOver.{condition_over, ConditionStands, WrittenExpressionStands, WrittenPatternStands}
-use Rattle.pf_syntax.specs.declared.written.Branch.{Branch}
-use Rattle.pf_syntax.specs.declared.written.Tests.{Tests}
+use Rattle.pf_syntax.specs.SyntaxTreeOver.{condition_over, ConditionRepresents, ExprRepresents, ExprPatternRepresents}
+use Rattle.pf_syntax.specs.declared.expr.Branch.{Branch}
+use Rattle.pf_syntax.specs.declared.expr.Tests.{Tests}
 use Rattle.pf_grammar.specs.Parse.{◌>>=◌, Clause, Front}
 use Rattle.pf_syntax.proofs.NodeTableExtends.{GoesOn}
-use Rattle.pf_syntax.specs.WrittenPattern.{WrittenPattern}
-use Rattle.pf_syntax.specs.WrittenExpression.{WrittenExpression}
-use Rattle.pf_syntax.specs.Source.{NodeTable, Written, written_pattern_at, written_expression_at}
-use Rattle.pf_syntax.specs.declared.written.WrittenPatternId.{WrittenPatternId}
-use Rattle.pf_syntax.specs.declared.written.WrittenExpressionId.{WrittenExpressionId}
-use Rattle.pf_numbered.specs.NumberedTokens.{NumberedToken}
+use Rattle.pf_syntax.specs.ExprPattern.{ExprPattern}
+use Rattle.pf_syntax.specs.Expr.{Expr}
+use Rattle.pf_syntax.specs.SyntaxTree.{NodeTable, ExprArena, expr_pattern_at, expr_at}
+use Rattle.pf_syntax.specs.declared.expr.ExprPatternId.{ExprPatternId}
+use Rattle.pf_syntax.specs.declared.expr.ExprId.{ExprId}
+use Rattle.pf_intern.specs.NumberedTokens.{NumberedToken}
 use Rattle.pf_reader.specs.View.{tokens_in}
 use Rattle.pf_reader.specs.declared.part.FrontPart.{FrontPart}
-use Rattle.pf_reader.specs.declared.part.Part.{Part}
-use Rattle.pf_reader.specs.declared.part.WrittenPatternPart.{WrittenPatternPart}
+use Rattle.pf_reader.specs.declared.part.Operand.{Operand}
+use Rattle.pf_reader.specs.declared.part.ExprPatternPart.{ExprPatternPart}
 use Rattle.pf_fault.specs.declared.fault.OrNoMemory.{OrNoMemory}
 use Rattle.pf_fault.specs.declared.fault.OrNoMemory.TheVariants.{NoMemory, Fault}
 use Rattle.pf_reader.specs.declared.fault.Syntax.{Syntax}
@@ -34,46 +34,46 @@ Gives view (Err e) read = Fails e read
 -- ---- sources that are read into
 
 -- a source that grew: its table of nodes goes on where it ended, and the rest is as it was
-pub record Grown (old new : Written) : Type 0 where
+pub record Grown (old new : ExprArena) : Type 0 where
   pub name : new.name ≡ old.name
   pub exports : new.exports ≡ old.exports
   pub functions : new.functions ≡ old.functions
   pub node_table : GoesOn old.node_table new.node_table
 
 -- the expression of a number
-abbrev pub written_expression_of : NodeTable → WrittenExpressionId → WrittenExpression
-written_expression_of b e = written_expression_at b e.0
+abbrev pub expr_of : NodeTable → ExprId → Expr
+expr_of b e = expr_at b e.0
 
-abbrev pub written_pattern_of : NodeTable → WrittenPatternId → WrittenPattern
-written_pattern_of b q = written_pattern_at b q.0
+abbrev pub expr_pattern_of : NodeTable → ExprPatternId → ExprPattern
+expr_pattern_of b q = expr_pattern_at b q.0
 
 -- an expression that was read, and the tokens after it
-abbrev pub seen : NodeTable → Part → WrittenExpression × List NumberedToken
-seen b p = (written_expression_at b p.written_expression.0, tokens_in p.rest)
+abbrev pub seen : NodeTable → Operand → Expr × List NumberedToken
+seen b p = (expr_at b p.expr.0, tokens_in p.rest)
 
 -- a pattern that was read, and the tokens after it
-abbrev pub seen_written_pattern : NodeTable → WrittenPatternPart → WrittenPattern × List NumberedToken
-seen_written_pattern b p = (written_pattern_at b p.written_pattern.0, tokens_in p.rest)
+abbrev pub seen_expr_pattern : NodeTable → ExprPatternPart → ExprPattern × List NumberedToken
+seen_expr_pattern b p = (expr_pattern_at b p.expr_pattern.0, tokens_in p.rest)
 
 -- ---- guards and clauses
 
 -- the tests of an alternative of a guard
-abbrev pub tests_seen : NodeTable → Tests → List WrittenExpression
-tests_seen b g = map (written_expression_of b) g.tests.items
+abbrev pub view_of_tests : NodeTable → Tests → List Expr
+view_of_tests b g = map (expr_of b) g.tests.items
 
 abbrev pub TestsStand : NodeTable → Tests → Type 0
-TestsStand b g = All (WrittenExpressionStands b) g.tests.items
+TestsStand b g = All (ExprRepresents b) g.tests.items
 
 -- what stands before the arrow of a clause, and the tokens after it
-abbrev pub front_seen : NodeTable → FrontPart → Front × List NumberedToken
-front_seen b f = ((written_pattern_at b f.written_pattern.0, condition_over b f.condition), tokens_in f.rest)
+abbrev pub view_of_front : NodeTable → FrontPart → Front × List NumberedToken
+view_of_front b f = ((expr_pattern_at b f.expr_pattern.0, condition_over b f.condition), tokens_in f.rest)
 
-abbrev pub FrontStands : NodeTable → FrontPart → Type 0
-FrontStands b f = WrittenPatternStands b f.written_pattern × ConditionStands b f.condition
+abbrev pub FrontRepresents : NodeTable → FrontPart → Type 0
+FrontRepresents b f = ExprPatternRepresents b f.expr_pattern × ConditionRepresents b f.condition
 
 -- a clause, over its parts
 abbrev pub clause_of : NodeTable → Branch → Clause
-clause_of b c = ((written_pattern_at b c.written_pattern.0, condition_over b c.condition), map (written_expression_of b) c.body.items)
+clause_of b c = ((expr_pattern_at b c.expr_pattern.0, condition_over b c.condition), map (expr_of b) c.body.items)
 
 -- ---- what stands before what is read
 

@@ -6,8 +6,8 @@ use Rattle.pf_fault.specs.declared.fault.OrNoMemory.{OrNoMemory}
 use Rattle.pf_fault.specs.declared.fault.OrNoMemory.TheVariants.{NoMemory, Fault}
 use Rattle.pf_fault.specs.declared.refusal.Refusal.{Refusal}
 use Rattle.pf_reader.specs.declared.read.ReadModule.{ReadModule}
-use Rattle.pf_numbered.specs.NumberedTokens.{NumberedToken}
-use Rattle.pf_numbered.specs.Places.{IsPlaceOf}
+use Rattle.pf_intern.specs.NumberedTokens.{NumberedToken}
+use Rattle.pf_intern.specs.Offsets.{IsOffsetOf}
 use Rattle.pf_grammar.specs.Grammar.{tree_of, DerivesTree, HasHead, Tree}
 
 -- the outcome is this module, unless memory ran out
@@ -18,11 +18,11 @@ IsReadAs m (Err _) = ⊥
 
 -- a refusal of the tokens: they have no first form, or they have one and are no module
 abbrev pub IsRefused : List (List ℕ) → List NumberedToken → ℕ → Code → ℕ → Type 0
-IsRefused atoms ts end NoHead place = (HasHead atoms ts → ⊥) × (place ≡ 0)
-IsRefused atoms ts end NotGrammar place = HasHead atoms ts × ((m : Tree) → DerivesTree atoms m ts → ⊥) × IsPlaceOf ts end place
-IsRefused atoms ts end _ place = ⊥
+IsRefused atoms ts end NoHead offset = (HasHead atoms ts → ⊥) × (offset ≡ 0)
+IsRefused atoms ts end NotGrammar offset = HasHead atoms ts × ((m : Tree) → DerivesTree atoms m ts → ⊥) × IsOffsetOf ts end offset
+IsRefused atoms ts end _ offset = ⊥
 
 -- out of memory says nothing of the tokens
 abbrev pub IsTreeFault : List (List ℕ) → List NumberedToken → ℕ → OrNoMemory Refusal → Type 0
 IsTreeFault atoms ts end NoMemory = Unit {0}
-IsTreeFault atoms ts end (Fault r) = IsRefused atoms ts end r.code r.place
+IsTreeFault atoms ts end (Fault r) = IsRefused atoms ts end r.code r.offset

@@ -5,11 +5,11 @@ use Rattle.pf_fault.specs.declared.code.Code.TheVariants.{NoProperty}
 use Rattle.pf_fault.specs.declared.fault.OrNoMemory.{OrNoMemory}
 use Rattle.pf_fault.specs.declared.fault.OrNoMemory.TheVariants.{NoMemory, Fault}
 use Rattle.pf_tokens.specs.TokenKinds.{Placed, own_module}
-use Rattle.pf_syntax.specs.Source.{written_pattern_at}
-use Rattle.pf_syntax.specs.WrittenPattern.{WrittenPattern, written_pattern_depth}
-use Rattle.pf_numbered.specs.declared.limits.TheConstants.{MOST_TREE_DEPTH}
-use Rattle.pf_numbered.specs.NumberedTokens.{atoms_after, numbered_after, NumberedToken}
-use Rattle.pf_grammar.specs.Grammar.{DerivesWrittenPattern, Names}
+use Rattle.pf_syntax.specs.SyntaxTree.{expr_pattern_at}
+use Rattle.pf_syntax.specs.ExprPattern.{ExprPattern, expr_pattern_depth}
+use Rattle.pf_intern.specs.declared.limits.TheConstants.{MOST_TREE_DEPTH}
+use Rattle.pf_intern.specs.NumberedTokens.{atoms_after, numbered_after, NumberedToken}
+use Rattle.pf_grammar.specs.Grammar.{DerivesExprPattern, Names}
 use Rattle.pf_reader.specs.declared.pattern_alone.ReadPattern.{ReadPattern}
 
 -- no token is `?MODULE`
@@ -23,19 +23,19 @@ abbrev pub names_after : List (List ℕ) → List Placed → Names
 names_after names ts = record { atoms = atoms_after names ts; own = 0 }
 
 -- the pattern is written with these tokens from the first to the last, none of which is `?MODULE`, and isn't too deep
-pub record DerivesPatternAlone (names : List (List ℕ)) (q : WrittenPattern) (ts : List Placed) : Type 0 where
+pub record DerivesPatternAlone (names : List (List ℕ)) (q : ExprPattern) (ts : List Placed) : Type 0 where
   pub no_module : LacksModule ts
-  pub derives : DerivesWrittenPattern (names_after names ts) q (numbered_after names ts)
-  pub shallow : written_pattern_depth q ≤ MOST_TREE_DEPTH
+  pub derives : DerivesExprPattern (names_after names ts) q (numbered_after names ts)
+  pub shallow : expr_pattern_depth q ≤ MOST_TREE_DEPTH
 
 -- ---- what the outcome of reading tells of the tokens
 
 -- the pattern that was read
-abbrev pub pattern_of : ReadPattern → WrittenPattern
-pattern_of r = written_pattern_at r.source.node_table r.pattern.0
+abbrev pub pattern_of : ReadPattern → ExprPattern
+pattern_of r = expr_pattern_at r.source.node_table r.pattern.0
 
 -- the outcome is this pattern, unless memory ran out
-abbrev pub IsPatternReadAs : WrittenPattern → Result ReadPattern (OrNoMemory Code) → Type 0
+abbrev pub IsPatternReadAs : ExprPattern → Result ReadPattern (OrNoMemory Code) → Type 0
 IsPatternReadAs q (Ok r) = pattern_of r ≡ q
 IsPatternReadAs q (Err NoMemory) = Unit {0}
 IsPatternReadAs q (Err (Fault c)) = ⊥
@@ -43,12 +43,12 @@ IsPatternReadAs q (Err (Fault c)) = ⊥
 -- a refusal is that there is no such property, and no pattern derives the tokens; out of memory says nothing of them
 abbrev pub IsNoPattern : List (List ℕ) → List Placed → OrNoMemory Code → Type 0
 IsNoPattern names ts NoMemory = Unit {0}
-IsNoPattern names ts (Fault c) = (c ≡ NoProperty) × ((q : WrittenPattern) → DerivesPatternAlone names q ts → ⊥)
+IsNoPattern names ts (Fault c) = (c ≡ NoProperty) × ((q : ExprPattern) → DerivesPatternAlone names q ts → ⊥)
 
 -- ---- reading from left to right
 
 -- a pattern that was read, where nothing stands behind it
-abbrev pub alone : Option (WrittenPattern × List NumberedToken) → Option WrittenPattern
+abbrev pub alone : Option (ExprPattern × List NumberedToken) → Option ExprPattern
 alone None = None
 alone (Some (q, [])) = Some q
 alone (Some (q, t ∷ ts)) = None

@@ -3,8 +3,8 @@ use Rattle.std.specs.Prelude.{List}
 use Rattle.pf_reader.specs.declared.token.Context.{Context}
 use Rattle.pf_reader.specs.declared.token.Tokens.{Tokens}
 use Rattle.pf_grammar.specs.Grammar.{Names}
-use Rattle.pf_numbered.specs.NumberedTokens.{NumberedToken}
-use Rattle.pf_numbered.specs.View.{token_list}
+use Rattle.pf_intern.specs.NumberedTokens.{NumberedToken}
+use Rattle.pf_intern.specs.View.{token_list}
 
 abbrev pub names_of : Context → Names
 names_of c = record { atoms = c.atoms.now; own = c.own.0 }

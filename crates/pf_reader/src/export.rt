@@ -1,9 +1,9 @@
 //! Export forms.
 
 ghost use Rattle.std.specs.Prelude.{◌≡◌, ◌++◌, length, map, OnOk};
-ghost use Rattle.pf_syntax.specs.SourceOver.{export_of};
+ghost use Rattle.pf_syntax.specs.SyntaxTreeOver.{export_of};
 ghost use Rattle.pf_tokens.specs.declared.marks.Mark.TheVariants.{CloseBracket, Comma};
-ghost use Rattle.pf_numbered.specs.NumberedTokens.{mark};
+ghost use Rattle.pf_intern.specs.NumberedTokens.{mark};
 ghost use Rattle.pf_grammar.specs.Parse.{entry, export, exports, items, until};
 ghost use Rattle.pf_reader.specs.View.{names_of, tokens_in};
 ghost use Rattle.pf_reader.specs.Given.{with_front, Gives};
@@ -11,8 +11,8 @@ ghost use Rattle.pf_reader.specs.Given.{with_front, Gives};
 use crate::fault::{ReadFault, Syntax};
 use crate::token::{Context, Tokens, behind, read_name, read_number, skip, skip_word};
 use pf_fault::OrNoMemory;
-use pf_numbered::NumberedKind;
-use pf_syntax::{Export, Source};
+use pf_intern::NumberedKind;
+use pf_syntax::{Export, SyntaxTree};
 use pf_terms::NoMemory;
 use pf_tokens::Mark;
 use std::alloc::Global;
@@ -100,7 +100,7 @@ fn read_export<'a, 't>(
 }
 
 /// Adds entries in their order.
-fn add_exports(source: &mut Source, entries: &[Export]) -> Result<(), NoMemory>
+fn add_exports(source: &mut SyntaxTree, entries: &[Export]) -> Result<(), NoMemory>
     ensures added { OnOk result (source.new.exports ≡ source.old.exports ++ map export_of entries.now) }
     ensures name { source.new.name ≡ source.old.name }
     ensures functions { source.new.functions ≡ source.old.functions }
@@ -115,7 +115,7 @@ fn add_exports(source: &mut Source, entries: &[Export]) -> Result<(), NoMemory>
 pub(crate) fn read_exports<'a, 't>(
     alloc: Global,
     context: Context,
-    source: &mut Source,
+    source: &mut SyntaxTree,
     tokens: Tokens<'a, 't>,
 ) -> Result<Tokens<'a, 't>, ReadFault>
     ensures given { Gives (λ rest. (source.new.exports, tokens_in rest)) result

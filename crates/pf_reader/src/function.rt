@@ -3,19 +3,19 @@
 ghost use Rattle.std.specs.Prelude.{◌≡◌, length, map, IfOk};
 ghost use Rattle.std.specs.List.{All};
 ghost use Rattle.pf_tokens.specs.declared.marks.Mark.TheVariants.{Semicolon};
-ghost use Rattle.pf_numbered.specs.NumberedTokens.{mark};
-ghost use Rattle.pf_syntax.specs.SourceOver.{head_over, heads_over, HeadStands, HeadsStand};
+ghost use Rattle.pf_intern.specs.NumberedTokens.{mark};
+ghost use Rattle.pf_syntax.specs.SyntaxTreeOver.{head_over, heads_over, HeadRepresents, HeadsStand};
 ghost use Rattle.pf_grammar.specs.Parse.{function, functions, head, items};
 ghost use Rattle.pf_reader.specs.View.{names_of, tokens_in};
 ghost use Rattle.pf_reader.specs.Given.{with_first, Gives, Grown};
 
+use crate::expr::{read_body, read_when};
+use crate::expr_pattern::read_expr_patterns;
 use crate::fault::{ReadFault, Syntax};
 use crate::token::{Context, Tokens, behind, read_name, skip};
-use crate::written_expression::{read_body, read_when};
-use crate::written_pattern::read_written_patterns;
 use pf_fault::OrNoMemory;
-use pf_numbered::{MOST_TREE_DEPTH, NumberedKind};
-use pf_syntax::{Head, Source, WrittenFunction};
+use pf_intern::{MOST_TREE_DEPTH, NumberedKind};
+use pf_syntax::{ExprFunction, Head, SyntaxTree};
 use pf_tokens::Mark;
 use std::alloc::Global;
 
@@ -23,11 +23,11 @@ use std::alloc::Global;
 fn read_head<'a, 't>(
     alloc: Global,
     context: Context,
-    source: &mut Source,
+    source: &mut SyntaxTree,
     tokens: Tokens<'a, 't>,
 ) -> Result<(Head, Tokens<'a, 't>), ReadFault>
     ensures grown { Grown source.old source.new }
-    ensures stands { IfOk result (λ x. HeadStands source.new.node_table x.0) }
+    ensures stands { IfOk result (λ x. HeadRepresents source.new.node_table x.0) }
     ensures given { Gives (λ x. (head_over source.new.node_table x.0, tokens_in x.1)) result
         (head (names_of context.entry) (tokens_in tokens.entry)) }
 {
@@ -35,7 +35,7 @@ fn read_head<'a, 't>(
     let last = Mark::CloseParenthesis;
     let (word, rest) = read_name(context, tokens)?;
     let rest = behind(rest, NumberedKind::Mark(Mark::OpenParenthesis))?;
-    let (parameters, rest) = read_written_patterns(alloc, context, source, limit, last, rest)?;
+    let (parameters, rest) = read_expr_patterns(alloc, context, source, limit, last, rest)?;
     let (condition, rest) = read_when(alloc, context, source, limit, rest)?;
     let rest = behind(rest, NumberedKind::Mark(Mark::Arrow))?;
     let (body, rest) = read_body(alloc, context, source, limit, rest)?;
@@ -52,11 +52,11 @@ fn read_head<'a, 't>(
 fn read_heads<'a, 't>(
     alloc: Global,
     context: Context,
-    source: &mut Source,
+    source: &mut SyntaxTree,
     tokens: Tokens<'a, 't>,
 ) -> Result<(Vec<Head>, Tokens<'a, 't>), ReadFault>
     ensures grown { Grown source.old source.new }
-    ensures stands { IfOk result (λ x. All (HeadStands source.new.node_table) x.0.items) }
+    ensures stands { IfOk result (λ x. All (HeadRepresents source.new.node_table) x.0.items) }
     ensures given { Gives (λ x. (map (head_over source.new.node_table) x.0.items, tokens_in x.1)) result
         (items (mark Semicolon) (head (names_of context.entry)) (length (tokens_in tokens.entry))
         (tokens_in tokens.entry)) }
@@ -78,9 +78,9 @@ fn read_heads<'a, 't>(
 fn read_function<'a, 't>(
     alloc: Global,
     context: Context,
-    source: &mut Source,
+    source: &mut SyntaxTree,
     tokens: Tokens<'a, 't>,
-) -> Result<(WrittenFunction, Tokens<'a, 't>), ReadFault>
+) -> Result<(ExprFunction, Tokens<'a, 't>), ReadFault>
     ensures grown { Grown source.old source.new }
     ensures stands { IfOk result (λ x. HeadsStand source.new.node_table x.0) }
     ensures given { Gives (λ x. (heads_over source.new.node_table x.0, tokens_in x.1)) result
@@ -88,14 +88,14 @@ fn read_function<'a, 't>(
 {
     let (heads, rest) = read_heads(alloc, context, source, tokens)?;
     let rest = behind(rest, NumberedKind::Dot)?;
-    Ok((WrittenFunction { heads }, rest))
+    Ok((ExprFunction { heads }, rest))
 }
 
 /// Functions up to the end, which go into the source.
 pub(crate) fn read_functions(
     alloc: Global,
     context: Context,
-    source: &mut Source,
+    source: &mut SyntaxTree,
     tokens: Tokens,
 ) -> Result<(), ReadFault>
     ensures given { Gives (λ _. source.new.functions) result

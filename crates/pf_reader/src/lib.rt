@@ -5,6 +5,8 @@
 #![tactic(auto)]
 
 mod export;
+mod expr;
+mod expr_pattern;
 mod fault;
 mod function;
 mod operator;
@@ -12,8 +14,6 @@ mod part;
 mod pattern_alone;
 mod read;
 mod token;
-mod written_expression;
-mod written_pattern;
 
 pub use pattern_alone::{ReadPattern, read_pattern};
 pub use read::{ReadModule, read_tree};

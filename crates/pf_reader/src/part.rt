@@ -1,98 +1,89 @@
 //! Parts that were read into a source, and what follows each of them.
 
 ghost use Rattle.std.specs.Prelude.{◌≡◌, if◌then◌else◌, IfOk, None, Some};
-ghost use Rattle.pf_syntax.specs.SourceOver.{written_expression_over, written_pattern_over, WrittenExpressionPartsStand, WrittenExpressionStands, WrittenPatternPartsStand, WrittenPatternStands};
+ghost use Rattle.pf_syntax.specs.SyntaxTreeOver.{expr_over, expr_pattern_over, ExprPartsStand, ExprRepresents, ExprPatternPartsStand, ExprPatternRepresents};
 ghost use Rattle.pf_grammar.specs.Parse.{is_short, within};
-ghost use Rattle.pf_syntax.specs.WrittenExpression as expressions;
-ghost use Rattle.pf_syntax.specs.WrittenPattern as patterns;
+ghost use Rattle.pf_syntax.specs.Expr as expressions;
+ghost use Rattle.pf_syntax.specs.ExprPattern as patterns;
 ghost use Rattle.pf_reader.specs.View.{tokens_in};
-ghost use Rattle.pf_reader.specs.Given.{seen, seen_written_pattern, Gives, Grown};
+ghost use Rattle.pf_reader.specs.Given.{seen, seen_expr_pattern, Gives, Grown};
 
 use crate::fault::{ReadFault, Syntax};
 use crate::token::Tokens;
 use pf_fault::OrNoMemory;
-use pf_numbered::MOST_TEXT_CHARACTERS;
-use pf_syntax::{
-    Condition, Source, WrittenExpressionId, WrittenExpressionNode, WrittenPatternId,
-    WrittenPatternNode,
-};
+use pf_intern::MOST_TEXT_CHARACTERS;
+use pf_syntax::{Condition, ExprId, ExprNode, ExprPatternId, ExprPatternNode, SyntaxTree};
 use std::alloc::Global;
 
 /// An expression that was read, and what follows it.
 #[derive(Clone, Copy)]
-pub(crate) struct Part<'a, 't> {
-    pub written_expression: WrittenExpressionId,
+pub(crate) struct Operand<'a, 't> {
+    pub expr: ExprId,
     pub rest: Tokens<'a, 't>,
 }
 
 /// A pattern that was read, and what follows it.
 #[derive(Clone, Copy)]
-pub(crate) struct WrittenPatternPart<'a, 't> {
-    pub written_pattern: WrittenPatternId,
+pub(crate) struct ExprPatternPart<'a, 't> {
+    pub expr_pattern: ExprPatternId,
     pub rest: Tokens<'a, 't>,
 }
 
 /// What stands before the arrow of a clause, and what follows it.
 #[derive(Drop)]
 pub(crate) struct FrontPart<'a, 't> {
-    pub written_pattern: WrittenPatternId,
+    pub expr_pattern: ExprPatternId,
     pub condition: Condition,
     pub rest: Tokens<'a, 't>,
 }
 
 /// Adds a pattern.
-pub(crate) fn put_written_pattern<'a, 't>(
-    source: &mut Source,
-    node: WrittenPatternNode,
+pub(crate) fn put_expr_pattern<'a, 't>(
+    source: &mut SyntaxTree,
+    node: ExprPatternNode,
     rest: Tokens<'a, 't>,
-) -> Result<WrittenPatternPart<'a, 't>, ReadFault>
-    requires { WrittenPatternPartsStand source.old.node_table node }
+) -> Result<ExprPatternPart<'a, 't>, ReadFault>
+    requires { ExprPatternPartsStand source.old.node_table node }
     ensures grown { Grown source.old source.new }
-    ensures stands { IfOk result (λ p. WrittenPatternStands source.new.node_table p.written_pattern) }
-    ensures given { Gives (seen_written_pattern source.new.node_table) result
-        (Some (written_pattern_over source.old.node_table node, tokens_in rest.entry)) }
+    ensures stands { IfOk result (λ p. ExprPatternRepresents source.new.node_table p.expr_pattern) }
+    ensures given { Gives (seen_expr_pattern source.new.node_table) result
+        (Some (expr_pattern_over source.old.node_table node, tokens_in rest.entry)) }
 {
-    let written_pattern = source.add_written_pattern(node)?;
-    Ok(WrittenPatternPart {
-        written_pattern,
-        rest,
-    })
+    let expr_pattern = source.add_expr_pattern(node)?;
+    Ok(ExprPatternPart { expr_pattern, rest })
 }
 
 /// Adds an expression.
 pub(crate) fn put<'a, 't>(
-    source: &mut Source,
-    node: WrittenExpressionNode,
+    source: &mut SyntaxTree,
+    node: ExprNode,
     rest: Tokens<'a, 't>,
-) -> Result<Part<'a, 't>, ReadFault>
-    requires { WrittenExpressionPartsStand source.old.node_table node }
+) -> Result<Operand<'a, 't>, ReadFault>
+    requires { ExprPartsStand source.old.node_table node }
     ensures grown { Grown source.old source.new }
-    ensures stands { IfOk result (λ p. WrittenExpressionStands source.new.node_table p.written_expression) }
+    ensures stands { IfOk result (λ p. ExprRepresents source.new.node_table p.expr) }
     ensures given { Gives (seen source.new.node_table) result
-        (Some (written_expression_over source.old.node_table node, tokens_in rest.entry)) }
+        (Some (expr_over source.old.node_table node, tokens_in rest.entry)) }
 {
-    let written_expression = source.add_written_expression(node)?;
-    Ok(Part {
-        written_expression,
-        rest,
-    })
+    let expr = source.add_expr(node)?;
+    Ok(Operand { expr, rest })
 }
 
 /// Adds an expression, which may be no deeper than the limit.
 pub(crate) fn put_within<'a, 't>(
-    source: &mut Source,
+    source: &mut SyntaxTree,
     limit: u32,
-    node: WrittenExpressionNode,
+    node: ExprNode,
     rest: Tokens<'a, 't>,
-) -> Result<Part<'a, 't>, ReadFault>
-    requires { WrittenExpressionPartsStand source.old.node_table node }
+) -> Result<Operand<'a, 't>, ReadFault>
+    requires { ExprPartsStand source.old.node_table node }
     ensures grown { Grown source.old source.new }
-    ensures stands { IfOk result (λ p. WrittenExpressionStands source.new.node_table p.written_expression) }
+    ensures stands { IfOk result (λ p. ExprRepresents source.new.node_table p.expr) }
     ensures given { Gives (seen source.new.node_table) result
-        (within limit (written_expression_over source.old.node_table node) (tokens_in rest.entry)) }
+        (within limit (expr_over source.old.node_table node) (tokens_in rest.entry)) }
 {
     let part = put(source, node, rest)?;
-    if source.depth(part.written_expression) > limit {
+    if source.depth(part.expr) > limit {
         return Err(OrNoMemory::Fault(Syntax));
     }
     Ok(part)
@@ -109,33 +100,33 @@ fn read_characters(alloc: Global, text: &[u8]) -> Result<Vec<u8>, ReadFault>
 }
 
 /// Adds a pattern that is a string.
-pub(crate) fn put_written_pattern_text<'a, 't>(
+pub(crate) fn put_expr_pattern_text<'a, 't>(
     alloc: Global,
-    source: &mut Source,
+    source: &mut SyntaxTree,
     text: &[u8],
     rest: Tokens<'a, 't>,
-) -> Result<WrittenPatternPart<'a, 't>, ReadFault>
+) -> Result<ExprPatternPart<'a, 't>, ReadFault>
     ensures grown { Grown source.old source.new }
-    ensures stands { IfOk result (λ p. WrittenPatternStands source.new.node_table p.written_pattern) }
-    ensures given { Gives (seen_written_pattern source.new.node_table) result
+    ensures stands { IfOk result (λ p. ExprPatternRepresents source.new.node_table p.expr_pattern) }
+    ensures given { Gives (seen_expr_pattern source.new.node_table) result
         (if is_short text.now then Some (patterns.text text.now, tokens_in rest.entry) else None) }
 {
     let characters = read_characters(alloc, text)?;
-    put_written_pattern(source, WrittenPatternNode::Text(characters), rest)
+    put_expr_pattern(source, ExprPatternNode::Text(characters), rest)
 }
 
 /// Adds an expression that is a string.
 pub(crate) fn put_text<'a, 't>(
     alloc: Global,
-    source: &mut Source,
+    source: &mut SyntaxTree,
     text: &[u8],
     rest: Tokens<'a, 't>,
-) -> Result<Part<'a, 't>, ReadFault>
+) -> Result<Operand<'a, 't>, ReadFault>
     ensures grown { Grown source.old source.new }
-    ensures stands { IfOk result (λ p. WrittenExpressionStands source.new.node_table p.written_expression) }
+    ensures stands { IfOk result (λ p. ExprRepresents source.new.node_table p.expr) }
     ensures given { Gives (seen source.new.node_table) result
         (if is_short text.now then Some (expressions.text text.now, tokens_in rest.entry) else None) }
 {
     let characters = read_characters(alloc, text)?;
-    put(source, WrittenExpressionNode::Text(characters), rest)
+    put(source, ExprNode::Text(characters), rest)
 }

@@ -3,20 +3,20 @@
 ghost use Rattle.std.specs.Prelude.{map, IfErr, IfOk};
 ghost use Rattle.std.specs.Bool.{Decides};
 ghost use Rattle.pf_tokens.specs.TokenKinds.{placed_of};
-ghost use Rattle.pf_syntax.specs.SourceOver.{WrittenPatternStands};
-ghost use Rattle.pf_syntax.specs.WrittenPattern.{WrittenPattern};
-ghost use Rattle.pf_numbered.specs.View.{token_list};
+ghost use Rattle.pf_syntax.specs.SyntaxTreeOver.{ExprPatternRepresents};
+ghost use Rattle.pf_syntax.specs.ExprPattern.{ExprPattern};
+ghost use Rattle.pf_intern.specs.View.{token_list};
 ghost use Rattle.pf_grammar.specs.Parse.{pattern};
 ghost use Rattle.pf_reader.specs.View.{names_of};
 ghost use Rattle.pf_reader.specs.Given.{Gives};
 ghost use Rattle.pf_reader.specs.PatternAlone.{alone, pattern_of, DerivesPatternAlone, IsNoPattern, IsPatternReadAs, LacksModule};
 
+use crate::expr_pattern::read_expr_pattern;
 use crate::fault::{ReadFault, Syntax};
 use crate::token::{Context, Tokens};
-use crate::written_pattern::read_written_pattern;
 use pf_fault::{Code, OrNoMemory};
-use pf_numbered::{MOST_TREE_DEPTH, NumberedToken, number_tokens_after};
-use pf_syntax::{Source, WrittenPatternId};
+use pf_intern::{MOST_TREE_DEPTH, NumberedToken, number_tokens_after};
+use pf_syntax::{ExprPatternId, SyntaxTree};
 use pf_terms::{AtomId, AtomTable};
 use pf_tokens::{Kind, Token};
 use std::alloc::Global;
@@ -24,8 +24,8 @@ use std::alloc::Global;
 /// A pattern by itself, in a source of its own.
 #[derive(Drop)]
 pub struct ReadPattern {
-    pub source: Source,
-    pub pattern: WrittenPatternId,
+    pub source: SyntaxTree,
+    pub pattern: ExprPatternId,
 }
 
 /// Whether no token is `?MODULE`.
@@ -46,19 +46,19 @@ fn read_alone(
     context: Context,
     tokens: &[NumberedToken],
 ) -> Result<ReadPattern, ReadFault>
-    ensures stands { IfOk result (λ r. WrittenPatternStands r.source.node_table r.pattern) }
+    ensures stands { IfOk result (λ r. ExprPatternRepresents r.source.node_table r.pattern) }
     ensures given { Gives pattern_of result
         (alone (pattern (names_of context.entry) MOST_TREE_DEPTH (token_list tokens.now))) }
 {
-    let mut source = Source::new(alloc, context.own);
+    let mut source = SyntaxTree::new(alloc, context.own);
     let tokens = Tokens { list: tokens };
-    let part = read_written_pattern(alloc, context, &mut source, MOST_TREE_DEPTH, tokens)?;
+    let part = read_expr_pattern(alloc, context, &mut source, MOST_TREE_DEPTH, tokens)?;
     if part.rest.first().is_some() {
         return Err(OrNoMemory::Fault(Syntax));
     }
     Ok(ReadPattern {
         source,
-        pattern: part.written_pattern,
+        pattern: part.expr_pattern,
     })
 }
 
@@ -71,10 +71,10 @@ pub fn read_pattern(
 ) -> Result<ReadPattern, OrNoMemory<Code>>
     ensures found { IfOk result
         (λ r. DerivesPatternAlone atoms.now (pattern_of r) (map placed_of tokens.now)) }
-    ensures stands { IfOk result (λ r. WrittenPatternStands r.source.node_table r.pattern) }
+    ensures stands { IfOk result (λ r. ExprPatternRepresents r.source.node_table r.pattern) }
 
     // What derives the tokens is read, unless memory runs out.
-    ensures only { (q : WrittenPattern) → DerivesPatternAlone atoms.now q (map placed_of tokens.now)
+    ensures only { (q : ExprPattern) → DerivesPatternAlone atoms.now q (map placed_of tokens.now)
         → IsPatternReadAs q result }
     ensures fault { IfErr result (IsNoPattern atoms.now (map placed_of tokens.now)) }
 {

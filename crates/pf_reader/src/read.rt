@@ -2,10 +2,10 @@
 
 ghost use Rattle.std.specs.Prelude.{◌≡◌, map, option_map, IfErr, IfOk, None};
 ghost use Rattle.pf_tokens.specs.TokenKinds.{placed_of};
-ghost use Rattle.pf_numbered.specs.NumberedTokens.{atoms_of, numbered};
+ghost use Rattle.pf_intern.specs.NumberedTokens.{atoms_of, numbered};
 ghost use Rattle.pf_grammar.specs.Grammar.{tree_of, DerivesTree, Tree};
 ghost use Rattle.pf_grammar.specs.Parse.{any_atom, begins, tree};
-ghost use Rattle.pf_numbered.specs.View.{token_list};
+ghost use Rattle.pf_intern.specs.View.{token_list};
 ghost use Rattle.pf_reader.specs.View.{tokens_in};
 ghost use Rattle.pf_reader.specs.Given.{Gives};
 ghost use Rattle.pf_reader.specs.Outcome.{IsReadAs, IsTreeFault};
@@ -15,9 +15,9 @@ use crate::fault::{ReadFault, Syntax};
 use crate::function::read_functions;
 use crate::token::{Context, Tokens, skip, skip_word};
 use pf_fault::{Code, NoMemory, OrNoMemory, Refusal};
-use pf_numbered::{MOST_NAME_BYTES, NumberedKind, NumberedToken, number_tokens};
-use pf_places::fault_place;
-use pf_syntax::Source;
+use pf_intern::{MOST_NAME_BYTES, NumberedKind, NumberedToken, number_tokens};
+use pf_syntax::SyntaxTree;
+use pf_syntax_error::fault_offset;
 use pf_terms::{AtomId, AtomTable};
 use pf_tokens::{Mark, Token};
 use std::alloc::Global;
@@ -25,7 +25,7 @@ use std::alloc::Global;
 /// A module as it is read: its source, and the names of its atoms by number.
 #[derive(Drop)]
 pub struct ReadModule {
-    pub source: Source,
+    pub source: SyntaxTree,
     pub atoms: AtomTable,
 }
 
@@ -58,14 +58,14 @@ fn read_module(
     alloc: Global,
     atoms: &AtomTable,
     tokens: &[NumberedToken],
-) -> Result<Source, ReadFault>
+) -> Result<SyntaxTree, ReadFault>
     ensures { Gives tree_of result (tree atoms.now (token_list tokens.now)) }
 {
     let Some((own, rest)) = first_form(atoms, Tokens { list: tokens }) else {
         return Err(OrNoMemory::Fault(Syntax));
     };
     let context = Context { atoms, own };
-    let mut source = Source::new(alloc, own);
+    let mut source = SyntaxTree::new(alloc, own);
     let rest = read_exports(alloc, context, &mut source, rest)?;
     read_functions(alloc, context, &mut source, rest)?;
     if atoms.name(own).len() > MOST_NAME_BYTES {
@@ -87,8 +87,8 @@ fn tree_fault(
     let Some((own, _)) = first_form(atoms, Tokens { list: tokens }) else {
         return OrNoMemory::refusal(Code::NoHead, 0);
     };
-    match fault_place(alloc, atoms, own, tokens, end) {
-        Ok(place) => OrNoMemory::refusal(Code::NotGrammar, place),
+    match fault_offset(alloc, atoms, own, tokens, end) {
+        Ok(offset) => OrNoMemory::refusal(Code::NotGrammar, offset),
         Err(NoMemory) => OrNoMemory::NoMemory,
     }
 }

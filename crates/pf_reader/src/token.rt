@@ -3,15 +3,15 @@
 ghost use Rattle.std.specs.Prelude.{◌≡◌, [], ◌∷◌, option_map, MatchOption};
 ghost use Rattle.pf_grammar.specs.Grammar.{call_stands};
 ghost use Rattle.pf_grammar.specs.Parse.{after, atom_in, is, is_word, named, number, word};
-ghost use Rattle.pf_numbered.specs.View.{kind_of, numbered_token_of};
+ghost use Rattle.pf_intern.specs.View.{kind_of, numbered_token_of};
 ghost use Rattle.pf_reader.specs.View.{names_of, tokens_in};
 ghost use Rattle.pf_reader.specs.Given.{Gives};
 
 use crate::fault::{ReadFault, Syntax};
+use pf_builtins::{Form, builtin_named, may_stand};
 use pf_fault::OrNoMemory;
-use pf_forms::{Form, builtin_named, may_stand};
-use pf_numbered::{MOST_NAME_BYTES, NumberedKind, NumberedToken};
-use pf_syntax::Word;
+use pf_intern::{MOST_NAME_BYTES, NumberedKind, NumberedToken};
+use pf_syntax::Ident;
 use pf_terms::{AtomId, AtomTable};
 use pf_tokens::Integer;
 
@@ -118,11 +118,11 @@ impl Context<'_> {
     }
 }
 
-/// A name with its place, which must stand first, and what follows it.
+/// A name with its offset, which must stand first, and what follows it.
 pub(crate) fn read_name<'a, 't>(
     context: Context,
     tokens: Tokens<'a, 't>,
-) -> Result<(Word, Tokens<'a, 't>), ReadFault>
+) -> Result<(Ident, Tokens<'a, 't>), ReadFault>
     ensures { Gives (λ x. ((x.0.name.0, x.0.offset), tokens_in x.1)) result
         (named (names_of context.entry) (tokens_in tokens.entry)) }
 {
@@ -131,7 +131,7 @@ pub(crate) fn read_name<'a, 't>(
     };
     match context.atom(first.kind) {
         Some(name) => Ok((
-            Word {
+            Ident {
                 name,
                 offset: first.at,
             },

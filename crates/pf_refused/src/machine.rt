@@ -12,14 +12,14 @@
 //! ```
 
 ghost use Rattle.std.specs.Prelude.{◌≡◌, ◌<◌, length, true, IfOk};
-ghost use Rattle.pf_syntax.specs.Within.{ClauseStands, FunctionClauseStands, PartStands, PatternStands};
+ghost use Rattle.pf_syntax.specs.Within.{ClauseRepresents, FunctionClauseRepresents, OperandRepresents, PatternRepresents};
 ghost use Rattle.pf_stepper.specs.Turns.{CanMove};
 
 use crate::Answer;
 use pf_stepper::{Act, Machine, Move, PlainInbox};
 use pf_syntax::{
-    Builtin, Clause, Function, FunctionClause, FunctionId, Guard, Module, Node, NodeId, Operator,
-    Part, PatternId, PatternNode,
+    Builtin, Clause, Function, FunctionClause, FunctionId, Guard, Module, Node, NodeId, Operand,
+    Operator, PatternId, PatternNode,
 };
 use pf_terms::{AtomId, AtomTable, NoMemory, Term, copy, nodes, tuple_of};
 use smallvec::SmallVec;
@@ -46,15 +46,15 @@ pub struct Came {
 
 /// A clause of a `case` or a `receive` without a guard, of what stands in the module.
 fn branch(alloc: Global, within: &Module, pattern: PatternId, body: NodeId) -> Clause
-    requires pattern { PatternStands within.now.tables pattern }
+    requires pattern { PatternRepresents within.now.tables pattern }
     requires body { body.0 < length within.now.tables.trees }
-    ensures { ClauseStands within.now.tables result }
+    ensures { ClauseRepresents within.now.tables result }
 {
     let alternatives = Vec::new(alloc);
     Clause {
         pattern,
         guard: Guard { alternatives },
-        body: Part::Node(body),
+        body: Operand::Node(body),
     }
 }
 
@@ -63,11 +63,11 @@ fn clause(
     alloc: Global,
     within: &Module,
     pattern: PatternId,
-    body: Part,
+    body: Operand,
 ) -> Result<FunctionClause, NoMemory>
-    requires pattern { PatternStands within.now.tables pattern }
-    requires body { PartStands within.now.tables body }
-    ensures { IfOk result (λ c. FunctionClauseStands within.now.tables c) }
+    requires pattern { PatternRepresents within.now.tables pattern }
+    requires body { OperandRepresents within.now.tables body }
+    ensures { IfOk result (λ c. FunctionClauseRepresents within.now.tables c) }
 {
     let alternatives = Vec::new(alloc);
     Ok(FunctionClause {
@@ -82,15 +82,15 @@ fn after_case(alloc: Global, module: &mut Module) -> Result<NodeId, NoMemory>
     ensures { IfOk result (λ n. n.0 < length «module».new.tables.trees) }
 {
     let normal = module.add_pattern(PatternNode::Atom(AtomId::NORMAL))?;
-    let send = module.add_node(Node::Send(Part::Slot(20), Part::Slot(22)))?;
-    let last = module.add_node(Node::Cons(Part::Slot(21), Part::Nil))?;
-    let joined = Node::Binary(Operator::Append, Part::Slot(22), Part::Node(last));
+    let send = module.add_node(Node::Send(Operand::Slot(20), Operand::Slot(22)))?;
+    let last = module.add_node(Node::Cons(Operand::Slot(21), Operand::Nil))?;
+    let joined = Node::Binary(Operator::Append, Operand::Slot(22), Operand::Node(last));
     let joined = module.add_node(joined)?;
-    let both = vec![in alloc; Part::Slot(0), Part::Node(joined)]?;
+    let both = vec![in alloc; Operand::Slot(0), Operand::Node(joined)]?;
     let both = module.add_node(Node::Tuple(both))?;
-    let failing = Node::Match(vec![in alloc; normal]?, Part::Node(both));
+    let failing = Node::Match(vec![in alloc; normal]?, Operand::Node(both));
     let failing = module.add_node(failing)?;
-    module.add_node(Node::Bind(Vec::new(alloc), Part::Node(send), Part::Node(failing)))
+    module.add_node(Node::Bind(Vec::new(alloc), Operand::Node(send), Operand::Node(failing)))
 }
 
 /// The `case` of `main`, which calls `down`.
@@ -101,15 +101,15 @@ fn add_case(alloc: Global, module: &mut Module) -> Result<NodeId, NoMemory>
     let new = module.add_pattern(PatternNode::New)?;
     let list = module.add_pattern(PatternNode::Cons(new, new))?;
     let pair = module.add_pattern(PatternNode::Tuple(vec![in alloc; new, list]?))?;
-    let from = vec![in alloc; Part::Int(0), Part::Int(20)]?;
+    let from = vec![in alloc; Operand::Int(0), Operand::Int(20)]?;
     let from = module.add_node(Node::Tuple(from))?;
-    let call = Node::Call(FunctionId(1), vec![in alloc; Part::Node(from)]?);
+    let call = Node::Call(FunctionId(1), vec![in alloc; Operand::Node(from)]?);
     let call = module.add_node(call)?;
     let own = module.add_node(Node::Builtin(Builtin::SelfPid, Vec::new(alloc)))?;
-    let both = vec![in alloc; Part::Node(own), Part::Node(call)]?;
+    let both = vec![in alloc; Operand::Node(own), Operand::Node(call)]?;
     let both = module.add_node(Node::Tuple(both))?;
     let clauses = vec![in alloc; branch(alloc, module, pair, rest)]?;
-    module.add_node(Node::Case(Part::Node(both), clauses))
+    module.add_node(Node::Case(Operand::Node(both), clauses))
 }
 
 /// Adds the function without parameters, of this body.
@@ -120,7 +120,7 @@ fn add_root(alloc: Global, module: &mut Module, body: NodeId) -> Result<(), NoMe
     let clause = FunctionClause {
         parameters: Vec::new(alloc),
         guard: Guard { alternatives },
-        body: Part::Node(body),
+        body: Operand::Node(body),
     };
     module.add_function(Function {
         name: AtomId::NORMAL,
@@ -151,15 +151,15 @@ fn add_down(alloc: Global, module: &mut Module) -> Result<(), NoMemory> {
     let same = module.add_pattern(PatternNode::Slot(0))?;
     let twice = module.add_pattern(PatternNode::Tuple(vec![in alloc; new, same]?))?;
     let pair = module.add_pattern(PatternNode::Tuple(vec![in alloc; new, new]?))?;
-    let less = Node::Binary(Operator::Minus, Part::Slot(1), Part::Int(1));
+    let less = Node::Binary(Operator::Minus, Operand::Slot(1), Operand::Int(1));
     let less = module.add_node(less)?;
-    let next = vec![in alloc; Part::Slot(0), Part::Node(less)]?;
+    let next = vec![in alloc; Operand::Slot(0), Operand::Node(less)]?;
     let next = module.add_node(Node::Tuple(next))?;
-    let again = Node::Call(FunctionId(1), vec![in alloc; Part::Node(next)]?);
+    let again = Node::Call(FunctionId(1), vec![in alloc; Operand::Node(next)]?);
     let again = module.add_node(again)?;
-    let list = module.add_node(Node::Cons(Part::Slot(1), Part::Node(again)))?;
-    let first = clause(alloc, module, twice, Part::Nil)?;
-    let second = clause(alloc, module, pair, Part::Node(list))?;
+    let list = module.add_node(Node::Cons(Operand::Slot(1), Operand::Node(again)))?;
+    let first = clause(alloc, module, twice, Operand::Nil)?;
+    let second = clause(alloc, module, pair, Operand::Node(list))?;
     module.add_function(Function {
         name: AtomId::DOWN,
         arity: 1,

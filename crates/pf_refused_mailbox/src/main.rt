@@ -5,7 +5,7 @@
 use pf_fault::OrNoMemory;
 use pf_mailbox::Mailbox;
 use pf_nodes::Pool;
-use pf_syntax::{Clause, Guard, Module, Part, PatternNode};
+use pf_syntax::{Clause, Guard, Module, Operand, PatternNode};
 use pf_terms::{AtomId, AtomTable, NoMemory, Term, TooLarge, tuple_of};
 use std::alloc::Global;
 use std::io;
@@ -54,7 +54,7 @@ fn receive_pair(alloc: Global) -> Result<Receive, Answer> {
         guard: Guard {
             alternatives: Vec::new(alloc),
         },
-        body: Part::Slot(0),
+        body: Operand::Slot(0),
     };
     let Ok(clauses) = vec![in alloc; clause] else {
         return Err(Answer::Refused);

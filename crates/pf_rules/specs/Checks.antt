@@ -1,11 +1,11 @@
--- The checked module of a module without faults: each name is a place or a number.
+-- The checked module of a module without faults: each name is a slot or a number.
 use Rattle.std.specs.Prelude.{◌≡◌, ℕ, Bool, ◌==◌, ◌&&◌, List, [], ◌∷◌}
 use Rattle.std.specs.List.{list_any}
 use Rattle.pf_syntax.specs.Tree.{Function}
 use Rattle.pf_syntax.specs.Module.{Checked}
-use Rattle.pf_syntax.specs.Source.{Export, Head}
+use Rattle.pf_syntax.specs.SyntaxTree.{Export, Head}
 use Rattle.pf_syntax.specs.Naming.{Names, HeadIs}
-use Rattle.pf_syntax.specs.WrittenModule.{Tree}
+use Rattle.pf_syntax.specs.ExprModule.{Tree}
 use Rattle.pf_rules.specs.Static.{parameters_of, names_of}
 
 -- two lists of the same length, each item of one to its item of the other

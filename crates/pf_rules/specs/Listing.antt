@@ -1,7 +1,7 @@
 -- The functions that are kept by name and number of arguments, against those that a module defines and exports.
 use Rattle.std.specs.Prelude.{◌≡◌, ℕ, Bool, ◌==◌, ◌&&◌, is_some, List}
 use Rattle.std.specs.List.{list_any}
-use Rattle.pf_syntax.specs.Source.{Export, Head}
+use Rattle.pf_syntax.specs.SyntaxTree.{Export, Head}
 use Rattle.pf_rules.specs.Checks.{is_exported}
 use Rattle.pf_rules.specs.Static.{own_in}
 use Rattle.pf_rules.specs.declared.signatures.Signatures.{Signatures}

@@ -1,30 +1,30 @@
--- The static rules: all faults of a module, each a code and a place.
+-- The static rules: all faults of a module, each a code and an offset.
 use Rattle.std.specs.Prelude.{◌≡◌, ◌⊎◌, ℕ, suc, ◌<◌, ◌≤◌, Bool, true, false, ◌==◌, ◌&&◌, ◌||◌, is_some, if◌then◌else◌, List, [], ◌∷◌, ◌++◌, flat_map, position, Contains, Option}
 use Rattle.pf_fault.specs.Codes.{rank_of}
 use Rattle.pf_fault.specs.declared.code.Code.{Code}
 use Rattle.pf_fault.specs.declared.code.Code.TheVariants.{Unbound, Unsafe, Undefined, DefinedTwice, ExportOfNothing, HeadsDiffer}
 use Rattle.pf_fault.specs.declared.refusal.Refusal.{Refusal}
 use Rattle.pf_terms.specs.Atoms.{name_of}
-use Rattle.pf_syntax.specs.WrittenPattern as s
-use Rattle.pf_syntax.specs.WrittenPattern.{WrittenPattern, WrittenPatterns, no_written_patterns, written_pattern}
-use Rattle.pf_syntax.specs.WrittenExpression as p
-use Rattle.pf_syntax.specs.WrittenExpression.{WrittenExpression, WrittenExpressions, Condition, Branches, no_written_expressions, written_expression, no_tests, tests, no_branches, branch}
-use Rattle.pf_syntax.specs.Source.{Export, Head}
-use Rattle.pf_syntax.specs.Scope.{Scope, no_scope, is_unsafe, is_new, after_written_pattern, after_written_patterns, after, after_all}
+use Rattle.pf_syntax.specs.ExprPattern as s
+use Rattle.pf_syntax.specs.ExprPattern.{ExprPattern, ExprPatterns, no_expr_patterns, expr_pattern}
+use Rattle.pf_syntax.specs.Expr as p
+use Rattle.pf_syntax.specs.Expr.{Expr, Exprs, Condition, Branches, no_exprs, expr, no_tests, tests, no_branches, branch}
+use Rattle.pf_syntax.specs.SyntaxTree.{Export, Head}
+use Rattle.pf_syntax.specs.Scope.{Scope, no_scope, is_unsafe, is_new, after_expr_pattern, after_expr_patterns, after, after_all}
 use Rattle.pf_syntax.specs.Naming.{Names, arity_of}
-use Rattle.pf_forms.specs.Forms.{builtin_named}
-use Rattle.pf_syntax.specs.WrittenModule.{Tree}
+use Rattle.pf_builtins.specs.Forms.{builtin_named}
+use Rattle.pf_syntax.specs.ExprModule.{Tree}
 
 -- the fault, where the test says so
 abbrev pub fault_if : Bool → Code → ℕ → List Refusal
-fault_if b code place = if b then record { code = code; place = place } ∷ [] else []
+fault_if b code offset = if b then record { code = code; offset = offset } ∷ [] else []
 
 -- ---- names of functions
 
 -- how many arguments a head takes
-abbrev pub parameters_of : WrittenPatterns → ℕ
-parameters_of no_written_patterns = 0
-parameters_of (written_pattern q qs) = suc (parameters_of qs)
+abbrev pub parameters_of : ExprPatterns → ℕ
+parameters_of no_expr_patterns = 0
+parameters_of (expr_pattern q qs) = suc (parameters_of qs)
 
 -- a function is named by its first head, with the number of its arguments
 abbrev pub is_named : ℕ → ℕ → List Head → Bool
@@ -46,19 +46,19 @@ is_builtin atoms f arity = is_some (builtin_named (name_of atoms f) arity)
 -- ---- patterns: an unsafe variable
 
 abbrev mutual
-  pub written_pattern_faults : Scope → WrittenPattern → List Refusal
-  written_pattern_faults g (s.variable x at) = fault_if (is_unsafe g x) Unsafe at
-  written_pattern_faults g (s.tuple qs) = written_patterns_faults g qs
-  written_pattern_faults g (s.list qs) = written_patterns_faults g qs
-  written_pattern_faults g (s.list_on qs q) = written_patterns_faults g qs ++ written_pattern_faults (after_written_patterns g qs) q
-  written_pattern_faults g (s.integer z) = []
-  written_pattern_faults g (s.atom a) = []
-  written_pattern_faults g (s.text cs) = []
-  written_pattern_faults g s.anything = []
+  pub expr_pattern_faults : Scope → ExprPattern → List Refusal
+  expr_pattern_faults g (s.variable x at) = fault_if (is_unsafe g x) Unsafe at
+  expr_pattern_faults g (s.tuple qs) = expr_patterns_faults g qs
+  expr_pattern_faults g (s.list qs) = expr_patterns_faults g qs
+  expr_pattern_faults g (s.list_on qs q) = expr_patterns_faults g qs ++ expr_pattern_faults (after_expr_patterns g qs) q
+  expr_pattern_faults g (s.integer z) = []
+  expr_pattern_faults g (s.atom a) = []
+  expr_pattern_faults g (s.text cs) = []
+  expr_pattern_faults g s.anything = []
 
-  pub written_patterns_faults : Scope → WrittenPatterns → List Refusal
-  written_patterns_faults g no_written_patterns = []
-  written_patterns_faults g (written_pattern q qs) = written_pattern_faults g q ++ written_patterns_faults (after_written_pattern g q) qs
+  pub expr_patterns_faults : Scope → ExprPatterns → List Refusal
+  expr_patterns_faults g no_expr_patterns = []
+  expr_patterns_faults g (expr_pattern q qs) = expr_pattern_faults g q ++ expr_patterns_faults (after_expr_pattern g q) qs
 
 -- ---- expressions
 
@@ -67,49 +67,49 @@ abbrev pub is_defined : Names → ℕ → ℕ → Bool
 is_defined n f arity = is_some (n.own_of f arity) || is_some (n.builtin_of f arity)
 
 abbrev mutual
-  pub written_expression_faults : Names → Scope → WrittenExpression → List Refusal
-  written_expression_faults n g (p.integer z) = []
-  written_expression_faults n g (p.atom a) = []
-  written_expression_faults n g (p.text cs) = []
-  written_expression_faults n g (p.variable x at) = fault_if (is_unsafe g x) Unsafe at ++ fault_if (is_new g x) Unbound at
-  written_expression_faults n g (p.anonymous at) = fault_if true Unbound at
-  written_expression_faults n g (p.parentheses a) = written_expression_faults n g a
-  written_expression_faults n g (p.tuple es) = written_expressions_faults n g es
-  written_expression_faults n g (p.list es) = written_expressions_faults n g es
-  written_expression_faults n g (p.list_on es e) = written_expressions_faults n g es ++ written_expression_faults n (after_all g es) e
-  written_expression_faults n g (p.call f at es) = (if is_defined n f (arity_of es) then [] else fault_if true Undefined at) ++ written_expressions_faults n g es
-  written_expression_faults n g (p.binary o a b) = written_expression_faults n g a ++ written_expression_faults n (after g a) b
-  written_expression_faults n g (p.negate a) = written_expression_faults n g a
-  written_expression_faults n g (p.and_also a b) = written_expression_faults n g a ++ written_expression_faults n (after g a) b
-  written_expression_faults n g (p.or_else a b) = written_expression_faults n g a ++ written_expression_faults n (after g a) b
-  written_expression_faults n g (p.send a b) = written_expression_faults n g a ++ written_expression_faults n (after g a) b
-  written_expression_faults n g (p.match q a) = written_expression_faults n g a ++ written_pattern_faults (after g a) q
-  written_expression_faults n g (p.case a bs) = written_expression_faults n g a ++ branches_faults n (after g a) bs
-  written_expression_faults n g (p.if_expression bs) = branches_faults n g bs
-  written_expression_faults n g (p.receive bs) = branches_faults n g bs
+  pub expr_faults : Names → Scope → Expr → List Refusal
+  expr_faults n g (p.integer z) = []
+  expr_faults n g (p.atom a) = []
+  expr_faults n g (p.text cs) = []
+  expr_faults n g (p.variable x at) = fault_if (is_unsafe g x) Unsafe at ++ fault_if (is_new g x) Unbound at
+  expr_faults n g (p.anonymous at) = fault_if true Unbound at
+  expr_faults n g (p.parentheses a) = expr_faults n g a
+  expr_faults n g (p.tuple es) = exprs_faults n g es
+  expr_faults n g (p.list es) = exprs_faults n g es
+  expr_faults n g (p.list_on es e) = exprs_faults n g es ++ expr_faults n (after_all g es) e
+  expr_faults n g (p.call f at es) = (if is_defined n f (arity_of es) then [] else fault_if true Undefined at) ++ exprs_faults n g es
+  expr_faults n g (p.binary o a b) = expr_faults n g a ++ expr_faults n (after g a) b
+  expr_faults n g (p.negate a) = expr_faults n g a
+  expr_faults n g (p.and_also a b) = expr_faults n g a ++ expr_faults n (after g a) b
+  expr_faults n g (p.or_else a b) = expr_faults n g a ++ expr_faults n (after g a) b
+  expr_faults n g (p.send a b) = expr_faults n g a ++ expr_faults n (after g a) b
+  expr_faults n g (p.match q a) = expr_faults n g a ++ expr_pattern_faults (after g a) q
+  expr_faults n g (p.case a bs) = expr_faults n g a ++ branches_faults n (after g a) bs
+  expr_faults n g (p.if_expression bs) = branches_faults n g bs
+  expr_faults n g (p.receive bs) = branches_faults n g bs
 
-  pub written_expressions_faults : Names → Scope → WrittenExpressions → List Refusal
-  written_expressions_faults n g no_written_expressions = []
-  written_expressions_faults n g (written_expression e es) = written_expression_faults n g e ++ written_expressions_faults n (after g e) es
+  pub exprs_faults : Names → Scope → Exprs → List Refusal
+  exprs_faults n g no_exprs = []
+  exprs_faults n g (expr e es) = expr_faults n g e ++ exprs_faults n (after g e) es
 
   pub condition_faults : Names → Scope → Condition → List Refusal
   condition_faults n g no_tests = []
-  condition_faults n g (tests es c) = written_expressions_faults n g es ++ condition_faults n g c
+  condition_faults n g (tests es c) = exprs_faults n g es ++ condition_faults n g c
 
   -- each clause begins with what is seen at its construct
   pub branches_faults : Names → Scope → Branches → List Refusal
   branches_faults n g no_branches = []
   branches_faults n g (branch q c es bs) =
-      written_pattern_faults g q ++ condition_faults n (after_written_pattern g q) c ++ written_expressions_faults n (after_written_pattern g q) es ++ branches_faults n g bs
+      expr_pattern_faults g q ++ condition_faults n (after_expr_pattern g q) c ++ exprs_faults n (after_expr_pattern g q) es ++ branches_faults n g bs
 
 -- ---- modules
 
 -- a clause of a function begins with no variable
 abbrev pub head_faults : Names → Head → List Refusal
 head_faults n h =
-    written_patterns_faults no_scope h.parameters
-    ++ condition_faults n (after_written_patterns no_scope h.parameters) h.condition
-    ++ written_expressions_faults n (after_written_patterns no_scope h.parameters) h.body
+    expr_patterns_faults no_scope h.parameters
+    ++ condition_faults n (after_expr_patterns no_scope h.parameters) h.condition
+    ++ exprs_faults n (after_expr_patterns no_scope h.parameters) h.body
 
 -- a function whose name and number of arguments an earlier one or a built-in has
 abbrev pub defined_faults : List (List ℕ) → List (List Head) → List (List Head) → List Refusal
@@ -144,10 +144,10 @@ faults_of atoms m =
 
 -- ---- the first fault
 
--- at a lower place, or at the same with a code that isn't behind in the table
+-- at a lower offset, or at the same with a code that isn't behind in the table
 abbrev pub NotAfter : Refusal → Refusal → Type 0
-NotAfter a b = (a.place < b.place) ⊎ ((a.place ≡ b.place) × (rank_of a.code ≤ rank_of b.code))
+NotAfter a b = (a.offset < b.offset) ⊎ ((a.offset ≡ b.offset) × (rank_of a.code ≤ rank_of b.code))
 
--- the fault of the least place, and of several there the one whose code is the first in the table
+-- the fault of the least offset, and of several there the one whose code is the first in the table
 abbrev pub IsFirst : List Refusal → Refusal → Type 0
 IsFirst faults f = Contains faults f × ((other : Refusal) → Contains faults other → NotAfter f other)

@@ -1,7 +1,7 @@
 -- A run that goes on by one transition more.
 use Rattle.std.proofs.Common.{◌≡◌, ℕ, zero, suc, ◌+◌, ◌-◌, List, [], ◌∷◌, ◌++◌, length, Some, subst, arith}
 use Rattle.std.specs.Prelude.{slice_get}
-use Rattle.pf_model.specs.Code.{Code}
+use Rattle.pf_model.specs.Module.{Module}
 use Rattle.pf_model.specs.Configuration.{Configuration}
 use Rattle.pf_sched.specs.Traces.{heads_in, ready_in}
 use Rattle.pf_model.specs.Runs.{Actor, Passed, Passes, Transition, transition, Picks, later, first_pick, Goes, stays, more, enabled}
@@ -11,7 +11,7 @@ abbrev pub pick_at : Picks → ℕ → Configuration → ℕ
 pick_at ps i c = ps i (ready_in c) (heads_in c)
 
 -- one transition more, of the actor that the next choice is
-pub goes_on : (m : Code) (ps : Picks) (n : ℕ) (c : Configuration) (ts : List Transition) (d : Configuration) (k : ℕ) → Goes m ps n c ts d k
+pub goes_on : (m : Module) (ps : Picks) (n : ℕ) (c : Configuration) (ts : List Transition) (d : Configuration) (k : ℕ) → Goes m ps n c ts d k
     → (l : ℕ) (x : Actor) (p : Passed) → slice_get (enabled d) (pick_at ps (length ts) d) ≡ Some x → n ≡ suc l + k → Passes m (suc l) d x p
     → Goes m ps n c (ts ++ transition (pick_at ps (length ts) d) (enabled d) x p ∷ []) p.after (k + p.used)
 goes_on m ps n c _ _ _ (stays _ _ _) l x p e h pass =

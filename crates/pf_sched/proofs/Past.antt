@@ -2,21 +2,21 @@
 use Rattle.std.proofs.Common.{◌≡◌, ◌⊎◌, inl, inr, ℕ, zero, suc, ◌+◌, ◌-◌, ◌<◌, ◌≤◌, List, [], ◌∷◌, length, Some, refl, sym, ap, ◌∙◌, subst, arith}
 use Rattle.std.specs.Prelude.{slice_get}
 use Rattle.std.proofs.Math.Nat.{sub-zero}
-use Rattle.pf_model.specs.Code.{Code}
+use Rattle.pf_model.specs.Module.{Module}
 use Rattle.pf_model.specs.Configuration.{Configuration}
 use Rattle.pf_model.specs.Evaluation.{pass_of}
 use Rattle.pf_model.specs.Runs.{Actor, Passed, Passes, Transition, Picks, later, first_pick, Goes, stays, more, Stops, enabled}
 use Rattle.pf_model.proofs.Turned.{pass_only, pass_uses}
 
 -- each transition takes a step at least
-pub within_steps : (m : Code) (ps : Picks) (n : ℕ) (c : Configuration) (ts : List Transition) (d : Configuration) (k : ℕ) → Goes m ps n c ts d k → length ts ≤ n
+pub within_steps : (m : Module) (ps : Picks) (n : ℕ) (c : Configuration) (ts : List Transition) (d : Configuration) (k : ℕ) → Goes m ps n c ts d k → length ts ≤ n
 within_steps m _ _ _ _ _ _ (stays ps n c) = omega arith
 within_steps m _ _ _ _ _ _ (more ps n c x p ts d k e pass rest) =
     let one = pass_uses m n c x p pass in
     let more = within_steps m (later ps) (suc n - p.used) p.after ts d k rest in
     omega arith
 
-module _ (m : Code) where
+module _ (m : Module) where
   -- no transition was made
   record None (n : ℕ) (c : Configuration) (d : Configuration) (k : ℕ) : Type 0 where
     same : d ≡ c

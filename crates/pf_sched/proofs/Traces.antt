@@ -8,7 +8,7 @@ use Rattle.pf_choice.specs.Choices as choice
 use Rattle.pf_choice.specs.Choices.{Chooses, IsAt}
 use Rattle.pf_choice.specs.Chosen.{Profile, chosen}
 use Rattle.pf_choice.specs.declared.choices.Choices.{Choices}
-use Rattle.pf_model.specs.Code.{Code}
+use Rattle.pf_model.specs.Module.{Module}
 use Rattle.pf_model.specs.Configuration.{Configuration}
 use Rattle.pf_model.specs.Labels.{Label}
 use Rattle.pf_model.specs.Channels.{heads}
@@ -65,7 +65,7 @@ told i n x l = record { choice = i; count = n; actor = x; label = l }
 
 -- ---- one transition more
 
-module _ (m : Code) (f : Profile) (ws : Words) (limit : ℕ) (c : Configuration) where
+module _ (m : Module) (f : Profile) (ws : Words) (limit : ℕ) (c : Configuration) where
   -- before the first
   pub begins : (s : SystemView) (q : Choices Lcg) → s.code ≡ m → s.standing ≡ Some c → s.steps ≡ 0 → IsAt pcg32 ws 0 q → choice.profile_of q ≡ f
       → Going m f ws limit c [] s q

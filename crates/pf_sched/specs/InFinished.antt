@@ -5,7 +5,7 @@ use Rattle.pf_request.specs.Job.{Job}
 use Rattle.pf_sched.specs.declared.finished.Ending.{Ending}
 use Rattle.pf_sched.specs.declared.finished.Ending.TheVariants.{Whole, Memory}
 use Rattle.pf_sched.specs.declared.finished.Finished.TheInside as finished
-use Rattle.pf_sched.specs.Views.{FinishedView, finished_view, result_of, without_memory}
+use Rattle.pf_sched.specs.Views.{FinishedView, view_of_finished, result_of, without_memory}
 
 -- what a job came to
 abbrev pub came_to : Ending → shrinking.Result
@@ -13,7 +13,7 @@ came_to (Whole result) = result_of result.value
 came_to Memory = without_memory
 
 abbrev pub finished_in : finished.Inside → FinishedView
-finished_in f = finished_view f.job.value (came_to f.ending)
+finished_in f = view_of_finished f.job.value (came_to f.ending)
 
 -- a whole result is what the job comes to
 abbrev pub IsEnding : Job → Ending → Type 0

@@ -4,7 +4,7 @@ use Rattle.pf_request.specs.Job.{Job}
 use Rattle.pf_sched.specs.declared.parked.Parked.TheInside as parked
 use Rattle.pf_sched.specs.declared.parked.Work.{Work}
 use Rattle.pf_sched.specs.declared.parked.Work.TheVariants as work
-use Rattle.pf_sched.specs.Views.{ParkedView, parked_view}
+use Rattle.pf_sched.specs.Views.{ParkedView, view_of_parked}
 use Rattle.pf_sched.specs.Parts.{IsRunOf, IsShrinkingOf, events_so_far}
 
 -- the events so far
@@ -13,7 +13,7 @@ at_of (work.Run run) = length run.events.items
 at_of (work.Shrinking shrinking) = events_so_far shrinking
 
 abbrev pub parked_in : parked.Inside → ParkedView
-parked_in p = parked_view p.job.value (at_of p.work)
+parked_in p = view_of_parked p.job.value (at_of p.work)
 
 -- it is the run of the job, or its shrinking
 abbrev pub IsWorkOf : Job → Work → Type 0

@@ -15,7 +15,7 @@ use Rattle.pf_sched.specs.declared.shrinking.Advance.{Advance}
 use Rattle.pf_sched.specs.declared.shrinking.Advance.TheVariants as advance
 use Rattle.pf_sched.specs.declared.slice.Slice.{Slice}
 use Rattle.pf_sched.specs.declared.slice.Slice.TheVariants.{More, Done}
-use Rattle.pf_sched.specs.Views.{ParkedView, parked_view, result_of, without_memory}
+use Rattle.pf_sched.specs.Views.{ParkedView, view_of_parked, result_of, without_memory}
 use Rattle.pf_sched.specs.Events.{HasEvents}
 use Rattle.pf_sched.specs.Parts.{IsRunBy, IsShrinkingOf, events_so_far}
 use Rattle.pf_sched.specs.Traces.{Makes}
@@ -31,7 +31,7 @@ EndsBy j n r = IsResult j.asked r × ((m : ℕ) × HasEvents j.asked m × (m ≤
 -- a slice of so many turns: the job goes on after so many events more, if it has more than those; else it is over, with what it comes
 -- to, or memory ran out
 abbrev pub Sliced : ParkedView → (turns : ℕ) → Slice → Type 0
-Sliced p turns (More q) = (q ≡ parked_view p.job (p.at + turns)) × GoesPast p.job (p.at + turns)
+Sliced p turns (More q) = (q ≡ view_of_parked p.job (p.at + turns)) × GoesPast p.job (p.at + turns)
 Sliced p turns (Done f) = (f.job ≡ p.job) × (EndsBy p.job (p.at + turns) f.result ⊎ (f.result ≡ without_memory))
 
 -- ---- within a slice

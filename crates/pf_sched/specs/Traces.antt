@@ -6,7 +6,7 @@ use Rattle.pf_choice.specs.Choices as choice
 use Rattle.pf_choice.specs.Choices.{Chooses, IsAt}
 use Rattle.pf_choice.specs.Chosen.{Profile}
 use Rattle.pf_choice.specs.declared.choices.Choices.{Choices}
-use Rattle.pf_model.specs.Code.{Code}
+use Rattle.pf_model.specs.Module.{Module}
 use Rattle.pf_model.specs.Configuration.{Configuration}
 use Rattle.pf_model.specs.Channels.{heads}
 use Rattle.pf_model.specs.Meaning as meaning
@@ -44,7 +44,7 @@ MayHaveGone left c s q (Some e) s' q' = Went left c s q e s' q'
 
 -- a run by these words, which a profile chooses by, as far as it came: it stands at some configuration, the next word is that of the
 -- next transition
-pub record Going (m : Code) (p : Profile) (ws : Words) (limit : ℕ) (c : Configuration) (es : List Event) (s : SystemView) (q : Choices Lcg) : Type 0 where
+pub record Going (m : Module) (p : Profile) (ws : Words) (limit : ℕ) (c : Configuration) (es : List Event) (s : SystemView) (q : Choices Lcg) : Type 0 where
   pub transitions : List Transition
   pub last : Configuration
   pub code : s.code ≡ m

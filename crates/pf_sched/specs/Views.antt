@@ -32,22 +32,22 @@ pub record ParkedView : Type 0 where
   pub job : Job
   pub at : ℕ
 
-abbrev pub parked_view : Job → ℕ → ParkedView
-parked_view j n = record { job = j; at = n }
+abbrev pub view_of_parked : Job → ℕ → ParkedView
+view_of_parked j n = record { job = j; at = n }
 
 abbrev pub coded_parked_view : Coded ParkedView
-coded_parked_view = code_by _ (coded× coded_job coded_ℕ) (λ p. (p.job, p.at)) (λ p. parked_view p.0 p.1) (λ _. refl)
+coded_parked_view = code_by _ (coded× coded_job coded_ℕ) (λ p. (p.job, p.at)) (λ p. view_of_parked p.0 p.1) (λ _. refl)
 
 -- a job whose runs are over, and what came of it
 pub record FinishedView : Type 0 where
   pub job : Job
   pub result : shrinking.Result
 
-abbrev pub finished_view : Job → shrinking.Result → FinishedView
-finished_view j r = record { job = j; result = r }
+abbrev pub view_of_finished : Job → shrinking.Result → FinishedView
+view_of_finished j r = record { job = j; result = r }
 
 abbrev pub coded_finished_view : Coded FinishedView
-coded_finished_view = code_by _ (coded× coded_job coded_result) (λ f. (f.job, f.result)) (λ p. finished_view p.0 p.1) (λ _. refl)
+coded_finished_view = code_by _ (coded× coded_job coded_result) (λ f. (f.job, f.result)) (λ p. view_of_finished p.0 p.1) (λ _. refl)
 
 abbrev pub without_memory : shrinking.Result
 without_memory = shrinking.report memory_report

@@ -2,7 +2,7 @@
 
 ghost use Rattle.std.specs.Prelude.{◌≡◌, ◌⊎◌, IfOk, MatchBool, MatchOption};
 ghost use Rattle.pf_model.specs.Shrinking.{IsResult};
-ghost use Rattle.pf_sched.specs.Views.{finished_view, result_of, without_memory};
+ghost use Rattle.pf_sched.specs.Views.{view_of_finished, result_of, without_memory};
 
 use crate::job::Job;
 use crate::result::JobResult;
@@ -56,7 +56,7 @@ impl Finished {
 
     /// The end of a job for which memory ran out. It takes no memory.
     pub(crate) fn without_memory(job: Arc<Job>) -> Finished
-        ensures { result ≡ finished_view job.value without_memory }
+        ensures { result ≡ view_of_finished job.value without_memory }
     {
         Finished {
             job,

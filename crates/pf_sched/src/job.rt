@@ -2,7 +2,7 @@
 
 ghost use Rattle.std.specs.Prelude.{◌≡◌, IfOk, Ok, MatchResult, option_map};
 ghost use Rattle.pf_fault.specs.declared.code.Code.TheVariants as code;
-ghost use Rattle.pf_model.specs.Code.{code_of as code_in};
+ghost use Rattle.pf_model.specs.Module.{module_of as module_in};
 ghost use Rattle.pf_model.specs.Limits.{IsEdition};
 ghost use Rattle.pf_module.specs.Reading.{IsReadAs};
 ghost use Rattle.pf_property.specs.Texts.{ReadsProperty};
@@ -125,7 +125,7 @@ impl Job {
 
     /// The module that runs.
     pub fn module(&self) -> &Arc<Module>
-        ensures { code_in result.now.value ≡ self.now.asked.code }
+        ensures { module_in result.now.value ≡ self.now.asked.code }
     {
         self.module.module()
     }

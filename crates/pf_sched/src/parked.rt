@@ -3,7 +3,7 @@
 ghost use Rattle.std.specs.Prelude.{◌≡◌, IfOk, OnOk};
 ghost use Rattle.pf_sched.specs.Asked.{IsValid};
 ghost use Rattle.pf_sched.specs.InParked.{IsWorkOf, at_of};
-ghost use Rattle.pf_sched.specs.Views.{parked_view};
+ghost use Rattle.pf_sched.specs.Views.{view_of_parked};
 
 use crate::choices::open;
 use crate::job::Job;
@@ -72,7 +72,7 @@ pub(crate) fn first_work(alloc: Global, job: &Job) -> Result<Work, NoMemory>
 
 /// A job, before its first event.
 pub fn start(alloc: Global, job: Arc<Job>) -> Result<Parked, NoMemory>
-    ensures parked { IfOk result (λ p. p ≡ parked_view job.value 0) }
+    ensures parked { IfOk result (λ p. p ≡ view_of_parked job.value 0) }
     ensures valid { OnOk result (IsValid job.value) }
 {
     let work = first_work(alloc, &job)?;

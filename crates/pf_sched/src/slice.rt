@@ -5,7 +5,7 @@ ghost use Rattle.pf_model.specs.Meaning.{Means};
 ghost use Rattle.pf_model.specs.Reports.{report_of};
 ghost use Rattle.pf_sched.specs.Parts.{IsRunOf, IsShrinkingOf, events_so_far};
 ghost use Rattle.pf_sched.specs.Slices.{EndsBy, IsOver, Sliced};
-ghost use Rattle.pf_sched.specs.Views.{parked_view, without_memory};
+ghost use Rattle.pf_sched.specs.Views.{view_of_parked, without_memory};
 
 use crate::finished::Finished;
 use crate::job::Job;
@@ -55,7 +55,7 @@ fn slice_of_run(
     turns: u32,
 ) -> Slice
     requires { IsRunOf job.value run }
-    ensures { Sliced (parked_view job.value (length run.events.items)) turns result }
+    ensures { Sliced (view_of_parked job.value (length run.events.items)) turns result }
 {
     match run.go_on(alloc, job.limit(), scratch, turns) {
         Ok(false) => Slice::More(Parked {
@@ -76,7 +76,7 @@ fn slice_of_shrinking(
     turns: u32,
 ) -> Slice
     requires { IsShrinkingOf job.value shrinking }
-    ensures { Sliced (parked_view job.value (events_so_far shrinking)) turns result }
+    ensures { Sliced (view_of_parked job.value (events_so_far shrinking)) turns result }
 {
     match shrinking.advance(alloc, &job, scratch, turns) {
         Ok(Advance::More(shrinking)) => Slice::More(Parked {

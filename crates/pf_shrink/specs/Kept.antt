@@ -2,37 +2,37 @@
 use Rattle.std.specs.Prelude.{◌≡◌, ℕ, suc, ◌<◌, ◌/◌, List, [], ◌++◌, length, take, drop, slice_index, slice_set}
 use Rattle.std.specs.List.{slice_rotate_right}
 use Rattle.pf_model.specs.Shrinking.{without_one, halved, candidates}
-use Rattle.pf_shrink.specs.Rounds.{Round, round, from_place}
-use Rattle.pf_shrink.specs.declared.round.Place.{Place}
-use Rattle.pf_shrink.specs.declared.round.Place.TheVariants.{WithoutLast, Without, Halved, End}
+use Rattle.pf_shrink.specs.Rounds.{Round, round, from_position}
+use Rattle.pf_shrink.specs.declared.round.Position.{Position}
+use Rattle.pf_shrink.specs.declared.round.Position.TheVariants.{WithoutLast, Without, Halved, End}
 
--- with the last number moved to place i
+-- with the last number moved to position i
 abbrev pub with_last_at : (i : ℕ) → List ℕ → List ℕ
 with_last_at i ns = take i ns ++ slice_rotate_right (drop i ns) 1
 
 -- the schedule
-abbrev pub schedule_in : List ℕ → Place → List ℕ
+abbrev pub schedule_in : List ℕ → Position → List ℕ
 schedule_in ns WithoutLast = ns
 schedule_in ns (Without i) = with_last_at i ns
 schedule_in ns (Halved i n) = slice_set ns i n
 schedule_in ns End = ns
 
--- the candidates of a schedule from this place on
-abbrev pub left_from : Place → List ℕ → List (List ℕ)
+-- the candidates of a schedule from this position on
+abbrev pub left_from : Position → List ℕ → List (List ℕ)
 left_from WithoutLast ns = candidates ns
-left_from (Without i) ns = from_place without_one i ns ++ halved ns
-left_from (Halved i n) ns = from_place halved i ns
+left_from (Without i) ns = from_position without_one i ns ++ halved ns
+left_from (Halved i n) ns = from_position halved i ns
 left_from End ns = []
 
-abbrev pub left_in : List ℕ → Place → List (List ℕ)
+abbrev pub left_in : List ℕ → Position → List (List ℕ)
 left_in ns p = left_from p (schedule_in ns p)
 
-abbrev pub kept : List ℕ → Place → Round
+abbrev pub kept : List ℕ → Position → Round
 kept ns p = round (schedule_in ns p) (left_in ns p)
 
 -- there is such a candidate
-abbrev pub IsKept : List ℕ → Place → Type 0
-IsKept ns WithoutLast = 0 < length ns
-IsKept ns (Without i) = suc i < length ns
-IsKept ns (Halved i n) = (i < length ns) × (0 < n) × (slice_index ns i ≡ n / 2)
-IsKept ns End = Unit {0}
+abbrev pub IsValid : List ℕ → Position → Type 0
+IsValid ns WithoutLast = 0 < length ns
+IsValid ns (Without i) = suc i < length ns
+IsValid ns (Halved i n) = (i < length ns) × (0 < n) × (slice_index ns i ≡ n / 2)
+IsValid ns End = Unit {0}

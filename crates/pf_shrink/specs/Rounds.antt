@@ -44,7 +44,7 @@ abbrev pub AreSmaller : Round → Type 0
 AreSmaller r = All (λ c. IsSmaller c r.schedule) r.left
 
 -- those of some changes of a schedule that leave its first i numbers as they are
-abbrev pub from_place : (List ℕ → List (List ℕ)) → (i : ℕ) → List ℕ → List (List ℕ)
-from_place changed zero ns = changed ns
-from_place changed (suc i) [] = []
-from_place changed (suc i) (n ∷ ns) = behind n (from_place changed i ns)
+abbrev pub from_position : (List ℕ → List (List ℕ)) → (i : ℕ) → List ℕ → List (List ℕ)
+from_position changed zero ns = changed ns
+from_position changed (suc i) [] = []
+from_position changed (suc i) (n ∷ ns) = behind n (from_position changed i ns)

@@ -2,20 +2,20 @@
 //! are made one from another, in the place of the schedule.
 
 ghost use Rattle.std.specs.Prelude.{◌≡◌, ◌<◌, ◌≤◌, [], length, drop, option_map};
-ghost use Rattle.pf_shrink.specs.Rounds.{begun, passed, taken, given_up, head, from_place};
-ghost use Rattle.pf_shrink.specs.Kept.{schedule_in, left_in, IsKept, kept};
+ghost use Rattle.pf_shrink.specs.Rounds.{begun, passed, taken, given_up, head, from_position};
+ghost use Rattle.pf_shrink.specs.Kept.{schedule_in, left_in, IsValid, kept};
 ghost use Rattle.pf_model.specs.Shrinking.{halved};
 
 use std::marker::Model;
 
 /// Which candidate is next, and by what the numbers that are kept differ from the schedule.
 #[derive(Clone, Copy)]
-enum Place {
+enum Position {
     /// By nothing. Next is the schedule without its last number.
     WithoutLast,
-    /// The number of this place stands last. Next are the numbers before it.
+    /// The number of this position stands last. Next are the numbers before it.
     Without(usize),
-    /// The number of this place is halved, and was this one. Next are the numbers as they are kept.
+    /// The number of this position is halved, and was this one. Next are the numbers as they are kept.
     Halved(usize, u32),
     /// By nothing. No candidate is left.
     End,
@@ -25,7 +25,7 @@ enum Place {
 #[derive(Drop)]
 pub(crate) struct Round {
     numbers: Vec<u32>,
-    place: Place,
+    position: Position,
 }
 
 impl Model for Round {
@@ -33,11 +33,11 @@ impl Model for Round {
 
     ghost Value = { Round };
 
-    ghost use Rattle.pf_shrink.specs.Kept.{kept, IsKept};
+    ghost use Rattle.pf_shrink.specs.Kept.{kept, IsValid};
 
-    ghost view = { λ r. kept r.numbers.items r.place };
+    ghost view = { λ r. kept r.numbers.items r.position };
 
-    ghost invariant = { λ r. IsKept r.numbers.items r.place };
+    ghost invariant = { λ r. IsValid r.numbers.items r.position };
 }
 
 impl Round {
@@ -47,7 +47,7 @@ impl Round {
     {
         Round {
             numbers: schedule,
-            place: Place::End,
+            position: Position::End,
         }
     }
 
@@ -63,10 +63,12 @@ impl Round {
     pub(crate) fn next(&self) -> Option<&[u32]>
         ensures { option_map (λ s. s.now) result ≡ head self.now.left }
     {
-        match self.place {
-            Place::WithoutLast | Place::Without(_) => Some(&self.numbers[..self.numbers.len() - 1]),
-            Place::Halved(_, _) => Some(&self.numbers),
-            Place::End => None,
+        match self.position {
+            Position::WithoutLast | Position::Without(_) => Some(
+                &self.numbers[..self.numbers.len() - 1],
+            ),
+            Position::Halved(_, _) => Some(&self.numbers),
+            Position::End => None,
         }
     }
 
@@ -74,7 +76,7 @@ impl Round {
     pub(crate) fn pass(&mut self)
         ensures { self.new ≡ passed self.old }
     {
-        self.place = following(&mut self.numbers, self.place);
+        self.position = following(&mut self.numbers, self.position);
     }
 
     /// Takes the next candidate as the schedule, or the schedule itself where none is left. All its
@@ -82,90 +84,90 @@ impl Round {
     pub(crate) fn take(&mut self)
         ensures { self.new ≡ taken self.old }
     {
-        match self.place {
-            Place::WithoutLast | Place::Without(_) => {
+        match self.position {
+            Position::WithoutLast | Position::Without(_) => {
                 self.numbers.pop();
             }
-            Place::Halved(_, _) | Place::End => {}
+            Position::Halved(_, _) | Position::End => {}
         }
-        self.place = first_place(&self.numbers);
+        self.position = first_position(&self.numbers);
     }
 
     /// Leaves no candidate to come.
     pub(crate) fn give_up(&mut self)
         ensures { self.new ≡ given_up self.old }
     {
-        restore(&mut self.numbers, self.place);
-        self.place = Place::End;
+        restore(&mut self.numbers, self.position);
+        self.position = Position::End;
     }
 }
 
-// The place of the first candidate of a schedule.
-fn first_place(schedule: &[u32]) -> Place
-    ensures kept { IsKept schedule.now result }
+// The position of the first candidate of a schedule.
+fn first_position(schedule: &[u32]) -> Position
+    ensures kept { IsValid schedule.now result }
     ensures begun { kept schedule.now result ≡ begun schedule.now }
 {
     if schedule.is_empty() {
-        Place::End
+        Position::End
     } else {
-        Place::WithoutLast
+        Position::WithoutLast
     }
 }
 
-// Makes the next candidate from that of this place.
-fn following(numbers: &mut [u32], place: Place) -> Place
-    requires { IsKept numbers.old place }
-    ensures kept { IsKept numbers.new result }
-    ensures passed { kept numbers.new result ≡ passed (kept numbers.old place) }
+// Makes the next candidate from that of this position.
+fn following(numbers: &mut [u32], position: Position) -> Position
+    requires { IsValid numbers.old position }
+    ensures kept { IsValid numbers.new result }
+    ensures passed { kept numbers.new result ≡ passed (kept numbers.old position) }
 {
-    match place {
-        Place::WithoutLast if numbers.len() > 1 => {
+    match position {
+        Position::WithoutLast if numbers.len() > 1 => {
             numbers.rotate_left(1);
-            Place::Without(0)
+            Position::Without(0)
         }
-        Place::WithoutLast => halved_from(numbers, 0),
-        Place::Without(at) => {
+        Position::WithoutLast => halved_from(numbers, 0),
+        Position::Without(at) => {
             let last = numbers.len() - 1;
             numbers.swap(at, last);
             if at + 1 < last {
-                Place::Without(at + 1)
+                Position::Without(at + 1)
             } else {
                 halved_from(numbers, 0)
             }
         }
-        Place::Halved(at, number) => {
+        Position::Halved(at, number) => {
             numbers[at] = number;
             halved_from(numbers, at + 1)
         }
-        Place::End => Place::End,
+        Position::End => Position::End,
     }
 }
 
-// Halves the first number above 0 at or behind this place of a schedule.
-fn halved_from(numbers: &mut [u32], start: usize) -> Place
+// Halves the first number above 0 at or behind this position of a schedule.
+fn halved_from(numbers: &mut [u32], start: usize) -> Position
     requires { start ≤ length numbers.old }
-    ensures kept { IsKept numbers.new result }
+    ensures kept { IsValid numbers.new result }
     ensures schedule { schedule_in numbers.new result ≡ numbers.old }
-    ensures left { left_in numbers.new result ≡ from_place halved start numbers.old }
+    ensures left { left_in numbers.new result ≡ from_position halved start numbers.old }
 {
     for at in start..numbers.len() {
         let number = numbers[at];
         if number > 0 {
             numbers[at] = number / 2;
-            return Place::Halved(at, number);
+            return Position::Halved(at, number);
         }
     }
-    Place::End
+    Position::End
 }
 
-// Makes the schedule again from the candidate of this place.
-fn restore(numbers: &mut [u32], place: Place)
-    requires { IsKept numbers.old place }
-    ensures { numbers.new ≡ schedule_in numbers.old place }
+// Makes the schedule again from the candidate of this position.
+fn restore(numbers: &mut [u32], position: Position)
+    requires { IsValid numbers.old position }
+    ensures { numbers.new ≡ schedule_in numbers.old position }
 {
-    match place {
-        Place::Without(at) => numbers[at..].rotate_right(1),
-        Place::Halved(at, number) => numbers[at] = number,
-        Place::WithoutLast | Place::End => {}
+    match position {
+        Position::Without(at) => numbers[at..].rotate_right(1),
+        Position::Halved(at, number) => numbers[at] = number,
+        Position::WithoutLast | Position::End => {}
     }
 }

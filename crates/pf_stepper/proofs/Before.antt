@@ -1,33 +1,33 @@
 -- Steps that a process takes by itself stand before the turn that goes on from there.
 use Rattle.std.proofs.Common.{◌≡◌, ℕ, zero, suc, ◌+◌, ◌-◌, ◌≤◌, subst, arith}
-use Rattle.pf_model.specs.Code.{Code}
-use Rattle.pf_model.specs.Place as place
-use Rattle.pf_model.specs.Place.{State, running, waiting, ending, ended, goes_on, asks, awaits}
+use Rattle.pf_model.specs.Module.{Module}
+use Rattle.pf_model.specs.Context as index
+use Rattle.pf_model.specs.Context.{State, running, waiting, ending, ended, goes_on, asks, awaits}
 use Rattle.pf_model.specs.Configuration.{Core}
 use Rattle.pf_model.specs.Deliveries.{Deed}
 use Rattle.pf_model.specs.Turns.{Turn, contraction}
 use Rattle.pf_stepper.specs.MicroSteps.{Contracts}
 use Rattle.pf_stepper.specs.Advanced.{Steps, no_step, one_more}
 
-module _ (m : Code) (a : ℕ) (c : Core) where
+module _ (m : Module) (a : ℕ) (c : Core) where
   -- a turn of a process that goes on by itself
-  abbrev pub TurnFrom : ℕ → place.Move → Deed → ℕ → Type 0
+  abbrev pub TurnFrom : ℕ → index.Move → Deed → ℕ → Type 0
   TurnFrom n (goes_on s) d j = Turn m a c n s d j
   TurnFrom n x d j = ⊥
 
-  step_before : (n j : ℕ) (d : Deed) (q r : place.Move) → Contracts m a q r → TurnFrom n r d j → TurnFrom (suc n) q d (suc j)
+  step_before : (n j : ℕ) (d : Deed) (q r : index.Move) → Contracts m a q r → TurnFrom n r d j → TurnFrom (suc n) q d (suc j)
   step_before n j d (goes_on (running t)) (goes_on s) h k = contraction n j t s d h k
   step_before n j d (goes_on (running t)) (asks fs x) h k = absurd k
   step_before n j d (goes_on (running t)) (awaits fs ks) h k = absurd k
-  step_before n j d (goes_on (running t)) (place.returns w) h k = absurd k
+  step_before n j d (goes_on (running t)) (index.returns w) h k = absurd k
   step_before n j d (goes_on (waiting t)) r h k = absurd h
   step_before n j d (goes_on (ending w)) r h k = absurd h
   step_before n j d (goes_on (ended e)) r h k = absurd h
   step_before n j d (asks fs x) r h k = absurd h
   step_before n j d (awaits fs ks) r h k = absurd h
-  step_before n j d (place.returns w) r h k = absurd h
+  step_before n j d (index.returns w) r h k = absurd h
 
-  pub steps_before : (n j : ℕ) (d : Deed) (i : ℕ) (p q : place.Move) → Steps m a i p q → TurnFrom n q d j → TurnFrom (i + n) p d (i + j)
+  pub steps_before : (n j : ℕ) (d : Deed) (i : ℕ) (p q : index.Move) → Steps m a i p q → TurnFrom n q d j → TurnFrom (i + n) p d (i + j)
   steps_before n j d _ _ _ (no_step p) k =
       let x : n ≡ zero + n = omega arith in
       let y : j ≡ zero + j = omega arith in

@@ -3,7 +3,7 @@ use denote.Param.Send.{IsSend, recorded_send, sendable}
 use Rattle.std.proofs.Crossing as heap
 use Rattle.pf_terms.proofs.Crossing as terms
 use Rattle.pf_syntax.proofs.Crossing as syntax
-use Rattle.pf_syntax.proofs.node.Part.TheSendSync as part
+use Rattle.pf_syntax.proofs.node.Operand.TheSendSync as part
 use Rattle.pf_stepper.proofs.frame.Callee.TheSendSync as callee
 use Rattle.pf_stepper.proofs.frame.Frame.TheSendSync as frame
 use Rattle.pf_stepper.specs.contracts.act.Act as Act

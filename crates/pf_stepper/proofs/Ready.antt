@@ -5,12 +5,12 @@ use Rattle.pf_terms.specs.declared.term.Term.{Term}
 use Rattle.pf_syntax.specs.Tree.{Clauses, lit}
 use Rattle.pf_syntax.specs.Module.{Checked, tree_at}
 use Rattle.pf_syntax.specs.declared.node.NodeId.{NodeId}
-use Rattle.pf_syntax.specs.declared.node.Part.TheVariants as part
+use Rattle.pf_syntax.specs.declared.node.Operand.TheVariants as part
 use Rattle.pf_patterns.specs.Slots.{activation}
 use Rattle.pf_patterns.specs.Substitution.{sub_clauses}
-use Rattle.pf_model.specs.Code.{Code, code_of}
+use Rattle.pf_model.specs.Module.{Module, module_of}
 use Rattle.pf_model.specs.Contraction.{Act}
-use Rattle.pf_model.specs.Place.{Frame, State, running, ending, Move, goes_on, asks, awaits, returns, at_value}
+use Rattle.pf_model.specs.Context.{Frame, State, running, ending, Move, goes_on, asks, awaits, returns, at_value}
 use Rattle.pf_model.proofs.Sought.{one_move}
 use Rattle.pf_stepper.specs.Lookups.{clauses_in}
 use Rattle.pf_stepper.specs.View.{process_of}
@@ -27,7 +27,7 @@ use Rattle.pf_stepper.specs.declared.advance.Advance.TheVariants as a
 use Rattle.pf_stepper.specs.declared.machine.Standing.TheVariants as stood
 use Rattle.pf_stepper.proofs.Outer.{advanced_goes, process_goes}
 
-abbrev machine_at : Code → ℕ → State → MachineView
+abbrev machine_at : Module → ℕ → State → MachineView
 machine_at m own x = record { own = own; code = m; standing = goes x }
 
 not_spent : (x : State) → goes x ≡ spent → ⊥
@@ -39,7 +39,7 @@ same_going x y e = cc
 same_awaited : (fs gs : List Frame) (ks ls : Clauses) → awaits fs ks ≡ awaits gs ls → ks ≡ ls
 same_awaited fs gs ks ls e = cc
 
-module _ (m : Code) (own : ℕ) where
+module _ (m : Module) (own : ℕ) where
   one_next : (p x y : Move) → Contracts m own p x → Contracts m own p y → x ≡ y
   one_next (goes_on (running t)) x y h k = one_move m own t x y h k
   one_next p x y h k = absurd h
@@ -115,19 +115,19 @@ module _ (ready : Receive → Type 0) (m : Checked) (own : ℕ) where
   Before p = IsReadyAhead ready (going m own p)
 
   module _ (left used : ℕ) (x : State) (s : Stack) (h : Before (goes_on x)) where
-    last : (r : Advance) (j : ℕ) (q : Move) → Steps (code_of m) own j (goes_on x) q → AdvancedFrom m own q s r
+    last : (r : Advance) (j : ℕ) (q : Move) → Steps (module_of m) own j (goes_on x) q → AdvancedFrom m own q s r
         → (y : State) × AdvancedFrom m own (goes_on y) s r × Before (goes_on y)
     last r j q k d =
         let g = advanced_goes m own left q s r d in (
           g.0,
           subst (λ p. AdvancedFrom m own p s r) g.1 d,
-          ready_later (code_of m) own ready j x g.0 (subst (Steps (code_of m) own j (goes_on x)) g.1 k) h,
+          ready_later (module_of m) own ready j x g.0 (subst (Steps (module_of m) own j (goes_on x)) g.1 k) h,
         )
 
     ran_ready : (r : Advance) → RanFrom m own left (goes_on x) s r used → IsReadyToSettle ready m own s r
     ran_ready (a.Changed y) k =
         let q = process_goes m.tables s.env.items s.operands.items s.base s.frames.items y in
-        subst Before (sym q.1) (ready_later (code_of m) own ready left x q.0 (subst (Steps (code_of m) own left (goes_on x)) q.1 k.1) h)
+        subst Before (sym q.1) (ready_later (module_of m) own ready left x q.0 (subst (Steps (module_of m) own left (goes_on x)) q.1 k.1) h)
     ran_ready (a.Asks act) k = last (a.Asks act) k.0 k.1 k.4 k.5
     ran_ready (a.Awaits n) k = last (a.Awaits n) k.0 k.1 k.4 k.5
     ran_ready (a.Returned v) k = last (a.Returned v) k.0 k.1 k.4 k.5
@@ -141,37 +141,37 @@ module _ (ready : Receive → Type 0) (m : Checked) (own : ℕ) where
       ran_ready left used q.0 s' (subst Before q.1 h) r (subst (λ p. RanFrom m own left p s' r used) q.1 k)
 
   module _ (s : Stack) where
-    no_return : (v : Term) (x : State) → goes_on x ≡ goes_on (running (lit (value_of v))) → (fs : List Frame) (ks : Clauses) → Contracts (code_of m) own (goes_on x) (awaits fs ks) → ⊥
+    no_return : (v : Term) (x : State) → goes_on x ≡ goes_on (running (lit (value_of v))) → (fs : List Frame) (ks : Clauses) → Contracts (module_of m) own (goes_on x) (awaits fs ks) → ⊥
     no_return v x e fs ks k =
-        let l : Contracts (code_of m) own (goes_on (running (lit (value_of v)))) (awaits fs ks) = subst (λ p. Contracts (code_of m) own p (awaits fs ks)) e k in
-        let d = one_move (code_of m) own (lit (value_of v)) (awaits fs ks) (returns (value_of v)) l (at_value (value_of v) refl refl) in absurd cc
+        let l : Contracts (module_of m) own (goes_on (running (lit (value_of v)))) (awaits fs ks) = subst (λ p. Contracts (module_of m) own p (awaits fs ks)) e k in
+        let d = one_move (module_of m) own (lit (value_of v)) (awaits fs ks) (returns (value_of v)) l (at_value (value_of v) refl refl) in absurd cc
 
-    no_end : (e : Term) (x : State) → goes_on x ≡ goes_on (ending (value_of e)) → (fs : List Frame) (ks : Clauses) → Contracts (code_of m) own (goes_on x) (awaits fs ks) → ⊥
-    no_end e x q fs ks k = subst (λ p. Contracts (code_of m) own p (awaits fs ks)) q k
+    no_end : (e : Term) (x : State) → goes_on x ≡ goes_on (ending (value_of e)) → (fs : List Frame) (ks : Clauses) → Contracts (module_of m) own (goes_on x) (awaits fs ks) → ⊥
+    no_end e x q fs ks k = subst (λ p. Contracts (module_of m) own p (awaits fs ks)) q k
 
-    no_asking : (gs : List Frame) (act : Act) (x : State) → Contracts (code_of m) own (goes_on x) (asks gs act) → (fs : List Frame) (ks : Clauses) → Contracts (code_of m) own (goes_on x) (awaits fs ks) → ⊥
-    no_asking gs act x c fs ks k = let d = one_next (code_of m) own (goes_on x) (asks gs act) (awaits fs ks) c k in absurd cc
+    no_asking : (gs : List Frame) (act : Act) (x : State) → Contracts (module_of m) own (goes_on x) (asks gs act) → (fs : List Frame) (ks : Clauses) → Contracts (module_of m) own (goes_on x) (awaits fs ks) → ⊥
+    no_asking gs act x c fs ks k = let d = one_next (module_of m) own (goes_on x) (asks gs act) (awaits fs ks) c k in absurd cc
 
     pub ready_asking : (act : _) → IsReadyToSettle ready m own s (a.Asks act) → IsReadyForAll ready
-    ready_asking act h = ready_elsewhere (code_of m) own ready h.0 (no_asking _ _ h.0 h.1.0) h.2
+    ready_asking act h = ready_elsewhere (module_of m) own ready h.0 (no_asking _ _ h.0 h.1.0) h.2
 
     pub ready_returned : (v : Term) → IsReadyToSettle ready m own s (a.Returned v) → IsReadyForAll ready
-    ready_returned v h = ready_elsewhere (code_of m) own ready h.0 (no_return v h.0 h.1) h.2
+    ready_returned v h = ready_elsewhere (module_of m) own ready h.0 (no_return v h.0 h.1) h.2
 
     pub ready_ended : (e : Term) → IsReadyToSettle ready m own s (a.Ended e) → IsReadyForAll ready
-    ready_ended e h = ready_elsewhere (code_of m) own ready h.0 (no_end e h.0 h.1) h.2
+    ready_ended e h = ready_elsewhere (module_of m) own ready h.0 (no_end e h.0 h.1) h.2
 
     pub ready_awaiting : (n : NodeId) (ks : Clauses) → ks ≡ clauses_in (tree_at m.tables n.0) → IsReadyToSettle ready m own s (a.Awaits n)
-        → ready (receive_of (code_of m) own (sub_clauses (activation s.env.items s.base) ks))
+        → ready (receive_of (module_of m) own (sub_clauses (activation s.env.items s.base) ks))
     ready_awaiting n ks e h =
-        subst (λ ls. ready (receive_of (code_of m) own (sub_clauses (activation s.env.items s.base) ls))) (sym e)
-        (ready_at (code_of m) own ready h.0 _ _ h.1.0 h.2)
+        subst (λ ls. ready (receive_of (module_of m) own (sub_clauses (activation s.env.items s.base) ls))) (sym e)
+        (ready_at (module_of m) own ready h.0 _ _ h.1.0 h.2)
 
     -- at a `receive` that found nothing, over the same slots
     pub ready_after_wait : (env' : List Term) (ready' : Receive → Type 0) (n : NodeId) (ks : Clauses) → ks ≡ clauses_in (tree_at m.tables n.0) → IsReadyToSettle ready m own s (a.Awaits n)
-        → env' ≡ s.env.items → ready' (receive_of (code_of m) own (sub_clauses (activation s.env.items s.base) ks))
+        → env' ≡ s.env.items → ready' (receive_of (module_of m) own (sub_clauses (activation s.env.items s.base) ks))
         → IsReadyAhead ready' (going m own (process_of m.tables env' s.operands.items s.base s.frames.items (f.Eval (part.Node n))))
     ready_after_wait env' ready' n ks e h same r =
-        let k = subst (λ ls. ready' (receive_of (code_of m) own (sub_clauses (activation s.env.items s.base) ls))) e r in
+        let k = subst (λ ls. ready' (receive_of (module_of m) own (sub_clauses (activation s.env.items s.base) ls))) e r in
         subst (λ xs. IsReadyAhead ready' (going m own (process_of m.tables xs s.operands.items s.base s.frames.items (f.Eval (part.Node n))))) (sym same)
-        (subst (λ p. IsReadyAhead ready' (going m own p)) (sym h.1.1) (ready_waiting (code_of m) own ready' h.0 _ _ h.1.0 k))
+        (subst (λ p. IsReadyAhead ready' (going m own p)) (sym h.1.1) (ready_waiting (module_of m) own ready' h.0 _ _ h.1.0 k))

@@ -1,7 +1,7 @@
 -- What the fields of a machine stand for, and what is true of them.
 use Rattle.pf_syntax.specs.Module.{Checked}
-use Rattle.pf_model.specs.Code.{code_of}
-use Rattle.pf_model.specs.Place.{Move, goes_on, asks, awaits, returns}
+use Rattle.pf_model.specs.Module.{module_of}
+use Rattle.pf_model.specs.Context.{Move, goes_on, asks, awaits, returns}
 use Rattle.pf_stepper.specs.View.{holes_of}
 use Rattle.pf_stepper.specs.MachineView.{MachineView, spent, goes, asking, over}
 use Rattle.pf_stepper.specs.MachineView as view
@@ -24,8 +24,8 @@ standing_in m stack s.Asking = asking (holes_of m.tables stack.env.items stack.o
 standing_in m stack s.Over = over
 standing_in m stack s.Spent = spent
 
-abbrev pub machine_view_of : Inside → MachineView
-machine_view_of a = record { own = a.own; code = code_of a.module.value; standing = standing_in a.module.value a.stack a.standing }
+abbrev pub view_of_machine : Inside → MachineView
+view_of_machine a = record { own = a.own; code = module_of a.module.value; standing = standing_in a.module.value a.stack a.standing }
 
 abbrev pub SoundIn : Stack → Standing → Type 0
 SoundIn stack (s.Goes x) = IsSound stack x
@@ -33,5 +33,5 @@ SoundIn stack s.Asking = IsHolding stack
 SoundIn stack s.Over = Unit {0}
 SoundIn stack s.Spent = Unit {0}
 
-abbrev pub IsKept : Inside → Type 0
-IsKept a = SoundIn a.stack a.standing
+abbrev pub IsValid : Inside → Type 0
+IsValid a = SoundIn a.stack a.standing

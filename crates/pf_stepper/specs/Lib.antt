@@ -9,7 +9,7 @@ pub mod MicroSteps
 pub mod Advanced
 pub mod MachineView
 pub mod Readiness
-pub mod Codes
+pub mod Encoding
 pub mod Inner
 pub mod Moves
 pub mod Settled

@@ -2,8 +2,8 @@
 use Rattle.std.specs.Prelude.{ℕ, List}
 use Rattle.pf_terms.specs.Value.{Values}
 use Rattle.pf_syntax.specs.Tree.{call, no_trees}
-use Rattle.pf_model.specs.Code.{Code}
-use Rattle.pf_model.specs.Place.{State, running, Frame, after_values}
+use Rattle.pf_model.specs.Module.{Module}
+use Rattle.pf_model.specs.Context.{State, running, Frame, after_values}
 
 -- how a machine stands: memory ran out; its process goes on from a state, or waits for the answer to an action, which goes into these
 -- frames; or its process has ended
@@ -16,12 +16,12 @@ pub data Standing : Type 0 where
 -- a machine: its pid, the code that it runs, and how it stands
 pub record MachineView : Type 0 where
   pub own : ℕ
-  pub code : Code
+  pub code : Module
   pub standing : Standing
 
 abbrev pub standing_so : MachineView → Standing → MachineView
 standing_so s x = record { own = s.own; code = s.code; standing = x }
 
 -- a machine at the call of a function with these arguments
-abbrev pub at_call : ℕ → Code → ℕ → Values → MachineView
+abbrev pub at_call : ℕ → Module → ℕ → Values → MachineView
 at_call own m f vs = record { own = own; code = m; standing = goes (running (call f (after_values vs no_trees))) }

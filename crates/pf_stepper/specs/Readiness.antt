@@ -7,23 +7,23 @@ use Rattle.pf_syntax.specs.Over.{clauses_over}
 use Rattle.pf_syntax.specs.declared.node.Clause.{Clause}
 use Rattle.pf_patterns.specs.Slots.{activation}
 use Rattle.pf_patterns.specs.Substitution.{sub_clauses}
-use Rattle.pf_model.specs.Code.{Code, code_of}
-use Rattle.pf_model.specs.Place.{Frame, State, goes_on, awaits}
+use Rattle.pf_model.specs.Module.{Module, module_of}
+use Rattle.pf_model.specs.Context.{Frame, State, goes_on, awaits}
 use Rattle.pf_stepper.specs.MicroSteps.{Contracts}
 use Rattle.pf_stepper.specs.MachineView.{MachineView, spent, goes}
 
 -- a `receive` to which a process of this pid comes: its clauses, with the values of the variables in scope
 pub record Receive : Type 0 where
-  pub code : Code
+  pub code : Module
   pub own : ℕ
   pub clauses : Clauses
 
-abbrev pub receive_of : Code → ℕ → Clauses → Receive
+abbrev pub receive_of : Module → ℕ → Clauses → Receive
 receive_of m own ks = record { code = m; own = own; clauses = ks }
 
 -- the `receive` of these clauses, in the activation that begins at `base`
 abbrev pub receive_in : Checked → ℕ → ℕ → List Term → List Clause → Receive
-receive_in m own base env l = receive_of (code_of m) own (sub_clauses (activation env base) (clauses_over m.tables l))
+receive_in m own base env l = receive_of (module_of m) own (sub_clauses (activation env base) (clauses_over m.tables l))
 
 -- ready for whatever comes
 abbrev pub IsReadyForAll : (Receive → Type 0) → Type 0

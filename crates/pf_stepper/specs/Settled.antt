@@ -2,10 +2,10 @@
 use Rattle.std.specs.Prelude.{◌≡◌, ℕ, List}
 use Rattle.pf_terms.specs.Value.{Value}
 use Rattle.pf_syntax.specs.Module.{Checked}
-use Rattle.pf_syntax.specs.declared.node.Part.TheVariants as part
-use Rattle.pf_model.specs.Code.{code_of}
-use Rattle.pf_model.specs.Place.{State, goes_on}
-use Rattle.pf_model.specs.Place.{Move as Next}
+use Rattle.pf_syntax.specs.declared.node.Operand.TheVariants as part
+use Rattle.pf_model.specs.Module.{module_of}
+use Rattle.pf_model.specs.Context.{State, goes_on}
+use Rattle.pf_model.specs.Context.{Move as Next}
 use Rattle.pf_stepper.specs.Advanced.{AdvancedFrom, IsSound, IsHolding, stack_process}
 use Rattle.pf_stepper.specs.Inner.{standing_by, standing_in, SoundIn}
 use Rattle.pf_stepper.specs.MachineView.{MachineView}
@@ -32,11 +32,11 @@ AdvanceIsSound s (a.Ended r) = Unit {0}
 
 -- a machine of this process
 abbrev pub going : Checked → ℕ → Next → MachineView
-going m own p = record { own = own; code = code_of m; standing = standing_by p }
+going m own p = record { own = own; code = module_of m; standing = standing_by p }
 
 -- ready for what a machine that is left so comes to next
 abbrev pub IsReadyAfter : (Receive → Type 0) → Checked → ℕ → Stack → Standing → Type 0
-IsReadyAfter ready m own s x = IsReadyAhead ready (record { own = own; code = code_of m; standing = standing_in m s x })
+IsReadyAfter ready m own s x = IsReadyAhead ready (record { own = own; code = module_of m; standing = standing_in m s x })
 
 -- ready for what comes after the contractions; or for what came to the last move
 abbrev pub IsReadyToSettle : (Receive → Type 0) → Checked → ℕ → Stack → Advance → Type 0
@@ -61,5 +61,5 @@ TurnGoesOn m s r mail s' stop mail' = EndsTurn stop.did
 -- whatever state led to what the stack did, from there the machine made this move, and it stands so
 pub record Settled (m : Checked) (own : ℕ) (s : Stack) (r : Advance) (mail : List Value) (s' : Stack) (stop : Stop) (mail' : List Value) : Type 0 where
   pub sound : SoundIn s' stop.standing
-  pub moved : (x : State) → AdvancedFrom m own (goes_on x) s r → Moved (code_of m) own x mail stop.did (standing_in m s' stop.standing) mail'
+  pub moved : (x : State) → AdvancedFrom m own (goes_on x) s r → Moved (module_of m) own x mail stop.did (standing_in m s' stop.standing) mail'
   pub turn : TurnGoesOn m s r mail s' stop mail'

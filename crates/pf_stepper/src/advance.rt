@@ -60,8 +60,8 @@ impl Stack {
         let mut focus = first;
         loop {
             match self.micro_step(alloc, code, own, focus)? {
-                MicroStep::Same(next) => focus = next,
-                MicroStep::Changed(next) => return Ok(Advance::Changed(next)),
+                MicroStep::Silent(next) => focus = next,
+                MicroStep::Contracted(next) => return Ok(Advance::Changed(next)),
                 MicroStep::Asks(act) => return Ok(Advance::Asks(act)),
                 MicroStep::Awaits(id) => return Ok(Advance::Awaits(id)),
                 MicroStep::Returned(value) => return Ok(Advance::Returned(value)),

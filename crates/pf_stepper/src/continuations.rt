@@ -13,13 +13,13 @@ use crate::outcomes::{integer_outcome, pair_up};
 use crate::stack::Stack;
 use pf_ops::{negated, tagged, truth_of};
 use pf_patterns::bind;
-use pf_syntax::{Module, NodeId, Part};
+use pf_syntax::{Module, NodeId, Operand};
 use pf_terms::{AtomId, NoMemory, Term};
 use std::alloc::Global;
 
 /// The body of the clause that was chosen for the value of a `case`, or the raise where there is none.
 #[inline(always)]
-pub(crate) fn chosen(alloc: Global, value: &Term, body: Option<Part>) -> Result<Focus, NoMemory>
+pub(crate) fn chosen(alloc: Global, value: &Term, body: Option<Operand>) -> Result<Focus, NoMemory>
     ensures { IfOk result (λ x. IsChosen body (no_case (value_of value.now)) x) }
 {
     match body {
@@ -51,7 +51,7 @@ impl Stack {
             None => {
                 self.operands.push(value)?;
                 self.wait(Kind::BinaryRight(binary))?;
-                Ok(MicroStep::Same(Focus::Eval(right)))
+                Ok(MicroStep::Silent(Focus::Eval(right)))
             }
         }
     }
@@ -72,7 +72,7 @@ impl Stack {
     {
         match self.operands.pop() {
             Some(left) => pair_up(alloc, code, binary, left, value),
-            None => Ok(MicroStep::Changed(Focus::Raised(Term::Atom(AtomId::UNDEF)))),
+            None => Ok(MicroStep::Contracted(Focus::Raised(Term::Atom(AtomId::UNDEF)))),
         }
     }
 
@@ -84,15 +84,15 @@ impl Stack {
         own: u32,
         frame: Frame,
         binary: Binary,
-        place: u32,
+        index: u32,
         value: Term,
     ) -> Result<MicroStep, NoMemory>
-        requires kind { frame.kind ≡ kind.BinaryAfterSlot binary place }
+        requires kind { frame.kind ≡ kind.BinaryAfterSlot binary index }
         requires sound { Holds self.old frame }
         ensures { IfOk result (λ t. Gave code.now own self.old frame value self.new t) }
     {
         self.resume(frame);
-        let left = self.slot_or_nil(place)?;
+        let left = self.slot_or_nil(index)?;
         pair_up(alloc, code, binary, left, value)
     }
 
@@ -109,7 +109,7 @@ impl Stack {
         requires sound { Holds self.old frame }
         ensures { IfOk result (λ t. Gave code.now own self.old frame value self.new t) }
     {
-        Ok(MicroStep::Changed(integer_outcome(negated(&value))))
+        Ok(MicroStep::Contracted(integer_outcome(negated(&value))))
     }
 
     /// The left side of `andalso` or `orelse`, which `decides` decides: itself, or else the right side.
@@ -132,15 +132,15 @@ impl Stack {
         match truth_of(&value) {
             Some(truth) => {
                 if truth == decides {
-                    Ok(MicroStep::Changed(Focus::Value(value)))
+                    Ok(MicroStep::Contracted(Focus::Value(value)))
                 } else {
                     let (_, right) = operation(code, id);
-                    Ok(MicroStep::Changed(Focus::Eval(right)))
+                    Ok(MicroStep::Contracted(Focus::Eval(right)))
                 }
             }
             None => {
                 let reason = tagged(alloc, AtomId::BADARG, &value)?;
-                Ok(MicroStep::Changed(Focus::Raised(reason)))
+                Ok(MicroStep::Contracted(Focus::Raised(reason)))
             }
         }
     }
@@ -184,18 +184,18 @@ impl Stack {
     {
         let patterns = patterns(code, id);
         match patterns.get(done) {
-            None => Ok(MicroStep::Changed(Focus::Value(value))),
+            None => Ok(MicroStep::Contracted(Focus::Value(value))),
             Some(pattern) => {
                 self.resume(frame);
                 if !bind(code, *pattern, &value, &mut self.env, frame.base)? {
                     let reason = tagged(alloc, AtomId::BADMATCH, &value)?;
-                    return Ok(MicroStep::Changed(Focus::Raised(reason)));
+                    return Ok(MicroStep::Contracted(Focus::Raised(reason)));
                 }
                 if done + 1 < patterns.len() {
                     self.wait(Kind::Match(id, done + 1))?;
-                    Ok(MicroStep::Changed(Focus::Value(value)))
+                    Ok(MicroStep::Contracted(Focus::Value(value)))
                 } else {
-                    Ok(MicroStep::Changed(Focus::Value(value)))
+                    Ok(MicroStep::Contracted(Focus::Value(value)))
                 }
             }
         }
@@ -219,14 +219,14 @@ impl Stack {
     {
         self.resume(frame);
         match patterns(code, id).get(done) {
-            None => Ok(MicroStep::Changed(Focus::Eval(rest(code, id)))),
+            None => Ok(MicroStep::Contracted(Focus::Eval(rest(code, id)))),
             Some(pattern) => {
                 if !bind(code, *pattern, &value, &mut self.env, frame.base)? {
                     let reason = tagged(alloc, AtomId::BADMATCH, &value)?;
-                    return Ok(MicroStep::Changed(Focus::Raised(reason)));
+                    return Ok(MicroStep::Contracted(Focus::Raised(reason)));
                 }
                 self.wait(Kind::Bind(id, done + 1))?;
-                Ok(MicroStep::Changed(Focus::Value(value)))
+                Ok(MicroStep::Contracted(Focus::Value(value)))
             }
         }
     }
@@ -249,6 +249,6 @@ impl Stack {
         self.resume(frame);
         let clauses = clauses(code, id);
         let body = choose(alloc, code, clauses, &value, &mut self.env, frame.base, own)?;
-        Ok(MicroStep::Changed(chosen(alloc, &value, body)?))
+        Ok(MicroStep::Contracted(chosen(alloc, &value, body)?))
     }
 }

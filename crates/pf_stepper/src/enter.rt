@@ -51,7 +51,7 @@ impl Stack {
             IsMicroStep code.now own self.old (Focus.Enter (callee.Function function) count) self.new t) }
     {
         match code.function(function) {
-            None => Ok(MicroStep::Changed(Focus::Raised(Term::Atom(AtomId::UNDEF)))),
+            None => Ok(MicroStep::Contracted(Focus::Raised(Term::Atom(AtomId::UNDEF)))),
             Some(found) => {
                 let end = self.top();
                 cut(&mut self.env, end);
@@ -60,14 +60,14 @@ impl Stack {
                 let clauses = found.clauses.as_slice();
                 if let Some(body) = plain(code, clauses, count) {
                     self.move_operands(from)?;
-                    return Ok(MicroStep::Changed(Focus::Eval(body)));
+                    return Ok(MicroStep::Contracted(Focus::Eval(body)));
                 }
                 let values = &self.operands[from..];
                 let body = first_clause(alloc, code, clauses, values, &mut self.env, own)?;
                 cut(&mut self.operands, from);
                 match body {
-                    Some(body) => Ok(MicroStep::Changed(Focus::Eval(body))),
-                    None => Ok(MicroStep::Changed(Focus::Raised(Term::Atom(
+                    Some(body) => Ok(MicroStep::Contracted(Focus::Eval(body))),
+                    None => Ok(MicroStep::Contracted(Focus::Raised(Term::Atom(
                         AtomId::FUNCTION_CLAUSE,
                     )))),
                 }
@@ -109,6 +109,6 @@ impl Stack {
     {
         let from = self.operands.len() - count;
         let elements = self.operands.split_off(from)?;
-        Ok(MicroStep::Changed(outcome(tuple(alloc, elements)?)))
+        Ok(MicroStep::Contracted(outcome(tuple(alloc, elements)?)))
     }
 }

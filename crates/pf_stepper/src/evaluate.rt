@@ -1,11 +1,11 @@
 //! The micro-step of an expression: its value, or its first part in a frame.
 
 ghost use Rattle.std.specs.Prelude.{◌≡◌, IfOk, IfSome};
-ghost use Rattle.pf_syntax.specs.declared.node.Part.TheVariants.{Node as names};
+ghost use Rattle.pf_syntax.specs.declared.node.Operand.TheVariants.{Node as names};
 ghost use Rattle.pf_syntax.specs.Module.{tree_at};
 ghost use Rattle.pf_syntax.specs.Tree.{if_expression};
 ghost use Rattle.pf_syntax.specs.Over.{clauses_over, part_over, tree_over};
-ghost use Rattle.pf_stepper.specs.Lookups.{clauses_in, left_place, paired, pairing_of, IsLeftInScope};
+ghost use Rattle.pf_stepper.specs.Lookups.{clauses_in, left_index, paired, pairing_of, IsLeftInScope};
 ghost use Rattle.pf_stepper.specs.declared.frame.Binary.TheVariants as binary;
 ghost use Rattle.pf_stepper.specs.declared.frame.Kind.TheVariants as kind;
 ghost use Rattle.pf_patterns.specs.Slots.{activation};
@@ -19,7 +19,7 @@ use crate::outcomes::outcome;
 use crate::stack::Stack;
 use pf_ops::on_integers;
 use pf_patterns::slot;
-use pf_syntax::{Clause, Module, Node, NodeId, Operator, Part};
+use pf_syntax::{Clause, Module, Node, NodeId, Operand, Operator};
 use pf_terms::{AtomId, List, NoMemory, Term};
 use std::alloc::Global;
 
@@ -31,16 +31,16 @@ impl Stack {
         alloc: Global,
         code: &Module,
         own: u32,
-        part: Part,
+        part: Operand,
     ) -> Result<MicroStep, NoMemory>
         requires { CanEvaluate self.old }
         ensures { IfOk result (λ t. IsMicroStep code.now own self.old (Focus.Eval part) self.new t) }
     {
         match self.operand(code, part)? {
-            Some(value) => Ok(MicroStep::Same(Focus::Value(value))),
+            Some(value) => Ok(MicroStep::Silent(Focus::Value(value))),
             None => match part {
-                Part::Node(id) => self.visit(alloc, code, own, id),
-                _ => Ok(MicroStep::Changed(Focus::Raised(Term::Atom(AtomId::UNDEF)))),
+                Operand::Node(id) => self.visit(alloc, code, own, id),
+                _ => Ok(MicroStep::Contracted(Focus::Raised(Term::Atom(AtomId::UNDEF)))),
             },
         }
     }
@@ -58,7 +58,7 @@ impl Stack {
         ensures { IfOk result (λ t. IsMicroStep code.now own self.old (Focus.Eval (names id)) self.new t) }
     {
         match code.node(id) {
-            None => Ok(MicroStep::Same(Focus::Value(Term::List(List::Nil)))),
+            None => Ok(MicroStep::Silent(Focus::Value(Term::List(List::Nil)))),
             Some(node) => self.visit_node(alloc, code, own, id, node),
         }
     }
@@ -145,8 +145,8 @@ impl Stack {
         own: u32,
         id: NodeId,
         operator: Operator,
-        left: Part,
-        right: Part,
+        left: Operand,
+        right: Operand,
     ) -> Result<MicroStep, NoMemory>
         requires sound { CanEvaluate self.old }
         requires found { paired (pairing_of (binary.Operator operator)) (part_over code.now.tables left)
@@ -154,7 +154,7 @@ impl Stack {
         ensures { IfOk result (λ t. IsMicroStep code.now own self.old (Focus.Eval (names id)) self.new t) }
     {
         match (self.integer(left), self.integer(right)) {
-            (Some(x), Some(y)) => Ok(MicroStep::Changed(outcome(on_integers(operator, x, y)))),
+            (Some(x), Some(y)) => Ok(MicroStep::Contracted(outcome(on_integers(operator, x, y)))),
             _ => self.operation(
                 alloc,
                 code,
@@ -167,19 +167,19 @@ impl Stack {
         }
     }
 
-    /// The place of a left operand that can be read after the right one: the left one is a variable in scope,
+    /// The index of a left operand that can be read after the right one: the left one is a variable in scope,
     /// and the right one a node.
     #[inline(always)]
-    fn left_in_scope(&self, left: Part, right: Part) -> Option<u32>
+    fn left_in_scope(&self, left: Operand, right: Operand) -> Option<u32>
         ensures in_scope { IfSome result (λ x.
             IsLeftInScope (activation self.now.env.items self.now.base) left x) }
-        ensures place { result ≡ left_place (activation self.now.env.items self.now.base) left right }
+        ensures index { result ≡ left_index (activation self.now.env.items self.now.base) left right }
     {
         match left {
-            Part::Slot(place) => match right {
-                Part::Node(_) => {
-                    slot(self.env.as_slice(), self.base, place)?;
-                    Some(place)
+            Operand::Slot(index) => match right {
+                Operand::Node(_) => {
+                    slot(self.env.as_slice(), self.base, index)?;
+                    Some(index)
                 }
                 _ => None,
             },
@@ -196,8 +196,8 @@ impl Stack {
         own: u32,
         id: NodeId,
         binary: Binary,
-        left: Part,
-        right: Part,
+        left: Operand,
+        right: Operand,
     ) -> Result<MicroStep, NoMemory>
         requires sound { CanEvaluate self.old }
         requires found { paired (pairing_of binary) (part_over code.now.tables left)
@@ -205,9 +205,9 @@ impl Stack {
         ensures { IfOk result (λ t. IsMicroStep code.now own self.old (Focus.Eval (names id)) self.new t) }
     {
         match self.left_in_scope(left, right) {
-            Some(place) => {
-                self.wait(Kind::BinaryAfterSlot(binary, place))?;
-                Ok(MicroStep::Same(Focus::Eval(right)))
+            Some(index) => {
+                self.wait(Kind::BinaryAfterSlot(binary, index))?;
+                Ok(MicroStep::Silent(Focus::Eval(right)))
             }
             None => self.descend(alloc, code, own, Kind::BinaryLeft(id), left),
         }
@@ -238,8 +238,8 @@ impl Stack {
             self.base,
             own,
         )? {
-            Some(body) => Ok(MicroStep::Changed(Focus::Eval(body))),
-            None => Ok(MicroStep::Changed(Focus::Raised(Term::Atom(AtomId::IF_CLAUSE)))),
+            Some(body) => Ok(MicroStep::Contracted(Focus::Eval(body))),
+            None => Ok(MicroStep::Contracted(Focus::Raised(Term::Atom(AtomId::IF_CLAUSE)))),
         }
     }
 
@@ -252,7 +252,7 @@ impl Stack {
         code: &Module,
         own: u32,
         id: NodeId,
-        part: Part,
+        part: Operand,
         clauses: &[Clause],
     ) -> Result<MicroStep, NoMemory>
         requires sound { CanEvaluate self.old }
@@ -263,11 +263,11 @@ impl Stack {
         match self.operand(code, part)? {
             Some(value) => {
                 let body = choose(alloc, code, clauses, &value, &mut self.env, self.base, own)?;
-                Ok(MicroStep::Changed(chosen(alloc, &value, body)?))
+                Ok(MicroStep::Contracted(chosen(alloc, &value, body)?))
             }
             None => {
                 self.wait(Kind::Case(id))?;
-                Ok(MicroStep::Same(Focus::Eval(part)))
+                Ok(MicroStep::Silent(Focus::Eval(part)))
             }
         }
     }
@@ -280,7 +280,7 @@ impl Stack {
         code: &Module,
         own: u32,
         kind: Kind,
-        part: Part,
+        part: Operand,
     ) -> Result<MicroStep, NoMemory>
         requires sound { CanEvaluate self.old }
         requires keeps { keeps kind ≡ 0 }
@@ -297,7 +297,7 @@ impl Stack {
         code: &Module,
         own: u32,
         kind: Kind,
-        part: Part,
+        part: Operand,
     ) -> Result<MicroStep, NoMemory>
         requires sound { CanEvaluate self.old }
         requires keeps { keeps kind ≡ 0 }
@@ -310,7 +310,7 @@ impl Stack {
             }
             None => {
                 self.wait(kind)?;
-                Ok(MicroStep::Same(Focus::Eval(part)))
+                Ok(MicroStep::Silent(Focus::Eval(part)))
             }
         }
     }

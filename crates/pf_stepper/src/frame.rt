@@ -1,7 +1,7 @@
 //! What a machine's stack of frames holds, and what stands in the innermost frame.
 
 use crate::act::Act;
-use pf_syntax::{Builtin, FunctionId, NodeId, Operator, Part};
+use pf_syntax::{Builtin, FunctionId, NodeId, Operand, Operator};
 use pf_terms::Term;
 
 /// What takes two operands.
@@ -30,7 +30,7 @@ pub(crate) enum Kind {
     BinaryLeft(NodeId),
     /// A right operand, after the left one.
     BinaryRight(Binary),
-    /// A right operand, where the left one is the variable at this place in the activation.
+    /// A right operand, where the left one is the variable in this slot of the activation.
     BinaryAfterSlot(Binary, u32),
     Negation,
     /// The left side of the `andalso` at the node, or of the `orelse`, which `true` decides.
@@ -57,7 +57,7 @@ pub(crate) struct Frame {
 #[derive(Drop)]
 pub(crate) enum Focus {
     /// An expression of the activation.
-    Eval(Part),
+    Eval(Operand),
     Value(Term),
     /// A call whose arguments are the last operands, so many.
     Enter(Callee, usize),
@@ -70,8 +70,8 @@ pub(crate) enum Focus {
 /// What a micro-step does: nothing that the process shows, a contraction, or what stops it.
 #[derive(Drop)]
 pub(crate) enum MicroStep {
-    Same(Focus),
-    Changed(Focus),
+    Silent(Focus),
+    Contracted(Focus),
     /// The process asks for this action, which stands in a box: so the others stay small.
     Asks(Box<Act>),
     /// The process stands at the `receive` of this node.

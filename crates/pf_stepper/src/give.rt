@@ -46,8 +46,8 @@ impl Stack {
         match frame.kind {
             Kind::BinaryLeft(id) => self.left_done(alloc, code, own, frame, id, value),
             Kind::BinaryRight(binary) => self.right_done(alloc, code, own, frame, binary, value),
-            Kind::BinaryAfterSlot(binary, place) => {
-                self.right_after_slot(alloc, code, own, frame, binary, place, value)
+            Kind::BinaryAfterSlot(binary, index) => {
+                self.right_after_slot(alloc, code, own, frame, binary, index, value)
             }
             Kind::Negation => self.negate(code, own, frame, value),
             Kind::Shortcut(decides, id) => self.shortcut(

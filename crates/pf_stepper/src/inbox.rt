@@ -8,7 +8,7 @@ ghost use Rattle.pf_stepper.specs.Readiness.{IsReadyForAll, Receive, receive_in}
 ghost use Rattle.pf_stepper.specs.Selected.{TakesMessage, TakesNothing};
 
 use crate::clauses::choose;
-use pf_syntax::{Clause, Module, Part};
+use pf_syntax::{Clause, Module, Operand};
 use pf_terms::{NoMemory, Term};
 use std::alloc::Global;
 
@@ -31,7 +31,7 @@ pub trait Inbox {
         env: &mut Vec<Term>,
         base: usize,
         own: u32,
-    ) -> Result<Option<(Part, Term)>, NoMemory>
+    ) -> Result<Option<(Operand, Term)>, NoMemory>
         requires slots { base ≤ length env.old.items }
         requires ready { IsReady self.old (receive_in code.now own base env.old.items clauses.now) }
         ensures selected { IfOk result (λ o. MatchOption o
@@ -63,7 +63,7 @@ impl Inbox for PlainInbox {
         env: &mut Vec<Term>,
         base: usize,
         own: u32,
-    ) -> Result<Option<(Part, Term)>, NoMemory> {
+    ) -> Result<Option<(Operand, Term)>, NoMemory> {
         for at in 0..self.messages.len() {
             if let Some(body) = choose(alloc, code, clauses, &self.messages[at], env, base, own)? {
                 let message = self.messages.remove(at);

@@ -6,10 +6,10 @@ ghost use Rattle.pf_syntax.specs.Over.{clauses_over, part_over, parts_over, patt
 ghost use Rattle.pf_stepper.specs.Lookups.{arguments_in, clauses_in, pairing_in, pairing_of, patterns_in, rest_in, right_in};
 
 use crate::frame::Binary;
-use pf_syntax::{Clause, Module, Node, NodeId, Operator, Part, PatternId};
+use pf_syntax::{Clause, Module, Node, NodeId, Operand, Operator, PatternId};
 
 /// What takes two operands at a node with its right one; `+` and `[]` where nothing does.
-pub(crate) fn operation(code: &Module, id: NodeId) -> (Binary, Part)
+pub(crate) fn operation(code: &Module, id: NodeId) -> (Binary, Operand)
     ensures binary { pairing_of result.0 ≡ pairing_in (tree_at code.now.tables id.0) }
     ensures right { part_over code.now.tables result.1 ≡ right_in (tree_at code.now.tables id.0) }
 {
@@ -19,12 +19,12 @@ pub(crate) fn operation(code: &Module, id: NodeId) -> (Binary, Part)
         Some(Node::Send(_, right)) => (Binary::Send, *right),
         Some(Node::AndAlso(_, right)) => (Binary::Operator(Operator::Plus), *right),
         Some(Node::OrElse(_, right)) => (Binary::Operator(Operator::Plus), *right),
-        _ => (Binary::Operator(Operator::Plus), Part::Nil),
+        _ => (Binary::Operator(Operator::Plus), Operand::Nil),
     }
 }
 
 /// The arguments of the call at a node, or the elements of its tuple; none where it is neither.
-pub(crate) fn arguments(code: &Module, id: NodeId) -> &[Part]
+pub(crate) fn arguments(code: &Module, id: NodeId) -> &[Operand]
     ensures { parts_over code.now.tables result.now ≡ arguments_in (tree_at code.now.tables id.0) }
 {
     match code.node(id) {
@@ -47,12 +47,12 @@ pub(crate) fn patterns(code: &Module, id: NodeId) -> &[PatternId]
 }
 
 /// The rest of the body after the match at a node, `[]` where it is none.
-pub(crate) fn rest(code: &Module, id: NodeId) -> Part
+pub(crate) fn rest(code: &Module, id: NodeId) -> Operand
     ensures { part_over code.now.tables result ≡ rest_in (tree_at code.now.tables id.0) }
 {
     match code.node(id) {
         Some(Node::Bind(_, _, rest)) => *rest,
-        _ => Part::Nil,
+        _ => Operand::Nil,
     }
 }
 

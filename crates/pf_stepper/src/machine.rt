@@ -2,11 +2,11 @@
 
 ghost use Rattle.std.specs.Prelude.{◌≡◌, IfOk, IsErr, OnErr};
 ghost use Rattle.pf_terms.specs.Term.{values_of};
-ghost use Rattle.pf_model.specs.Code.{code_of};
+ghost use Rattle.pf_model.specs.Module.{module_of};
 ghost use Rattle.pf_stepper.specs.MachineView.{at_call, spent, standing_so};
 ghost use Rattle.pf_stepper.specs.Readiness.{IsReadyAhead};
 ghost use Rattle.pf_stepper.specs.Settled.{AdvanceIsSound, IsReadyAfter, IsReadyToSettle, Settled};
-ghost use Rattle.pf_stepper.specs.Turns.{Answered, CanAnswer, CanMove, MovedFrom, RanSo};
+ghost use Rattle.pf_stepper.specs.Turns.{Answered, CanAnswer, CanMove, MovedFrom, RunsTurn};
 
 use crate::act::Act;
 use crate::advance::Advance;
@@ -14,7 +14,7 @@ use crate::frame::{Callee, Focus};
 use crate::inbox::Inbox;
 use crate::lookups::clauses;
 use crate::stack::Stack;
-use pf_syntax::{FunctionId, Module, NodeId, Part};
+use pf_syntax::{FunctionId, Module, NodeId, Operand};
 use pf_terms::{NoMemory, Term};
 use smallvec::SmallVec;
 use std::alloc::Global;
@@ -45,17 +45,17 @@ pub struct Machine {
 
 impl Model for Machine {
     ghost use Rattle.pf_stepper.specs.MachineView.{MachineView};
-    ghost use Rattle.pf_stepper.specs.Codes.{coded_machine_view};
+    ghost use Rattle.pf_stepper.specs.Encoding.{coded_machine_view};
 
     ghost Value = { MachineView };
 
     ghost coded = { coded_machine_view };
 
-    ghost use Rattle.pf_stepper.specs.Inner.{IsKept, machine_view_of};
+    ghost use Rattle.pf_stepper.specs.Inner.{IsValid, view_of_machine};
 
-    ghost view = { machine_view_of };
+    ghost view = { view_of_machine };
 
-    ghost invariant = { IsKept };
+    ghost invariant = { IsValid };
 }
 
 /// What a process did: it went on by itself; it asks for an action and waits for its answer; it took this message; it waits at a
@@ -99,7 +99,7 @@ fn receive<I: Inbox>(
             did: Move::Take(message),
         }),
         None => Ok(Stop {
-            standing: Standing::Goes(Focus::Eval(Part::Node(id))),
+            standing: Standing::Goes(Focus::Eval(Operand::Node(id))),
             did: Move::Wait,
         }),
     }
@@ -141,7 +141,7 @@ impl Machine {
         args: SmallVec<Term, 4>,
     ) -> Result<Machine, NoMemory>
         ensures { IfOk result (λ m.
-            m ≡ at_call own (code_of «module».value) function.0 (values_of args.items)) }
+            m ≡ at_call own (module_of «module».value) function.0 (values_of args.items)) }
     {
         let count = args.len();
         let stack = Stack {
@@ -177,7 +177,7 @@ impl Machine {
         requires stands { CanMove self.old.standing }
         requires ready { IsReadyAhead (I.IsReady inbox.old) self.old }
         ensures ran { IfOk result (λ r.
-            RanSo left self.old (I.messages inbox.old) r.0 self.new r.1 (I.messages inbox.new)) }
+            RunsTurn left self.old (I.messages inbox.old) r.0 self.new r.1 (I.messages inbox.new)) }
         ensures spent { OnErr result ((self.new ≡ standing_so self.old spent)
             × (I.messages inbox.new ≡ I.messages inbox.old)) }
         ensures ready { IsReadyAhead (I.IsReady inbox.new) self.new }

@@ -73,9 +73,9 @@ pub(crate) fn pair_up(
                 (Term::Int(x), Term::Int(y)) => outcome(on_integers(operator, *x, *y)),
                 _ => operate(alloc, code, operator, &left, &right)?,
             };
-            Ok(MicroStep::Changed(focus))
+            Ok(MicroStep::Contracted(focus))
         }
-        Binary::Cons => Ok(MicroStep::Changed(outcome(cons(alloc, left, right)?))),
+        Binary::Cons => Ok(MicroStep::Contracted(outcome(cons(alloc, left, right)?))),
         Binary::Send => {
             let act = Act::Send {
                 to: left,

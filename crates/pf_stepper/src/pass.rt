@@ -9,7 +9,7 @@ ghost use Rattle.pf_stepper.specs.MicroSteps.{Passed};
 
 use crate::frame::{Callee, Focus, Kind, MicroStep};
 use crate::stack::Stack;
-use pf_syntax::{Module, NodeId, Part};
+use pf_syntax::{Module, NodeId, Operand};
 use pf_terms::NoMemory;
 
 /// A count of arguments as a frame notes it. It fails at 2^32, which no machine has the room for.
@@ -28,7 +28,7 @@ impl Stack {
         own: u32,
         callee: Callee,
         id: NodeId,
-        arguments: &[Part],
+        arguments: &[Operand],
         from: usize,
     ) -> Result<MicroStep, NoMemory>
         requires node { parts_over code.now.tables arguments.now
@@ -49,7 +49,7 @@ impl Stack {
         own: u32,
         callee: Callee,
         id: NodeId,
-        arguments: &[Part],
+        arguments: &[Operand],
         from: usize,
     ) -> Result<MicroStep, NoMemory>
         requires node { parts_over code.now.tables arguments.now
@@ -66,11 +66,11 @@ impl Stack {
                 None => {
                     let done = noted(count)?;
                     self.wait(Kind::Argument(callee, id, done))?;
-                    return Ok(MicroStep::Same(Focus::Eval(argument)));
+                    return Ok(MicroStep::Silent(Focus::Eval(argument)));
                 }
             }
             count += 1;
         }
-        Ok(MicroStep::Same(Focus::Enter(callee, count)))
+        Ok(MicroStep::Silent(Focus::Enter(callee, count)))
     }
 }

@@ -11,7 +11,7 @@ ghost use Rattle.pf_stepper.specs.Sound.{frame_for, top_end};
 
 use crate::frame::{Frame, Kind};
 use pf_patterns::{copied, operand, slot};
-use pf_syntax::{Module, Part};
+use pf_syntax::{Module, Operand};
 use pf_terms::{List, NoMemory, Term};
 use std::mem;
 
@@ -37,7 +37,7 @@ pub(crate) fn cut(values: &mut Vec<Term>, end: usize)
 impl Stack {
     /// The value of an operand that has one where it stands: a literal, or a variable in scope.
     #[inline(always)]
-    pub(crate) fn operand(&self, code: &Module, part: Part) -> Result<Option<Term>, NoMemory>
+    pub(crate) fn operand(&self, code: &Module, part: Operand) -> Result<Option<Term>, NoMemory>
         ensures { IfOk result (λ o.
             IsOperand code.now.tables (activation self.now.env.items self.now.base) part o) }
     {
@@ -46,13 +46,13 @@ impl Stack {
 
     /// The integer that an operand is where it stands.
     #[inline(always)]
-    pub(crate) fn integer(&self, part: Part) -> Option<i64>
+    pub(crate) fn integer(&self, part: Operand) -> Option<i64>
         ensures { (tables : Tables) → IfSome result (λ n.
             IsOperand tables (activation self.now.env.items self.now.base) part (Some (term.Int n))) }
     {
         match part {
-            Part::Int(n) => Some(n),
-            Part::Slot(place) => match slot(self.env.as_slice(), self.base, place) {
+            Operand::Int(n) => Some(n),
+            Operand::Slot(index) => match slot(self.env.as_slice(), self.base, index) {
                 Some(Term::Int(n)) => Some(*n),
                 _ => None,
             },
@@ -60,13 +60,13 @@ impl Stack {
         }
     }
 
-    /// The value of a place in the activation, `[]` where there is none.
+    /// The value of a slot in the activation, `[]` where there is none.
     #[inline(always)]
-    pub(crate) fn slot_or_nil(&self, place: u32) -> Result<Term, NoMemory>
+    pub(crate) fn slot_or_nil(&self, index: u32) -> Result<Term, NoMemory>
         ensures { IfOk result (λ t.
-            value_of t ≡ value_at (activation self.now.env.items self.now.base) place) }
+            value_of t ≡ value_at (activation self.now.env.items self.now.base) index) }
     {
-        match slot(self.env.as_slice(), self.base, place) {
+        match slot(self.env.as_slice(), self.base, index) {
             Some(value) => copied(value),
             None => Ok(Term::List(List::Nil)),
         }

@@ -18,7 +18,7 @@ use Rattle.indexmap.proofs.CallerLemmas.{keys-with_value_at, updates-with_value_
 use Rattle.indexmap.proofs.MapLemmas.{Found-position}
 use Rattle.pf_module.specs.Reading.{IsReadAs}
 use Rattle.pf_store.specs.Sources.{holders, HeldOnceMore, HeldOnceLess, IsAllHeld}
-use Rattle.pf_store.specs.Held.{Modules, kept_in, IsOf, IsKept}
+use Rattle.pf_store.specs.Held.{Modules, kept_in, IsOf, IsValid}
 use Rattle.pf_store.specs.declared.store.Held.{Held}
 
 -- how many hold what a look-up found
@@ -71,7 +71,7 @@ both None P Q p q = tt
 both (Some h) P Q p q = (p, q)
 
 -- what stands under a source is held
-pub held_as : (es : Modules) → IsKept es → (q : List ℕ) → IfSome (lookup (bytes_eq q) es) (IsHeldAs q)
+pub held_as : (es : Modules) → IsValid es → (q : List ℕ) → IfSome (lookup (bytes_eq q) es) (IsHeldAs q)
 held_as es kept q =
     both (lookup (bytes_eq q) es) (IsOf q) (λ h. 1 ≤ h.holders) (kept.0 q)
     (through_map (lookup (bytes_eq q) es)
@@ -85,7 +85,7 @@ all_held_by_values (e ∷ es) p =
     (all_held_by_values es (All-tail (λ (h : Held). 1 ≤ h.holders) e.1 (values_of es) p))
 
 -- what holds of each source's module is true of all that is kept
-kept_by_lookups : (es : Modules) → IsDistinct bytes_eq (keys_of es) → ((q : List ℕ) → IfSome (lookup (bytes_eq q) es) (IsHeldAs q)) → IsKept es
+kept_by_lookups : (es : Modules) → IsDistinct bytes_eq (keys_of es) → ((q : List ℕ) → IfSome (lookup (bytes_eq q) es) (IsHeldAs q)) → IsValid es
 kept_by_lookups es distinct held = (
   λ q. IfSome_then (lookup (bytes_eq q) es) (held q) (λ h p. p.0),
   all_held_by_values es
@@ -93,8 +93,8 @@ kept_by_lookups es distinct held = (
 )
 
 -- after a change at a source all is kept still, where what stands there then is held
-pub kept_after : (es es' : Modules) (k : List ℕ) (w : Option Held) → IsKept es → IsDistinct bytes_eq (keys_of es') → Changes es es' k w
-    → IfSome w (IsHeldAs k) → IsKept es'
+pub kept_after : (es es' : Modules) (k : List ℕ) (w : Option Held) → IsValid es → IsDistinct bytes_eq (keys_of es') → Changes es es' k w
+    → IfSome w (IsHeldAs k) → IsValid es'
 kept_after es es' k w kept distinct changes new =
     kept_by_lookups es' distinct (λ q. subst (λ o. IfSome o (IsHeldAs q)) (sym (changes q)) (by q (bytes_eq k q) refl))
   where
@@ -112,10 +112,10 @@ nobody_holds es q e = holders_counted es q ∙ by (lookup (bytes_eq q) es) e
 
 -- ---- places
 
--- what stands at a source's place stands there under the source
+-- what stands at a source's index stands there under the source
 pub entry_at : (es : Modules) (q : List ℕ) (i : ℕ) (h : Held) → position (bytes_eq q) (keys_of es) ≡ Some i → slice_get (values_of es) i ≡ Some h
     → slice_get es i ≡ Some (q, h)
-entry_at es q i h place value = by (slice_get es i) refl
+entry_at es q i h offset value = by (slice_get es i) refl
   where
     by : (o : Option (List ℕ × Held)) → slice_get es i ≡ o → slice_get es i ≡ Some (q, h)
     by None e = absurd (none-some h (sym (slice_get-map (λ (x : List ℕ × Held). x.1) es i ∙ ap (option_map (λ x. x.1)) e) ∙ value))
@@ -123,11 +123,11 @@ entry_at es q i h place value = by (slice_get es i) refl
         let v : x.1 ≡ h = same_Some x.1 h (sym (slice_get-map (λ (y : List ℕ × Held). y.1) es i ∙ ap (option_map (λ y. y.1)) e) ∙ value) in
         let k : q ≡ x.0 =
         lookup_key_same bytes_eq-Decides q es x.0
-        ((Found-position (bytes_eq q) es i place).key ∙ slice_get-map (λ (y : List ℕ × Held). y.0) es i ∙ ap (option_map (λ y. y.0)) e) in
+        ((Found-position (bytes_eq q) es i offset).key ∙ slice_get-map (λ (y : List ℕ × Held). y.0) es i ∙ ap (option_map (λ y. y.0)) e) in
         e ∙ (λ j. Some (sym k j, v j))
 
-module _ {S : Type 0} (m : IndexMap (List ℕ) Held S) (q : List ℕ) (i : ℕ) (h w : Held) (kept : IsKept m.entries) (unique : IsUnique bytes_eq m)
-    (place : position (bytes_eq q) (keys m) ≡ Some i) (value : slice_get (values m) i ≡ Some h) (found : lookup (bytes_eq q) m.entries ≡ Some h) where
+module _ {S : Type 0} (m : IndexMap (List ℕ) Held S) (q : List ℕ) (i : ℕ) (h w : Held) (kept : IsValid m.entries) (unique : IsUnique bytes_eq m)
+    (offset : position (bytes_eq q) (keys m) ≡ Some i) (value : slice_get (values m) i ≡ Some h) (found : lookup (bytes_eq q) m.entries ≡ Some h) where
   pub counted : holders (kept_in m.entries) q ≡ h.holders
   counted = holders_counted m.entries q ∙ ap count found
 
@@ -135,10 +135,10 @@ module _ {S : Type 0} (m : IndexMap (List ℕ) Held S) (q : List ℕ) (i : ℕ) 
   known = subst (λ o. IfSome o (IsHeldAs q)) found (held_as m.entries kept q)
 
   written : Changes m.entries (with_value_at m i w).entries q (Some w)
-  written = (updates-with_value_at m i w nat_list_eq_equiv unique q h (entry_at m.entries q i h place value)).0
+  written = (updates-with_value_at m i w nat_list_eq_equiv unique q h (entry_at m.entries q i h offset value)).0
 
   -- after a write of how many hold what is found, all is kept still
-  pub written_kept : w.module ≡ h.module → 1 ≤ w.holders → IsKept (with_value_at m i w).entries
+  pub written_kept : w.module ≡ h.module → 1 ≤ w.holders → IsValid (with_value_at m i w).entries
   written_kept same one =
       kept_after m.entries (with_value_at m i w).entries q (Some w) kept (subst (IsDistinct bytes_eq) (sym (keys-with_value_at m i w)) unique) written
       (subst (λ s. (s.source ≡ q) × IsReadAs q s) (sym same) known.0, one)
@@ -153,9 +153,9 @@ module _ {S : Type 0} (m : IndexMap (List ℕ) Held S) (q : List ℕ) (i : ℕ) 
   module _ (n : IndexMap (List ℕ) Held S) (r : Option (List ℕ × Held)) (entry : r ≡ slice_get m.entries i)
       (updates : IfSome r (λ p. Updates bytes_eq m n p.0 None)) where
     gone : Changes m.entries n.entries q None
-    gone = (subst (λ o. IfSome o (λ p. Updates bytes_eq m n p.0 None)) (entry ∙ entry_at m.entries q i h place value) updates).0
+    gone = (subst (λ o. IfSome o (λ p. Updates bytes_eq m n p.0 None)) (entry ∙ entry_at m.entries q i h offset value) updates).0
 
-    pub gone_kept : IsUnique bytes_eq n → IsKept n.entries
+    pub gone_kept : IsUnique bytes_eq n → IsValid n.entries
     gone_kept distinct = kept_after m.entries n.entries q None kept distinct gone tt
 
     pub gone_less : h.holders ≡ 1 → HeldOnceLess q (kept_in m.entries) (kept_in n.entries)

@@ -18,5 +18,5 @@ abbrev pub IsOf : List ℕ → Held → Type 0
 IsOf source h = (h.module.source ≡ source) × IsReadAs source h.module
 
 -- each source has its module, and somebody holds it
-abbrev pub IsKept : Modules → Type 0
-IsKept es = ((source : List ℕ) → IfSome (lookup (bytes_eq source) es) (IsOf source)) × IsAllHeld (kept_in es)
+abbrev pub IsValid : Modules → Type 0
+IsValid es = ((source : List ℕ) → IfSome (lookup (bytes_eq source) es) (IsOf source)) × IsAllHeld (kept_in es)

@@ -31,7 +31,7 @@ pub struct Store {
 impl Model for Store {
     ghost use Rattle.std.specs.Coded.{coded×, coded_list, coded_ℕ};
     ghost use Rattle.pf_store.specs.Sources.{Kept};
-    ghost use Rattle.pf_store.specs.Held.{IsKept, kept_in};
+    ghost use Rattle.pf_store.specs.Held.{IsValid, kept_in};
 
     ghost Value = { Kept };
 
@@ -39,7 +39,7 @@ impl Model for Store {
 
     ghost view = { λ s. kept_in s.modules.entries };
 
-    ghost invariant = { λ s. IsKept s.modules.entries };
+    ghost invariant = { λ s. IsValid s.modules.entries };
 }
 
 impl Store {

@@ -11,10 +11,10 @@ use Rattle.pf_syntax.specs.Tree.{lit, tuple, call, builtin}
 use Rattle.pf_syntax.specs.Module.{Tables, literal_at, pattern_at, tree_at}
 use Rattle.pf_syntax.specs.Operators.{builtin_of}
 use Rattle.pf_syntax.specs.Over.{patterns_at, pattern_over, part_over, parts_over, alternatives_over, guard_from, guard_over, clauses_over, tree_over, function_clause_over, function_over, with_literal, with_pattern, with_tree}
-use Rattle.pf_syntax.specs.Within.{PatternStands, PartStands, GuardStands, ClauseStands, PatternPartsStand, PartsStand, FunctionClauseStands, FunctionStands}
+use Rattle.pf_syntax.specs.Within.{PatternRepresents, OperandRepresents, GuardRepresents, ClauseRepresents, PatternPartsStand, PartsStand, FunctionClauseRepresents, FunctionRepresents}
 use Rattle.pf_syntax.specs.declared.node.PatternId.{PatternId}
-use Rattle.pf_syntax.specs.declared.node.Part.{Part}
-use Rattle.pf_syntax.specs.declared.node.Part.TheVariants as part
+use Rattle.pf_syntax.specs.declared.node.Operand.{Operand}
+use Rattle.pf_syntax.specs.declared.node.Operand.TheVariants as part
 use Rattle.pf_syntax.specs.declared.node.PatternNode.{PatternNode}
 use Rattle.pf_syntax.specs.declared.node.PatternNode.TheVariants as asks
 use Rattle.pf_syntax.specs.declared.node.Alternative.{Alternative}
@@ -101,11 +101,11 @@ tree_last t n = get_or-append_seam t.trees (tree_over t n) [] (lit (list none))
 module _ (t u : Tables) (e : Extends t u) where
   -- ---- the same meaning
 
-  pub patterns_kept : (ps : List PatternId) → All (PatternStands t) ps → patterns_at u ps ≡ patterns_at t ps
+  pub patterns_kept : (ps : List PatternId) → All (PatternRepresents t) ps → patterns_at u ps ≡ patterns_at t ps
   patterns_kept [] h = refl
   patterns_kept (p ∷ ps) h =
-      let x = e.patterns p.0 (All-head (PatternStands t) p ps h) in
-      let y = patterns_kept ps (All-tail (PatternStands t) p ps h) in
+      let x = e.patterns p.0 (All-head (PatternRepresents t) p ps h) in
+      let y = patterns_kept ps (All-tail (PatternRepresents t) p ps h) in
       cc
 
   pub pattern_kept : (n : PatternNode) → PatternPartsStand t n → pattern_over u n ≡ pattern_over t n
@@ -114,40 +114,40 @@ module _ (t u : Tables) (e : Extends t u) where
   pattern_kept (asks.Cons p q) h = let x = e.patterns p.0 h.0 in let y = e.patterns q.0 h.1 in cc
   pattern_kept _ h = refl
 
-  pub part_kept : (p : Part) → PartStands t p → part_over u p ≡ part_over t p
+  pub part_kept : (p : Operand) → OperandRepresents t p → part_over u p ≡ part_over t p
   part_kept (part.Literal l) h = ap lit (e.literals l.0 h)
   part_kept (part.Node n) h = e.trees n.0 h
   part_kept _ h = refl
 
-  pub parts_kept : (ps : List Part) → All (PartStands t) ps → parts_over u ps ≡ parts_over t ps
+  pub parts_kept : (ps : List Operand) → All (OperandRepresents t) ps → parts_over u ps ≡ parts_over t ps
   parts_kept [] h = refl
   parts_kept (p ∷ ps) h =
-      let x = part_kept p (All-head (PartStands t) p ps h) in
-      let y = parts_kept ps (All-tail (PartStands t) p ps h) in
+      let x = part_kept p (All-head (OperandRepresents t) p ps h) in
+      let y = parts_kept ps (All-tail (OperandRepresents t) p ps h) in
       cc
 
-  alternatives_kept : (gs : List Alternative) → All (λ a. All (PartStands t) a.tests.items) gs → alternatives_over u gs ≡ alternatives_over t gs
+  alternatives_kept : (gs : List Alternative) → All (λ a. All (OperandRepresents t) a.tests.items) gs → alternatives_over u gs ≡ alternatives_over t gs
   alternatives_kept [] h = refl
   alternatives_kept (a ∷ gs) h =
-      let x = parts_kept a.tests.items (All-head (λ a. All (PartStands t) a.tests.items) a gs h) in
-      let y = alternatives_kept gs (All-tail (λ a. All (PartStands t) a.tests.items) a gs h) in
+      let x = parts_kept a.tests.items (All-head (λ a. All (OperandRepresents t) a.tests.items) a gs h) in
+      let y = alternatives_kept gs (All-tail (λ a. All (OperandRepresents t) a.tests.items) a gs h) in
       cc
 
-  guard_from_kept : (gs : List Alternative) → All (λ a. All (PartStands t) a.tests.items) gs → guard_from u gs ≡ guard_from t gs
+  guard_from_kept : (gs : List Alternative) → All (λ a. All (OperandRepresents t) a.tests.items) gs → guard_from u gs ≡ guard_from t gs
   guard_from_kept [] h = refl
   guard_from_kept (a ∷ gs) h = alternatives_kept (a ∷ gs) h
 
-  pub guard_kept : (g : Guard) → GuardStands t g → guard_over u g ≡ guard_over t g
+  pub guard_kept : (g : Guard) → GuardRepresents t g → guard_over u g ≡ guard_over t g
   guard_kept g h = guard_from_kept g.alternatives.items h
 
-  pub clauses_kept : (cs : List Clause) → All (ClauseStands t) cs → clauses_over u cs ≡ clauses_over t cs
+  pub clauses_kept : (cs : List Clause) → All (ClauseRepresents t) cs → clauses_over u cs ≡ clauses_over t cs
   clauses_kept [] h = refl
   clauses_kept (c ∷ cs) h =
-      let s = All-head (ClauseStands t) c cs h in
+      let s = All-head (ClauseRepresents t) c cs h in
       let p = e.patterns c.pattern.0 s.0 in
       let g = guard_kept c.guard s.1 in
       let b = part_kept c.body s.2 in
-      let y = clauses_kept cs (All-tail (ClauseStands t) c cs h) in
+      let y = clauses_kept cs (All-tail (ClauseRepresents t) c cs h) in
       cc
 
   pub tree_kept : (n : Node) → PartsStand t n → tree_over u n ≡ tree_over t n
@@ -166,55 +166,55 @@ module _ (t u : Tables) (e : Extends t u) where
   tree_kept (does.Receive cs) h = let y = clauses_kept cs.items h in cc
   tree_kept (does.Send a b) h = let x = part_kept a h.0 in let y = part_kept b h.1 in cc
 
-  function_clause_kept : (c : FunctionClause) → FunctionClauseStands t c → function_clause_over u c ≡ function_clause_over t c
+  function_clause_kept : (c : FunctionClause) → FunctionClauseRepresents t c → function_clause_over u c ≡ function_clause_over t c
   function_clause_kept c h =
       let p = patterns_kept c.parameters.items h.0 in
       let g = guard_kept c.guard h.1 in
       let b = part_kept c.body h.2 in
       cc
 
-  function_clauses_kept : (cs : List FunctionClause) → All (FunctionClauseStands t) cs → map (function_clause_over u) cs ≡ map (function_clause_over t) cs
+  function_clauses_kept : (cs : List FunctionClause) → All (FunctionClauseRepresents t) cs → map (function_clause_over u) cs ≡ map (function_clause_over t) cs
   function_clauses_kept [] h = refl
   function_clauses_kept (c ∷ cs) h =
-      let x = function_clause_kept c (All-head (FunctionClauseStands t) c cs h) in
-      let y = function_clauses_kept cs (All-tail (FunctionClauseStands t) c cs h) in
+      let x = function_clause_kept c (All-head (FunctionClauseRepresents t) c cs h) in
+      let y = function_clauses_kept cs (All-tail (FunctionClauseRepresents t) c cs h) in
       cc
 
-  pub function_kept : (f : Function) → FunctionStands t f → function_over u f ≡ function_over t f
+  pub function_kept : (f : Function) → FunctionRepresents t f → function_over u f ≡ function_over t f
   function_kept f h = let x = function_clauses_kept f.clauses.items h in cc
 
-  pub functions_kept : (fs : List Function) → All (FunctionStands t) fs → map (function_over u) fs ≡ map (function_over t) fs
+  pub functions_kept : (fs : List Function) → All (FunctionRepresents t) fs → map (function_over u) fs ≡ map (function_over t) fs
   functions_kept [] h = refl
   functions_kept (f ∷ fs) h =
-      let x = function_kept f (All-head (FunctionStands t) f fs h) in
-      let y = functions_kept fs (All-tail (FunctionStands t) f fs h) in
+      let x = function_kept f (All-head (FunctionRepresents t) f fs h) in
+      let y = functions_kept fs (All-tail (FunctionRepresents t) f fs h) in
       cc
 
   -- ---- it still stands
 
-  pub pattern_stands : (p : PatternId) → PatternStands t p → PatternStands u p
+  pub pattern_stands : (p : PatternId) → PatternRepresents t p → PatternRepresents u p
   pattern_stands p h = omega (arith, e.more_patterns)
 
-  pub part_stands : (p : Part) → PartStands t p → PartStands u p
+  pub part_stands : (p : Operand) → OperandRepresents t p → OperandRepresents u p
   part_stands (part.Literal l) h = omega (arith, e.more_literals)
   part_stands (part.Node n) h = omega (arith, e.more_trees)
   part_stands _ h = tt
 
-  pub all_patterns_stand : (ps : List PatternId) → All (PatternStands t) ps → All (PatternStands u) ps
-  all_patterns_stand ps h = All-weaker (PatternStands t) (PatternStands u) pattern_stands ps h
+  pub all_patterns_stand : (ps : List PatternId) → All (PatternRepresents t) ps → All (PatternRepresents u) ps
+  all_patterns_stand ps h = All-weaker (PatternRepresents t) (PatternRepresents u) pattern_stands ps h
 
-  pub all_parts_stand : (ps : List Part) → All (PartStands t) ps → All (PartStands u) ps
-  all_parts_stand ps h = All-weaker (PartStands t) (PartStands u) part_stands ps h
+  pub all_parts_stand : (ps : List Operand) → All (OperandRepresents t) ps → All (OperandRepresents u) ps
+  all_parts_stand ps h = All-weaker (OperandRepresents t) (OperandRepresents u) part_stands ps h
 
-  pub guard_stands : (g : Guard) → GuardStands t g → GuardStands u g
+  pub guard_stands : (g : Guard) → GuardRepresents t g → GuardRepresents u g
   guard_stands g h =
-      All-weaker (λ a. All (PartStands t) a.tests.items) (λ a. All (PartStands u) a.tests.items) (λ a x. all_parts_stand a.tests.items x) g.alternatives.items h
+      All-weaker (λ a. All (OperandRepresents t) a.tests.items) (λ a. All (OperandRepresents u) a.tests.items) (λ a x. all_parts_stand a.tests.items x) g.alternatives.items h
 
-  pub clause_stands : (c : Clause) → ClauseStands t c → ClauseStands u c
+  pub clause_stands : (c : Clause) → ClauseRepresents t c → ClauseRepresents u c
   clause_stands c h = (pattern_stands c.pattern h.0, guard_stands c.guard h.1, part_stands c.body h.2)
 
-  pub clauses_stand : (cs : List Clause) → All (ClauseStands t) cs → All (ClauseStands u) cs
-  clauses_stand cs h = All-weaker (ClauseStands t) (ClauseStands u) clause_stands cs h
+  pub clauses_stand : (cs : List Clause) → All (ClauseRepresents t) cs → All (ClauseRepresents u) cs
+  clauses_stand cs h = All-weaker (ClauseRepresents t) (ClauseRepresents u) clause_stands cs h
 
   pub pattern_parts_stand : (n : PatternNode) → PatternPartsStand t n → PatternPartsStand u n
   pattern_parts_stand (asks.Literal l) h = omega (arith, e.more_literals)
@@ -238,11 +238,11 @@ module _ (t u : Tables) (e : Extends t u) where
   parts_stand (does.Receive cs) h = clauses_stand cs.items h
   parts_stand (does.Send a b) h = (part_stands a h.0, part_stands b h.1)
 
-  pub function_clause_stands : (c : FunctionClause) → FunctionClauseStands t c → FunctionClauseStands u c
+  pub function_clause_stands : (c : FunctionClause) → FunctionClauseRepresents t c → FunctionClauseRepresents u c
   function_clause_stands c h = (all_patterns_stand c.parameters.items h.0, guard_stands c.guard h.1, part_stands c.body h.2)
 
-  function_stands : (f : Function) → FunctionStands t f → FunctionStands u f
-  function_stands f h = All-weaker (FunctionClauseStands t) (FunctionClauseStands u) function_clause_stands f.clauses.items h
+  function_stands : (f : Function) → FunctionRepresents t f → FunctionRepresents u f
+  function_stands f h = All-weaker (FunctionClauseRepresents t) (FunctionClauseRepresents u) function_clause_stands f.clauses.items h
 
-  pub functions_stand : (fs : List Function) → All (FunctionStands t) fs → All (FunctionStands u) fs
-  functions_stand fs h = All-weaker (FunctionStands t) (FunctionStands u) function_stands fs h
+  pub functions_stand : (fs : List Function) → All (FunctionRepresents t) fs → All (FunctionRepresents u) fs
+  functions_stand fs h = All-weaker (FunctionRepresents t) (FunctionRepresents u) function_stands fs h

@@ -10,7 +10,7 @@ use Rattle.pf_terms.specs.declared.term.Term.{Term}
 use Rattle.pf_syntax.specs.Pattern.{Pattern}
 use Rattle.pf_syntax.specs.Module.{Tables}
 use Rattle.pf_syntax.specs.Over.{pattern_over, function_over, with_literal, with_pattern, with_tree, with_tables}
-use Rattle.pf_syntax.specs.Within.{PatternPartsStand, PartsStand, FunctionStands, InTurn}
+use Rattle.pf_syntax.specs.Within.{PatternPartsStand, PartsStand, FunctionRepresents, InTurn}
 use Rattle.pf_syntax.specs.View.{literals_of, patterns_of, tables_of, checked_of, Sound}
 use Rattle.pf_syntax.proofs.Extends.{Extends, extends_literal, extends_pattern, extends_tree, plus_pattern, functions_kept, functions_stand, pattern_parts_stand, parts_stand}
 use Rattle.pf_syntax.proofs.InTurn.{in_turn_push, in_turn_still, fold_push, fold_swap}
@@ -29,7 +29,7 @@ module _ (a b : Inside) (same_name : b.name ≡ a.name) (same_atoms : b.atoms �
       ap (λ (u : Tables). map (function_over u) b.functions.items) e ∙ ap (map (function_over t)) same_functions ∙ kept in
       cc
 
-  functions_go_on : (t : Tables) → tables_of b ≡ t → Extends (tables_of a) t → Sound a → All (FunctionStands (tables_of b)) b.functions.items
+  functions_go_on : (t : Tables) → tables_of b ≡ t → Extends (tables_of a) t → Sound a → All (FunctionRepresents (tables_of b)) b.functions.items
   functions_go_on t e g s = rw (e, same_functions) (functions_stand (tables_of a) t g a.functions.items s.functions)
 
 -- ---- a node

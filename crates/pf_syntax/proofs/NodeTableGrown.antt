@@ -4,20 +4,20 @@ use Rattle.std.specs.Prelude.{fold, map}
 use Rattle.std.specs.List.{All}
 use Rattle.std.specs.Global.{Vec}
 use Rattle.std.proofs.lemmas.List.Elements.{All-push}
-use Rattle.pf_syntax.specs.WrittenPattern.{WrittenPattern, written_pattern_size, written_pattern_depth}
-use Rattle.pf_syntax.specs.WrittenExpression.{written_expression_size, written_expression_depth}
+use Rattle.pf_syntax.specs.ExprPattern.{ExprPattern, expr_pattern_size, expr_pattern_depth}
+use Rattle.pf_syntax.specs.Expr.{expr_size, expr_depth}
 use Rattle.pf_syntax.specs.Measure.{IsMeasure}
-use Rattle.pf_syntax.specs.Source.{NodeTable}
-use Rattle.pf_syntax.specs.SourceOver.{written_pattern_over, written_expression_over, heads_over, with_written_pattern, with_written_expression, with_node_table, WrittenPatternPartsStand, WrittenExpressionPartsStand, HeadsStand}
-use Rattle.pf_syntax.specs.SourceView.{written_pattern_entered, written_expression_entered, WrittenPatternIsSound, WrittenExpressionIsSound, no_node_table, written_patterns_of, node_table_of, written_of, Sound}
+use Rattle.pf_syntax.specs.SyntaxTree.{NodeTable}
+use Rattle.pf_syntax.specs.SyntaxTreeOver.{expr_pattern_over, expr_over, heads_over, with_expr_pattern, with_expr, with_node_table, ExprPatternPartsStand, ExprPartsStand, HeadsStand}
+use Rattle.pf_syntax.specs.SyntaxTreeView.{expr_pattern_entered, expr_entered, ExprPatternIsSound, ExprIsSound, no_node_table, expr_patterns_of, node_table_of, written_of, Sound}
 use Rattle.pf_syntax.specs.Within.{InTurn}
 use Rattle.pf_syntax.proofs.InTurn.{in_turn_push, in_turn_still, fold_push, fold_swap}
-use Rattle.pf_syntax.proofs.NodeTableExtends.{GoesOn, plus_written_pattern, on_by_written_pattern, on_by_written_expression, functions_kept, functions_stand}
-use Rattle.pf_syntax.proofs.NodeTableFolds.{written_expression_after_written_pattern, written_expression_still_sound, written_expressions_leave, written_pattern_alike}
-use Rattle.pf_syntax.specs.declared.written.WrittenFunction.{WrittenFunction}
-use Rattle.pf_syntax.specs.declared.source.WrittenPatternEntry.{WrittenPatternEntry}
-use Rattle.pf_syntax.specs.declared.source.WrittenExpressionEntry.{WrittenExpressionEntry}
-use Rattle.pf_syntax.specs.declared.source.Source.TheInside.{Inside}
+use Rattle.pf_syntax.proofs.NodeTableExtends.{GoesOn, plus_expr_pattern, on_by_expr_pattern, on_by_expr, functions_kept, functions_stand}
+use Rattle.pf_syntax.proofs.NodeTableFolds.{expr_after_expr_pattern, expr_still_sound, exprs_leave, expr_pattern_alike}
+use Rattle.pf_syntax.specs.declared.expr.ExprFunction.{ExprFunction}
+use Rattle.pf_syntax.specs.declared.syntax_tree.ExprPatternEntry.{ExprPatternEntry}
+use Rattle.pf_syntax.specs.declared.syntax_tree.ExprEntry.{ExprEntry}
+use Rattle.pf_syntax.specs.declared.syntax_tree.SyntaxTree.TheInside.{Inside}
 
 -- the functions mean the same over a table of nodes that goes on
 module _ (a : Inside) (b : Inside) (same_name : b.name ≡ a.name) (same_exports : b.exports.items ≡ a.exports.items) (same_functions : b.functions.items ≡ a.functions.items) where
@@ -33,70 +33,70 @@ module _ (a : Inside) (b : Inside) (same_name : b.name ≡ a.name) (same_exports
 
 -- ---- an expression
 
-module _ (a : Inside) (e : WrittenExpressionEntry) (v : Vec WrittenExpressionEntry) (is : v.items ≡ a.written_expressions.items ++ e ∷ []) (s : Sound a) where
-  written_expressions_grown : node_table_of (record a { written_expressions = v }) ≡ with_written_expression (node_table_of a) e.node
-  written_expressions_grown = ap (fold written_expression_entered (written_patterns_of a)) is ∙ fold_push WrittenExpressionIsSound written_expression_entered (written_patterns_of a) a.written_expressions.items e
+module _ (a : Inside) (e : ExprEntry) (v : Vec ExprEntry) (is : v.items ≡ a.exprs.items ++ e ∷ []) (s : Sound a) where
+  exprs_grown : node_table_of (record a { exprs = v }) ≡ with_expr (node_table_of a) e.node
+  exprs_grown = ap (fold expr_entered (expr_patterns_of a)) is ∙ fold_push ExprIsSound expr_entered (expr_patterns_of a) a.exprs.items e
 
-  pub with_written_expression_view : written_of (record a { written_expressions = v }) ≡ with_node_table (written_of a) (with_written_expression (node_table_of a) e.node)
-  with_written_expression_view = view_goes_on a (record a { written_expressions = v }) refl refl refl (with_written_expression (node_table_of a) e.node) written_expressions_grown (on_by_written_expression (node_table_of a) e.node) s
+  pub with_expr_view : written_of (record a { exprs = v }) ≡ with_node_table (written_of a) (with_expr (node_table_of a) e.node)
+  with_expr_view = view_goes_on a (record a { exprs = v }) refl refl refl (with_expr (node_table_of a) e.node) exprs_grown (on_by_expr (node_table_of a) e.node) s
 
-  pub with_written_expression_sound : WrittenExpressionPartsStand (node_table_of a) e.node → IsMeasure e.measure (written_expression_size (written_expression_over (node_table_of a) e.node)) (written_expression_depth (written_expression_over (node_table_of a) e.node)) → Sound (record a { written_expressions = v })
-  with_written_expression_sound stands measured = record {
-    written_patterns = s.written_patterns;
-    written_expressions = rw is (in_turn_push WrittenExpressionIsSound written_expression_entered (written_patterns_of a) a.written_expressions.items e s.written_expressions (stands, measured));
-    functions = functions_go_on a (record a { written_expressions = v }) refl refl refl (with_written_expression (node_table_of a) e.node) written_expressions_grown (on_by_written_expression (node_table_of a) e.node) s;
+  pub with_expr_sound : ExprPartsStand (node_table_of a) e.node → IsMeasure e.measure (expr_size (expr_over (node_table_of a) e.node)) (expr_depth (expr_over (node_table_of a) e.node)) → Sound (record a { exprs = v })
+  with_expr_sound stands measured = record {
+    expr_patterns = s.expr_patterns;
+    exprs = rw is (in_turn_push ExprIsSound expr_entered (expr_patterns_of a) a.exprs.items e s.exprs (stands, measured));
+    functions = functions_go_on a (record a { exprs = v }) refl refl refl (with_expr (node_table_of a) e.node) exprs_grown (on_by_expr (node_table_of a) e.node) s;
   }
 
 -- ---- a pattern
 
-module _ (a : Inside) (e : WrittenPatternEntry) (v : Vec WrittenPatternEntry) (is : v.items ≡ a.written_patterns.items ++ e ∷ []) (s : Sound a) where
-  written_patterns_push : written_patterns_of (record a { written_patterns = v }) ≡ plus_written_pattern (written_patterns_of a) (written_pattern_over (written_patterns_of a) e.node)
-  written_patterns_push = ap (fold written_pattern_entered no_node_table) is ∙ fold_push WrittenPatternIsSound written_pattern_entered no_node_table a.written_patterns.items e
+module _ (a : Inside) (e : ExprPatternEntry) (v : Vec ExprPatternEntry) (is : v.items ≡ a.expr_patterns.items ++ e ∷ []) (s : Sound a) where
+  expr_patterns_push : expr_patterns_of (record a { expr_patterns = v }) ≡ plus_expr_pattern (expr_patterns_of a) (expr_pattern_over (expr_patterns_of a) e.node)
+  expr_patterns_push = ap (fold expr_pattern_entered no_node_table) is ∙ fold_push ExprPatternIsSound expr_pattern_entered no_node_table a.expr_patterns.items e
 
-  written_patterns_grown : node_table_of (record a { written_patterns = v }) ≡ with_written_pattern (node_table_of a) e.node
-  written_patterns_grown =
-      let q = written_pattern_over (written_patterns_of a) e.node in
-      ap (λ (b : NodeTable). fold written_expression_entered b a.written_expressions.items) written_patterns_push
-      ∙ fold_swap WrittenExpressionIsSound written_expression_entered (λ b. plus_written_pattern b q) (written_expression_after_written_pattern q) (written_patterns_of a) a.written_expressions.items s.written_expressions
-      ∙ ap (plus_written_pattern (node_table_of a)) (written_pattern_alike (written_patterns_of a) (node_table_of a) e (sym (written_expressions_leave (written_patterns_of a) a.written_expressions.items)))
+  expr_patterns_grown : node_table_of (record a { expr_patterns = v }) ≡ with_expr_pattern (node_table_of a) e.node
+  expr_patterns_grown =
+      let q = expr_pattern_over (expr_patterns_of a) e.node in
+      ap (λ (b : NodeTable). fold expr_entered b a.exprs.items) expr_patterns_push
+      ∙ fold_swap ExprIsSound expr_entered (λ b. plus_expr_pattern b q) (expr_after_expr_pattern q) (expr_patterns_of a) a.exprs.items s.exprs
+      ∙ ap (plus_expr_pattern (node_table_of a)) (expr_pattern_alike (expr_patterns_of a) (node_table_of a) e (sym (exprs_leave (expr_patterns_of a) a.exprs.items)))
 
-  pub with_written_pattern_view : written_of (record a { written_patterns = v }) ≡ with_node_table (written_of a) (with_written_pattern (node_table_of a) e.node)
-  with_written_pattern_view =
-      view_goes_on a (record a { written_patterns = v }) refl refl refl (with_written_pattern (node_table_of a) e.node) written_patterns_grown (on_by_written_pattern (node_table_of a) (written_pattern_over (node_table_of a) e.node)) s
+  pub with_expr_pattern_view : written_of (record a { expr_patterns = v }) ≡ with_node_table (written_of a) (with_expr_pattern (node_table_of a) e.node)
+  with_expr_pattern_view =
+      view_goes_on a (record a { expr_patterns = v }) refl refl refl (with_expr_pattern (node_table_of a) e.node) expr_patterns_grown (on_by_expr_pattern (node_table_of a) (expr_pattern_over (node_table_of a) e.node)) s
 
-  sound_before : WrittenPatternPartsStand (node_table_of a) e.node → IsMeasure e.measure (written_pattern_size (written_pattern_over (node_table_of a) e.node)) (written_pattern_depth (written_pattern_over (node_table_of a) e.node)) → WrittenPatternIsSound (written_patterns_of a) e
+  sound_before : ExprPatternPartsStand (node_table_of a) e.node → IsMeasure e.measure (expr_pattern_size (expr_pattern_over (node_table_of a) e.node)) (expr_pattern_depth (expr_pattern_over (node_table_of a) e.node)) → ExprPatternIsSound (expr_patterns_of a) e
   sound_before stands measured =
-      let left = written_expressions_leave (written_patterns_of a) a.written_expressions.items in (
-        subst (λ (qs : List WrittenPattern). let b : NodeTable = record { written_patterns = qs; written_expressions = (node_table_of a).written_expressions } in WrittenPatternPartsStand b e.node) left stands,
-        subst (λ (q : WrittenPattern). IsMeasure e.measure (written_pattern_size q) (written_pattern_depth q)) (written_pattern_alike (node_table_of a) (written_patterns_of a) e left) measured,
+      let left = exprs_leave (expr_patterns_of a) a.exprs.items in (
+        subst (λ (qs : List ExprPattern). let b : NodeTable = record { expr_patterns = qs; exprs = (node_table_of a).exprs } in ExprPatternPartsStand b e.node) left stands,
+        subst (λ (q : ExprPattern). IsMeasure e.measure (expr_pattern_size q) (expr_pattern_depth q)) (expr_pattern_alike (node_table_of a) (expr_patterns_of a) e left) measured,
       )
 
-  pub with_written_pattern_sound : WrittenPatternPartsStand (node_table_of a) e.node → IsMeasure e.measure (written_pattern_size (written_pattern_over (node_table_of a) e.node)) (written_pattern_depth (written_pattern_over (node_table_of a) e.node)) → Sound (record a { written_patterns = v })
-  with_written_pattern_sound stands measured =
-      let q = written_pattern_over (written_patterns_of a) e.node in
-      let still = in_turn_still WrittenExpressionIsSound written_expression_entered (λ b. plus_written_pattern b q) (written_expression_after_written_pattern q) (written_expression_still_sound q) (written_patterns_of a) a.written_expressions.items s.written_expressions in
+  pub with_expr_pattern_sound : ExprPatternPartsStand (node_table_of a) e.node → IsMeasure e.measure (expr_pattern_size (expr_pattern_over (node_table_of a) e.node)) (expr_pattern_depth (expr_pattern_over (node_table_of a) e.node)) → Sound (record a { expr_patterns = v })
+  with_expr_pattern_sound stands measured =
+      let q = expr_pattern_over (expr_patterns_of a) e.node in
+      let still = in_turn_still ExprIsSound expr_entered (λ b. plus_expr_pattern b q) (expr_after_expr_pattern q) (expr_still_sound q) (expr_patterns_of a) a.exprs.items s.exprs in
       record {
-        written_patterns = rw is (in_turn_push WrittenPatternIsSound written_pattern_entered no_node_table a.written_patterns.items e s.written_patterns (sound_before stands measured));
-        written_expressions = subst (λ b. InTurn WrittenExpressionIsSound written_expression_entered b a.written_expressions.items) (sym written_patterns_push) still;
-        functions = functions_go_on a (record a { written_patterns = v }) refl refl refl (with_written_pattern (node_table_of a) e.node) written_patterns_grown (on_by_written_pattern (node_table_of a) (written_pattern_over (node_table_of a) e.node)) s;
+        expr_patterns = rw is (in_turn_push ExprPatternIsSound expr_pattern_entered no_node_table a.expr_patterns.items e s.expr_patterns (sound_before stands measured));
+        exprs = subst (λ b. InTurn ExprIsSound expr_entered b a.exprs.items) (sym expr_patterns_push) still;
+        functions = functions_go_on a (record a { expr_patterns = v }) refl refl refl (with_expr_pattern (node_table_of a) e.node) expr_patterns_grown (on_by_expr_pattern (node_table_of a) (expr_pattern_over (node_table_of a) e.node)) s;
       }
 
 -- ---- a function
 
-pub with_function_sound : (a : Inside) (f : WrittenFunction) (v : Vec WrittenFunction) → v.items ≡ a.functions.items ++ f ∷ [] → Sound a → HeadsStand (node_table_of a) f → Sound (record a { functions = v })
+pub with_function_sound : (a : Inside) (f : ExprFunction) (v : Vec ExprFunction) → v.items ≡ a.functions.items ++ f ∷ [] → Sound a → HeadsStand (node_table_of a) f → Sound (record a { functions = v })
 with_function_sound a f v is s stands = record {
-  written_patterns = s.written_patterns;
-  written_expressions = s.written_expressions;
+  expr_patterns = s.expr_patterns;
+  exprs = s.exprs;
   functions = rw is (All-push (HeadsStand (node_table_of a)) a.functions.items f s.functions stands);
 }
 
 -- ---- nothing
 
-pub same_functions_sound : (a : Inside) (v : Vec WrittenFunction) → v.items ≡ a.functions.items → Sound a → Sound (record a { functions = v })
-same_functions_sound a v is s = record { written_patterns = s.written_patterns; written_expressions = s.written_expressions; functions = rw is s.functions }
+pub same_functions_sound : (a : Inside) (v : Vec ExprFunction) → v.items ≡ a.functions.items → Sound a → Sound (record a { functions = v })
+same_functions_sound a v is s = record { expr_patterns = s.expr_patterns; exprs = s.exprs; functions = rw is s.functions }
 
-pub same_written_expressions_sound : (a : Inside) (v : Vec WrittenExpressionEntry) → v.items ≡ a.written_expressions.items → Sound a → Sound (record a { written_expressions = v })
-same_written_expressions_sound a v is s = record { written_patterns = s.written_patterns; written_expressions = rw is s.written_expressions; functions = rw is s.functions }
+pub same_exprs_sound : (a : Inside) (v : Vec ExprEntry) → v.items ≡ a.exprs.items → Sound a → Sound (record a { exprs = v })
+same_exprs_sound a v is s = record { expr_patterns = s.expr_patterns; exprs = rw is s.exprs; functions = rw is s.functions }
 
-pub same_written_patterns_sound : (a : Inside) (v : Vec WrittenPatternEntry) → v.items ≡ a.written_patterns.items → Sound a → Sound (record a { written_patterns = v })
-same_written_patterns_sound a v is s = record { written_patterns = rw is s.written_patterns; written_expressions = rw is s.written_expressions; functions = rw is s.functions }
+pub same_expr_patterns_sound : (a : Inside) (v : Vec ExprPatternEntry) → v.items ≡ a.expr_patterns.items → Sound a → Sound (record a { expr_patterns = v })
+same_expr_patterns_sound a v is s = record { expr_patterns = rw is s.expr_patterns; exprs = rw is s.exprs; functions = rw is s.functions }

@@ -14,7 +14,7 @@ use Rattle.pf_syntax.specs.Tree.{Function, Program}
 use Rattle.pf_syntax.specs.Module.{first_named}
 use Rattle.pf_syntax.specs.Root.{root_of, root_at, exported_at, exported_of}
 
--- where no name is this one, none stands at a place
+-- where no name is this one, none stands at a slot
 none_any : {X : Type 0} (p : X → Bool) (xs : List X) → list_any p xs ≡ false → position_or_len p xs ≡ length xs
 none_any p [] h = refl
 none_any p (x ∷ xs) h = grind (arith, common_steps, none_any p xs)
@@ -44,13 +44,13 @@ module _ (name : List ℕ) (atoms : List (List ℕ)) (functions : Program) (a : 
           absurd (omega arith)
 
   -- the atom is the one of this name
-  place : position_or_len (bytes_eq name) atoms ≡ a
-  place =
+  slot : position_or_len (bytes_eq name) atoms ≡ a
+  slot =
       let below = within in
       position_or_len_is (bytes_eq name) atoms a [] (omega arith) other (λ _. (bytes_eq-Decides name (get_or atoms a [])).1 (sym this))
 
   first : position (bytes_eq name) atoms ≡ Some a
-  first = rw (place, lt-ltb a (length atoms) within) refl
+  first = rw (slot, lt-ltb a (length atoms) within) refl
 
   -- the root is the function of the atom, where it is exported
   pub root_is : root_of name atoms functions ≡ exported_at functions (first_named a 0 functions)
@@ -62,8 +62,8 @@ module _ (name : List ℕ) (atoms : List (List ℕ)) (functions : Program) (a : 
   pub function_is : (i : ℕ) → first_named a 0 functions ≡ Some i → root_of name atoms functions ≡ exported_of i (slice_get functions i)
   function_is i h = root_is ∙ ap (exported_at functions) h
 
-  pub no_place : (i : ℕ) → first_named a 0 functions ≡ Some i → slice_get functions i ≡ None → root_of name atoms functions ≡ None
-  no_place i h k = function_is i h ∙ ap (exported_of i) k
+  pub no_slot : (i : ℕ) → first_named a 0 functions ≡ Some i → slice_get functions i ≡ None → root_of name atoms functions ≡ None
+  no_slot i h k = function_is i h ∙ ap (exported_of i) k
 
   pub exported : (i : ℕ) (f : Function) → first_named a 0 functions ≡ Some i → slice_get functions i ≡ Some f → f.exported ≡ true → root_of name atoms functions ≡ Some i
   exported i f h k e = function_is i h ∙ ap (exported_of i) k ∙ rw e refl

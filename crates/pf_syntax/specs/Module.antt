@@ -2,10 +2,10 @@
 use Rattle.std.specs.Prelude.{ℕ, Bool, List, [], Option, refl, slice_index_or, position, ◌&&◌, ◌==◌}
 use Rattle.std.specs.Coded.{Coded, code_by, coded×, coded_ℕ, coded_bool, coded_list}
 use Rattle.pf_terms.specs.Value.{Value, list, none}
-use Rattle.pf_terms.specs.Code.{coded_value}
+use Rattle.pf_terms.specs.Encoding.{coded_value}
 use Rattle.pf_syntax.specs.Pattern.{Pattern, any}
 use Rattle.pf_syntax.specs.Tree.{Tree, lit, Function, FunctionClause, Program}
-use Rattle.pf_syntax.specs.Code.{coded_pattern, coded_patterns, coded_tree, coded_guard}
+use Rattle.pf_syntax.specs.Encoding.{coded_pattern, coded_patterns, coded_tree, coded_guard}
 
 -- what the numbers in a module's nodes stand for
 pub record Tables : Type 0 where

@@ -1,16 +1,16 @@
--- How the names of a function clause become places and numbers: what its patterns, its guard and its body become in the checked
+-- How the names of a function clause become slots and numbers: what its patterns, its guard and its body become in the checked
 -- module. What breaks a static rule on variables or on calls becomes nothing.
 use Rattle.std.specs.Prelude.{◌≡◌, ℕ, ◌+◌, IsTrue, ℤ, pos, List, [], ◌∷◌, slice_get, Option, Some}
 use Rattle.pf_terms.specs.Value.{Value, Values, int, atom as atom_value, list as list_value, none, more}
 use Rattle.pf_syntax.specs.Pattern.{Pattern, Patterns, any, new, slot, known, tuple_of, cons_of, no_patterns, pattern}
-use Rattle.pf_syntax.specs.WrittenPattern as s
-use Rattle.pf_syntax.specs.WrittenPattern.{WrittenPattern, WrittenPatterns, no_written_patterns, written_pattern}
-use Rattle.pf_syntax.specs.WrittenExpression as p
-use Rattle.pf_syntax.specs.WrittenExpression.{WrittenExpression, WrittenExpressions, Condition, Branches, no_written_expressions, written_expression, no_tests, tests, no_branches, branch}
+use Rattle.pf_syntax.specs.ExprPattern as s
+use Rattle.pf_syntax.specs.ExprPattern.{ExprPattern, ExprPatterns, no_expr_patterns, expr_pattern}
+use Rattle.pf_syntax.specs.Expr as p
+use Rattle.pf_syntax.specs.Expr.{Expr, Exprs, Condition, Branches, no_exprs, expr, no_tests, tests, no_branches, branch}
 use Rattle.pf_syntax.specs.Tree as t
 use Rattle.pf_syntax.specs.Tree.{Operator, Builtin, Tree, Trees, Clauses, Guard, lit, var, no_trees, tree, no_clauses, clause, no_alternatives, alternative, FunctionClause}
-use Rattle.pf_syntax.specs.Source.{Head}
-use Rattle.pf_syntax.specs.Scope.{Scope, no_scope, is_new, after_written_pattern, after_written_patterns, after, after_all}
+use Rattle.pf_syntax.specs.SyntaxTree.{Head}
+use Rattle.pf_syntax.specs.Scope.{Scope, no_scope, is_new, after_expr_pattern, after_expr_patterns, after, after_all}
 
 -- what the names of atoms, own functions and built-ins stand for, the last two with a number of arguments
 pub record Names : Type 0 where
@@ -18,9 +18,9 @@ pub record Names : Type 0 where
   pub own_of : ℕ → ℕ → Option ℕ
   pub builtin_of : ℕ → ℕ → Option Builtin
 
--- the place of a bound variable is where its name stands among the bound ones: the arguments' first, then in the order of binding
-abbrev pub IsPlaceOf : Scope → ℕ → ℕ → Type 0
-IsPlaceOf g x k = slice_get g.bound k ≡ Some x
+-- the slot of a bound variable is where its name stands among the bound ones: the arguments' first, then in the order of binding
+abbrev pub IsSlotOf : Scope → ℕ → ℕ → Type 0
+IsSlotOf g x k = slice_get g.bound k ≡ Some x
 
 -- a string is the list of its character codes
 abbrev pub characters : List ℕ → Values
@@ -42,9 +42,9 @@ abbrev pub conses : Trees → Tree → Tree
 conses no_trees last = last
 conses (tree x xs) last = t.cons x (conses xs last)
 
-abbrev pub arity_of : WrittenExpressions → ℕ
-arity_of no_written_expressions = 0
-arity_of (written_expression e es) = 1 + arity_of es
+abbrev pub arity_of : Exprs → ℕ
+arity_of no_exprs = 0
+arity_of (expr e es) = 1 + arity_of es
 
 -- one more pattern behind the others
 abbrev pub behind : Patterns → Pattern → Patterns
@@ -56,83 +56,83 @@ abbrev pub ending : Patterns → Tree → Tree
 ending no_patterns x = x
 ending (pattern y ys) x = t.match (pattern y ys) x
 
--- a pattern, where this is seen: a bound variable is its place; a new one has no number, since it takes the next place
+-- a pattern, where this is seen: a bound variable is its slot; a new one has no number, since it takes the next slot
 mutual
-  pub data WrittenPatternIs (n : Names) : Scope → WrittenPattern → Pattern → Type 0 where
-    integer : (g : Scope) (z : ℤ) → WrittenPatternIs n g (s.integer z) (known (int z))
-    atom : (g : Scope) (a : ℕ) → WrittenPatternIs n g (s.atom a) (known (atom_value (n.atom_of a)))
-    text : (g : Scope) (cs : List ℕ) → WrittenPatternIs n g (s.text cs) (known (string cs))
-    anything : (g : Scope) → WrittenPatternIs n g s.anything any
-    bound : (g : Scope) (x at k : ℕ) → IsPlaceOf g x k → WrittenPatternIs n g (s.variable x at) (slot k)
-    fresh : (g : Scope) (x at : ℕ) → IsTrue (is_new g x) → WrittenPatternIs n g (s.variable x at) new
-    tuple : (g : Scope) (qs : WrittenPatterns) (ys : Patterns) → WrittenPatternsAre n g qs ys → WrittenPatternIs n g (s.tuple qs) (tuple_of ys)
-    list : (g : Scope) (qs : WrittenPatterns) (ys : Patterns) → WrittenPatternsAre n g qs ys → WrittenPatternIs n g (s.list qs) (conses_of ys (known empty_list))
-    list_on : (g : Scope) (qs : WrittenPatterns) (q : WrittenPattern) (ys : Patterns) (y : Pattern) → WrittenPatternsAre n g qs ys → WrittenPatternIs n (after_written_patterns g qs) q y
-        → WrittenPatternIs n g (s.list_on qs q) (conses_of ys y)
+  pub data ExprPatternIs (n : Names) : Scope → ExprPattern → Pattern → Type 0 where
+    integer : (g : Scope) (z : ℤ) → ExprPatternIs n g (s.integer z) (known (int z))
+    atom : (g : Scope) (a : ℕ) → ExprPatternIs n g (s.atom a) (known (atom_value (n.atom_of a)))
+    text : (g : Scope) (cs : List ℕ) → ExprPatternIs n g (s.text cs) (known (string cs))
+    anything : (g : Scope) → ExprPatternIs n g s.anything any
+    bound : (g : Scope) (x at k : ℕ) → IsSlotOf g x k → ExprPatternIs n g (s.variable x at) (slot k)
+    fresh : (g : Scope) (x at : ℕ) → IsTrue (is_new g x) → ExprPatternIs n g (s.variable x at) new
+    tuple : (g : Scope) (qs : ExprPatterns) (ys : Patterns) → ExprPatternsAre n g qs ys → ExprPatternIs n g (s.tuple qs) (tuple_of ys)
+    list : (g : Scope) (qs : ExprPatterns) (ys : Patterns) → ExprPatternsAre n g qs ys → ExprPatternIs n g (s.list qs) (conses_of ys (known empty_list))
+    list_on : (g : Scope) (qs : ExprPatterns) (q : ExprPattern) (ys : Patterns) (y : Pattern) → ExprPatternsAre n g qs ys → ExprPatternIs n (after_expr_patterns g qs) q y
+        → ExprPatternIs n g (s.list_on qs q) (conses_of ys y)
 
-  pub data WrittenPatternsAre (n : Names) : Scope → WrittenPatterns → Patterns → Type 0 where
-    no_more_written_patterns : (g : Scope) → WrittenPatternsAre n g no_written_patterns no_patterns
-    and_written_patterns : (g : Scope) (q : WrittenPattern) (qs : WrittenPatterns) (y : Pattern) (ys : Patterns) → WrittenPatternIs n g q y → WrittenPatternsAre n (after_written_pattern g q) qs ys
-        → WrittenPatternsAre n g (written_pattern q qs) (pattern y ys)
+  pub data ExprPatternsAre (n : Names) : Scope → ExprPatterns → Patterns → Type 0 where
+    no_more_expr_patterns : (g : Scope) → ExprPatternsAre n g no_expr_patterns no_patterns
+    and_expr_patterns : (g : Scope) (q : ExprPattern) (qs : ExprPatterns) (y : Pattern) (ys : Patterns) → ExprPatternIs n g q y → ExprPatternsAre n (after_expr_pattern g q) qs ys
+        → ExprPatternsAre n g (expr_pattern q qs) (pattern y ys)
 
 mutual
-  -- an expression, where this is seen: parentheses are gone, and a variable is its place
-  pub data WrittenExpressionIs (n : Names) : Scope → WrittenExpression → Tree → Type 0 where
-    integer : (g : Scope) (z : ℤ) → WrittenExpressionIs n g (p.integer z) (lit (int z))
-    atom : (g : Scope) (a : ℕ) → WrittenExpressionIs n g (p.atom a) (lit (atom_value (n.atom_of a)))
-    text : (g : Scope) (cs : List ℕ) → WrittenExpressionIs n g (p.text cs) (lit (string cs))
-    variable : (g : Scope) (x at k : ℕ) → IsPlaceOf g x k → WrittenExpressionIs n g (p.variable x at) (var k)
-    parentheses : (g : Scope) (a : WrittenExpression) (x : Tree) → WrittenExpressionIs n g a x → WrittenExpressionIs n g (p.parentheses a) x
-    tuple : (g : Scope) (es : WrittenExpressions) (xs : Trees) → WrittenExpressionsAre n g es xs → WrittenExpressionIs n g (p.tuple es) (t.tuple xs)
-    list : (g : Scope) (es : WrittenExpressions) (xs : Trees) → WrittenExpressionsAre n g es xs → WrittenExpressionIs n g (p.list es) (conses xs (lit empty_list))
-    list_on : (g : Scope) (es : WrittenExpressions) (e : WrittenExpression) (xs : Trees) (x : Tree) → WrittenExpressionsAre n g es xs → WrittenExpressionIs n (after_all g es) e x
-        → WrittenExpressionIs n g (p.list_on es e) (conses xs x)
-    own : (g : Scope) (f at i : ℕ) (es : WrittenExpressions) (xs : Trees) → n.own_of f (arity_of es) ≡ Some i → WrittenExpressionsAre n g es xs
-        → WrittenExpressionIs n g (p.call f at es) (t.call i xs)
-    builtin : (g : Scope) (f at : ℕ) (b : Builtin) (es : WrittenExpressions) (xs : Trees) → n.builtin_of f (arity_of es) ≡ Some b → WrittenExpressionsAre n g es xs
-        → WrittenExpressionIs n g (p.call f at es) (t.builtin b xs)
-    binary : (g : Scope) (o : Operator) (a b : WrittenExpression) (x y : Tree) → WrittenExpressionIs n g a x → WrittenExpressionIs n (after g a) b y
-        → WrittenExpressionIs n g (p.binary o a b) (t.op o x y)
-    negate : (g : Scope) (a : WrittenExpression) (x : Tree) → WrittenExpressionIs n g a x → WrittenExpressionIs n g (p.negate a) (t.neg x)
-    and_also : (g : Scope) (a b : WrittenExpression) (x y : Tree) → WrittenExpressionIs n g a x → WrittenExpressionIs n (after g a) b y → WrittenExpressionIs n g (p.and_also a b) (t.and_also x y)
-    or_else : (g : Scope) (a b : WrittenExpression) (x y : Tree) → WrittenExpressionIs n g a x → WrittenExpressionIs n (after g a) b y → WrittenExpressionIs n g (p.or_else a b) (t.or_else x y)
-    send : (g : Scope) (a b : WrittenExpression) (x y : Tree) → WrittenExpressionIs n g a x → WrittenExpressionIs n (after g a) b y → WrittenExpressionIs n g (p.send a b) (t.send x y)
-    case : (g : Scope) (a : WrittenExpression) (bs : Branches) (x : Tree) (cs : Clauses) → WrittenExpressionIs n g a x → BranchesAre n (after g a) bs cs
-        → WrittenExpressionIs n g (p.case a bs) (t.case x cs)
-    if_expression : (g : Scope) (bs : Branches) (cs : Clauses) → BranchesAre n g bs cs → WrittenExpressionIs n g (p.if_expression bs) (t.if_expression cs)
-    receive : (g : Scope) (bs : Branches) (cs : Clauses) → BranchesAre n g bs cs → WrittenExpressionIs n g (p.receive bs) (t.receive cs)
+  -- an expression, where this is seen: parentheses are gone, and a variable is its slot
+  pub data ExprIs (n : Names) : Scope → Expr → Tree → Type 0 where
+    integer : (g : Scope) (z : ℤ) → ExprIs n g (p.integer z) (lit (int z))
+    atom : (g : Scope) (a : ℕ) → ExprIs n g (p.atom a) (lit (atom_value (n.atom_of a)))
+    text : (g : Scope) (cs : List ℕ) → ExprIs n g (p.text cs) (lit (string cs))
+    variable : (g : Scope) (x at k : ℕ) → IsSlotOf g x k → ExprIs n g (p.variable x at) (var k)
+    parentheses : (g : Scope) (a : Expr) (x : Tree) → ExprIs n g a x → ExprIs n g (p.parentheses a) x
+    tuple : (g : Scope) (es : Exprs) (xs : Trees) → ExprsAre n g es xs → ExprIs n g (p.tuple es) (t.tuple xs)
+    list : (g : Scope) (es : Exprs) (xs : Trees) → ExprsAre n g es xs → ExprIs n g (p.list es) (conses xs (lit empty_list))
+    list_on : (g : Scope) (es : Exprs) (e : Expr) (xs : Trees) (x : Tree) → ExprsAre n g es xs → ExprIs n (after_all g es) e x
+        → ExprIs n g (p.list_on es e) (conses xs x)
+    own : (g : Scope) (f at i : ℕ) (es : Exprs) (xs : Trees) → n.own_of f (arity_of es) ≡ Some i → ExprsAre n g es xs
+        → ExprIs n g (p.call f at es) (t.call i xs)
+    builtin : (g : Scope) (f at : ℕ) (b : Builtin) (es : Exprs) (xs : Trees) → n.builtin_of f (arity_of es) ≡ Some b → ExprsAre n g es xs
+        → ExprIs n g (p.call f at es) (t.builtin b xs)
+    binary : (g : Scope) (o : Operator) (a b : Expr) (x y : Tree) → ExprIs n g a x → ExprIs n (after g a) b y
+        → ExprIs n g (p.binary o a b) (t.op o x y)
+    negate : (g : Scope) (a : Expr) (x : Tree) → ExprIs n g a x → ExprIs n g (p.negate a) (t.neg x)
+    and_also : (g : Scope) (a b : Expr) (x y : Tree) → ExprIs n g a x → ExprIs n (after g a) b y → ExprIs n g (p.and_also a b) (t.and_also x y)
+    or_else : (g : Scope) (a b : Expr) (x y : Tree) → ExprIs n g a x → ExprIs n (after g a) b y → ExprIs n g (p.or_else a b) (t.or_else x y)
+    send : (g : Scope) (a b : Expr) (x y : Tree) → ExprIs n g a x → ExprIs n (after g a) b y → ExprIs n g (p.send a b) (t.send x y)
+    case : (g : Scope) (a : Expr) (bs : Branches) (x : Tree) (cs : Clauses) → ExprIs n g a x → BranchesAre n (after g a) bs cs
+        → ExprIs n g (p.case a bs) (t.case x cs)
+    if_expression : (g : Scope) (bs : Branches) (cs : Clauses) → BranchesAre n g bs cs → ExprIs n g (p.if_expression bs) (t.if_expression cs)
+    receive : (g : Scope) (bs : Branches) (cs : Clauses) → BranchesAre n g bs cs → ExprIs n g (p.receive bs) (t.receive cs)
 
-  pub data WrittenExpressionsAre (n : Names) : Scope → WrittenExpressions → Trees → Type 0 where
-    no_more : (g : Scope) → WrittenExpressionsAre n g no_written_expressions no_trees
-    and_more : (g : Scope) (e : WrittenExpression) (es : WrittenExpressions) (x : Tree) (xs : Trees) → WrittenExpressionIs n g e x → WrittenExpressionsAre n (after g e) es xs
-        → WrittenExpressionsAre n g (written_expression e es) (tree x xs)
+  pub data ExprsAre (n : Names) : Scope → Exprs → Trees → Type 0 where
+    no_more : (g : Scope) → ExprsAre n g no_exprs no_trees
+    and_more : (g : Scope) (e : Expr) (es : Exprs) (x : Tree) (xs : Trees) → ExprIs n g e x → ExprsAre n (after g e) es xs
+        → ExprsAre n g (expr e es) (tree x xs)
 
   -- an element of a body: `P = Q = E` is the pattern Q, then P, and E
-  pub data ElementIs (n : Names) : Scope → WrittenExpression → Patterns → Tree → Type 0 where
-    plain : (g : Scope) (e : WrittenExpression) (x : Tree) → WrittenExpressionIs n g e x → ElementIs n g e no_patterns x
-    match : (g : Scope) (q : WrittenPattern) (e : WrittenExpression) (ys : Patterns) (y : Pattern) (x : Tree) → ElementIs n g e ys x → WrittenPatternIs n (after g e) q y
+  pub data ElementIs (n : Names) : Scope → Expr → Patterns → Tree → Type 0 where
+    plain : (g : Scope) (e : Expr) (x : Tree) → ExprIs n g e x → ElementIs n g e no_patterns x
+    match : (g : Scope) (q : ExprPattern) (e : Expr) (ys : Patterns) (y : Pattern) (x : Tree) → ElementIs n g e ys x → ExprPatternIs n (after g e) q y
         → ElementIs n g (p.match q e) (behind ys y) x
 
   -- a body: each element but the last stands before the rest
-  pub data BodyIs (n : Names) : Scope → WrittenExpressions → Tree → Type 0 where
-    last : (g : Scope) (e : WrittenExpression) (ys : Patterns) (x : Tree) → ElementIs n g e ys x → BodyIs n g (written_expression e no_written_expressions) (ending ys x)
-    before : (g : Scope) (e : WrittenExpression) (es : WrittenExpressions) (ys : Patterns) (x rest : Tree) → ElementIs n g e ys x → BodyIs n (after g e) es rest
-        → BodyIs n g (written_expression e es) (t.bind ys x rest)
+  pub data BodyIs (n : Names) : Scope → Exprs → Tree → Type 0 where
+    last : (g : Scope) (e : Expr) (ys : Patterns) (x : Tree) → ElementIs n g e ys x → BodyIs n g (expr e no_exprs) (ending ys x)
+    before : (g : Scope) (e : Expr) (es : Exprs) (ys : Patterns) (x rest : Tree) → ElementIs n g e ys x → BodyIs n (after g e) es rest
+        → BodyIs n g (expr e es) (t.bind ys x rest)
 
   pub data GuardIs (n : Names) : Scope → Condition → Guard → Type 0 where
     no_more_tests : (g : Scope) → GuardIs n g no_tests no_alternatives
-    or_tests : (g : Scope) (es : WrittenExpressions) (c : Condition) (xs : Trees) (d : Guard) → WrittenExpressionsAre n g es xs → GuardIs n g c d
+    or_tests : (g : Scope) (es : Exprs) (c : Condition) (xs : Trees) (d : Guard) → ExprsAre n g es xs → GuardIs n g c d
         → GuardIs n g (tests es c) (alternative xs d)
 
   -- clauses, each of which begins with what is seen at its construct
   pub data BranchesAre (n : Names) : Scope → Branches → Clauses → Type 0 where
     no_more_branches : (g : Scope) → BranchesAre n g no_branches no_clauses
-    and_branches : (g : Scope) (q : WrittenPattern) (c : Condition) (es : WrittenExpressions) (bs : Branches) (y : Pattern) (d : Guard) (x : Tree) (cs : Clauses)
-        → WrittenPatternIs n g q y → GuardIs n (after_written_pattern g q) c d → BodyIs n (after_written_pattern g q) es x → BranchesAre n g bs cs
+    and_branches : (g : Scope) (q : ExprPattern) (c : Condition) (es : Exprs) (bs : Branches) (y : Pattern) (d : Guard) (x : Tree) (cs : Clauses)
+        → ExprPatternIs n g q y → GuardIs n (after_expr_pattern g q) c d → BodyIs n (after_expr_pattern g q) es x → BranchesAre n g bs cs
         → BranchesAre n g (branch q c es bs) (clause y d x cs)
 
 -- a clause of a function begins with no variable
 pub record HeadIs (n : Names) (h : Head) (c : FunctionClause) : Type 0 where
-  pub parameters : WrittenPatternsAre n no_scope h.parameters c.parameters
-  pub guard : GuardIs n (after_written_patterns no_scope h.parameters) h.condition c.guard
-  pub body : BodyIs n (after_written_patterns no_scope h.parameters) h.body c.body
+  pub parameters : ExprPatternsAre n no_scope h.parameters c.parameters
+  pub guard : GuardIs n (after_expr_patterns no_scope h.parameters) h.condition c.guard
+  pub body : BodyIs n (after_expr_patterns no_scope h.parameters) h.body c.body

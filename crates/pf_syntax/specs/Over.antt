@@ -6,8 +6,8 @@ use Rattle.pf_syntax.specs.Tree.{Tree, Trees, Clauses, Guard, lit, var, tuple, c
 use Rattle.pf_syntax.specs.Operators.{operator_of, builtin_of}
 use Rattle.pf_syntax.specs.Module.{Tables, Checked, literal_at, pattern_at, tree_at}
 use Rattle.pf_syntax.specs.declared.node.PatternId.{PatternId}
-use Rattle.pf_syntax.specs.declared.node.Part.{Part}
-use Rattle.pf_syntax.specs.declared.node.Part.TheVariants as part
+use Rattle.pf_syntax.specs.declared.node.Operand.{Operand}
+use Rattle.pf_syntax.specs.declared.node.Operand.TheVariants as part
 use Rattle.pf_syntax.specs.declared.node.PatternNode.{PatternNode}
 use Rattle.pf_syntax.specs.declared.node.PatternNode.TheVariants as asks
 use Rattle.pf_syntax.specs.declared.node.Alternative.{Alternative}
@@ -41,7 +41,7 @@ pattern_over t asks.Never = never
 -- ---- expressions
 
 -- the tree of an operand
-abbrev pub part_over : Tables → Part → Tree
+abbrev pub part_over : Tables → Operand → Tree
 part_over t (part.Slot x) = var x
 part_over t (part.Int n) = lit (int n)
 part_over t (part.Atom a) = lit (atom a.0)
@@ -50,7 +50,7 @@ part_over t (part.Literal l) = lit (literal_at t l.0)
 part_over t (part.Node n) = tree_at t n.0
 
 -- the trees of operands, in order
-abbrev pub parts_over : Tables → List Part → Trees
+abbrev pub parts_over : Tables → List Operand → Trees
 parts_over t [] = no_trees
 parts_over t (p ∷ ps) = tree (part_over t p) (parts_over t ps)
 

@@ -1,10 +1,10 @@
--- Patterns, over variables that are named by their places in scope.
+-- Patterns, over variables that are named by their slots in scope.
 use Rattle.std.specs.Prelude.{ℕ}
 use Rattle.pf_terms.specs.Value.{Value}
 
 mutual
   -- a pattern: `_`, a variable that it binds, a variable that is bound, a value, a tuple, a list by its first element and its
-  -- tail, or what fits nothing. What it binds has no number: it takes the next place in scope, from left to right
+  -- tail, or what fits nothing. What it binds has no number: it takes the next slot in scope, from left to right
   pub data Pattern : Type 0 where
     any : Pattern
     new : Pattern

@@ -1,12 +1,12 @@
--- Bound and unsafe variables: the sets that stand at each place of a function clause, and how they pass through it.
+-- Bound and unsafe variables: the sets that stand at each point of a function clause, and how they pass through it.
 use Rattle.std.specs.Prelude.{ℕ, ◌==◌, ◌||◌, not, Bool, if◌then◌else◌, List, [], ◌∷◌, ◌++◌, filter}
 use Rattle.std.specs.List.{list_any}
-use Rattle.pf_syntax.specs.WrittenPattern as s
-use Rattle.pf_syntax.specs.WrittenPattern.{WrittenPattern, WrittenPatterns, no_written_patterns, written_pattern}
-use Rattle.pf_syntax.specs.WrittenExpression as p
-use Rattle.pf_syntax.specs.WrittenExpression.{WrittenExpression, WrittenExpressions, Branches, no_written_expressions, written_expression, no_branches, branch}
+use Rattle.pf_syntax.specs.ExprPattern as s
+use Rattle.pf_syntax.specs.ExprPattern.{ExprPattern, ExprPatterns, no_expr_patterns, expr_pattern}
+use Rattle.pf_syntax.specs.Expr as p
+use Rattle.pf_syntax.specs.Expr.{Expr, Exprs, Branches, no_exprs, expr, no_branches, branch}
 
--- what is seen at a place of a function clause: the names of the variables that are bound, in the order of binding, and of those
+-- what is seen at a point of a function clause: the names of the variables that are bound, in the order of binding, and of those
 -- that are unsafe
 pub record Scope : Type 0 where
   pub bound : List ℕ
@@ -32,19 +32,19 @@ binding g x = if is_new g x then record { bound = g.bound ++ x ∷ []; unsafe = 
 
 -- after a pattern, from left to right
 abbrev mutual
-  pub after_written_pattern : Scope → WrittenPattern → Scope
-  after_written_pattern g (s.variable x at) = binding g x
-  after_written_pattern g (s.tuple ps) = after_written_patterns g ps
-  after_written_pattern g (s.list ps) = after_written_patterns g ps
-  after_written_pattern g (s.list_on ps q) = after_written_pattern (after_written_patterns g ps) q
-  after_written_pattern g (s.integer n) = g
-  after_written_pattern g (s.atom a) = g
-  after_written_pattern g (s.text cs) = g
-  after_written_pattern g s.anything = g
+  pub after_expr_pattern : Scope → ExprPattern → Scope
+  after_expr_pattern g (s.variable x at) = binding g x
+  after_expr_pattern g (s.tuple ps) = after_expr_patterns g ps
+  after_expr_pattern g (s.list ps) = after_expr_patterns g ps
+  after_expr_pattern g (s.list_on ps q) = after_expr_pattern (after_expr_patterns g ps) q
+  after_expr_pattern g (s.integer n) = g
+  after_expr_pattern g (s.atom a) = g
+  after_expr_pattern g (s.text cs) = g
+  after_expr_pattern g s.anything = g
 
-  pub after_written_patterns : Scope → WrittenPatterns → Scope
-  after_written_patterns g no_written_patterns = g
-  after_written_patterns g (written_pattern q qs) = after_written_patterns (after_written_pattern g q) qs
+  pub after_expr_patterns : Scope → ExprPatterns → Scope
+  after_expr_patterns g no_expr_patterns = g
+  after_expr_patterns g (expr_pattern q qs) = after_expr_patterns (after_expr_pattern g q) qs
 
 -- after a construct: of the names that its clauses end with, each that was not bound before is unsafe
 abbrev pub leaving : Scope → List ℕ → Scope
@@ -57,7 +57,7 @@ names_of g = g.bound ++ g.unsafe
 -- after an expression, from left to right, but in a match through the right side first. A clause begins with what is seen at its
 -- construct, and a guard changes nothing
 abbrev mutual
-  pub after : Scope → WrittenExpression → Scope
+  pub after : Scope → Expr → Scope
   after g (p.integer n) = g
   after g (p.atom a) = g
   after g (p.text cs) = g
@@ -73,16 +73,16 @@ abbrev mutual
   after g (p.and_also a b) = after (after g a) b
   after g (p.or_else a b) = after (after g a) b
   after g (p.send a b) = after (after g a) b
-  after g (p.match q a) = after_written_pattern (after g a) q
+  after g (p.match q a) = after_expr_pattern (after g a) q
   after g (p.case a bs) = leaving (after g a) (ends_of (after g a) bs)
   after g (p.if_expression bs) = leaving g (ends_of g bs)
   after g (p.receive bs) = leaving g (ends_of g bs)
 
-  pub after_all : Scope → WrittenExpressions → Scope
-  after_all g no_written_expressions = g
-  after_all g (written_expression e es) = after_all (after g e) es
+  pub after_all : Scope → Exprs → Scope
+  after_all g no_exprs = g
+  after_all g (expr e es) = after_all (after g e) es
 
   -- what is seen at the ends of the clauses
   pub ends_of : Scope → Branches → List ℕ
   ends_of g no_branches = []
-  ends_of g (branch q c es bs) = names_of (after_all (after_written_pattern g q) es) ++ ends_of g bs
+  ends_of g (branch q c es bs) = names_of (after_all (after_expr_pattern g q) es) ++ ends_of g bs

@@ -1,66 +1,63 @@
 //! The measures of nodes, from those of their parts.
 
 ghost use Rattle.std.specs.Prelude.{◌≡◌, ◌+◌, max};
-ghost use Rattle.pf_syntax.specs.WrittenPattern.{written_pattern_depth, written_pattern_size, written_patterns_depth, written_patterns_size};
-ghost use Rattle.pf_syntax.specs.WrittenExpression.{branches_depth, branches_size, condition_depth, condition_size, written_expression_depth, written_expression_size, written_expressions_depth, written_expressions_size};
+ghost use Rattle.pf_syntax.specs.ExprPattern.{expr_pattern_depth, expr_pattern_size, expr_patterns_depth, expr_patterns_size};
+ghost use Rattle.pf_syntax.specs.Expr.{branches_depth, branches_size, condition_depth, condition_size, expr_depth, expr_size, exprs_depth, exprs_size};
 ghost use Rattle.pf_syntax.specs.Measure.{capped, IsCappedMeasure};
-ghost use Rattle.pf_syntax.specs.Source.{written_expression_at, written_pattern_at};
-ghost use Rattle.pf_syntax.specs.SourceOver.{branch_depth, branch_size, branches_over, condition_over, written_expression_over, written_expressions_at, written_pattern_over, written_patterns_at};
+ghost use Rattle.pf_syntax.specs.SyntaxTree.{expr_at, expr_pattern_at};
+ghost use Rattle.pf_syntax.specs.SyntaxTreeOver.{branch_depth, branch_size, branches_over, condition_over, expr_over, exprs_at, expr_pattern_over, expr_patterns_at};
 
+use crate::expr::{Branch, Condition, ExprId, ExprNode, ExprPatternId, ExprPatternNode};
 use crate::measure::Measure;
-use crate::source::Source;
-use crate::written::{
-    Branch, Condition, WrittenExpressionId, WrittenExpressionNode, WrittenPatternId,
-    WrittenPatternNode,
-};
+use crate::syntax_tree::SyntaxTree;
 
-impl Source {
+impl SyntaxTree {
     /// How many nodes a pattern has: a leaf 1, else 1 more than its parts have together.
-    pub fn written_pattern_size(&self, id: WrittenPatternId) -> u32
-        ensures { result ≡ written_pattern_size (written_pattern_at self.now.node_table id.0) }
+    pub fn expr_pattern_size(&self, id: ExprPatternId) -> u32
+        ensures { result ≡ expr_pattern_size (expr_pattern_at self.now.node_table id.0) }
     {
-        self.written_pattern_measure(id).size
+        self.expr_pattern_measure(id).size
     }
 
     /// How deep a pattern is: a leaf 1, else 1 more than its deepest part.
-    pub fn written_pattern_depth(&self, id: WrittenPatternId) -> u32
-        ensures { result ≡ written_pattern_depth (written_pattern_at self.now.node_table id.0) }
+    pub fn expr_pattern_depth(&self, id: ExprPatternId) -> u32
+        ensures { result ≡ expr_pattern_depth (expr_pattern_at self.now.node_table id.0) }
     {
-        self.written_pattern_measure(id).depth
+        self.expr_pattern_measure(id).depth
     }
 
     /// How many nodes an expression has: a leaf 1, else 1 more than its parts have together.
-    pub fn size(&self, id: WrittenExpressionId) -> u32
-        ensures { result ≡ written_expression_size (written_expression_at self.now.node_table id.0) }
+    pub fn size(&self, id: ExprId) -> u32
+        ensures { result ≡ expr_size (expr_at self.now.node_table id.0) }
     {
-        self.written_expression_measure(id).size
+        self.expr_measure(id).size
     }
 
     /// How deep an expression is: a leaf 1, else 1 more than its deepest part.
-    pub fn depth(&self, id: WrittenExpressionId) -> u32
-        ensures { result ≡ written_expression_depth (written_expression_at self.now.node_table id.0) }
+    pub fn depth(&self, id: ExprId) -> u32
+        ensures { result ≡ expr_depth (expr_at self.now.node_table id.0) }
     {
-        self.written_expression_measure(id).depth
+        self.expr_measure(id).depth
     }
 
     /// Of these patterns together.
-    fn written_patterns_measure(&self, parts: &[WrittenPatternId]) -> Measure
-        ensures { IsCappedMeasure result (written_patterns_size (written_patterns_at self.now.node_table parts.now)) (written_patterns_depth (written_patterns_at self.now.node_table parts.now)) }
+    fn expr_patterns_measure(&self, parts: &[ExprPatternId]) -> Measure
+        ensures { IsCappedMeasure result (expr_patterns_size (expr_patterns_at self.now.node_table parts.now)) (expr_patterns_depth (expr_patterns_at self.now.node_table parts.now)) }
     {
         let mut total = Measure::NONE;
         for part in parts {
-            total = total.beside(self.written_pattern_measure(*part));
+            total = total.beside(self.expr_pattern_measure(*part));
         }
         total
     }
 
     /// Of these expressions together.
-    fn written_expressions_measure(&self, parts: &[WrittenExpressionId]) -> Measure
-        ensures { IsCappedMeasure result (written_expressions_size (written_expressions_at self.now.node_table parts.now)) (written_expressions_depth (written_expressions_at self.now.node_table parts.now)) }
+    fn exprs_measure(&self, parts: &[ExprId]) -> Measure
+        ensures { IsCappedMeasure result (exprs_size (exprs_at self.now.node_table parts.now)) (exprs_depth (exprs_at self.now.node_table parts.now)) }
     {
         let mut total = Measure::NONE;
         for part in parts {
-            total = total.beside(self.written_expression_measure(*part));
+            total = total.beside(self.expr_measure(*part));
         }
         total
     }
@@ -71,7 +68,7 @@ impl Source {
     {
         let mut total = Measure::NONE;
         for alternative in &condition.alternatives {
-            total = total.beside(self.written_expressions_measure(&alternative.tests));
+            total = total.beside(self.exprs_measure(&alternative.tests));
         }
         total
     }
@@ -81,8 +78,8 @@ impl Source {
         ensures { IsCappedMeasure result (branch_size self.now.node_table branch.now) (branch_depth self.now.node_table branch.now) }
     {
         let tests = self.condition_measure(&branch.condition);
-        let body = self.written_expressions_measure(&branch.body);
-        self.written_pattern_measure(branch.written_pattern)
+        let body = self.exprs_measure(&branch.body);
+        self.expr_pattern_measure(branch.expr_pattern)
             .beside(tests.beside(body))
     }
 
@@ -98,16 +95,16 @@ impl Source {
     }
 
     /// Of a pattern's node.
-    pub(crate) fn written_pattern_node_measure(&self, node: &WrittenPatternNode) -> Measure
-        ensures { IsCappedMeasure result (written_pattern_size (written_pattern_over self.now.node_table node.now)) (written_pattern_depth (written_pattern_over self.now.node_table node.now)) }
+    pub(crate) fn expr_pattern_node_measure(&self, node: &ExprPatternNode) -> Measure
+        ensures { IsCappedMeasure result (expr_pattern_size (expr_pattern_over self.now.node_table node.now)) (expr_pattern_depth (expr_pattern_over self.now.node_table node.now)) }
     {
         match node {
-            WrittenPatternNode::Tuple(parts) | WrittenPatternNode::List(parts) => self
-                .written_patterns_measure(parts)
+            ExprPatternNode::Tuple(parts) | ExprPatternNode::List(parts) => self
+                .expr_patterns_measure(parts)
                 .under(),
-            WrittenPatternNode::ListOn(parts, tail) => {
-                self.written_patterns_measure(parts)
-                    .beside(self.written_pattern_measure(*tail))
+            ExprPatternNode::ListOn(parts, tail) => {
+                self.expr_patterns_measure(parts)
+                    .beside(self.expr_pattern_measure(*tail))
                     .under()
             }
             _ => Measure::LEAF,
@@ -115,48 +112,44 @@ impl Source {
     }
 
     /// Of two expressions under a node.
-    fn pair_measure(&self, a: WrittenExpressionId, b: WrittenExpressionId) -> Measure
-        ensures size { result.size ≡ capped (1 + (written_expression_size (written_expression_at self.now.node_table a.0) + written_expression_size (written_expression_at self.now.node_table b.0))) }
-        ensures depth { result.depth ≡ capped (1 + max (written_expression_depth (written_expression_at self.now.node_table a.0)) (written_expression_depth (written_expression_at self.now.node_table b.0))) }
+    fn pair_measure(&self, a: ExprId, b: ExprId) -> Measure
+        ensures size { result.size ≡ capped (1 + (expr_size (expr_at self.now.node_table a.0) + expr_size (expr_at self.now.node_table b.0))) }
+        ensures depth { result.depth ≡ capped (1 + max (expr_depth (expr_at self.now.node_table a.0)) (expr_depth (expr_at self.now.node_table b.0))) }
     {
-        self.written_expression_measure(a)
-            .beside(self.written_expression_measure(b))
-            .under()
+        self.expr_measure(a).beside(self.expr_measure(b)).under()
     }
 
     /// Of an expression's node.
-    pub(crate) fn written_expression_node_measure(&self, node: &WrittenExpressionNode) -> Measure
-        ensures { IsCappedMeasure result (written_expression_size (written_expression_over self.now.node_table node.now)) (written_expression_depth (written_expression_over self.now.node_table node.now)) }
+    pub(crate) fn expr_node_measure(&self, node: &ExprNode) -> Measure
+        ensures { IsCappedMeasure result (expr_size (expr_over self.now.node_table node.now)) (expr_depth (expr_over self.now.node_table node.now)) }
     {
         match node {
-            WrittenExpressionNode::Parentheses(part) | WrittenExpressionNode::Negate(part) => {
-                self.written_expression_measure(*part).under()
+            ExprNode::Parentheses(part) | ExprNode::Negate(part) => {
+                self.expr_measure(*part).under()
             }
-            WrittenExpressionNode::Tuple(parts)
-            | WrittenExpressionNode::List(parts)
-            | WrittenExpressionNode::Call(_, parts) => {
-                self.written_expressions_measure(parts).under()
+            ExprNode::Tuple(parts) | ExprNode::List(parts) | ExprNode::Call(_, parts) => {
+                self.exprs_measure(parts).under()
             }
-            WrittenExpressionNode::ListOn(parts, tail) => {
-                self.written_expressions_measure(parts)
-                    .beside(self.written_expression_measure(*tail))
+            ExprNode::ListOn(parts, tail) => {
+                self.exprs_measure(parts)
+                    .beside(self.expr_measure(*tail))
                     .under()
             }
-            WrittenExpressionNode::Binary(_, a, b)
-            | WrittenExpressionNode::AndAlso(a, b)
-            | WrittenExpressionNode::OrElse(a, b)
-            | WrittenExpressionNode::Send(a, b) => self.pair_measure(*a, *b),
-            WrittenExpressionNode::Match(written_pattern, part) => {
-                self.written_pattern_measure(*written_pattern)
-                    .beside(self.written_expression_measure(*part))
+            ExprNode::Binary(_, a, b)
+            | ExprNode::AndAlso(a, b)
+            | ExprNode::OrElse(a, b)
+            | ExprNode::Send(a, b) => self.pair_measure(*a, *b),
+            ExprNode::Match(expr_pattern, part) => {
+                self.expr_pattern_measure(*expr_pattern)
+                    .beside(self.expr_measure(*part))
                     .under()
             }
-            WrittenExpressionNode::Case(part, branches) => {
-                self.written_expression_measure(*part)
+            ExprNode::Case(part, branches) => {
+                self.expr_measure(*part)
                     .beside(self.branches_measure(branches))
                     .under()
             }
-            WrittenExpressionNode::If(branches) | WrittenExpressionNode::Receive(branches) => {
+            ExprNode::If(branches) | ExprNode::Receive(branches) => {
                 self.branches_measure(branches).under()
             }
             _ => Measure::LEAF,

@@ -8,7 +8,7 @@ ghost use Rattle.pf_syntax.specs.Tree.{lit};
 ghost use Rattle.pf_syntax.specs.Module.{empty, first_named, literal_at, pattern_at, tree_at};
 ghost use Rattle.pf_syntax.specs.Root.{root_of};
 ghost use Rattle.pf_syntax.specs.Over.{function_over, pattern_over, tree_over, with_function, with_literal, with_pattern, with_tables, with_tree};
-ghost use Rattle.pf_syntax.specs.Within.{FunctionStands, PartsStand, PatternPartsStand};
+ghost use Rattle.pf_syntax.specs.Within.{FunctionRepresents, PartsStand, PatternPartsStand};
 
 use crate::node::{Function, FunctionId, LiteralId, Node, NodeId, PatternId, PatternNode};
 use crate::table::{entry, next_id};
@@ -43,8 +43,8 @@ impl Model for Module {
     ghost invariant = { Sound };
 }
 
-/// The place of the first function of this name that takes so many arguments.
-fn place(functions: &[Function], name: AtomId, arity: u32) -> Option<usize>
+/// The index of the first function of this name that takes so many arguments.
+fn index_of(functions: &[Function], name: AtomId, arity: u32) -> Option<usize>
     ensures { result ≡ position (λ f. (f.name.0 == name.0) && (f.arity == arity)) functions.now }
 {
     functions
@@ -104,7 +104,7 @@ impl Module {
 
     /// Adds a function after its parts.
     pub fn add_function(&mut self, function: Function) -> Result<FunctionId, NoMemory>
-        requires { FunctionStands self.old.tables function }
+        requires { FunctionRepresents self.old.tables function }
         ensures id { IfOk result (λ f. f.0 ≡ length self.old.functions) }
         ensures added { OnOk result (self.new ≡ with_function self.old function) }
         ensures err { OnErr result (self.new ≡ self.old) }
@@ -174,7 +174,7 @@ impl Module {
     pub fn find(&self, name: AtomId, arity: u32) -> Option<FunctionId>
         ensures { MatchOption result (first_named name.0 arity self.now.functions ≡ None) (λ f. first_named name.0 arity self.now.functions ≡ Some f.0) }
     {
-        let index = place(&self.functions, name, arity)?;
+        let index = index_of(&self.functions, name, arity)?;
         Some(FunctionId(index as u32))
     }
 

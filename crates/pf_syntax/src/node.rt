@@ -19,9 +19,9 @@ pub struct NodeId(pub u32);
 #[derive(Clone, Copy, PartialEq, Eq, Debug)]
 pub struct FunctionId(pub u32);
 
-/// An operand: a variable by its place in scope, a literal, or another node.
+/// An operand: a variable by its slot in scope, a literal, or another node.
 #[derive(Clone, Copy, PartialEq, Eq, Debug)]
-pub enum Part {
+pub enum Operand {
     Slot(u32),
     Int(i64),
     Atom(AtomId),
@@ -36,7 +36,7 @@ pub enum Part {
 pub enum PatternNode {
     /// `_`.
     Any,
-    /// A variable that is bound here, at the next place in scope.
+    /// A variable that is bound here, at the next slot in scope.
     New,
     /// A variable that is bound already.
     Slot(u32),
@@ -55,7 +55,7 @@ pub enum PatternNode {
 /// An alternative of a guard, which holds where all its tests do.
 #[derive(Drop)]
 pub struct Alternative {
-    pub tests: Vec<Part>,
+    pub tests: Vec<Operand>,
 }
 
 /// The alternatives of a guard. With no `when` there is none.
@@ -69,34 +69,34 @@ pub struct Guard {
 pub struct Clause {
     pub pattern: PatternId,
     pub guard: Guard,
-    pub body: Part,
+    pub body: Operand,
 }
 
 /// An expression that takes a step, with its operands (Erlang Reference Manual, "Expressions").
 #[derive(Drop)]
 pub enum Node {
-    Tuple(Vec<Part>),
+    Tuple(Vec<Operand>),
     /// A list by its first element and its tail.
-    Cons(Part, Part),
-    Binary(Operator, Part, Part),
-    Negate(Part),
+    Cons(Operand, Operand),
+    Binary(Operator, Operand, Operand),
+    Negate(Operand),
     /// `andalso`.
-    AndAlso(Part, Part),
+    AndAlso(Operand, Operand),
     /// `orelse`.
-    OrElse(Part, Part),
+    OrElse(Operand, Operand),
     /// A call of an own function.
-    Call(FunctionId, Vec<Part>),
-    Builtin(Builtin, Vec<Part>),
+    Call(FunctionId, Vec<Operand>),
+    Builtin(Builtin, Vec<Operand>),
     /// `P = .. = E` at the end of a body, the innermost pattern first.
-    Match(Vec<PatternId>, Part),
+    Match(Vec<PatternId>, Operand),
     /// `P = .. = E` before a comma and the rest of the body; with no pattern it is `E, rest`.
-    Bind(Vec<PatternId>, Part, Part),
-    Case(Part, Vec<Clause>),
+    Bind(Vec<PatternId>, Operand, Operand),
+    Case(Operand, Vec<Clause>),
     /// `if`.
     If(Vec<Clause>),
     Receive(Vec<Clause>),
     /// `!`.
-    Send(Part, Part),
+    Send(Operand, Operand),
 }
 
 /// A clause of a function.
@@ -104,7 +104,7 @@ pub enum Node {
 pub struct FunctionClause {
     pub parameters: Vec<PatternId>,
     pub guard: Guard,
-    pub body: Part,
+    pub body: Operand,
 }
 
 /// A function of a module.

@@ -21,9 +21,9 @@ use Rattle.pf_ties.specs.Laws as law
 use Rattle.pf_ties.specs.Laws.{ties_of}
 use Rattle.pf_ties.proofs.Followed.{follow_actions}
 use Rattle.pf_stepper.specs.Turns.{told_of}
-use Rattle.pf_system.specs.Acts.{Answers, ActedSo, ActsAs}
-use Rattle.pf_system.specs.declared.bonds.Answer.{Answer}
-use Rattle.pf_system.specs.declared.bonds.Bonds.{Bonds}
+use Rattle.pf_system.specs.Acts.{Answers, CarriesOut, ActsAs}
+use Rattle.pf_system.specs.declared.shared.Answer.{Answer}
+use Rattle.pf_system.specs.declared.shared.Shared.{Shared}
 
 -- ---- operands of another kind
 
@@ -79,15 +79,15 @@ ties_at_of a [] = refl
 ties_at_of zero (p ∷ ps) = refl
 ties_at_of (suc a) (p ∷ ps) = ties_at_of a ps
 
-module _ (a : ℕ) (b b' : Bonds) (r : Answer) where
+module _ (a : ℕ) (b b' : Shared) (r : Answer) where
   abbrev Refuses : Type 0
   Refuses = (c : Core) → Answers r (raising c badarg)
 
   -- ---- what is refused changes nothing
 
-  raised : (x : Acted) (c : Core) → ties_of c ≡ b.ties → x ≡ raising c badarg → Refuses → b' ≡ b → ActedSo x a b r b'
+  raised : (x : Acted) (c : Core) → ties_of c ≡ b.ties → x ≡ raising c badarg → Refuses → b' ≡ b → CarriesOut x a b r b'
   raised x c t e k q =
-      subst (λ y. ActedSo y a b r b') (sym e)
+      subst (λ y. CarriesOut y a b r b') (sym e)
       (record { ties = t ∙ ap (λ z. z.ties) (sym q); channels = ap (λ z. z.channels) q; answers = k c })
 
   pub link_refused : (v : Value) → as_pid v ≡ None → Refuses → b' ≡ b → ActsAs a (link v) b r b'
@@ -150,19 +150,19 @@ module _ (a : ℕ) (b b' : Bonds) (r : Answer) where
   pub sends_so : (v w : Value) (p : ℕ) → ((c : Core) → ties_of c ≡ b.ties → Some p ≡ receiver c v) → b'.ties ≡ b.ties → b'.channels ≡ sent a p (signal.message w) b.channels
       → told_of r.value ≡ Ok w → label_of r.label ≡ label.sends p w → ActsAs a (send v w) b r b'
   sends_so v w p e q s x y m c t =
-      subst (λ o. ActedSo (given c o (λ p. gives c ((p, signal.message w) ∷ []) w (label.sends p w))) a b r b') (e c t)
+      subst (λ o. CarriesOut (given c o (λ p. gives c ((p, signal.message w) ∷ []) w (label.sends p w))) a b r b') (e c t)
       (record { ties = t ∙ sym q; channels = s; answers = record { value = x; label = y } })
 
   pub exits_so : (v w : Value) (p : ℕ) → v ≡ pid p → b'.ties ≡ b.ties → b'.channels ≡ sent a p (signal.exit false w) b.channels → GivesTrue (label.exits p w)
       → ActsAs a (exit_other v w) b r b'
   exits_so v w p e q s x m c t =
-      subst (λ o. ActedSo (given c (as_pid o) (λ p. gives c ((p, signal.exit false w) ∷ []) true_atom (label.exits p w))) a b r b') (sym e)
+      subst (λ o. CarriesOut (given c (as_pid o) (λ p. gives c ((p, signal.exit false w) ∷ []) true_atom (label.exits p w))) a b r b') (sym e)
       (record { ties = t ∙ sym q; channels = s; answers = x c ((p, signal.exit false w) ∷ []) })
 
   pub links_so : (v : Value) (p : ℕ) (new' : Bool) → v ≡ pid p → new' ≡ ties.is_new_link b.ties a p → b'.ties ≡ ties.linked b.ties a p
       → b'.channels ≡ posted a (law.only_if new' (p, signal.link)) b.channels → GivesTrue (label.links p) → ActsAs a (link v) b r b'
   links_so v p new' e n q s x m c t =
-      subst (λ o. ActedSo (given c (as_pid o) (linked_to c a)) a b r b') (sym e)
+      subst (λ o. CarriesOut (given c (as_pid o) (linked_to c a)) a b r b') (sym e)
       (record {
         ties = follow_actions.link c a p ∙ ap (λ z. ties.linked z a p) t ∙ sym q;
         channels = s ∙ ap (λ z. posted a (law.only_if z (p, signal.link)) b.channels) (n ∙ ap (λ z. ties.is_new_link z a p) (sym t))
@@ -174,7 +174,7 @@ module _ (a : ℕ) (b b' : Bonds) (r : Answer) where
   pub unlinks_so : (v : Value) (p : ℕ) (was : Bool) → v ≡ pid p → was ≡ has p (ties.of b.ties a).links → b'.ties ≡ ties.unlinked b.ties a p
       → b'.channels ≡ posted a (law.only_if was (p, signal.unlink)) b.channels → GivesTrue (label.unlinks p) → ActsAs a (unlink v) b r b'
   unlinks_so v p was e n q s x m c t =
-      subst (λ o. ActedSo (given c (as_pid o) (unlinked_from c a)) a b r b') (sym e)
+      subst (λ o. CarriesOut (given c (as_pid o) (unlinked_from c a)) a b r b') (sym e)
       (record {
         ties = follow_actions.unlink c a p ∙ ap (λ z. ties.unlinked z a p) t ∙ sym q;
         channels = s ∙ ap (λ z. posted a (law.only_if z (p, signal.unlink)) b.channels) (n ∙ ap (λ z. has p (ties.of z a).links) (sym t))
@@ -184,7 +184,7 @@ module _ (a : ℕ) (b b' : Bonds) (r : Answer) where
 
   pub watches_so : (c : Core) (p k : ℕ) → ties_of c ≡ b.ties → k ≡ b.ties.next_reference → b'.ties ≡ ties.monitored b.ties a p
       → b'.channels ≡ sent a p (signal.monitor k) b.channels → told_of r.value ≡ Ok (ref k) → label_of r.label ≡ label.monitors k p
-      → ActedSo (monitored c a p) a b r b'
+      → CarriesOut (monitored c a p) a b r b'
   watches_so c p k t n q s x y =
       let e : k ≡ c.next_reference = n ∙ ap (λ z. z.next_reference) (sym t) in
       record {
@@ -193,11 +193,11 @@ module _ (a : ℕ) (b b' : Bonds) (r : Answer) where
         answers = record { value = x ∙ ap (λ z. Ok (ref z)) e; label = y ∙ ap (λ z. label.monitors z p) e };
       }
 
-  pub monitors_so : (v w : Value) (p : ℕ) → w ≡ pid p → same v process ≡ true → ((c : Core) → ties_of c ≡ b.ties → ActedSo (monitored c a p) a b r b')
+  pub monitors_so : (v w : Value) (p : ℕ) → w ≡ pid p → same v process ≡ true → ((c : Core) → ties_of c ≡ b.ties → CarriesOut (monitored c a p) a b r b')
       → ActsAs a (monitor v w) b r b'
   monitors_so v w p e f k m c t =
-      subst (λ o. ActedSo (given c (as_pid o) (λ p. only_if c (same v process) (monitored c a p))) a b r b') (sym e)
-      (subst (λ z. ActedSo (only_if c z (monitored c a p)) a b r b') (sym f) (k c t))
+      subst (λ o. CarriesOut (given c (as_pid o) (λ p. only_if c (same v process) (monitored c a p))) a b r b') (sym e)
+      (subst (λ z. CarriesOut (only_if c z (monitored c a p)) a b r b') (sym f) (k c t))
 
   demonitored_sent : (c : Core) (k : ℕ) (o : Option ℕ) → (demonitored c a k o).left.sent ≡ to_watched k o
   demonitored_sent c k None = refl
@@ -217,7 +217,7 @@ module _ (a : ℕ) (b b' : Bonds) (r : Answer) where
 
   pub demonitors_so : (k : ℕ) (f : Bool) (o : Option ℕ) → o ≡ got k (ties.of b.ties a).active → b'.ties ≡ ties.demonitored b.ties a k
       → b'.channels ≡ posted a (to_watched k o) b.channels → GivesTrue (label.demonitors f k)
-      → (c : Core) → ties_of c ≡ b.ties → ActedSo (demonitored_so c a k f) a b r b'
+      → (c : Core) → ties_of c ≡ b.ties → CarriesOut (demonitored_so c a k f) a b r b'
   demonitors_so k f o n q s x c t =
       let g : o ≡ got k (of c a).active = n ∙ ap (λ z. got k (ties.of z a).active) (sym t) ∙ ap (λ z. got k z.active) (ties_at_of a c.processes) in
       record {
@@ -240,8 +240,8 @@ module _ (a : ℕ) (b b' : Bonds) (r : Answer) where
       → b'.channels ≡ b.channels → told_of r.value ≡ Ok (truth was) → label_of r.label ≡ label.sets_flag p → ActsAs a (set_flag v w) b r b'
   sets_so v w p was e f n q s x y m c t =
       let g : was ≡ (of c a).traps_exits = n ∙ ap (λ z. (ties.of z a).traps_exits) (sym t) ∙ ap (λ z. z.traps_exits) (ties_at_of a c.processes) in
-      subst (λ z. ActedSo (given c z (λ p. only_if c (same v trap_exit) (flag_set c a p))) a b r b') (sym e)
-      (subst (λ z. ActedSo (only_if c z (flag_set c a p)) a b r b') (sym f)
+      subst (λ z. CarriesOut (given c z (λ p. only_if c (same v trap_exit) (flag_set c a p))) a b r b') (sym e)
+      (subst (λ z. CarriesOut (only_if c z (flag_set c a p)) a b r b') (sym f)
       (record {
         ties = follow_actions.set_flag c a p ∙ ap (λ z. ties.flag_set z a p) t ∙ sym q;
         channels = s;
@@ -252,9 +252,9 @@ module _ (a : ℕ) (b b' : Bonds) (r : Answer) where
       → b'.channels ≡ b.channels → GivesTrue (label.registers n p) → ActsAs a (register v w) b r b'
   registers_so v w n p e f g q s x m c t =
       let h : may_register c n p ≡ true = follow_actions.may_register c n p ∙ ap (λ z. ties.may_register z n p) t ∙ g in
-      subst (λ z. ActedSo (given c (as_atom z) (λ x. given c (as_pid w) (registered c x))) a b r b') (sym e)
-      (subst (λ z. ActedSo (given c (as_pid z) (registered c n)) a b r b') (sym f)
-      (subst (λ z. ActedSo (only_if c z (gives (record c { names = put n p c.names }) [] true_atom (label.registers n p))) a b r b') (sym h)
+      subst (λ z. CarriesOut (given c (as_atom z) (λ x. given c (as_pid w) (registered c x))) a b r b') (sym e)
+      (subst (λ z. CarriesOut (given c (as_pid z) (registered c n)) a b r b') (sym f)
+      (subst (λ z. CarriesOut (only_if c z (gives (record c { names = put n p c.names }) [] true_atom (label.registers n p))) a b r b') (sym h)
       (record {
         ties = follow_actions.names c (put n p c.names) ∙ ap (λ z. ties.with_names z (put n p z.names)) t ∙ sym q;
         channels = s;
@@ -272,8 +272,8 @@ module _ (a : ℕ) (b b' : Bonds) (r : Answer) where
       → b'.channels ≡ b.channels → GivesTrue (label.unregisters n) → ActsAs a (unregister v) b r b'
   unregisters_so v n e g q s x m c t =
       let h : is_some (got n c.names) ≡ true = ap (λ z. is_some (got n z.names)) t ∙ g in
-      subst (λ z. ActedSo (given c (as_atom z) (unregistered c)) a b r b') (sym e)
-      (subst (λ z. ActedSo (only_if c z (gives (record c { names = without n c.names }) [] true_atom (label.unregisters n))) a b r b') (sym h)
+      subst (λ z. CarriesOut (given c (as_atom z) (unregistered c)) a b r b') (sym e)
+      (subst (λ z. CarriesOut (only_if c z (gives (record c { names = without n c.names }) [] true_atom (label.unregisters n))) a b r b') (sym h)
       (record {
         ties = follow_actions.names c (without n c.names) ∙ ap (λ z. ties.with_names z (without n z.names)) t ∙ sym q;
         channels = s;
@@ -291,7 +291,7 @@ module _ (a : ℕ) (b b' : Bonds) (r : Answer) where
       → label_of r.label ≡ label.looks_up n → ActsAs a (whereis v) b r b'
   looks_up_so v n o e g q x y m c t =
       let h : o ≡ got n c.names = g ∙ ap (λ z. got n z.names) (sym t) in
-      subst (λ z. ActedSo (given c (as_atom z) (λ x. gives c [] (pid_or_undefined (got x c.names)) (label.looks_up x))) a b r b') (sym e)
+      subst (λ z. CarriesOut (given c (as_atom z) (λ x. gives c [] (pid_or_undefined (got x c.names)) (label.looks_up x))) a b r b') (sym e)
       (record {
         ties = t ∙ ap (λ z. z.ties) (sym q);
         channels = ap (λ z. z.channels) q;

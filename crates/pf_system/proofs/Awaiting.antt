@@ -11,9 +11,9 @@ use Rattle.pf_patterns.specs.Substitution.{sub, sub_patterns}
 use Rattle.pf_syntax.specs.Pattern.{Patterns, no_patterns, pattern}
 use Rattle.pf_syntax.specs.Tree.{Tree, Clauses, Builtin, Function, lit, var, tuple, cons, op, neg, and_also, or_else, call, builtin, match, bind, case, if_expression, receive, send}
 use Rattle.pf_syntax.specs.Tree as b
-use Rattle.pf_model.specs.Code.{Code}
+use Rattle.pf_model.specs.Module.{Module}
 use Rattle.pf_model.specs.Contraction.{Change, Becomes, Raises, Exits, Asks, Awaits, worked_out, picked, picked_by_all, body_or_raise, entered, fits_or, matches_left, matched, bound, decided, computed_or_undefined, called, as_value, as_values, with_both, contract}
-use Rattle.pf_model.specs.Place.{Frame, Place, fill, moved, awaits, Moves, at_value, at_place}
+use Rattle.pf_model.specs.Context.{Frame, Context, fill, moved, awaits, Moves, at_value, at_index}
 
 abbrev NoWait : Change → Type 0
 NoWait (Becomes t) = Unit {0}
@@ -84,7 +84,7 @@ called_goes own b.spawn_monitor (more m (more f (more vs none))) = tt
 called_goes own b.demonitor_with (more r (more o none)) = tt
 called_goes own f vs = computed_goes (computed own f vs)
 
-module _ (m : Code) (own : ℕ) where
+module _ (m : Module) (own : ℕ) where
   entered_goes : (o : Option Function) (vs : Values) → NoWait (entered m own o vs)
   entered_goes None vs = tt
   entered_goes (Some g) vs = body_goes (picked_by_all m own g.clauses vs) function_clause
@@ -114,12 +114,12 @@ module _ (m : Code) (own : ℕ) where
   waits_at (send a t) = by_change (send a t) (both _ (as_value a) (as_value t) (λ v w. tt))
 
   module _ (t : Tree) (fs : List Frame) (ks : Clauses) where
-    by_place : (gs : List Frame) (r : Tree) (x : Change) → Place m own t gs r x → awaits fs ks ≡ moved gs x → fill fs (receive ks) ≡ t
-    by_place gs r (Becomes u) p e = absurd (cc)
-    by_place gs r (Raises u) p e = absurd (cc)
-    by_place gs r (Exits u) p e = absurd (cc)
-    by_place gs r (Asks u) p e = absurd (cc)
-    by_place gs r (Awaits ls) p e =
+    by_index : (gs : List Frame) (r : Tree) (x : Change) → Context m own t gs r x → awaits fs ks ≡ moved gs x → fill fs (receive ks) ≡ t
+    by_index gs r (Becomes u) p e = absurd (cc)
+    by_index gs r (Raises u) p e = absurd (cc)
+    by_index gs r (Exits u) p e = absurd (cc)
+    by_index gs r (Asks u) p e = absurd (cc)
+    by_index gs r (Awaits ls) p e =
         let f : fs ≡ gs = cc in
         let k : ks ≡ ls = cc in
         ap (λ g. fill g (receive ks)) f ∙ ap (λ l. fill gs (receive l)) k ∙ ap (fill gs) (sym (waits_at r ls p.redex)) ∙ p.filled
@@ -127,4 +127,4 @@ module _ (m : Code) (own : ℕ) where
     -- a process that waits stands at its `receive`
     pub stays_at : Moves m own t (awaits fs ks) → fill fs (receive ks) ≡ t
     stays_at (at_value v e q) = absurd (cc)
-    stays_at (at_place gs r x p q) = by_place gs r x p q
+    stays_at (at_index gs r x p q) = by_index gs r x p q

@@ -9,8 +9,8 @@ use Rattle.pf_syntax.specs.Tree.{call}
 use Rattle.pf_ops.specs.Reasons.{ending_reason}
 use Rattle.pf_model.specs.Actions as actions
 use Rattle.pf_model.specs.Actions.{start_of}
-use Rattle.pf_model.specs.Code.{Code}
-use Rattle.pf_model.specs.Place.{State, running, ending, literals}
+use Rattle.pf_model.specs.Module.{Module}
+use Rattle.pf_model.specs.Context.{State, running, ending, literals}
 use Rattle.pf_model.specs.Runs.{can_go}
 use Rattle.pf_stepper.specs.MachineView.{MachineView, at_call}
 use Rattle.pf_system.specs.Acts.{LifeBegins, home_function}
@@ -22,12 +22,12 @@ count_of [] = refl
 count_of (t ∷ ts) = omega (arith, count_of ts)
 
 -- by the function that is found
-pub start_at : (m : Code) (home name : ℕ) (vs : Values) (n : ℕ) (o : Option ℕ) → n ≡ count vs → o ≡ home_function m home name n
+pub start_at : (m : Module) (home name : ℕ) (vs : Values) (n : ℕ) (o : Option ℕ) → n ≡ count vs → o ≡ home_function m home name n
     → start_of m home name vs ≡ actions.begun o vs
 start_at m home name vs n o e h = ap (λ k. actions.begun (home_function m home name k) vs) (sym e) ∙ ap (λ z. actions.begun z vs) (sym h)
 
 -- at the call of a function
-pub begins_running : (m : Code) (own f : ℕ) (vs : Values) (s : State) (k : MachineView) → k ≡ at_call own m f vs → s ≡ running (call f (literals vs))
+pub begins_running : (m : Module) (own f : ℕ) (vs : Values) (s : State) (k : MachineView) → k ≡ at_call own m f vs → s ≡ running (call f (literals vs))
     → LifeBegins m own s (life.Lives k false)
 begins_running m own f vs s k e q =
     record {
@@ -38,7 +38,7 @@ begins_running m own f vs s k e q =
     }
 
 -- about to end
-pub begins_ending : (m : Code) (own : ℕ) (t : Term) (s : State) → s ≡ ending (ending_reason undef) → value_of t ≡ ending_reason undef
+pub begins_ending : (m : Module) (own : ℕ) (t : Term) (s : State) → s ≡ ending (ending_reason undef) → value_of t ≡ ending_reason undef
     → LifeBegins m own s (life.Ends t)
 begins_ending m own t s q e =
     record {

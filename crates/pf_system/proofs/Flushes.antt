@@ -3,7 +3,7 @@ use Rattle.std.proofs.Common.{◌≡◌, ℕ, zero, ◌≤◌, Bool, true, false
 use Rattle.std.specs.Prelude.{slice_get}
 use Rattle.pf_terms.specs.Value.{Value, ref}
 use Rattle.pf_terms.specs.Fixed.{badarg}
-use Rattle.pf_model.specs.Code.{code_of}
+use Rattle.pf_model.specs.Module.{module_of}
 use Rattle.pf_model.specs.Maps.{got}
 use Rattle.pf_model.specs.Contraction as asked
 use Rattle.pf_model.specs.Configuration.{Process, Core, of, with_process}
@@ -14,22 +14,22 @@ use Rattle.pf_model.specs.declared.limits.TheConstants.{MOST_PROCESSES}
 use Rattle.pf_ties.specs.Laws.{ties_of}
 use Rattle.pf_system.specs.Bodies.{process_body, bodies_of}
 use Rattle.pf_system.specs.Slots.{slot_body, SlotIsSound, SlotsAreSound}
-use Rattle.pf_system.specs.Worlds.{StandsBut, code_in, bodies_in}
-use Rattle.pf_system.specs.Acts.{Answers, ActedSo, ActedIn, ActsIn, KeepsSlot, FlushesIn}
-use Rattle.pf_system.specs.declared.bonds.Answer.{Answer}
+use Rattle.pf_system.specs.Processes.{RepresentsBut, module_in, bodies_in}
+use Rattle.pf_system.specs.Acts.{Answers, CarriesOut, ActedIn, ActsIn, KeepsSlot, FlushesIn}
+use Rattle.pf_system.specs.declared.shared.Answer.{Answer}
 use Rattle.pf_system.specs.declared.slot.Slot.{Slot}
-use Rattle.pf_system.specs.declared.world.World.{World}
+use Rattle.pf_system.specs.declared.processes.Processes.{Processes}
 use Rattle.pf_system.proofs.Acting.{given_none}
 use Rattle.pf_system.proofs.Bodies.{set_map, set_length, set_twice, bodies_changed, ties_same}
 use Rattle.pf_system.proofs.Delivering.{at_set}
 use Rattle.pf_system.proofs.Ready.{numbers_kept}
 use Rattle.pf_system.proofs.Rows.{posted_length}
 use Rattle.pf_system.proofs.Settling.{Keeps, acted_in, between, but_there, demonitor_keeps, one_body, posted_rows, raised_in, same_size, slot_is}
-use Rattle.pf_system.proofs.Worlds.{get_set, get_within}
+use Rattle.pf_system.proofs.Processes.{get_set, get_within}
 
 -- a message more or less is taken out of the slot of a process, and of the process
-flush_stands : (n k : ℕ) (d : Core) (w w' : World) (s' : Slot) → w'.slots.items ≡ slice_set w.slots.items n s' → w'.bonds ≡ w.bonds → w'.ready ≡ w.ready
-    → w'.basis ≡ w.basis → StandsBut w d n → StandsBut w' (with_flushed d n k) n
+flush_stands : (n k : ℕ) (d : Core) (w w' : Processes) (s' : Slot) → w'.slots.items ≡ slice_set w.slots.items n s' → w'.shared ≡ w.shared → w'.ready ≡ w.ready
+    → w'.basis ≡ w.basis → RepresentsBut w d n → RepresentsBut w' (with_flushed d n k) n
 flush_stands n k d w w' s' e b r m h =
     let p : Process = record (of d n) { mailbox = flushed k (of d n).mailbox } in
     let i : length (with_process d n p).processes ≡ length d.processes = set_length n d.processes p in
@@ -41,9 +41,9 @@ flush_stands n k d w w' s' e b r m h =
       ready = r ∙ h.ready ∙ sym (numbers_kept can_go zero d.processes n p refl);
       slots = λ t z.
           let q : slice_set w'.slots.items n t ≡ slice_set w.slots.items n t = ap (λ ss. slice_set ss n t) e ∙ set_twice n w.slots.items s' t in
-          let y = h.slots t (subst (λ v. SlotIsSound (code_of v.module.value) n t) m z) in
-          subst (λ ss. SlotsAreSound (code_in w') zero ss) (sym q)
-          (subst (λ v. SlotsAreSound (code_of v.module.value) zero (slice_set w.slots.items n t)) (sym m) y);
+          let y = h.slots t (subst (λ v. SlotIsSound (module_of v.module.value) n t) m z) in
+          subst (λ ss. SlotsAreSound (module_in w') zero ss) (sym q)
+          (subst (λ v. SlotsAreSound (module_of v.module.value) zero (slice_set w.slots.items n t)) (sym m) y);
       room = record {
         rows = let v = subst (λ z. length d.processes ≤ length z.channels) (sym b) h.room.rows in omega arith;
         few = let v = h.room.few in omega arith;
@@ -53,26 +53,26 @@ flush_stands n k d w w' s' e b r m h =
     }
 
 -- the slot of a process, from which a message was taken, keeps its life
-pub keeps_flushed : (n k : ℕ) (w w' : World) (s s' : Slot) → slice_get w.slots.items n ≡ Some s → w'.slots.items ≡ slice_set w.slots.items n s'
+pub keeps_flushed : (n k : ℕ) (w w' : Processes) (s s' : Slot) → slice_get w.slots.items n ≡ Some s → w'.slots.items ≡ slice_set w.slots.items n s'
     → FlushesIn k s s' → KeepsSlot n w w'
 keeps_flushed n k w w' s s' at e f t h =
     let y = slot_is s t (sym at ∙ h) in
     let g = subst (λ z. FlushesIn k z s') y f in
     (s', ap (λ z. slice_get z n) e ∙ get_set n w.slots.items s' (get_within n w.slots.items s at), g.keeps)
 
-module _ (n k : ℕ) (w w1 w' : World) (r : Answer) (c : Core) (slots : w1.slots ≡ w.slots) (ready : w1.ready ≡ w.ready) (basis : w1.basis ≡ w.basis)
-    (but : StandsBut w c n) where
+module _ (n k : ℕ) (w w1 w' : Processes) (r : Answer) (c : Core) (slots : w1.slots ≡ w.slots) (ready : w1.ready ≡ w.ready) (basis : w1.basis ≡ w.basis)
+    (but : RepresentsBut w c n) where
   -- the core before the flush
   abbrev middle : Core
   middle = (demonitored c n k (got k (of c n).active)).left.core
 
   kept : Keeps c middle
-  kept = demonitor_keeps (code_in w) c n k (got k (of c n).active)
+  kept = demonitor_keeps (module_in w) c n k (got k (of c n).active)
 
-  pub not_flushed : ActedSo (demonitored_so c n k false) n w.bonds r w1.bonds → ActedIn c (demonitored_so c n k false) n w r w1
+  pub not_flushed : CarriesOut (demonitored_so c n k false) n w.shared r w1.shared → ActedIn c (demonitored_so c n k false) n w r w1
   not_flushed g = acted_in n c (demonitored_so c n k false) w w1 r kept g slots ready basis but
 
-  module _ (s s' : Slot) (at : slice_get w1.slots.items n ≡ Some s) (e : w'.slots.items ≡ slice_set w1.slots.items n s') (b : w'.bonds ≡ w1.bonds)
+  module _ (s s' : Slot) (at : slice_get w1.slots.items n ≡ Some s) (e : w'.slots.items ≡ slice_set w1.slots.items n s') (b : w'.shared ≡ w1.shared)
       (r' : w'.ready ≡ w1.ready) (m : w'.basis ≡ w1.basis) (f : FlushesIn k s s') where
     abbrev asker : Process
     asker = record (of middle n) { mailbox = flushed k (of middle n).mailbox }
@@ -88,11 +88,11 @@ module _ (n k : ℕ) (w w1 w' : World) (r : Answer) (c : Core) (slots : w1.slots
         ap (λ z. z.mailbox.messages) x ∙ f.mail ∙ ap (λ z. flushed k z.mailbox.messages) y ∙ ap (flushed k) mail
         ∙ ap (λ z. flushed k z.mailbox) (sym (one_body n middle c kept.0)) ∙ ap (λ z. z.mailbox) (sym here)
 
-    pub was_flushed : ActedSo (demonitored_so c n k true) n w.bonds r w1.bonds → ActedIn c (demonitored_so c n k true) n w r w'
+    pub was_flushed : CarriesOut (demonitored_so c n k true) n w.shared r w1.shared → ActedIn c (demonitored_so c n k true) n w r w'
     was_flushed g =
         let x : Acted = demonitored_so c n k true in
-        let t : ties_of middle ≡ w1.bonds.ties = sym (ties_same middle n asker refl) ∙ g.ties in
-        let o = posted_length n x.left.sent w.bonds.channels in
+        let t : ties_of middle ≡ w1.shared.ties = sym (ties_same middle n asker refl) ∙ g.ties in
+        let o = posted_length n x.left.sent w.shared.channels in
         let l = ap length g.channels in
         let i = same_size c middle kept in
         let j = set_length n middle.processes asker in
@@ -102,15 +102,15 @@ module _ (n k : ℕ) (w w1 w' : World) (r : Answer) (c : Core) (slots : w1.slots
           stands = flush_stands n k middle w1 w' s' e b r' m first;
           state = ap (λ z. z.state) here ∙ ap (λ z. z.state) (one_body n middle c kept.0);
           mail = flushed_mail;
-          channels = ap (λ z. z.channels) b ∙ posted_rows n x.left.core x.left.sent w.bonds.channels w1.bonds.channels (omega arith) g.channels;
+          channels = ap (λ z. z.channels) b ∙ posted_rows n x.left.core x.left.sent w.shared.channels w1.shared.channels (omega arith) g.channels;
           answers = g.answers;
           basis = m ∙ basis;
         }
 
 -- ---- the action
 
-module _ (n : ℕ) (w : World) (r : Answer) (v o : Value) where
-  abbrev Ends : World → Type 0
+module _ (n : ℕ) (w : Processes) (r : Answer) (v o : Value) where
+  abbrev Ends : Processes → Type 0
   Ends w' = ActsIn n (asked.demonitor v o) w r w'
 
   pub reference_refused : as_reference v ≡ None → ((c : Core) → Answers r (raising c badarg)) → Ends w
@@ -123,8 +123,8 @@ module _ (n : ℕ) (w : World) (r : Answer) (v o : Value) where
       subst (λ z. ActedIn c (given c (as_reference z) (λ y. given c (flushes o) (demonitored_so c n y))) n w r w) (sym q)
       (subst (λ z. ActedIn c z n w r w) (sym (given_none c (flushes o) (demonitored_so c n x) e)) (raised_in n w r c badarg (k c) but))
 
-  pub demonitors_in : (x : ℕ) (b : Bool) (w' : World) → v ≡ ref x → flushes o ≡ Some b
-      → ((c : Core) → StandsBut w c n → ActedIn c (demonitored_so c n x b) n w r w') → Ends w'
+  pub demonitors_in : (x : ℕ) (b : Bool) (w' : Processes) → v ≡ ref x → flushes o ≡ Some b
+      → ((c : Core) → RepresentsBut w c n → ActedIn c (demonitored_so c n x b) n w r w') → Ends w'
   demonitors_in x b w' q e k c but =
       subst (λ z. ActedIn c (given c (as_reference z) (λ y. given c (flushes o) (demonitored_so c n y))) n w r w') (sym q)
       (subst (λ z. ActedIn c (given c z (demonitored_so c n x)) n w r w') (sym e) (k c but))

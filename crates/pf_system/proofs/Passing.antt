@@ -1,50 +1,50 @@
 -- A delivery of a world, as a transition.
 use Rattle.std.proofs.Common.{◌≡◌, ℕ, ◌+◌, Bool, false, Some, refl, sym, ap, ◌∙◌, subst, arith}
-use Rattle.pf_model.specs.Code.{Code, code_of}
+use Rattle.pf_model.specs.Module.{Module, module_of}
 use Rattle.pf_model.specs.Channels.{Channels}
 use Rattle.pf_model.specs.Configuration.{Core, Configuration}
 use Rattle.pf_model.specs.Deliveries.{delivered}
 use Rattle.pf_model.specs.Runs.{channel, Passed, passed, delivery}
 use Rattle.pf_model.specs.Reports.{label_of}
 use Rattle.pf_model.specs.declared.report.Label.{Label}
-use Rattle.pf_system.specs.View.{SystemView, system_view}
-use Rattle.pf_system.specs.Steps.{IsWorldOf, PassesTo, unless_spent}
-use Rattle.pf_system.specs.Worlds.{Stands, Delivered, core_of, configuration_of}
-use Rattle.pf_system.specs.declared.world.World.{World}
-use Rattle.pf_system.proofs.Worlds.{again}
+use Rattle.pf_system.specs.View.{SystemView, view_of_system}
+use Rattle.pf_system.specs.Steps.{RunsModule, PassesTo, unless_spent}
+use Rattle.pf_system.specs.Processes.{Represents, Delivered, core_of, configuration_of}
+use Rattle.pf_system.specs.declared.processes.Processes.{Processes}
+use Rattle.pf_system.proofs.Processes.{again}
 
 abbrev pub both : Core → Channels → Configuration
 both c cs = record { core = c; channels = cs }
 
 -- what is seen of a system that isn't spent
-pub unspent : (s : SystemView) (m : Code) (k : ℕ) (t : Bool) (d : Configuration) → system_view m k (unless_spent t d) ≡ s → t ≡ false → s ≡ system_view m k (Some d)
-unspent s m k t d e f = sym e ∙ ap (λ z. system_view m k (unless_spent z d)) f
+pub unspent : (s : SystemView) (m : Module) (k : ℕ) (t : Bool) (d : Configuration) → view_of_system m k (unless_spent t d) ≡ s → t ≡ false → s ≡ view_of_system m k (Some d)
+unspent s m k t d e f = sym e ∙ ap (λ z. view_of_system m k (unless_spent z d)) f
 
 -- a world that stands for a core stands for its own
-pub stands_itself : (w : World) (c : Core) → Stands w c → Stands w (core_of w)
-stands_itself w c h = subst (Stands w) (sym (again w c h)) h
+pub stands_itself : (w : Processes) (c : Core) → Represents w c → Represents w (core_of w)
+stands_itself w c h = subst (Represents w) (sym (again w c h)) h
 
 -- the world of a system is kept where the code of another stays
-pub kept_after : (m : Code) (w w' : World) (c : Core) → IsWorldOf m w → Stands w' c → w'.basis ≡ w.basis → IsWorldOf m w'
-kept_after m w w' c h s e = record { stands = stands_itself w' c s; code = ap (λ z. code_of z.module.value) e ∙ h.code }
+pub kept_after : (m : Module) (w w' : Processes) (c : Core) → RunsModule m w → Represents w' c → w'.basis ≡ w.basis → RunsModule m w'
+kept_after m w w' c h s e = record { stands = stands_itself w' c s; code = ap (λ z. module_of z.module.value) e ∙ h.code }
 
-pub still_kept : (m : Code) (w w' : World) (from to : ℕ) (l : Label) → IsWorldOf m w → Delivered (core_of w) from to w l w' → IsWorldOf m w'
+pub still_kept : (m : Module) (w w' : Processes) (from to : ℕ) (l : Label) → RunsModule m w → Delivered (core_of w) from to w l w' → RunsModule m w'
 still_kept m w w' from to l k h = kept_after m w w' (delivered (core_of w) from to h.signal).left.core k h.shown.done.stands h.shown.done.basis
 
-pub delivery_passes : (m : Code) (w w' : World) (k from to : ℕ) (l : Label) → Delivered (core_of w) from to w l w'
-    → PassesTo 1 (system_view m k (Some (configuration_of w))) (channel from to) (label_of l) 1
-    (system_view m (k + 1) (Some (configuration_of w')))
+pub delivery_passes : (m : Module) (w w' : Processes) (k from to : ℕ) (l : Label) → Delivered (core_of w) from to w l w'
+    → PassesTo 1 (view_of_system m k (Some (configuration_of w))) (channel from to) (label_of l) 1
+    (view_of_system m (k + 1) (Some (configuration_of w')))
 delivery_passes m w w' k from to l h =
     let d = delivered (core_of w) from to h.signal in
     let p : Passed = passed to d h.others (Some h.signal) 1 in
     let e : configuration_of w' ≡ p.after =
-    ap (λ c. both c w'.bonds.channels) (again w' d.left.core h.shown.done.stands) ∙ ap (both d.left.core) h.shown.done.channels in
+    ap (λ c. both c w'.shared.channels) (again w' d.left.core h.shown.done.stands) ∙ ap (both d.left.core) h.shown.done.channels in
     record {
       before = configuration_of w;
       passed = p;
       was = refl;
       passes = delivery from to h.signal h.others h.is_taken;
-      becomes = ap (λ c. system_view m (k + 1) (Some c)) e;
+      becomes = ap (λ c. view_of_system m (k + 1) (Some c)) e;
       label = h.shown.label;
       counts = refl;
       within = omega arith;

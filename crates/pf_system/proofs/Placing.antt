@@ -1,8 +1,8 @@
 -- A message that comes to a process of a world.
 use Rattle.std.proofs.Common.{◌≡◌, ℕ, zero, ◌+◌, ◌<◌, Bool, true, false, Some, if◌then◌else◌, refl, sym, ap, ◌∙◌, subst, arith, length, slice_set, slice_get}
 use Rattle.pf_terms.specs.Value.{Value}
-use Rattle.pf_model.specs.Code.{Code}
-use Rattle.pf_model.specs.Place.{State, running, waiting, ending, ended}
+use Rattle.pf_model.specs.Module.{Module}
+use Rattle.pf_model.specs.Context.{State, running, waiting, ending, ended}
 use Rattle.pf_model.specs.Maps.{with_number}
 use Rattle.pf_model.specs.Configuration.{Process, Core, of, with_process, is_alive}
 use Rattle.pf_model.specs.Deliveries.{woken, with_message}
@@ -10,21 +10,21 @@ use Rattle.pf_model.specs.Runs.{can_go, is_waiting, numbers_of}
 use Rattle.pf_ties.specs.Laws.{process_ties}
 use Rattle.pf_system.specs.Bodies.{with_one}
 use Rattle.pf_system.specs.Slots.{state_of, slot_body, SlotIsSound, PutsIn}
-use Rattle.pf_system.specs.Worlds.{Stands, StandsBut, code_in}
+use Rattle.pf_system.specs.Processes.{Represents, RepresentsBut, module_in}
 use Rattle.pf_system.specs.declared.slot.Slot.{Slot}
-use Rattle.pf_system.specs.declared.world.World.{World}
+use Rattle.pf_system.specs.declared.processes.Processes.{Processes}
 use Rattle.pf_system.specs.Placed.{Places}
 use Rattle.pf_system.proofs.Ready.{numbers_kept}
-use Rattle.pf_system.proofs.Worlds.{get_within, sound_at, sound_set, body_at, slots_length, put_back, goes_now}
+use Rattle.pf_system.proofs.Processes.{get_within, sound_at, sound_set, body_at, slots_length, put_back, goes_now}
 
-pub stands_but : (w : World) (c : Core) (a : ℕ) → Stands w c → a < length w.slots.items → StandsBut w c a
+pub stands_but : (w : Processes) (c : Core) (a : ℕ) → Represents w c → a < length w.slots.items → RepresentsBut w c a
 stands_but w c a h l =
     record {
       there = l;
       bodies = λ x. ap (λ bs. slice_set bs a x) h.bodies;
       ties = h.ties;
       ready = h.ready;
-      slots = λ s k. let e : a ≡ zero + a = omega arith in sound_set (code_in w) zero a w.slots.items s h.slots (subst (λ j. SlotIsSound (code_in w) j s) e k);
+      slots = λ s k. let e : a ≡ zero + a = omega arith in sound_set (module_in w) zero a w.slots.items s h.slots (subst (λ j. SlotIsSound (module_in w) j s) e k);
       room = h.room;
     }
 
@@ -49,8 +49,8 @@ stays (ended x) e = refl
 pub message_ties : (p : Process) (v : Value) → process_ties (with_message p v) ≡ process_ties p
 message_ties p v = ap (λ b. record (process_ties p) { lives = b }) (woken_alive p.state)
 
-module _ (w w' : World) (b : ℕ) (v : Value) (s s' : Slot) where
-  ready_so : (c : Core) (t : Bool) → Stands w c → b < length c.processes → t ≡ is_waiting (of c b).state → w'.ready ≡ (if t then with_number b w.ready else w.ready)
+module _ (w w' : Processes) (b : ℕ) (v : Value) (s s' : Slot) where
+  ready_so : (c : Core) (t : Bool) → Represents w c → b < length c.processes → t ≡ is_waiting (of c b).state → w'.ready ≡ (if t then with_number b w.ready else w.ready)
       → w'.ready ≡ numbers_of can_go zero (with_process c b (with_message (of c b) v)).processes
   ready_so c true h l e r =
       r ∙ ap (with_number b) h.ready ∙ sym (goes_now c b (with_message (of c b) v) l (wakes (of c b).state (sym e)))
@@ -58,21 +58,21 @@ module _ (w w' : World) (b : ℕ) (v : Value) (s s' : Slot) where
       r ∙ h.ready ∙ sym (numbers_kept can_go zero c.processes b (with_message (of c b) v) (stays (of c b).state (sym e)))
 
   pub placed : (t : Bool) → slice_get w.slots.items b ≡ Some s
-      → ((m : Code) (own : ℕ) → SlotIsSound m own s → PutsIn m own (with_one v (slot_body s)) s')
-      → ((m : Code) (own : ℕ) → SlotIsSound m own s → t ≡ is_waiting (state_of s.life))
-      → w'.slots.items ≡ slice_set w.slots.items b s' → w'.bonds ≡ w.bonds → w'.basis ≡ w.basis
+      → ((m : Module) (own : ℕ) → SlotIsSound m own s → PutsIn m own (with_one v (slot_body s)) s')
+      → ((m : Module) (own : ℕ) → SlotIsSound m own s → t ≡ is_waiting (state_of s.life))
+      → w'.slots.items ≡ slice_set w.slots.items b s' → w'.shared ≡ w.shared → w'.basis ≡ w.basis
       → w'.ready ≡ (if t then with_number b w.ready else w.ready) → Places b v w w'
   placed t at puts waits e k m r c h alive =
       let l = get_within b w.slots.items s at in
       let y = body_at w c b s h at in
       let pid : zero + b ≡ b = omega arith in
-      let sound = subst (λ j. SlotIsSound (code_in w) j s) pid (sound_at (code_in w) zero b w.slots.items s h.slots at) in
-      let put = puts (code_in w) b sound in
+      let sound = subst (λ j. SlotIsSound (module_in w) j s) pid (sound_at (module_in w) zero b w.slots.items s h.slots at) in
+      let put = puts (module_in w) b sound in
       let n : b < length c.processes = omega (arith, slots_length w c h) in
-      let q : t ≡ is_waiting (of c b).state = waits (code_in w) b sound ∙ ap (λ z. is_waiting z.state) (sym y) in
+      let q : t ≡ is_waiting (of c b).state = waits (module_in w) b sound ∙ ap (λ z. is_waiting z.state) (sym y) in
       record {
         stands = put_back w w' c b s' (with_message (of c b) v) (stands_but w c b h l) (ap (with_one v) y ∙ sym put.is) (message_ties (of c b) v) put.sound
             e k m (ready_so c t h n q r);
-        bonds = k;
+        shared = k;
         basis = m;
       }

@@ -18,14 +18,14 @@ use Rattle.pf_ties.specs.Ties.{AllTies}
 use Rattle.pf_ties.specs.Laws.{ties_of}
 use Rattle.pf_system.specs.Bodies.{process_body}
 use Rattle.pf_system.specs.Placed.{Places}
-use Rattle.pf_system.specs.Worlds.{Stands, Shown}
-use Rattle.pf_system.specs.declared.world.World.{World}
+use Rattle.pf_system.specs.Processes.{Represents, Shown}
+use Rattle.pf_system.specs.declared.processes.Processes.{Processes}
 use Rattle.pf_system.proofs.Delivering.{dropped_there, replied, with_mail, tied_so}
 
 -- ---- at one that ended
 
-pub drops_there : (w : World) (c : Core) (a b : ℕ) (s : Program) → (s ≡ code.Link → ⊥) → ((r : ℕ) → s ≡ code.Monitor r → ⊥) → Stands w c
-    → Shown b (at_ended c a (signal_of s)) w.bonds.channels w (shows.Delivers s suffix.Dropped) w
+pub drops_there : (w : Processes) (c : Core) (a b : ℕ) (s : Program) → (s ≡ code.Link → ⊥) → ((r : ℕ) → s ≡ code.Monitor r → ⊥) → Represents w c
+    → Shown b (at_ended c a (signal_of s)) w.shared.channels w (shows.Delivers s suffix.Dropped) w
 drops_there w c a b code.Link x y h = absurd (x refl)
 drops_there w c a b (code.Monitor r) x y h = absurd (y r refl)
 drops_there w c a b (code.Message t) x y h = dropped_there w c b (signal.message (value_of t)) (shows.Delivers (code.Message t) suffix.Dropped) h refl
@@ -35,51 +35,51 @@ drops_there w c a b (code.Down r t) x y h = dropped_there w c b (signal.down r (
 drops_there w c a b (code.Exit l t) x y h = dropped_there w c b (signal.exit l (value_of t)) (shows.Delivers (code.Exit l t) suffix.Dropped) h refl
 
 -- the ties and all else stay, and one signal goes back
-module _ (w w' : World) (c : Core) (a b : ℕ) (s reply : Program) (h : Stands w c) (slots : w'.slots.items ≡ w.slots.items) (ready : w'.ready ≡ w.ready)
-    (same : w'.basis ≡ w.basis) (ties : w'.bonds.ties ≡ w.bonds.ties) (goes : w'.bonds.channels ≡ sent b a (signal_of reply) w.bonds.channels) where
+module _ (w w' : Processes) (c : Core) (a b : ℕ) (s reply : Program) (h : Represents w c) (slots : w'.slots.items ≡ w.slots.items) (ready : w'.ready ≡ w.ready)
+    (same : w'.basis ≡ w.basis) (ties : w'.shared.ties ≡ w.shared.ties) (goes : w'.shared.channels ≡ sent b a (signal_of reply) w.shared.channels) where
   pub link_answered : s ≡ code.Link → signal_of reply ≡ signal.exit true noproc
-      → Shown b (at_ended c a (signal_of s)) w.bonds.channels w (shows.Delivers s suffix.NoProcess) w'
+      → Shown b (at_ended c a (signal_of s)) w.shared.channels w (shows.Delivers s suffix.NoProcess) w'
   link_answered e f =
-      subst (λ z. Shown b (at_ended c a (signal_of z)) w.bonds.channels w (shows.Delivers z suffix.NoProcess) w') (sym e)
+      subst (λ z. Shown b (at_ended c a (signal_of z)) w.shared.channels w (shows.Delivers z suffix.NoProcess) w') (sym e)
       (record {
-        done = replied w w' c b a (signal.exit true noproc) h slots ready same ties (goes ∙ ap (λ z. sent b a z w.bonds.channels) f);
+        done = replied w w' c b a (signal.exit true noproc) h slots ready same ties (goes ∙ ap (λ z. sent b a z w.shared.channels) f);
         label = refl;
       })
 
   pub monitor_answered : (r : ℕ) → s ≡ code.Monitor r → signal_of reply ≡ signal.down r noproc
-      → Shown b (at_ended c a (signal_of s)) w.bonds.channels w (shows.Delivers s suffix.NoProcess) w'
+      → Shown b (at_ended c a (signal_of s)) w.shared.channels w (shows.Delivers s suffix.NoProcess) w'
   monitor_answered r e f =
-      subst (λ z. Shown b (at_ended c a (signal_of z)) w.bonds.channels w (shows.Delivers z suffix.NoProcess) w') (sym e)
+      subst (λ z. Shown b (at_ended c a (signal_of z)) w.shared.channels w (shows.Delivers z suffix.NoProcess) w') (sym e)
       (record {
-        done = replied w w' c b a (signal.down r noproc) h slots ready same ties (goes ∙ ap (λ z. sent b a z w.bonds.channels) f);
+        done = replied w w' c b a (signal.down r noproc) h slots ready same ties (goes ∙ ap (λ z. sent b a z w.shared.channels) f);
         label = refl;
       })
 
 -- ---- at one that lives
 
-module _ (w : World) (c : Core) (a b : ℕ) (s : Program) (h : Stands w c) where
+module _ (w : Processes) (c : Core) (a b : ℕ) (s : Program) (h : Represents w c) where
   -- the row of a signal, at a world that is equal
-  taking : (x : Program) (w' w1 : World) → s ≡ x → w' ≡ w1 → Shown b (at_living c a b (signal_of x)) w.bonds.channels w (shows.Delivers x suffix.TookEffect) w1
-      → Shown b (at_living c a b (signal_of s)) w.bonds.channels w (shows.Delivers s suffix.TookEffect) w'
+  taking : (x : Program) (w' w1 : Processes) → s ≡ x → w' ≡ w1 → Shown b (at_living c a b (signal_of x)) w.shared.channels w (shows.Delivers x suffix.TookEffect) w1
+      → Shown b (at_living c a b (signal_of s)) w.shared.channels w (shows.Delivers s suffix.TookEffect) w'
   taking x w' w1 e f k =
-      subst (λ z. Shown b (at_living c a b (signal_of z)) w.bonds.channels w (shows.Delivers z suffix.TookEffect) w') (sym e)
-      (subst (λ z. Shown b (at_living c a b (signal_of x)) w.bonds.channels w (shows.Delivers x suffix.TookEffect) z) (sym f) k)
+      subst (λ z. Shown b (at_living c a b (signal_of z)) w.shared.channels w (shows.Delivers z suffix.TookEffect) w') (sym e)
+      (subst (λ z. Shown b (at_living c a b (signal_of x)) w.shared.channels w (shows.Delivers x suffix.TookEffect) z) (sym f) k)
 
-  pub message_taken : (t : Term) (v : Value) (w' w1 : World) → s ≡ code.Message t → w' ≡ w1 → v ≡ value_of t → is_alive (of c b).state ≡ true → Places b v w w1
-      → Shown b (at_living c a b (signal_of s)) w.bonds.channels w (shows.Delivers s suffix.TookEffect) w'
-  message_taken t v w' w1 e f q alive places =
+  pub message_taken : (t : Term) (v : Value) (w' w1 : Processes) → s ≡ code.Message t → w' ≡ w1 → v ≡ value_of t → is_alive (of c b).state ≡ true → Places b v w w1
+      → Shown b (at_living c a b (signal_of s)) w.shared.channels w (shows.Delivers s suffix.TookEffect) w'
+  message_taken t v w' w1 e f q alive indices =
       taking (code.Message t) w' w1 e f
       (record {
-        done = with_mail w w w1 c b (value_of t) (subst (λ z. Places b z w w1) q places c h alive) h.room.rows refl refl;
+        done = with_mail w w w1 c b (value_of t) (subst (λ z. Places b z w w1) q indices c h alive) h.room.rows refl refl;
         label = refl;
       })
 
   -- nothing but its ties are changed
-  pub ties_changed : (x : Program) (p : Process) (w' : World) (t : AllTies) → s ≡ x → w' ≡ record w { bonds = record w.bonds { ties = t } }
+  pub ties_changed : (x : Program) (p : Process) (w' : Processes) (t : AllTies) → s ≡ x → w' ≡ record w { shared = record w.shared { ties = t } }
       → at_living c a b (signal_of x) ≡ changes c b p (signal_of x) label.took_effect → process_body p ≡ process_body (of c b) → ties_of (with_process c b p) ≡ t
-      → Shown b (at_living c a b (signal_of s)) w.bonds.channels w (shows.Delivers s suffix.TookEffect) w'
+      → Shown b (at_living c a b (signal_of s)) w.shared.channels w (shows.Delivers s suffix.TookEffect) w'
   ties_changed x p w' t e f row y k =
-      let w1 : World = record w { bonds = record w.bonds { ties = t } } in
+      let w1 : Processes = record w { shared = record w.shared { ties = t } } in
       taking x w' w1 e f
-      (subst (λ d. Shown b d w.bonds.channels w (shows.Delivers x suffix.TookEffect) w1) (sym row)
+      (subst (λ d. Shown b d w.shared.channels w (shows.Delivers x suffix.TookEffect) w1) (sym row)
       (record { done = tied_so w w1 c b p h y refl refl refl k refl; label = refl }))

@@ -7,12 +7,12 @@ use Rattle.pf_terms.specs.Term.{value_of}
 use Rattle.pf_ops.specs.Guards.{truth_of}
 use Rattle.pf_syntax.specs.Tree.{Tree}
 use Rattle.pf_model.specs.Maps.{put, without, has, with_number, without_number}
-use Rattle.pf_model.specs.Code.{Code, code_of}
+use Rattle.pf_model.specs.Module.{Module, module_of}
 use Rattle.pf_model.specs.Contraction.{Act}
 use Rattle.pf_model.specs.Channels.{Signal, Channels, with_senders}
 use Rattle.pf_model.specs.Configuration.{Process, Core, of, with_process, with_state, process_at, posted, is_alive}
 use Rattle.pf_model.specs.Actions.{Acted, acted, raising, given, only_if, as_pid, as_atom, receiver, linked_to, unlinked_from, monitored, demonitored, flag_set, may_register, registered, unregistered}
-use Rattle.pf_model.specs.Place.{State, running, waiting, ending, ended, failed}
+use Rattle.pf_model.specs.Context.{State, running, waiting, ending, ended, failed}
 use Rattle.pf_model.specs.Runs.{can_go}
 use Rattle.pf_model.specs.Turns.{answered}
 use Rattle.pf_model.specs.declared.limits.TheConstants.{MOST_PROCESSES}
@@ -24,18 +24,18 @@ use Rattle.pf_stepper.specs.declared.act.Act.{Act as Asked}
 use Rattle.pf_stepper.specs.declared.act.Act.TheVariants as a
 use Rattle.pf_system.specs.Bodies.{Body, body, process_body, bodies_of}
 use Rattle.pf_system.specs.Slots.{slot_body, SlotIsSound, SlotsAreSound, AnswersIn, PutsIn, LifeIsLeft, SlotIsLeft}
-use Rattle.pf_system.specs.Worlds.{Stands, StandsBut, code_in, bodies_in}
-use Rattle.pf_system.specs.Acts.{Answers, ActedSo, ActsAs, ActedIn, ActsIn, IsBetween, KeepsLife, KeepsSlot, ShowsAct}
+use Rattle.pf_system.specs.Processes.{Represents, RepresentsBut, module_in, bodies_in}
+use Rattle.pf_system.specs.Acts.{Answers, CarriesOut, ActsAs, ActedIn, ActsIn, IsBetween, KeepsLife, KeepsSlot, ShowsAct}
 use Rattle.pf_system.specs.Settled.{WaitsIn}
-use Rattle.pf_system.specs.declared.bonds.Answer.{Answer}
+use Rattle.pf_system.specs.declared.shared.Answer.{Answer}
 use Rattle.pf_system.specs.declared.slot.Life.{Life}
 use Rattle.pf_system.specs.declared.slot.Life.TheVariants as life
 use Rattle.pf_system.specs.declared.slot.Slot.{Slot}
-use Rattle.pf_system.specs.declared.world.World.{World}
+use Rattle.pf_system.specs.declared.processes.Processes.{Processes}
 use Rattle.pf_system.proofs.Bodies.{bodies_same, length_of, map_length, set_length}
 use Rattle.pf_system.proofs.Ready.{numbers_alike, numbers_kept}
 use Rattle.pf_system.proofs.Rows.{enough_senders, posted_length}
-use Rattle.pf_system.proofs.Worlds.{put_back, goes_no_more}
+use Rattle.pf_system.proofs.Processes.{put_back, goes_no_more}
 
 -- ---- actions that make no process, and take no message out, keep all bodies
 
@@ -55,7 +55,7 @@ either_keeps : (c : Core) (t : Bool) (x y : Acted) → Keeps c x.left.core → K
 either_keeps c true x y h k = h
 either_keeps c false x y h k = k
 
-module _ (m : Code) (c : Core) (n : ℕ) where
+module _ (m : Module) (c : Core) (n : ℕ) where
   links_keep : (ls : List ℕ) → Keeps c (with_process c n (record (of c n) { links = ls }))
   links_keep ls = (bodies_same c n (record (of c n) { links = ls }) refl, refl)
 
@@ -113,12 +113,12 @@ pub slot_is : (s t : Slot) → ◌≡◌ {A = Option Slot} (Some s) (Some t) →
 slot_is s t e = cc
 
 -- the slot of a process stays as it was
-pub keeps_slot : (n : ℕ) (w w' : World) → slice_get w'.slots.items n ≡ slice_get w.slots.items n → KeepsSlot n w w'
+pub keeps_slot : (n : ℕ) (w w' : Processes) → slice_get w'.slots.items n ≡ slice_get w.slots.items n → KeepsSlot n w w'
 keeps_slot n w w' e s h = (s, e ∙ h, record { life = refl; ahead = λ k z. z })
 
 -- nothing but ties and channels is changed
-pub between : (n : ℕ) (c d : Core) (w w' : World) → Keeps c d → ties_of d ≡ w'.bonds.ties → length w.bonds.channels ≤ length w'.bonds.channels
-    → w'.slots ≡ w.slots → w'.ready ≡ w.ready → w'.basis ≡ w.basis → StandsBut w c n → StandsBut w' d n
+pub between : (n : ℕ) (c d : Core) (w w' : Processes) → Keeps c d → ties_of d ≡ w'.shared.ties → length w.shared.channels ≤ length w'.shared.channels
+    → w'.slots ≡ w.slots → w'.ready ≡ w.ready → w'.basis ≡ w.basis → RepresentsBut w c n → RepresentsBut w' d n
 between n c d w w' e t y s q f k =
     let i : length d.processes ≡ length c.processes = length_of d ∙ ap length e.0 ∙ sym (length_of c) in
     let j = k.room.rows in
@@ -128,8 +128,8 @@ between n c d w w' e t y s q f k =
       ties = t;
       ready = q ∙ k.ready ∙ numbers_alike can_go zero c d (sym e.0);
       slots = λ t z.
-          subst (λ v. SlotsAreSound (code_in w') zero (slice_set v.items n t)) (sym s)
-          (subst (λ v. SlotsAreSound (code_of v.module.value) zero (slice_set w.slots.items n t)) (sym f) (k.slots t (subst (λ v. SlotIsSound (code_of v.module.value) n t) f z)));
+          subst (λ v. SlotsAreSound (module_in w') zero (slice_set v.items n t)) (sym s)
+          (subst (λ v. SlotsAreSound (module_of v.module.value) zero (slice_set w.slots.items n t)) (sym f) (k.slots t (subst (λ v. SlotIsSound (module_of v.module.value) n t) f z)));
       room = record {
         rows = omega arith;
         few = let v = k.room.few in omega arith;
@@ -146,12 +146,12 @@ posted_rows n d ss cs cs' l e = e ∙ ap (posted n ss) (sym (enough_senders (len
 pub same_size : (c d : Core) → Keeps c d → length d.processes ≡ length c.processes
 same_size c d e = length_of d ∙ ap length e.0 ∙ sym (length_of c)
 
-pub acted_in : (n : ℕ) (c : Core) (x : Acted) (w w' : World) (r : Answer) → Keeps c x.left.core → ActedSo x n w.bonds r w'.bonds
-    → w'.slots ≡ w.slots → w'.ready ≡ w.ready → w'.basis ≡ w.basis → StandsBut w c n → ActedIn c x n w r w'
+pub acted_in : (n : ℕ) (c : Core) (x : Acted) (w w' : Processes) (r : Answer) → Keeps c x.left.core → CarriesOut x n w.shared r w'.shared
+    → w'.slots ≡ w.slots → w'.ready ≡ w.ready → w'.basis ≡ w.basis → RepresentsBut w c n → ActedIn c x n w r w'
 acted_in n c x w w' r e g s q f k =
     let d : Core = x.left.core in
     let y = one_body n d c e.0 in
-    let o = posted_length n x.left.sent w.bonds.channels in
+    let o = posted_length n x.left.sent w.shared.channels in
     let l = ap length g.channels in
     let i = same_size c d e in
     let j = k.room.rows in
@@ -159,25 +159,25 @@ acted_in n c x w w' r e g s q f k =
       stands = between n c d w w' e g.ties (omega arith) s q f k;
       state = ap (λ z. z.state) y;
       mail = λ t t' h h' m. ap (λ z. z.mailbox.messages) (slot_is t' t (sym h' ∙ ap (λ z. slice_get z.items n) s ∙ h)) ∙ m ∙ ap (λ z. z.mailbox) (sym y);
-      channels = posted_rows n d x.left.sent w.bonds.channels w'.bonds.channels (omega arith) g.channels;
+      channels = posted_rows n d x.left.sent w.shared.channels w'.shared.channels (omega arith) g.channels;
       answers = g.answers;
       basis = f;
     }
 
-pub acts_between : (n : ℕ) (x : Asked) (w w' : World) (r : Answer) → IsBetween x → ActsAs n (act_of x) w.bonds r w'.bonds
+pub acts_between : (n : ℕ) (x : Asked) (w w' : Processes) (r : Answer) → IsBetween x → ActsAs n (act_of x) w.shared r w'.shared
     → w'.slots ≡ w.slots → w'.ready ≡ w.ready → w'.basis ≡ w.basis → ActsIn n (act_of x) w r w'
 acts_between n x w w' r b h s q f c k =
-    acted_in n c (acted (code_in w) c n (act_of x)) w w' r (acted_keeps (code_in w) c n x b) (h (code_in w) c k.ties) s q f k
+    acted_in n c (acted (module_in w) c n (act_of x)) w w' r (acted_keeps (module_in w) c n x b) (h (module_in w) c k.ties) s q f k
 
 -- what raises leaves all as it was
-pub raised_in : (n : ℕ) (w : World) (r : Answer) (c : Core) (e : Value) → Answers r (raising c e) → StandsBut w c n → ActedIn c (raising c e) n w r w
+pub raised_in : (n : ℕ) (w : Processes) (r : Answer) (c : Core) (e : Value) → Answers r (raising c e) → RepresentsBut w c n → ActedIn c (raising c e) n w r w
 raised_in n w r c e k but =
     let j = but.room.rows in
     record {
       stands = but;
       state = refl;
       mail = λ t t' h h' m. ap (λ z. z.mailbox.messages) (slot_is t' t (sym h' ∙ h)) ∙ m;
-      channels = sym (enough_senders (length c.processes) w.bonds.channels (omega arith));
+      channels = sym (enough_senders (length c.processes) w.shared.channels (omega arith));
       answers = k;
       basis = refl;
     }
@@ -201,37 +201,37 @@ in_state c n s vs = with_process c n (record (of c n) { state = s; mailbox = vs 
 state_only : (c : Core) (n : ℕ) (s : State) (vs : List Value) → vs ≡ (of c n).mailbox → in_state c n s vs ≡ with_state c n s
 state_only c n s vs e = ap (in_state c n s) e
 
-module _ (w w' : World) (c : Core) (n : ℕ) (s' : Slot) (state : State) (mail : List Value) where
+module _ (w w' : Processes) (c : Core) (n : ℕ) (s' : Slot) (state : State) (mail : List Value) where
   abbrev Changes : Type 0
-  Changes = (w'.slots.items ≡ slice_set w.slots.items n s') × (w'.bonds ≡ w.bonds) × (w'.basis ≡ w.basis)
+  Changes = (w'.slots.items ≡ slice_set w.slots.items n s') × (w'.shared ≡ w.shared) × (w'.basis ≡ w.basis)
 
   -- a process that could go still can
-  pub goes_again : StandsBut w c n → can_go (of c n).state ≡ true → can_go state ≡ true → PutsIn (code_in w) n (body state mail) s' → Changes → w'.ready ≡ w.ready
-      → Stands w' (in_state c n state mail)
+  pub goes_again : RepresentsBut w c n → can_go (of c n).state ≡ true → can_go state ≡ true → PutsIn (module_in w) n (body state mail) s' → Changes → w'.ready ≡ w.ready
+      → Represents w' (in_state c n state mail)
   goes_again h can g p e r =
       put_back w w' c n s' (record (of c n) { state = state; mailbox = mail }) h (sym p.is)
       (ties_alive (of c n) state mail (alive_going state g ∙ sym (alive_going (of c n).state can))) p.sound e.0 e.1 e.2
       (r ∙ h.ready ∙ sym (numbers_kept can_go zero c.processes n (record (of c n) { state = state; mailbox = mail }) (g ∙ sym can)))
 
   -- it can go no more, but lives
-  pub waits_now : StandsBut w c n → n < length c.processes → is_alive state ≡ is_alive (of c n).state → can_go state ≡ false → PutsIn (code_in w) n (body state mail) s'
-      → Changes → w'.ready ≡ without_number n w.ready → Stands w' (in_state c n state mail)
+  pub waits_now : RepresentsBut w c n → n < length c.processes → is_alive state ≡ is_alive (of c n).state → can_go state ≡ false → PutsIn (module_in w) n (body state mail) s'
+      → Changes → w'.ready ≡ without_number n w.ready → Represents w' (in_state c n state mail)
   waits_now h l lives g p e r =
       put_back w w' c n s' (record (of c n) { state = state; mailbox = mail }) h (sym p.is) (ties_alive (of c n) state mail lives) p.sound e.0 e.1 e.2
       (r ∙ ap (without_number n) h.ready ∙ sym (goes_no_more c n (record (of c n) { state = state; mailbox = mail }) l g))
 
 -- what is left of signals where none was sent
-pub none_sent : (w w' : World) (c d : Core) (n : ℕ) → length d.processes ≡ length c.processes → StandsBut w c n → w'.bonds ≡ w.bonds
-    → w'.bonds.channels ≡ posted n [] (with_senders (length d.processes) w.bonds.channels)
+pub none_sent : (w w' : Processes) (c d : Core) (n : ℕ) → length d.processes ≡ length c.processes → RepresentsBut w c n → w'.shared ≡ w.shared
+    → w'.shared.channels ≡ posted n [] (with_senders (length d.processes) w.shared.channels)
 none_sent w w' c d n e h b =
     let k = h.room.rows in
-    let l : length d.processes ≤ length w.bonds.channels = omega arith in
-    ap (λ z. z.channels) b ∙ sym (enough_senders (length d.processes) w.bonds.channels l)
+    let l : length d.processes ≤ length w.shared.channels = omega arith in
+    ap (λ z. z.channels) b ∙ sym (enough_senders (length d.processes) w.shared.channels l)
 
 -- ---- an action and its answer
 
 -- the machine stands as it did
-left_still : (m : Code) (own : ℕ) (x : Standing) (s s' : Slot) → KeepsLife s s' → SlotIsLeft m own x s → SlotIsLeft m own x s'
+left_still : (m : Module) (own : ℕ) (x : Standing) (s s' : Slot) → KeepsLife s s' → SlotIsLeft m own x s → SlotIsLeft m own x s'
 left_still m own x s s' k h = subst (λ l. LifeIsLeft m own x l s'.mailbox) (sym k.life) (by s.life h)
   where
     by : (l : Life) → LifeIsLeft m own x l s.mailbox → LifeIsLeft m own x l s'.mailbox
@@ -239,29 +239,29 @@ left_still m own x s s' k h = subst (λ l. LifeIsLeft m own x l s'.mailbox) (sym
     by (life.Ends r) h = h
     by (life.Ended e) h = h
 
-pub shows_act : (n : ℕ) (x : Act) (w w1 w' : World) (r : Answer) (s1 s' : Slot) → ActsIn n x w r w1 → KeepsSlot n w w1 → slice_get w1.slots.items n ≡ Some s1
-    → ((m : Code) (own : ℕ) (fs : _) → SlotIsLeft m own (asking fs) s1 → AnswersIn m own fs (told_of r.value) s1 s')
-    → w'.slots.items ≡ slice_set w1.slots.items n s' → w'.bonds ≡ w1.bonds → w'.ready ≡ w1.ready → w'.basis ≡ w1.basis → ShowsAct n x w r.label w'
+pub shows_act : (n : ℕ) (x : Act) (w w1 w' : Processes) (r : Answer) (s1 s' : Slot) → ActsIn n x w r w1 → KeepsSlot n w w1 → slice_get w1.slots.items n ≡ Some s1
+    → ((m : Module) (own : ℕ) (fs : _) → SlotIsLeft m own (asking fs) s1 → AnswersIn m own fs (told_of r.value) s1 s')
+    → w'.slots.items ≡ slice_set w1.slots.items n s' → w'.shared ≡ w1.shared → w'.ready ≡ w1.ready → w'.basis ≡ w1.basis → ShowsAct n x w r.label w'
 shows_act n x w w1 w' r s1 s' h keeps at ans e b q f c fs s but can left mail =
     let g = h c but in
-    let v = acted (code_in w) c n x in
+    let v = acted (module_in w) c n x in
     let d = v.left.core in
     let k = keeps s left.at in
     let same : k.0 ≡ s1 = slot_is k.0 s1 (sym k.1 ∙ at) in
     let state = answered fs v.answer in
     let own_mail : s1.mailbox.messages ≡ (of d n).mailbox = g.mail s s1 left.at at mail in
-    let there : SlotIsLeft (code_in w1) n (asking fs) s1 =
-    subst (λ z. SlotIsLeft (code_of z.module.value) n (asking fs) s1) (sym g.basis)
-    (subst (SlotIsLeft (code_in w) n (asking fs)) same (left_still (code_in w) n (asking fs) s k.0 k.2 left.leaves)) in
-    let puts0 = ans (code_in w1) n fs there in
-    let puts : PutsIn (code_in w1) n (body state (of d n).mailbox) s' =
+    let there : SlotIsLeft (module_in w1) n (asking fs) s1 =
+    subst (λ z. SlotIsLeft (module_of z.module.value) n (asking fs) s1) (sym g.basis)
+    (subst (SlotIsLeft (module_in w) n (asking fs)) same (left_still (module_in w) n (asking fs) s k.0 k.2 left.leaves)) in
+    let puts0 = ans (module_in w1) n fs there in
+    let puts : PutsIn (module_in w1) n (body state (of d n).mailbox) s' =
     record { sound = puts0.sound; is = puts0.is ∙ ap (λ z. body (answered fs z) s1.mailbox.messages) g.answers.value ∙ ap (body state) own_mail } in
     let can' : can_go (of d n).state ≡ true = ap can_go g.state ∙ can in
     let i : length (with_state d n state).processes ≡ length d.processes = set_length n d.processes _ in
     record {
       done = record {
         stands = goes_again w1 w' d n s' state (of d n).mailbox g.stands can' (answers_go fs v.answer) puts (e, b, f) q;
-        channels = ap (λ z. z.channels) b ∙ g.channels ∙ ap (λ z. posted n v.left.sent (with_senders z w.bonds.channels)) (sym i);
+        channels = ap (λ z. z.channels) b ∙ g.channels ∙ ap (λ z. posted n v.left.sent (with_senders z w.shared.channels)) (sym i);
         basis = f ∙ g.basis;
       };
       label = g.answers.label;
@@ -273,21 +273,21 @@ shows_act n x w w1 w' r s1 s' h keeps at ans e b q f c fs s but can left mail =
 
 -- ---- a wait
 
-pub but_there : (w : World) (c : Core) (n : ℕ) → StandsBut w c n → n < length c.processes
+pub but_there : (w : Processes) (c : Core) (n : ℕ) → RepresentsBut w c n → n < length c.processes
 but_there w c n h =
     let b = body (ended (failed undefined)) [] in
     let e : length c.processes ≡ length w.slots.items =
     length_of c ∙ sym (set_length n (bodies_of c) b) ∙ ap length (h.bodies b) ∙ set_length n (bodies_in w) b ∙ map_length slot_body w.slots.items in
     let l = h.there in omega arith
 
-pub waits_in : (n : ℕ) (w w' : World) (s1 s' : Slot) → slice_get w.slots.items n ≡ Some s1
-    → ((m : Code) (own : ℕ) (t : Tree) → SlotIsLeft m own (goes (running t)) s1 → PutsIn m own (body (waiting t) s1.mailbox.messages) s')
-    → w'.slots.items ≡ slice_set w.slots.items n s' → w'.bonds ≡ w.bonds → w'.basis ≡ w.basis → w'.ready ≡ without_number n w.ready → WaitsIn n w w'
+pub waits_in : (n : ℕ) (w w' : Processes) (s1 s' : Slot) → slice_get w.slots.items n ≡ Some s1
+    → ((m : Module) (own : ℕ) (t : Tree) → SlotIsLeft m own (goes (running t)) s1 → PutsIn m own (body (waiting t) s1.mailbox.messages) s')
+    → w'.slots.items ≡ slice_set w.slots.items n s' → w'.shared ≡ w.shared → w'.basis ≡ w.basis → w'.ready ≡ without_number n w.ready → WaitsIn n w w'
 waits_in n w w' s1 s' at ans e b f q c t s but can left mail =
     let same : s1 ≡ s = slot_is s1 s (sym at ∙ left.at) in
-    let puts0 = ans (code_in w) n t (subst (SlotIsLeft (code_in w) n (goes (running t))) (sym same) left.leaves) in
+    let puts0 = ans (module_in w) n t (subst (SlotIsLeft (module_in w) n (goes (running t))) (sym same) left.leaves) in
     let own_mail : s1.mailbox.messages ≡ (of c n).mailbox = ap (λ z. z.mailbox.messages) same ∙ mail in
-    let puts : PutsIn (code_in w) n (body (waiting t) (of c n).mailbox) s' = record { sound = puts0.sound; is = puts0.is ∙ ap (body (waiting t)) own_mail } in
+    let puts : PutsIn (module_in w) n (body (waiting t) (of c n).mailbox) s' = record { sound = puts0.sound; is = puts0.is ∙ ap (body (waiting t)) own_mail } in
     let i : length (with_state c n (waiting t)).processes ≡ length c.processes = set_length n c.processes _ in
     record {
       stands = waits_now w w' c n s' (waiting t) (of c n).mailbox but (but_there w c n but) (sym (alive_going (of c n).state can)) refl puts (e, b, f) q;

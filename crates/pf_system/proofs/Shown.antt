@@ -2,9 +2,9 @@
 use Rattle.std.proofs.Common.{◌≡◌, ℕ, zero, ◌<◌, ◌≤◌, List, [], refl, sym, ap, ◌∙◌, subst, arith, length, map, slice_set}
 use Rattle.std.specs.Prelude.{Result}
 use Rattle.pf_terms.specs.declared.term.Term.{Term}
-use Rattle.pf_model.specs.Code.{code_of}
+use Rattle.pf_model.specs.Module.{module_of}
 use Rattle.pf_model.specs.Maps.{without_number}
-use Rattle.pf_model.specs.Place.{ended}
+use Rattle.pf_model.specs.Context.{ended}
 use Rattle.pf_model.specs.Channels.{Signal}
 use Rattle.pf_model.specs.Configuration.{Process, Core, Left, fresh, of, with_process, posted}
 use Rattle.pf_model.specs.Ends.{reason_of, ended_by}
@@ -15,28 +15,28 @@ use Rattle.pf_ties.specs.Laws.{ties_of}
 use Rattle.pf_ties.proofs.Followed.{follow_ends}
 use Rattle.pf_system.specs.Bodies.{body, process_body}
 use Rattle.pf_system.specs.Slots.{slot_body, end_of, SlotIsSound, SlotsAreSound}
-use Rattle.pf_system.specs.Worlds.{Stands, StandsBut, Done, EndsSo, code_in, bodies_in}
+use Rattle.pf_system.specs.Processes.{Represents, RepresentsBut, Done, EndsProcess, module_in, bodies_in}
 use Rattle.pf_system.specs.declared.slot.Slot.{Slot}
-use Rattle.pf_system.specs.declared.world.World.{World}
+use Rattle.pf_system.specs.declared.processes.Processes.{Processes}
 use Rattle.pf_system.proofs.Bodies.{set_map, set_length, bodies_changed, bodies_same, ties_length}
 use Rattle.pf_system.proofs.Ready.{numbers_kept}
 use Rattle.pf_system.proofs.Rows.{enough_senders, posted_length}
-use Rattle.pf_system.proofs.Worlds.{goes_no_more}
+use Rattle.pf_system.proofs.Processes.{goes_no_more}
 
 -- there are rows enough for what is sent
-pub done_so : (w w' : World) (a : ℕ) (d : Left) → Stands w' d.core → length d.core.processes ≤ length w.bonds.channels
-    → w'.bonds.channels ≡ posted a d.sent w.bonds.channels → w'.basis ≡ w.basis → Done a d w.bonds.channels w w'
+pub done_so : (w w' : Processes) (a : ℕ) (d : Left) → Represents w' d.core → length d.core.processes ≤ length w.shared.channels
+    → w'.shared.channels ≡ posted a d.sent w.shared.channels → w'.basis ≡ w.basis → Done a d w.shared.channels w w'
 done_so w w' a d h n e m =
-    record { stands = h; channels = e ∙ ap (posted a d.sent) (sym (enough_senders (length d.core.processes) w.bonds.channels n)); basis = m }
+    record { stands = h; channels = e ∙ ap (posted a d.sent) (sym (enough_senders (length d.core.processes) w.shared.channels n)); basis = m }
 
 -- a world in which nothing but ties and channels is changed
-module _ (w w' : World) (c : Core) (slots : w'.slots.items ≡ w.slots.items) (ready : w'.ready ≡ w.ready) (basis : w'.basis ≡ w.basis) where
-  kept_slots : Stands w c → SlotsAreSound (code_in w') zero w'.slots.items
+module _ (w w' : Processes) (c : Core) (slots : w'.slots.items ≡ w.slots.items) (ready : w'.ready ≡ w.ready) (basis : w'.basis ≡ w.basis) where
+  kept_slots : Represents w c → SlotsAreSound (module_in w') zero w'.slots.items
   kept_slots h =
-      subst (λ ss. SlotsAreSound (code_in w') zero ss) (sym slots)
-      (subst (λ z. SlotsAreSound (code_of z.module.value) zero w.slots.items) (sym basis) h.slots)
+      subst (λ ss. SlotsAreSound (module_in w') zero ss) (sym slots)
+      (subst (λ z. SlotsAreSound (module_of z.module.value) zero w.slots.items) (sym basis) h.slots)
 
-  pub rows_more : Stands w c → ties_of c ≡ w'.bonds.ties → length w.bonds.channels ≤ length w'.bonds.channels → Stands w' c
+  pub rows_more : Represents w c → ties_of c ≡ w'.shared.ties → length w.shared.channels ≤ length w'.shared.channels → Represents w' c
   rows_more h t n =
       record {
         bodies = h.bodies ∙ sym (ap (map slot_body) slots);
@@ -51,8 +51,8 @@ module _ (w w' : World) (c : Core) (slots : w'.slots.items ≡ w.slots.items) (r
         };
       }
 
-  pub tied : (b : ℕ) (p : Process) → Stands w c → process_body p ≡ process_body (of c b) → ties_of (with_process c b p) ≡ w'.bonds.ties
-      → w'.bonds.channels ≡ w.bonds.channels → Stands w' (with_process c b p)
+  pub tied : (b : ℕ) (p : Process) → Represents w c → process_body p ≡ process_body (of c b) → ties_of (with_process c b p) ≡ w'.shared.ties
+      → w'.shared.channels ≡ w.shared.channels → Represents w' (with_process c b p)
   tied b p h y t r =
       let n : length (with_process c b p).processes ≡ length c.processes = set_length b c.processes p in
       record {
@@ -70,12 +70,12 @@ module _ (w w' : World) (c : Core) (slots : w'.slots.items ≡ w.slots.items) (r
 
 -- ---- the end of a process
 
-module _ (w w' : World) (a : ℕ) (e : Result Term Term) (s' : Slot) (ss : List (ℕ × Signal)) where
+module _ (w w' : Processes) (a : ℕ) (e : Result Term Term) (s' : Slot) (ss : List (ℕ × Signal)) where
   pub ends_so : slot_body s' ≡ body (ended (end_of e)) [] → ((m : _) → SlotIsSound m a s') → w'.slots.items ≡ slice_set w.slots.items a s'
-      → w'.bonds.ties ≡ ties.ended w.bonds.ties a → w'.ready ≡ without_number a w.ready → w'.basis ≡ w.basis
-      → ss ≡ ties.last_signals_of (ties.of w.bonds.ties a) (reason_of (end_of e)) → w'.bonds.channels ≡ posted a ss w.bonds.channels
-      → length w.slots.items ≡ length w.bonds.ties.processes
-      → (c : Core) → StandsBut w c a → EndsSo c a e w w'
+      → w'.shared.ties ≡ ties.ended w.shared.ties a → w'.ready ≡ without_number a w.ready → w'.basis ≡ w.basis
+      → ss ≡ ties.last_signals_of (ties.of w.shared.ties a) (reason_of (end_of e)) → w'.shared.channels ≡ posted a ss w.shared.channels
+      → length w.slots.items ≡ length w.shared.ties.processes
+      → (c : Core) → RepresentsBut w c a → EndsProcess c a e w w'
   ends_so y sound slots t r m last sent even c h =
       let x = end_of e in
       let p = fresh (ended x) [] in
@@ -83,10 +83,10 @@ module _ (w w' : World) (a : ℕ) (e : Result Term Term) (s' : Slot) (ss : List 
       let rows = h.room.rows in
       let few = h.room.few in
       let there = h.there in
-      let sizes : length (ties_of c).processes ≡ length w.bonds.ties.processes = ap (λ z. length z.processes) h.ties in
+      let sizes : length (ties_of c).processes ≡ length w.shared.ties.processes = ap (λ z. length z.processes) h.ties in
       let size : a < length c.processes = omega (arith, ties_length c) in
       let all = follow_ends.last c a x ∙ ap (λ z. ties.last_signals_of (ties.of z a) (reason_of x)) h.ties ∙ sym last in
-      let longer = posted_length a ss w.bonds.channels in
+      let longer = posted_length a ss w.shared.channels in
       let long = ap length sent in
       done_so w w' a (ended_by c a x)
       (record {
@@ -94,8 +94,8 @@ module _ (w w' : World) (a : ℕ) (e : Result Term Term) (s' : Slot) (ss : List 
             ∙ sym (ap (map slot_body) slots ∙ set_map slot_body a w.slots.items s');
         ties = follow_ends.ended c a x ∙ ap (λ z. ties.ended z a) h.ties ∙ sym t;
         ready = r ∙ ap (without_number a) h.ready ∙ sym (goes_no_more c a p size refl);
-        slots = subst (λ z. SlotsAreSound (code_in w') zero z) (sym slots)
-            (subst (λ z. SlotsAreSound (code_of z.module.value) zero (slice_set w.slots.items a s')) (sym m) (h.slots s' (sound (code_in w))));
+        slots = subst (λ z. SlotsAreSound (module_in w') zero z) (sym slots)
+            (subst (λ z. SlotsAreSound (module_of z.module.value) zero (slice_set w.slots.items a s')) (sym m) (h.slots s' (sound (module_in w))));
         room = record {
           rows = omega arith;
           few = omega arith;
@@ -103,4 +103,4 @@ module _ (w w' : World) (a : ℕ) (e : Result Term Term) (s' : Slot) (ss : List 
           within = subst (λ z. z.most ≤ MOST_PROCESSES) (sym m) h.room.within;
         };
       })
-      (omega arith) (sent ∙ ap (λ z. posted a z w.bonds.channels) (sym all)) m
+      (omega arith) (sent ∙ ap (λ z. posted a z w.shared.channels) (sym all)) m

@@ -4,7 +4,7 @@ use Rattle.std.specs.Prelude.{Ok, slice_get}
 use Rattle.std.proofs.lemmas.Bool.Decides.{nat_tests}
 use Rattle.pf_terms.specs.Value.{Value, Values, atom, list, pid}
 use Rattle.pf_terms.specs.Fixed.{undefined, badarg, system_limit}
-use Rattle.pf_model.specs.Code.{Code, code_of}
+use Rattle.pf_model.specs.Module.{Module, module_of}
 use Rattle.pf_model.specs.Maps.{put, with_number}
 use Rattle.pf_model.specs.Contraction as asked
 use Rattle.pf_model.specs.Contraction.{Bond, unbound, linking, watching}
@@ -12,7 +12,7 @@ use Rattle.pf_model.specs.Channels.{with_senders}
 use Rattle.pf_model.specs.Configuration.{Process, Core, fresh, of, process_at, is_alive}
 use Rattle.pf_model.specs.Actions.{gives, raising, given, given_for, shown_for, as_atom, as_elements, linked_with, watching_with, after_spawn, spawned, start_of}
 use Rattle.pf_model.specs.Labels as label
-use Rattle.pf_model.specs.Place.{State, running, waiting, ending, ended, failed}
+use Rattle.pf_model.specs.Context.{State, running, waiting, ending, ended, failed}
 use Rattle.pf_model.specs.Runs.{can_go}
 use Rattle.pf_model.specs.Reports.{label_of}
 use Rattle.pf_model.specs.declared.limits.TheConstants.{MOST_PROCESSES}
@@ -22,12 +22,12 @@ use Rattle.pf_ties.proofs.Followed.{follow_actions}
 use Rattle.pf_stepper.specs.Turns.{told_of}
 use Rattle.pf_system.specs.Bodies.{Body, body, process_body, bodies_of}
 use Rattle.pf_system.specs.Slots.{slot_body, SlotIsSound, SlotsAreSound}
-use Rattle.pf_system.specs.Worlds.{StandsBut, code_in, bodies_in}
-use Rattle.pf_system.specs.Acts.{Answers, ActedIn, ActsIn, KeepsSlot, LifeBegins, Opens, OpensSo, Tells, opened_by}
-use Rattle.pf_system.specs.declared.bonds.Answer.{Answer}
+use Rattle.pf_system.specs.Processes.{RepresentsBut, module_in, bodies_in}
+use Rattle.pf_system.specs.Acts.{Answers, ActedIn, ActsIn, KeepsSlot, LifeBegins, Opens, OpensProcess, Tells, opened_by}
+use Rattle.pf_system.specs.declared.shared.Answer.{Answer}
 use Rattle.pf_system.specs.declared.slot.Life.{Life}
 use Rattle.pf_system.specs.declared.slot.Slot.{Slot}
-use Rattle.pf_system.specs.declared.world.World.{World}
+use Rattle.pf_system.specs.declared.processes.Processes.{Processes}
 use Rattle.pf_system.proofs.Bodies.{map_more, map_length, set_length, set_front, more_length, bodies_same, length_of}
 use Rattle.pf_system.proofs.Acting.{given_none}
 use Rattle.pf_system.proofs.Ready.{numbers_in, by_bodies, more_in}
@@ -39,7 +39,7 @@ get_front n [] ys l = absurd (omega arith)
 get_front zero (x ∷ xs) ys l = refl
 get_front (suc n) (x ∷ xs) ys l = get_front n xs ys (omega arith)
 
-sound_more : (m : Code) (n : ℕ) (ss : List Slot) (s : Slot) → SlotsAreSound m n ss → SlotIsSound m (n + length ss) s → SlotsAreSound m n (ss ++ s ∷ [])
+sound_more : (m : Module) (n : ℕ) (ss : List Slot) (s : Slot) → SlotsAreSound m n ss → SlotIsSound m (n + length ss) s → SlotsAreSound m n (ss ++ s ∷ [])
 sound_more m n [] s h k = let e : n + zero ≡ n = omega arith in (subst (λ z. SlotIsSound m z s) e k, tt)
 sound_more m n (x ∷ ss) s h k =
     let j : ℕ = length ss in
@@ -87,9 +87,9 @@ body_front n c d b l e = by n c.processes d.processes l e
     by zero (p ∷ ps) (q ∷ qs) l e = cc
     by (suc n) (p ∷ ps) (q ∷ qs) l e = by n ps qs (omega arith) (cc)
 
-module _ (a : ℕ) (bond : Bond) (w w' : World) (l : Life) (r : Answer) (c : Core) (s : State)
-    (but : StandsBut w c a) (few : length w.slots.items < w.basis.most) (h : LifeBegins (code_in w) (length w.slots.items) s l)
-    (o : Opens (opened_by bond a w.bonds.ties) w l w') where
+module _ (a : ℕ) (bond : Bond) (w w' : Processes) (l : Life) (r : Answer) (c : Core) (s : State)
+    (but : RepresentsBut w c a) (few : length w.slots.items < w.basis.most) (h : LifeBegins (module_in w) (length w.slots.items) s l)
+    (o : Opens (opened_by bond a w.shared.ties) w l w') where
   abbrev after : Core
   after = after_spawn c a bond s
 
@@ -116,7 +116,7 @@ module _ (a : ℕ) (bond : Bond) (w w' : World) (l : Life) (r : Answer) (c : Cor
   there_of : a < length (bodies_of c)
   there_of = let k = length_of c in let j = but.there in let i = same_length in omega arith
 
-  stands_after : StandsBut w' after a
+  stands_after : RepresentsBut w' after a
   stands_after =
       let n = length w.slots.items in
       let e = same_length in
@@ -132,17 +132,17 @@ module _ (a : ℕ) (bond : Bond) (w w' : World) (l : Life) (r : Answer) (c : Cor
             o.ready ∙ ap (with_number n) (but.ready ∙ by_bodies can_go zero c.processes) ∙ ap (λ k. with_number k (numbers_in can_go zero (bodies_of c))) (sym z)
             ∙ sym (by_bodies can_go zero after.processes ∙ ap (numbers_in can_go zero) (spawn_bodies c a s bond) ∙ more_in can_go zero (bodies_of c) (body s []) h.goes);
         slots = λ t k.
-            let i : SlotIsSound (code_in w) a t = subst (λ z. SlotIsSound (code_of z.module.value) a t) o.basis k in
+            let i : SlotIsSound (module_in w) a t = subst (λ z. SlotIsSound (module_of z.module.value) a t) o.basis k in
             let y : zero + length (slice_set w.slots.items a t) ≡ n = omega (arith, set_length a w.slots.items t) in
-            let x : SlotIsSound (code_in w) (zero + length (slice_set w.slots.items a t)) new_slot =
-            subst (λ z. SlotIsSound (code_in w) z new_slot) (sym y) (record { ready = h.sound o.slots.0 o.slots.2; is_of = h.is_of }) in
-            let v = sound_more (code_in w) zero (slice_set w.slots.items a t) new_slot (but.slots t i) x in
+            let x : SlotIsSound (module_in w) (zero + length (slice_set w.slots.items a t)) new_slot =
+            subst (λ z. SlotIsSound (module_in w) z new_slot) (sym y) (record { ready = h.sound o.slots.0 o.slots.2; is_of = h.is_of }) in
+            let v = sound_more (module_in w) zero (slice_set w.slots.items a t) new_slot (but.slots t i) x in
             let q : slice_set w'.slots.items a t ≡ slice_set w.slots.items a t ++ new_slot ∷ [] =
             ap (λ z. slice_set z a t) o.slots.3 ∙ set_front a w.slots.items (new_slot ∷ []) t but.there in
-            subst (λ z. SlotsAreSound (code_of z.module.value) zero (slice_set w'.slots.items a t)) (sym o.basis) (subst (SlotsAreSound (code_in w) zero) (sym q) v);
+            subst (λ z. SlotsAreSound (module_of z.module.value) zero (slice_set w'.slots.items a t)) (sym o.basis) (subst (SlotsAreSound (module_in w) zero) (sym q) v);
         room = record {
           rows =
-              let j = senders_length (n + 1) w.bonds.channels in let k = j.1 in let i = ap length o.channels in omega arith;
+              let j = senders_length (n + 1) w.shared.channels in let k = j.1 in let i = ap length o.channels in omega arith;
           few = let m = but.room.within in omega arith;
           most = spawn_most c a s bond ∙ but.room.most ∙ ap (λ z. z.most) (sym o.basis);
           within = subst (λ z. z.most ≤ MOST_PROCESSES) (sym o.basis) but.room.within;
@@ -157,12 +157,12 @@ module _ (a : ℕ) (bond : Bond) (w w' : World) (l : Life) (r : Answer) (c : Cor
       ap (λ z. z.mailbox.messages) (slot_is t' t q) ∙ m
       ∙ ap (λ z. z.mailbox) (sym (body_front a c after (body s []) (but_there w c a but) (spawn_bodies c a s bond)))
 
-  pub spawned_in : Tells bond (length w.slots.items) w.bonds.ties.next_reference r → ActedIn c (spawned c a bond s) a w r w'
+  pub spawned_in : Tells bond (length w.slots.items) w.shared.ties.next_reference r → ActedIn c (spawned c a bond s) a w r w'
   spawned_in y =
       let e = same_length in
       let f = after_length in
       let m = but.room.most in
-      let k : c.next_reference ≡ w.bonds.ties.next_reference = ap (λ z. z.next_reference) but.ties in
+      let k : c.next_reference ≡ w.shared.ties.next_reference = ap (λ z. z.next_reference) but.ties in
       let lt : nat_lt (length c.processes) c.most ≡ true = grind (arith, nat_tests) in
       let z : length w.slots.items + 1 ≡ length after.processes = omega arith in
       subst (λ t. ActedIn c (if t then gives after [] (given_for bond (length c.processes) c.next_reference) (shown_for bond (length c.processes) c.next_reference) else raising c system_limit) a w r w') (sym lt)
@@ -170,10 +170,10 @@ module _ (a : ℕ) (bond : Bond) (w w' : World) (l : Life) (r : Answer) (c : Cor
         stands = stands_after;
         state = ap (λ p. p.state) (body_front a c after (body s []) (but_there w c a but) (spawn_bodies c a s bond));
         mail = mail_after;
-        channels = o.channels ∙ ap (λ t. with_senders t w.bonds.channels) z;
+        channels = o.channels ∙ ap (λ t. with_senders t w.shared.channels) z;
         answers = record {
-          value = y.value ∙ ap (λ t. Ok (given_for bond t w.bonds.ties.next_reference)) (sym e) ∙ ap (λ t. Ok (given_for bond (length c.processes) t)) (sym k);
-          label = y.label ∙ ap (λ t. shown_for bond t w.bonds.ties.next_reference) (sym e) ∙ ap (shown_for bond (length c.processes)) (sym k);
+          value = y.value ∙ ap (λ t. Ok (given_for bond t w.shared.ties.next_reference)) (sym e) ∙ ap (λ t. Ok (given_for bond (length c.processes) t)) (sym k);
+          label = y.label ∙ ap (λ t. shown_for bond t w.shared.ties.next_reference) (sym e) ∙ ap (shown_for bond (length c.processes)) (sym k);
         };
         basis = o.basis;
       })
@@ -184,45 +184,45 @@ tells_it true p k r x y = record { value = x; label = y }
 tells_it false p k r x y = record { value = x; label = y }
 
 -- where the ties are changed first
-pub opens_tied : (w w' : World) (l : Life) (t u : AllTies) → u ≡ t → Opens u (record w { bonds = record w.bonds { ties = u } }) l w' → Opens t w l w'
+pub opens_tied : (w w' : Processes) (l : Life) (t u : AllTies) → u ≡ t → Opens u (record w { shared = record w.shared { ties = u } }) l w' → Opens t w l w'
 opens_tied w w' l t u e o = record { tied = o.tied ∙ e; channels = o.channels; slots = o.slots; ready = o.ready; basis = o.basis }
 
 -- the slots of the others stay
-pub keeps_opened : (n : ℕ) (b : Bond) (w w' : World) (l : Life) (r : Answer) → n < length w.slots.items → OpensSo b n w l r w' → KeepsSlot n w w'
+pub keeps_opened : (n : ℕ) (b : Bond) (w w' : Processes) (l : Life) (r : Answer) → n < length w.slots.items → OpensProcess b n w l r w' → KeepsSlot n w w'
 keeps_opened n b w w' l r k o = keeps_slot n w w' (ap (λ z. slice_get z n) o.opens.slots.3 ∙ get_front n w.slots.items _ k)
 
 -- ---- the action
 
-module _ (a : ℕ) (bond : Bond) (w : World) (r : Answer) (home function arguments : Value) where
-  abbrev Spawns : World → Type 0
+module _ (a : ℕ) (bond : Bond) (w : Processes) (r : Answer) (home function arguments : Value) where
+  abbrev Spawns : Processes → Type 0
   Spawns w' = ActsIn a (asked.spawn bond home function arguments) w r w'
 
   pub home_refused : as_atom home ≡ None → ((c : Core) → Answers r (raising c badarg)) → Spawns w
   home_refused e k c but =
       subst (λ z. ActedIn c z a w r w)
-      (sym (given_none c (as_atom home) (λ h. given c (as_atom function) (λ n. given c (as_elements arguments) (λ vs. spawned c a bond (start_of (code_in w) h n vs)))) e))
+      (sym (given_none c (as_atom home) (λ h. given c (as_atom function) (λ n. given c (as_elements arguments) (λ vs. spawned c a bond (start_of (module_in w) h n vs)))) e))
       (raised_in a w r c badarg (k c) but)
 
   pub function_refused : (h : ℕ) → home ≡ atom h → as_atom function ≡ None → ((c : Core) → Answers r (raising c badarg)) → Spawns w
   function_refused h q e k c but =
-      subst (λ z. ActedIn c (given c (as_atom z) (λ h. given c (as_atom function) (λ n. given c (as_elements arguments) (λ vs. spawned c a bond (start_of (code_in w) h n vs))))) a w r w) (sym q)
+      subst (λ z. ActedIn c (given c (as_atom z) (λ h. given c (as_atom function) (λ n. given c (as_elements arguments) (λ vs. spawned c a bond (start_of (module_in w) h n vs))))) a w r w) (sym q)
       (subst (λ z. ActedIn c z a w r w)
-      (sym (given_none c (as_atom function) (λ n. given c (as_elements arguments) (λ vs. spawned c a bond (start_of (code_in w) h n vs))) e))
+      (sym (given_none c (as_atom function) (λ n. given c (as_elements arguments) (λ vs. spawned c a bond (start_of (module_in w) h n vs))) e))
       (raised_in a w r c badarg (k c) but))
 
   pub arguments_refused : (h n : ℕ) → home ≡ atom h → function ≡ atom n → as_elements arguments ≡ None → ((c : Core) → Answers r (raising c badarg)) → Spawns w
   arguments_refused h n q p e k c but =
-      subst (λ z. ActedIn c (given c (as_atom z) (λ h. given c (as_atom function) (λ n. given c (as_elements arguments) (λ vs. spawned c a bond (start_of (code_in w) h n vs))))) a w r w) (sym q)
-      (subst (λ z. ActedIn c (given c (as_atom z) (λ n. given c (as_elements arguments) (λ vs. spawned c a bond (start_of (code_in w) h n vs)))) a w r w) (sym p)
-      (subst (λ z. ActedIn c z a w r w) (sym (given_none c (as_elements arguments) (λ vs. spawned c a bond (start_of (code_in w) h n vs)) e))
+      subst (λ z. ActedIn c (given c (as_atom z) (λ h. given c (as_atom function) (λ n. given c (as_elements arguments) (λ vs. spawned c a bond (start_of (module_in w) h n vs))))) a w r w) (sym q)
+      (subst (λ z. ActedIn c (given c (as_atom z) (λ n. given c (as_elements arguments) (λ vs. spawned c a bond (start_of (module_in w) h n vs)))) a w r w) (sym p)
+      (subst (λ z. ActedIn c z a w r w) (sym (given_none c (as_elements arguments) (λ vs. spawned c a bond (start_of (module_in w) h n vs)) e))
       (raised_in a w r c badarg (k c) but)))
 
   module _ (h n : ℕ) (vs : Values) (q : home ≡ atom h) (p : function ≡ atom n) (y : arguments ≡ list vs) where
-    reaches : (w' : World) → ((c : Core) → StandsBut w c a → ActedIn c (spawned c a bond (start_of (code_in w) h n vs)) a w r w') → Spawns w'
+    reaches : (w' : Processes) → ((c : Core) → RepresentsBut w c a → ActedIn c (spawned c a bond (start_of (module_in w) h n vs)) a w r w') → Spawns w'
     reaches w' k c but =
-        subst (λ z. ActedIn c (given c (as_atom z) (λ h. given c (as_atom function) (λ n. given c (as_elements arguments) (λ vs. spawned c a bond (start_of (code_in w) h n vs))))) a w r w') (sym q)
-        (subst (λ z. ActedIn c (given c (as_atom z) (λ n. given c (as_elements arguments) (λ vs. spawned c a bond (start_of (code_in w) h n vs)))) a w r w') (sym p)
-        (subst (λ z. ActedIn c (given c (as_elements z) (λ vs. spawned c a bond (start_of (code_in w) h n vs))) a w r w') (sym y) (k c but)))
+        subst (λ z. ActedIn c (given c (as_atom z) (λ h. given c (as_atom function) (λ n. given c (as_elements arguments) (λ vs. spawned c a bond (start_of (module_in w) h n vs))))) a w r w') (sym q)
+        (subst (λ z. ActedIn c (given c (as_atom z) (λ n. given c (as_elements arguments) (λ vs. spawned c a bond (start_of (module_in w) h n vs)))) a w r w') (sym p)
+        (subst (λ z. ActedIn c (given c (as_elements z) (λ vs. spawned c a bond (start_of (module_in w) h n vs))) a w r w') (sym y) (k c but)))
 
     pub limit_refused : w.basis.most ≤ length w.slots.items → ((c : Core) → Answers r (raising c system_limit)) → Spawns w
     limit_refused l k =
@@ -230,14 +230,14 @@ module _ (a : ℕ) (bond : Bond) (w : World) (r : Answer) (home function argumen
         let b = body (ended (failed undefined)) [] in
         let e : length c.processes ≡ length w.slots.items =
         length_of c ∙ sym (set_length a (bodies_of c) b) ∙ ap length (but.bodies b) ∙ set_length a (bodies_in w) b ∙ map_length slot_body w.slots.items in
-        let s = start_of (code_in w) h n vs in
+        let s = start_of (module_in w) h n vs in
         let j = length c.processes in
         let m = but.room.most in
         let lt : nat_lt j c.most ≡ false = grind (arith, nat_tests) in
         subst (λ t. ActedIn c (if t then gives (after_spawn c a bond s) [] (given_for bond j c.next_reference) (shown_for bond j c.next_reference) else raising c system_limit) a w r w) (sym lt)
         (raised_in a w r c system_limit (k c) but))
 
-    pub spawns_so : (w' : World) (l : Life) → length w.slots.items < w.basis.most → LifeBegins (code_in w) (length w.slots.items) (start_of (code_in w) h n vs) l
-        → OpensSo bond a w l r w' → Spawns w'
+    pub spawns_so : (w' : Processes) (l : Life) → length w.slots.items < w.basis.most → LifeBegins (module_in w) (length w.slots.items) (start_of (module_in w) h n vs) l
+        → OpensProcess bond a w l r w' → Spawns w'
     spawns_so w' l few begins o =
-        reaches w' (λ c but. spawned_in a bond w w' l r c (start_of (code_in w) h n vs) but few begins o.opens o.tells)
+        reaches w' (λ c but. spawned_in a bond w w' l r c (start_of (module_in w) h n vs) but few begins o.opens o.tells)

@@ -2,8 +2,8 @@
 use Rattle.std.proofs.Common.{◌≡◌, ◌⊎◌, inl, inr, ℕ, zero, suc, ◌+◌, ◌==◌, ◌≤◌, Bool, true, false, List, [], ◌∷◌, ◌++◌, Some, None, if◌then◌else◌, refl, sym, ap, ◌∙◌, subst, arith, length, map}
 use Rattle.pf_terms.specs.Value.{none}
 use Rattle.pf_syntax.specs.Tree.{call, no_trees}
-use Rattle.pf_model.specs.Code.{Code, code_of}
-use Rattle.pf_model.specs.Place.{running}
+use Rattle.pf_model.specs.Module.{Module, module_of}
+use Rattle.pf_model.specs.Context.{running}
 use Rattle.pf_model.specs.Limits.{most_processes}
 use Rattle.pf_model.specs.Maps.{with_number}
 use Rattle.pf_model.specs.declared.limits.TheConstants.{MOST_PROCESSES, MOST_PROCESSES_FIRST}
@@ -14,17 +14,17 @@ use Rattle.pf_model.specs.Reports.{label_of}
 use Rattle.pf_model.specs.declared.report.Label.{Label}
 use Rattle.pf_ties.specs.Ties.{no_process, opened}
 use Rattle.pf_stepper.specs.MachineView.{MachineView, goes, at_call}
-use Rattle.pf_system.specs.View.{system_view}
+use Rattle.pf_system.specs.View.{view_of_system}
 use Rattle.pf_system.specs.Acts.{Opens}
 use Rattle.pf_system.specs.Slots.{SlotIsSound, SlotsAreSound, slot_body, state_in}
-use Rattle.pf_system.specs.Steps.{IsAmong, IsWorldOf, PassesTo}
-use Rattle.pf_system.specs.Worlds.{Stands, Turned, code_in, core_of, configuration_of}
+use Rattle.pf_system.specs.Steps.{IsAmong, RunsModule, PassesTo}
+use Rattle.pf_system.specs.Processes.{Represents, Turned, module_in, core_of, configuration_of}
 use Rattle.pf_system.specs.declared.slot.Life.TheVariants as life
 use Rattle.pf_system.specs.declared.slot.Slot.{Slot}
-use Rattle.pf_system.specs.declared.world.World.{World}
+use Rattle.pf_system.specs.declared.processes.Processes.{Processes}
 use Rattle.pf_system.proofs.Going.{IsIn, split_in, in_either}
 use Rattle.pf_system.proofs.Passing.{both, kept_after, stands_itself}
-use Rattle.pf_system.proofs.Worlds.{again}
+use Rattle.pf_system.proofs.Processes.{again}
 
 -- ---- a process that may go can go
 
@@ -75,22 +75,22 @@ can_go_of a c h = by (in_either (process a) (map process ps) (map (λ h. channel
 
 -- ---- a turn
 
-pub turn_kept : (m : Code) (w w' : World) (c : Core) (a left used : ℕ) (l : Label) → IsWorldOf m w → Turned c a left w l used w' → IsWorldOf m w'
+pub turn_kept : (m : Module) (w w' : Processes) (c : Core) (a left used : ℕ) (l : Label) → RunsModule m w → Turned c a left w l used w' → RunsModule m w'
 turn_kept m w w' c a left used l k h = kept_after m w w' h.deed.left.core k h.shown.done.stands h.shown.done.basis
 
-pub turn_passes : (m : Code) (w w' : World) (k a left used : ℕ) (l : Label) → IsWorldOf m w → Turned (core_of w) a left w l used w'
-    → PassesTo left (system_view m k (Some (configuration_of w))) (process a) (label_of l) used (system_view m (k + used) (Some (configuration_of w')))
+pub turn_passes : (m : Module) (w w' : Processes) (k a left used : ℕ) (l : Label) → RunsModule m w → Turned (core_of w) a left w l used w'
+    → PassesTo left (view_of_system m k (Some (configuration_of w))) (process a) (label_of l) used (view_of_system m (k + used) (Some (configuration_of w')))
 turn_passes m w w' k a left used l i h =
     let d = h.deed in
-    let p : Passed = passed a d w.bonds.channels None used in
+    let p : Passed = passed a d w.shared.channels None used in
     let e : configuration_of w' ≡ p.after =
-    ap (λ c. both c w'.bonds.channels) (again w' d.left.core h.shown.done.stands) ∙ ap (both d.left.core) h.shown.done.channels in
+    ap (λ c. both c w'.shared.channels) (again w' d.left.core h.shown.done.stands) ∙ ap (both d.left.core) h.shown.done.channels in
     record {
       before = configuration_of w;
       passed = p;
       was = refl;
       passes = subst (λ z. Passes z left (configuration_of w) (process a) p) i.code (turn a used d h.turn);
-      becomes = ap (λ c. system_view m (k + used) (Some c)) e;
+      becomes = ap (λ c. view_of_system m (k + used) (Some c)) e;
       label = h.shown.label;
       counts = refl;
       within = h.within;
@@ -107,41 +107,41 @@ most_within edition = by (edition == 1)
     by false = omega arith
 
 -- nothing is there yet
-pub record IsEmpty (w : World) : Type 0 where
+pub record IsEmpty (w : Processes) : Type 0 where
   pub slots : w.slots.items ≡ []
-  pub ties : w.bonds.ties ≡ no_process
-  pub channels : w.bonds.channels ≡ []
+  pub ties : w.shared.ties ≡ no_process
+  pub channels : w.shared.channels ≡ []
   pub ready : w.ready ≡ []
 
-module _ (w w' : World) (k : MachineView) (root : ℕ) (none' : IsEmpty w) (at : k ≡ at_call 0 (code_in w) root none)
-    (o : Opens (opened w.bonds.ties None) w (life.Lives k false) w') (edition : ℕ) (most : w.basis.most ≡ most_processes edition) where
+module _ (w w' : Processes) (k : MachineView) (root : ℕ) (none' : IsEmpty w) (at : k ≡ at_call 0 (module_in w) root none)
+    (o : Opens (opened w.shared.ties None) w (life.Lives k false) w') (edition : ℕ) (most : w.basis.most ≡ most_processes edition) where
   abbrev first : Slot
   first = record { life = life.Lives k false; mailbox = o.slots.0 }
 
   one_slot : w'.slots.items ≡ first ∷ []
   one_slot = o.slots.3 ∙ ap (λ z. z ++ first ∷ []) none'.slots
 
-  one_row : w'.bonds.channels ≡ [] ∷ []
-  one_row = o.channels ∙ ap (λ z. with_senders (length z + 1) w.bonds.channels) none'.slots ∙ ap (with_senders 1) none'.channels
+  one_row : w'.shared.channels ≡ [] ∷ []
+  one_row = o.channels ∙ ap (λ z. with_senders (length z + 1) w.shared.channels) none'.slots ∙ ap (with_senders 1) none'.channels
 
   stood : k.standing ≡ goes (running (call root no_trees))
   stood = ap (λ z. z.standing) at
 
-  first_is_sound : SlotIsSound (code_in w') zero first
+  first_is_sound : SlotIsSound (module_in w') zero first
   first_is_sound =
       record {
         ready = ((running (call root no_trees), stood, refl), o.slots.2 k);
-        is_of = (ap (λ z. z.own) at, ap (λ z. z.code) at ∙ ap (λ z. code_of z.module.value) (sym o.basis));
+        is_of = (ap (λ z. z.own) at, ap (λ z. z.code) at ∙ ap (λ z. module_of z.module.value) (sym o.basis));
       }
 
-  pub begins : Stands w' (start root edition).core
+  pub begins : Represents w' (start root edition).core
   begins =
       record {
         bodies = sym (ap (map slot_body) one_slot ∙ ap (λ z. record { state = z; mailbox = o.slots.0.messages } ∷ []) (ap state_in stood)
             ∙ ap (λ z. record { state = running (call root no_trees); mailbox = z } ∷ []) o.slots.1);
         ties = sym (o.tied ∙ ap (λ z. opened z None) none'.ties);
         ready = o.ready ∙ ap (λ z. with_number (length z) w.ready) none'.slots ∙ ap (with_number 0) none'.ready;
-        slots = subst (SlotsAreSound (code_in w') zero) (sym one_slot) (first_is_sound, tt);
+        slots = subst (SlotsAreSound (module_in w') zero) (sym one_slot) (first_is_sound, tt);
         room = record {
           rows = let e = ap length one_row in omega arith;
           few = omega arith;
@@ -150,10 +150,10 @@ module _ (w w' : World) (k : MachineView) (root : ℕ) (none' : IsEmpty w) (at :
         };
       }
 
-  pub begins_kept : (m : Code) → code_in w ≡ m → IsWorldOf m w'
-  begins_kept m e = record { stands = stands_itself w' (start root edition).core begins; code = ap (λ z. code_of z.module.value) o.basis ∙ e }
+  pub begins_kept : (m : Module) → module_in w ≡ m → RunsModule m w'
+  begins_kept m e = record { stands = stands_itself w' (start root edition).core begins; code = ap (λ z. module_of z.module.value) o.basis ∙ e }
 
-  pub begins_so : (m : Code) → system_view m 0 (Some (configuration_of w')) ≡ system_view m 0 (Some (start root edition))
+  pub begins_so : (m : Module) → view_of_system m 0 (Some (configuration_of w')) ≡ view_of_system m 0 (Some (start root edition))
   begins_so m =
-      ap (λ c. system_view m 0 (Some (both c w'.bonds.channels))) (again w' (start root edition).core begins)
-      ∙ ap (λ cs. system_view m 0 (Some (both (start root edition).core cs))) one_row
+      ap (λ c. view_of_system m 0 (Some (both c w'.shared.channels))) (again w' (start root edition).core begins)
+      ∙ ap (λ cs. view_of_system m 0 (Some (both (start root edition).core cs))) one_row

@@ -3,10 +3,10 @@ use Rattle.std.proofs.Common.{◌≡◌, ℕ, zero, suc, ◌+◌, ◌<◌, ◌�
 use Rattle.std.specs.Prelude.{slice_get}
 use Rattle.pf_terms.specs.Value.{Value}
 use Rattle.pf_syntax.specs.Tree.{Tree}
-use Rattle.pf_model.specs.Code.{Code, code_of}
+use Rattle.pf_model.specs.Module.{Module, module_of}
 use Rattle.pf_model.specs.Contraction.{Change, Becomes, Raises, Exits, Asks, Awaits}
-use Rattle.pf_model.specs.Place as place
-use Rattle.pf_model.specs.Place.{Frame, State, running, waiting, ending, ended, goes_on, asks, awaits, moved, Moves, at_value, at_place}
+use Rattle.pf_model.specs.Context as index
+use Rattle.pf_model.specs.Context.{Frame, State, running, waiting, ending, ended, goes_on, asks, awaits, moved, Moves, at_value, at_index}
 use Rattle.pf_model.specs.Channels.{with_senders}
 use Rattle.pf_model.specs.Configuration.{Process, Core, of, process_at, posted}
 use Rattle.pf_model.specs.Deliveries.{Deed}
@@ -24,18 +24,18 @@ use Rattle.pf_stepper.proofs.Before.{steps_before, turn_behind}
 use Rattle.pf_stepper.specs.declared.machine.Move.{Move}
 use Rattle.pf_stepper.specs.declared.machine.Move.TheVariants as v
 use Rattle.pf_system.specs.Slots.{state_of, LifeAsks, LifeIsLeft, LifeIsReady, RanInSlot, SlotIsSound}
-use Rattle.pf_system.specs.Worlds.{Stands, IsShaped, Shown, Turned, code_in}
+use Rattle.pf_system.specs.Processes.{Represents, IsShaped, Shown, Turned, module_in}
 use Rattle.pf_system.specs.Settled.{AsksFor, Settles, SettlesAs, LastStep, cut_in}
 use Rattle.pf_system.specs.declared.slot.Life.{Life}
 use Rattle.pf_system.specs.declared.slot.Life.TheVariants as life
 use Rattle.pf_system.specs.declared.slot.Slot.{Slot}
-use Rattle.pf_system.specs.declared.world.World.{World}
+use Rattle.pf_system.specs.declared.processes.Processes.{Processes}
 use Rattle.pf_system.proofs.Bodies.{set_length}
-use Rattle.pf_system.proofs.Worlds.{ran_but, left_at, body_at, get_within, slots_length, sound_at, ties_length_in}
+use Rattle.pf_system.proofs.Processes.{ran_but, left_at, body_at, get_within, slots_length, sound_at, ties_length_in}
 
 -- ---- a process that goes on by itself can go
 
-abbrev GoesOn : place.Move → Type 0
+abbrev GoesOn : index.Move → Type 0
 GoesOn (goes_on s) = can_go s ≡ true
 GoesOn x = Unit {0}
 
@@ -46,21 +46,21 @@ moved_goes_on fs (Exits w) = refl
 moved_goes_on fs (Asks x) = tt
 moved_goes_on fs (Awaits ks) = tt
 
-module _ (m : Code) (a : ℕ) where
-  move_goes_on : (t : Tree) (x : place.Move) → Moves m a t x → GoesOn x
+module _ (m : Module) (a : ℕ) where
+  move_goes_on : (t : Tree) (x : index.Move) → Moves m a t x → GoesOn x
   move_goes_on t x (at_value w e q) = rw q tt
-  move_goes_on t x (at_place fs r d p q) = rw q (moved_goes_on fs d)
+  move_goes_on t x (at_index fs r d p q) = rw q (moved_goes_on fs d)
 
-  step_goes_on : (q r : place.Move) → Contracts m a q r → GoesOn r
+  step_goes_on : (q r : index.Move) → Contracts m a q r → GoesOn r
   step_goes_on (goes_on (running t)) r h = move_goes_on t r h
   step_goes_on (goes_on (waiting t)) r h = absurd h
   step_goes_on (goes_on (ending w)) r h = absurd h
   step_goes_on (goes_on (ended e)) r h = absurd h
   step_goes_on (asks fs x) r h = absurd h
   step_goes_on (awaits fs ks) r h = absurd h
-  step_goes_on (place.returns w) r h = absurd h
+  step_goes_on (index.returns w) r h = absurd h
 
-  steps_go_on : (i : ℕ) (p q : place.Move) → Steps m a i p q → GoesOn p → GoesOn q
+  steps_go_on : (i : ℕ) (p q : index.Move) → Steps m a i p q → GoesOn p → GoesOn q
   steps_go_on _ _ _ (no_step p) k = k
   steps_go_on _ _ _ (one_more i p q r s h) k = step_goes_on q r h
 
@@ -86,20 +86,20 @@ in_range zero (p ∷ ps) e = omega arith
 in_range (suc a) (p ∷ ps) e = let k = in_range a ps e in omega arith
 
 -- a process that can go has a slot
-pub slot_there : (w : World) (c : Core) (a : ℕ) → Stands w c → can_go (of c a).state ≡ true → a < length w.slots.items
+pub slot_there : (w : Processes) (c : Core) (a : ℕ) → Represents w c → can_go (of c a).state ≡ true → a < length w.slots.items
 slot_there w c a h e = let k = in_range a c.processes e in let l = slots_length w c h in omega arith
 
-module _ (w : World) (c : Core) (a : ℕ) (s : Slot) (h : Stands w c) (at : slice_get w.slots.items a ≡ Some s) where
+module _ (w : Processes) (c : Core) (a : ℕ) (s : Slot) (h : Represents w c) (at : slice_get w.slots.items a ≡ Some s) where
   pub slot_ready : LifeIsReady s.life s.mailbox
-  slot_ready = (sound_at (code_in w) zero a w.slots.items s h.slots at).ready
+  slot_ready = (sound_at (module_in w) zero a w.slots.items s h.slots at).ready
 
-  pub slot_sound : SlotIsSound (code_in w) a s
-  slot_sound = let e : zero + a ≡ a = omega arith in subst (λ z. SlotIsSound (code_in w) z s) e (sound_at (code_in w) zero a w.slots.items s h.slots at)
+  pub slot_sound : SlotIsSound (module_in w) a s
+  slot_sound = let e : zero + a ≡ a = omega arith in subst (λ z. SlotIsSound (module_in w) z s) e (sound_at (module_in w) zero a w.slots.items s h.slots at)
 
   pub slot_can : can_go (of c a).state ≡ true → can_go (state_of s.life) ≡ true
   slot_can e = ap (λ z. can_go z.state) (sym (body_at w c a s h at)) ∙ e
 
-  pub still_shaped : (w1 : World) (s1 : Slot) → w1.slots.items ≡ slice_set w.slots.items a s1 → w1.bonds ≡ w.bonds → w1.basis ≡ w.basis → IsShaped a w1
+  pub still_shaped : (w1 : Processes) (s1 : Slot) → w1.slots.items ≡ slice_set w.slots.items a s1 → w1.shared ≡ w.shared → w1.basis ≡ w.basis → IsShaped a w1
   still_shaped w1 s1 e b m =
       let n : length w1.slots.items ≡ length w.slots.items = ap length e ∙ set_length a w.slots.items s1 in
       let l = get_within a w.slots.items s at in
@@ -117,13 +117,13 @@ module _ (w : World) (c : Core) (a : ℕ) (s : Slot) (h : Stands w c) (at : slic
         within = subst (λ z. z.most ≤ MOST_PROCESSES) (sym m) h.room.within;
       }
 
-asks_in : (m : Code) (own : ℕ) (x : Standing) (l : Life) (mail : MailView) (fs : List Frame) → LifeIsLeft m own x l mail → x ≡ asking fs → LifeAsks l
+asks_in : (m : Module) (own : ℕ) (x : Standing) (l : Life) (mail : MailView) (fs : List Frame) → LifeIsLeft m own x l mail → x ≡ asking fs → LifeAsks l
 asks_in m own x (life.Lives k w) mail fs h e = subst CanAnswer (sym (h.0 ∙ e)) tt
 asks_in m own x (life.Ends r) mail fs h e = tt
 asks_in m own x (life.Ended r) mail fs h e = tt
 
 -- a machine that asked for an action waits for the answer
-pub asks_for : (m : Code) (own left used : ℕ) (s s1 : Slot) (move : Move) → RanInSlot m own left s move used s1 → AsksFor move s1
+pub asks_for : (m : Module) (own left used : ℕ) (s s1 : Slot) (move : Move) → RanInSlot m own left s move used s1 → AsksFor move s1
 asks_for m own left used s s1 (v.Action act) r = asks_in m own r.standing s1.life s1.mailbox r.ran.last.frames r.leaves r.ran.last.stands
 asks_for m own left used s s1 v.Pure r = tt
 asks_for m own left used s s1 (v.Take t) r = tt
@@ -132,7 +132,7 @@ asks_for m own left used s s1 (v.End e) r = tt
 
 -- ---- the turn of a world
 
-shown_from : (w w1 w' : World) (a : ℕ) (l : Label) (d : Deed) → w1.bonds ≡ w.bonds → w1.basis ≡ w.basis → Shown a d w1.bonds.channels w1 l w' → Shown a d w.bonds.channels w l w'
+shown_from : (w w1 w' : Processes) (a : ℕ) (l : Label) (d : Deed) → w1.shared ≡ w.shared → w1.basis ≡ w.basis → Shown a d w1.shared.channels w1 l w' → Shown a d w.shared.channels w l w'
 shown_from w w1 w' a l d e f h =
     record {
       done = record {
@@ -143,46 +143,46 @@ shown_from w w1 w' a l d e f h =
       label = h.label;
     }
 
-module _ (w w1 w' : World) (c : Core) (a left used : ℕ) (l : Label) (e : w1.bonds ≡ w.bonds) (f : w1.basis ≡ w.basis) (can : can_go (of c a).state ≡ true)
+module _ (w w1 w' : Processes) (c : Core) (a left used : ℕ) (l : Label) (e : w1.shared ≡ w.shared) (f : w1.basis ≡ w.basis) (can : can_go (of c a).state ≡ true)
     (x : Standing) (mail : List Value) where
-  cut_so : Ran (code_in w) a left (of c a).state (of c a).mailbox v.Pure x used mail → Settles c a v.Pure x mail w1 l w' → Turned c a left w l used w'
+  cut_so : Ran (module_in w) a left (of c a).state (of c a).mailbox v.Pure x used mail → Settles c a v.Pure x mail w1 l w' → Turned c a left w l used w'
   cut_so r k =
-      let g = steps_go_on (code_in w) a left (goes_on (of c a).state) (goes_on r.next) r.steps can in
+      let g = steps_go_on (module_in w) a left (goes_on (of c a).state) (goes_on r.next) r.steps can in
       record {
         deed = cut_in c a r.next;
-        turn = cut_turn (code_in w) a c left used (of c a).state r.next g r.all r.steps;
+        turn = cut_turn (module_in w) a c left used (of c a).state r.next g r.all r.steps;
         within = let q = r.all in omega arith;
         shown = shown_from w w1 w' a l (cut_in c a r.next) e f (k r.next r.stands g r.kept);
       }
 
   -- the last step of a turn after those that went before it
-  last_so : (move : Move) (r : StepsAndMove (code_in w) a left (of c a).state (of c a).mailbox move x used mail) → LastStep r.middle c a w1 l w' → Turned c a left w l used w'
+  last_so : (move : Move) (r : StepsAndMove (module_in w) a left (of c a).state (of c a).mailbox move x used mail) → LastStep r.middle c a w1 l w' → Turned c a left w l used w'
   last_so move r k =
       record {
         deed = k.deed;
-        turn = turn_behind (code_in w) a c left used r.before (of c a).state r.middle k.deed r.counted r.within r.steps
-            (λ n. subst (λ z. Turn (code_of z.module.value) a c (suc n) r.middle k.deed 1) f (k.last n));
+        turn = turn_behind (module_in w) a c left used r.before (of c a).state r.middle k.deed r.counted r.within r.steps
+            (λ n. subst (λ z. Turn (module_of z.module.value) a c (suc n) r.middle k.deed 1) f (k.last n));
         within = r.within;
         shown = shown_from w w1 w' a l k.deed e f k.shown;
       }
 
-  moved_from : (y : State) (move : Move) → Moved (code_in w) a y (of c a).mailbox move x mail → Moved (code_in w1) a y (of c a).mailbox move x mail
-  moved_from y move h = subst (λ z. Moved (code_of z.module.value) a y (of c a).mailbox move x mail) (sym f) h
+  moved_from : (y : State) (move : Move) → Moved (module_in w) a y (of c a).mailbox move x mail → Moved (module_in w1) a y (of c a).mailbox move x mail
+  moved_from y move h = subst (λ z. Moved (module_of z.module.value) a y (of c a).mailbox move x mail) (sym f) h
 
-  turned_by : (move : Move) → Ran (code_in w) a left (of c a).state (of c a).mailbox move x used mail → Settles c a move x mail w1 l w' → Turned c a left w l used w'
+  turned_by : (move : Move) → Ran (module_in w) a left (of c a).state (of c a).mailbox move x used mail → Settles c a move x mail w1 l w' → Turned c a left w l used w'
   turned_by v.Pure r k = cut_so r k
   turned_by (v.Action act) r k = last_so (v.Action act) r (k r.middle (moved_from r.middle (v.Action act) r.last))
   turned_by (v.Take t) r k = last_so (v.Take t) r (k r.middle (moved_from r.middle (v.Take t) r.last))
   turned_by v.Wait r k = last_so v.Wait r (k r.middle (moved_from r.middle v.Wait r.last))
   turned_by (v.End z) r k = last_so (v.End z) r (k r.middle (moved_from r.middle (v.End z) r.last))
 
-pub turned : (w w1 w' : World) (c : Core) (a left used : ℕ) (s s1 : Slot) (move : Move) (l : Label) → Stands w c → can_go (of c a).state ≡ true
-    → slice_get w.slots.items a ≡ Some s → RanInSlot (code_in w) a left s move used s1 → w1.slots.items ≡ slice_set w.slots.items a s1 → w1.bonds ≡ w.bonds
+pub turned : (w w1 w' : Processes) (c : Core) (a left used : ℕ) (s s1 : Slot) (move : Move) (l : Label) → Represents w c → can_go (of c a).state ≡ true
+    → slice_get w.slots.items a ≡ Some s → RanInSlot (module_in w) a left s move used s1 → w1.slots.items ≡ slice_set w.slots.items a s1 → w1.shared ≡ w.shared
     → w1.ready ≡ w.ready → w1.basis ≡ w.basis → SettlesAs a move w1 l w' → Turned c a left w l used w'
 turned w w1 w' c a left used s s1 move l h can at r e b q f k =
     let n = get_within a w.slots.items s at in
     let y = body_at w c a s h at in
-    let r' : Ran (code_in w) a left (of c a).state (of c a).mailbox move r.standing used s1.mailbox.messages =
-    subst (λ z. Ran (code_in w) a left z.state z.mailbox move r.standing used s1.mailbox.messages) (sym y) r.ran in
+    let r' : Ran (module_in w) a left (of c a).state (of c a).mailbox move r.standing used s1.mailbox.messages =
+    subst (λ z. Ran (module_in w) a left z.state z.mailbox move r.standing used s1.mailbox.messages) (sym y) r.ran in
     turned_by w w1 w' c a left used l b f can r.standing s1.mailbox.messages move r'
     (k c r.standing s1 (ran_but w w1 c a s1 h n e b q f) can (left_at w w1 c a s1 r.standing r.leaves n e f))

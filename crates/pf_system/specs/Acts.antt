@@ -1,10 +1,10 @@
 -- What the actions of a process do.
 use Rattle.std.specs.Prelude.{◌≡◌, ◌<◌, ◌≤◌, ℕ, ◌+◌, true, List, [], ◌∷◌, ◌++◌, Option, Some, None, Ok, length, slice_get, if◌then◌else◌, ◌==◌}
 use Rattle.pf_model.specs.Maps.{with_number}
-use Rattle.pf_model.specs.Place.{Frame, State}
+use Rattle.pf_model.specs.Context.{Frame, State}
 use Rattle.pf_model.specs.Runs.{can_go}
 use Rattle.pf_model.specs.Turns.{after_act}
-use Rattle.pf_model.specs.Code.{Code, exported_as}
+use Rattle.pf_model.specs.Module.{Module, exported_as}
 use Rattle.pf_model.specs.Contraction.{Bond, unbound, linking, watching, Act}
 use Rattle.pf_model.specs.Channels.{with_senders}
 use Rattle.pf_model.specs.Configuration.{Core, of, posted}
@@ -21,15 +21,15 @@ use Rattle.pf_stepper.specs.Turns.{told_of}
 use Rattle.pf_stepper.specs.declared.act.Act.{Act as Asked}
 use Rattle.pf_stepper.specs.declared.act.Act.TheVariants as asked
 use Rattle.pf_system.specs.Slots.{LifeAsks, LifeIsReady, LifeIsOf, state_of}
-use Rattle.pf_system.specs.Worlds.{StandsBut, IsLeftAt, Shown, code_in}
+use Rattle.pf_system.specs.Processes.{RepresentsBut, IsLeftAt, Shown, module_in}
 use Rattle.pf_system.specs.declared.slot.Life.{Life}
 use Rattle.pf_system.specs.declared.slot.Slot.{Slot}
-use Rattle.pf_system.specs.declared.bonds.Answer.{Answer}
-use Rattle.pf_system.specs.declared.bonds.Bonds.{Bonds}
-use Rattle.pf_system.specs.declared.world.World.{World}
+use Rattle.pf_system.specs.declared.shared.Answer.{Answer}
+use Rattle.pf_system.specs.declared.shared.Shared.{Shared}
+use Rattle.pf_system.specs.declared.processes.Processes.{Processes}
 
 -- the process is there, and has a row of channels
-pub record IsMember (a : ℕ) (b : Bonds) : Type 0 where
+pub record IsMember (a : ℕ) (b : Shared) : Type 0 where
   pub there : a < length b.ties.processes
   pub rows : length b.ties.processes ≤ length b.channels
 
@@ -39,14 +39,14 @@ pub record Answers (r : Answer) (x : Acted) : Type 0 where
   pub label : label_of r.label ≡ x.label
 
 -- ties and channels are what an action of process a makes of them
-pub record ActedSo (x : Acted) (a : ℕ) (b : Bonds) (r : Answer) (b' : Bonds) : Type 0 where
+pub record CarriesOut (x : Acted) (a : ℕ) (b : Shared) (r : Answer) (b' : Shared) : Type 0 where
   pub ties : ties_of x.left.core ≡ b'.ties
   pub channels : b'.channels ≡ posted a x.left.sent b.channels
   pub answers : Answers r x
 
 -- so they are whatever the rest of the core is
-abbrev pub ActsAs : ℕ → Act → Bonds → Answer → Bonds → Type 0
-ActsAs a act b r b' = (m : Code) (c : Core) → ties_of c ≡ b.ties → ActedSo (acted m c a act) a b r b'
+abbrev pub ActsAs : ℕ → Act → Shared → Answer → Shared → Type 0
+ActsAs a act b r b' = (m : Module) (c : Core) → ties_of c ≡ b.ties → CarriesOut (acted m c a act) a b r b'
 
 -- all actions but those that make a process, or may take a message out
 abbrev pub IsBetween : Asked → Type 0
@@ -64,18 +64,18 @@ IsBetween (asked.Whereis name) = Unit {0}
 IsBetween asked.MakeRef = Unit {0}
 
 -- the world is what an action of process a makes of it, but for the slot of that process, which waits for the answer
-pub record ActedIn (c : Core) (x : Acted) (a : ℕ) (w : World) (r : Answer) (w' : World) : Type 0 where
-  pub stands : StandsBut w' x.left.core a
+pub record ActedIn (c : Core) (x : Acted) (a : ℕ) (w : Processes) (r : Answer) (w' : Processes) : Type 0 where
+  pub stands : RepresentsBut w' x.left.core a
   pub state : (of x.left.core a).state ≡ (of c a).state
   -- a slot that holds the messages of the process holds them still
   pub mail : (s s' : Slot) → slice_get w.slots.items a ≡ Some s → slice_get w'.slots.items a ≡ Some s' → s.mailbox.messages ≡ (of c a).mailbox
       → s'.mailbox.messages ≡ (of x.left.core a).mailbox
-  pub channels : w'.bonds.channels ≡ posted a x.left.sent (with_senders (length x.left.core.processes) w.bonds.channels)
+  pub channels : w'.shared.channels ≡ posted a x.left.sent (with_senders (length x.left.core.processes) w.shared.channels)
   pub answers : Answers r x
   pub basis : w'.basis ≡ w.basis
 
-abbrev pub ActsIn : ℕ → Act → World → Answer → World → Type 0
-ActsIn a act w r w' = (c : Core) → StandsBut w c a → ActedIn c (acted (code_in w) c a act) a w r w'
+abbrev pub ActsIn : ℕ → Act → Processes → Answer → Processes → Type 0
+ActsIn a act w r w' = (c : Core) → RepresentsBut w c a → ActedIn c (acted (module_in w) c a act) a w r w'
 
 -- a slot stays as it was, but for its messages; what its mailbox was ready for it still is
 pub record KeepsLife (s s' : Slot) : Type 0 where
@@ -83,22 +83,22 @@ pub record KeepsLife (s s' : Slot) : Type 0 where
   pub ahead : (k : MachineView) → IsAheadOf k s.mailbox → IsAheadOf k s'.mailbox
 
 -- so does the slot of a process
-abbrev pub KeepsSlot : ℕ → World → World → Type 0
+abbrev pub KeepsSlot : ℕ → Processes → Processes → Type 0
 KeepsSlot a w w' =
     (s : Slot) → slice_get w.slots.items a ≡ Some s → (s' : Slot) × (slice_get w'.slots.items a ≡ Some s') × KeepsLife s s'
 
 -- the slot of a process that may be answered
-pub record IsAsking (a : ℕ) (w : World) : Type 0 where
+pub record IsAsking (a : ℕ) (w : Processes) : Type 0 where
   pub slot : Slot
   pub at : slice_get w.slots.items a ≡ Some slot
   pub asks : LifeAsks slot.life
 
 -- the action that process a asked for in these frames
-abbrev pub ShowsAct : ℕ → Act → World → Label → World → Type 0
+abbrev pub ShowsAct : ℕ → Act → Processes → Label → Processes → Type 0
 ShowsAct a act w l w' =
-    (c : Core) (fs : List Frame) (s : Slot) → StandsBut w c a → can_go (of c a).state ≡ true → IsLeftAt w a (asking fs) s
+    (c : Core) (fs : List Frame) (s : Slot) → RepresentsBut w c a → can_go (of c a).state ≡ true → IsLeftAt w a (asking fs) s
     → s.mailbox.messages ≡ (of c a).mailbox
-    → Shown a (after_act a fs (acted (code_in w) c a act)) w.bonds.channels w l w'
+    → Shown a (after_act a fs (acted (module_in w) c a act)) w.shared.channels w l w'
 
 -- ---- a flush
 
@@ -110,20 +110,20 @@ pub record FlushesIn (reference : ℕ) (s s' : Slot) : Type 0 where
 -- ---- a new process
 
 -- the function of this name and so many arguments of a module, which is the own one or none
-abbrev pub home_function : Code → (home name arity : ℕ) → Option ℕ
+abbrev pub home_function : Module → (home name arity : ℕ) → Option ℕ
 home_function m home name arity = if home == m.name then exported_as m name arity else None
 
 -- a process of this pid begins in a state in which it can go
-pub record LifeBegins (m : Code) (own : ℕ) (s : State) (l : Life) : Type 0 where
+pub record LifeBegins (m : Module) (own : ℕ) (s : State) (l : Life) : Type 0 where
   pub sound : (mail : MailView) → ((k : MachineView) → IsAheadOf k mail) → LifeIsReady l mail
   pub is_of : LifeIsOf m own l
   pub state : state_of l ≡ s
   pub goes : can_go s ≡ true
 
 -- one process more, with no message, that can go, and then these ties
-pub record Opens (ties : AllTies) (w : World) (l : Life) (w' : World) : Type 0 where
-  pub tied : w'.bonds.ties ≡ ties
-  pub channels : w'.bonds.channels ≡ with_senders (length w.slots.items + 1) w.bonds.channels
+pub record Opens (ties : AllTies) (w : Processes) (l : Life) (w' : Processes) : Type 0 where
+  pub tied : w'.shared.ties ≡ ties
+  pub channels : w'.shared.channels ≡ with_senders (length w.slots.items + 1) w.shared.channels
   pub slots : (mail : MailView) × (mail.messages ≡ []) × ((k : MachineView) → IsAheadOf k mail) × (w'.slots.items ≡ w.slots.items ++ record { life = l; mailbox = mail } ∷ [])
   pub ready : w'.ready ≡ with_number (length w.slots.items) w.ready
   pub basis : w'.basis ≡ w.basis
@@ -140,6 +140,6 @@ pub record Tells (b : Bond) (own reference : ℕ) (r : Answer) : Type 0 where
   pub label : label_of r.label ≡ shown_for b own reference
 
 -- one process more by its bond to another, and what is given and shown
-pub record OpensSo (b : Bond) (other : ℕ) (w : World) (l : Life) (r : Answer) (w' : World) : Type 0 where
-  pub opens : Opens (opened_by b other w.bonds.ties) w l w'
-  pub tells : Tells b (length w.slots.items) w.bonds.ties.next_reference r
+pub record OpensProcess (b : Bond) (other : ℕ) (w : Processes) (l : Life) (r : Answer) (w' : Processes) : Type 0 where
+  pub opens : Opens (opened_by b other w.shared.ties) w l w'
+  pub tells : Tells b (length w.slots.items) w.shared.ties.next_reference r

@@ -1,7 +1,7 @@
 -- Processes without their ties, and the processes that bodies and ties make.
 use Rattle.std.specs.Prelude.{ℕ, List, [], ◌∷◌, ◌++◌, map}
 use Rattle.pf_terms.specs.Value.{Value}
-use Rattle.pf_model.specs.Place.{State}
+use Rattle.pf_model.specs.Context.{State}
 use Rattle.pf_model.specs.Configuration.{Process, Core}
 use Rattle.pf_model.specs.Deliveries.{woken}
 use Rattle.pf_ties.specs.Ties.{ProcessTies, AllTies}

@@ -1,9 +1,9 @@
 pub mod View
-pub mod Codes
+pub mod Encoding
 pub mod Messages
 pub mod Bodies
 pub mod Slots
-pub mod Worlds
+pub mod Processes
 pub mod Acts
 pub mod Placed
 pub mod Settled

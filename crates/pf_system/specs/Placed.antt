@@ -9,35 +9,35 @@ use Rattle.pf_model.specs.Labels.{delivers}
 use Rattle.pf_model.specs.Reports.{suffix_of}
 use Rattle.pf_model.specs.declared.report.Label.{Label}
 use Rattle.pf_model.specs.declared.report.Suffix.{Suffix}
-use Rattle.pf_system.specs.Worlds.{Stands, Done, Shown}
-use Rattle.pf_system.specs.declared.world.World.{World}
+use Rattle.pf_system.specs.Processes.{Represents, Done, Shown}
+use Rattle.pf_system.specs.declared.processes.Processes.{Processes}
 
 -- a message came to a process that lives, and nothing else was changed
-pub record PlacedSo (c : Core) (b : ℕ) (v : Value) (w w' : World) : Type 0 where
-  pub stands : Stands w' (with_process c b (with_message (of c b) v))
-  pub bonds : w'.bonds ≡ w.bonds
+pub record PlacesMessage (c : Core) (b : ℕ) (v : Value) (w w' : Processes) : Type 0 where
+  pub stands : Represents w' (with_process c b (with_message (of c b) v))
+  pub shared : w'.shared ≡ w.shared
   pub basis : w'.basis ≡ w.basis
 
-abbrev pub Places : ℕ → Value → World → World → Type 0
-Places b v w w' = (c : Core) → Stands w c → is_alive (of c b).state ≡ true → PlacedSo c b v w w'
+abbrev pub Places : ℕ → Value → Processes → Processes → Type 0
+Places b v w w' = (c : Core) → Represents w c → is_alive (of c b).state ≡ true → PlacesMessage c b v w w'
 
 -- what is shown of a delivery beside its signal
-pub record SuffixShown (b : ℕ) (s : Signal) (d : Deed) (w : World) (x : Suffix) (w' : World) : Type 0 where
-  pub done : Done b d.left w.bonds.channels w w'
+pub record SuffixShown (b : ℕ) (s : Signal) (d : Deed) (w : Processes) (x : Suffix) (w' : Processes) : Type 0 where
+  pub done : Done b d.left w.shared.channels w w'
   pub label : delivers s (suffix_of x) ≡ d.label
 
-abbrev pub ShowsAtEnded : (from to : ℕ) → Signal → World → Label → World → Type 0
+abbrev pub ShowsAtEnded : (from to : ℕ) → Signal → Processes → Label → Processes → Type 0
 ShowsAtEnded a b s w l w' =
-    (c : Core) → Stands w c → Shown b (at_ended c a s) w.bonds.channels w l w'
+    (c : Core) → Represents w c → Shown b (at_ended c a s) w.shared.channels w l w'
 
-abbrev pub ShowsAtLiving : (from to : ℕ) → Signal → World → Label → World → Type 0
+abbrev pub ShowsAtLiving : (from to : ℕ) → Signal → Processes → Label → Processes → Type 0
 ShowsAtLiving a b s w l w' =
-    (c : Core) → Stands w c → is_alive (of c b).state ≡ true → Shown b (at_living c a b s) w.bonds.channels w l w'
+    (c : Core) → Represents w c → is_alive (of c b).state ≡ true → Shown b (at_living c a b s) w.shared.channels w l w'
 
-abbrev pub ShowsDown : (from to : ℕ) → (reference : ℕ) → Value → World → Suffix → World → Type 0
+abbrev pub ShowsDown : (from to : ℕ) → (reference : ℕ) → Value → Processes → Suffix → Processes → Type 0
 ShowsDown a b r v w x w' =
-    (c : Core) → Stands w c → is_alive (of c b).state ≡ true → SuffixShown b (signal.down r v) (at_living c a b (signal.down r v)) w x w'
+    (c : Core) → Represents w c → is_alive (of c b).state ≡ true → SuffixShown b (signal.down r v) (at_living c a b (signal.down r v)) w x w'
 
-abbrev pub ShowsExit : (from to : ℕ) → (by_link : Bool) → Value → World → Suffix → World → Type 0
+abbrev pub ShowsExit : (from to : ℕ) → (by_link : Bool) → Value → Processes → Suffix → Processes → Type 0
 ShowsExit a b by_link v w x w' =
-    (c : Core) → Stands w c → is_alive (of c b).state ≡ true → SuffixShown b (signal.exit by_link v) (at_living c a b (signal.exit by_link v)) w x w'
+    (c : Core) → Represents w c → is_alive (of c b).state ≡ true → SuffixShown b (signal.exit by_link v) (at_living c a b (signal.exit by_link v)) w x w'

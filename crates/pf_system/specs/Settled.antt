@@ -1,7 +1,7 @@
 -- What the last step of a turn does, by the move that a machine made.
 use Rattle.std.specs.Prelude.{◌≡◌, ℕ, suc, true, List, [], Some, slice_get}
 use Rattle.pf_terms.specs.Value.{Value}
-use Rattle.pf_model.specs.Place.{State, running, waiting}
+use Rattle.pf_model.specs.Context.{State, running, waiting}
 use Rattle.pf_model.specs.Configuration.{Core, leaving, of, with_state}
 use Rattle.pf_model.specs.Labels as label
 use Rattle.pf_model.specs.Deliveries.{Deed, deed}
@@ -13,9 +13,9 @@ use Rattle.pf_stepper.specs.Moves.{Moved}
 use Rattle.pf_stepper.specs.declared.machine.Move.{Move}
 use Rattle.pf_stepper.specs.declared.machine.Move.TheVariants as v
 use Rattle.pf_system.specs.Slots.{LifeAsks}
-use Rattle.pf_system.specs.Worlds.{StandsBut, IsLeftAt, Done, Shown, code_in}
+use Rattle.pf_system.specs.Processes.{RepresentsBut, IsLeftAt, Done, Shown, module_in}
 use Rattle.pf_system.specs.declared.slot.Slot.{Slot}
-use Rattle.pf_system.specs.declared.world.World.{World}
+use Rattle.pf_system.specs.declared.processes.Processes.{Processes}
 
 abbrev pub AsksFor : Move → Slot → Type 0
 AsksFor (v.Action act) s = LifeAsks s.life
@@ -25,7 +25,7 @@ AsksFor v.Wait s = Unit {0}
 AsksFor (v.End r) s = Unit {0}
 
 -- a process that asked for an action may be answered
-pub record CanSettle (a : ℕ) (move : Move) (w : World) : Type 0 where
+pub record CanSettle (a : ℕ) (move : Move) (w : Processes) : Type 0 where
   pub slot : Slot
   pub at : slice_get w.slots.items a ≡ Some slot
   pub asks : AsksFor move slot
@@ -34,24 +34,24 @@ abbrev pub cut_in : Core → ℕ → State → Deed
 cut_in c a t = deed (leaving (with_state c a t) []) label.cut
 
 -- the last step of a turn, from a state of the process
-pub record LastStep (y : State) (c : Core) (a : ℕ) (w : World) (l : Label) (w' : World) : Type 0 where
+pub record LastStep (y : State) (c : Core) (a : ℕ) (w : Processes) (l : Label) (w' : Processes) : Type 0 where
   pub deed : Deed
-  pub last : (n : ℕ) → Turn (code_in w) a c (suc n) y deed 1
-  pub shown : Shown a deed w.bonds.channels w l w'
+  pub last : (n : ℕ) → Turn (module_in w) a c (suc n) y deed 1
+  pub shown : Shown a deed w.shared.channels w l w'
 
-abbrev pub Settles : Core → ℕ → Move → Standing → List Value → World → Label → World → Type 0
+abbrev pub Settles : Core → ℕ → Move → Standing → List Value → Processes → Label → Processes → Type 0
 Settles c a v.Pure x mail w l w' =
-    (t : State) → x ≡ goes t → can_go t ≡ true → mail ≡ (of c a).mailbox → Shown a (cut_in c a t) w.bonds.channels w l w'
-Settles c a move x mail w l w' = (y : State) → Moved (code_in w) a y (of c a).mailbox move x mail → LastStep y c a w l w'
+    (t : State) → x ≡ goes t → can_go t ≡ true → mail ≡ (of c a).mailbox → Shown a (cut_in c a t) w.shared.channels w l w'
+Settles c a move x mail w l w' = (y : State) → Moved (module_in w) a y (of c a).mailbox move x mail → LastStep y c a w l w'
 
 -- a machine made this move, and stands so, over these messages
-abbrev pub SettlesAs : ℕ → Move → World → Label → World → Type 0
+abbrev pub SettlesAs : ℕ → Move → Processes → Label → Processes → Type 0
 SettlesAs a move w l w' =
-    (c : Core) (x : Standing) (s : Slot) → StandsBut w c a → can_go (of c a).state ≡ true → IsLeftAt w a x s → Settles c a move x s.mailbox.messages w l w'
+    (c : Core) (x : Standing) (s : Slot) → RepresentsBut w c a → can_go (of c a).state ≡ true → IsLeftAt w a x s → Settles c a move x s.mailbox.messages w l w'
 
 -- process a waits at a `receive`
-abbrev pub WaitsIn : ℕ → World → World → Type 0
+abbrev pub WaitsIn : ℕ → Processes → Processes → Type 0
 WaitsIn a w w' =
-    (c : Core) (t : _) (s : Slot) → StandsBut w c a → can_go (of c a).state ≡ true → IsLeftAt w a (goes (running t)) s
+    (c : Core) (t : _) (s : Slot) → RepresentsBut w c a → can_go (of c a).state ≡ true → IsLeftAt w a (goes (running t)) s
     → s.mailbox.messages ≡ (of c a).mailbox
-    → Done a (leaving (with_state c a (waiting t)) []) w.bonds.channels w w'
+    → Done a (leaving (with_state c a (waiting t)) []) w.shared.channels w w'

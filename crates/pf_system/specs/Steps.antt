@@ -1,15 +1,15 @@
 -- What a turn and a delivery do to a system.
 use Rattle.std.specs.Prelude.{◌≡◌, ◌≤◌, ℕ, zero, ◌+◌, Bool, true, false, List, ◌∷◌, ◌++◌, Option, Some, None, map}
-use Rattle.pf_model.specs.Code.{Code, code_of}
+use Rattle.pf_model.specs.Module.{Module, module_of}
 use Rattle.pf_model.specs.Labels.{Label}
 use Rattle.pf_model.specs.Channels.{heads}
 use Rattle.pf_model.specs.Configuration.{Configuration}
 use Rattle.pf_model.specs.Runs.{Actor, process, channel, Passed, Passes, enabled, can_go, numbers_of}
-use Rattle.pf_system.specs.View.{SystemView, system_view}
-use Rattle.pf_system.specs.Worlds.{code_in, core_of, configuration_of, Stands}
+use Rattle.pf_system.specs.View.{SystemView, view_of_system}
+use Rattle.pf_system.specs.Processes.{module_in, core_of, configuration_of, Represents}
 use Rattle.pf_system.specs.declared.enabled.Enabled.{Enabled}
 use Rattle.pf_system.specs.declared.system.System.TheInside.{Inside}
-use Rattle.pf_system.specs.declared.world.World.{World}
+use Rattle.pf_system.specs.declared.processes.Processes.{Processes}
 
 -- the actors that may go, as those that are noted
 abbrev pub noted : Enabled → List Actor
@@ -35,7 +35,7 @@ pub record PassesTo (left : ℕ) (s : SystemView) (x : Actor) (l : Label) (used 
   pub passed : Passed
   pub was : s.standing ≡ Some before
   pub passes : Passes s.code left before x passed
-  pub becomes : s' ≡ system_view s.code (s.steps + used) (Some passed.after)
+  pub becomes : s' ≡ view_of_system s.code (s.steps + used) (Some passed.after)
   pub label : l ≡ passed.label
   pub counts : used ≡ passed.used
   pub within : used ≤ left
@@ -46,13 +46,13 @@ abbrev pub unless_spent : Bool → Configuration → Option Configuration
 unless_spent true c = None
 unless_spent false c = Some c
 
-abbrev pub system_view_of : Inside → SystemView
-system_view_of s = system_view (code_of s.module.value) s.steps (unless_spent s.spent (configuration_of s.world))
+abbrev pub view_of_inside : Inside → SystemView
+view_of_inside s = view_of_system (module_of s.module.value) s.steps (unless_spent s.spent (configuration_of s.processes))
 
 -- a world that stands for its own core, and runs this code
-pub record IsWorldOf (m : Code) (w : World) : Type 0 where
-  pub stands : Stands w (core_of w)
-  pub code : code_in w ≡ m
+pub record RunsModule (m : Module) (w : Processes) : Type 0 where
+  pub stands : Represents w (core_of w)
+  pub code : module_in w ≡ m
 
-abbrev pub IsKept : Inside → Type 0
-IsKept s = s.spent ≡ false → IsWorldOf (code_of s.module.value) s.world
+abbrev pub IsValid : Inside → Type 0
+IsValid s = s.spent ≡ false → RunsModule (module_of s.module.value) s.processes

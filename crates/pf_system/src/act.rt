@@ -3,16 +3,16 @@
 ghost use Rattle.std.specs.Prelude.{IfOk, OnOk};
 ghost use Rattle.pf_stepper.specs.Acts.{act_of};
 ghost use Rattle.pf_system.specs.Acts.{ActsAs, ActsIn, IsAsking, IsBetween, IsMember, KeepsSlot, ShowsAct};
-ghost use Rattle.pf_system.specs.Worlds.{IsShaped};
+ghost use Rattle.pf_system.specs.Processes.{IsShaped};
 
-use crate::bonds::{Answer, Bonds};
-use crate::world::World;
+use crate::processes::Processes;
+use crate::shared::{Answer, Shared};
 use pf_model::report::Label;
 use pf_stepper::Act;
 use pf_terms::NoMemory;
 use std::alloc::Global;
 
-impl Bonds {
+impl Shared {
     /// An action that makes no process, and takes no message out.
     pub(crate) fn act(&mut self, alloc: Global, pid: u32, act: Act) -> Result<Answer, NoMemory>
         requires between { IsBetween act }
@@ -36,7 +36,7 @@ impl Bonds {
     }
 }
 
-impl World {
+impl Processes {
     /// An action that makes no process, and takes no message out, leaves the slots as they are.
     fn act_between(&mut self, alloc: Global, pid: u32, act: Act) -> Result<Answer, NoMemory>
         requires between { IsBetween act }
@@ -44,7 +44,7 @@ impl World {
         ensures acts { IfOk result (λ r. ActsIn pid (act_of act) self.old r self.new) }
         ensures keeps { OnOk result (KeepsSlot pid self.old self.new) }
     {
-        self.bonds.act(alloc, pid, act)
+        self.shared.act(alloc, pid, act)
     }
 
     /// An action.

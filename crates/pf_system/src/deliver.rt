@@ -5,27 +5,27 @@ ghost use Rattle.pf_terms.specs.Term.{value_of};
 ghost use Rattle.pf_model.specs.Channels.{taken};
 ghost use Rattle.pf_model.specs.Signals.{signal_of};
 ghost use Rattle.pf_system.specs.Placed.{Places, ShowsAtEnded, ShowsAtLiving, ShowsDown, ShowsExit};
-ghost use Rattle.pf_system.specs.Worlds.{Delivered, IsShaped, Stands, core_of};
+ghost use Rattle.pf_system.specs.Processes.{Delivered, IsShaped, Represents, core_of};
 
 use crate::messages::{down_message, exit_message};
-use crate::world::World;
+use crate::processes::Processes;
 use pf_model::Signal;
 use pf_model::report::{Label, Suffix};
 use pf_terms::{AtomId, NoMemory, Term, copy};
 use pf_ties::Fate;
 use std::alloc::Global;
 
-impl World {
+impl Processes {
     /// Delivers the oldest signal from one process to another.
     pub(crate) fn deliver(&mut self, alloc: Global, from: u32, to: u32) -> Result<Label, NoMemory>
-        requires sound { Stands self.old (core_of self.old) }
-        requires there { is_some (taken from to self.old.bonds.channels) ≡ true }
+        requires sound { Represents self.old (core_of self.old) }
+        requires there { is_some (taken from to self.old.shared.channels) ≡ true }
         ensures { IfOk result (λ l. Delivered (core_of self.old) from to self.old l self.new) }
     {
-        let Some(signal) = self.bonds.channels.deliver(from, to) else {
+        let Some(signal) = self.shared.channels.deliver(from, to) else {
             unreachable!();
         };
-        if self.bonds.ties.lives(to) {
+        if self.shared.ties.lives(to) {
             self.at_living(alloc, from, to, signal)
         } else {
             self.at_ended(alloc, from, to, signal)
@@ -51,17 +51,17 @@ impl World {
             Signal::Monitor(reference) => Signal::Down(*reference, Term::Atom(AtomId::NOPROC)),
             _ => return Ok(Label::Delivers(signal, Suffix::Dropped)),
         };
-        self.bonds.reply(alloc, to, from, reply)?;
+        self.shared.reply(alloc, to, from, reply)?;
         Ok(Label::Delivers(signal, Suffix::NoProcess))
     }
 
     /// A message comes to a process that lives, which goes on where it waited.
-    fn place(&mut self, to: u32, message: Term) -> Result<(), NoMemory>
+    fn index(&mut self, to: u32, message: Term) -> Result<(), NoMemory>
         requires { to < length self.old.slots.items }
         ensures { OnOk result (Places to (value_of message) self.old self.new) }
     {
         let slot = &mut self.slots[to as usize];
-        if slot.place(&mut self.pool, message)? {
+        if slot.index(&mut self.pool, message)? {
             self.ready.insert(to)?;
         }
         Ok(())
@@ -81,14 +81,14 @@ impl World {
         match &signal {
             Signal::Message(message) => {
                 let message = copy(message)?;
-                self.place(to, message)?;
+                self.index(to, message)?;
             }
-            Signal::Link => self.bonds.ties.on_link(alloc, from, to)?,
-            Signal::Unlink => self.bonds.ties.on_unlink(from, to),
+            Signal::Link => self.shared.ties.on_link(alloc, from, to)?,
+            Signal::Unlink => self.shared.ties.on_unlink(from, to),
             Signal::Monitor(reference) => {
-                self.bonds.ties.on_monitor(alloc, from, to, *reference)?;
+                self.shared.ties.on_monitor(alloc, from, to, *reference)?;
             }
-            Signal::Demonitor(reference) => self.bonds.ties.on_demonitor(to, *reference),
+            Signal::Demonitor(reference) => self.shared.ties.on_demonitor(to, *reference),
             Signal::Down(reference, reason) => {
                 let suffix = self.down(alloc, from, to, *reference, reason)?;
                 return Ok(Label::Delivers(signal, suffix));
@@ -113,11 +113,11 @@ impl World {
         requires { IsShaped to self.old }
         ensures { IfOk result (λ x. ShowsDown from to reference (value_of reason.now) self.old x self.new) }
     {
-        if !self.bonds.ties.on_down(to, reference) {
+        if !self.shared.ties.on_down(to, reference) {
             return Ok(Suffix::Dropped);
         }
         let message = down_message(alloc, reference, from, reason)?;
-        self.place(to, message)?;
+        self.index(to, message)?;
         Ok(Suffix::TookEffect)
     }
 
@@ -134,11 +134,11 @@ impl World {
         ensures { IfOk result (λ x. ShowsExit from to by_link (value_of reason.now) self.old x self.new) }
     {
         let given = copy(reason)?;
-        match self.bonds.ties.on_exit_signal(from, to, by_link, given) {
+        match self.shared.ties.on_exit_signal(from, to, by_link, given) {
             Fate::Drop => Ok(Suffix::Dropped),
             Fate::Message => {
                 let message = exit_message(alloc, from, reason)?;
-                self.place(to, message)?;
+                self.index(to, message)?;
                 Ok(Suffix::AsMessage)
             }
             Fate::End(last) => {

@@ -1,15 +1,15 @@
 //! The end of a process.
 
 ghost use Rattle.std.specs.Prelude.{OnOk};
-ghost use Rattle.pf_system.specs.Worlds.{EndsSo, IsShaped, StandsBut};
+ghost use Rattle.pf_system.specs.Processes.{EndsProcess, IsShaped, RepresentsBut};
 
+use crate::processes::Processes;
 use crate::slot::{Life, Slot};
-use crate::world::World;
 use pf_mailbox::Mailbox;
 use pf_terms::{AtomId, NoMemory, Term};
 use std::alloc::Global;
 
-impl World {
+impl Processes {
     /// A process ends, with the value that it returned or with a reason: its name is lost, and its last signals go out.
     pub(crate) fn end(
         &mut self,
@@ -18,20 +18,20 @@ impl World {
         end: Result<Term, Term>,
     ) -> Result<(), NoMemory>
         requires { IsShaped pid self.old }
-        ensures { OnOk result ((c : _) → StandsBut self.old c pid → EndsSo c pid end self.old self.new) }
+        ensures { OnOk result ((c : _) → RepresentsBut self.old c pid → EndsProcess c pid end self.old self.new) }
     {
         let signals = match &end {
             Ok(_) => self
-                .bonds
+                .shared
                 .ties
                 .ended(alloc, pid, &Term::Atom(AtomId::NORMAL))?,
-            Err(reason) => self.bonds.ties.ended(alloc, pid, reason)?,
+            Err(reason) => self.shared.ties.ended(alloc, pid, reason)?,
         };
         self.slots[pid as usize] = Slot {
             life: Life::Ended(end),
             mailbox: Mailbox::new(alloc),
         };
         self.ready.remove(pid);
-        self.bonds.post(alloc, pid, signals)
+        self.shared.post(alloc, pid, signals)
     }
 }

@@ -5,14 +5,14 @@ ghost use Rattle.pf_terms.specs.Term.{value_of};
 ghost use Rattle.pf_model.specs.Contraction.{exit_other, set_flag};
 ghost use Rattle.pf_system.specs.Acts.{ActsAs, IsMember};
 
-use crate::bonds::{Answer, Bonds, giving_true, raising};
+use crate::shared::{Answer, Shared, giving_true, raising};
 use pf_model::Signal;
 use pf_model::report::Label;
 use pf_ops::{truth, truth_of};
 use pf_terms::{AtomId, NoMemory, Term, copy, equal};
 use std::alloc::Global;
 
-impl Bonds {
+impl Shared {
     /// `exit/2`.
     pub(crate) fn exit_other(
         &mut self,

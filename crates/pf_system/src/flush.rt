@@ -5,11 +5,11 @@ ghost use Rattle.pf_terms.specs.Term.{elements_of, value_of};
 ghost use Rattle.pf_model.specs.Contraction.{demonitor};
 ghost use Rattle.pf_model.specs.Flush.{are_flush, flushes};
 ghost use Rattle.pf_system.specs.Acts.{ActsIn, FlushesIn, KeepsSlot};
-ghost use Rattle.pf_system.specs.Worlds.{IsShaped};
+ghost use Rattle.pf_system.specs.Processes.{IsShaped};
 
-use crate::bonds::{Answer, raising};
+use crate::processes::Processes;
+use crate::shared::{Answer, raising};
 use crate::slot::Slot;
-use crate::world::World;
 use pf_nodes::Pool;
 use pf_terms::{AtomId, List, NoMemory, Term, equal};
 use std::alloc::Global;
@@ -51,7 +51,7 @@ impl Slot {
     }
 }
 
-impl World {
+impl Processes {
     /// `demonitor/1` and `demonitor/2`.
     pub(crate) fn demonitor(
         &mut self,
@@ -71,7 +71,7 @@ impl World {
         let Some(flushes) = flushes(&options) else {
             return Ok(raising(AtomId::BADARG));
         };
-        let answer = self.bonds.demonitor(alloc, pid, reference, flushes)?;
+        let answer = self.shared.demonitor(alloc, pid, reference, flushes)?;
         if !flushes {
             return Ok(answer);
         }

@@ -2,7 +2,6 @@
 #![tactic(auto)]
 
 mod act;
-mod bonds;
 mod deliver;
 mod enabled;
 mod ending;
@@ -13,11 +12,12 @@ mod messages;
 mod monitors;
 mod names;
 mod outcome;
+mod processes;
+mod shared;
 mod slot;
 mod spawn;
 mod system;
 mod turn;
-mod world;
 
 pub use enabled::Enabled;
 pub use system::System;

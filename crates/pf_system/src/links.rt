@@ -7,13 +7,13 @@ ghost use Rattle.pf_model.specs.Contraction.{link, send, unlink};
 ghost use Rattle.pf_ties.specs.Laws.{ties_of};
 ghost use Rattle.pf_system.specs.Acts.{ActsAs, IsMember};
 
-use crate::bonds::{Answer, Bonds, giving_true, raising};
+use crate::shared::{Answer, Shared, giving_true, raising};
 use pf_model::Signal;
 use pf_model::report::Label;
 use pf_terms::{AtomId, NoMemory, Term, copy};
 use std::alloc::Global;
 
-impl Bonds {
+impl Shared {
     /// Who a message is for: a pid, or a name in use.
     fn receiver(&self, to: &Term) -> Option<u32>
         ensures { (c : _) → ties_of c ≡ self.now.ties → result ≡ receiver c (value_of to.now) }

@@ -5,15 +5,15 @@ ghost use Rattle.pf_terms.specs.Term.{value_of};
 ghost use Rattle.pf_model.specs.Contraction.{make_ref, monitor};
 ghost use Rattle.pf_model.specs.Actions.{demonitored_so, monitored};
 ghost use Rattle.pf_ties.specs.Laws.{ties_of};
-ghost use Rattle.pf_system.specs.Acts.{ActedSo, ActsAs, IsMember};
+ghost use Rattle.pf_system.specs.Acts.{CarriesOut, ActsAs, IsMember};
 
-use crate::bonds::{Answer, Bonds, giving_true, raising};
+use crate::shared::{Answer, Shared, giving_true, raising};
 use pf_model::Signal;
 use pf_model::report::Label;
 use pf_terms::{AtomId, NoMemory, Term, equal};
 use std::alloc::Global;
 
-impl Bonds {
+impl Shared {
     /// `monitor/2`.
     pub(crate) fn monitor(
         &mut self,
@@ -39,7 +39,7 @@ impl Bonds {
     fn watch(&mut self, alloc: Global, pid: u32, other: u32) -> Result<Answer, NoMemory>
         requires { IsMember pid self.old }
         ensures { IfOk result (λ r. (c : _) → ties_of c ≡ self.old.ties
-            → ActedSo (monitored c pid other) pid self.old r self.new) }
+            → CarriesOut (monitored c pid other) pid self.old r self.new) }
     {
         if self.ties.next_reference() == u64::MAX {
             return Err(NoMemory);
@@ -66,7 +66,7 @@ impl Bonds {
     ) -> Result<Answer, NoMemory>
         requires { IsMember pid self.old }
         ensures { IfOk result (λ r. (c : _) → ties_of c ≡ self.old.ties
-            → ActedSo (demonitored_so c pid reference flushes) pid self.old r self.new) }
+            → CarriesOut (demonitored_so c pid reference flushes) pid self.old r self.new) }
     {
         if let Some(other) = self.ties.demonitor(pid, reference) {
             self.channels

@@ -5,14 +5,14 @@ ghost use Rattle.pf_terms.specs.Term.{value_of};
 ghost use Rattle.pf_model.specs.Contraction.{register, unregister, whereis};
 ghost use Rattle.pf_system.specs.Acts.{ActsAs};
 
-use crate::bonds::{Answer, Bonds, giving_true, raising};
+use crate::shared::{Answer, Shared, giving_true, raising};
 use pf_fault::OrNoMemory;
 use pf_model::report::Label;
 use pf_terms::{AtomId, NoMemory, Term};
 use pf_ties::BadArgument;
 use std::alloc::Global;
 
-impl Bonds {
+impl Shared {
     /// `register/2`.
     pub(crate) fn register(
         &mut self,

@@ -6,10 +6,10 @@ ghost use Rattle.pf_model.specs.Meaning.{outcome_of_root};
 ghost use Rattle.pf_model.specs.Reports.{outcome_of};
 ghost use Rattle.pf_model.specs.Runs.{is_waiting, numbers_of};
 ghost use Rattle.pf_system.specs.Slots.{state_of, SlotIsSound};
-ghost use Rattle.pf_system.specs.Worlds.{core_of, Stands};
+ghost use Rattle.pf_system.specs.Processes.{core_of, Represents};
 
+use crate::processes::Processes;
 use crate::slot::{Life, Slot};
-use crate::world::World;
 use pf_model::report::Outcome;
 use pf_terms::{AtomId, NoMemory, Term, copy};
 use std::alloc::Global;
@@ -27,10 +27,10 @@ impl Slot {
     }
 }
 
-impl World {
+impl Processes {
     /// The processes that wait, by rising pid.
     fn waiting(&self, alloc: Global) -> Result<Vec<u32>, NoMemory>
-        requires { Stands self.now (core_of self.now) }
+        requires { Represents self.now (core_of self.now) }
         ensures { IfOk result
             (λ ps. ps.items ≡ numbers_of is_waiting zero (core_of self.now).processes) }
     {
@@ -45,7 +45,7 @@ impl World {
 
     /// What the root came to, where nothing may go.
     pub(crate) fn outcome(&self, alloc: Global) -> Result<Outcome, NoMemory>
-        requires { Stands self.now (core_of self.now) }
+        requires { Represents self.now (core_of self.now) }
         ensures { IfOk result (λ o. outcome_of o ≡ outcome_of_root (of (core_of self.now) zero).state
             (numbers_of is_waiting zero (core_of self.now).processes)) }
     {

@@ -2,10 +2,10 @@
 
 ghost use Rattle.std.specs.Prelude.{◌≡◌, ◌<◌, true, IfOk, OnOk};
 ghost use Rattle.pf_terms.specs.Term.{value_of};
-ghost use Rattle.pf_model.specs.Place.{running, waiting};
+ghost use Rattle.pf_model.specs.Context.{running, waiting};
 ghost use Rattle.pf_model.specs.Runs.{can_go, is_waiting};
 ghost use Rattle.pf_stepper.specs.MachineView.{asking, goes};
-ghost use Rattle.pf_stepper.specs.Turns.{CanMove, RanSo, told_of};
+ghost use Rattle.pf_stepper.specs.Turns.{CanMove, RunsTurn, told_of};
 ghost use Rattle.pf_mailbox.specs.Tests.{IsAheadOf};
 ghost use Rattle.pf_system.specs.Bodies.{body, with_one};
 ghost use Rattle.pf_system.specs.Slots.{AnswersIn, LifeAsks, LifeIsReady, PutsIn, RanInSlot, SlotIsLeft};
@@ -44,7 +44,7 @@ fn run_machine(
 ) -> Result<(Move, u32), NoMemory>
     requires stands { CanMove machine.old.standing }
     requires ready { IsAheadOf machine.old mailbox.old }
-    ensures ran { IfOk result (λ r. RanSo left machine.old mailbox.old.messages
+    ensures ran { IfOk result (λ r. RunsTurn left machine.old mailbox.old.messages
         r.0 machine.new r.1 mailbox.new.messages) }
     ensures ready { IsAheadOf machine.new mailbox.new }
 {
@@ -108,7 +108,7 @@ impl Slot {
     }
 
     /// A message comes, and the process goes on where it waited; it tells whether it did.
-    pub(crate) fn place(&mut self, pool: &mut Pool<Term>, message: Term) -> Result<bool, NoMemory>
+    pub(crate) fn index(&mut self, pool: &mut Pool<Term>, message: Term) -> Result<bool, NoMemory>
         ensures woken { IfOk result (λ w. (m : _) (own : _) → SlotIsSound m own self.old
             → w ≡ is_waiting (state_of self.old.life)) }
         ensures placed { OnOk result ((m : _) (own : _) → SlotIsSound m own self.old

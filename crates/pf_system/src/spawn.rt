@@ -3,17 +3,17 @@
 ghost use Rattle.std.specs.Prelude.{◌≡◌, ◌<◌, if◌then◌else◌, length, option_map, IfOk, OnOk};
 ghost use Rattle.pf_terms.specs.Term.{elements_of, value_of, values_of};
 ghost use Rattle.pf_model.specs.Actions.{start_of};
-ghost use Rattle.pf_model.specs.Code.{code_of};
+ghost use Rattle.pf_model.specs.Module.{module_of};
 ghost use Rattle.pf_model.specs.Contraction.{linking, spawn, unbound, watching};
 ghost use Rattle.pf_model.specs.declared.limits.TheConstants.{MOST_PROCESSES};
 ghost use Rattle.pf_ties.specs.Ties.{opened};
 ghost use Rattle.pf_stepper.specs.Acts.{bond_of};
-ghost use Rattle.pf_system.specs.Acts.{ActsIn, KeepsSlot, LifeBegins, Opens, OpensSo, Tells, home_function};
-ghost use Rattle.pf_system.specs.Worlds.{IsShaped, IsShapedFor};
+ghost use Rattle.pf_system.specs.Acts.{ActsIn, KeepsSlot, LifeBegins, Opens, OpensProcess, Tells, home_function};
+ghost use Rattle.pf_system.specs.Processes.{IsShaped, IsShapedFor};
 
-use crate::bonds::{Answer, raising};
+use crate::processes::Processes;
+use crate::shared::{Answer, raising};
 use crate::slot::{Life, Slot};
-use crate::world::World;
 use pf_fault::OrNoMemory;
 use pf_mailbox::Mailbox;
 use pf_model::report::Label;
@@ -46,7 +46,7 @@ fn exported(
     arity: usize,
 ) -> Result<Option<FunctionId>, NoMemory>
     ensures { IfOk result (λ f. option_map (λ i. i.0) f
-        ≡ home_function (code_of code.now) home.0 name.0 arity) }
+        ≡ home_function (module_of code.now) home.0 name.0 arity) }
 {
     if home != code.name() {
         return Ok(None);
@@ -72,8 +72,8 @@ fn begun(
     name: AtomId,
     arguments: &List,
 ) -> Result<Life, NoMemory>
-    ensures { IfOk result (λ l. LifeBegins (code_of «module».now.value) pid
-        (start_of (code_of «module».now.value) home.0 name.0 (elements_of arguments.now)) l) }
+    ensures { IfOk result (λ l. LifeBegins (module_of «module».now.value) pid
+        (start_of (module_of «module».now.value) home.0 name.0 (elements_of arguments.now)) l) }
 {
     let items = elements(alloc, arguments)?;
     match exported(module, home, name, items.len())? {
@@ -110,14 +110,14 @@ fn told_watched(alloc: Global, pid: u32, reference: u64) -> Result<Answer, NoMem
     }
 }
 
-impl World {
+impl Processes {
     /// The slot of a process whose ties are there, and a row for its signals.
     fn enter(&mut self, alloc: Global, pid: u32, life: Life) -> Result<(), NoMemory>
         requires pid { pid ≡ length self.old.slots.items }
         requires room { length self.old.slots.items < MOST_PROCESSES }
-        ensures { OnOk result (Opens self.old.bonds.ties self.old life self.new) }
+        ensures { OnOk result (Opens self.old.shared.ties self.old life self.new) }
     {
-        self.bonds.open_to(alloc, pid)?;
+        self.shared.open_to(alloc, pid)?;
         self.slots.push(Slot {
             life,
             mailbox: Mailbox::new(alloc),
@@ -134,9 +134,9 @@ impl World {
     ) -> Result<(), NoMemory>
         requires shaped { IsShapedFor parent self.old }
         requires room { length self.old.slots.items < MOST_PROCESSES }
-        ensures { OnOk result (Opens (opened self.old.bonds.ties parent) self.old life self.new) }
+        ensures { OnOk result (Opens (opened self.old.shared.ties parent) self.old life self.new) }
     {
-        let pid = self.bonds.ties.open(alloc, parent)?;
+        let pid = self.shared.ties.open(alloc, parent)?;
         self.enter(alloc, pid, life)
     }
 
@@ -144,12 +144,12 @@ impl World {
     fn open_watched(&mut self, alloc: Global, watcher: u32, life: Life) -> Result<Answer, NoMemory>
         requires shaped { IsShaped watcher self.old }
         requires room { length self.old.slots.items < MOST_PROCESSES }
-        ensures { IfOk result (λ r. OpensSo watching watcher self.old life r self.new) }
+        ensures { IfOk result (λ r. OpensProcess watching watcher self.old life r self.new) }
     {
-        if self.bonds.ties.next_reference() == u64::MAX {
+        if self.shared.ties.next_reference() == u64::MAX {
             return Err(NoMemory);
         }
-        let (pid, reference) = self.bonds.ties.open_watched(alloc, watcher)?;
+        let (pid, reference) = self.shared.ties.open_watched(alloc, watcher)?;
         self.enter(alloc, pid, life)?;
         told_watched(alloc, pid, reference)
     }
@@ -164,7 +164,7 @@ impl World {
     ) -> Result<Answer, NoMemory>
         requires shaped { IsShaped other self.old }
         requires room { length self.old.slots.items < MOST_PROCESSES }
-        ensures { IfOk result (λ r. OpensSo (bond_of bond) other self.old life r self.new) }
+        ensures { IfOk result (λ r. OpensProcess (bond_of bond) other self.old life r self.new) }
     {
         let pid = self.slots.len() as u32;
         match bond {

@@ -1,18 +1,18 @@
 //! The system of processes of one run.
 
 ghost use Rattle.std.specs.Prelude.{◌≡◌, ◌<◌, ◌≤◌, Some, None, IfOk, IsErr, OnErr};
-ghost use Rattle.pf_model.specs.Code.{code_of};
+ghost use Rattle.pf_model.specs.Module.{module_of};
 ghost use Rattle.pf_model.specs.Limits.{IsEdition};
 ghost use Rattle.pf_model.specs.Meaning.{outcome_of as outcome_where};
 ghost use Rattle.pf_model.specs.Reports.{label_of, outcome_of};
 ghost use Rattle.pf_model.specs.Runs.{process, channel, enabled, start};
-ghost use Rattle.pf_system.specs.View.{system_view};
+ghost use Rattle.pf_system.specs.View.{view_of_system};
 ghost use Rattle.pf_system.specs.Steps.{IsNoteOf, MayGo, PassesTo, noted};
 
-use crate::bonds::Bonds;
 use crate::enabled::Enabled;
+use crate::processes::{Basis, Processes};
+use crate::shared::Shared;
 use crate::slot::Life;
-use crate::world::{Basis, World};
 use pf_channels::Channels;
 use pf_model::limits::most_processes;
 use pf_model::report::{Label, Outcome};
@@ -32,24 +32,24 @@ use std::sync::Arc;
 #[derive(Drop)]
 pub struct System {
     module: Arc<Module>,
-    world: World,
+    processes: Processes,
     steps: u32,
     spent: bool,
 }
 
 impl Model for System {
     ghost use Rattle.pf_system.specs.View.{SystemView};
-    ghost use Rattle.pf_system.specs.Codes.{coded_system_view};
+    ghost use Rattle.pf_system.specs.Encoding.{coded_system_view};
 
     ghost Value = { SystemView };
 
     ghost coded = { coded_system_view };
 
-    ghost use Rattle.pf_system.specs.Steps.{IsKept, system_view_of};
+    ghost use Rattle.pf_system.specs.Steps.{IsValid, view_of_inside};
 
-    ghost view = { system_view_of };
+    ghost view = { view_of_inside };
 
-    ghost invariant = { IsKept };
+    ghost invariant = { IsValid };
 }
 
 impl System {
@@ -62,24 +62,24 @@ impl System {
     ) -> Result<System, NoMemory>
         requires { IsEdition edition }
         ensures { IfOk result (λ s.
-            s ≡ system_view (code_of «module».now.value) 0 (Some (start root.0 edition))) }
+            s ≡ view_of_system (module_of «module».now.value) 0 (Some (start root.0 edition))) }
     {
         let shared = Arc::try_clone(module)?;
         let machine = Machine::new(alloc, 0, shared, root, SmallVec::new(alloc))?;
-        let mut world = World {
+        let mut processes = Processes {
             basis: Basis {
                 module: Arc::try_clone(module)?,
                 most: most_processes(edition),
             },
             slots: Vec::new(alloc),
-            bonds: Bonds {
+            shared: Shared {
                 ties: Ties::new(alloc),
                 channels: Channels::new(alloc),
             },
             ready: Numbers::new(alloc),
             pool: Pool::new(alloc),
         };
-        world.open(
+        processes.open(
             alloc,
             None,
             Life::Lives {
@@ -89,7 +89,7 @@ impl System {
         )?;
         Ok(System {
             module: Arc::try_clone(module)?,
-            world,
+            processes,
             steps: 0,
             spent: false,
         })
@@ -108,8 +108,8 @@ impl System {
         ensures both { (c : _) → self.now.standing ≡ Some c → IsNoteOf result c }
     {
         Enabled {
-            ready: &self.world.ready,
-            channels: &self.world.bonds.channels,
+            ready: &self.processes.ready,
+            channels: &self.processes.shared.channels,
         }
     }
 
@@ -125,7 +125,7 @@ impl System {
         if self.enabled().len() > 0 {
             return Ok(Outcome::Limit);
         }
-        self.world.outcome(alloc)
+        self.processes.outcome(alloc)
     }
 
     /// The turn of a process that may go: all its steps up to and with its next action, message, wait or end, but no more than
@@ -135,14 +135,14 @@ impl System {
         requires left { 0 < left }
         ensures passed { IfOk result (λ r.
             PassesTo left self.old (process pid) (label_of r.0) r.1 self.new) }
-        ensures spent { OnErr result (self.new ≡ system_view self.old.code self.old.steps None) }
+        ensures spent { OnErr result (self.new ≡ view_of_system self.old.code self.old.steps None) }
         ensures refused { self.old.standing ≡ None → IsErr result }
     {
         if self.spent {
             return Err(NoMemory);
         }
         self.spent = true;
-        let (label, used) = self.world.turn(alloc, pid, left)?;
+        let (label, used) = self.processes.turn(alloc, pid, left)?;
         let Some(steps) = self.steps.checked_add(used) else {
             return Err(NoMemory);
         };
@@ -156,14 +156,14 @@ impl System {
         requires enabled { MayGo (channel from to) self.old.standing }
         ensures passed { IfOk result (λ l.
             PassesTo 1 self.old (channel from to) (label_of l) 1 self.new) }
-        ensures spent { OnErr result (self.new ≡ system_view self.old.code self.old.steps None) }
+        ensures spent { OnErr result (self.new ≡ view_of_system self.old.code self.old.steps None) }
         ensures refused { self.old.standing ≡ None → IsErr result }
     {
         if self.spent {
             return Err(NoMemory);
         }
         self.spent = true;
-        let label = self.world.deliver(alloc, from, to)?;
+        let label = self.processes.deliver(alloc, from, to)?;
         let Some(steps) = self.steps.checked_add(1) else {
             return Err(NoMemory);
         };
@@ -176,13 +176,13 @@ impl System {
     pub fn put_pool(&mut self, pool: Pool<Term>)
         ensures { self.new ≡ self.old }
     {
-        self.world.pool = pool;
+        self.processes.pool = pool;
     }
 
     /// Gives its spare nodes away.
     pub fn take_pool(&mut self, alloc: Global) -> Pool<Term>
         ensures { self.new ≡ self.old }
     {
-        mem::replace(&mut self.world.pool, Pool::new(alloc))
+        mem::replace(&mut self.processes.pool, Pool::new(alloc))
     }
 }

@@ -8,9 +8,9 @@ ghost use Rattle.pf_model.specs.Reports.{label_of};
 ghost use Rattle.pf_model.specs.Runs.{can_go};
 ghost use Rattle.pf_system.specs.Slots.{end_of};
 ghost use Rattle.pf_system.specs.Settled.{CanSettle, SettlesAs, WaitsIn};
-ghost use Rattle.pf_system.specs.Worlds.{IsShaped, Stands, Turned, core_of};
+ghost use Rattle.pf_system.specs.Processes.{IsShaped, Represents, Turned, core_of};
 
-use crate::world::World;
+use crate::processes::Processes;
 use pf_model::report::Label;
 use pf_stepper::Move;
 use pf_terms::{AtomId, NoMemory, Term, copy};
@@ -26,7 +26,7 @@ fn ending(end: &Result<Term, Term>) -> Result<Label, NoMemory>
     }
 }
 
-impl World {
+impl Processes {
     /// All steps of a process up to and with its next action, message, wait or end, but no more than `left`; what it shows, and how many
     /// they were.
     pub(crate) fn turn(
@@ -35,7 +35,7 @@ impl World {
         pid: u32,
         left: u32,
     ) -> Result<(Label, u32), NoMemory>
-        requires sound { Stands self.old (core_of self.old) }
+        requires sound { Represents self.old (core_of self.old) }
         requires enabled { can_go (of (core_of self.old) pid).state ≡ true }
         requires left { 0 < left }
         ensures { IfOk result (λ r. Turned (core_of self.old) pid left self.old r.0 r.1 self.new) }

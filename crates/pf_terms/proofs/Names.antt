@@ -23,7 +23,7 @@ module _ {X : Type 0} (p : X → Bool) where
   past i n true e none = absurd (cc)
   past i n false e none = omega (arith, ltb-false i n (sym e))
 
-  -- where no place is the first that passes, nothing passes
+  -- where no index is the first that passes, nothing passes
   none_passes : (xs : List X) → None ≡ position p xs → list_any p xs ≡ false
   none_passes xs none = fail_within xs (past (position_or_len p xs) (length xs) (nat_lt (position_or_len p xs) (length xs)) refl none)
 
@@ -45,17 +45,17 @@ module _ {K : Type 0} (name : K → List ℕ) where
   within p [] i e = cc
   within p (k ∷ ks) i e = (position-Some p (k ∷ ks) i k (sym e)).0
 
-  at_place : (text : List ℕ) (ks : List K) (i : ℕ) → Some i ≡ position (λ k. bytes_eq text (name k)) ks
+  at_index : (text : List ℕ) (ks : List K) (i : ℕ) → Some i ≡ position (λ k. bytes_eq text (name k)) ks
       → ((k : K) × (i < length ks) × (slice_get ks i ≡ Some k) × (get_or ks i k ≡ k)) ⊎ ((length ks ≤ i) × (slice_get ks i ≡ None))
       → slice_get (map name ks) i ≡ Some text
-  at_place text ks i e (inl p) =
+  at_index text ks i e (inl p) =
       let passes : bytes_eq text (name p.0) ≡ true = ap (λ k. bytes_eq text (name k)) (sym p.3) ∙ (position-Some (λ k. bytes_eq text (name k)) ks i p.0 (sym e)).1 in
       slice_get-map name ks i ∙ ap (option_map name) p.2 ∙ ap (λ n. Some n) (sym ((bytes_eq-Decides text (name p.0)).0 passes))
-  at_place text ks i e (inr p) = let h = within (λ k. bytes_eq text (name k)) ks i e in absurd (omega (arith, p.0))
+  at_index text ks i e (inr p) = let h = within (λ k. bytes_eq text (name k)) ks i e in absurd (omega (arith, p.0))
 
-  -- the key at the first place that passes bears the name
+  -- the key at the first index that passes bears the name
   pub named : (text : List ℕ) (ks : List K) (i : ℕ) → Some i ≡ position (λ k. bytes_eq text (name k)) ks → slice_get (map name ks) i ≡ Some text
-  named text ks i e = at_place text ks i e (slice_get_cases ks i).1
+  named text ks i e = at_index text ks i e (slice_get_cases ks i).1
 
   -- where no key passes, none bears the name
   pub absent : (text : List ℕ) (ks : List K) → None ≡ position (λ k. bytes_eq text (name k)) ks → list_any (bytes_eq text) (map name ks) ≡ false
@@ -72,7 +72,7 @@ module _ {K : Type 0} (name : K → List ℕ) where
       ∙ last_or_kept text ks k e (list_any (λ q. bytes_eq text (name q)) ks)
       ∙ ap (λ b. if b then map name ks else map name ks ++ text ∷ []) (sym (list_any-map (bytes_eq text) ks))
 
-  -- the key with this name stands at its place
+  -- the key with this name stands at its index
   pub stored : (text : List ℕ) (ks : List K) (i : ℕ) (k : K) → slice_get ks i ≡ Some k → bytes_eq text (name k) ≡ true → slice_get (map name ks) i ≡ Some text
   stored text ks i k e b = slice_get-map name ks i ∙ ap (option_map name) e ∙ ap (λ n. Some n) (sym ((bytes_eq-Decides text (name k)).0 b))
 

@@ -8,7 +8,7 @@ use Rattle.std.proofs.lemmas.Slice.Eq.{bytes_eq-Decides}
 use Rattle.pf_terms.specs.Atoms.{with_name, name_of}
 use Rattle.pf_terms.specs.Order.{TellsApart}
 
--- a name that stands at no place isn't among them
+-- a name that stands at no index isn't among them
 lacks : (names : List (List ℕ)) (name : List ℕ) → ((i : ℕ) → i < length names → ¬ (name_of names i ≡ name)) → list_any (bytes_eq name) names ≡ false
 lacks [] name h = refl
 lacks (n ∷ ns) name h = by (bytes_eq name n) refl (lacks ns name (λ i k. h (suc i) (omega arith)))

@@ -1,6 +1,6 @@
 pub mod Value
 pub mod Order
-pub mod Code
+pub mod Encoding
 pub mod Term
 pub mod Falls
 pub mod Atoms

@@ -7,7 +7,7 @@ use Rattle.std.specs.Cmp.Lexicographic.{slice_cmp}
 use Rattle.std.specs.Cmp.{IsTotalOrder}
 use Rattle.pf_terms.specs.Value.{Value, Values, int, atom, ref, pid, tuple, list, none, more, count}
 
--- the place of a value's kind among the kinds
+-- the index of a value's kind among the kinds
 abbrev pub rank : Value → ℕ
 rank (int z) = 0
 rank (atom a) = 1

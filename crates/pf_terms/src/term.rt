@@ -85,7 +85,7 @@ impl Drop for List {
 impl Model for Cell {
     ghost use Rattle.std.specs.Prelude.{◌≡◌, ◌<◌};
     ghost use Rattle.pf_terms.specs.Value.{Values, depth_in, more, nodes_in};
-    ghost use Rattle.pf_terms.specs.Code.{coded_values};
+    ghost use Rattle.pf_terms.specs.Encoding.{coded_values};
     ghost use Rattle.pf_terms.specs.declared.limits.TheConstants.{MOST_DEPTH, MOST_NODES};
 
     ghost Value = { Values };
@@ -110,7 +110,7 @@ impl Model for Cell {
 impl Model for Elements {
     ghost use Rattle.std.specs.Prelude.{◌≡◌, ◌<◌};
     ghost use Rattle.pf_terms.specs.Value.{Values, depth_in, nodes_in};
-    ghost use Rattle.pf_terms.specs.Code.{coded_values};
+    ghost use Rattle.pf_terms.specs.Encoding.{coded_values};
     ghost use Rattle.pf_terms.specs.declared.limits.TheConstants.{MOST_DEPTH, MOST_NODES};
 
     ghost Value = { Values };
@@ -202,7 +202,7 @@ pub fn copy(term: &Term) -> Result<Term, NoMemory>
 }
 
 impl Term {
-    /// The place of its kind in the order of kinds.
+    /// The index of its kind in the order of kinds.
     pub(crate) fn rank(&self) -> u8
         ensures { result ≡ rank (value_of self.now) }
     {

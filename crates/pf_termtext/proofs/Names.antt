@@ -44,11 +44,11 @@ atom_stands (n ∷ names) name a e = by (bytes_eq name n) refl (atom_of names na
         let stands = later b found in
         rw (← next) (omega (arith, stands.0), stands.1)
 
--- a name that stands at a place of the table has its atom there
+-- a name that stands at an index of the table has its atom there
 pub atom_at : (names : List (List ℕ)) (name : List ℕ) (a : ℕ) → TellsApart (name_of names) (length names) → slice_get names a ≡ Some name → atom_of names name ≡ Some a
 atom_at names name a apart e =
-    let place = placed names a e in
-    ap (atom_of names) (sym place.1) ∙ atom_found names a apart place.0
+    let offset = placed names a e in
+    ap (atom_of names) (sym offset.1) ∙ atom_found names a apart offset.0
   where
     placed : (names : List (List ℕ)) (a : ℕ) → slice_get names a ≡ Some name → (a < length names) × (name_of names a ≡ name)
     placed [] a e = absurd cc

@@ -1,14 +1,14 @@
 //! The machine over modules made by hand, where it asks for an action, takes a message or waits.
 
 ghost use Rattle.std.specs.Prelude.{◌≡◌, [], IfOk, OnOk};
-ghost use Rattle.pf_syntax.specs.Within.{PartStands, PartsStand};
+ghost use Rattle.pf_syntax.specs.Within.{OperandRepresents, PartsStand};
 ghost use Rattle.pf_stepper.specs.Turns.{CanMove};
 
 use crate::drive::{OWN, asked, ended, no_mail, started, taken, told, waits};
 use crate::ends::{raised, returned};
 use pf_stepper::{Act, Machine, PlainInbox};
 use pf_syntax::{
-    Builtin, Clause, Function, FunctionClause, Guard, Module, Node, Part, PatternNode,
+    Builtin, Clause, Function, FunctionClause, Guard, Module, Node, Operand, PatternNode,
 };
 use pf_terms::{AtomId, AtomTable, NoMemory, Term, equal};
 use std::alloc::Global;
@@ -42,8 +42,8 @@ fn no_guard(alloc: Global) -> Guard
 }
 
 /// Adds `main() -> BODY.`.
-fn add_main(alloc: Global, module: &mut Module, body: Part) -> Result<(), NoMemory>
-    requires { PartStands «module».old.tables body }
+fn add_main(alloc: Global, module: &mut Module, body: Operand) -> Result<(), NoMemory>
+    requires { OperandRepresents «module».old.tables body }
     ensures { OnOk result («module».new.tables ≡ «module».old.tables) }
 {
     let clause = FunctionClause {
@@ -67,7 +67,7 @@ fn main_node(alloc: Global, module: Module, node: Node) -> Result<Machine, NoMem
 {
     let mut module = module;
     let top = module.add_node(node)?;
-    add_main(alloc, &mut module, Part::Node(top))?;
+    add_main(alloc, &mut module, Operand::Node(top))?;
     started(alloc, module)
 }
 
@@ -77,7 +77,11 @@ fn to_itself(alloc: Global) -> Result<Machine, NoMemory>
 {
     let mut module = empty(alloc)?;
     let own = module.add_node(Node::Builtin(Builtin::SelfPid, Vec::new(alloc)))?;
-    main_node(alloc, module, Node::Send(Part::Node(own), Part::Atom(HI)))
+    main_node(
+        alloc,
+        module,
+        Node::Send(Operand::Node(own), Operand::Atom(HI)),
+    )
 }
 
 /// Whether a process that sends `hi` to itself asks for just that with its third step, and how it ends that is told this.
@@ -125,12 +129,12 @@ fn receiver(alloc: Global) -> Result<Machine, NoMemory>
     let first = Clause {
         pattern: b,
         guard: no_guard(alloc),
-        body: Part::Int(1),
+        body: Operand::Int(1),
     };
     let second = Clause {
         pattern: a,
         guard: no_guard(alloc),
-        body: Part::Int(2),
+        body: Operand::Int(2),
     };
     let clauses = vec![in alloc; first, second]?;
     main_node(alloc, module, Node::Receive(clauses))

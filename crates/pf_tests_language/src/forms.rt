@@ -1,14 +1,14 @@
 //! What is read of each form.
 
 use pf_reader::read_tree;
-use pf_syntax::Source;
+use pf_syntax::SyntaxTree;
 use pf_tokens::tokens;
 use std::alloc::Global;
 use std::fmt::Write;
 use std::test::Fail;
 
 /// How many exports and functions there are, and how many nodes each element of a body has.
-fn describe(out: &mut String, source: &Source) -> Result<(), Fail> {
+fn describe(out: &mut String, source: &SyntaxTree) -> Result<(), Fail> {
     write!(out, "{} exports", source.exports().len())?;
     for function in source.functions() {
         out.push_str("; function")?;

@@ -2,7 +2,7 @@
 
 use pf_fault::{Code, OrNoMemory};
 use pf_reader::{ReadPattern, read_pattern};
-use pf_syntax::{Source, WrittenPatternId, WrittenPatternNode};
+use pf_syntax::{ExprPatternId, ExprPatternNode, SyntaxTree};
 use pf_terms::AtomTable;
 use pf_tokens::tokens;
 use std::alloc::Global;
@@ -18,18 +18,18 @@ fn read(alloc: Global, text: &[u8]) -> Result<Result<ReadPattern, OrNoMemory<Cod
 }
 
 /// Writes a node: its atoms and variables by number, variables with their places, and how many parts it has.
-fn describe(out: &mut String, source: &Source, id: WrittenPatternId) -> Result<(), Fail> {
-    match source.written_pattern(id) {
-        Some(WrittenPatternNode::Integer(n)) => write!(out, " {n}")?,
-        Some(WrittenPatternNode::Atom(a)) => write!(out, " atom {}", a.0)?,
-        Some(WrittenPatternNode::Text(text)) => write!(out, " text of {}", text.len())?,
-        Some(WrittenPatternNode::Variable(word)) => {
+fn describe(out: &mut String, source: &SyntaxTree, id: ExprPatternId) -> Result<(), Fail> {
+    match source.expr_pattern(id) {
+        Some(ExprPatternNode::Integer(n)) => write!(out, " {n}")?,
+        Some(ExprPatternNode::Atom(a)) => write!(out, " atom {}", a.0)?,
+        Some(ExprPatternNode::Text(text)) => write!(out, " text of {}", text.len())?,
+        Some(ExprPatternNode::Variable(word)) => {
             write!(out, " variable {} at {}", word.name.0, word.offset)?;
         }
-        Some(WrittenPatternNode::Anything) => write!(out, " _")?,
-        Some(WrittenPatternNode::Tuple(parts)) => write!(out, " tuple of {}", parts.len())?,
-        Some(WrittenPatternNode::List(parts)) => write!(out, " list of {}", parts.len())?,
-        Some(WrittenPatternNode::ListOn(parts, _)) => write!(out, " list of {} on", parts.len())?,
+        Some(ExprPatternNode::Anything) => write!(out, " _")?,
+        Some(ExprPatternNode::Tuple(parts)) => write!(out, " tuple of {}", parts.len())?,
+        Some(ExprPatternNode::List(parts)) => write!(out, " list of {}", parts.len())?,
+        Some(ExprPatternNode::ListOn(parts, _)) => write!(out, " list of {} on", parts.len())?,
         None => write!(out, " nothing")?,
     }
     Ok(())
@@ -38,15 +38,15 @@ fn describe(out: &mut String, source: &Source, id: WrittenPatternId) -> Result<(
 /// The parts of a node, its tail last.
 fn parts(
     alloc: Global,
-    source: &Source,
-    id: WrittenPatternId,
-) -> Result<Vec<WrittenPatternId>, Fail> {
+    source: &SyntaxTree,
+    id: ExprPatternId,
+) -> Result<Vec<ExprPatternId>, Fail> {
     let mut found = Vec::new(alloc);
-    match source.written_pattern(id) {
-        Some(WrittenPatternNode::Tuple(parts) | WrittenPatternNode::List(parts)) => {
+    match source.expr_pattern(id) {
+        Some(ExprPatternNode::Tuple(parts) | ExprPatternNode::List(parts)) => {
             found.extend_from_slice(parts)?;
         }
-        Some(WrittenPatternNode::ListOn(parts, tail)) => {
+        Some(ExprPatternNode::ListOn(parts, tail)) => {
             found.extend_from_slice(parts)?;
             found.push(*tail)?;
         }

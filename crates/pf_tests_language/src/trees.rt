@@ -3,9 +3,8 @@
 ghost use Rattle.std.specs.Prelude.{◌≡◌, ◌+◌, length, OnOk};
 
 use pf_syntax::{
-    Export, Function, FunctionClause, FunctionId, Guard, LiteralId, Module, Node, NodeId, Operator,
-    Part, PatternId, PatternNode, Source, Word, WrittenExpressionId, WrittenExpressionNode,
-    WrittenPatternNode,
+    Export, ExprId, ExprNode, ExprPatternNode, Function, FunctionClause, FunctionId, Guard,
+    LiteralId, Module, Node, NodeId, Operand, Operator, PatternId, PatternNode, SyntaxTree, Word,
 };
 use pf_terms::{AtomId, AtomTable, NoMemory, Term};
 use std::alloc::Global;
@@ -16,7 +15,7 @@ use std::thread::Builder;
 /// Whether the node is the sum of a node and a literal.
 fn is_sum(node: Option<&Node>, left: NodeId, right: LiteralId) -> bool {
     match node {
-        Some(Node::Binary(Operator::Plus, Part::Node(a), Part::Literal(b))) => {
+        Some(Node::Binary(Operator::Plus, Operand::Node(a), Operand::Literal(b))) => {
             *a == left && *b == right
         }
         _ => false,
@@ -25,15 +24,19 @@ fn is_sum(node: Option<&Node>, left: NodeId, right: LiteralId) -> bool {
 
 /// Whether the node is the negative of the variable at the first place.
 fn is_negative(node: Option<&Node>) -> bool {
-    matches!(node, Some(Node::Negate(Part::Slot(0))))
+    matches!(node, Some(Node::Negate(Operand::Slot(0))))
 }
 
 /// Whether a sum over a negative, and that, are read back as they were added.
 fn nodes_come_back(alloc: Global) -> Result<bool, NoMemory> {
     let mut module = Module::new(alloc, AtomId::KILL, AtomTable::new(alloc)?);
     let seven = module.add_literal(Term::Int(7))?;
-    let negative = module.add_node(Node::Negate(Part::Slot(0)))?;
-    let sum = Node::Binary(Operator::Plus, Part::Node(negative), Part::Literal(seven));
+    let negative = module.add_node(Node::Negate(Operand::Slot(0)))?;
+    let sum = Node::Binary(
+        Operator::Plus,
+        Operand::Node(negative),
+        Operand::Literal(seven),
+    );
     let sum = module.add_node(sum)?;
     Ok(is_sum(module.node(sum), negative, seven) && is_negative(module.node(negative)))
 }
@@ -67,14 +70,14 @@ fn a_module_is_read_back(rt: HostRuntime) -> Result<(), Fail> {
 
 /// The nodes and the depth of `1`, `-1`, `(-1)`, `1 + (-1)` and `-5 = 1 + (-1)`.
 fn sizes(alloc: Global) -> Result<[(u32, u32); 5], NoMemory> {
-    let mut source = Source::new(alloc, AtomId::EXIT);
-    let one = source.add_written_expression(WrittenExpressionNode::Integer(1))?;
-    let minus = source.add_written_expression(WrittenExpressionNode::Negate(one))?;
-    let round = source.add_written_expression(WrittenExpressionNode::Parentheses(minus))?;
-    let sum = WrittenExpressionNode::Binary(Operator::Plus, one, round);
-    let sum = source.add_written_expression(sum)?;
-    let five = source.add_written_pattern(WrittenPatternNode::Integer(-5))?;
-    let bound = source.add_written_expression(WrittenExpressionNode::Match(five, sum))?;
+    let mut source = SyntaxTree::new(alloc, AtomId::EXIT);
+    let one = source.add_expr(ExprNode::Integer(1))?;
+    let minus = source.add_expr(ExprNode::Negate(one))?;
+    let round = source.add_expr(ExprNode::Parentheses(minus))?;
+    let sum = ExprNode::Binary(Operator::Plus, one, round);
+    let sum = source.add_expr(sum)?;
+    let five = source.add_expr_pattern(ExprPatternNode::Integer(-5))?;
+    let bound = source.add_expr(ExprNode::Match(five, sum))?;
     Ok([one, minus, round, sum, bound].map(|it| (source.size(it), source.depth(it))))
 }
 
@@ -89,16 +92,16 @@ fn depths_go_by_the_rules(rt: HostRuntime) -> Result<(), Fail> {
 
 /// The nodes and the depth of `[1, f(1, 1), 1]`, and how many exports there are with one that was added.
 fn several(alloc: Global) -> Result<(u32, u32, usize), NoMemory> {
-    let mut source = Source::new(alloc, AtomId::EXIT);
-    let one = source.add_written_expression(WrittenExpressionNode::Integer(1))?;
+    let mut source = SyntaxTree::new(alloc, AtomId::EXIT);
+    let one = source.add_expr(ExprNode::Integer(1))?;
     let word = Word {
         name: AtomId::DOWN,
         offset: 8,
     };
-    let call = WrittenExpressionNode::Call(word, vec![in alloc; one, one]?);
-    let two = source.add_written_expression(call)?;
-    let list = WrittenExpressionNode::List(vec![in alloc; one, two, one]?);
-    let list = source.add_written_expression(list)?;
+    let call = ExprNode::Call(word, vec![in alloc; one, one]?);
+    let two = source.add_expr(call)?;
+    let list = ExprNode::List(vec![in alloc; one, two, one]?);
+    let list = source.add_expr(list)?;
     source.add_export(Export { word, arity: 2 })?;
     Ok((
         source.size(list),
@@ -123,7 +126,7 @@ fn add_identity(alloc: Global, module: &mut Module, name: AtomId) -> Result<Func
     clauses.push(FunctionClause {
         parameters,
         guard: Guard { alternatives },
-        body: Part::Slot(0),
+        body: Operand::Slot(0),
     })?;
     module.add_function(Function {
         name,
@@ -155,10 +158,10 @@ fn a_function_is_found_by_name_and_arity(rt: HostRuntime) -> Result<(), Fail> {
 }
 
 /// An expression of `len` unary minus over 1.
-fn chain(source: &mut Source, len: usize) -> Result<WrittenExpressionId, NoMemory> {
-    let mut top = source.add_written_expression(WrittenExpressionNode::Integer(1))?;
+fn chain(source: &mut SyntaxTree, len: usize) -> Result<ExprId, NoMemory> {
+    let mut top = source.add_expr(ExprNode::Integer(1))?;
     for _ in 0..len {
-        top = source.add_written_expression(WrittenExpressionNode::Negate(top))?;
+        top = source.add_expr(ExprNode::Negate(top))?;
     }
     Ok(top)
 }
@@ -174,7 +177,7 @@ fn long_pattern(module: &mut Module, len: usize) -> Result<PatternId, NoMemory> 
 
 /// The depth of an expression of 60,000 unary minus; a pattern of 10,000 elements is made and dropped beside it.
 fn long_and_deep(alloc: Global) -> Result<u32, NoMemory> {
-    let mut source = Source::new(alloc, AtomId::EXIT);
+    let mut source = SyntaxTree::new(alloc, AtomId::EXIT);
     let top = chain(&mut source, 60000)?;
     let mut module = Module::new(alloc, AtomId::EXIT, AtomTable::new(alloc)?);
     long_pattern(&mut module, 10000)?;

@@ -1,4 +1,4 @@
-//! Each form of token once, and each fault at its place.
+//! Each form of token once, and each fault at its offset.
 use pf_fault::OrNoMemory;
 use pf_tokens::{Kind, Token, tokens};
 use std::alloc::Global;
@@ -32,7 +32,7 @@ fn describe(out: &mut String, token: &Token) -> Result<(), Fail> {
     Ok(())
 }
 
-/// The tokens in words, or the fault and its place.
+/// The tokens in words, or the fault and its offset.
 fn read(alloc: Global, source: &[u8]) -> Result<String, Fail> {
     let mut out = String::new(alloc);
     let found = match tokens(alloc, source) {

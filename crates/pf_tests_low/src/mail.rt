@@ -194,7 +194,7 @@ fn drained(alloc: Global, count: u32) -> Result<(u32, usize), Fail> {
 }
 
 #[test]
-fn drops_what_a_full_pool_has_no_place_for(rt: HostRuntime) -> Result<(), Fail> {
+fn drops_what_a_full_pool_has_no_offset_for(rt: HostRuntime) -> Result<(), Fail> {
     assert_eq!(rt; drained(rt.alloc(), 1030)?, (1030, 1024));
     Ok(())
 }

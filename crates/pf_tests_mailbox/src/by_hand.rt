@@ -1,13 +1,13 @@
 //! Mailboxes by hand: which messages `receive`s take, and how many they test.
 
 ghost use Rattle.std.specs.Prelude.{[]};
-ghost use Rattle.pf_model.specs.Code.{code_of};
+ghost use Rattle.pf_model.specs.Module.{module_of};
 ghost use Rattle.pf_mailbox.specs.Tests.{FitsNoneBefore, awaited};
 
 use crate::receives::{A, B, C, D, Receive, Taken, of_atoms, of_large, try_once};
 use pf_mailbox::Mailbox;
 use pf_nodes::Pool;
-use pf_syntax::Part;
+use pf_syntax::Operand;
 use pf_terms::{AtomId, Term, equal};
 use std::alloc::Global;
 use std::test::Fail;
@@ -33,16 +33,16 @@ fn takes_now(
     pool: &mut Pool<Term>,
     wanted: &Receive,
 ) -> Result<bool, Fail>
-    requires { FitsNoneBefore (code_of wanted.now.«module») 0
+    requires { FitsNoneBefore (module_of wanted.now.«module») 0
         (awaited wanted.now.«module» 0 [] wanted.now.clauses.items) mailbox.old }
-    ensures { FitsNoneBefore (code_of wanted.now.«module») 0
+    ensures { FitsNoneBefore (module_of wanted.now.«module») 0
         (awaited wanted.now.«module» 0 [] wanted.now.clauses.items) mailbox.new }
 {
     Ok(try_once(alloc, mailbox, pool, wanted)?.is_some())
 }
 
 /// Places an atom in the mailbox.
-fn place(mailbox: &mut Mailbox, pool: &mut Pool<Term>, atom: AtomId) -> Result<(), Fail>
+fn index(mailbox: &mut Mailbox, pool: &mut Pool<Term>, atom: AtomId) -> Result<(), Fail>
     ensures { (m : _) (own : _) (ks : _) → FitsNoneBefore m own ks mailbox.old
         → FitsNoneBefore m own ks mailbox.new }
 {
@@ -63,7 +63,7 @@ fn take_at_last(
         if takes_now(alloc, mailbox, pool, wanted)? {
             return Err(Fail::from("it takes a message too soon"));
         }
-        place(mailbox, pool, *atom)?;
+        index(mailbox, pool, *atom)?;
     }
     Ok(try_once(alloc, mailbox, pool, wanted)?)
 }
@@ -71,7 +71,7 @@ fn take_at_last(
 /// Whether this atom was taken, by the clause of this body.
 fn took(taken: &Option<Taken>, atom: AtomId, body: i64) -> bool {
     match taken {
-        Some(taken) => equal(&taken.message, &Term::Atom(atom)) && taken.body == Part::Int(body),
+        Some(taken) => equal(&taken.message, &Term::Atom(atom)) && taken.body == Operand::Int(body),
         None => false,
     }
 }
@@ -91,7 +91,7 @@ fn goes_well(
 
 fn deliver_all(mailbox: &mut Mailbox, pool: &mut Pool<Term>, atoms: &[AtomId]) -> Result<(), Fail> {
     for atom in atoms {
-        place(mailbox, pool, *atom)?;
+        index(mailbox, pool, *atom)?;
     }
     Ok(())
 }

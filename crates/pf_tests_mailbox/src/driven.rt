@@ -1,7 +1,7 @@
 //! A machine that takes messages from an opened mailbox.
 
 ghost use Rattle.std.specs.Prelude.{◌≡◌, ◌≤◌, [], IfOk, length, OnOk};
-ghost use Rattle.pf_syntax.specs.Within.{PartStands};
+ghost use Rattle.pf_syntax.specs.Within.{OperandRepresents};
 ghost use Rattle.pf_stepper.specs.Turns.{CanMove};
 ghost use Rattle.pf_mailbox.specs.Tests.{IsAheadOf};
 
@@ -10,7 +10,7 @@ use pf_mailbox::{Mailbox, Opened};
 use pf_nodes::Pool;
 use pf_stepper::{Machine, Move};
 use pf_syntax::{
-    Clause, Function, FunctionClause, FunctionId, Guard, Module, Node, Part, PatternNode,
+    Clause, Function, FunctionClause, FunctionId, Guard, Module, Node, Operand, PatternNode,
 };
 use pf_terms::{AtomId, AtomTable, NoMemory, Term};
 use smallvec::SmallVec;
@@ -35,8 +35,8 @@ fn no_guard(alloc: Global) -> Guard
 }
 
 /// Adds `main() -> BODY.`.
-fn add_main(alloc: Global, module: &mut Module, body: Part) -> Result<(), NoMemory>
-    requires { PartStands «module».old.tables body }
+fn add_main(alloc: Global, module: &mut Module, body: Operand) -> Result<(), NoMemory>
+    requires { OperandRepresents «module».old.tables body }
 {
     let clause = FunctionClause {
         parameters: Vec::new(alloc),
@@ -61,10 +61,10 @@ fn receiver(alloc: Global) -> Result<Machine, NoMemory>
     let clause = Clause {
         pattern,
         guard: no_guard(alloc),
-        body: Part::Int(2),
+        body: Operand::Int(2),
     };
     let top = module.add_node(Node::Receive(vec![in alloc; clause]?))?;
-    add_main(alloc, &mut module, Part::Node(top))?;
+    add_main(alloc, &mut module, Operand::Node(top))?;
     let shared = Arc::new(alloc, module)?;
     Machine::new(alloc, 0, shared, FunctionId(0), SmallVec::new(alloc))
 }

@@ -1,7 +1,7 @@
 //! Messages that a flush takes out of a mailbox.
 
 ghost use Rattle.std.specs.Prelude.{[]};
-ghost use Rattle.pf_model.specs.Code.{code_of};
+ghost use Rattle.pf_model.specs.Module.{module_of};
 ghost use Rattle.pf_mailbox.specs.Tests.{FitsNoneBefore, awaited};
 
 use crate::receives::{Receive, of_all, try_once};

@@ -1,14 +1,16 @@
 //! Clauses of a few `receive`s, made by hand, and one `receive` of such clauses.
 
 ghost use Rattle.std.specs.Prelude.{◌≡◌, []};
-ghost use Rattle.pf_model.specs.Code.{code_of};
+ghost use Rattle.pf_model.specs.Module.{module_of};
 ghost use Rattle.pf_stepper.specs.Readiness.{receive_in};
 ghost use Rattle.pf_mailbox.specs.Tests.{FitsNoneBefore, awaited};
 
 use pf_mailbox::Mailbox;
 use pf_nodes::Pool;
 use pf_stepper::Inbox;
-use pf_syntax::{Alternative, Clause, Guard, Module, Node, Operator, Part, PatternId, PatternNode};
+use pf_syntax::{
+    Alternative, Clause, Guard, Module, Node, Operand, Operator, PatternId, PatternNode,
+};
 use pf_terms::{AtomId, AtomTable, NoMemory, Term};
 use std::alloc::Global;
 
@@ -33,7 +35,7 @@ fn empty(alloc: Global) -> Result<Module, NoMemory> {
 }
 
 /// A clause with no `when`.
-fn plain(alloc: Global, pattern: PatternId, body: Part) -> Clause {
+fn plain(alloc: Global, pattern: PatternId, body: Operand) -> Clause {
     Clause {
         pattern,
         guard: Guard {
@@ -48,8 +50,8 @@ pub(crate) fn of_atoms(alloc: Global, first: AtomId, second: AtomId) -> Result<R
     let mut module = empty(alloc)?;
     let one = module.add_pattern(PatternNode::Atom(first))?;
     let two = module.add_pattern(PatternNode::Atom(second))?;
-    let one = plain(alloc, one, Part::Int(1));
-    let two = plain(alloc, two, Part::Int(2));
+    let one = plain(alloc, one, Operand::Int(1));
+    let two = plain(alloc, two, Operand::Int(2));
     let clauses = vec![in alloc; one, two]?;
     Ok(Receive { module, clauses })
 }
@@ -58,16 +60,16 @@ pub(crate) fn of_atoms(alloc: Global, first: AtomId, second: AtomId) -> Result<R
 pub(crate) fn of_large(alloc: Global) -> Result<Receive, NoMemory> {
     let mut module = empty(alloc)?;
     let pattern = module.add_pattern(PatternNode::New)?;
-    let test = module.add_node(Node::Binary(Operator::Greater, Part::Slot(0), Part::Int(2)))?;
+    let test = module.add_node(Node::Binary(Operator::Greater, Operand::Slot(0), Operand::Int(2)))?;
     let alternative = Alternative {
-        tests: vec![in alloc; Part::Node(test)]?,
+        tests: vec![in alloc; Operand::Node(test)]?,
     };
     let clause = Clause {
         pattern,
         guard: Guard {
             alternatives: vec![in alloc; alternative]?,
         },
-        body: Part::Slot(0),
+        body: Operand::Slot(0),
     };
     Ok(Receive {
         module,
@@ -81,7 +83,7 @@ pub(crate) fn of_pairs(alloc: Global) -> Result<Receive, NoMemory> {
     let first = module.add_pattern(PatternNode::Atom(A))?;
     let second = module.add_pattern(PatternNode::New)?;
     let pattern = module.add_pattern(PatternNode::Tuple(vec![in alloc; first, second]?))?;
-    let clauses = vec![in alloc; plain(alloc, pattern, Part::Slot(0))]?;
+    let clauses = vec![in alloc; plain(alloc, pattern, Operand::Slot(0))]?;
     Ok(Receive { module, clauses })
 }
 
@@ -89,14 +91,14 @@ pub(crate) fn of_pairs(alloc: Global) -> Result<Receive, NoMemory> {
 pub(crate) fn of_all(alloc: Global) -> Result<Receive, NoMemory> {
     let mut module = empty(alloc)?;
     let pattern = module.add_pattern(PatternNode::New)?;
-    let clauses = vec![in alloc; plain(alloc, pattern, Part::Slot(0))]?;
+    let clauses = vec![in alloc; plain(alloc, pattern, Operand::Slot(0))]?;
     Ok(Receive { module, clauses })
 }
 
 /// What a `receive` took: the body of its clause, the message, and what is bound.
 #[derive(Drop)]
 pub(crate) struct Taken {
-    pub(crate) body: Part,
+    pub(crate) body: Operand,
     pub(crate) message: Term,
     pub(crate) bound: Vec<Term>,
 }
@@ -108,9 +110,9 @@ pub(crate) fn try_once(
     pool: &mut Pool<Term>,
     receive: &Receive,
 ) -> Result<Option<Taken>, NoMemory>
-    requires { FitsNoneBefore (code_of receive.now.«module») 0
+    requires { FitsNoneBefore (module_of receive.now.«module») 0
         (awaited receive.now.«module» 0 [] receive.now.clauses.items) mailbox.old }
-    ensures { FitsNoneBefore (code_of receive.now.«module») 0
+    ensures { FitsNoneBefore (module_of receive.now.«module») 0
         (awaited receive.now.«module» 0 [] receive.now.clauses.items) mailbox.new }
 {
     let mut bound = Vec::new(alloc);

@@ -1,4 +1,4 @@
-pub mod Places
+pub mod Indices
 pub mod Sets
 pub mod Maps
 pub mod LookUps

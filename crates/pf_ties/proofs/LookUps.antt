@@ -4,7 +4,7 @@ use Rattle.std.specs.Prelude.{is_some, unwrap_or}
 use Rattle.std.proofs.lemmas.Bool.{false≢true}
 use Rattle.std.proofs.lemmas.Bool.Decides.{nat_tests}
 use Rattle.pf_model.specs.Maps.{got, put, without}
-use Rattle.pf_ties.proofs.Places.{eq_of}
+use Rattle.pf_ties.proofs.Indices.{eq_of}
 use Rattle.pf_ties.proofs.Maps.{Entries}
 
 pub eq_self : (k : ℕ) → (k == k) ≡ true

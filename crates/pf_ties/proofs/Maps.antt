@@ -1,10 +1,10 @@
--- What a change at a place makes of a map, and what its look-ups then give.
+-- What a change at an index makes of a map, and what its look-ups then give.
 use Rattle.std.proofs.Common.{◌≡◌, ℕ, zero, suc, ◌<◌, ◌≤◌, Bool, true, false, List, [], ◌∷◌, Option, Some, None, ◌==◌, nat_lt, if◌then◌else◌, refl, sym, ap, ◌∙◌, arith, length, slice_index_or, slice_set}
 use Rattle.std.specs.Prelude.{insert, remove}
 use Rattle.std.proofs.lemmas.Bool.Decides.{nat_tests}
 use Rattle.pf_model.specs.Maps.{got, put, without}
 use Rattle.pf_ties.specs.Sorted.{IsRising, IsThere, IsGap}
-use Rattle.pf_ties.proofs.Places.{eq_of, below_ne, above_ne, below_not, above_is, lt_from, le_from}
+use Rattle.pf_ties.proofs.Indices.{eq_of, below_ne, above_ne, below_not, above_is, lt_from, le_from}
 
 abbrev pub Entries : Type 0
 Entries = List (ℕ × ℕ)

@@ -1,10 +1,10 @@
--- What a change at a place makes of a set of numbers.
+-- What a change at an index makes of a set of numbers.
 use Rattle.std.proofs.Common.{◌≡◌, ℕ, zero, suc, ◌<◌, ◌≤◌, Bool, true, false, List, [], ◌∷◌, ◌==◌, nat_lt, if◌then◌else◌, refl, sym, ap, ◌∙◌, arith, length}
 use Rattle.std.specs.Prelude.{insert, remove}
 use Rattle.std.proofs.lemmas.Bool.Decides.{nat_tests}
 use Rattle.pf_model.specs.Maps.{has, with_number, without_number}
 use Rattle.pf_ties.specs.Sorted.{IsRising, IsThere, IsGap}
-use Rattle.pf_ties.proofs.Places.{eq_of, below_ne, above_ne, below_not, above_is, lt_from, le_from}
+use Rattle.pf_ties.proofs.Indices.{eq_of, below_ne, above_ne, below_not, above_is, lt_from, le_from}
 
 abbrev pub Rises : ℕ → List ℕ → Type 0
 Rises low xs = IsRising (λ x. x) low xs

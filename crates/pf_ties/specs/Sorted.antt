@@ -6,11 +6,11 @@ abbrev pub IsRising : {T : Type 0} → (T → ℕ) → (low : ℕ) → List T �
 IsRising key low [] = Unit {0}
 IsRising key low (x ∷ xs) = (low ≤ key x) × IsRising key (suc (key x)) xs
 
--- the place of a key: all before it are lower, and what is there isn't
-abbrev pub IsPlace : {T : Type 0} → (T → ℕ) → ℕ → List T → ℕ → Type 0
-IsPlace key b [] n = n ≡ zero
-IsPlace key b (x ∷ xs) zero = b ≤ key x
-IsPlace key b (x ∷ xs) (suc n) = (key x < b) × IsPlace key b xs n
+-- the index of a key: all before it are lower, and what is there isn't
+abbrev pub IsIndex : {T : Type 0} → (T → ℕ) → ℕ → List T → ℕ → Type 0
+IsIndex key b [] n = n ≡ zero
+IsIndex key b (x ∷ xs) zero = b ≤ key x
+IsIndex key b (x ∷ xs) (suc n) = (key x < b) × IsIndex key b xs n
 
 -- the key stands there
 abbrev pub IsThere : {T : Type 0} → (T → ℕ) → ℕ → List T → ℕ → Type 0

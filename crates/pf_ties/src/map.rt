@@ -2,7 +2,7 @@
 
 ghost use Rattle.std.specs.Prelude.{◌≡◌, ◌≤◌, ◌<◌, length, [], OnErr, OnOk, MatchResult};
 ghost use Rattle.pf_model.specs.Maps.{got, put, without};
-ghost use Rattle.pf_ties.specs.Sorted.{IsRising, IsPlace, IsThere, IsGap};
+ghost use Rattle.pf_ties.specs.Sorted.{IsRising, IsIndex, IsThere, IsGap};
 
 use pf_terms::NoMemory;
 use std::alloc::Global;
@@ -26,9 +26,9 @@ impl Model for Map {
 }
 
 /// Where a key stands, or would stand.
-fn place_of(entries: &[(u64, u32)], key: u64) -> usize
+fn index_of(entries: &[(u64, u32)], key: u64) -> usize
     requires { IsRising (λ e. e.0) 0 entries.now }
-    ensures place { IsPlace (λ e. e.0) key entries.now result }
+    ensures index { IsIndex (λ e. e.0) key entries.now result }
     ensures within { result ≤ length entries.now }
 {
     entries.partition_point(|entry| entry.0 < key)
@@ -41,7 +41,7 @@ fn find(entries: &[(u64, u32)], key: u64) -> Result<usize, usize>
         (λ at. (at < length entries.now) × IsThere (λ e. e.0) key entries.now at)
         (λ at. (at ≤ length entries.now) × IsGap (λ e. e.0) key entries.now at) }
 {
-    let at = place_of(entries, key);
+    let at = index_of(entries, key);
     if at >= entries.len() {
         return Err(at);
     }

@@ -2,7 +2,7 @@
 
 ghost use Rattle.std.specs.Prelude.{◌≡◌, ◌≤◌, ◌<◌, length, [], OnErr, OnOk, MatchResult};
 ghost use Rattle.pf_model.specs.Maps.{has, with_number, without_number};
-ghost use Rattle.pf_ties.specs.Sorted.{IsRising, IsPlace, IsThere, IsGap};
+ghost use Rattle.pf_ties.specs.Sorted.{IsRising, IsIndex, IsThere, IsGap};
 
 use pf_terms::NoMemory;
 use std::alloc::Global;
@@ -26,9 +26,9 @@ impl Model for Numbers {
 }
 
 /// Where a number stands, or would stand.
-fn place_of(items: &[u32], number: u32) -> usize
+fn index_of(items: &[u32], number: u32) -> usize
     requires { IsRising (λ x. x) 0 items.now }
-    ensures place { IsPlace (λ x. x) number items.now result }
+    ensures index { IsIndex (λ x. x) number items.now result }
     ensures within { result ≤ length items.now }
 {
     items.partition_point(|item| *item < number)
@@ -41,7 +41,7 @@ fn find(items: &[u32], number: u32) -> Result<usize, usize>
         (λ at. (at < length items.now) × IsThere (λ x. x) number items.now at)
         (λ at. (at ≤ length items.now) × IsGap (λ x. x) number items.now at) }
 {
-    let at = place_of(items, number);
+    let at = index_of(items, number);
     if at >= items.len() {
         return Err(at);
     }

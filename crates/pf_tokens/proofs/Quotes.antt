@@ -17,11 +17,11 @@ with_front-put_byte front c (Ok p) = ap (λ (t : List ℕ). Ok (t, p.1)) (sym (a
 with_front-put_byte front c (Err e) = refl
 
 -- the next byte makes a step
-pub closing_goes : (front : List ℕ) (quote place i : ℕ) (bytes : List ℕ) (escaped : Bool) (n : ℕ) (step : Step) (all : Read (List ℕ × ℕ)) → i < length bytes → step ≡ step_of quote escaped (get_or bytes i 0)
-    → all ≡ with_front front (closing quote place (drop i bytes) escaped n)
-    → all ≡ with_front front (go_on (closing quote place (drop (i + 1) bytes)) place escaped n step)
+pub closing_goes : (front : List ℕ) (quote offset i : ℕ) (bytes : List ℕ) (escaped : Bool) (n : ℕ) (step : Step) (all : Read (List ℕ × ℕ)) → i < length bytes → step ≡ step_of quote escaped (get_or bytes i 0)
+    → all ≡ with_front front (closing quote offset (drop i bytes) escaped n)
+    → all ≡ with_front front (go_on (closing quote offset (drop (i + 1) bytes)) offset escaped n step)
 unfolding closing
-closing_goes front quote place i bytes escaped n step all lt is so_far =
+closing_goes front quote offset i bytes escaped n step all lt is so_far =
     let split = drop-cons bytes i 0 lt in
     so_far ∙ rw (split, add-one i, is) refl
 
@@ -35,7 +35,7 @@ escapes_alone quote true b e = absurd (apart (escape_of b) e)
     apart (Some c) e = cc
 
 -- no byte is left
-pub closing_ends : (front : List ℕ) (quote place i : ℕ) (bytes : List ℕ) (escaped : Bool) (n : ℕ) (all : Read (List ℕ × ℕ)) → length bytes ≡ i
-    → all ≡ with_front front (closing quote place (drop i bytes) escaped n) → all ≡ Err (Unfinished, place)
+pub closing_ends : (front : List ℕ) (quote offset i : ℕ) (bytes : List ℕ) (escaped : Bool) (n : ℕ) (all : Read (List ℕ × ℕ)) → length bytes ≡ i
+    → all ≡ with_front front (closing quote offset (drop i bytes) escaped n) → all ≡ Err (Unfinished, offset)
 unfolding closing
-closing_ends front quote place i bytes escaped n all e so_far = so_far ∙ rw (drop_all i bytes (omega arith)) refl
+closing_ends front quote offset i bytes escaped n all e so_far = so_far ∙ rw (drop_all i bytes (omega arith)) refl

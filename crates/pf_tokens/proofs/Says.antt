@@ -34,8 +34,8 @@ pub record Cuts (text : List ℕ) (kind : Option TokenKind) (n : ℕ) : Type 0 w
 
 -- a piece that is read stands there, and so does a fault
 abbrev pub Says : ℕ → List ℕ → Read Cut → Type 0
-Says place text (Ok p) = Cuts text p.0 p.1
-Says place text (Err e) = (n : ℕ) × (e.1 ≡ place + n) × IsFault e.0 n text
+Says offset text (Ok p) = Cuts text p.0 p.1
+Says offset text (Err e) = (n : ℕ) × (e.1 ≡ offset + n) × IsFault e.0 n text
 
 -- the front of a text, cut behind n bytes
 cut : (text : List ℕ) (kind : Option TokenKind) (n : ℕ) → n ≤ length text → IsPiece kind (take n text) (drop n text) → Cuts text kind n
@@ -48,12 +48,12 @@ cut text kind n within piece = record {
 }
 
 -- a text in which nothing that is read stands is a stray byte
-stray : (place : ℕ) (b : ℕ) (bs : List ℕ) → is_opening b ≡ false → piece_at place (b ∷ bs) ≡ Err (UnexpectedByte, place) → Says place (b ∷ bs) (Err (UnexpectedByte, place))
-stray place b bs opens fails = (0, omega arith, inl ((opens, none), refl))
+stray : (offset : ℕ) (b : ℕ) (bs : List ℕ) → is_opening b ≡ false → piece_at offset (b ∷ bs) ≡ Err (UnexpectedByte, offset) → Says offset (b ∷ bs) (Err (UnexpectedByte, offset))
+stray offset b bs opens fails = (0, omega arith, inl ((opens, none), refl))
   where
     none : (kind : Option TokenKind) (bytes rest : List ℕ) → b ∷ bs ≡ bytes ++ rest → IsPiece kind bytes rest → ⊥
     none kind bytes rest is piece =
-        let reads : piece_at place (b ∷ bs) ≡ Ok (kind, length bytes) = ap (piece_at place) is ∙ piece_again place kind bytes rest piece in
+        let reads : piece_at offset (b ∷ bs) ≡ Ok (kind, length bytes) = ap (piece_at offset) is ∙ piece_again offset kind bytes rest piece in
         cc
 
 -- ---- numerals
@@ -61,19 +61,19 @@ stray place b bs opens fails = (0, omega arith, inl ((opens, none), refl))
 digit_run : (b : ℕ) (bs : List ℕ) → is_digit b ≡ true → 0 < length (take (prefix_len is_digit (b ∷ bs)) (b ∷ bs))
 digit_run b bs e = rw e (let one : 1 + prefix_len is_digit bs ≡ suc (prefix_len is_digit bs) = omega arith in rw one (omega arith))
 
-number_outcome : (place : ℕ) (text : List ℕ) (value n : ℕ) (t : Bool) → ltb value (2 ^ 63) ≡ t → n ≤ length text → IsNumeral value (take n text) (drop n text)
-    → Says place text (or_fault IntegerTooLarge place (λ v. token (kinds.integer v) n) (cond t (Some value) None))
-number_outcome place text value n true e within numeral = cut text (Some (kinds.integer value)) n within (inl (numeral, ltb-true value (2 ^ 63) e))
-number_outcome place text value n false e within numeral = (0, omega arith, ((value, take n text, drop n text, sym (take-append-drop n text), numeral, ltb-false value (2 ^ 63) e), refl))
+number_outcome : (offset : ℕ) (text : List ℕ) (value n : ℕ) (t : Bool) → ltb value (2 ^ 63) ≡ t → n ≤ length text → IsNumeral value (take n text) (drop n text)
+    → Says offset text (or_fault IntegerTooLarge offset (λ v. token (kinds.integer v) n) (cond t (Some value) None))
+number_outcome offset text value n true e within numeral = cut text (Some (kinds.integer value)) n within (inl (numeral, ltb-true value (2 ^ 63) e))
+number_outcome offset text value n false e within numeral = (0, omega arith, ((value, take n text, drop n text, sym (take-append-drop n text), numeral, ltb-false value (2 ^ 63) e), refl))
 
-number_says : (place b : ℕ) (bs : List ℕ) → is_digit b ≡ true → Says place (b ∷ bs) (number_at place (b ∷ bs))
-number_says place b bs e = by (b ∷ bs) (digit_run b bs e)
+number_says : (offset b : ℕ) (bs : List ℕ) → is_digit b ≡ true → Says offset (b ∷ bs) (number_at offset (b ∷ bs))
+number_says offset b bs e = by (b ∷ bs) (digit_run b bs e)
   where
-    by : (text : List ℕ) → 0 < length (take (prefix_len is_digit text) text) → Says place text (number_at place text)
+    by : (text : List ℕ) → 0 < length (take (prefix_len is_digit text) text) → Says offset text (number_at offset text)
     by text some =
         let n = prefix_len is_digit text in
         let numeral : IsNumeral (decimal (take n text)) (take n text) (drop n text) = record { some = some; digits = run_front is_digit text; value_is = refl } in
-        number_outcome place text (decimal (take n text)) n (ltb (decimal (take n text)) (2 ^ 63)) refl (prefix_len-le-length is_digit text) numeral
+        number_outcome offset text (decimal (take n text)) n (ltb (decimal (take n text)) (2 ^ 63)) refl (prefix_len-le-length is_digit text) numeral
 
 -- ---- names
 
@@ -87,8 +87,8 @@ word_token : (word rest : List ℕ) (o : Option Reserved) → reserved_of word �
 word_token word rest (Some r) e h = (h, sym ((bytes_eq-Decides (reserved_text r) word).0 (find_passes (λ w. bytes_eq (reserved_text w) word) reserved_words r e)))
 word_token word rest None e h = inl (h, refl, λ r is. find_fails (λ w. bytes_eq (reserved_text w) word) (λ w. bytes_eq (reserved_text w) (reserved_text r)) reserved_words r e (reserved_found r) ((bytes_eq-Decides (reserved_text r) word).1 (sym is)))
 
-word_says : (place b : ℕ) (bs : List ℕ) → is_lower b ≡ true → Says place (b ∷ bs) (word_at (b ∷ bs))
-word_says place b bs e =
+word_says : (offset b : ℕ) (bs : List ℕ) → is_lower b ≡ true → Says offset (b ∷ bs) (word_at (b ∷ bs))
+word_says offset b bs e =
     let n = prefix_len is_word (b ∷ bs) in
     cut (b ∷ bs) _ n (prefix_len-le-length is_word (b ∷ bs)) (word_token (take n (b ∷ bs)) (drop n (b ∷ bs)) (reserved_of (take n (b ∷ bs))) refl (name_front is_lower b bs e (lower_word b e)))
 
@@ -96,60 +96,60 @@ variable_token : (name rest : List ℕ) (t : Bool) → bytes_eq name (codes "_")
 variable_token name rest true e h = (h, (bytes_eq-Decides name (codes "_")).0 e)
 variable_token name rest false e h = (h, refl, λ is. let passes = (bytes_eq-Decides name (codes "_")).1 is in cc)
 
-variable_says : (place b : ℕ) (bs : List ℕ) → is_upper b ≡ true → Says place (b ∷ bs) (variable_at (b ∷ bs))
-variable_says place b bs e =
+variable_says : (offset b : ℕ) (bs : List ℕ) → is_upper b ≡ true → Says offset (b ∷ bs) (variable_at (b ∷ bs))
+variable_says offset b bs e =
     let n = prefix_len is_word (b ∷ bs) in
     cut (b ∷ bs) _ n (prefix_len-le-length is_word (b ∷ bs)) (variable_token (take n (b ∷ bs)) (drop n (b ∷ bs)) (bytes_eq (take n (b ∷ bs)) (codes "_")) refl (name_front is_upper b bs e (upper_word b e)))
 
 -- ---- quoted texts and characters
 
-quoted_outcome : (quote place : ℕ) (bs : List ℕ) (make : List ℕ → TokenKind) (read : Read (List ℕ × ℕ)) → (quote ≡ 39) ⊎ (quote ≡ 34) → ((meant bytes rest : List ℕ) → IsQuoted quote meant bytes → IsToken (make meant) bytes rest)
-    → Reads quote place bs 1 read → Says place (quote ∷ bs) (read >>= λ p. Ok (token (make p.0) p.1))
-quoted_outcome quote place bs make (Ok p) is token_of (body, rest, whole, all, at) = record {
+quoted_outcome : (quote offset : ℕ) (bs : List ℕ) (make : List ℕ → TokenKind) (read : Read (List ℕ × ℕ)) → (quote ≡ 39) ⊎ (quote ≡ 34) → ((meant bytes rest : List ℕ) → IsQuoted quote meant bytes → IsToken (make meant) bytes rest)
+    → Reads quote offset bs 1 read → Says offset (quote ∷ bs) (read >>= λ p. Ok (token (make p.0) p.1))
+quoted_outcome quote offset bs make (Ok p) is token_of (body, rest, whole, all, at) = record {
   bytes = quote ∷ (body ++ quote ∷ []);
   rest = rest;
   whole = ap (λ t. quote ∷ t) (whole ∙ sym (append_assoc body (quote ∷ []) rest));
   length_is = omega (arith, at, length-append body (quote ∷ []));
   piece = token_of p.0 (quote ∷ (body ++ quote ∷ [])) rest (body, all, refl);
 }
-quoted_outcome quote place bs make (Err (UnexpectedByte, at)) is token_of (meant, body, rest, whole, all, (wrong, at_is)) =
+quoted_outcome quote offset bs make (Err (UnexpectedByte, at)) is token_of (meant, body, rest, whole, all, (wrong, at_is)) =
     let opens : OpensQuoted (quote ∷ bs) (length body + 1) rest = record { quote = quote; is_quote = is; meant = meant; body = body; writes = all; whole = ap (λ t. quote ∷ t) whole; written_is = refl } in
     (length body + 1, omega (arith, at_is), inr (rest, inl (opens, wrong)))
-quoted_outcome quote place bs make (Err (Unfinished, at)) is token_of (meant, body, rest, whole, all, (short, at_is)) =
+quoted_outcome quote offset bs make (Err (Unfinished, at)) is token_of (meant, body, rest, whole, all, (short, at_is)) =
     let opens : OpensQuoted (quote ∷ bs) (length body + 1) rest = record { quote = quote; is_quote = is; meant = meant; body = body; writes = all; whole = ap (λ t. quote ∷ t) whole; written_is = refl } in
     (0, omega (arith, at_is), ((rest, short, inl (length body + 1, opens)), refl))
-quoted_outcome quote place bs make (Err (IntegerTooLarge, at)) is token_of (meant, body, rest, whole, all, breaks) = absurd breaks
-quoted_outcome quote place bs make (Err (_, at)) is token_of (meant, body, rest, whole, all, breaks) = absurd breaks
+quoted_outcome quote offset bs make (Err (IntegerTooLarge, at)) is token_of (meant, body, rest, whole, all, breaks) = absurd breaks
+quoted_outcome quote offset bs make (Err (_, at)) is token_of (meant, body, rest, whole, all, breaks) = absurd breaks
 
-code_outcome : (place : ℕ) (bs : List ℕ) (read : Read (ℕ × ℕ)) → ReadsOne place bs read → Says place (36 ∷ bs) (read >>= λ p. Ok (token (kinds.integer p.0) p.1))
-code_outcome place bs (Ok p) (one, rest, whole, writes, at) = record {
+code_outcome : (offset : ℕ) (bs : List ℕ) (read : Read (ℕ × ℕ)) → ReadsOne offset bs read → Says offset (36 ∷ bs) (read >>= λ p. Ok (token (kinds.integer p.0) p.1))
+code_outcome offset bs (Ok p) (one, rest, whole, writes, at) = record {
   bytes = 36 ∷ one;
   rest = rest;
   whole = ap (λ t. 36 ∷ t) whole;
   length_is = at;
   piece = inr (one, writes, refl);
 }
-code_outcome place bs (Err (UnexpectedByte, at)) (wrong, at_is) = (1, at_is, inr (bs, inr (refl, refl, wrong)))
-code_outcome place bs (Err (Unfinished, at)) (short, at_is) = (0, omega (arith, at_is), ((bs, short, inr refl), refl))
-code_outcome place bs (Err (IntegerTooLarge, at)) breaks = absurd breaks
-code_outcome place bs (Err (_, at)) breaks = absurd breaks
+code_outcome offset bs (Err (UnexpectedByte, at)) (wrong, at_is) = (1, at_is, inr (bs, inr (refl, refl, wrong)))
+code_outcome offset bs (Err (Unfinished, at)) (short, at_is) = (0, omega (arith, at_is), ((bs, short, inr refl), refl))
+code_outcome offset bs (Err (IntegerTooLarge, at)) breaks = absurd breaks
+code_outcome offset bs (Err (_, at)) breaks = absurd breaks
 
 -- ---- marks and others
 
-module_says : (place b : ℕ) (bs : List ℕ) → is_opening b ≡ false → class_of b ≡ classes.Question → Says place (b ∷ bs) (module_at place (b ∷ bs))
-module_says place b bs opens class = by (starts_with nat_eq (b ∷ bs) (codes "?MODULE")) (ends is_word (drop 7 (b ∷ bs))) refl refl
+module_says : (offset b : ℕ) (bs : List ℕ) → is_opening b ≡ false → class_of b ≡ classes.Question → Says offset (b ∷ bs) (module_at offset (b ∷ bs))
+module_says offset b bs opens class = by (starts_with nat_eq (b ∷ bs) (codes "?MODULE")) (ends is_word (drop 7 (b ∷ bs))) refl refl
   where
-    by : (p q : Bool) → starts_with nat_eq (b ∷ bs) (codes "?MODULE") ≡ p → ends is_word (drop 7 (b ∷ bs)) ≡ q → Says place (b ∷ bs) (cond (p && q) (Ok (token kinds.own_module 7)) (Err (UnexpectedByte, place)))
+    by : (p q : Bool) → starts_with nat_eq (b ∷ bs) (codes "?MODULE") ≡ p → ends is_word (drop 7 (b ∷ bs)) ≡ q → Says offset (b ∷ bs) (cond (p && q) (Ok (token kinds.own_module 7)) (Err (UnexpectedByte, offset)))
     by true true pe qe = record { bytes = codes "?MODULE"; rest = drop 7 (b ∷ bs); whole = begins (b ∷ bs) (codes "?MODULE") pe; length_is = refl; piece = (refl, qe) }
-    by true false pe qe = stray place b bs opens (piece_is place (b ∷ bs) classes.Question class ∙ rw (pe, qe) refl)
-    by false q pe qe = stray place b bs opens (piece_is place (b ∷ bs) classes.Question class ∙ rw pe refl)
+    by true false pe qe = stray offset b bs opens (piece_is offset (b ∷ bs) classes.Question class ∙ rw (pe, qe) refl)
+    by false q pe qe = stray offset b bs opens (piece_is offset (b ∷ bs) classes.Question class ∙ rw pe refl)
 
-dot_says : (place b : ℕ) (bs : List ℕ) → is_opening b ≡ false → b ≡ 46 → class_of b ≡ classes.Dot → Says place (b ∷ bs) (dot_at place (b ∷ bs))
-dot_says place b bs opens is class = by (ends is_joined bs) refl
+dot_says : (offset b : ℕ) (bs : List ℕ) → is_opening b ≡ false → b ≡ 46 → class_of b ≡ classes.Dot → Says offset (b ∷ bs) (dot_at offset (b ∷ bs))
+dot_says offset b bs opens is class = by (ends is_joined bs) refl
   where
-    by : (q : Bool) → ends is_joined bs ≡ q → Says place (b ∷ bs) (cond q (Ok (token kinds.dot 1)) (Err (UnexpectedByte, place)))
+    by : (q : Bool) → ends is_joined bs ≡ q → Says offset (b ∷ bs) (cond q (Ok (token kinds.dot 1)) (Err (UnexpectedByte, offset)))
     by true qe = record { bytes = codes "."; rest = bs; whole = ap (λ x. x ∷ bs) is; length_is = refl; piece = (refl, qe) }
-    by false qe = stray place b bs opens (piece_is place (b ∷ bs) classes.Dot class ∙ rw qe refl)
+    by false qe = stray offset b bs opens (piece_is offset (b ∷ bs) classes.Dot class ∙ rw qe refl)
 
 longest_is : (text : List ℕ) (m : Mark) → longest_mark text ≡ Some m → IsLongestMark m (mark_text m) (drop (length (mark_text m)) text) × (text ≡ mark_text m ++ drop (length (mark_text m)) text)
 longest_is text m e =
@@ -160,17 +160,17 @@ longest_is text m e =
     λ other tail is. largest other (ap (λ t. starts_with nat_eq t (mark_text other)) (whole ∙ is) ∙ begins_again (mark_text other) tail) in
     (record { written = refl; longest = longest }, whole)
 
-mark_says : (place b : ℕ) (bs : List ℕ) → is_opening b ≡ false → class_of b ≡ classes.Other → Says place (b ∷ bs) (mark_at place (b ∷ bs))
-mark_says place b bs opens class = by (longest_mark (b ∷ bs)) refl
+mark_says : (offset b : ℕ) (bs : List ℕ) → is_opening b ≡ false → class_of b ≡ classes.Other → Says offset (b ∷ bs) (mark_at offset (b ∷ bs))
+mark_says offset b bs opens class = by (longest_mark (b ∷ bs)) refl
   where
-    by : (o : Option Mark) → longest_mark (b ∷ bs) ≡ o → Says place (b ∷ bs) (or_fault UnexpectedByte place (λ m. token (kinds.mark m) (length (mark_text m))) o)
+    by : (o : Option Mark) → longest_mark (b ∷ bs) ≡ o → Says offset (b ∷ bs) (or_fault UnexpectedByte offset (λ m. token (kinds.mark m) (length (mark_text m))) o)
     by (Some m) e =
         let is = longest_is (b ∷ bs) m e in
         record { bytes = mark_text m; rest = drop (length (mark_text m)) (b ∷ bs); whole = is.1; length_is = refl; piece = is.0 }
-    by None e = stray place b bs opens (piece_is place (b ∷ bs) classes.Other class ∙ ap (or_fault UnexpectedByte place (λ m. token (kinds.mark m) (length (mark_text m)))) e)
+    by None e = stray offset b bs opens (piece_is offset (b ∷ bs) classes.Other class ∙ ap (or_fault UnexpectedByte offset (λ m. token (kinds.mark m) (length (mark_text m)))) e)
 
-comment_says : (place b : ℕ) (bs : List ℕ) → b ≡ 37 → Says place (b ∷ bs) (Ok (None, prefix_len is_comment (b ∷ bs)))
-comment_says place b bs is = record {
+comment_says : (offset b : ℕ) (bs : List ℕ) → b ≡ 37 → Says offset (b ∷ bs) (Ok (None, prefix_len is_comment (b ∷ bs)))
+comment_says offset b bs is = record {
   bytes = 37 ∷ take (prefix_len is_comment bs) bs;
   rest = drop (prefix_len is_comment bs) bs;
   whole = ap (λ x. x ∷ bs) is ∙ ap (λ t. 37 ∷ t) (sym (take-append-drop (prefix_len is_comment bs) bs));
@@ -180,20 +180,20 @@ comment_says place b bs is = record {
 
 -- ---- pieces
 
-piece_of_says : (place b : ℕ) (bs : List ℕ) (k : Class) → class_of b ≡ k → Shows k b → Says place (b ∷ bs) (piece_of k place (b ∷ bs))
-piece_of_says place b bs classes.Blank e shows = record { bytes = b ∷ []; rest = bs; whole = refl; length_is = refl; piece = inl (b, shows, refl) }
-piece_of_says place b bs classes.Percent e shows = comment_says place b bs shows
-piece_of_says place b bs classes.Digit e shows = number_says place b bs shows
-piece_of_says place b bs classes.Lower e shows = word_says place b bs shows
-piece_of_says place b bs classes.Upper e shows = variable_says place b bs shows
-piece_of_says place b bs classes.Dollar e shows = subst (λ x. Says place (x ∷ bs) (code_at place (x ∷ bs))) (sym shows) (code_outcome place bs (behind_dollar place bs) (character_reads place bs))
-piece_of_says place b bs classes.Quote e shows = subst (λ x. Says place (x ∷ bs) (atom_at place (x ∷ bs))) (sym shows) (quoted_outcome 39 place bs (λ t. kinds.atom t) (closing 39 place bs false 1) (inl refl) (λ meant bytes rest is. inr is) (closing_reads 39 place bs false 1))
-piece_of_says place b bs classes.DoubleQuote e shows = subst (λ x. Says place (x ∷ bs) (text_at place (x ∷ bs))) (sym shows) (quoted_outcome 34 place bs (λ t. kinds.text t) (closing 34 place bs false 1) (inr refl) (λ meant bytes rest is. is) (closing_reads 34 place bs false 1))
-piece_of_says place b bs classes.Question e shows = module_says place b bs shows.0 e
-piece_of_says place b bs classes.Dot e shows = dot_says place b bs shows.0 shows.1 e
-piece_of_says place b bs classes.Other e shows = mark_says place b bs shows e
+piece_of_says : (offset b : ℕ) (bs : List ℕ) (k : Class) → class_of b ≡ k → Shows k b → Says offset (b ∷ bs) (piece_of k offset (b ∷ bs))
+piece_of_says offset b bs classes.Blank e shows = record { bytes = b ∷ []; rest = bs; whole = refl; length_is = refl; piece = inl (b, shows, refl) }
+piece_of_says offset b bs classes.Percent e shows = comment_says offset b bs shows
+piece_of_says offset b bs classes.Digit e shows = number_says offset b bs shows
+piece_of_says offset b bs classes.Lower e shows = word_says offset b bs shows
+piece_of_says offset b bs classes.Upper e shows = variable_says offset b bs shows
+piece_of_says offset b bs classes.Dollar e shows = subst (λ x. Says offset (x ∷ bs) (code_at offset (x ∷ bs))) (sym shows) (code_outcome offset bs (behind_dollar offset bs) (character_reads offset bs))
+piece_of_says offset b bs classes.Quote e shows = subst (λ x. Says offset (x ∷ bs) (atom_at offset (x ∷ bs))) (sym shows) (quoted_outcome 39 offset bs (λ t. kinds.atom t) (closing 39 offset bs false 1) (inl refl) (λ meant bytes rest is. inr is) (closing_reads 39 offset bs false 1))
+piece_of_says offset b bs classes.DoubleQuote e shows = subst (λ x. Says offset (x ∷ bs) (text_at offset (x ∷ bs))) (sym shows) (quoted_outcome 34 offset bs (λ t. kinds.text t) (closing 34 offset bs false 1) (inr refl) (λ meant bytes rest is. is) (closing_reads 34 offset bs false 1))
+piece_of_says offset b bs classes.Question e shows = module_says offset b bs shows.0 e
+piece_of_says offset b bs classes.Dot e shows = dot_says offset b bs shows.0 shows.1 e
+piece_of_says offset b bs classes.Other e shows = mark_says offset b bs shows e
 
 -- what is read at the front of a text stands there
-pub piece_says : (place b : ℕ) (bs : List ℕ) → Says place (b ∷ bs) (piece_at place (b ∷ bs))
+pub piece_says : (offset b : ℕ) (bs : List ℕ) → Says offset (b ∷ bs) (piece_at offset (b ∷ bs))
 unfolding piece_at
-piece_says place b bs = piece_of_says place b bs (class_of b) refl (class_shows b)
+piece_says offset b bs = piece_of_says offset b bs (class_of b) refl (class_shows b)

@@ -18,27 +18,27 @@ with_front-put_first front (Some s) start end (Ok ts) = ap (λ (l : List Placed)
 with_front-put_first front s start end (Err e) = refl
 
 -- the next piece
-pub scan_goes : (front : List Placed) (n m place : ℕ) (bytes : List ℕ) (p : Cut) (all : Read (List Placed)) → n ≡ suc m → 0 < length bytes → piece_at place bytes ≡ Ok p → all ≡ with_front front (scan n place bytes)
-    → all ≡ with_front (front ++ one p.0 place (place + p.1)) (scan m (place + p.1) (drop p.1 bytes))
+pub scan_goes : (front : List Placed) (n m offset : ℕ) (bytes : List ℕ) (p : Cut) (all : Read (List Placed)) → n ≡ suc m → 0 < length bytes → piece_at offset bytes ≡ Ok p → all ≡ with_front front (scan n offset bytes)
+    → all ≡ with_front (front ++ one p.0 offset (offset + p.1)) (scan m (offset + p.1) (drop p.1 bytes))
 unfolding scan
-scan_goes front n m place [] p all k some is so_far = absurd (omega arith)
-scan_goes front n m place (b ∷ bs) p all k some is so_far = so_far ∙ rw (k, is) (with_front-put_first front p.0 place (place + p.1) (scan m (place + p.1) (drop p.1 (b ∷ bs))))
+scan_goes front n m offset [] p all k some is so_far = absurd (omega arith)
+scan_goes front n m offset (b ∷ bs) p all k some is so_far = so_far ∙ rw (k, is) (with_front-put_first front p.0 offset (offset + p.1) (scan m (offset + p.1) (drop p.1 (b ∷ bs))))
 
 -- no next piece, but a fault
-pub scan_fails : (front : List Placed) (n m place : ℕ) (bytes : List ℕ) (e : OrNoMemory Refusal) (all : Read (List Placed)) → n ≡ suc m → 0 < length bytes → Fails e (piece_at place bytes) → all ≡ with_front front (scan n place bytes) → Fails e all
+pub scan_fails : (front : List Placed) (n m offset : ℕ) (bytes : List ℕ) (e : OrNoMemory Refusal) (all : Read (List Placed)) → n ≡ suc m → 0 < length bytes → Fails e (piece_at offset bytes) → all ≡ with_front front (scan n offset bytes) → Fails e all
 unfolding scan
-scan_fails front n m place bytes NoMemory all k some is so_far = tt
-scan_fails front n m place [] (Fault r) all k some is so_far = absurd (omega arith)
-scan_fails front n m place (b ∷ bs) (Fault r) all k some is so_far = so_far ∙ rw (k, is) refl
+scan_fails front n m offset bytes NoMemory all k some is so_far = tt
+scan_fails front n m offset [] (Fault r) all k some is so_far = absurd (omega arith)
+scan_fails front n m offset (b ∷ bs) (Fault r) all k some is so_far = so_far ∙ rw (k, is) refl
 
 -- nothing is left of the text
-pub scan_ends : (front : List Placed) (n place : ℕ) (bytes : List ℕ) (all : Read (List Placed)) → length bytes ≡ 0 → all ≡ with_front front (scan n place bytes) → all ≡ Ok front
+pub scan_ends : (front : List Placed) (n offset : ℕ) (bytes : List ℕ) (all : Read (List Placed)) → length bytes ≡ 0 → all ≡ with_front front (scan n offset bytes) → all ≡ Ok front
 unfolding scan
-scan_ends front zero place bytes all e so_far = so_far ∙ ap (λ (l : List Placed). Ok l) (append-nil front)
-scan_ends front (suc n) place [] all e so_far = so_far ∙ ap (λ (l : List Placed). Ok l) (append-nil front)
-scan_ends front (suc n) place (b ∷ bs) all e so_far = absurd (omega arith)
+scan_ends front zero offset bytes all e so_far = so_far ∙ ap (λ (l : List Placed). Ok l) (append-nil front)
+scan_ends front (suc n) offset [] all e so_far = so_far ∙ ap (λ (l : List Placed). Ok l) (append-nil front)
+scan_ends front (suc n) offset (b ∷ bs) all e so_far = absurd (omega arith)
 
 -- as many pieces as the text has bytes
-pub scan_out : (front : List Placed) (n place : ℕ) (bytes : List ℕ) (all : Read (List Placed)) → n ≡ 0 → all ≡ with_front front (scan n place bytes) → all ≡ Ok front
+pub scan_out : (front : List Placed) (n offset : ℕ) (bytes : List ℕ) (all : Read (List Placed)) → n ≡ 0 → all ≡ with_front front (scan n offset bytes) → all ≡ Ok front
 unfolding scan
-scan_out front n place bytes all e so_far = so_far ∙ rw e (ap (λ (l : List Placed). Ok l) (append-nil front))
+scan_out front n offset bytes all e so_far = so_far ∙ rw e (ap (λ (l : List Placed). Ok l) (append-nil front))

@@ -142,46 +142,46 @@ IsFault IntegerTooLarge n text = IsTooLarge text × (n ≡ 0)
 IsFault _ n text = ⊥
 
 -- the bytes of a piece, and what it stands for, unless it is a blank or a comment
-pub record Part : Type 0 where
+pub record Operand : Type 0 where
   pub kind : Option TokenKind
   pub bytes : List ℕ
 
 -- the text is the parts, one behind the other and each a piece, and then the rest
-abbrev pub Begins : List Part → List ℕ → List ℕ → Type 0
+abbrev pub Begins : List Operand → List ℕ → List ℕ → Type 0
 Begins [] text rest = text ≡ rest
 Begins (p ∷ ps) text rest = (tail : List ℕ) × (text ≡ p.bytes ++ tail) × IsPiece p.kind p.bytes tail × Begins ps tail rest
 
--- the tokens of parts, the first of which stands at the place
-abbrev pub tokens_from : ℕ → List Part → List Placed
-tokens_from place [] = []
-tokens_from place (p ∷ ps) =
-    put_first p.kind place (place + length p.bytes) (tokens_from (place + length p.bytes) ps)
+-- the tokens of parts, the first of which stands at the offset
+abbrev pub tokens_from : ℕ → List Operand → List Placed
+tokens_from offset [] = []
+tokens_from offset (p ∷ ps) =
+    put_first p.kind offset (offset + length p.bytes) (tokens_from (offset + length p.bytes) ps)
 
 -- how many bytes parts take
-abbrev pub total_length : List Part → ℕ
+abbrev pub total_length : List Operand → ℕ
 total_length [] = 0
 total_length (p ∷ ps) = length p.bytes + total_length ps
 
 -- the text is cut into pieces, and these are its tokens
 pub record HasTokens (text : List ℕ) (tokens : List Placed) : Type 0 where
   pub short : length text ≤ MOST_SOURCE_BYTES
-  pub parts : List Part
+  pub parts : List Operand
   pub whole : Begins parts text []
   pub tokens_are : tokens ≡ tokens_from 0 parts
 
--- behind pieces the text has this fault at the place
-pub record HasFaultAt (text : List ℕ) (fault : Code) (place : ℕ) : Type 0 where
-  pub parts : List Part
+-- behind pieces the text has this fault at the offset
+pub record HasFaultAt (text : List ℕ) (fault : Code) (offset : ℕ) : Type 0 where
+  pub parts : List Operand
   pub rest : List ℕ
   pub begins : Begins parts text rest
   pub further : ℕ
   pub fault_is : IsFault fault further rest
-  pub place_is : place ≡ total_length parts + further
+  pub offset_is : offset ≡ total_length parts + further
 
--- the first fault of the text is this, at the place
+-- the first fault of the text is this, at the offset
 abbrev pub HasFault : List ℕ → Code → ℕ → Type 0
-HasFault text fault place =
-    ((MOST_SOURCE_BYTES < length text) × (fault ≡ SourceTooLong) × (place ≡ 0)) ⊎ ((length text ≤ MOST_SOURCE_BYTES) × HasFaultAt text fault place)
+HasFault text fault offset =
+    ((MOST_SOURCE_BYTES < length text) × (fault ≡ SourceTooLong) × (offset ≡ 0)) ⊎ ((length text ≤ MOST_SOURCE_BYTES) × HasFaultAt text fault offset)
 
 -- the text has tokens
 abbrev pub HasSomeTokens : List ℕ → Type 0
@@ -189,9 +189,9 @@ HasSomeTokens text = (tokens : List Placed) × HasTokens text tokens
 
 -- the text has a first fault
 abbrev pub HasSomeFault : List ℕ → Type 0
-HasSomeFault text = (fault : Code) × (place : ℕ) × HasFault text fault place
+HasSomeFault text = (fault : Code) × (offset : ℕ) × HasFault text fault offset
 
--- tokens stand in order, none of them empty, from the one place to the other
+-- tokens stand in order, none of them empty, from the one offset to the other
 abbrev pub IsOrdered : ℕ → List Placed → ℕ → Type 0
 IsOrdered start [] end = start ≤ end
 IsOrdered start (t ∷ ts) end = (start ≤ t.start) × (t.start < t.end) × IsOrdered t.end ts end
@@ -199,4 +199,4 @@ IsOrdered start (t ∷ ts) end = (start ≤ t.start) × (t.start < t.end) × IsO
 -- out of memory says nothing of a text, and a fault is its first
 abbrev pub IsFaultOf : List ℕ → OrNoMemory Refusal → Type 0
 IsFaultOf text NoMemory = Unit {0}
-IsFaultOf text (Fault r) = HasFault text r.code r.place
+IsFaultOf text (Fault r) = HasFault text r.code r.offset

@@ -1,4 +1,4 @@
--- The tokens of a text, or its first fault and the fault's place, read from left to right.
+-- The tokens of a text, or its first fault and the fault's offset, read from left to right.
 use Rattle.std.specs.Prelude.{◌≡◌, ℕ, zero, suc, ◌+◌, Bool, true, false, List, [], ◌∷◌, length, take, drop, Option, Some, None, option_map, Result, Ok, Err, if◌then◌else◌, nat_eq, nat_le, ◌==◌, ◌&&◌, slice_index, codes}
 use Rattle.std.specs.List.{prefix_len, starts_with}
 use Rattle.std.specs.Str.{bytes_eq}
@@ -18,7 +18,7 @@ use Rattle.pf_tokens.specs.Bytes.{backslash, is_digit, is_word, is_comment, is_j
 use Rattle.pf_tokens.specs.TokenKinds.{TokenKind, Placed, kind_of, decimal, checked, longest_mark, mark_text, reserved_of, put_first}
 use Rattle.pf_tokens.specs.TokenKinds as kinds
 
--- a value, or a fault and its place
+-- a value, or a fault and its offset
 abbrev pub Read : Type 0 → Type 0
 Read X = Result X (Code × ℕ)
 
@@ -38,7 +38,7 @@ abbrev pub ◌>>=◌ : {A B : Type 0} → Read A → (A → Read B) → Read B
 -- out of memory says nothing of the text, and a fault is the one that was read
 abbrev pub Fails : {Y : Type 0} → OrNoMemory Refusal → Read Y → Type 0
 Fails NoMemory read = Unit {0}
-Fails (Fault r) read = read ≡ Err (r.code, r.place)
+Fails (Fault r) read = read ≡ Err (r.code, r.offset)
 
 -- a result, seen by a view, is what was read, unless memory ran out
 abbrev pub Gives : {X Y : Type 0} → (X → Y) → Result X (OrNoMemory Refusal) → Read Y → Type 0
@@ -70,41 +70,41 @@ width false = 1
 
 -- how a step goes on
 abbrev pub go_on : (Bool → ℕ → Read (List ℕ × ℕ)) → ℕ → Bool → ℕ → Step → Read (List ℕ × ℕ)
-go_on more place escaped n steps.Closes = Ok ([], n + 1)
-go_on more place escaped n steps.Escapes = more true n
-go_on more place escaped n (steps.Means c) = put_byte c (more false (n + width escaped))
-go_on more place escaped n steps.Fails = Err (UnexpectedByte, place + n)
+go_on more offset escaped n steps.Closes = Ok ([], n + 1)
+go_on more offset escaped n steps.Escapes = more true n
+go_on more offset escaped n (steps.Means c) = put_byte c (more false (n + width escaped))
+go_on more offset escaped n steps.Fails = Err (UnexpectedByte, offset + n)
 
--- the bytes up to the closing quote, and the length with it, where n bytes of the text at the place are read
+-- the bytes up to the closing quote, and the length with it, where n bytes of the text at the offset are read
 unfoldable pub closing : ℕ → ℕ → List ℕ → Bool → ℕ → Read (List ℕ × ℕ)
-closing quote place [] escaped n = Err (Unfinished, place)
-closing quote place (b ∷ bs) escaped n = go_on (closing quote place bs) place escaped n (step_of quote escaped b)
+closing quote offset [] escaped n = Err (Unfinished, offset)
+closing quote offset (b ∷ bs) escaped n = go_on (closing quote offset bs) offset escaped n (step_of quote escaped b)
 
 -- the bytes in the quotes at the front, and the length with both quotes
 abbrev pub quoted : ℕ → List ℕ → Read (List ℕ × ℕ)
-quoted place bytes = closing (slice_index bytes 0) place (drop 1 bytes) false 1
+quoted offset bytes = closing (slice_index bytes 0) offset (drop 1 bytes) false 1
 
 -- the character that an escape stands for
 abbrev pub escaped_character : ℕ → Option ℕ → Read (ℕ × ℕ)
-escaped_character place (Some c) = Ok (c, 3)
-escaped_character place None = Err (UnexpectedByte, place + 1)
+escaped_character offset (Some c) = Ok (c, 3)
+escaped_character offset None = Err (UnexpectedByte, offset + 1)
 
 -- the character behind a `\`
 abbrev pub behind_backslash : ℕ → List ℕ → Read (ℕ × ℕ)
-behind_backslash place [] = Err (Unfinished, place)
-behind_backslash place (e ∷ rest) = escaped_character place (escape_of e)
+behind_backslash offset [] = Err (Unfinished, offset)
+behind_backslash offset (e ∷ rest) = escaped_character offset (escape_of e)
 
 -- the character behind a `$`
 abbrev pub behind_dollar : ℕ → List ℕ → Read (ℕ × ℕ)
-behind_dollar place [] = Err (Unfinished, place)
-behind_dollar place (c ∷ rest) =
-    if c == backslash then behind_backslash place rest
+behind_dollar offset [] = Err (Unfinished, offset)
+behind_dollar offset (c ∷ rest) =
+    if c == backslash then behind_backslash offset rest
     else (if is_visible c then Ok (c, 2)
-    else Err (UnexpectedByte, place + 1))
+    else Err (UnexpectedByte, offset + 1))
 
 -- the character at the front, and its length with the `$`
 abbrev pub character : ℕ → List ℕ → Read (ℕ × ℕ)
-character place bytes = behind_dollar place (drop 1 bytes)
+character offset bytes = behind_dollar offset (drop 1 bytes)
 
 -- a token of that length
 abbrev pub token : TokenKind → ℕ → Cut
@@ -112,14 +112,14 @@ token kind n = (Some kind, n)
 
 -- a value, or a fault here
 abbrev pub or_fault : {A : Type 0} → Code → ℕ → (A → Cut) → Option A → Read Cut
-or_fault fault place make (Some x) = Ok (make x)
-or_fault fault place make None = Err (fault, place)
+or_fault fault offset make (Some x) = Ok (make x)
+or_fault fault offset make None = Err (fault, offset)
 
 -- the digits at the front
 abbrev pub number_at : ℕ → List ℕ → Read Cut
-number_at place bytes =
+number_at offset bytes =
     let n = prefix_len is_digit bytes in
-    or_fault IntegerTooLarge place (λ value. token (kinds.integer value) n) (checked (decimal (take n bytes)))
+    or_fault IntegerTooLarge offset (λ value. token (kinds.integer value) n) (checked (decimal (take n bytes)))
 
 -- a word is an atom unless it is reserved
 abbrev pub atom_unless : List ℕ → Option Reserved → TokenKind
@@ -144,58 +144,58 @@ variable_at bytes = Ok (token (variable_kind (take (prefix_len is_word bytes) by
 
 -- the character at the front, as an integer
 abbrev pub code_at : ℕ → List ℕ → Read Cut
-code_at place bytes = character place bytes >>= λ p. Ok (token (kinds.integer p.0) p.1)
+code_at offset bytes = character offset bytes >>= λ p. Ok (token (kinds.integer p.0) p.1)
 
 -- the quoted atom at the front
 abbrev pub atom_at : ℕ → List ℕ → Read Cut
-atom_at place bytes = quoted place bytes >>= λ p. Ok (token (kinds.atom p.0) p.1)
+atom_at offset bytes = quoted offset bytes >>= λ p. Ok (token (kinds.atom p.0) p.1)
 
 -- the string at the front
 abbrev pub text_at : ℕ → List ℕ → Read Cut
-text_at place bytes = quoted place bytes >>= λ p. Ok (token (kinds.text p.0) p.1)
+text_at offset bytes = quoted offset bytes >>= λ p. Ok (token (kinds.text p.0) p.1)
 
 -- `?MODULE` at the front, with no byte of a word after it
 abbrev pub module_at : ℕ → List ℕ → Read Cut
-module_at place bytes =
+module_at offset bytes =
     if starts_with nat_eq bytes (codes "?MODULE") && ends is_word (drop 7 bytes)
-    then Ok (token kinds.own_module 7) else Err (UnexpectedByte, place)
+    then Ok (token kinds.own_module 7) else Err (UnexpectedByte, offset)
 
 -- the dot at the front, with a blank, a comment or nothing after it
 abbrev pub dot_at : ℕ → List ℕ → Read Cut
-dot_at place bytes = if ends is_joined (drop 1 bytes) then Ok (token kinds.dot 1) else Err (UnexpectedByte, place)
+dot_at offset bytes = if ends is_joined (drop 1 bytes) then Ok (token kinds.dot 1) else Err (UnexpectedByte, offset)
 
 -- the longest mark at the front
 abbrev pub mark_at : ℕ → List ℕ → Read Cut
-mark_at place bytes = or_fault UnexpectedByte place (λ m. token (kinds.mark m) (length (mark_text m))) (longest_mark bytes)
+mark_at offset bytes = or_fault UnexpectedByte offset (λ m. token (kinds.mark m) (length (mark_text m))) (longest_mark bytes)
 
 -- the piece at the front, whose first byte has this class
 abbrev pub piece_of : Class → ℕ → List ℕ → Read Cut
-piece_of classes.Blank place bytes = Ok (None, 1)
-piece_of classes.Percent place bytes = Ok (None, prefix_len is_comment bytes)
-piece_of classes.Digit place bytes = number_at place bytes
-piece_of classes.Lower place bytes = word_at bytes
-piece_of classes.Upper place bytes = variable_at bytes
-piece_of classes.Dollar place bytes = code_at place bytes
-piece_of classes.Quote place bytes = atom_at place bytes
-piece_of classes.DoubleQuote place bytes = text_at place bytes
-piece_of classes.Question place bytes = module_at place bytes
-piece_of classes.Dot place bytes = dot_at place bytes
-piece_of classes.Other place bytes = mark_at place bytes
+piece_of classes.Blank offset bytes = Ok (None, 1)
+piece_of classes.Percent offset bytes = Ok (None, prefix_len is_comment bytes)
+piece_of classes.Digit offset bytes = number_at offset bytes
+piece_of classes.Lower offset bytes = word_at bytes
+piece_of classes.Upper offset bytes = variable_at bytes
+piece_of classes.Dollar offset bytes = code_at offset bytes
+piece_of classes.Quote offset bytes = atom_at offset bytes
+piece_of classes.DoubleQuote offset bytes = text_at offset bytes
+piece_of classes.Question offset bytes = module_at offset bytes
+piece_of classes.Dot offset bytes = dot_at offset bytes
+piece_of classes.Other offset bytes = mark_at offset bytes
 
 -- the piece at the front
 unfoldable pub piece_at : ℕ → List ℕ → Read Cut
-piece_at place bytes = piece_of (class_of (slice_index bytes 0)) place bytes
+piece_at offset bytes = piece_of (class_of (slice_index bytes 0)) offset bytes
 
 -- a piece, and then what is left
 abbrev pub scan_step : (ℕ → List ℕ → Read (List Placed)) → ℕ → List ℕ → Read (List Placed)
-scan_step more place [] = Ok []
-scan_step more place (b ∷ bs) =
-    piece_at place (b ∷ bs) >>= λ p. more (place + p.1) (drop p.1 (b ∷ bs)) >>= λ ts. Ok (put_first p.0 place (place + p.1) ts)
+scan_step more offset [] = Ok []
+scan_step more offset (b ∷ bs) =
+    piece_at offset (b ∷ bs) >>= λ p. more (offset + p.1) (drop p.1 (b ∷ bs)) >>= λ ts. Ok (put_first p.0 offset (offset + p.1) ts)
 
--- the tokens from a place on, of at most so many pieces
+-- the tokens from an offset on, of at most so many pieces
 unfoldable pub scan : ℕ → ℕ → List ℕ → Read (List Placed)
-scan zero place bytes = Ok []
-scan (suc n) place bytes = scan_step (scan n) place bytes
+scan zero offset bytes = Ok []
+scan (suc n) offset bytes = scan_step (scan n) offset bytes
 
 -- the tokens of a text, unless it is too long
 abbrev pub tokens : List ℕ → Read (List Placed)

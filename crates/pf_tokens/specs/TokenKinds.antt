@@ -22,7 +22,7 @@ pub data TokenKind : Type 0 where
   mark : Mark → TokenKind
   reserved : Reserved → TokenKind
 
--- a kind of token, the place of its first byte and that after its last
+-- a kind of token, the offset of its first byte and that after its last
 pub record Placed : Type 0 where
   pub kind : TokenKind
   pub start : ℕ
@@ -40,7 +40,7 @@ kind_of kinds.Dot = dot
 kind_of (kinds.Mark m) = mark m
 kind_of (kinds.Reserved r) = reserved r
 
--- what a token stands for, with its places
+-- what a token stands for, with its offsets
 abbrev pub placed_of : Token → Placed
 placed_of t = record { kind = kind_of t.kind; start = t.start; end = t.end }
 

@@ -1,4 +1,4 @@
-//! Cuts the bytes of a source text into tokens, or names the first fault and its place.
+//! Cuts the bytes of a source text into tokens, or names the first fault and its offset.
 //!
 //! The tokens are Erlang's (Erlang Reference Manual, "Data Types", "Expressions" and "Reserved Words") without floats,
 //! numbers in other bases, binaries, maps, records and macros other than `?MODULE`; `maybe` and `else` are atoms.

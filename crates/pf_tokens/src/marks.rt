@@ -1,4 +1,4 @@
-//! The marks: punctuation and operators. The longest that stands at a place is taken.
+//! The marks: punctuation and operators. The longest that stands at an offset is taken.
 ghost use Rattle.std.specs.Prelude.{◌≡◌};
 ghost use Rattle.pf_tokens.specs.TokenKinds.{mark_text, longest_mark};
 

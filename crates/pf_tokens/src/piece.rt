@@ -48,14 +48,14 @@ fn token(kind: Kind, length: usize) -> Piece
 }
 
 /// The digits at the front.
-fn number(bytes: &[u8], place: usize) -> Result<Piece, OrNoMemory<Refusal>>
-    ensures given { Gives shown result (number_at place bytes.now) }
+fn number(bytes: &[u8], offset: usize) -> Result<Piece, OrNoMemory<Refusal>>
+    ensures given { Gives shown result (number_at offset bytes.now) }
     ensures within { IfOk result (λ p. p.length ≤ length bytes.now) }
 {
     let length = digits_length(bytes);
     match integer_of(bytes.split_at(length).0) {
         Some(value) => Ok(token(Kind::Integer(value), length)),
-        None => Err(OrNoMemory::refusal(Code::IntegerTooLarge, place)),
+        None => Err(OrNoMemory::refusal(Code::IntegerTooLarge, offset)),
     }
 }
 
@@ -98,13 +98,13 @@ fn variable(alloc: Global, bytes: &[u8]) -> Result<Piece, OrNoMemory<Refusal>>
 }
 
 /// The `$` and the character at the front, as an integer.
-fn code(bytes: &[u8], place: usize) -> Result<Piece, OrNoMemory<Refusal>>
+fn code(bytes: &[u8], offset: usize) -> Result<Piece, OrNoMemory<Refusal>>
     requires some { 0 < length bytes.now }
-    requires short { place + length bytes.now < 2 ^ 32 }
-    ensures given { Gives shown result (code_at place bytes.now) }
+    requires short { offset + length bytes.now < 2 ^ 32 }
+    ensures given { Gives shown result (code_at offset bytes.now) }
     ensures within { IfOk result (λ p. p.length ≤ length bytes.now) }
 {
-    let (code, length) = character(bytes, place)?;
+    let (code, length) = character(bytes, offset)?;
     Ok(token(
         Kind::Integer(Integer {
             value: u64::from(code),
@@ -114,68 +114,68 @@ fn code(bytes: &[u8], place: usize) -> Result<Piece, OrNoMemory<Refusal>>
 }
 
 /// The quoted atom at the front.
-fn atom(alloc: Global, bytes: &[u8], place: usize) -> Result<Piece, OrNoMemory<Refusal>>
+fn atom(alloc: Global, bytes: &[u8], offset: usize) -> Result<Piece, OrNoMemory<Refusal>>
     requires some { 0 < length bytes.now }
-    requires short { place + length bytes.now < 2 ^ 32 }
-    ensures given { Gives shown result (atom_at place bytes.now) }
+    requires short { offset + length bytes.now < 2 ^ 32 }
+    ensures given { Gives shown result (atom_at offset bytes.now) }
     ensures within { IfOk result (λ p. p.length ≤ length bytes.now) }
 {
-    let (name, length) = quoted(alloc, bytes, place)?;
+    let (name, length) = quoted(alloc, bytes, offset)?;
     Ok(token(Kind::Atom(name), length))
 }
 
 /// The string at the front.
-fn text(alloc: Global, bytes: &[u8], place: usize) -> Result<Piece, OrNoMemory<Refusal>>
+fn text(alloc: Global, bytes: &[u8], offset: usize) -> Result<Piece, OrNoMemory<Refusal>>
     requires some { 0 < length bytes.now }
-    requires short { place + length bytes.now < 2 ^ 32 }
-    ensures given { Gives shown result (text_at place bytes.now) }
+    requires short { offset + length bytes.now < 2 ^ 32 }
+    ensures given { Gives shown result (text_at offset bytes.now) }
     ensures within { IfOk result (λ p. p.length ≤ length bytes.now) }
 {
-    let (text, length) = quoted(alloc, bytes, place)?;
+    let (text, length) = quoted(alloc, bytes, offset)?;
     Ok(token(Kind::Text(text), length))
 }
 
 /// `?MODULE` at the front, where no byte of a word follows it.
-fn own_module(bytes: &[u8], place: usize) -> Result<Piece, OrNoMemory<Refusal>>
-    ensures given { Gives shown result (module_at place bytes.now) }
+fn own_module(bytes: &[u8], offset: usize) -> Result<Piece, OrNoMemory<Refusal>>
+    ensures given { Gives shown result (module_at offset bytes.now) }
     ensures within { IfOk result (λ p. p.length ≤ length bytes.now) }
 {
     let macro_name = b"?MODULE";
     if bytes.starts_with(macro_name) && ends_word(bytes.split_at(macro_name.len()).1) {
         return Ok(token(Kind::Module, macro_name.len()));
     }
-    Err(OrNoMemory::refusal(Code::UnexpectedByte, place))
+    Err(OrNoMemory::refusal(Code::UnexpectedByte, offset))
 }
 
 /// The dot at the front, where a blank, a comment or nothing follows it.
-fn full_stop(bytes: &[u8], place: usize) -> Result<Piece, OrNoMemory<Refusal>>
+fn full_stop(bytes: &[u8], offset: usize) -> Result<Piece, OrNoMemory<Refusal>>
     requires { 0 < length bytes.now }
-    ensures given { Gives shown result (dot_at place bytes.now) }
+    ensures given { Gives shown result (dot_at offset bytes.now) }
     ensures within { IfOk result (λ p. p.length ≤ length bytes.now) }
 {
     if ends_form(bytes.split_at(1).1) {
         return Ok(token(Kind::Dot, 1));
     }
-    Err(OrNoMemory::refusal(Code::UnexpectedByte, place))
+    Err(OrNoMemory::refusal(Code::UnexpectedByte, offset))
 }
 
 /// The longest mark at the front.
-fn mark(bytes: &[u8], place: usize) -> Result<Piece, OrNoMemory<Refusal>>
-    ensures given { Gives shown result (mark_at place bytes.now) }
+fn mark(bytes: &[u8], offset: usize) -> Result<Piece, OrNoMemory<Refusal>>
+    ensures given { Gives shown result (mark_at offset bytes.now) }
     ensures within { IfOk result (λ p. p.length ≤ length bytes.now) }
 {
     match longest_mark(bytes) {
         Some(mark) => Ok(token(Kind::Mark(mark), mark.text().len())),
-        None => Err(OrNoMemory::refusal(Code::UnexpectedByte, place)),
+        None => Err(OrNoMemory::refusal(Code::UnexpectedByte, offset)),
     }
 }
 
-/// The piece at the front of what is left of a text, from this place on.
+/// The piece at the front of what is left of a text, from this offset on.
 #[tactic(auto, unfolding(crate::specs::Scan::piece_at))]
-pub fn next_piece(alloc: Global, bytes: &[u8], place: usize) -> Result<Piece, OrNoMemory<Refusal>>
+pub fn next_piece(alloc: Global, bytes: &[u8], offset: usize) -> Result<Piece, OrNoMemory<Refusal>>
     requires some { 0 < length bytes.now }
-    requires short { place + length bytes.now < 2 ^ 32 }
-    ensures given { Gives shown result (piece_at place bytes.now) }
+    requires short { offset + length bytes.now < 2 ^ 32 }
+    ensures given { Gives shown result (piece_at offset bytes.now) }
     ensures within { IfOk result (λ p. p.length ≤ length bytes.now) }
 {
     match class_of(bytes[0]) {
@@ -187,14 +187,14 @@ pub fn next_piece(alloc: Global, bytes: &[u8], place: usize) -> Result<Piece, Or
             kind: None,
             length: line_length(bytes),
         }),
-        Class::Digit => number(bytes, place),
+        Class::Digit => number(bytes, offset),
         Class::Lower => word(alloc, bytes),
         Class::Upper => variable(alloc, bytes),
-        Class::Dollar => code(bytes, place),
-        Class::Quote => atom(alloc, bytes, place),
-        Class::DoubleQuote => text(alloc, bytes, place),
-        Class::Question => own_module(bytes, place),
-        Class::Dot => full_stop(bytes, place),
-        Class::Other => mark(bytes, place),
+        Class::Dollar => code(bytes, offset),
+        Class::Quote => atom(alloc, bytes, offset),
+        Class::DoubleQuote => text(alloc, bytes, offset),
+        Class::Question => own_module(bytes, offset),
+        Class::Dot => full_stop(bytes, offset),
+        Class::Other => mark(bytes, offset),
     }
 }

@@ -61,15 +61,15 @@ fn step_of(quote: u8, is_escaped: bool, byte: u8) -> Step
 }
 
 /// The bytes up to the quote that closes a text, and the length with both quotes. The text begins with a quote
-/// at the place, and the rest is what stands behind that.
+/// at the offset, and the rest is what stands behind that.
 fn closing(
     alloc: Global,
     rest: &[u8],
-    place: usize,
+    offset: usize,
     quote: u8,
 ) -> Result<(Vec<u8>, usize), OrNoMemory<Refusal>>
-    requires { place + length rest.now < 2 ^ 32 }
-    ensures given { Gives (λ found. (found.0.items, found.1)) result (closing quote place rest.now false 1) }
+    requires { offset + length rest.now < 2 ^ 32 }
+    ensures given { Gives (λ found. (found.0.items, found.1)) result (closing quote offset rest.now false 1) }
     ensures within { IfOk result (λ found. found.1 ≤ length rest.now + 1) }
 {
     let mut text = Vec::new(alloc);
@@ -84,46 +84,46 @@ fn closing(
                 length += width(is_escaped);
                 is_escaped = false;
             }
-            Step::Fails => return Err(OrNoMemory::refusal(Code::UnexpectedByte, place + length)),
+            Step::Fails => return Err(OrNoMemory::refusal(Code::UnexpectedByte, offset + length)),
         }
     }
-    Err(OrNoMemory::refusal(Code::Unfinished, place))
+    Err(OrNoMemory::refusal(Code::Unfinished, offset))
 }
 
-/// The bytes that stand in quotes at the place, and the length of the text with both quotes. The first byte is
+/// The bytes that stand in quotes at the offset, and the length of the text with both quotes. The first byte is
 /// the quote that opens it.
 pub fn quoted(
     alloc: Global,
     bytes: &[u8],
-    place: usize,
+    offset: usize,
 ) -> Result<(Vec<u8>, usize), OrNoMemory<Refusal>>
     requires some { 0 < length bytes.now }
-    requires short { place + length bytes.now < 2 ^ 32 }
-    ensures given { Gives (λ found. (found.0.items, found.1)) result (quoted place bytes.now) }
+    requires short { offset + length bytes.now < 2 ^ 32 }
+    ensures given { Gives (λ found. (found.0.items, found.1)) result (quoted offset bytes.now) }
     ensures within { IfOk result (λ found. found.1 ≤ length bytes.now) }
 {
-    closing(alloc, bytes.split_at(1).1, place, bytes[0])
+    closing(alloc, bytes.split_at(1).1, offset, bytes[0])
 }
 
-/// The code of the character at the place, and its length. The first byte is the `$`.
-pub fn character(bytes: &[u8], place: usize) -> Result<(u8, usize), OrNoMemory<Refusal>>
+/// The code of the character at the offset, and its length. The first byte is the `$`.
+pub fn character(bytes: &[u8], offset: usize) -> Result<(u8, usize), OrNoMemory<Refusal>>
     requires some { 0 < length bytes.now }
-    requires short { place + length bytes.now < 2 ^ 32 }
-    ensures given { Gives (λ found. found) result (character place bytes.now) }
+    requires short { offset + length bytes.now < 2 ^ 32 }
+    ensures given { Gives (λ found. found) result (character offset bytes.now) }
     ensures within { IfOk result (λ found. found.1 ≤ length bytes.now) }
 {
     let Some((byte, rest)) = bytes.split_at(1).1.split_first() else {
-        return Err(OrNoMemory::refusal(Code::Unfinished, place));
+        return Err(OrNoMemory::refusal(Code::Unfinished, offset));
     };
     if *byte == b'\\' {
         let Some((letter, _)) = rest.split_first() else {
-            return Err(OrNoMemory::refusal(Code::Unfinished, place));
+            return Err(OrNoMemory::refusal(Code::Unfinished, offset));
         };
-        let code = escape_of(*letter).ok_or(OrNoMemory::refusal(Code::UnexpectedByte, place + 1))?;
+        let code = escape_of(*letter).ok_or(OrNoMemory::refusal(Code::UnexpectedByte, offset + 1))?;
         return Ok((code, 3));
     }
     if is_visible(*byte) {
         return Ok((*byte, 2));
     }
-    Err(OrNoMemory::refusal(Code::UnexpectedByte, place + 1))
+    Err(OrNoMemory::refusal(Code::UnexpectedByte, offset + 1))
 }

@@ -35,17 +35,17 @@ fn scan(alloc: Global, source: &[u8]) -> Result<Vec<Token>, OrNoMemory<Refusal>>
     ensures { Gives (λ found. map placed_of found.items) result (scan (length source.now) 0 source.now) }
 {
     let mut found = Vec::new(alloc);
-    let mut place = 0;
+    let mut offset = 0;
     let mut rest = source;
     for _ in 0..source.len() {
         if rest.is_empty() {
             return Ok(found);
         }
-        let next = next_piece(alloc, rest, place)?;
-        let end = place + next.length;
-        put(&mut found, next.kind, place, end)?;
+        let next = next_piece(alloc, rest, offset)?;
+        let end = offset + next.length;
+        put(&mut found, next.kind, offset, end)?;
         rest = rest.split_at(next.length).1;
-        place = end;
+        offset = end;
     }
     Ok(found)
 }
@@ -60,7 +60,7 @@ fn read(alloc: Global, source: &[u8]) -> Result<Vec<Token>, OrNoMemory<Refusal>>
     scan(alloc, source)
 }
 
-/// The tokens of a source text, in order, or its first fault with the place of it, in bytes from 0. Each text has
+/// The tokens of a source text, in order, or its first fault with the offset of it, in bytes from 0. Each text has
 /// its tokens or a first fault, as `one_reading` says; out of memory comes in place of either.
 pub fn tokens(alloc: Global, source: &[u8]) -> Result<Vec<Token>, OrNoMemory<Refusal>>
     ensures found { IfOk result (λ found. HasTokens source.now (map placed_of found.items)) }
@@ -70,8 +70,8 @@ pub fn tokens(alloc: Global, source: &[u8]) -> Result<Vec<Token>, OrNoMemory<Ref
     // What the text has is what is answered, unless memory runs out.
     ensures only { (ts : List Placed) → HasTokens source.now ts →
         Gives (λ found. map placed_of found.items) result (Ok ts) }
-    ensures only_fault { (fault : Code) (place : ℕ) → HasFault source.now fault place →
-        Gives (λ found. map placed_of found.items) result (Err (fault, place)) }
+    ensures only_fault { (fault : Code) (offset : ℕ) → HasFault source.now fault offset →
+        Gives (λ found. map placed_of found.items) result (Err (fault, offset)) }
 {
     read(alloc, source)
 }

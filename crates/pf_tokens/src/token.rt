@@ -4,7 +4,7 @@ ghost use Rattle.std.specs.Prelude.{◌<◌, ◌^◌};
 use crate::marks::Mark;
 use crate::words::Reserved;
 
-/// A token, with the places of its first byte and of the byte after its last, from 0.
+/// A token, with the offsets of its first byte and of the byte after its last, from 0.
 #[derive(Debug, Drop)]
 pub struct Token {
     pub kind: Kind,

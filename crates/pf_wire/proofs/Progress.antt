@@ -71,7 +71,7 @@ any_from b bs more (Some p) e =
     let rest = more p.1 (command_shorter b bs p.0 p.1 e) in
     (p.0 ∷ rest.0, rest.1, commands.command b bs p.1 p.0 rest.0 rest.1 e rest.2)
 
--- all bytes are commands up to some place
+-- all bytes are commands up to some offset
 any_within : (n : ℕ) (rest : List ℕ) → length rest ≤ n → IsAny rest
 any_within n [] le = ([], true, commands.over)
 any_within zero (b ∷ bs) le = absurd (omega arith)

@@ -10,7 +10,7 @@ ghost use Rattle.pf_lines.specs.View.{view_of_command};
 ghost use Rattle.pf_book.specs.Answers.{Answers};
 ghost use Rattle.pf_book.specs.Profile.{ForRight};
 ghost use Rattle.pf_request.specs.View.{view_of_call};
-ghost use Rattle.pf_wire.specs.Outcomes.{requester_of, outcome_seen};
+ghost use Rattle.pf_wire.specs.Outcomes.{requester_of, view_of_outcome};
 
 use crate::reply::{put_code, put_project, put_reply};
 use pf_book::{Book, Reply};
@@ -73,7 +73,7 @@ fn make_call(alloc: Global, book: &mut Book, project: u32, call: Call) -> Result
 
 /// Does what a command asks for. What stands in the scratch makes no difference.
 pub fn perform(alloc: Global, book: &mut Book, scratch: &mut Scratch, command: Command) -> Outcome
-    ensures { ForRight (λ p. AnswersStep p book.old (view_of_command command) (outcome_seen result) book.new) }
+    ensures { ForRight (λ p. AnswersStep p book.old (view_of_command command) (view_of_outcome result) book.new) }
 {
     match command {
         Command::Client(project, call) => match make_call(alloc, book, project, call) {
@@ -119,7 +119,7 @@ pub fn put_outcome(
     outcome: &Outcome,
 ) -> Result<(), NoMemory>
     ensures { (s : Step) → requester ≡ requester_of s
-        → OnOk result (out.new.items ≡ out.old.items ++ outcome_text s (outcome_seen outcome.now)) }
+        → OnOk result (out.new.items ≡ out.old.items ++ outcome_text s (view_of_outcome outcome.now)) }
 {
     match outcome {
         Outcome::Replied(reply) => match requester {

@@ -6,7 +6,7 @@ ghost use Rattle.pf_fault.specs.Codes.{code_text};
 ghost use Rattle.pf_model.specs.Reports.{report_of};
 ghost use Rattle.pf_model.specs.Text.{complete_text};
 ghost use Rattle.pf_desks.specs.Told.{lines_of, reply_head, reply_rest, reply_text, result_head, result_rest, stage_text, usage_text};
-ghost use Rattle.pf_book.specs.View.{reply_seen, stage_seen};
+ghost use Rattle.pf_book.specs.View.{view_of_reply, view_of_stage};
 
 use pf_book::{Reply, Stage};
 use pf_fault::Code;
@@ -119,7 +119,7 @@ fn put_result_rest(alloc: Global, out: &mut Vec<u8>, finished: &Finished) -> Res
 
 /// Puts how far a trial is.
 fn put_stage(out: &mut Vec<u8>, stage: Stage) -> Result<(), NoMemory>
-    ensures { OnOk result (out.new.items ≡ out.old.items ++ stage_text (stage_seen stage)) }
+    ensures { OnOk result (out.new.items ≡ out.old.items ++ stage_text (view_of_stage stage)) }
 {
     match stage {
         Stage::Queued => put(out, b"queued"),
@@ -130,7 +130,7 @@ fn put_stage(out: &mut Vec<u8>, stage: Stage) -> Result<(), NoMemory>
 
 /// Puts what the first line of a reply says.
 fn put_head(alloc: Global, out: &mut Vec<u8>, reply: &Reply) -> Result<(), NoMemory>
-    ensures { OnOk result (out.new.items ≡ out.old.items ++ reply_head (reply_seen reply.now)) }
+    ensures { OnOk result (out.new.items ≡ out.old.items ++ reply_head (view_of_reply reply.now)) }
 {
     match reply {
         Reply::Module(number) => {
@@ -161,7 +161,7 @@ fn put_head(alloc: Global, out: &mut Vec<u8>, reply: &Reply) -> Result<(), NoMem
 
 /// Puts the lines of a reply that follow its first.
 fn put_rest(alloc: Global, out: &mut Vec<u8>, reply: &Reply) -> Result<(), NoMemory>
-    ensures { OnOk result (out.new.items ≡ out.old.items ++ reply_rest (reply_seen reply.now)) }
+    ensures { OnOk result (out.new.items ≡ out.old.items ++ reply_rest (view_of_reply reply.now)) }
 {
     match reply {
         Reply::Result(finished) => put_result_rest(alloc, out, finished),
@@ -176,7 +176,7 @@ pub(crate) fn put_reply(
     project: u32,
     reply: &Reply,
 ) -> Result<(), NoMemory>
-    ensures { OnOk result (out.new.items ≡ out.old.items ++ reply_text project (reply_seen reply.now)) }
+    ensures { OnOk result (out.new.items ≡ out.old.items ++ reply_text project (view_of_reply reply.now)) }
 {
     put_project(out, project)?;
     put_head(alloc, out, reply)?;

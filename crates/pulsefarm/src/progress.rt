@@ -142,8 +142,8 @@ impl<'a, C: Clock> Seeds<'a, C> {
     }
 }
 
-impl<C: Clock> pf_hunt::Watch for Seeds<'_, C> {
-    fn tell(&mut self, done: u64, failures: u64) {
+impl<C: Clock> pf_seeds::HuntObserver for Seeds<'_, C> {
+    fn progress(&mut self, done: u64, failures: u64) {
         let time = self.time();
         if let (Some(now), Some(told)) = (time, self.told) {
             if now.saturating_sub(told).as_millis() < PAUSE {

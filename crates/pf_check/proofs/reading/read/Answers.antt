@@ -2,7 +2,7 @@ use Rattle.std.proofs.Common.{rules, sym, subst}
 use Rattle.std.specs.Prelude.{map}
 use Rattle.pf_tokens.specs.TokenKinds.{placed_of}
 use Rattle.pf_tokens.specs.Rules.{HasTokens}
-use Rattle.pf_syntax.specs.WrittenModule.{tree_of}
+use Rattle.pf_syntax.specs.ExprModule.{tree_of}
 use Rattle.pf_check.specs.Reads.{IsRefusalOf}
 use Rattle.pf_check.proofs.Outcomes.{reads_module, reads_fault, tokens_refused, tree_refused}
 use Rattle.pf_check.proofs.reading.read.Goals as goal

@@ -18,6 +18,6 @@ returns c =
     let refusal = c.in-Err-Fault.refusal in
     let bytes = c.args.source.now in
     let reads = rw c.in-Err-Fault.field-0-is at c.in-Err-Fault.ensures.fault in
-    IfOk-weaker c.refuse.result (λ a. (a.text.items ≡ line (refusal_text refusal.code refusal.place) ++ explained c.args.explain bytes refusal.code refusal.place) × (a.status ≡ 2))
+    IfOk-weaker c.refuse.result (λ a. (a.text.items ≡ line (refusal_text refusal.code refusal.offset) ++ explained c.args.explain bytes refusal.code refusal.offset) × (a.status ≡ 2))
     (λ a. Checks c.args.explain bytes a.text.items a.status)
-    (λ a is. row_check_refused c.args.explain bytes a.text.items a.status refusal.code refusal.place reads is.0 is.1) c.refuse.ensures
+    (λ a is. row_check_refused c.args.explain bytes a.text.items a.status refusal.code refusal.offset reads is.0 is.1) c.refuse.ensures

@@ -12,5 +12,5 @@ returns-in-Err-Fault g c =
     let h = view_of_hunt_args c.args.args.now in
     let bytes = c.args.bytes.items in
     let reads = rw c.in-Err-Fault.field-0-is at c.in-Err-Fault.ensures.fault in
-    IfOk-weaker c.refused_at.result (λ a. Refuses a (refusal_text refusal.code refusal.place)) (λ a. HuntAnswers h bytes a.text.items a.status)
-    (λ a is. row_refused (AsksFor h h.sought) (λ j. TellsSought h bytes j h.sought) bytes a refusal.code refusal.place reads is) c.refused_at.ensures
+    IfOk-weaker c.refused_at.result (λ a. Refuses a (refusal_text refusal.code refusal.offset)) (λ a. HuntAnswers h bytes a.text.items a.status)
+    (λ a is. row_refused (AsksFor h h.sought) (λ j. TellsSought h bytes j h.sought) bytes a refusal.code refusal.offset reads is) c.refused_at.ensures

@@ -10,5 +10,5 @@ returns-in-Err-Fault g c =
     let asked = run_args c.args.request.now c.args.edition in
     let bytes = c.args.bytes.items in
     let reads = rw c.in-Err-Fault.field-0-is at c.in-Err-Fault.ensures.fault in
-    IfOk-weaker c.refused_at.result (λ a. Refuses a (refusal_text refusal.code refusal.place)) (λ a. Answers asked bytes a.text.items a.status)
-    (λ a is. row_refused (AsksOf asked) Tells bytes a refusal.code refusal.place reads is) (rw c.in-Err-Fault.field-0-is at c.refused_at.ensures)
+    IfOk-weaker c.refused_at.result (λ a. Refuses a (refusal_text refusal.code refusal.offset)) (λ a. Answers asked bytes a.text.items a.status)
+    (λ a is. row_refused (AsksOf asked) Tells bytes a refusal.code refusal.offset reads is) (rw c.in-Err-Fault.field-0-is at c.refused_at.ensures)

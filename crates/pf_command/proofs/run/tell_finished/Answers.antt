@@ -1,7 +1,7 @@
 use Rattle.std.proofs.Common.{◌≡◌, ◌∙◌, zero, ap, subst}
 use Rattle.std.proofs.lemmas.Result.{IfOk-weaker}
 use Rattle.pf_syntax.specs.Module.{Checked}
-use Rattle.pf_model.specs.Code.{Code}
+use Rattle.pf_model.specs.Module.{Module}
 use Rattle.pf_model.specs.Shrinking.{report}
 use Rattle.pf_request.specs.Job.{Job, memory_report}
 use Rattle.pf_sched.specs.Views.{result_of}
@@ -16,7 +16,7 @@ returns-in-Some c =
     let table = c.atoms-atoms.result.now in
     let job : c.deref.result.now ≡ j = c.deref.ensures ∙ c.job-job.ensures in
     let atoms : table ≡ j.asked.code.atoms = c.atoms-atoms.ensures ∙ ap (λ (m : Checked). m.atoms) c.deref-2.ensures
-    ∙ ap (λ (k : Code). k.atoms) c.module.ensures ∙ ap (λ (k : Job). k.asked.code.atoms) job in
+    ∙ ap (λ (k : Module). k.atoms) c.module.ensures ∙ ap (λ (k : Job). k.asked.code.atoms) job in
     let came = result_of c.in-Some.result.now in
     IfOk-weaker c.tell_result.result (TellsResult table came) (λ a. Tells j a.text.items a.status)
     (λ a tells. tells_result j table came f.result a c.in-Some.ensures.1 c.in-Some.ensures.0 atoms tells) c.tell_result.ensures
@@ -27,7 +27,7 @@ returns-in-None c =
     let table = c.atoms-atoms.result.now in
     let job : c.deref.result.now ≡ j = c.deref.ensures ∙ c.job-job.ensures in
     let atoms : table ≡ j.asked.code.atoms = c.atoms-atoms.ensures ∙ ap (λ (m : Checked). m.atoms) c.deref-2.ensures
-    ∙ ap (λ (k : Code). k.atoms) c.module.ensures ∙ ap (λ (k : Job). k.asked.code.atoms) job in
+    ∙ ap (λ (k : Module). k.atoms) c.module.ensures ∙ ap (λ (k : Job). k.asked.code.atoms) job in
     let asked = c.deref-in-None.result.now in
     let same : asked ≡ j = c.deref-in-None.ensures ∙ c.job-job.ensures in
     IfOk-weaker c.tell_no_memory.result (λ a. (asked.asked.runs ≡ zero) × TellsResult table (report memory_report) a)

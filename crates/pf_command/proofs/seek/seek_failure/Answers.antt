@@ -1,8 +1,8 @@
 use Rattle.std.proofs.Common.{◌≡◌, ◌-◌, ℕ, List, Some, subst}
 use Rattle.std.specs.Prelude.{option_map}
 use Rattle.std.proofs.lemmas.Result.{IfOk-weaker}
-use Rattle.pf_hunt.specs.Hunts.{FirstFailing}
-use Rattle.pf_hunt.specs.Views.{failure_of}
+use Rattle.pf_seeds.specs.Hunts.{FirstFailing}
+use Rattle.pf_seeds.specs.Views.{failure_of}
 use Rattle.pf_cli.specs.Args.{failure, view_of_hunt_args}
 use Rattle.pf_command.specs.Answers.{IsModuleOf}
 use Rattle.pf_command.specs.Hunts.{TellsSought, none_text}

@@ -3,7 +3,7 @@ use Rattle.std.specs.Prelude.{if◌then◌else◌}
 use Rattle.std.specs.List.{list_any}
 use Rattle.std.proofs.lemmas.Result.{IfOk-weaker}
 use Rattle.pf_model.specs.Shrinking.{is_failure}
-use Rattle.pf_hunt.specs.Views.{row_of, rows_in}
+use Rattle.pf_seeds.specs.Views.{row_of, rows_in}
 use Rattle.pf_cli.specs.Args.{outcomes, view_of_hunt_args}
 use Rattle.pf_command.specs.Answers.{names_of}
 use Rattle.pf_command.specs.Hunts.{TellsSought, row_text}

@@ -2,8 +2,8 @@ use Rattle.std.proofs.Common.{◌≡◌, ◌++◌, ℕ, List, Some, subst, sym}
 use Rattle.std.proofs.lemmas.Result.{IfOk-weaker}
 use Rattle.pf_model.specs.Reports.{report_of}
 use Rattle.pf_model.specs.Text.{report_text}
-use Rattle.pf_hunt.specs.Hunts.{FirstFailing}
-use Rattle.pf_hunt.specs.Views.{failure_of}
+use Rattle.pf_seeds.specs.Hunts.{FirstFailing}
+use Rattle.pf_seeds.specs.Views.{failure_of}
 use Rattle.pf_cli.specs.Args.{failure, view_of_hunt_args}
 use Rattle.pf_command.specs.Answers.{IsModuleOf, names_of}
 use Rattle.pf_command.specs.Hunts.{TellsShrunk, TellsSought, choices_of, seed_text}

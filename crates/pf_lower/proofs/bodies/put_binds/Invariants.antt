@@ -1,8 +1,8 @@
 use Rattle.std.proofs.Common.{◌≡◌, vec_len}
 use Rattle.std.specs.List.{All}
 use Rattle.pf_syntax.specs.Over.{part_over}
-use Rattle.pf_syntax.specs.Within.{PartStands}
-use Rattle.pf_lower.specs.Bodies.{binds, ElementStands}
+use Rattle.pf_syntax.specs.Within.{OperandRepresents}
+use Rattle.pf_lower.specs.Bodies.{binds, ElementRepresents}
 use Rattle.pf_lower.specs.Grown.{Grown}
 use Rattle.pf_lower.proofs.bodies.put_binds.Given as goal
 
@@ -12,8 +12,8 @@ decreases-loop-element l = vec_len l.front
 abbrev pub invariant-loop-element : goal.invariant-loop-element
 invariant-loop-element l = record {
   grown : Grown l.initial.module l.module;
-  all : All (ElementStands l.initial.module.tables) l.front.items;
-  stands : PartStands l.module.tables l.body;
+  all : All (ElementRepresents l.initial.module.tables) l.front.items;
+  stands : OperandRepresents l.module.tables l.body;
   is : binds l.initial.module.tables l.front.items (part_over l.module.tables l.body)
       ≡ binds l.initial.module.tables l.initial.front.items (part_over l.initial.module.tables l.initial.body);
 }

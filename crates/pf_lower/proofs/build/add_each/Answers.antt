@@ -1,6 +1,6 @@
 use Rattle.std.proofs.Common.{◌≡◌, ℕ, List, ◌+◌, ◌≤◌, ◌++◌, ◌∷◌, [], length, take, sym, ap, ◌∙◌, subst, arith}
 use Rattle.std.proofs.lemmas.List.{take_all}
-use Rattle.pf_syntax.specs.SourceOver.{heads_over}
+use Rattle.pf_syntax.specs.SyntaxTreeOver.{heads_over}
 use Rattle.pf_syntax.specs.Over.{function_over}
 use Rattle.std.specs.Prelude.{flat_map}
 use Rattle.pf_rules.specs.Static.{names_of, head_faults}

@@ -7,6 +7,6 @@ abbrev pub invariant-loop-written : goal.invariant-loop-written
 invariant-loop-written l = record {
   name : l.module.name ≡ l.initial.module.name;
   atoms : l.module.atoms ≡ l.initial.module.atoms;
-  unbound : l.places ≡ [];
+  unbound : l.slots ≡ [];
   functions : EachFunction (names_of l.initial.module.atoms l.source.functions) l.source.exports (take l.written-index l.source.functions) l.module.functions;
 }

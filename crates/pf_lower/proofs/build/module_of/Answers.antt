@@ -1,10 +1,10 @@
 use Rattle.std.proofs.Common.{◌≡◌, ℕ, List, ◌++◌, [], sym, ap, ◌∙◌, subst}
 use Rattle.std.specs.Prelude.{flat_map}
-use Rattle.pf_syntax.specs.WrittenModule.{tree_of}
+use Rattle.pf_syntax.specs.ExprModule.{tree_of}
 use Rattle.pf_rules.specs.Static.{names_of, export_fault, defined_faults, unlike_faults, head_faults}
 use Rattle.pf_rules.specs.Checks.{Pairwise, FunctionIs, IsModule}
 use Rattle.pf_rules.specs.Formed.{AreFormed}
-use Rattle.pf_lower.proofs.WrittenPatterns_mean.{right_empty}
+use Rattle.pf_lower.proofs.ExprPatterns_mean.{right_empty}
 use Rattle.pf_lower.proofs.build.module_of.Goals as goal
 
 pub returns : goal.returns

@@ -1,16 +1,16 @@
 use Rattle.std.proofs.Common.{◌≡◌, ℕ, List, length, Some, None, refl, sym, ap, ◌∙◌}
 use Rattle.pf_terms.specs.Atoms.{name_of}
-use Rattle.pf_forms.specs.Forms.{builtin_named}
+use Rattle.pf_builtins.specs.Forms.{builtin_named}
 use Rattle.pf_syntax.specs.Operators.{builtin_of}
 use Rattle.pf_syntax.specs.Naming.{arity_of}
 use Rattle.pf_syntax.specs.Naming as w
-use Rattle.pf_syntax.specs.WrittenExpression as p
-use Rattle.pf_syntax.specs.SourceOver.{written_expressions_at}
-use Rattle.pf_syntax.specs.declared.node.Part.TheVariants as part
+use Rattle.pf_syntax.specs.Expr as p
+use Rattle.pf_syntax.specs.SyntaxTreeOver.{exprs_at}
+use Rattle.pf_syntax.specs.declared.node.Operand.TheVariants as part
 use Rattle.pf_rules.specs.Static.{own_in, names_of}
-use Rattle.pf_lower.proofs.Growing.{by_ok, written_expression_put, grown_itself}
+use Rattle.pf_lower.proofs.Growing.{by_ok, expr_put, grown_itself}
 use Rattle.pf_rules.proofs.Counts.{arity_length}
-use Rattle.pf_lower.proofs.WrittenExpressions_mean.{written_expression_here, call_defined, call_clean}
+use Rattle.pf_lower.proofs.Exprs_mean.{expr_here, call_defined, call_clean}
 use Rattle.pf_lower.proofs.expressions.call.Goals as goal
 
 pub returns-in-Some : goal.returns-in-Some
@@ -18,11 +18,11 @@ returns-in-Some c =
     let m = c.args.module.now in
     let fs = c.args.source.now.functions in
     let n = names_of m.atoms fs in
-    let es = written_expressions_at c.args.source.now.node_table c.args.ids.now in
+    let es = exprs_at c.args.source.now.node_table c.args.ids.now in
     let f = c.args.word.name.0 in
     let at = c.args.word.offset in
     by_ok _ _ _ c.put_node.ensures
-    (λ x h. written_expression_put fs m m _ _ c.args.places.now _ (p.call f at es) _ x refl refl (grown_itself m)
+    (λ x h. expr_put fs m m _ _ c.args.slots.now _ (p.call f at es) _ x refl refl (grown_itself m)
     (λ g e i k. w.own g f at c.in-Some.function.0 es _ (ap (own_in fs f) (arity_length c.args.source.now.node_table c.args.ids.now) ∙ c.in-Some.ensures)
     (c.requires.parts_are.means g e i (call_clean n g f at es k))) h)
 
@@ -35,13 +35,13 @@ returns-in-Some-builtin_named c =
     let m = c.args.module.now in
     let fs = c.args.source.now.functions in
     let n = names_of m.atoms fs in
-    let es = written_expressions_at c.args.source.now.node_table c.args.ids.now in
+    let es = exprs_at c.args.source.now.node_table c.args.ids.now in
     let f = c.args.word.name.0 in
     let at = c.args.word.offset in
     let named = c.name.ensures ∙ ap (λ (a : List (List ℕ)). name_of a f) c.atoms.ensures in
     let found = found_by builtin_named c.name.result.now (name_of m.atoms f) (arity_of es) (length c.args.ids.now) (Some (builtin_of c.in-Some-builtin_named.builtin)) named (arity_length c.args.source.now.node_table c.args.ids.now) c.in-Some-builtin_named.ensures in
     by_ok _ _ _ c.put_node-in-Some-builtin_named.ensures
-    (λ x h. written_expression_put fs m m _ _ c.args.places.now _ (p.call f at es) _ x refl refl (grown_itself m)
+    (λ x h. expr_put fs m m _ _ c.args.slots.now _ (p.call f at es) _ x refl refl (grown_itself m)
     (λ g e i k. w.builtin g f at (builtin_of c.in-Some-builtin_named.builtin) es _ found (c.requires.parts_are.means g e i (call_clean n g f at es k))) h)
 
 pub returns-in-None : goal.returns-in-None
@@ -49,11 +49,11 @@ returns-in-None c =
     let m = c.args.module.now in
     let fs = c.args.source.now.functions in
     let n = names_of m.atoms fs in
-    let es = written_expressions_at c.args.source.now.node_table c.args.ids.now in
+    let es = exprs_at c.args.source.now.node_table c.args.ids.now in
     let f = c.args.word.name.0 in
     let at = c.args.word.offset in
     let count = arity_length c.args.source.now.node_table c.args.ids.now in
     let named = c.name.ensures ∙ ap (λ (a : List (List ℕ)). name_of a f) c.atoms.ensures in
     let found = found_by builtin_named c.name.result.now (name_of m.atoms f) (arity_of es) (length c.args.ids.now) None named count c.in-None.ensures in
-    written_expression_here fs m c.args.places.now _ (p.call f at es) part.Nil refl tt
+    expr_here fs m c.args.slots.now _ (p.call f at es) part.Nil refl tt
     (λ g e i k. absurd (call_defined n g f at es (ap (own_in fs f) count ∙ c.in_default.ensures) found k))

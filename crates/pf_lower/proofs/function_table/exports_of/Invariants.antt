@@ -1,6 +1,6 @@
 use Rattle.std.proofs.Common.{take}
 use Rattle.std.specs.Prelude.{map}
-use Rattle.pf_syntax.specs.SourceOver.{export_of}
+use Rattle.pf_syntax.specs.SyntaxTreeOver.{export_of}
 use Rattle.pf_rules.specs.Listing.{Exports}
 use Rattle.pf_lower.proofs.function_table.exports_of.Given as goal
 

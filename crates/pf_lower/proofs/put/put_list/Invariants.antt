@@ -2,7 +2,7 @@ use Rattle.std.proofs.Common.{◌≡◌, vec_len}
 use Rattle.std.specs.List.{All}
 use Rattle.pf_syntax.specs.Over.{part_over, parts_over}
 use Rattle.pf_syntax.specs.Naming.{conses}
-use Rattle.pf_syntax.specs.Within.{PartStands}
+use Rattle.pf_syntax.specs.Within.{OperandRepresents}
 use Rattle.pf_lower.specs.Grown.{Grown}
 use Rattle.pf_lower.proofs.put.put_list.Given as goal
 
@@ -12,8 +12,8 @@ decreases-loop-element l = vec_len l.front
 abbrev pub invariant-loop-element : goal.invariant-loop-element
 invariant-loop-element l = record {
   grown : Grown l.initial.module l.module;
-  all : All (PartStands l.initial.module.tables) l.front.items;
-  stands : PartStands l.module.tables l.list;
+  all : All (OperandRepresents l.initial.module.tables) l.front.items;
+  stands : OperandRepresents l.module.tables l.list;
   is : conses (parts_over l.initial.module.tables l.front.items) (part_over l.module.tables l.list)
       ≡ conses (parts_over l.initial.module.tables l.initial.front.items) (part_over l.initial.module.tables l.initial.list);
 }

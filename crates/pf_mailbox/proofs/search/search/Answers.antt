@@ -1,7 +1,7 @@
 use Rattle.std.proofs.Common.{◌≡◌, ◌∙◌, sym, subst, None}
 use Rattle.pf_terms.specs.Value.{Value}
 use Rattle.pf_terms.specs.Term.{value_of}
-use Rattle.pf_model.specs.Code.{code_of}
+use Rattle.pf_model.specs.Module.{module_of}
 use Rattle.pf_model.specs.Contraction.{picked}
 use Rattle.pf_mailbox.specs.Searches.{Passes}
 use Rattle.pf_mailbox.specs.Tests.{awaited}
@@ -50,7 +50,7 @@ loop-message-smaller-in_default-2-2 c =
 pub loop-message-preserved : goal.loop-message-preserved
 loop-message-preserved c =
     let l = c.loop-message in let to = c.candidate.new.list.mark in
-    let P : Value → Type 0 = λ v. picked (code_of c.args.code.now) c.args.own (awaited c.args.code.now c.args.base c.args.env.now.items c.args.clauses.now) v ≡ None in
+    let P : Value → Type 0 = λ v. picked (module_of c.args.code.now) c.args.own (awaited c.args.code.now c.args.base c.args.env.now.items c.args.clauses.now) v ≡ None in
     let here = subst (λ env. Passes c.args.code.now c.args.own (awaited c.args.code.now c.args.base env c.args.clauses.now) l.list to) (c.as_slice.ensures.value ∙ l.invariant.slots) (c.candidate.ensures.passed c.args.own) in
     let none = rw (c.in_default-2.is, l.invariant.slots) at c.in_ok-body.ensures.picked in
     record {
@@ -63,7 +63,7 @@ loop-message-preserved c =
 pub loop-message-preserved-in_default-2 : goal.loop-message-preserved-in_default-2
 loop-message-preserved-in_default-2 c =
     let l = c.loop-message in let to = c.candidate.new.list.mark in
-    let P : Value → Type 0 = λ v. picked (code_of c.args.code.now) c.args.own (awaited c.args.code.now c.args.base c.args.env.now.items c.args.clauses.now) v ≡ None in
+    let P : Value → Type 0 = λ v. picked (module_of c.args.code.now) c.args.own (awaited c.args.code.now c.args.base c.args.env.now.items c.args.clauses.now) v ≡ None in
     let here = subst (λ env. Passes c.args.code.now c.args.own (awaited c.args.code.now c.args.base env c.args.clauses.now) l.list to) (c.as_slice.ensures.value ∙ l.invariant.slots) (c.candidate.ensures.passed c.args.own) in
     let none = rw (c.in_default-2.is, l.invariant.slots) at c.in_ok-body.ensures.picked in
     record {
@@ -76,7 +76,7 @@ loop-message-preserved-in_default-2 c =
 pub loop-message-preserved-in_default-2-2 : goal.loop-message-preserved-in_default-2-2
 loop-message-preserved-in_default-2-2 c =
     let l = c.loop-message in let to = c.candidate.new.list.mark in
-    let P : Value → Type 0 = λ v. picked (code_of c.args.code.now) c.args.own (awaited c.args.code.now c.args.base c.args.env.now.items c.args.clauses.now) v ≡ None in
+    let P : Value → Type 0 = λ v. picked (module_of c.args.code.now) c.args.own (awaited c.args.code.now c.args.base c.args.env.now.items c.args.clauses.now) v ≡ None in
     let here = subst (λ env. Passes c.args.code.now c.args.own (awaited c.args.code.now c.args.base env c.args.clauses.now) l.list to) (c.as_slice.ensures.value ∙ l.invariant.slots) (c.candidate.ensures.passed c.args.own) in
     let none = rw (c.in_default-2.is, l.invariant.slots) at c.in_ok-body.ensures.picked in
     record {

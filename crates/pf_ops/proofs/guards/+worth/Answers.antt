@@ -3,7 +3,7 @@ use Rattle.std.specs.Prelude.{IfOk}
 use Rattle.pf_terms.specs.Term.{value_of}
 use Rattle.pf_terms.specs.Atoms.{name_of}
 use Rattle.pf_syntax.specs.Over.{parts_over, tree_over}
-use Rattle.pf_syntax.specs.declared.node.Part.TheVariants as part
+use Rattle.pf_syntax.specs.declared.node.Operand.TheVariants as part
 use Rattle.pf_patterns.specs.Slots.{activation}
 use Rattle.pf_ops.specs.Surroundings.{tables_in, worth_in, all_worth_in}
 use Rattle.pf_ops.proofs.Tests.{part_below, worths_next, worths_end}

@@ -1,6 +1,6 @@
 use Rattle.std.proofs.Common.{◌≡◌, ◌++◌, take}
 use Rattle.std.specs.Prelude.{map}
-use Rattle.pf_syntax.specs.SourceOver.{export_of}
+use Rattle.pf_syntax.specs.SyntaxTreeOver.{export_of}
 use Rattle.pf_reader.proofs.export.add_exports.Given as goal
 
 -- the entries so far were added

@@ -1,11 +1,11 @@
 use Rattle.std.proofs.Common.{◌≡◌, suc, ◌+◌, ◌-◌, [], ◌∷◌, ◌++◌, length, Some, None, refl, arith, rules}
 use Rattle.std.proofs.lemmas.Result.{err_from_is_err_and}
 use Rattle.std.proofs.lemmas.List.{length-map}
-use Rattle.pf_syntax.specs.SourceOver.{export_of}
+use Rattle.pf_syntax.specs.SyntaxTreeOver.{export_of}
 use Rattle.pf_tokens.specs.declared.marks.Mark.TheVariants.{Comma}
-use Rattle.pf_numbered.specs.NumberedTokens.{mark}
+use Rattle.pf_intern.specs.NumberedTokens.{mark}
 use Rattle.pf_grammar.specs.Parse.{after, entry}
-use Rattle.pf_numbered.specs.View.{numbered_token_of}
+use Rattle.pf_intern.specs.View.{numbered_token_of}
 use Rattle.pf_reader.specs.View.{names_of, tokens_in}
 use Rattle.pf_reader.proofs.Items.{fails_as, loop_ends, loop_goes, loop_fails, loop_out}
 use Rattle.pf_reader.proofs.export.read_entries.Goals as goal

@@ -1,10 +1,10 @@
 use Rattle.std.proofs.Common.{◌≡◌, suc, ◌+◌, ◌-◌, [], ◌∷◌, ◌++◌, length, Some, None, arith, rules}
 use Rattle.std.proofs.lemmas.Result.{err_from_is_err_and}
 use Rattle.std.proofs.lemmas.List.{length-map}
-use Rattle.pf_syntax.specs.SourceOver.{head_over, HeadStands}
+use Rattle.pf_syntax.specs.SyntaxTreeOver.{head_over, HeadRepresents}
 use Rattle.pf_tokens.specs.declared.marks.Mark.TheVariants.{Semicolon}
-use Rattle.pf_numbered.specs.NumberedTokens.{mark}
-use Rattle.pf_numbered.specs.View.{numbered_token_of}
+use Rattle.pf_intern.specs.NumberedTokens.{mark}
+use Rattle.pf_intern.specs.View.{numbered_token_of}
 use Rattle.pf_grammar.specs.Parse.{after, head}
 use Rattle.pf_reader.specs.View.{names_of, tokens_in}
 use Rattle.pf_reader.proofs.Growth.{again}
@@ -38,7 +38,7 @@ returns-in_default-clause-stands c =
     let on = c.in_ok-head.ensures.grown.node_table in
     let pushed : c.push.new.self.items ≡ c.loop.found.items ++ c.in_ok-head.head ∷ [] = search rules in
     let kept = all_heads_stand b d on c.loop.found.items c.loop.invariant.stands in
-    pushed_stands (HeadStands d) c.loop.found.items c.push.new.self.items c.in_ok-head.head pushed kept c.in_ok-head.ensures.stands
+    pushed_stands (HeadRepresents d) c.loop.found.items c.push.new.self.items c.in_ok-head.head pushed kept c.in_ok-head.ensures.stands
 
 pub loop-preserved : goal.loop-preserved
 loop-preserved c =
@@ -53,7 +53,7 @@ loop-preserved c =
     let kept = all_heads_stand b d on c.loop.found.items c.loop.invariant.stands in
     record {
       grown = again _ _ _ c.loop.invariant.grown c.in_ok-head.ensures.grown;
-      stands = pushed_stands (HeadStands d) c.loop.found.items c.push.new.self.items c.in_ok-head.head pushed kept c.in_ok-head.ensures.stands;
+      stands = pushed_stands (HeadRepresents d) c.loop.found.items c.push.new.self.items c.in_ok-head.head pushed kept c.in_ok-head.ensures.stands;
       given = loop_goes (mark Semicolon) (head (names_of c.args.context)) (head_over d) (head_over b) c.loop.found.items c.push.new.self.items c.in_ok-head.head _ _ _ _ _ _ same pushed turn c.loop.invariant.given c.in_ok-head.ensures.given next;
     }
 

@@ -1,9 +1,9 @@
 use Rattle.std.proofs.Common.{◌≡◌, ◌-◌, length}
 use Rattle.std.specs.Prelude.{map}
 use Rattle.std.specs.List.{All}
-use Rattle.pf_syntax.specs.SourceOver.{head_over, HeadStands}
+use Rattle.pf_syntax.specs.SyntaxTreeOver.{head_over, HeadRepresents}
 use Rattle.pf_tokens.specs.declared.marks.Mark.TheVariants.{Semicolon}
-use Rattle.pf_numbered.specs.NumberedTokens.{mark}
+use Rattle.pf_intern.specs.NumberedTokens.{mark}
 use Rattle.pf_grammar.specs.Parse.{head, items}
 use Rattle.pf_reader.specs.View.{names_of, tokens_in}
 use Rattle.pf_reader.specs.Given.{with_front, Grown}
@@ -13,7 +13,7 @@ use Rattle.pf_reader.proofs.function.read_heads.Given as goal
 abbrev pub invariant-loop : goal.invariant-loop
 invariant-loop l = record {
   grown : Grown l.fn.source l.source;
-  stands : All (HeadStands l.source.node_table) l.found.items;
+  stands : All (HeadRepresents l.source.node_table) l.found.items;
   given : items (mark Semicolon) (head (names_of l.fn.context)) (length (tokens_in l.tokens)) (tokens_in l.tokens)
       ≡ with_front (map (head_over l.source.node_table) l.found.items) (items (mark Semicolon) (head (names_of l.fn.context)) (length (tokens_in l.tokens) - l.counter) (tokens_in l.rest));
 }

@@ -1,10 +1,10 @@
 use Rattle.std.proofs.Common.{◌≡◌, Some, None, subst, rules}
 use Rattle.std.specs.Prelude.{map}
 use Rattle.pf_tokens.specs.TokenKinds.{placed_of}
-use Rattle.pf_numbered.specs.NumberedTokens.{atoms_of, numbered}
+use Rattle.pf_intern.specs.NumberedTokens.{atoms_of, numbered}
 use Rattle.pf_grammar.specs.Grammar.{tree_of}
 use Rattle.pf_grammar.specs.Parse.{tree}
-use Rattle.pf_numbered.specs.View.{token_list}
+use Rattle.pf_intern.specs.View.{token_list}
 use Rattle.pf_reader.specs.Outcome.{IsTreeFault}
 use Rattle.pf_grammar.proofs.Whole.{tree_sound, tree_complete}
 use Rattle.pf_reader.proofs.read.read_tree.Goals as goal

@@ -1,6 +1,6 @@
 use Rattle.std.proofs.Common.{◌≡◌, None, refl, rules}
 use Rattle.pf_grammar.specs.Parse.{begins}
-use Rattle.pf_numbered.specs.View.{token_list}
+use Rattle.pf_intern.specs.View.{token_list}
 use Rattle.pf_grammar.proofs.Whole.{tree_complete, begins_complete}
 use Rattle.pf_reader.proofs.Head.{has_head}
 use Rattle.pf_reader.proofs.read.tree_fault.Goals as goal

@@ -1,5 +1,5 @@
 use Rattle.std.proofs.Common.{◌≡◌, ◌+◌, length, sym, ap, ◌∙◌}
-use Rattle.pf_sched.specs.Views.{parked_view}
+use Rattle.pf_sched.specs.Views.{view_of_parked}
 use Rattle.pf_sched.proofs.Sliced.{ends_sooner, goes_on, is_over}
 use Rattle.pf_sched.proofs.slice.slice_of_run.Goals as goal
 
@@ -11,7 +11,7 @@ returns-in-Ok-false c =
     let limit : c.limit.result ≡ j.asked.limit = c.limit.ensures.limit ∙ ap (λ k. k.asked.limit) job in
     let went = c.in-Ok-false.ensures j j.asked.choices (sym limit) c.requires.1 in
     let g = goes_on j (length old.events.items) c.args.turns c.limit.result c.go_on.new.self limit c.requires.0 c.in-Ok-false.field-0 c.in-Ok-false.field-0-test went in
-    (ap (parked_view j) g.0, g.1)
+    (ap (view_of_parked j) g.0, g.1)
 
 pub finish-requires-clause-over : goal.finish-requires-clause-over
 finish-requires-clause-over c =

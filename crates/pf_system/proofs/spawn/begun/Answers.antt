@@ -2,7 +2,7 @@ use Rattle.std.proofs.Common.{◌≡◌, Option, ℕ, Some, None, sym, ap, ◌�
 use Rattle.std.specs.Prelude.{option_map}
 use Rattle.pf_terms.specs.Value.{count}
 use Rattle.pf_terms.specs.Term.{elements_of, values_of}
-use Rattle.pf_model.specs.Code.{code_of}
+use Rattle.pf_model.specs.Module.{module_of}
 use Rattle.pf_stepper.specs.MachineView.{at_call}
 use Rattle.pf_syntax.specs.declared.node.FunctionId.{FunctionId}
 use Rattle.pf_system.specs.Acts.{home_function}
@@ -11,7 +11,7 @@ use Rattle.pf_system.proofs.spawn.begun.Goals as goal
 
 pub returns-in_ok-new-in-Some : goal.returns-in_ok-new-in-Some
 returns-in_ok-new-in-Some c =
-    let m = code_of c.args.module.now.value in
+    let m = module_of c.args.module.now.value in
     let vs = elements_of c.args.arguments.now in
     let items = c.in_ok-items.items.items in
     let pid = c.args.pid in
@@ -19,20 +19,20 @@ returns-in_ok-new-in-Some c =
     let n : c.len.result ≡ count vs = c.len.ensures.value ∙ count_of items ∙ ap count c.in_ok-items.ensures in
     let o : Some f ≡ home_function m c.args.home.0 c.args.name.0 c.len.result =
     ap (option_map {T = FunctionId} (λ i. i.0)) (sym c.in-Some.is) ∙ c.in_ok-function.ensures
-    ∙ ap (λ z. home_function (code_of z) c.args.home.0 c.args.name.0 c.len.result) c.deref.ensures in
+    ∙ ap (λ z. home_function (module_of z) c.args.home.0 c.args.name.0 c.len.result) c.deref.ensures in
     begins_running m pid f vs _ c.in_ok-new-in-Some.field-0
-    (c.in_ok-new-in-Some.ensures ∙ ap (λ z. at_call pid (code_of z) f (values_of items)) c.in_ok-try_clone-in-Some.ensures
+    (c.in_ok-new-in-Some.ensures ∙ ap (λ z. at_call pid (module_of z) f (values_of items)) c.in_ok-try_clone-in-Some.ensures
     ∙ ap (at_call pid m f) c.in_ok-items.ensures)
     (start_at m c.args.home.0 c.args.name.0 vs c.len.result (Some f) n o)
 
 pub returns-in_ok-ending_reason-in-None : goal.returns-in_ok-ending_reason-in-None
 returns-in_ok-ending_reason-in-None c =
-    let m = code_of c.args.module.now.value in
+    let m = module_of c.args.module.now.value in
     let vs = elements_of c.args.arguments.now in
     let n : c.len.result ≡ count vs = c.len.ensures.value ∙ count_of c.in_ok-items.items.items ∙ ap count c.in_ok-items.ensures in
     let none : Option ℕ = None in
     let o : none ≡ home_function m c.args.home.0 c.args.name.0 c.len.result =
     ap (option_map {T = FunctionId} (λ i. i.0)) (sym c.in-None.is) ∙ c.in_ok-function.ensures
-    ∙ ap (λ z. home_function (code_of z) c.args.home.0 c.args.name.0 c.len.result) c.deref.ensures in
+    ∙ ap (λ z. home_function (module_of z) c.args.home.0 c.args.name.0 c.len.result) c.deref.ensures in
     begins_ending m c.args.pid c.in_ok-ending_reason-in-None.field-0 _ (start_at m c.args.home.0 c.args.name.0 vs c.len.result none n o)
     c.in_ok-ending_reason-in-None.ensures

@@ -10,6 +10,6 @@ pub returns : goal.returns
 returns c =
     let names = c.args.names.now in
     let text = c.args.name.now in
-    let place : c.position.result ≡ position (λ s. bytes_eq text s.now) names =
+    let index : c.position.result ≡ position (λ s. bytes_eq text s.now) names =
     position_from_yields_List (λ s. bytes_eq text s.now) _ _ _ c.position.ensures.ran (YieldsList-from_slice names cc) (λ x b q k. search (rules, tests)) in
-    place ∙ sym (position-map (λ s. s.now) (bytes_eq text) names)
+    index ∙ sym (position-map (λ s. s.now) (bytes_eq text) names)

@@ -18,7 +18,7 @@ one_list : (ts us : List Placed) → found ts ≡ found us → ts ≡ us
 one_list ts us e = cc
 
 abbrev failed : Code → ℕ → Read (List Placed)
-failed fault place = Err (fault, place)
+failed fault offset = Err (fault, offset)
 
 one_fault : (f g : Code) (m n : ℕ) → failed f m ≡ failed g n → (f ≡ g) × (m ≡ n)
 one_fault f g m n e =

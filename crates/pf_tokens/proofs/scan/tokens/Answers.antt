@@ -36,7 +36,7 @@ pub returns-clause-only : goal.returns-clause-only
 returns-clause-only c ts h = gives c.args.source.now c.read.result (Ok ts) (tokens_again c.args.source.now ts h) c.read.ensures
 
 pub returns-clause-only_fault : goal.returns-clause-only_fault
-returns-clause-only_fault c fault place h = gives c.args.source.now c.read.result (Err (fault, place)) (tokens_fail c.args.source.now fault place h) c.read.ensures
+returns-clause-only_fault c fault offset h = gives c.args.source.now c.read.result (Err (fault, offset)) (tokens_fail c.args.source.now fault offset h) c.read.ensures
 
 pub returns-clause-found : goal.returns-clause-found
 returns-clause-found c = has_tokens c.args.source.now c.read.result c.read.ensures

@@ -10,7 +10,7 @@ use Rattle.pf_book.specs.Answers.{DeskAnswers}
 use Rattle.pf_book.specs.Kept.{desk_in}
 use Rattle.pf_book.specs.Plans.{with_change, IsPlan}
 use Rattle.pf_book.specs.Users.{holding}
-use Rattle.pf_book.specs.View.{reply_seen, view_of_entry}
+use Rattle.pf_book.specs.View.{view_of_reply, view_of_entry}
 use Rattle.pf_book.specs.declared.entry.Entry.{Entry}
 use Rattle.pf_book.proofs.Called.{has_room, changed_desk, called_answers, called_valid}
 use Rattle.pf_book.proofs.desk.Desk.call.Goals as goal
@@ -27,7 +27,7 @@ invariant_of-self-3 c =
     let planned : IsPlan d call plan = subst (λ (k : Desk). IsPlan k call plan) same c.in_ok-change.ensures.plan in
     let within : refusal_of b.edition b.usage charge.Call ≡ None = search rules in
     let has : HasRoom d = has_room d b.usage c.self.invariant.sums within in
-    let e = called call (reply_seen plan.reply) in
+    let e = called call (view_of_reply plan.reply) in
     let made : holding c.carry_out.new.edition c.carry_out.new.modules.items c.carry_out.new.trials.items ≡ with_change (holding d.edition d.modules d.trials) plan.change =
     c.carry_out.ensures.held
     ∙ (λ i. with_change (holding b.edition (room.ensures.modules i) (room.ensures.trials i)) plan.change) in
@@ -50,7 +50,7 @@ returns-clause-answer c =
     let planned : IsPlan d call plan = subst (λ (k : Desk). IsPlan k call plan) same c.in_ok-change.ensures.plan in
     let within : refusal_of b.edition b.usage charge.Call ≡ None = search rules in
     let has : HasRoom d = has_room d b.usage c.self.invariant.sums within in
-    let e = called call (reply_seen plan.reply) in
+    let e = called call (view_of_reply plan.reply) in
     let made : holding c.carry_out.new.edition c.carry_out.new.modules.items c.carry_out.new.trials.items ≡ with_change (holding d.edition d.modules d.trials) plan.change =
     c.carry_out.ensures.held
     ∙ (λ i. with_change (holding b.edition (room.ensures.modules i) (room.ensures.trials i)) plan.change) in

@@ -3,7 +3,7 @@ use Rattle.std.specs.Prelude.{nat_lt}
 use Rattle.std.proofs.lemmas.Bool.Decides.{nat_tests}
 use Rattle.pf_desks.specs.Calls.{is_edition}
 use Rattle.pf_book.specs.Plans.{with_change}
-use Rattle.pf_book.specs.View.{reply_seen, view_of_entry}
+use Rattle.pf_book.specs.View.{view_of_reply, view_of_entry}
 use Rattle.pf_book.specs.declared.plan.Plan.{Plan}
 use Rattle.pf_book.proofs.Planned.{no_such_edition, edition_below, edition_planned, edition_there}
 use Rattle.pf_book.proofs.desk.Desk.moving.Goals as goal
@@ -14,7 +14,7 @@ returns-then-not-is_edition-clause-plan c =
     let there : is_edition c.args.edition ≡ false = sym c.is_edition.ensures ∙ c.if-not-is_edition.true in
     let is = c.move_refused.ensures in
     no_such_edition d c.args.usage c.requires.charged c.move_refused.result c.args.edition there
-    (ap (λ (p : Plan). with_change d p.change) is) (ap (λ (p : Plan). reply_seen p.reply) is) (ap (λ (p : Plan). p.usage) is) (ap (λ (p : Plan). view_of_entry p.noted) is)
+    (ap (λ (p : Plan). with_change d p.change) is) (ap (λ (p : Plan). view_of_reply p.reply) is) (ap (λ (p : Plan). p.usage) is) (ap (λ (p : Plan). view_of_entry p.noted) is)
 
 pub returns-then-edition-own-clause-plan : goal.returns-then-edition-own-clause-plan
 returns-then-edition-own-clause-plan c =
@@ -23,7 +23,7 @@ returns-then-edition-own-clause-plan c =
     let below : nat_lt c.args.edition d.edition ≡ true = grind (arith, nat_tests, c.if-edition-own.true, c.edition-own.ensures.edition) in
     let is = c.move_refused-then-edition-own.ensures in
     edition_below d c.args.usage c.requires.charged c.move_refused-then-edition-own.result c.args.edition there below
-    (ap (λ (p : Plan). with_change d p.change) is) (ap (λ (p : Plan). reply_seen p.reply) is) (ap (λ (p : Plan). p.usage) is) (ap (λ (p : Plan). view_of_entry p.noted) is)
+    (ap (λ (p : Plan). with_change d p.change) is) (ap (λ (p : Plan). view_of_reply p.reply) is) (ap (λ (p : Plan). p.usage) is) (ap (λ (p : Plan). view_of_entry p.noted) is)
 
 pub returns-clause-plan : goal.returns-clause-plan
 returns-clause-plan c =

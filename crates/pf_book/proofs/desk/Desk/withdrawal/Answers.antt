@@ -12,7 +12,7 @@ use Rattle.pf_desks.specs.Calls.{usage_in, users_of}
 use Rattle.pf_book.specs.Kept.{desk_in, IsValid}
 use Rattle.pf_book.specs.Plans.{with_change}
 use Rattle.pf_book.specs.Users.{CountUsers}
-use Rattle.pf_book.specs.View.{reply_seen, view_of_entry}
+use Rattle.pf_book.specs.View.{view_of_reply, view_of_entry}
 use Rattle.pf_book.specs.declared.plan.Plan.{Plan}
 use Rattle.pf_book.specs.declared.desk.Desk.TheInside.{Inside}
 use Rattle.pf_book.proofs.Counted.{count_is, number_within}
@@ -46,7 +46,7 @@ returns-then-index-gt0-clause-plan c =
     let some : 0 < users_of d n = omega (arith, users, value, c.if-index-gt0.true) in
     let is = c.withdrawal_refused-then-index-gt0.ensures in
     withdrawal_in_use d c.args.usage c.requires.charged c.withdrawal_refused-then-index-gt0.result n m found some
-    (ap (λ (p : Plan). with_change d p.change) is) (ap (λ (p : Plan). reply_seen p.reply) is) (ap (λ (p : Plan). p.usage) is) (ap (λ (p : Plan). view_of_entry p.noted) is)
+    (ap (λ (p : Plan). with_change d p.change) is) (ap (λ (p : Plan). view_of_reply p.reply) is) (ap (λ (p : Plan). p.usage) is) (ap (λ (p : Plan). view_of_entry p.noted) is)
 
 pub refund-requires : goal.refund-requires
 refund-requires c =

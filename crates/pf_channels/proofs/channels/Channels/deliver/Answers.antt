@@ -1,6 +1,6 @@
 use Rattle.std.proofs.Common.{arith}
 use Rattle.pf_channels.proofs.Heads.{counted_set, row_within}
-use Rattle.pf_channels.proofs.Places.{taken_at, nothing_at, nothing_past}
+use Rattle.pf_channels.proofs.Indices.{taken_at, nothing_at, nothing_past}
 use Rattle.pf_channels.proofs.channels.Channels.deliver.Goals as goal
 
 pub returns-then-sender-len-clause-nothing : goal.returns-then-sender-len-clause-nothing

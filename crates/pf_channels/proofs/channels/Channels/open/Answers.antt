@@ -1,6 +1,6 @@
 use Rattle.std.proofs.Common.{sym}
 use Rattle.pf_channels.proofs.Heads.{counted_opened}
-use Rattle.pf_channels.proofs.Places.{opened}
+use Rattle.pf_channels.proofs.Indices.{opened}
 use Rattle.pf_channels.proofs.channels.Channels.open.Goals as goal
 
 pub invariant_of-self-2 : goal.invariant_of-self-2

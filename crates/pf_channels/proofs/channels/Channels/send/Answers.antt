@@ -1,6 +1,6 @@
 use Rattle.std.proofs.Common.{◌+◌, ◌-◌, arith}
 use Rattle.pf_channels.proofs.Heads.{counted_set, counted_fits}
-use Rattle.pf_channels.proofs.Places.{sent_at}
+use Rattle.pf_channels.proofs.Indices.{sent_at}
 use Rattle.pf_channels.proofs.channels.Channels.send.Goals as goal
 
 pub invariant_of-self-2 : goal.invariant_of-self-2

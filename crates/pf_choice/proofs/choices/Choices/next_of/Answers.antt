@@ -1,5 +1,5 @@
 use Rattle.pf_choice.specs.Chosen.{weighted}
-use Rattle.pf_choice.proofs.Places.{chosen_below}
+use Rattle.pf_choice.proofs.Indices.{chosen_below}
 use Rattle.pf_choice.proofs.choices.Choices.next_of.Goals as goal
 
 pub returns-in-Some-clause-one : goal.returns-in-Some-clause-one

@@ -8,7 +8,7 @@ use prog.Wp.{WpFn}
 use contract.Monad.{fact, fact_i}
 use contract.Running.{tables}
 use types.Kit.{Item, ⋆, ‵, raw, ◌⊛◌, ◌$◌, ◌∵◌, !, qed, by, move, keep, split, join, use0, use2, fsplit, fsplit3, fjoin, fjoin3, feq_i, feq_l}
-use types.Part.{whole, sub, agg}
+use types.Operand.{whole, sub, agg}
 use types.Run.{stop, fld, of_opd, and_then, no_more, returns, enter}
 use types.ByLocal.{alloc_all, pass_all, free_all, look_at, get, get_in, sets}
 use types.SemTy.{Body as Borrowed}
@@ -23,10 +23,10 @@ use Rattle.std.proofs.RcSteps.{Ptr-Good, word, word-Good}
 use Rattle.std.proofs.raw_atomic.Walks.{proved_at, leaves}
 use Rattle.std.specs.Prelude.{None}
 use Rattle.std.specs.Map.{lookup}
-use Rattle.pf_nodes.specs.Places.{same_place}
-use Rattle.pf_nodes.specs.declared.raw.Place.{Place}
+use Rattle.pf_nodes.specs.NodeRefs.{same_node_ref}
+use Rattle.pf_nodes.specs.declared.raw.NodeRef.{NodeRef}
 use Rattle.pf_nodes.specs.Ownership.{nodes_own}
-use Rattle.pf_nodes.proofs.Memory.{args, R, Nr, Sr, Lr, Boxed, loose_had, place_made, node_in, knows, fresh}
+use Rattle.pf_nodes.proofs.Memory.{args, R, Nr, Sr, Lr, Boxed, loose_had, node_ref_made, node_in, knows, fresh}
 use Rattle.pf_nodes.specs.contracts.raw.Nodes.add.{ended, clauses}
 use Rattle.pf_nodes.specs.contracts.raw.Nodes.add.Key.{name as #self}
 use Rattle.pf_nodes.proofs.raw.Nodes.add.Statement.{statement}
@@ -42,7 +42,7 @@ add_spec 𝓤 𝓛 𝓜 𝓡 wired T L =
     let κs = z.0.0 in let qs = z.0.1 in let κ = κs.0 in let Post : Val → SProp 𝓤 = (walk_of 𝓛 En hs c).post z in
     let self = z.0.3.0 in let node = z.0.3.1.0 in let d = self.now in let rb = self.ref_ptr.0 in let ro = self.ref_ptr.1 in let γ = self.ghost_name in
     let t₁ : Item 𝓤 = ‵ (flft κ qs.0) in let t₂ : Item 𝓤 = ‵ (flft κs.1.0 qs.1.0) ⊛ ‵ ftrue in
-    let p = node.ptr in let n = node.value in let out : Place = record { ptr = p } in
+    let p = node.ptr in let n = node.value in let out : NodeRef = record { ptr = p } in
     let items = d.items ++ (p, n) ∷ [] in let new : (Sr T).Denot = record d { items = items } in
     qed 𝓛 (((t₁ ⊛ t₂) ⊛ ‵ (owns (types_at En.signature.params κs) z.0.3 z.0.4)) ∷ raw ((c κs z.0.3).requires z.1) ∷ []) ∵
     split ! $ split ! $ move ! (2 ∷ []) $ fsplit ! $ fsplit3 ! $ feq_l ! (λ e0. move ! (2 ∷ []) $ fsplit ! $ loose_had (Nr T) ! node z.0.4.1.0 (λ e1.
@@ -54,12 +54,12 @@ add_spec 𝓤 𝓛 𝓜 𝓡 wired T L =
     sets ! (agg ! (and_then ! (get ! refl) (no_more !))) refl (word-Good [] p) $
     opens ! tt (Sr T) {h = d} rb ro (λ vs. move ! (1 ∷ []) $ fsplit ! $ move ! (7 ∷ 1 ∷ []) $
     -- [the node; the others; the mark; its cell; the open borrow; obs; auth; the other token]
-    knows ! (lookup (same_place out) d.items ≡ None) (fresh 𝓛 𝓜 T p n d.items) (λ free.
+    knows ! (lookup (same_node_ref out) d.items ≡ None) (fresh 𝓛 𝓜 T p n d.items) (λ free.
     use2 𝓛 (‵ (nodes_own (R T) items)) (node_in 𝓛 T p d.items n) $ move ! (1 ∷ 0 ∷ []) $ fjoin ! $ move ! (1 ∷ 0 ∷ []) $ closes ! tt (Sr T) new vs rb ro $
     returns ! (look_at ! 0 refl) $ free_all ! refl $
     -- [obs; the borrow; the token; the other token]
-    let Fresh = lookup (same_place out) d.items ≡ None in let Items = items ≡ items in
+    let Fresh = lookup (same_node_ref out) d.items ≡ None in let Items = items ≡ items in
     feq_i ! (List Val) z.0.4.0 (vptr rb ro ∷ []) e0 $ fjoin3 ! $ nothing ! $ nothing ! $ fjoin ! $ move ! (1 ∷ 0 ∷ []) $ fjoin ! $
     use0 𝓛 (raw (fact 𝓤 Items)) (fact_i 𝓤 Items (emp 𝓤) refl) $ use0 𝓛 (raw (fact 𝓤 Fresh)) (fact_i 𝓤 Fresh (emp 𝓤) free) $ join ! $
-    place_made ! out $ move ! (3 ∷ 4 ∷ []) $ join ! $ move ! (0 ∷ 3 ∷ 1 ∷ 2 ∷ []) $
+    node_ref_made ! out $ move ! (3 ∷ 4 ∷ []) $ join ! $ move ! (0 ∷ 3 ∷ 1 ∷ 2 ∷ []) $
     by ! (leaves 𝓛 En hs c z (word p) out (new, (tt, tt)) (tt, (tt, tt)))))))))))

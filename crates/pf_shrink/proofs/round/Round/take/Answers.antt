@@ -12,11 +12,11 @@ returns c =
           let short : now ≡ take (length c.self.inside.numbers.items - 1) c.self.inside.numbers.items =
           ap (λ r. r.numbers.items) w.self-inside-is ∙ w.pop.ensures.rest
           ∙ ap (λ n. take (n - 1) c.self.inside.numbers.items) all in
-          taken_shorter c.self.inside.numbers.items now c.deref.result.now c.self.inside.place c.first_place-self-inside.result c.args.self.now
-          c.self.invariant c.self.view_is w.in-WithoutLast.is short c.deref.ensures.value c.first_place-self-inside.ensures.begun
+          taken_shorter c.self.inside.numbers.items now c.deref.result.now c.self.inside.position c.first_position-self-inside.result c.args.self.now
+          c.self.invariant c.self.view_is w.in-WithoutLast.is short c.deref.ensures.value c.first_position-self-inside.ensures.begun
       | in-Halved w ↦
           rw w.self-inside-is
-          (taken_same c.self.inside.numbers.items c.deref.result.now c.self.inside.place c.first_place-self-inside.result c.args.self.now
+          (taken_same c.self.inside.numbers.items c.deref.result.now c.self.inside.position c.first_position-self-inside.result c.args.self.now
           c.self.invariant c.self.view_is w.in-Halved.is (c.deref.ensures.value ∙ ap (λ r. r.numbers.items) w.self-inside-is)
-          c.first_place-self-inside.ensures.begun)
+          c.first_position-self-inside.ensures.begun)
     ]

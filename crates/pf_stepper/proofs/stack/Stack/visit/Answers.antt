@@ -1,6 +1,6 @@
 use Rattle.std.proofs.Common.{ap}
 use Rattle.pf_patterns.specs.Substitution.{sub}
-use Rattle.pf_syntax.specs.declared.node.Part.TheVariants.{Node as names}
+use Rattle.pf_syntax.specs.declared.node.Operand.TheVariants.{Node as names}
 use Rattle.pf_stepper.proofs.Focused.{stays_here}
 use Rattle.pf_stepper.proofs.stack.Stack.visit.Goals as goal
 

@@ -14,7 +14,7 @@ returns c =
     ap (λ (m : Checked). first_named name arity m.functions) (sym c.self.view_is)
     ∙ position-map (is_named name arity) (function_over (tables_of a)) a.functions.items
     ∙ ap (position (λ f. (f.name.0 == name) && (f.arity == arity))) (sym c.deref.ensures.value)
-    ∙ sym c.place.ensures
+    ∙ sym c.index_of.ensures
     ∙ c.in_ok-index.was
 
 pub returns-in_err-index : goal.returns-in_err-index
@@ -26,6 +26,6 @@ returns-in_err-index c =
     ap (λ (m : Checked). first_named name arity m.functions) (sym c.self.view_is)
     ∙ position-map (is_named name arity) (function_over (tables_of a)) a.functions.items
     ∙ ap (position (λ f. (f.name.0 == name) && (f.arity == arity))) (sym c.deref.ensures.value)
-    ∙ sym c.place.ensures
+    ∙ sym c.index_of.ensures
     ∙ c.in_err-index.was in
     rw c.from_residual.ensures absent

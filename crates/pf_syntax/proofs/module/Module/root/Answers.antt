@@ -5,7 +5,7 @@ use Rattle.std.specs.Str.{bytes_eq}
 use Rattle.pf_terms.specs.Atoms.{name_of}
 use Rattle.pf_terms.specs.Order.{TellsApart}
 use Rattle.pf_syntax.specs.Over.{function_over}
-use Rattle.pf_syntax.proofs.Roots.{no_atom, no_function, no_place, exported, not_exported}
+use Rattle.pf_syntax.proofs.Roots.{no_atom, no_function, no_slot, exported, not_exported}
 use Rattle.pf_syntax.proofs.module.Module.root.Goals as goal
 
 pub returns-in_err-atom : goal.returns-in_err-atom
@@ -26,7 +26,7 @@ returns-in_err-function c =
     let m = c.args.self.now in
     let apart : TellsApart (name_of m.atoms) (length m.atoms) = rw c.atoms.ensures at c.len-names.ensures.distinct in
     let named : slice_get m.atoms c.in_ok-atom.atom.0 ≡ Some c.args.name.now = rw c.atoms-2.ensures at c.in_ok-atom.ensures.found in
-    rw c.from_residual-in_err-function.ensures (sym (no_place c.args.name.now m.atoms m.functions c.in_ok-atom.atom.0 apart named c.in_ok-id.id.0 c.in_ok-id.ensures c.in_err-function.ensures))
+    rw c.from_residual-in_err-function.ensures (sym (no_slot c.args.name.now m.atoms m.functions c.in_ok-atom.atom.0 apart named c.in_ok-id.id.0 c.in_ok-id.ensures c.in_err-function.ensures))
 
 pub returns-then-function : goal.returns-then-function
 returns-then-function c =

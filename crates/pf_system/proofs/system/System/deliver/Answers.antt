@@ -1,10 +1,10 @@
 use Rattle.std.proofs.Common.{Some, sym, subst}
-use Rattle.pf_model.specs.Code.{code_of}
+use Rattle.pf_model.specs.Module.{module_of}
 use Rattle.pf_model.specs.Runs.{channel}
 use Rattle.pf_model.specs.Reports.{label_of}
-use Rattle.pf_system.specs.View.{system_view}
+use Rattle.pf_system.specs.View.{view_of_system}
 use Rattle.pf_system.specs.Steps.{MayGo, PassesTo}
-use Rattle.pf_system.specs.Worlds.{configuration_of}
+use Rattle.pf_system.specs.Processes.{configuration_of}
 use Rattle.pf_system.proofs.Going.{has_signal}
 use Rattle.pf_system.proofs.Passing.{unspent, still_kept, delivery_passes}
 use Rattle.pf_system.proofs.system.System.deliver.Goals as goal
@@ -12,23 +12,23 @@ use Rattle.pf_system.proofs.system.System.deliver.Goals as goal
 pub deliver-requires-clause-there : goal.deliver-requires-clause-there
 deliver-requires-clause-there c =
     let f = c.self.inside in
-    let d = configuration_of f.world in
-    let v = unspent c.args.self.now (code_of f.module.value) f.steps f.spent d c.self.view_is c.if-self.false in
+    let d = configuration_of f.processes in
+    let v = unspent c.args.self.now (module_of f.module.value) f.steps f.spent d c.self.view_is c.if-self.false in
     has_signal c.args.from c.args.to d (subst (λ s. MayGo (channel c.args.from c.args.to) s.standing) v c.requires.enabled)
 
 pub invariant_of-self-2 : goal.invariant_of-self-2
 invariant_of-self-2 c e =
-    still_kept (code_of c.self.inside.module.value) c.self.inside.world c.deliver.new.self c.args.from c.args.to c.in_ok-label.label
+    still_kept (module_of c.self.inside.module.value) c.self.inside.processes c.deliver.new.self c.args.from c.args.to c.in_ok-label.label
     (c.self.invariant c.if-self.false) c.in_ok-label.ensures
 
 pub returns-clause-passed : goal.returns-clause-passed
 returns-clause-passed c =
     let f = c.self.inside in
-    let m = code_of f.module.value in
-    let d = configuration_of f.world in
+    let m = module_of f.module.value in
+    let d = configuration_of f.processes in
     let e = configuration_of c.deliver.new.self in
     let x = channel c.args.from c.args.to in
     let l = label_of c.in_ok-label.label in
-    subst (λ s. PassesTo 1 s x l 1 (system_view m c.in-Some.steps (Some e))) (sym (unspent c.args.self.now m f.steps f.spent d c.self.view_is c.if-self.false))
-    (subst (λ j. PassesTo 1 (system_view m f.steps (Some d)) x l 1 (system_view m j (Some e))) (sym c.in-Some.ensures.1)
-    (delivery_passes m f.world c.deliver.new.self f.steps c.args.from c.args.to c.in_ok-label.label c.in_ok-label.ensures))
+    subst (λ s. PassesTo 1 s x l 1 (view_of_system m c.in-Some.steps (Some e))) (sym (unspent c.args.self.now m f.steps f.spent d c.self.view_is c.if-self.false))
+    (subst (λ j. PassesTo 1 (view_of_system m f.steps (Some d)) x l 1 (view_of_system m j (Some e))) (sym c.in-Some.ensures.1)
+    (delivery_passes m f.processes c.deliver.new.self f.steps c.args.from c.args.to c.in_ok-label.label c.in_ok-label.ensures))

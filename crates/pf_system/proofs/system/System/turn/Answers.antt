@@ -1,11 +1,11 @@
 use Rattle.std.proofs.Common.{◌≡◌, Some, sym, ap, ◌∙◌, subst}
-use Rattle.pf_model.specs.Code.{code_of}
+use Rattle.pf_model.specs.Module.{module_of}
 use Rattle.pf_model.specs.Runs.{process}
 use Rattle.pf_model.specs.Reports.{label_of}
-use Rattle.pf_system.specs.View.{system_view}
+use Rattle.pf_system.specs.View.{view_of_system}
 use Rattle.pf_system.specs.Steps.{MayGo, PassesTo, unless_spent}
-use Rattle.pf_system.specs.Worlds.{configuration_of, core_of}
-use Rattle.pf_system.specs.declared.world.World.{World}
+use Rattle.pf_system.specs.Processes.{configuration_of, core_of}
+use Rattle.pf_system.specs.declared.processes.Processes.{Processes}
 use Rattle.pf_system.proofs.Systems.{can_go_of, turn_kept, turn_passes}
 use Rattle.pf_system.proofs.system.System.turn.Goals as goal
 
@@ -14,29 +14,29 @@ turn-requires-clause-sound c = (c.self.invariant c.if-self.false).stands
 
 pub turn-requires-clause-enabled : goal.turn-requires-clause-enabled
 turn-requires-clause-enabled c =
-    let m = code_of c.self.inside.module.value in
-    let w : World = c.self.inside.world in
-    let v : c.args.self.now ≡ system_view m c.self.inside.steps (Some (configuration_of w)) =
-    sym c.self.view_is ∙ ap (λ t. system_view m c.self.inside.steps (unless_spent t (configuration_of w))) c.if-self.false in
+    let m = module_of c.self.inside.module.value in
+    let w : Processes = c.self.inside.processes in
+    let v : c.args.self.now ≡ view_of_system m c.self.inside.steps (Some (configuration_of w)) =
+    sym c.self.view_is ∙ ap (λ t. view_of_system m c.self.inside.steps (unless_spent t (configuration_of w))) c.if-self.false in
     can_go_of c.args.pid (configuration_of w) (subst (λ s. MayGo (process c.args.pid) s.standing) v c.requires.enabled)
 
 pub invariant_of-self-2 : goal.invariant_of-self-2
 invariant_of-self-2 c e =
-    turn_kept (code_of c.self.inside.module.value) c.self.inside.world c.turn.new.self (core_of c.self.inside.world) c.args.pid c.args.left c.in_ok-label.used
+    turn_kept (module_of c.self.inside.module.value) c.self.inside.processes c.turn.new.self (core_of c.self.inside.processes) c.args.pid c.args.left c.in_ok-label.used
     c.in_ok-label.label (c.self.invariant c.if-self.false) c.in_ok-label.ensures
 
 pub returns-clause-passed : goal.returns-clause-passed
 returns-clause-passed c =
-    let m = code_of c.self.inside.module.value in
-    let w : World = c.self.inside.world in
-    let w' : World = c.turn.new.self in
+    let m = module_of c.self.inside.module.value in
+    let w : Processes = c.self.inside.processes in
+    let w' : Processes = c.turn.new.self in
     let k = c.self.inside.steps in
     let x = process c.args.pid in
     let u = c.in_ok-label.used in
     let n = c.args.left in
     let l = label_of c.in_ok-label.label in
-    let v : c.args.self.now ≡ system_view m k (Some (configuration_of w)) =
-    sym c.self.view_is ∙ ap (λ t. system_view m k (unless_spent t (configuration_of w))) c.if-self.false in
-    subst (λ s. PassesTo n s x l u (system_view m c.in-Some.steps (Some (configuration_of w')))) (sym v)
-    (subst (λ j. PassesTo n (system_view m k (Some (configuration_of w))) x l u (system_view m j (Some (configuration_of w')))) (sym c.in-Some.ensures.1)
+    let v : c.args.self.now ≡ view_of_system m k (Some (configuration_of w)) =
+    sym c.self.view_is ∙ ap (λ t. view_of_system m k (unless_spent t (configuration_of w))) c.if-self.false in
+    subst (λ s. PassesTo n s x l u (view_of_system m c.in-Some.steps (Some (configuration_of w')))) (sym v)
+    (subst (λ j. PassesTo n (view_of_system m k (Some (configuration_of w))) x l u (view_of_system m j (Some (configuration_of w')))) (sym c.in-Some.ensures.1)
     (turn_passes m w w' k c.args.pid n u c.in_ok-label.label (c.self.invariant c.if-self.false) c.in_ok-label.ensures))

@@ -1,7 +1,7 @@
 use Rattle.std.proofs.Common.{◌≡◌, ◌<◌, ◌++◌, ◌∷◌, [], refl, sym, ap, ◌∙◌, arith, add-one, length, slice_set}
 use Rattle.pf_ties.specs.Ties.{AllTies, begun}
-use Rattle.pf_ties.proofs.Kept.{at_place, past_end, unlinked_is, demonitored_is, on_ok, not_new, same_ties, is_new, new_ties, dropped, exit_same, exit_changed, fate_linked, fate_other, at_front, set_front}
-use Rattle.pf_ties.proofs.Places.{lt_from, le_from}
+use Rattle.pf_ties.proofs.Kept.{at_index, past_end, unlinked_is, demonitored_is, on_ok, not_new, same_ties, is_new, new_ties, dropped, exit_same, exit_changed, fate_linked, fate_other, at_front, set_front}
+use Rattle.pf_ties.proofs.Indices.{lt_from, le_from}
 use Rattle.std.proofs.lemmas.Bool.Decides.{nat_tests}
 use Rattle.pf_ties.proofs.ties.Ties.lives.Goals as goal
 
@@ -9,7 +9,7 @@ pub returns-in-Some : goal.returns-in-Some
 returns-in-Some c =
     let k = rw c.deref.ensures.value at c.in-Some.ensures.lookup in
     let l : c.args.pid < length c.self.inside.processes.items = lt_from c.args.pid (length c.self.inside.processes.items) (sym k.0) in
-    rw (← c.self.view_is) (c.lives.ensures ∙ ap (λ p. p.lives) (sym (at_place c.args.pid c.self.inside.processes.items c.in-Some.process.now l k.1)))
+    rw (← c.self.view_is) (c.lives.ensures ∙ ap (λ p. p.lives) (sym (at_index c.args.pid c.self.inside.processes.items c.in-Some.process.now l k.1)))
 
 pub returns-in-None : goal.returns-in-None
 returns-in-None c =

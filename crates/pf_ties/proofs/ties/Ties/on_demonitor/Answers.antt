@@ -1,9 +1,9 @@
 use Rattle.std.proofs.Common.{◌≡◌, refl, sym, ap, ◌∙◌, arith}
 use Rattle.pf_ties.specs.Ties.{AllTies}
-use Rattle.pf_ties.proofs.Kept.{at_place, past_end, unlinked_is, demonitored_is, links_same, all_same}
+use Rattle.pf_ties.proofs.Kept.{at_index, past_end, unlinked_is, demonitored_is, links_same, all_same}
 use Rattle.pf_ties.proofs.ties.Ties.on_demonitor.Goals as goal
 
 pub returns : goal.returns
 returns c =
-    let e = at_place c.args.to c.self.inside.processes.items c.index_mut-process.result.now (rw (← c.self.view_is) at c.requires) c.index_mut-process.ensures.value in
+    let e = at_index c.args.to c.self.inside.processes.items c.index_mut-process.result.now (rw (← c.self.view_is) at c.requires) c.index_mut-process.ensures.value in
     rw (c.remove_watcher.ensures, ← e, ← c.self.view_is) refl

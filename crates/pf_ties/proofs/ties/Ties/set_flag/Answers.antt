@@ -1,14 +1,14 @@
 use Rattle.std.proofs.Common.{◌≡◌, refl, sym, ap, ◌∙◌, arith}
 use Rattle.pf_ties.specs.Ties.{AllTies}
-use Rattle.pf_ties.proofs.Kept.{at_place, past_end, unlinked_is, demonitored_is, links_same, all_same}
+use Rattle.pf_ties.proofs.Kept.{at_index, past_end, unlinked_is, demonitored_is, links_same, all_same}
 use Rattle.pf_ties.proofs.ties.Ties.set_flag.Goals as goal
 
 pub returns-clause-was : goal.returns-clause-was
 returns-clause-was c =
-    let e = at_place c.args.pid c.self.inside.processes.items c.index_mut-process.result.now (rw (← c.self.view_is) at c.requires) c.index_mut-process.ensures.value in
+    let e = at_index c.args.pid c.self.inside.processes.items c.index_mut-process.result.now (rw (← c.self.view_is) at c.requires) c.index_mut-process.ensures.value in
     rw (← c.self.view_is, e) c.set_flag.ensures.was
 
 pub returns-clause-set : goal.returns-clause-set
 returns-clause-set c =
-    let e = at_place c.args.pid c.self.inside.processes.items c.index_mut-process.result.now (rw (← c.self.view_is) at c.requires) c.index_mut-process.ensures.value in
+    let e = at_index c.args.pid c.self.inside.processes.items c.index_mut-process.result.now (rw (← c.self.view_is) at c.requires) c.index_mut-process.ensures.value in
     rw (c.set_flag.ensures.set, ← e, ← c.self.view_is) refl

@@ -1,0 +1,22 @@
+-- Where a position of a source stands, by the bytes in front of it and those from it on.
+use Rattle.std.specs.Prelude.{ℕ, ◌+◌, ◌==◌, Bool, List, length, count_by}
+use Rattle.std.specs.List.{after_last, before_first}
+
+abbrev pub is_newline : ℕ → Bool
+is_newline byte = byte == 10
+
+-- the line of a position: 1 and the newlines in front of it
+abbrev pub line_number : List ℕ → ℕ
+line_number front = 1 + count_by is_newline front
+
+-- what stands in front of it on its line: the bytes since the last newline
+abbrev pub since_newline : List ℕ → List ℕ
+since_newline front = after_last is_newline front
+
+-- its column: 1 and the bytes since the last newline
+abbrev pub column : List ℕ → ℕ
+column front = 1 + length (since_newline front)
+
+-- the rest of its line: the bytes from it on, up to the next newline
+abbrev pub up_to_newline : List ℕ → List ℕ
+up_to_newline behind = before_first is_newline behind

@@ -1,4 +1,0 @@
-pub mod Firsts
-pub mod Counting
-pub mod Places
-pub mod Crossing

@@ -1,6 +1,0 @@
-use Rattle.pf_hunt.specs.Hunts.{NoneFails}
-use Rattle.pf_hunt.proofs.failure.first_in.Given as goal
-
--- no run before fails
-abbrev pub invariant-loop-seed : goal.invariant-loop-seed
-invariant-loop-seed l = NoneFails l.job.asked l.from l.seed

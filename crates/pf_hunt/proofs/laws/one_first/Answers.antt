@@ -1,5 +1,0 @@
-use Rattle.pf_hunt.proofs.Firsts.{one_first}
-use Rattle.pf_hunt.proofs.laws.one_first.Goals as goal
-
-pub returns : goal.returns
-returns c = one_first

@@ -1,0 +1,4 @@
+pub mod NumberedTokens
+pub mod View
+pub mod Numbering
+pub mod Offsets

@@ -1,5 +1,0 @@
-use Rattle.pf_model.proofs.Places as places
-use Rattle.pf_model.proofs.laws.one_place.Goals as goal
-
-pub returns : goal.returns
-returns c = places.one_place

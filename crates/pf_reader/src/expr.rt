@@ -1,0 +1,599 @@
+//! Expressions. Each call below takes the depth that an expression may still have, which bounds the recursion too.
+
+ghost use Rattle.std.specs.Prelude.{◌≡◌, ◌<◌, length, IfErr, IfOk, map, false, true};
+ghost use Rattle.std.specs.List.{All};
+ghost use Rattle.pf_syntax.specs.SyntaxTree.{NodeTable};
+ghost use Rattle.pf_syntax.specs.SyntaxTreeOver.{branches_over, condition_over, BranchRepresents, ConditionRepresents, ExprRepresents};
+ghost use Rattle.pf_tokens.specs.declared.marks.Mark.TheVariants.{Comma, OpenParenthesis, Semicolon};
+ghost use Rattle.pf_intern.specs.NumberedTokens.{mark};
+ghost use Rattle.pf_grammar.specs.Grammar.{top, unguarded};
+ghost use Rattle.pf_reader.specs.ListItems.{item_at};
+ghost use Rattle.pf_grammar.specs.Parse.{after, body, branches, call_step, case_of, clause, element, parse_expr, front, guard, items, list, marked, prim, readers, unary, until, when, worded};
+ghost use Rattle.pf_reader.specs.View.{names_of, tokens_in};
+ghost use Rattle.pf_reader.specs.Given.{clause_of, view_of_front, seen, expr_of, FrontRepresents, Gives, Grown};
+
+use crate::expr_pattern::{read_expr_pattern, read_match_ahead};
+use crate::fault::{ReadFault, Syntax};
+use crate::operator::{infix_ahead, joined};
+use crate::part::{FrontPart, Operand, put, put_expr_pattern, put_text, put_within};
+use crate::token::{Context, Tokens, behind, skip};
+use pf_builtins::{Form, may_stand};
+use pf_fault::{NoMemory, OrNoMemory};
+use pf_intern::NumberedKind;
+use pf_syntax::{Branch, Condition, ExprId, ExprNode, ExprPatternNode, Ident, SyntaxTree, Tests};
+use pf_tokens::{Mark, Reserved};
+use std::alloc::Global;
+
+/// The level of a whole expression.
+const TOP: u32 = 8;
+
+/// No guard: one alternative with no test.
+fn unguarded(alloc: Global) -> Result<Condition, NoMemory>
+    ensures meaning { IfOk result (λ g. (b : NodeTable) → condition_over b g ≡ unguarded) }
+    ensures stands { IfOk result (λ g. (b : NodeTable) → ConditionRepresents b g) }
+{
+    let mut alternatives = Vec::new(alloc);
+    alternatives.push(Tests {
+        tests: Vec::new(alloc),
+    })?;
+    Ok(Condition { alternatives })
+}
+
+/// A part that no infix opens.
+#[cycle(expr)]
+fn read_prim<'a, 't>(
+    alloc: Global,
+    context: Context,
+    source: &mut SyntaxTree,
+    guard: bool,
+    limit: u32,
+    tokens: Tokens<'a, 't>,
+) -> Result<Operand<'a, 't>, ReadFault>
+    requires { 0 < limit }
+    ensures grown { Grown source.old source.new }
+    ensures stands { IfOk result (λ x. ExprRepresents source.new.node_table x.expr) }
+    ensures given { Gives (seen source.new.node_table) result
+        (prim (names_of context.entry) guard limit (tokens_in tokens.entry)) }
+{
+    let Some((first, rest)) = tokens.first() else {
+        return Err(OrNoMemory::Fault(Syntax));
+    };
+    let offset = first.at;
+    let inner = limit - 1;
+    match first.kind {
+        NumberedKind::Integer(n) => put(source, ExprNode::Integer(n.value as i64), rest),
+        NumberedKind::Text(text) => put_text(alloc, source, text, rest),
+        NumberedKind::Variable(name) => put(
+            source,
+            ExprNode::Variable(Ident { name, offset }),
+            rest,
+        ),
+        NumberedKind::Anonymous => put(source, ExprNode::Anonymous(offset), rest),
+        NumberedKind::Mark(mark) => read_marked(alloc, context, source, guard, inner, mark, rest),
+        NumberedKind::Reserved(word) => {
+            read_worded(alloc, context, source, guard, inner, word, rest)
+        }
+        kind => match context.atom(kind) {
+            None => Err(OrNoMemory::Fault(Syntax)),
+            Some(name) => {
+                let word = Ident { name, offset };
+                read_named(alloc, context, source, guard, inner, word, rest)
+            }
+        },
+    }
+}
+
+/// An atom, or a call where an opening parenthesis stands behind its name.
+#[cycle(expr)]
+fn read_named<'a, 't>(
+    alloc: Global,
+    context: Context,
+    source: &mut SyntaxTree,
+    guard: bool,
+    limit: u32,
+    word: Ident,
+    tokens: Tokens<'a, 't>,
+) -> Result<Operand<'a, 't>, ReadFault>
+    ensures grown { Grown source.old source.new }
+    ensures stands { IfOk result (λ x. ExprRepresents source.new.node_table x.expr) }
+    ensures given { Gives (seen source.new.node_table) result
+        (call_step (names_of context.entry) guard
+        (parse_expr (names_of context.entry) guard limit top) word.name.0 word.offset (tokens_in tokens.entry)
+        (after (mark OpenParenthesis) (tokens_in tokens.entry))) }
+{
+    let Some(rest) = skip(tokens, NumberedKind::Mark(Mark::OpenParenthesis)) else {
+        return put(source, ExprNode::Atom(word.name), tokens);
+    };
+    let item = Item::Expression(guard);
+    let last = Mark::CloseParenthesis;
+    let (arguments, rest) = read_until(alloc, context, source, item, limit, last, rest)?;
+    if !context.call_stands(guard, word.name, arguments.len()) {
+        return Err(OrNoMemory::Fault(Syntax));
+    }
+    put(source, ExprNode::Call(word, arguments), rest)
+}
+
+/// What stands behind the mark that a part begins with.
+#[cycle(expr)]
+fn read_marked<'a, 't>(
+    alloc: Global,
+    context: Context,
+    source: &mut SyntaxTree,
+    guard: bool,
+    limit: u32,
+    first: Mark,
+    tokens: Tokens<'a, 't>,
+) -> Result<Operand<'a, 't>, ReadFault>
+    ensures grown { Grown source.old source.new }
+    ensures stands { IfOk result (λ x. ExprRepresents source.new.node_table x.expr) }
+    ensures given { Gives (seen source.new.node_table) result
+        (marked (parse_expr (names_of context.entry) guard limit top) first (tokens_in tokens.entry)) }
+{
+    match first {
+        Mark::OpenParenthesis => {
+            let part = read_level(alloc, context, source, guard, limit, TOP, tokens)?;
+            let rest = behind(part.rest, NumberedKind::Mark(Mark::CloseParenthesis))?;
+            let node = ExprNode::Parentheses(part.expr);
+            put(source, node, rest)
+        }
+        Mark::OpenBrace => {
+            let item = Item::Expression(guard);
+            let last = Mark::CloseBrace;
+            let (parts, rest) = read_until(alloc, context, source, item, limit, last, tokens)?;
+            put(source, ExprNode::Tuple(parts), rest)
+        }
+        Mark::OpenBracket => read_list(alloc, context, source, guard, limit, tokens),
+        _ => Err(OrNoMemory::Fault(Syntax)),
+    }
+}
+
+/// What stands behind an opening bracket: elements, and a tail behind a bar or none.
+#[cycle(expr)]
+fn read_list<'a, 't>(
+    alloc: Global,
+    context: Context,
+    source: &mut SyntaxTree,
+    guard: bool,
+    limit: u32,
+    tokens: Tokens<'a, 't>,
+) -> Result<Operand<'a, 't>, ReadFault>
+    ensures grown { Grown source.old source.new }
+    ensures stands { IfOk result (λ x. ExprRepresents source.new.node_table x.expr) }
+    ensures given { Gives (seen source.new.node_table) result
+        (list (parse_expr (names_of context.entry) guard limit top) (tokens_in tokens.entry)) }
+{
+    if let Some(rest) = skip(tokens, NumberedKind::Mark(Mark::CloseBracket)) {
+        return put(source, ExprNode::List(Vec::new(alloc)), rest);
+    }
+    let item = Item::Expression(guard);
+    let (parts, rest) = read_items(alloc, context, source, item, limit, tokens)?;
+    match skip(rest, NumberedKind::Mark(Mark::Bar)) {
+        None => {
+            let rest = behind(rest, NumberedKind::Mark(Mark::CloseBracket))?;
+            put(source, ExprNode::List(parts), rest)
+        }
+        Some(rest) => {
+            let tail = read_level(alloc, context, source, guard, limit, TOP, rest)?;
+            let rest = behind(tail.rest, NumberedKind::Mark(Mark::CloseBracket))?;
+            let node = ExprNode::ListOn(parts, tail.expr);
+            put(source, node, rest)
+        }
+    }
+}
+
+/// A part, behind a minus or not.
+#[cycle(expr)]
+fn read_unary<'a, 't>(
+    alloc: Global,
+    context: Context,
+    source: &mut SyntaxTree,
+    guard: bool,
+    limit: u32,
+    tokens: Tokens<'a, 't>,
+) -> Result<Operand<'a, 't>, ReadFault>
+    requires { 0 < limit }
+    ensures grown { Grown source.old source.new }
+    ensures stands { IfOk result (λ x. ExprRepresents source.new.node_table x.expr) }
+    ensures given { Gives (seen source.new.node_table) result
+        (unary (prim (names_of context.entry) guard limit) limit (tokens_in tokens.entry)) }
+{
+    match skip(tokens, NumberedKind::Mark(Mark::Minus)) {
+        None => read_prim(alloc, context, source, guard, limit, tokens),
+        Some(rest) => {
+            let part = read_prim(alloc, context, source, guard, limit, rest)?;
+            let negation = ExprNode::Negate(part.expr);
+            put_within(source, limit, negation, part.rest)
+        }
+    }
+}
+
+/// An expression of at most this level, in a guard where the flag says so.
+#[cycle(expr)]
+fn read_level<'a, 't>(
+    alloc: Global,
+    context: Context,
+    source: &mut SyntaxTree,
+    guard: bool,
+    limit: u32,
+    level: u32,
+    tokens: Tokens<'a, 't>,
+) -> Result<Operand<'a, 't>, ReadFault>
+    ensures grown { Grown source.old source.new }
+    ensures stands { IfOk result (λ x. ExprRepresents source.new.node_table x.expr) }
+    ensures given { Gives (seen source.new.node_table) result
+        (parse_expr (names_of context.entry) guard limit level (tokens_in tokens.entry)) }
+{
+    if limit == 0 {
+        return Err(OrNoMemory::Fault(Syntax));
+    }
+    let mut left = read_unary(alloc, context, source, guard, limit, tokens)?;
+    let mut floor = 1;
+    let turns = left.rest.list.len();
+    for _ in 0..turns {
+        let Some((infix, after)) = infix_ahead(guard, floor, level, left.rest) else {
+            return Ok(left);
+        };
+        let above = infix.right_level();
+        let right = read_level(alloc, context, source, guard, limit - 1, above, after)?;
+        let node = joined(infix, left.expr, right.expr);
+        left = put_within(source, limit, node, right.rest)?;
+        floor = infix.level();
+    }
+    Ok(left)
+}
+
+/// What stands between commas.
+#[derive(Clone, Copy)]
+enum Item {
+    /// An expression, which is no match, in a guard where the flag says so.
+    Expression(bool),
+    /// An element of a body, which may be a match.
+    Element,
+}
+
+/// An element of a body: an expression, or a match.
+#[cycle(expr)]
+fn read_element<'a, 't>(
+    alloc: Global,
+    context: Context,
+    source: &mut SyntaxTree,
+    limit: u32,
+    tokens: Tokens<'a, 't>,
+) -> Result<Operand<'a, 't>, ReadFault>
+    ensures grown { Grown source.old source.new }
+    ensures stands { IfOk result (λ x. ExprRepresents source.new.node_table x.expr) }
+    ensures given { Gives (seen source.new.node_table) result
+        (element (names_of context.entry) limit (tokens_in tokens.entry)) }
+{
+    if limit == 0 {
+        return Err(OrNoMemory::Fault(Syntax));
+    }
+    match read_match_ahead(alloc, context, source, limit - 1, tokens)? {
+        None => read_level(alloc, context, source, false, limit, TOP, tokens),
+        Some(ahead) => {
+            let part = read_element(alloc, context, source, limit - 1, ahead.rest)?;
+            let node = ExprNode::Match(ahead.expr_pattern, part.expr);
+            put_within(source, limit, node, part.rest)
+        }
+    }
+}
+
+/// An expression, or an element of a body.
+#[cycle(expr)]
+fn read_item<'a, 't>(
+    alloc: Global,
+    context: Context,
+    source: &mut SyntaxTree,
+    item: Item,
+    limit: u32,
+    tokens: Tokens<'a, 't>,
+) -> Result<Operand<'a, 't>, ReadFault>
+    ensures grown { Grown source.old source.new }
+    ensures stands { IfOk result (λ x. ExprRepresents source.new.node_table x.expr) }
+    ensures given { Gives (seen source.new.node_table) result
+        (item_at (names_of context.entry) item limit (tokens_in tokens.entry)) }
+{
+    match item {
+        Item::Expression(guard) => read_level(alloc, context, source, guard, limit, TOP, tokens),
+        Item::Element => read_element(alloc, context, source, limit, tokens),
+    }
+}
+
+/// Expressions, or elements of a body, with commas between them.
+#[cycle(expr)]
+fn read_items<'a, 't>(
+    alloc: Global,
+    context: Context,
+    source: &mut SyntaxTree,
+    item: Item,
+    limit: u32,
+    tokens: Tokens<'a, 't>,
+) -> Result<(Vec<ExprId>, Tokens<'a, 't>), ReadFault>
+    ensures grown { Grown source.old source.new }
+    ensures stands { IfOk result (λ x. All (ExprRepresents source.new.node_table) x.0.items) }
+    ensures given { Gives (λ x. (
+      map
+          (expr_of source.new.node_table) x.0.items,
+      tokens_in x.1,
+    )) result
+        (items (mark Comma) (item_at (names_of context.entry) item limit) (length (tokens_in tokens.entry))
+        (tokens_in tokens.entry)) }
+{
+    let mut found = Vec::new(alloc);
+    let mut rest = tokens;
+    for _ in 0..tokens.list.len() {
+        let part = read_item(alloc, context, source, item, limit, rest)?;
+        found.push(part.expr)?;
+        let Some(after) = skip(part.rest, NumberedKind::Mark(Mark::Comma)) else {
+            return Ok((found, part.rest));
+        };
+        rest = after;
+    }
+    Err(OrNoMemory::Fault(Syntax))
+}
+
+/// Expressions with commas between them, or none, before this mark.
+#[cycle(expr)]
+fn read_until<'a, 't>(
+    alloc: Global,
+    context: Context,
+    source: &mut SyntaxTree,
+    item: Item,
+    limit: u32,
+    last: Mark,
+    tokens: Tokens<'a, 't>,
+) -> Result<(Vec<ExprId>, Tokens<'a, 't>), ReadFault>
+    ensures grown { Grown source.old source.new }
+    ensures stands { IfOk result (λ x. All (ExprRepresents source.new.node_table) x.0.items) }
+    ensures given { Gives (λ x. (
+      map
+          (expr_of source.new.node_table) x.0.items,
+      tokens_in x.1,
+    )) result
+        (until (mark last) (item_at (names_of context.entry) item limit) (tokens_in tokens.entry)) }
+{
+    if let Some(rest) = skip(tokens, NumberedKind::Mark(last)) {
+        return Ok((Vec::new(alloc), rest));
+    }
+    let (parts, rest) = read_items(alloc, context, source, item, limit, tokens)?;
+    let rest = behind(rest, NumberedKind::Mark(last))?;
+    Ok((parts, rest))
+}
+
+/// A body: elements with commas between them.
+pub(crate) fn read_body<'a, 't>(
+    alloc: Global,
+    context: Context,
+    source: &mut SyntaxTree,
+    limit: u32,
+    tokens: Tokens<'a, 't>,
+) -> Result<(Vec<ExprId>, Tokens<'a, 't>), ReadFault>
+    ensures grown { Grown source.old source.new }
+    ensures stands { IfOk result (λ x. All (ExprRepresents source.new.node_table) x.0.items) }
+    ensures given { Gives (λ x. (
+      map
+          (expr_of source.new.node_table) x.0.items,
+      tokens_in x.1,
+    )) result
+        (body (element (names_of context.entry) limit) (tokens_in tokens.entry)) }
+{
+    read_items(alloc, context, source, Item::Element, limit, tokens)
+}
+
+/// A guard: alternatives with semicolons between them, each tests with commas between them.
+#[cycle(expr)]
+fn read_guard<'a, 't>(
+    alloc: Global,
+    context: Context,
+    source: &mut SyntaxTree,
+    limit: u32,
+    tokens: Tokens<'a, 't>,
+) -> Result<(Condition, Tokens<'a, 't>), ReadFault>
+    ensures grown { Grown source.old source.new }
+    ensures stands { IfOk result (λ x. ConditionRepresents source.new.node_table x.0) }
+    ensures given { Gives (λ x. (condition_over source.new.node_table x.0, tokens_in x.1)) result
+        (guard (parse_expr (names_of context.entry) true limit top) (tokens_in tokens.entry)) }
+{
+    let mut alternatives = Vec::new(alloc);
+    let mut rest = tokens;
+    for _ in 0..tokens.list.len() {
+        let item = Item::Expression(true);
+        let (tests, behind_it) = read_items(alloc, context, source, item, limit, rest)?;
+        alternatives.push(Tests { tests })?;
+        let Some(after) = skip(behind_it, NumberedKind::Mark(Mark::Semicolon)) else {
+            return Ok((Condition { alternatives }, behind_it));
+        };
+        rest = after;
+    }
+    Err(OrNoMemory::Fault(Syntax))
+}
+
+/// A guard behind `when`, or none.
+#[cycle(expr)]
+pub(crate) fn read_when<'a, 't>(
+    alloc: Global,
+    context: Context,
+    source: &mut SyntaxTree,
+    limit: u32,
+    tokens: Tokens<'a, 't>,
+) -> Result<(Condition, Tokens<'a, 't>), ReadFault>
+    ensures grown { Grown source.old source.new }
+    ensures stands { IfOk result (λ x. ConditionRepresents source.new.node_table x.0) }
+    ensures given { Gives (λ x. (condition_over source.new.node_table x.0, tokens_in x.1)) result
+        (when (parse_expr (names_of context.entry) true limit top) (tokens_in tokens.entry)) }
+{
+    match skip(tokens, NumberedKind::Reserved(Reserved::When)) {
+        None => {
+            let condition = unguarded(alloc)?;
+            Ok((condition, tokens))
+        }
+        Some(rest) => read_guard(alloc, context, source, limit, rest),
+    }
+}
+
+/// What stands before the arrow of a clause: in an `if`, where the flag says so, a guard alone.
+#[cycle(expr)]
+fn read_front<'a, 't>(
+    alloc: Global,
+    context: Context,
+    source: &mut SyntaxTree,
+    choice: bool,
+    limit: u32,
+    tokens: Tokens<'a, 't>,
+) -> Result<FrontPart<'a, 't>, ReadFault>
+    ensures grown { Grown source.old source.new }
+    ensures stands { IfOk result (λ x. FrontRepresents source.new.node_table x) }
+    ensures given { Gives (view_of_front source.new.node_table) result
+        (front (readers (names_of context.entry) limit) choice (tokens_in tokens.entry)) }
+{
+    if choice {
+        let part = put_expr_pattern(source, ExprPatternNode::Anything, tokens)?;
+        let (condition, rest) = read_guard(alloc, context, source, limit, tokens)?;
+        let expr_pattern = part.expr_pattern;
+        Ok(FrontPart {
+            expr_pattern,
+            condition,
+            rest,
+        })
+    } else {
+        let part = read_expr_pattern(alloc, context, source, limit, tokens)?;
+        let (condition, rest) = read_when(alloc, context, source, limit, part.rest)?;
+        let expr_pattern = part.expr_pattern;
+        Ok(FrontPart {
+            expr_pattern,
+            condition,
+            rest,
+        })
+    }
+}
+
+/// A clause: its front, an arrow and a body.
+#[cycle(expr)]
+fn read_clause<'a, 't>(
+    alloc: Global,
+    context: Context,
+    source: &mut SyntaxTree,
+    choice: bool,
+    limit: u32,
+    tokens: Tokens<'a, 't>,
+) -> Result<(Branch, Tokens<'a, 't>), ReadFault>
+    ensures grown { Grown source.old source.new }
+    ensures stands { IfOk result (λ x. BranchRepresents source.new.node_table x.0) }
+    ensures given { Gives (λ x. (clause_of source.new.node_table x.0, tokens_in x.1)) result
+        (clause (readers (names_of context.entry) limit) choice (tokens_in tokens.entry)) }
+{
+    let front = read_front(alloc, context, source, choice, limit, tokens)?;
+    let rest = behind(front.rest, NumberedKind::Mark(Mark::Arrow))?;
+    let (body, rest) = read_items(alloc, context, source, Item::Element, limit, rest)?;
+    let branch = Branch {
+        expr_pattern: front.expr_pattern,
+        condition: front.condition,
+        body,
+    };
+    Ok((branch, rest))
+}
+
+/// Clauses with semicolons between them.
+#[cycle(expr)]
+fn read_clauses<'a, 't>(
+    alloc: Global,
+    context: Context,
+    source: &mut SyntaxTree,
+    choice: bool,
+    limit: u32,
+    tokens: Tokens<'a, 't>,
+) -> Result<(Vec<Branch>, Tokens<'a, 't>), ReadFault>
+    ensures grown { Grown source.old source.new }
+    ensures stands { IfOk result (λ x. All (BranchRepresents source.new.node_table) x.0.items) }
+    ensures given { Gives (λ x. (map (clause_of source.new.node_table) x.0.items, tokens_in x.1)) result
+        (items (mark Semicolon) (clause (readers (names_of context.entry) limit) choice)
+        (length (tokens_in tokens.entry)) (tokens_in tokens.entry)) }
+{
+    let mut found = Vec::new(alloc);
+    let mut rest = tokens;
+    for _ in 0..tokens.list.len() {
+        let (branch, behind_it) = read_clause(alloc, context, source, choice, limit, rest)?;
+        found.push(branch)?;
+        let Some(after) = skip(behind_it, NumberedKind::Mark(Mark::Semicolon)) else {
+            return Ok((found, behind_it));
+        };
+        rest = after;
+    }
+    Err(OrNoMemory::Fault(Syntax))
+}
+
+/// Clauses up to `end`, which is read too.
+#[cycle(expr)]
+fn read_branches<'a, 't>(
+    alloc: Global,
+    context: Context,
+    source: &mut SyntaxTree,
+    choice: bool,
+    limit: u32,
+    tokens: Tokens<'a, 't>,
+) -> Result<(Vec<Branch>, Tokens<'a, 't>), ReadFault>
+    ensures grown { Grown source.old source.new }
+    ensures stands { IfOk result (λ x. All (BranchRepresents source.new.node_table) x.0.items) }
+    ensures given { Gives (λ x. (branches_over source.new.node_table x.0.items, tokens_in x.1)) result
+        (branches (readers (names_of context.entry) limit) choice (tokens_in tokens.entry)) }
+{
+    let (found, rest) = read_clauses(alloc, context, source, choice, limit, tokens)?;
+    let rest = behind(rest, NumberedKind::Reserved(Reserved::End))?;
+    Ok((found, rest))
+}
+
+/// What stands behind `case`.
+#[cycle(expr)]
+fn read_case<'a, 't>(
+    alloc: Global,
+    context: Context,
+    source: &mut SyntaxTree,
+    guard: bool,
+    limit: u32,
+    tokens: Tokens<'a, 't>,
+) -> Result<Operand<'a, 't>, ReadFault>
+    ensures grown { Grown source.old source.new }
+    ensures stands { IfOk result (λ x. ExprRepresents source.new.node_table x.expr) }
+    ensures given { Gives (seen source.new.node_table) result
+        (case_of (readers (names_of context.entry) limit) (parse_expr (names_of context.entry) guard limit top)
+        (tokens_in tokens.entry)) }
+{
+    let subject = read_level(alloc, context, source, guard, limit, TOP, tokens)?;
+    let rest = behind(subject.rest, NumberedKind::Reserved(Reserved::Of))?;
+    let (found, rest) = read_branches(alloc, context, source, false, limit, rest)?;
+    let node = ExprNode::Case(subject.expr, found);
+    put(source, node, rest)
+}
+
+/// What stands behind the reserved word that a part begins with.
+#[cycle(expr)]
+fn read_worded<'a, 't>(
+    alloc: Global,
+    context: Context,
+    source: &mut SyntaxTree,
+    guard: bool,
+    limit: u32,
+    first: Reserved,
+    tokens: Tokens<'a, 't>,
+) -> Result<Operand<'a, 't>, ReadFault>
+    ensures grown { Grown source.old source.new }
+    ensures stands { IfOk result (λ x. ExprRepresents source.new.node_table x.expr) }
+    ensures given { Gives (seen source.new.node_table) result
+        (worded (readers (names_of context.entry) limit) guard
+        (parse_expr (names_of context.entry) guard limit top) first (tokens_in tokens.entry)) }
+{
+    match first {
+        Reserved::Case if may_stand(guard, Form::Deciding) => {
+            read_case(alloc, context, source, guard, limit, tokens)
+        }
+        Reserved::If if may_stand(guard, Form::Choosing) => {
+            let (found, rest) = read_branches(alloc, context, source, true, limit, tokens)?;
+            put(source, ExprNode::If(found), rest)
+        }
+        Reserved::Receive if may_stand(guard, Form::Receiving) => {
+            let (found, rest) = read_branches(alloc, context, source, false, limit, tokens)?;
+            put(source, ExprNode::Receive(found), rest)
+        }
+        _ => Err(OrNoMemory::Fault(Syntax)),
+    }
+}

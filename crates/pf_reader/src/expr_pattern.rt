@@ -1,0 +1,268 @@
+//! Patterns. Each call below takes the depth that a pattern may still have, which bounds the recursion too.
+
+ghost use Rattle.std.specs.Prelude.{◌≡◌, ℕ, length, IfErr, IfOk, map, option_map, IfSome, None, true};
+ghost use Rattle.std.specs.List.{All};
+ghost use Rattle.pf_syntax.specs.SyntaxTreeOver.{ExprPatternRepresents};
+ghost use Rattle.pf_tokens.specs.declared.marks.Mark.TheVariants.{Comma};
+ghost use Rattle.pf_intern.specs.NumberedTokens.{mark};
+ghost use Rattle.pf_grammar.specs.Grammar.{Names};
+ghost use Rattle.pf_grammar.specs.Parse.{items, list_expr_pattern, marked_expr_pattern, match_ahead, negative, pattern, pattern_with, until};
+ghost use Rattle.pf_reader.specs.View.{names_of, tokens_in};
+ghost use Rattle.pf_reader.specs.Given.{seen_expr_pattern, expr_pattern_of, Gives, Grown};
+
+use crate::fault::{ReadFault, Syntax};
+use crate::part::{ExprPatternPart, put_expr_pattern, put_expr_pattern_text};
+use crate::token::{Context, Tokens, behind, read_number, skip};
+use pf_fault::{NoMemory, OrNoMemory};
+use pf_intern::NumberedKind;
+use pf_syntax::{ExprPatternId, ExprPatternNode, Ident, SyntaxTree};
+use pf_tokens::Mark;
+use std::alloc::Global;
+
+/// An integer behind a minus, as a pattern.
+fn read_negative<'a, 't>(
+    source: &mut SyntaxTree,
+    tokens: Tokens<'a, 't>,
+) -> Result<ExprPatternPart<'a, 't>, ReadFault>
+    ensures grown { Grown source.old source.new }
+    ensures stands { IfOk result (λ p. ExprPatternRepresents source.new.node_table p.expr_pattern) }
+    ensures given { Gives (seen_expr_pattern source.new.node_table) result
+        (negative (tokens_in tokens.entry)) }
+{
+    match read_number(tokens) {
+        Some((n, rest)) => put_expr_pattern(
+            source,
+            ExprPatternNode::Integer(-(n.value as i64)),
+            rest,
+        ),
+        None => Err(OrNoMemory::Fault(Syntax)),
+    }
+}
+
+/// A pattern.
+#[cycle(expr_pattern)]
+pub(crate) fn read_expr_pattern<'a, 't>(
+    alloc: Global,
+    context: Context,
+    source: &mut SyntaxTree,
+    limit: u32,
+    tokens: Tokens<'a, 't>,
+) -> Result<ExprPatternPart<'a, 't>, ReadFault>
+    ensures grown { Grown source.old source.new }
+    ensures stands { IfOk result (λ p. ExprPatternRepresents source.new.node_table p.expr_pattern) }
+    ensures given { Gives (seen_expr_pattern source.new.node_table) result
+        (pattern (names_of context.entry) limit (tokens_in tokens.entry)) }
+{
+    if limit == 0 {
+        return Err(OrNoMemory::Fault(Syntax));
+    }
+    read_begun(alloc, context, source, limit - 1, tokens)
+}
+
+/// A pattern whose parts may be as deep as the limit.
+#[cycle(expr_pattern)]
+fn read_begun<'a, 't>(
+    alloc: Global,
+    context: Context,
+    source: &mut SyntaxTree,
+    limit: u32,
+    tokens: Tokens<'a, 't>,
+) -> Result<ExprPatternPart<'a, 't>, ReadFault>
+    ensures grown { Grown source.old source.new }
+    ensures stands { IfOk result (λ p. ExprPatternRepresents source.new.node_table p.expr_pattern) }
+    ensures given { Gives (seen_expr_pattern source.new.node_table) result
+        (pattern_with (names_of context.entry) (pattern (names_of context.entry) limit)
+        (tokens_in tokens.entry)) }
+{
+    let Some((first, rest)) = tokens.first() else {
+        return Err(OrNoMemory::Fault(Syntax));
+    };
+    let offset = first.at;
+    match first.kind {
+        NumberedKind::Integer(n) => put_expr_pattern(
+            source,
+            ExprPatternNode::Integer(n.value as i64),
+            rest,
+        ),
+        NumberedKind::Text(text) => put_expr_pattern_text(alloc, source, text, rest),
+        NumberedKind::Variable(name) => put_expr_pattern(
+            source,
+            ExprPatternNode::Variable(Ident { name, offset }),
+            rest,
+        ),
+        NumberedKind::Anonymous => put_expr_pattern(source, ExprPatternNode::Anything, rest),
+        NumberedKind::Mark(mark) => read_marked(alloc, context, source, limit, mark, rest),
+        kind => match context.atom(kind) {
+            Some(atom) => put_expr_pattern(source, ExprPatternNode::Atom(atom), rest),
+            None => Err(OrNoMemory::Fault(Syntax)),
+        },
+    }
+}
+
+/// What stands behind the mark that a pattern begins with.
+#[cycle(expr_pattern)]
+fn read_marked<'a, 't>(
+    alloc: Global,
+    context: Context,
+    source: &mut SyntaxTree,
+    limit: u32,
+    first: Mark,
+    tokens: Tokens<'a, 't>,
+) -> Result<ExprPatternPart<'a, 't>, ReadFault>
+    ensures grown { Grown source.old source.new }
+    ensures stands { IfOk result (λ p. ExprPatternRepresents source.new.node_table p.expr_pattern) }
+    ensures given { Gives (seen_expr_pattern source.new.node_table) result
+        (marked_expr_pattern (pattern (names_of context.entry) limit) first (tokens_in tokens.entry)) }
+{
+    match first {
+        Mark::Minus => read_negative(source, tokens),
+        Mark::OpenBrace => {
+            let (parts, rest) = read_expr_patterns(
+                alloc,
+                context,
+                source,
+                limit,
+                Mark::CloseBrace,
+                tokens,
+            )?;
+            put_expr_pattern(source, ExprPatternNode::Tuple(parts), rest)
+        }
+        Mark::OpenBracket => read_list(alloc, context, source, limit, tokens),
+        _ => Err(OrNoMemory::Fault(Syntax)),
+    }
+}
+
+/// What stands behind an opening bracket: elements, and a tail behind a bar or none.
+#[cycle(expr_pattern)]
+fn read_list<'a, 't>(
+    alloc: Global,
+    context: Context,
+    source: &mut SyntaxTree,
+    limit: u32,
+    tokens: Tokens<'a, 't>,
+) -> Result<ExprPatternPart<'a, 't>, ReadFault>
+    ensures grown { Grown source.old source.new }
+    ensures stands { IfOk result (λ p. ExprPatternRepresents source.new.node_table p.expr_pattern) }
+    ensures given { Gives (seen_expr_pattern source.new.node_table) result
+        (list_expr_pattern (pattern (names_of context.entry) limit) (tokens_in tokens.entry)) }
+{
+    if let Some(rest) = skip(tokens, NumberedKind::Mark(Mark::CloseBracket)) {
+        return put_expr_pattern(source, ExprPatternNode::List(Vec::new(alloc)), rest);
+    }
+    let (parts, rest) = read_expr_pattern_items(alloc, context, source, limit, tokens)?;
+    match skip(rest, NumberedKind::Mark(Mark::Bar)) {
+        None => {
+            let rest = behind(rest, NumberedKind::Mark(Mark::CloseBracket))?;
+            put_expr_pattern(source, ExprPatternNode::List(parts), rest)
+        }
+        Some(rest) => {
+            let tail = read_expr_pattern(alloc, context, source, limit, rest)?;
+            let rest = behind(tail.rest, NumberedKind::Mark(Mark::CloseBracket))?;
+            let node = ExprPatternNode::ListOn(parts, tail.expr_pattern);
+            put_expr_pattern(source, node, rest)
+        }
+    }
+}
+
+/// Patterns with commas between them.
+#[cycle(expr_pattern)]
+fn read_expr_pattern_items<'a, 't>(
+    alloc: Global,
+    context: Context,
+    source: &mut SyntaxTree,
+    limit: u32,
+    tokens: Tokens<'a, 't>,
+) -> Result<(Vec<ExprPatternId>, Tokens<'a, 't>), ReadFault>
+    ensures grown { Grown source.old source.new }
+    ensures stands { IfOk result (λ x. All (ExprPatternRepresents source.new.node_table) x.0.items) }
+    ensures given { Gives (λ x. (
+      map
+          (expr_pattern_of source.new.node_table) x.0.items,
+      tokens_in x.1,
+    )) result
+        (items (mark Comma) (pattern (names_of context.entry) limit) (length (tokens_in tokens.entry))
+        (tokens_in tokens.entry)) }
+{
+    let mut found = Vec::new(alloc);
+    let mut rest = tokens;
+    for _ in 0..tokens.list.len() {
+        let part = read_expr_pattern(alloc, context, source, limit, rest)?;
+        found.push(part.expr_pattern)?;
+        let Some(after) = skip(part.rest, NumberedKind::Mark(Mark::Comma)) else {
+            return Ok((found, part.rest));
+        };
+        rest = after;
+    }
+    Err(OrNoMemory::Fault(Syntax))
+}
+
+/// Patterns with commas between them, or none, before this mark.
+#[cycle(expr_pattern)]
+pub(crate) fn read_expr_patterns<'a, 't>(
+    alloc: Global,
+    context: Context,
+    source: &mut SyntaxTree,
+    limit: u32,
+    last: Mark,
+    tokens: Tokens<'a, 't>,
+) -> Result<(Vec<ExprPatternId>, Tokens<'a, 't>), ReadFault>
+    ensures grown { Grown source.old source.new }
+    ensures stands { IfOk result (λ x. All (ExprPatternRepresents source.new.node_table) x.0.items) }
+    ensures given { Gives (λ x. (
+      map
+          (expr_pattern_of source.new.node_table) x.0.items,
+      tokens_in x.1,
+    )) result
+        (until (mark last) (pattern (names_of context.entry) limit) (tokens_in tokens.entry)) }
+{
+    if let Some(rest) = skip(tokens, NumberedKind::Mark(last)) {
+        return Ok((Vec::new(alloc), rest));
+    }
+    let (parts, rest) = read_expr_pattern_items(alloc, context, source, limit, tokens)?;
+    let rest = behind(rest, NumberedKind::Mark(last))?;
+    Ok((parts, rest))
+}
+
+/// Whether two tokens tell that no match begins here: the first is a pattern alone or none, and no `=` stands behind it.
+fn has_no_match(tokens: Tokens) -> bool
+    ensures { result ≡ true → (n : Names) → (limit : ℕ) → match_ahead (pattern n limit)
+        (tokens_in tokens.entry) ≡ None }
+{
+    match tokens.first() {
+        Some((first, rest)) => match first.kind {
+            NumberedKind::Mark(_) => false,
+            _ => skip(rest, NumberedKind::Mark(Mark::Match)).is_none(),
+        },
+        None => true,
+    }
+}
+
+/// A pattern before `=`, where one stands first, and what follows both.
+pub(crate) fn read_match_ahead<'a, 't>(
+    alloc: Global,
+    context: Context,
+    source: &mut SyntaxTree,
+    limit: u32,
+    tokens: Tokens<'a, 't>,
+) -> Result<Option<ExprPatternPart<'a, 't>>, NoMemory>
+    ensures grown { Grown source.old source.new }
+    ensures stands { IfOk result (λ o. IfSome o
+        (λ p. ExprPatternRepresents source.new.node_table p.expr_pattern)) }
+    ensures given { IfOk result (λ o. option_map (seen_expr_pattern source.new.node_table) o ≡ match_ahead
+        (pattern (names_of context.entry) limit) (tokens_in tokens.entry)) }
+{
+    if has_no_match(tokens) {
+        return Ok(None);
+    }
+    match read_expr_pattern(alloc, context, source, limit, tokens) {
+        Ok(part) => match skip(part.rest, NumberedKind::Mark(Mark::Match)) {
+            Some(rest) => Ok(Some(ExprPatternPart {
+                expr_pattern: part.expr_pattern,
+                rest,
+            })),
+            None => Ok(None),
+        },
+        Err(OrNoMemory::Fault(Syntax)) => Ok(None),
+        Err(OrNoMemory::NoMemory) => Err(NoMemory),
+    }
+}

@@ -1,0 +1,27 @@
+-- What a hunt comes to may go to another thread: a lemma a type, each from those of its parts.
+use denote.Param.Send.{IsSend, recorded_send, sendable}
+use Rattle.std.proofs.Crossing as heap
+use Rattle.pf_model.proofs.Crossing as model
+use Rattle.pf_seeds.specs.contracts.failure.Failure as Failure
+use Rattle.pf_seeds.specs.contracts.row.Row as Row
+use Rattle.pf_seeds.specs.contracts.tally.Tally as Tally
+
+pub failure_field_send : IsSend (Failure.the_field).row
+failure_field_send = search (model.sends, sendable) depth 30
+
+pub failure_send : IsSend Failure.the_row
+failure_send = recorded_send (Failure.the_field).row _ _ (Failure.the_type).to_one failure_field_send
+
+row_field_send : IsSend (Row.the_field).row
+row_field_send = search (model.sends, sendable) depth 30
+
+row_send : IsSend Row.the_row
+row_send = recorded_send (Row.the_field).row _ _ (Row.the_type).to_one row_field_send
+
+pub tally_field_send : IsSend (Tally.the_field).row
+tally_field_send = search (row_send, heap.crosses, sendable) depth 30
+
+pub tally_send : IsSend Tally.the_row
+tally_send = recorded_send (Tally.the_field).row _ _ (Tally.the_type).to_one tally_field_send
+
+pub ruleset crosses = (failure_field_send, failure_send, tally_field_send, tally_send)

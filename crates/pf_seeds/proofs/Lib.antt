@@ -1,0 +1,4 @@
+pub mod Firsts
+pub mod Counting
+pub mod Indices
+pub mod Crossing

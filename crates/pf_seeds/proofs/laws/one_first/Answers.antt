@@ -1,0 +1,5 @@
+use Rattle.pf_seeds.proofs.Firsts.{one_first}
+use Rattle.pf_seeds.proofs.laws.one_first.Goals as goal
+
+pub returns : goal.returns
+returns c = one_first

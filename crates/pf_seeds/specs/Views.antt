@@ -1,0 +1,29 @@
+-- What the code's own failures and rows stand for.
+use Rattle.std.specs.Prelude.{◌≡◌, ◌<◌, ℕ, true, false, List, map, slice_get, Some}
+use Rattle.pf_model.specs.Meaning.{Report}
+use Rattle.pf_model.specs.Reports.{report_of}
+use Rattle.pf_seeds.specs.Rows as rows
+use Rattle.pf_seeds.specs.Rows.{is_like}
+use Rattle.pf_seeds.specs.declared.failure.Failure.{Failure}
+use Rattle.pf_seeds.specs.declared.row.Row.{Row}
+use Rattle.pf_seeds.specs.declared.tally.Tally.{Tally}
+
+abbrev pub failure_of : Failure → ℕ × Report
+failure_of f = (f.seed, report_of f.report)
+
+abbrev pub row_of : Row → rows.Row
+row_of x = record { verdict = x.verdict; outcome = x.outcome; count = x.count; least = x.least }
+
+abbrev pub rows_in : List Row → List rows.Row
+rows_in xs = map row_of xs
+
+abbrev pub rows_of : Tally → List rows.Row
+rows_of t = rows_in t.rows.items
+
+-- no row before this index is of the same outcome with the same verdict
+abbrev pub NoneBefore : List Row → Row → ℕ → Type 0
+NoneBefore xs y i = (k : ℕ) (x : Row) → k < i → slice_get xs k ≡ Some x → is_like (row_of x) (row_of y) ≡ false
+
+-- the first row at this index that is of the same outcome with the same verdict
+abbrev pub IsFirstLike : List Row → Row → ℕ → Type 0
+IsFirstLike xs y i = NoneBefore xs y i × ((x : Row) × (slice_get xs i ≡ Some x) × (is_like (row_of x) (row_of y) ≡ true))

@@ -1,0 +1,28 @@
+//! Laws of the definitions: functions with empty bodies, whose contracts are the laws.
+
+ghost use Rattle.pf_seeds.specs.Laws.{EachIsCounted, LikeIsSame, OneFirst, OneTally, PartsAreTheWhole};
+
+/// Seeds have one least that fails.
+pub fn one_first()
+    ensures { OneFirst }
+{}
+
+/// Seeds have one tally.
+pub fn one_tally()
+    ensures { OneTally }
+{}
+
+/// Each seed is counted once.
+pub fn each_is_counted()
+    ensures { EachIsCounted }
+{}
+
+/// Rows are joined if they are of one outcome with one verdict, and only then.
+pub fn like_is_same()
+    ensures { LikeIsSame }
+{}
+
+/// The rows of two parts, one after the other, are those of the whole.
+pub fn parts_are_the_whole()
+    ensures { PartsAreTheWhole }
+{}

@@ -1,0 +1,21 @@
+//! Hunts over seeds: the least seed whose run fails a property, or each outcome that is met, by as many workers as there are.
+#![tactic(auto)]
+
+mod blocks;
+mod failure;
+mod hash;
+pub mod laws;
+mod observer;
+mod row;
+mod seeded;
+mod tally;
+mod workers;
+
+pub use blocks::{first_failing, tally_all};
+pub use failure::{Failure, first_in};
+pub use hash::HashedOutcome;
+pub use observer::HuntObserver;
+pub use row::Row;
+pub use seeded::run_by_seed;
+pub use tally::{Tally, tally_in};
+pub use workers::{first_of_block, tally_of_block};

@@ -1,0 +1,51 @@
+//! Outcomes that were met, and how often.
+
+ghost use Rattle.std.specs.Prelude.{◌≡◌};
+ghost use Rattle.pf_model.specs.Reports.{report_of};
+ghost use Rattle.pf_seeds.specs.Rows as rows;
+ghost use Rattle.pf_seeds.specs.Rows.{met};
+ghost use Rattle.pf_seeds.specs.Views.{row_of};
+
+use crate::hash::HashedOutcome;
+use pf_model::report::Report;
+
+/// An outcome with the verdict of the property, by how many seeds it was met, and the least of these.
+#[derive(Drop)]
+pub struct Row {
+    pub verdict: Option<bool>,
+    pub outcome: HashedOutcome,
+    pub count: u64,
+    pub least: u64,
+}
+
+/// Whether two verdicts are one.
+fn same_verdict(a: Option<bool>, b: Option<bool>) -> bool
+    ensures { result ≡ rows.same_verdict a b }
+{
+    match (a, b) {
+        (None, None) => true,
+        (Some(a), Some(b)) => a == b,
+        _ => false,
+    }
+}
+
+impl Row {
+    /// The row of the one run by a seed.
+    pub fn met(seed: u64, report: Report) -> Row
+        ensures { row_of result ≡ met seed (report_of report) }
+    {
+        Row {
+            verdict: report.verdict,
+            outcome: HashedOutcome::new(report.outcome),
+            count: 1,
+            least: seed,
+        }
+    }
+
+    /// Whether two rows are of one outcome with one verdict.
+    pub fn is_like(&self, other: &Row) -> bool
+        ensures { result ≡ rows.is_like (row_of self.now) (row_of other.now) }
+    {
+        same_verdict(self.verdict, other.verdict) && self.outcome.is(&other.outcome)
+    }
+}

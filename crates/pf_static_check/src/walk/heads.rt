@@ -1,0 +1,66 @@
+//! The walk over the clauses of functions, each of which begins with no variable.
+
+ghost use Rattle.std.specs.Prelude.{flat_map, map, OnOk};
+ghost use Rattle.pf_syntax.specs.SyntaxTreeOver.{head_over, heads_over};
+ghost use Rattle.pf_rules.specs.Static.{head_faults, names_of};
+ghost use Rattle.pf_rules.specs.Listing.{Lists};
+ghost use Rattle.pf_static_check.specs.Walking.{BeginsAnew};
+
+use crate::walk::Walk;
+use pf_rules::Signatures;
+use pf_syntax::{Head, SyntaxTree};
+use pf_terms::{AtomTable, NoMemory};
+
+impl Walk {
+    /// Through the functions of a module.
+    pub(crate) fn functions(
+        &mut self,
+        source: &SyntaxTree,
+        atoms: &AtomTable,
+        own: &Signatures,
+    ) -> Result<(), NoMemory>
+        requires { Lists own.now source.now.functions }
+        ensures { OnOk result (BeginsAnew self.old self.new (flat_map (flat_map (head_faults (names_of atoms.now source.now.functions))) source.now.functions)) }
+    {
+        for function in source.functions() {
+            self.heads(source, atoms, own, &function.heads)?;
+        }
+        Ok(())
+    }
+
+    /// Through the clauses of a function.
+    fn heads(
+        &mut self,
+        source: &SyntaxTree,
+        atoms: &AtomTable,
+        own: &Signatures,
+        heads: &[Head],
+    ) -> Result<(), NoMemory>
+        requires { Lists own.now source.now.functions }
+        ensures { OnOk result (BeginsAnew self.old self.new (flat_map (head_faults (names_of atoms.now source.now.functions)) (map (head_over source.now.node_table) heads.now))) }
+    {
+        for head in heads {
+            self.head(source, atoms, own, head)?;
+        }
+        Ok(())
+    }
+
+    /// Through a clause, behind which no variable is known again.
+    fn head(
+        &mut self,
+        source: &SyntaxTree,
+        atoms: &AtomTable,
+        own: &Signatures,
+        head: &Head,
+    ) -> Result<(), NoMemory>
+        requires { Lists own.now source.now.functions }
+        ensures { OnOk result (BeginsAnew self.old self.new (head_faults (names_of atoms.now source.now.functions) (head_over source.now.node_table head.now))) }
+    {
+        let start = self.variables.trail_len();
+        self.expr_patterns(source, &head.parameters)?;
+        self.condition(source, atoms, own, &head.condition)?;
+        self.exprs(source, atoms, own, &head.body)?;
+        self.variables.forget(start)?;
+        Ok(())
+    }
+}

@@ -1,0 +1,115 @@
+//! The nodes of a module as it is written: patterns and expressions whose parts are named by numbers. The names of atoms
+//! and functions are numbers too, of the table of atoms that stands beside the source; those of variables are numbers of another.
+
+use crate::operator::Operator;
+use pf_terms::AtomId;
+
+/// A pattern as it is written, by its number in a source.
+#[derive(Clone, Copy, PartialEq, Eq, Debug)]
+pub struct ExprPatternId(pub u32);
+
+/// An expression as it is written, by its number in a source.
+#[derive(Clone, Copy, PartialEq, Eq, Debug)]
+pub struct ExprId(pub u32);
+
+/// A name, and the offset in bytes at which it stands.
+#[derive(Clone, Copy, PartialEq, Eq, Debug)]
+pub struct Ident {
+    pub name: AtomId,
+    pub offset: u32,
+}
+
+/// A pattern as it is written (Erlang Reference Manual, "Patterns").
+#[derive(Drop)]
+pub enum ExprPatternNode {
+    /// An integer with its sign, which is no level of its own.
+    Integer(i64),
+    Atom(AtomId),
+    /// A string, by its character codes.
+    Text(Vec<u8>),
+    Variable(Ident),
+    /// `_`.
+    Anything,
+    Tuple(Vec<ExprPatternId>),
+    /// A list of these elements.
+    List(Vec<ExprPatternId>),
+    /// A list of these elements and this tail.
+    ListOn(Vec<ExprPatternId>, ExprPatternId),
+}
+
+/// An expression as it is written (Erlang Reference Manual, "Expressions").
+#[derive(Drop)]
+pub enum ExprNode {
+    Integer(i64),
+    Atom(AtomId),
+    /// A string, by its character codes.
+    Text(Vec<u8>),
+    Variable(Ident),
+    /// `_`, at this offset.
+    Anonymous(u32),
+    /// Parentheses, which are a level of their own.
+    Parentheses(ExprId),
+    Tuple(Vec<ExprId>),
+    /// A list of these elements.
+    List(Vec<ExprId>),
+    /// A list of these elements and this tail.
+    ListOn(Vec<ExprId>, ExprId),
+    /// A call by name, of an own function or of a built-in.
+    Call(Ident, Vec<ExprId>),
+    Binary(Operator, ExprId, ExprId),
+    Negate(ExprId),
+    /// `andalso`.
+    AndAlso(ExprId, ExprId),
+    /// `orelse`.
+    OrElse(ExprId, ExprId),
+    /// `!`.
+    Send(ExprId, ExprId),
+    /// `P = E`, in a body.
+    Match(ExprPatternId, ExprId),
+    Case(ExprId, Vec<Branch>),
+    /// `if`; its clauses have the pattern `_`.
+    If(Vec<Branch>),
+    Receive(Vec<Branch>),
+}
+
+/// An alternative of a guard, as it is written.
+#[derive(Drop)]
+pub struct Tests {
+    pub tests: Vec<ExprId>,
+}
+
+/// A guard as it is written. With no `when` it is one alternative with no test.
+#[derive(Drop)]
+pub struct Condition {
+    pub alternatives: Vec<Tests>,
+}
+
+/// A clause of a `case`, an `if` or a `receive`, as it is written.
+#[derive(Drop)]
+pub struct Branch {
+    pub expr_pattern: ExprPatternId,
+    pub condition: Condition,
+    pub body: Vec<ExprId>,
+}
+
+/// A clause of a function, as it is written.
+#[derive(Drop)]
+pub struct Head {
+    pub word: Ident,
+    pub parameters: Vec<ExprPatternId>,
+    pub condition: Condition,
+    pub body: Vec<ExprId>,
+}
+
+/// A function as it is written: its clauses, each with a head of its own.
+#[derive(Drop)]
+pub struct ExprFunction {
+    pub heads: Vec<Head>,
+}
+
+/// An entry of an export list.
+#[derive(Clone, Copy, PartialEq, Eq, Debug)]
+pub struct Export {
+    pub word: Ident,
+    pub arity: u64,
+}

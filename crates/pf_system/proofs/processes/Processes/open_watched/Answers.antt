@@ -1,0 +1,19 @@
+use Rattle.std.proofs.Common.{◌≡◌, ◌∙◌, subst, length}
+use Rattle.std.proofs.lemmas.Result.{IfOk-weaker}
+use Rattle.pf_model.specs.Contraction.{watching}
+use Rattle.pf_ties.specs.Ties.{opened_watched}
+use Rattle.pf_system.specs.Acts.{Tells}
+use Rattle.pf_system.proofs.Spawning.{opens_tied}
+use Rattle.pf_system.proofs.processes.Processes.open_watched.Goals as goal
+
+pub returns : goal.returns
+returns c =
+    let w = c.args.self.now in
+    let k = c.in_ok-pid.ensures in
+    let n : c.in_ok-pid.pid ≡ length w.slots.items = k.pid ∙ c.requires.shaped.ties in
+    IfOk-weaker c.told_watched.result _ _
+    (λ r h. record {
+      opens = opens_tied w c.enter.new.self c.args.life (opened_watched w.shared.ties c.args.watcher) c.open_watched.new.self k.opened c.in_ok-enter.ensures;
+      tells = subst (λ z. Tells watching z w.shared.ties.next_reference r) n (subst (λ z. Tells watching c.in_ok-pid.pid z r) k.reference h);
+    })
+    c.told_watched.ensures

@@ -1,0 +1,104 @@
+-- What a world of processes stands for.
+use Rattle.std.specs.Prelude.{◌≡◌, ◌<◌, ◌≤◌, ℕ, zero, List, Option, Some, None, Result, map, length, slice_get, slice_set}
+use Rattle.pf_terms.specs.declared.term.Term.{Term}
+use Rattle.pf_model.specs.Module.{Module, module_of}
+use Rattle.pf_model.specs.Channels.{Signal, Channels, taken, with_senders}
+use Rattle.pf_model.specs.Configuration.{Core, Configuration, Left, of, posted}
+use Rattle.pf_model.specs.Deliveries.{Deed, delivered}
+use Rattle.pf_model.specs.Ends.{ended_by}
+use Rattle.pf_model.specs.Runs.{can_go, numbers_of}
+use Rattle.pf_model.specs.Turns.{Turn}
+use Rattle.pf_model.specs.Reports.{label_of}
+use Rattle.pf_model.specs.declared.limits.TheConstants.{MOST_PROCESSES}
+use Rattle.pf_model.specs.declared.report.Label.{Label}
+use Rattle.pf_ties.specs.Laws.{ties_of}
+use Rattle.pf_stepper.specs.MachineView.{Standing}
+use Rattle.pf_system.specs.Bodies.{Body, bodies_of, core_with}
+use Rattle.pf_system.specs.Slots.{slot_body, SlotIsSound, SlotsAreSound, SlotIsLeft, end_of}
+use Rattle.pf_system.specs.declared.slot.Slot.{Slot}
+use Rattle.pf_system.specs.declared.processes.Processes.{Processes}
+
+abbrev pub module_in : Processes → Module
+module_in w = module_of w.basis.module.value
+
+abbrev pub bodies_in : Processes → List Body
+bodies_in w = map slot_body w.slots.items
+
+abbrev pub core_of : Processes → Core
+core_of w = core_with (bodies_in w) w.shared.ties w.basis.most
+
+abbrev pub configuration_of : Processes → Configuration
+configuration_of w = record { core = core_of w; channels = w.shared.channels }
+
+-- there is a row of channels for each process, and not too many processes; how many there may be is no more than may be stored
+pub record IsRoomy (w : Processes) (c : Core) : Type 0 where
+  pub rows : length c.processes ≤ length w.shared.channels
+  pub few : length c.processes ≤ MOST_PROCESSES
+  pub most : c.most ≡ w.basis.most
+  pub within : w.basis.most ≤ MOST_PROCESSES
+
+-- the world stands for this core, with any channels, and those processes are noted that can go
+pub record Represents (w : Processes) (c : Core) : Type 0 where
+  pub bodies : bodies_of c ≡ bodies_in w
+  pub ties : ties_of c ≡ w.shared.ties
+  pub ready : w.ready ≡ numbers_of can_go zero c.processes
+  pub slots : SlotsAreSound (module_in w) zero w.slots.items
+  pub room : IsRoomy w c
+
+-- the same, but for the body of process a, which stands in a slot of its own
+pub record RepresentsBut (w : Processes) (c : Core) (a : ℕ) : Type 0 where
+  pub there : a < length w.slots.items
+  pub bodies : (b : Body) → slice_set (bodies_of c) a b ≡ slice_set (bodies_in w) a b
+  pub ties : ties_of c ≡ w.shared.ties
+  pub ready : w.ready ≡ numbers_of can_go zero c.processes
+  pub slots : (s : Slot) → SlotIsSound (module_in w) a s → SlotsAreSound (module_in w) zero (slice_set w.slots.items a s)
+  pub room : IsRoomy w c
+
+-- the machine of process a ran, and stands so over these messages
+pub record IsLeftAt (w : Processes) (a : ℕ) (x : Standing) (s : Slot) : Type 0 where
+  pub at : slice_get w.slots.items a ≡ Some s
+  pub leaves : SlotIsLeft (module_in w) a x s
+
+-- ---- what one step of an actor does
+
+-- a did this, over these channels, and this is what is left: a world that stands for the definition's core and channels
+pub record Done (a : ℕ) (d : Left) (cs : Channels) (w w' : Processes) : Type 0 where
+  pub stands : Represents w' d.core
+  pub channels : w'.shared.channels ≡ posted a d.sent (with_senders (length d.core.processes) cs)
+  pub basis : w'.basis ≡ w.basis
+
+pub record Shown (a : ℕ) (d : Deed) (cs : Channels) (w : Processes) (l : Label) (w' : Processes) : Type 0 where
+  pub done : Done a d.left cs w w'
+  pub label : label_of l ≡ d.label
+
+-- the turn of a process
+pub record Turned (c : Core) (a left : ℕ) (w : Processes) (l : Label) (used : ℕ) (w' : Processes) : Type 0 where
+  pub deed : Deed
+  pub turn : Turn (module_in w) a c left (of c a).state deed used
+  pub within : used ≤ left
+  pub shown : Shown a deed w.shared.channels w l w'
+
+-- the delivery of the oldest signal of a channel
+pub record Delivered (c : Core) (from to : ℕ) (w : Processes) (l : Label) (w' : Processes) : Type 0 where
+  pub signal : Signal
+  pub others : Channels
+  pub is_taken : taken from to w.shared.channels ≡ Some (signal, others)
+  pub shown : Shown to (delivered c from to signal) others w l w'
+
+-- the end of a process
+abbrev pub EndsProcess : Core → ℕ → Result Term Term → Processes → Processes → Type 0
+EndsProcess c a e w w' = Done a (ended_by c a (end_of e)) w.shared.channels w w'
+
+-- ---- what is plainly true of a world in which a process does something
+
+-- process a has a slot, ties and a row of channels
+pub record IsShaped (a : ℕ) (w : Processes) : Type 0 where
+  pub there : a < length w.slots.items
+  pub ties : length w.shared.ties.processes ≡ length w.slots.items
+  pub rows : length w.slots.items ≤ length w.shared.channels
+  pub few : length w.slots.items ≤ MOST_PROCESSES
+  pub within : w.basis.most ≤ MOST_PROCESSES
+
+abbrev pub IsShapedFor : Option ℕ → Processes → Type 0
+IsShapedFor None w = length w.shared.ties.processes ≡ length w.slots.items
+IsShapedFor (Some a) w = IsShaped a w

@@ -1,0 +1,27 @@
+//! All processes of a run, and what is between them.
+
+use crate::shared::Shared;
+use crate::slot::Slot;
+use pf_nodes::Pool;
+use pf_syntax::Module;
+use pf_terms::Term;
+use pf_ties::Numbers;
+use std::sync::Arc;
+
+/// What a run stands on: the code of its processes, and how many of them there may be.
+#[derive(Drop)]
+pub(crate) struct Basis {
+    pub(crate) module: Arc<Module>,
+    pub(crate) most: u32,
+}
+
+/// Code and limit, the slot of each process by its pid, ties and signals, the processes that can go by rising pid, and the spare nodes
+/// of all mailboxes.
+#[derive(Drop)]
+pub(crate) struct Processes {
+    pub(crate) basis: Basis,
+    pub(crate) slots: Vec<Slot>,
+    pub(crate) shared: Shared,
+    pub(crate) ready: Numbers,
+    pub(crate) pool: Pool<Term>,
+}
