@@ -27,7 +27,7 @@ use Rattle.pf_book.specs.declared.plan.Change.{Change}
 use Rattle.pf_book.specs.declared.plan.Change.TheVariants as change
 use Rattle.pf_book.specs.declared.plan.Plan.{Plan}
 use Rattle.pf_book.specs.declared.reply.Reply.{Reply}
-use Rattle.pf_book.proofs.Sums.{calls_more}
+use Rattle.pf_desks.proofs.Sums.{calls_more}
 
 -- ---- the same desk in other lists
 

@@ -10,7 +10,7 @@ use Rattle.std.proofs.lemmas.Option.{slice_get_within, slice_get-get_or}
 use Rattle.pf_request.specs.Module.{ReadModule}
 use Rattle.pf_desks.specs.Desk.{Trial, held_at, with_held, all_held}
 use Rattle.pf_book.specs.Users.{CountUsers}
-use Rattle.pf_book.proofs.Held.{held_push, Around, around, gap}
+use Rattle.pf_desks.proofs.Held.{held_push, Around, around, gap}
 
 -- ---- counts by index
 

@@ -16,7 +16,7 @@ use Rattle.pf_book.specs.Queued.{job_in_state, job_of_trial, job_at}
 use Rattle.pf_book.specs.Trials.{JobAt}
 use Rattle.pf_book.specs.Users.{CountUsers}
 use Rattle.pf_book.proofs.Counted.{trial_again}
-use Rattle.pf_book.proofs.Sums.{calls_claimed, calls_filed, trial_same}
+use Rattle.pf_desks.proofs.Sums.{calls_claimed, calls_filed, trial_same}
 
 -- ---- what is written under a number that holds something
 

@@ -12,7 +12,7 @@ use Rattle.pf_book.specs.Kept.{modules_of, Counts, FollowsDesk}
 use Rattle.pf_book.specs.Plans.{with_change, KeepsModules}
 use Rattle.pf_book.specs.declared.plan.Change.{Change}
 use Rattle.pf_book.specs.declared.plan.Change.TheVariants as change
-use Rattle.pf_book.proofs.Held.{OneMore, one_pushed, one_gone}
+use Rattle.pf_desks.proofs.Held.{OneMore, one_pushed, one_gone}
 
 bytes_eq_turned : (a b : List ℕ) → bytes_eq a b ≡ bytes_eq b a
 bytes_eq_turned a b =

@@ -1,6 +1,4 @@
-pub mod Held
 pub mod Counted
-pub mod Sums
 pub mod Followed
 pub mod Profiles
 pub mod Planned

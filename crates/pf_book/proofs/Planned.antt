@@ -31,7 +31,7 @@ use Rattle.pf_book.specs.Plans.{with_change, IsPlan, IsCharged}
 use Rattle.pf_book.specs.Profile.{ForRight}
 use Rattle.pf_book.specs.View.{view_of_entry, view_of_reply}
 use Rattle.pf_book.proofs.Profiles.{submitted_read, submitted_refused}
-use Rattle.pf_book.proofs.Sums.{module_charged, module_refunded, trial_charged, trial_refunded}
+use Rattle.pf_desks.proofs.Sums.{module_charged, module_refunded, trial_charged, trial_refunded}
 
 abbrev Answer : Type 0
 Answer = Desk × desk.Reply

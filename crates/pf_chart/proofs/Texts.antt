@@ -8,14 +8,7 @@ use Rattle.std.proofs.lemmas.Fmt.{digits_decimal}
 use Rattle.std.proofs.lemmas.Str.Parse.{numerals_by_value, tells_all_ascii_digits}
 use Rattle.std.proofs.lemmas.Bool.Decides.{eqb_tells, nat_tests}
 use Rattle.pf_chart.specs.Escaped.{code_of, escaped, escaped_byte, is_byte, is_text, names, reference, short}
-
-and_left : (a b : Bool) → (a && b) ≡ true → a ≡ true
-and_left true b h = refl
-and_left false b h = h
-
-and_right : (a b : Bool) → (a && b) ≡ true → b ≡ true
-and_right true b h = h
-and_right false b h = absurd cc
+use Rattle.pf_fault.proofs.Bools.{both}
 
 within : (b : ℕ) (bs : List ℕ) → (b == 59) ≡ false → names b ≡ true → is_text true (b ∷ bs) ≡ is_text true bs
 within b bs e n = rw (e, n) refl
@@ -83,14 +76,14 @@ byte_is_small b h = grind (arith, nat_tests)
 escaped_stays : (xs bs : List ℕ) → list_all is_byte xs ≡ true → is_text false (escaped xs ++ bs) ≡ is_text false bs
 escaped_stays [] bs h = refl
 escaped_stays (x ∷ xs) bs h =
-    rw append_assoc (byte_stays x (escaped xs ++ bs) (byte_is_small x (and_left (is_byte x) (list_all is_byte xs) h))
-    ∙ escaped_stays xs bs (and_right (is_byte x) (list_all is_byte xs) h))
+    rw append_assoc (byte_stays x (escaped xs ++ bs) (byte_is_small x (both (is_byte x) (list_all is_byte xs) h).0)
+    ∙ escaped_stays xs bs (both (is_byte x) (list_all is_byte xs) h).1)
 
 all_of_front : (n : ℕ) (xs : List ℕ) → list_all is_byte xs ≡ true → list_all is_byte (take n xs) ≡ true
 all_of_front zero xs h = refl
 all_of_front (suc n) [] h = refl
 all_of_front (suc n) (x ∷ xs) h =
-    rw (and_left (is_byte x) (list_all is_byte xs) h) (all_of_front n xs (and_right (is_byte x) (list_all is_byte xs) h))
+    rw (both (is_byte x) (list_all is_byte xs) h).0 (all_of_front n xs (both (is_byte x) (list_all is_byte xs) h).1)
 
 pub whole_stays : (xs : List ℕ) → list_all is_byte xs ≡ true → is_text false (escaped xs) ≡ true
 whole_stays xs h = rw (← append-nil (escaped xs)) (escaped_stays xs [] h)

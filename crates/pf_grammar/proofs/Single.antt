@@ -36,6 +36,7 @@ use Rattle.pf_grammar.specs.Grammar.{
   infix_stands,
 }
 use Rattle.pf_grammar.specs.Parse.{◌>>=◌, mark_code, reserved_code, is, after, atom_in, named, number_kind, number, is_word, word, is_short, infix_fits, infix_ahead}
+use Rattle.pf_fault.proofs.Bools.{both}
 
 -- ---- steps that did not fail
 
@@ -232,10 +233,6 @@ after_none s k t ts e h = after_other s t ts (differs s k t e h)
 
 -- ---- tests that say yes
 
-pub both_some : (a b : Bool) → (a && b) ≡ true → (a ≡ true) × (b ≡ true)
-both_some true b e = (refl, e)
-both_some false b e = absurd cc
-
 pub both_true : (a b : Bool) → a ≡ true → b ≡ true → (a && b) ≡ true
 both_true a b e f = rw (e, f) refl
 
@@ -375,8 +372,8 @@ infix_some guard floor level [] x e = absurd cc
 infix_some guard floor level (t ∷ ts) x e =
     let b = bind_some (infix_of t.kind) (λ i. cond (infix_fits guard floor level i) (Some (i, ts)) None) x e in
     let c = cond_some (infix_fits guard floor level b.0) (Some (b.0, ts)) x b.2 in
-    let outer = both_some (infix_stands guard b.0 && nat_le floor (left_level b.0)) (nat_le (level_of b.0) level) c.0 in
-    let inner = both_some (infix_stands guard b.0) (nat_le floor (left_level b.0)) outer.0 in
+    let outer = both (infix_stands guard b.0 && nat_le floor (left_level b.0)) (nat_le (level_of b.0) level) c.0 in
+    let inner = both (infix_stands guard b.0) (nat_le floor (left_level b.0)) outer.0 in
     subst (λ (y : Infix × List NumberedToken). (u : NumberedToken) × (infix_of u.kind ≡ Some y.0) × (t ∷ ts ≡ u ∷ y.1) × IsTrue (infix_stands guard y.0) × (floor ≤ left_level y.0) × (level_of y.0 ≤ level)) (some_is (b.0, ts) x c.1)
     (t, b.1, refl, inner.0, leb-true _ _ inner.1, leb-true _ _ outer.1)
 

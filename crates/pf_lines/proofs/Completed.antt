@@ -7,14 +7,7 @@ use Rattle.pf_request.specs.Calls.{submit}
 use Rattle.pf_desks.specs.World.{Step, client}
 use Rattle.pf_lines.specs.Commands.{Line, with_byte, first_line, Asked, made, submission, asked_by, words_of, after_source, with_source, complete_command, command_at}
 use Rattle.pf_lines.specs.Complete.{size_in, has_source, is_complete}
-
-first_of_both : (a b : Bool) → (a && b) ≡ true → a ≡ true
-first_of_both true b h = refl
-first_of_both false b h = absurd cc
-
-second_of_both : (a b : Bool) → (a && b) ≡ true → b ≡ true
-second_of_both true b h = h
-second_of_both false b h = absurd cc
+use Rattle.pf_fault.proofs.Bools.{both}
 
 -- ---- lines
 
@@ -100,8 +93,8 @@ pub command_stays : (bs more : List ℕ) → is_complete bs ≡ true → command
 command_stays bs more h =
     let l = first_line bs in
     let asked = asked_by (words_of l.text) in
-    let ended : l.is_ended ≡ true = first_of_both l.is_ended (has_source (size_in asked) l.rest) h in
-    let source = second_of_both l.is_ended (has_source (size_in asked) l.rest) h in
+    let ended : l.is_ended ≡ true = (both l.is_ended (has_source (size_in asked) l.rest) h).0 in
+    let source = (both l.is_ended (has_source (size_in asked) l.rest) h).1 in
     ap line_command (line_stays bs more ended)
     ∙ asked_stays asked l.rest more source
     ∙ ap (λ (c : Bool). with_more more (complete_command asked c l.rest)) (sym ended)
@@ -110,5 +103,5 @@ pub complete_stays : (bs more : List ℕ) → is_complete bs ≡ true → is_com
 complete_stays bs more h =
     let l = first_line bs in
     let size = size_in (asked_by (words_of l.text)) in
-    let ended : l.is_ended ≡ true = first_of_both l.is_ended (has_source size l.rest) h in
-    ap line_is_complete (line_stays bs more ended) ∙ has_stays size l.rest more (second_of_both l.is_ended (has_source size l.rest) h)
+    let ended : l.is_ended ≡ true = (both l.is_ended (has_source size l.rest) h).0 in
+    ap line_is_complete (line_stays bs more ended) ∙ has_stays size l.rest more (both l.is_ended (has_source size l.rest) h).1

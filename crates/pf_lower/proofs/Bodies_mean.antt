@@ -39,8 +39,9 @@ use Rattle.pf_lower.specs.Built.{Lowers, ExprPatternBecomes, ElementBecomes, Bod
 use Rattle.pf_lower.specs.Bodies.{ElementRepresents, binds, ElementBuilt, EachElementMeans, BranchGuardBecomes, BranchBodyBecomes, BranchMeans}
 use Rattle.pf_lower.proofs.Growing.{grown_on, grown_itself, becomes_on, expr_pattern_means_on, exprs_mean_on, guard_means_on}
 use Rattle.pf_lower.proofs.Threads.{Threaded, SoFar}
-use Rattle.pf_lower.proofs.ExprPatterns_mean.{left_empty, right_empty, expr_pattern_bound}
+use Rattle.pf_lower.proofs.ExprPatterns_mean.{expr_pattern_bound}
 use Rattle.pf_lower.proofs.Exprs_mean.{element_bound, plain_formed, plain_bound}
+use Rattle.pf_lower.proofs.Exists.{left_empty, right_empty}
 
 -- ---- names that were bound stay the first ones
 

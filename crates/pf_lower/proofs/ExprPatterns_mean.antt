@@ -20,18 +20,9 @@ use Rattle.pf_rules.specs.Static.{names_of, fault_if, expr_pattern_faults, expr_
 use Rattle.pf_lower.specs.Bound.{bound_by, all_bound_by}
 use Rattle.pf_lower.specs.Built.{Lowers, ExprPatternMeans, ExprPatternsMean}
 use Rattle.pf_lower.specs.Grown.{Grown, PatternPut}
-use Rattle.pf_lower.proofs.Exists.{new_by_tests}
+use Rattle.pf_lower.proofs.Exists.{new_by_tests, left_empty, right_empty}
 use Rattle.pf_lower.proofs.Threads.{Threaded, SoFar}
 use Rattle.pf_lower.proofs.Growing.{expr_pattern_means_on, expr_patterns_mean_on, expr_pattern_put, grown_on}
-
--- two lists of faults are empty where they are so together
-pub left_empty : {X : Type 0} → (xs ys : List X) → xs ++ ys ≡ [] → xs ≡ []
-left_empty [] ys h = refl
-left_empty (x ∷ xs) ys h = cc
-
-pub right_empty : {X : Type 0} → (xs ys : List X) → xs ++ ys ≡ [] → ys ≡ []
-right_empty [] ys h = h
-right_empty (x ∷ xs) ys h = cc
 
 -- ---- what is bound
 

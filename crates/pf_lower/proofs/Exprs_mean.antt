@@ -24,10 +24,10 @@ use Rattle.pf_rules.specs.Formed.{ExprFormed, ExprsFormed}
 use Rattle.pf_lower.specs.Bound.{bound_by, bound_after, IsPlain}
 use Rattle.pf_lower.specs.Grown.{Grown, PartPut}
 use Rattle.pf_lower.specs.Built.{Lowers, ExprBecomes, ExprMeans, ExprsMean, BranchesMean}
-use Rattle.pf_lower.proofs.Exists.{bound_by_tests}
+use Rattle.pf_lower.proofs.Exists.{bound_by_tests, left_empty, right_empty}
 use Rattle.pf_lower.proofs.Growing.{grown_itself, grown_on, expr_put, expr_means_on, exprs_mean_on}
 use Rattle.pf_lower.proofs.Threads.{Threaded, SoFar}
-use Rattle.pf_lower.proofs.ExprPatterns_mean.{left_empty, right_empty, expr_pattern_bound}
+use Rattle.pf_lower.proofs.ExprPatterns_mean.{expr_pattern_bound}
 
 -- ---- what is bound
 

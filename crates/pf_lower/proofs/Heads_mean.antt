@@ -28,7 +28,8 @@ use Rattle.pf_lower.specs.Built.{Lowers, ExprPatternsMean, GuardMeans, BodyMeans
 use Rattle.pf_lower.specs.Heads.{HeadMeans, HeadsMean, FunctionMeans}
 use Rattle.pf_lower.proofs.Growing.{grown_on, becomes_on, expr_patterns_mean_on, guard_means_on}
 use Rattle.pf_lower.proofs.Threads.{Threaded, SoFar}
-use Rattle.pf_lower.proofs.ExprPatterns_mean.{left_empty, right_empty, expr_patterns_bound}
+use Rattle.pf_lower.proofs.ExprPatterns_mean.{expr_patterns_bound}
+use Rattle.pf_lower.proofs.Exists.{left_empty, right_empty}
 
 module _ (fs : List (List Head)) (b : NodeTable) where
   pub clause_done : (m0 m1 m2 m3 : Checked) (b1 b2 b3 b4 names : List ℕ) (h : HeadNode) (ys : List PatternId) (d : Guard) (x : Operand) (c : FunctionClause)

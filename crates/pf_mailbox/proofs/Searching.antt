@@ -2,7 +2,7 @@
 use Rattle.std.proofs.Common.{◌≡◌, ℕ, ◌-◌, ◌<◌, ◌≤◌, Bool, true, false, List, [], ◌∷◌, ◌++◌, length, refl, sym, ap, ◌∙◌, subst, Some, None, inl, inr, arith}
 use Rattle.std.specs.Prelude.{slice_get, Option, Result, Ok, Err, is_some, not}
 use Rattle.std.proofs.lemmas.Bool.{cases_lt}
-use Rattle.std.proofs.lemmas.Option.{slice_get_within, slice_get_cases}
+use Rattle.std.proofs.lemmas.Option.{slice_get_within, slice_get_cases, same_Some}
 use Rattle.std.specs.Fn.{FnReturnsAt, Shared}
 use denote.Ref.{Bor}
 use Rattle.pf_fault.specs.declared.memory.NoMemory.{NoMemory}
@@ -24,9 +24,6 @@ not_some (Some x) h = absurd cc
 pub nothing_more : {A : Type 0} (xs : List A) → xs ≡ xs ++ []
 nothing_more [] = refl
 nothing_more (x ∷ xs) = ap (λ l. x ∷ l) (nothing_more xs)
-
-pub same_item : {A : Type 0} (x y : A) → Some x ≡ Some y → x ≡ y
-same_item x y p = cc
 
 -- what stands at an index within
 pub stands : {A : Type 0} (xs : List A) (k : ℕ) → k < length xs → (x : A) × (slice_get xs k ≡ Some x)
@@ -121,7 +118,7 @@ module _ {F : Type 0} (v : Value) (g : Shared F (Bor Term × Unit {0}) (Result B
     moved_to : (o : Option Spot) → EndsAs (FnReturnsAt g f) old new (Ok o) → new.mark ≡ old.mark → ⊥
     moved_to None h e = absurd (omega (arith, h, e, within))
     moved_to (Some spot) h e =
-        let x = h.1.0 in let one = same_item x s.message (sym h.1.1 ∙ ap (slice_get old.items) e ∙ s.there) in
+        let x = h.1.0 in let one = same_Some x s.message (sym h.1.1 ∙ ap (slice_get old.items) e ∙ s.there) in
         not_itself x (ap value_of one ∙ s.value) h.1.2
 
     never_fails : (x : Term) (n : NoMemory) → FnReturnsAt g f x (Err n) → ⊥

@@ -2,7 +2,7 @@
 use Rattle.std.proofs.Common.{◌≡◌, ℕ, ◌+◌, ◌-◌, List, length, take, drop, sym, ap, ◌∙◌, subst, Some, remove, arith}
 use Rattle.std.specs.Prelude.{map, slice_get}
 use Rattle.std.proofs.lemmas.List.{take-map}
-use Rattle.std.proofs.lemmas.Option.{slice_get_within, get_or_from_slice_get}
+use Rattle.std.proofs.lemmas.Option.{slice_get_within, get_or_from_slice_get, same_Some}
 use Rattle.pf_terms.specs.Term.{value_of}
 use Rattle.pf_terms.specs.declared.term.Term.{Term}
 use Rattle.pf_syntax.specs.Module.{Checked}
@@ -20,7 +20,6 @@ use Rattle.pf_stepper.specs.Selected.{TakesMessage, TakesNothing}
 use Rattle.pf_stepper.proofs.Scans.{Passed, takes_at, takes_none}
 use Rattle.pf_mailbox.specs.Searches.{Passes, PicksMarked, SeesNone}
 use Rattle.pf_mailbox.specs.Tests.{awaited, risen, tested}
-use Rattle.pf_mailbox.proofs.Searching.{same_item}
 use Rattle.pf_mailbox.proofs.Tested.{NoneIn, none_before, to_list, to_indices, count_to, count_rest}
 
 pub risen_more : (t a : ℕ) → risen (risen t a) 1 ≡ risen t (a + 1)
@@ -52,7 +51,7 @@ module _ (m : Checked) (own base : ℕ) (env : List Term) (l : List Clause) (old
 
   module _ (env' : List Term) (body : Operand) (s : PicksMarked m own base env l env' new body) (x : Term) (at : slice_get new.items new.mark ≡ Some x) where
     value_is : s.value ≡ value_of x
-    value_is = sym s.stands.value ∙ ap value_of (same_item s.stands.message x (sym s.stands.there ∙ at))
+    value_is = sym s.stands.value ∙ ap value_of (same_Some s.stands.message x (sym s.stands.there ∙ at))
 
     picks : Picked m base env env' (Some body) (picked (module_of m) own (awaited m base env l) (value_of x))
     picks = subst (λ v. Picked m base env env' (Some body) (picked (module_of m) own (awaited m base env l) v)) value_is s.picks

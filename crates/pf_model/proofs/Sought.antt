@@ -14,7 +14,7 @@ use Rattle.pf_model.specs.Contraction as c
 use Rattle.pf_model.specs.Contraction.{Change, Raises, Asks, Awaits, contract, as_values, as_value, add_value, worked_out, decided, entered, called, matched, bound, picked, body_or_raise}
 use Rattle.pf_model.specs.Context.{Frame, element_of, first_of, tail_of, left_of, right_of, negation, and_also_of, or_else_of, argument_of, builtin_argument_of, match_of, bind_of, case_of, receiver_of, message_of, after_values, literals, around, Context, Move, returns, moved, Moves, at_value, at_index}
 use Rattle.pf_model.specs.Evaluation.{Sought, valued, placed, part, and_last, sought, sought_in, move_of}
-use Rattle.pf_model.proofs.Places.{one_context, fill_no_value}
+use Rattle.pf_model.proofs.Contexts.{one_context, fill_no_value}
 
 module _ (m : Module) (own : ℕ) where
   -- a value that the tree is, or a context in it

@@ -20,7 +20,7 @@ abbrev GoesOn : Move → Type 0
 GoesOn (goes_on s) = can_go s ≡ true
 GoesOn x = Unit {0}
 
-moved_goes_on : (fs : List Frame) (d : Change) → GoesOn (moved fs d)
+pub moved_goes_on : (fs : List Frame) (d : Change) → GoesOn (moved fs d)
 moved_goes_on fs (Becomes t) = refl
 moved_goes_on fs (Raises e) = refl
 moved_goes_on fs (Exits v) = refl

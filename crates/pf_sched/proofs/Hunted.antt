@@ -16,9 +16,7 @@ use Rattle.pf_sched.specs.Parts.{IsHuntOf, stands_at}
 use Rattle.pf_sched.specs.Slices.{GoesPast, TellsFound}
 use Rattle.pf_sched.proofs.Asking.{is_profile, within_bounds}
 use Rattle.pf_sched.proofs.Tries.{fails_in, tells_failures, only_fails, few_events, first_run, only_so_many, so_many, few, one_more, parts}
-
-same_some : {X : Type 0} (x y : X) → Some x ≡ Some y → x ≡ y
-same_some x y e = cc
+use Rattle.std.proofs.lemmas.Option.{same_Some}
 
 -- ---- where a hunt stands
 
@@ -49,13 +47,13 @@ comes_searching fails (suc k) ns (c ∷ cs) = refl
 -- a true answer changes nothing of it
 comes_on : (fails : List ℕ → Bool) (h : Hunting) (ns : List ℕ) → next_of h ≡ Some ns → comes_to fails (told_of (fails ns) h) ≡ comes_to fails h
 comes_on fails (begins k ms) ns e =
-    ap (λ z. comes_to fails (told_of (fails z) (begins k ms))) (same_some ns ms (sym e)) ∙ by (fails ms)
+    ap (λ z. comes_to fails (told_of (fails z) (begins k ms))) (same_Some ns ms (sym e)) ∙ by (fails ms)
   where
     by : (b : Bool) → comes_to fails (told_of b (begins k ms)) ≡ (if b then Some (search fails k ms (candidates ms)) else None)
     by true = comes_searching fails k ms (candidates ms)
     by false = refl
 comes_on fails (searches k ms c cs) ns e =
-    ap (λ z. comes_to fails (told_of (fails z) (searches k ms c cs))) (same_some ns c (sym e)) ∙ by (fails c)
+    ap (λ z. comes_to fails (told_of (fails z) (searches k ms c cs))) (same_Some ns c (sym e)) ∙ by (fails c)
   where
     by : (b : Bool) → comes_to fails (told_of b (searches k ms c cs)) ≡ Some (if b then search fails k c (candidates c) else search fails k ms cs)
     by true = comes_searching fails k c (candidates c)

@@ -23,14 +23,13 @@ use Rattle.pf_system.specs.declared.enabled.Enabled.{Enabled}
 use Rattle.pf_sched.specs.Traces.{Going, Went, heads_in, ready_in}
 use Rattle.pf_model.proofs.Turned.{pass_uses}
 use Rattle.pf_sched.proofs.Longer.{goes_on, pick_at}
-
-same_some : {X : Type 0} (x y : X) → Some x ≡ Some y → x ≡ y
-same_some x y e = cc
+use Rattle.std.proofs.lemmas.Option.{same_Some}
+use Rattle.pf_system.proofs.Bodies.{map_more}
 
 -- what stands at a place is among them
 pub among : (xs : List Actor) (k : ℕ) (x : Actor) → slice_get xs k ≡ Some x → IsAmong x xs
 among [] k x e = absurd (cc)
-among (y ∷ xs) zero x e = ([], xs, ap (λ z. z ∷ xs) (same_some y x e))
+among (y ∷ xs) zero x e = ([], xs, ap (λ z. z ∷ xs) (same_Some y x e))
 among (y ∷ xs) (suc k) x e = let r = among xs k x e in (y ∷ r.0, r.1, ap (λ z. y ∷ z) r.2)
 
 -- a delivery is one step, however many are left
@@ -51,10 +50,6 @@ delivers_within left a b s s' l h p =
     further _ (delivery _ _ x cs e) = delivery a b x cs e
 
 -- ---- events
-
-map_last : {A B : Type 0} (f : A → B) (xs : List A) (x : A) → map f (xs ++ x ∷ []) ≡ map f xs ++ f x ∷ []
-map_last f [] x = refl
-map_last f (y ∷ xs) x = ap (λ z. f y ∷ z) (map_last f xs x)
 
 pub length_last : {A : Type 0} (xs : List A) (x : A) → length (xs ++ x ∷ []) ≡ length xs + 1
 length_last [] x = refl
@@ -85,7 +80,7 @@ module _ (m : Module) (f : Profile) (ws : Words) (limit : ℕ) (c : Configuratio
   module _ (es : List Event) (s s' : SystemView) (q q' : Choices Lcg) (g : Going m f ws limit c es s q) where
     -- what went, went from where the run stands
     from_last : (left : ℕ) (x : Actor) (l : Label) (used : ℕ) (p : PassesTo left s x l used s') → p.before ≡ g.last
-    from_last left x l used p = same_some p.before g.last (sym p.was ∙ g.stands)
+    from_last left x l used p = same_Some p.before g.last (sym p.was ∙ g.stands)
 
     -- each transition uses a step
     pub uses : (left : ℕ) (e : Event) → 0 < left → Went left g.last s q e s' q' → s.steps < s'.steps
@@ -108,8 +103,8 @@ module _ (m : Module) (f : Profile) (ws : Words) (limit : ℕ) (c : Configuratio
           within = let u = p.within in let z = ap (λ y. y.steps) p.becomes in omega arith;
           at = subst (λ k. IsAt pcg32 ws k q') (sym (length_last g.transitions t)) (w.chooses.moves ws (length g.transitions) g.at);
           profile = w.chooses.keeps ∙ g.profile;
-          events = map_last event_of es e ∙ ap (λ l. l ++ event_of e ∷ []) g.events
-              ∙ ap (λ y. map meaning.event_of g.transitions ++ y ∷ []) tells ∙ sym (map_last meaning.event_of g.transitions t);
+          events = map_more event_of es e ∙ ap (λ l. l ++ event_of e ∷ []) g.events
+              ∙ ap (λ y. map meaning.event_of g.transitions ++ y ∷ []) tells ∙ sym (map_more meaning.event_of g.transitions t);
         }
       where
         p : PassesTo (limit - s.steps) s (actor_of e.actor) (label_of e.label) w.used s'

@@ -17,10 +17,6 @@ use Rattle.pf_system.specs.Acts.{LifeBegins, home_function}
 use Rattle.pf_system.specs.Slots.{state_in}
 use Rattle.pf_system.specs.declared.slot.Life.TheVariants as life
 
-pub count_of : (ts : List Term) → length ts ≡ count (values_of ts)
-count_of [] = refl
-count_of (t ∷ ts) = omega (arith, count_of ts)
-
 -- by the function that is found
 pub start_at : (m : Module) (home name : ℕ) (vs : Values) (n : ℕ) (o : Option ℕ) → n ≡ count vs → o ≡ home_function m home name n
     → start_of m home name vs ≡ actions.begun o vs

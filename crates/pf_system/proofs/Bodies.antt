@@ -4,6 +4,7 @@ use Rattle.pf_model.specs.Configuration.{Process, Core, of, with_process, proces
 use Rattle.pf_ties.specs.Ties.{AllTies}
 use Rattle.pf_ties.specs.Laws.{process_ties, ties_of}
 use Rattle.pf_system.specs.Bodies.{Body, process_body, bodies_of, joined, core_with}
+use Rattle.std.proofs.lemmas.List.{length-map}
 
 -- ---- lists
 
@@ -15,10 +16,6 @@ set_map f (suc a) (y ∷ xs) x = ap (λ z. f y ∷ z) (set_map f a xs x)
 pub map_more : {A B : Type 0} (f : A → B) (xs : List A) (x : A) → map f (xs ++ x ∷ []) ≡ map f xs ++ f x ∷ []
 map_more f [] x = refl
 map_more f (y ∷ xs) x = ap (λ z. f y ∷ z) (map_more f xs x)
-
-pub map_length : {A B : Type 0} (f : A → B) (xs : List A) → length (map f xs) ≡ length xs
-map_length f [] = refl
-map_length f (y ∷ xs) = ap suc (map_length f xs)
 
 pub set_length : {A : Type 0} (a : ℕ) (xs : List A) (x : A) → length (slice_set xs a x) ≡ length xs
 set_length a [] x = refl
@@ -71,7 +68,7 @@ ties_same c a p e =
     ap (λ ts. record (ties_of c) { processes = ts }) (set_map process_ties a c.processes p ∙ set_same process_ties a c.processes (process_ties p) e)
 
 pub length_of : (c : Core) → length c.processes ≡ length (bodies_of c)
-length_of c = sym (map_length process_body c.processes)
+length_of c = sym (length-map c.processes process_body)
 
 pub ties_length : (c : Core) → length (ties_of c).processes ≡ length c.processes
-ties_length c = map_length process_ties c.processes
+ties_length c = length-map c.processes process_ties

@@ -20,7 +20,7 @@ use Rattle.pf_ties.specs.Ties.{ProcessTies, ties_at}
 use Rattle.pf_ties.specs.Fates as fates
 use Rattle.pf_ties.specs.Fates.{Fate, fate_at}
 use Rattle.pf_ties.specs.Laws.{process_ties, ties_of, without_link, done_by}
-use Rattle.pf_ties.proofs.Followed.{follow_actions, follow_deliveries}
+use Rattle.pf_ties.proofs.Followed.{follow_actions, follow_deliveries, at_map}
 use Rattle.pf_system.specs.Bodies.{process_body}
 use Rattle.pf_system.specs.Placed.{PlacesMessage, Places, SuffixShown}
 use Rattle.pf_system.specs.Processes.{Represents, IsShaped, Done, Shown, Delivered}
@@ -31,11 +31,6 @@ use Rattle.pf_system.proofs.Processes.{slots_length, ties_length_in}
 use Rattle.pf_system.proofs.Shown.{done_so, rows_more, tied}
 
 -- ---- one process and its ties
-
-at_map : (a : ℕ) (ps : List Process) → ties_at a (map process_ties ps) ≡ process_ties (process_at a ps)
-at_map a [] = refl
-at_map zero (p ∷ ps) = refl
-at_map (suc a) (p ∷ ps) = at_map a ps
 
 pub ties_here : (w : Processes) (c : Core) (b : ℕ) → Represents w c → ties.of w.shared.ties b ≡ process_ties (of c b)
 ties_here w c b h = ap (λ z. ties.of z b) (sym h.ties) ∙ at_map b c.processes

@@ -6,17 +6,14 @@ use Rattle.pf_model.specs.Channels.{Queue, Row, Channels, row_of, taken, taken_f
 use Rattle.pf_model.specs.Configuration.{Configuration}
 use Rattle.pf_model.specs.Runs.{Actor, process, channel, enabled, can_go, numbers_of}
 use Rattle.pf_system.specs.Steps.{IsAmong}
+use Rattle.std.proofs.lemmas.List.{length-map}
 
 abbrev going : List ℕ → List (ℕ × ℕ) → List Actor
 going ps hs = map process ps ++ map (λ h. channel h.0 h.1) hs
 
-length_map : {A B : Type 0} (f : A → B) (xs : List A) → length (map f xs) ≡ length xs
-length_map f [] = refl
-length_map f (x ∷ xs) = ap suc (length_map f xs)
-
 pub going_length : (ps : List ℕ) (hs : List (ℕ × ℕ)) → length (going ps hs) ≡ length ps + length hs
 going_length ps hs =
-    omega (arith, length-append (map process ps) (map (λ h. channel h.0 h.1) hs), length_map process ps, length_map {A = ℕ × ℕ} (λ h. channel h.0 h.1) hs)
+    omega (arith, length-append (map process ps) (map (λ h. channel h.0 h.1) hs), length-map ps process, length-map hs (λ h. channel h.0 h.1))
 
 abbrev some_process : ℕ → Option Actor
 some_process p = Some (process p)

@@ -1,6 +1,6 @@
 -- Who waits, and what the root came to.
 use Rattle.std.proofs.Common.{◌≡◌, ℕ, zero, suc, ◌+◌, ◌<◌, Bool, true, false, List, [], ◌∷◌, ◌++◌, if◌then◌else◌, refl, sym, ap, ◌∙◌, subst, arith, length, map, take, get_or}
-use Rattle.std.proofs.lemmas.List.{take_more, length-take-le}
+use Rattle.std.proofs.lemmas.List.{take_more, length-take-le, length-map}
 use Rattle.pf_model.specs.Context.{State}
 use Rattle.pf_model.specs.Module.{Module}
 use Rattle.pf_model.specs.Runs.{is_waiting, numbers_of}
@@ -9,7 +9,7 @@ use Rattle.pf_system.specs.Slots.{slot_body, state_of, SlotIsSound, SlotsAreSoun
 use Rattle.pf_system.specs.Processes.{core_of, Represents}
 use Rattle.pf_system.specs.declared.slot.Slot.{Slot}
 use Rattle.pf_system.specs.declared.processes.Processes.{Processes}
-use Rattle.pf_system.proofs.Bodies.{map_length, map_more}
+use Rattle.pf_system.proofs.Bodies.{map_more}
 use Rattle.pf_system.proofs.Ready.{by_bodies, numbers_in}
 
 -- one body more
@@ -37,7 +37,7 @@ pub waiting_more : (ss : List Slot) (i : ℕ) (s : Slot) → i < length ss → g
 waiting_more ss i s h same b e =
     let bodies : map slot_body (take (i + 1) ss) ≡ map slot_body (take i ss) ++ slot_body s ∷ [] =
     ap (map slot_body) (take_more ss i s h ∙ ap (λ x. take i ss ++ x ∷ []) same) ∙ map_more slot_body (take i ss) s in
-    let long : zero + length (map slot_body (take i ss)) ≡ i = let a = map_length slot_body (take i ss) in let t = length-take-le i ss (omega arith) in omega arith in
+    let long : zero + length (map slot_body (take i ss)) ≡ i = let a = length-map (take i ss) slot_body in let t = length-take-le i ss (omega arith) in omega arith in
     ap (numbers_in is_waiting zero) bodies ∙ numbers_more is_waiting zero (map slot_body (take i ss)) (slot_body s)
     ∙ ap (λ k. numbers_in is_waiting zero (map slot_body (take i ss)) ++ (if is_waiting (state_of s.life) then k ∷ [] else [])) long
     ∙ ap (λ t. numbers_in is_waiting zero (map slot_body (take i ss)) ++ (if t then i ∷ [] else [])) (sym e)

@@ -13,8 +13,9 @@ use Rattle.pf_system.specs.Slots.{slot_body, SlotIsSound, SlotsAreSound, SlotIsL
 use Rattle.pf_system.specs.Processes.{Represents, RepresentsBut, IsLeftAt, module_in, bodies_in, core_of}
 use Rattle.pf_system.specs.declared.slot.Slot.{Slot}
 use Rattle.pf_system.specs.declared.processes.Processes.{Processes}
-use Rattle.pf_system.proofs.Bodies.{set_map, map_length, set_length, set_twice, core_again, bodies_changed, ties_same, length_of, ties_length}
+use Rattle.pf_system.proofs.Bodies.{set_map, set_length, set_twice, core_again, bodies_changed, ties_same, length_of, ties_length}
 use Rattle.pf_system.proofs.Ready.{numbers_in, by_bodies, gone_in, woken_in}
+use Rattle.std.proofs.lemmas.List.{length-map}
 
 -- ---- lists
 
@@ -63,7 +64,7 @@ pub body_at : (w : Processes) (c : Core) (a : ℕ) (s : Slot) → Represents w c
 body_at w c a s h e = body_get a c.processes w.slots.items s h.bodies e
 
 pub slots_length : (w : Processes) (c : Core) → Represents w c → length w.slots.items ≡ length c.processes
-slots_length w c h = sym (map_length slot_body w.slots.items) ∙ ap length (sym h.bodies) ∙ sym (length_of c)
+slots_length w c h = sym (length-map w.slots.items slot_body) ∙ ap length (sym h.bodies) ∙ sym (length_of c)
 
 pub ties_length_in : (w : Processes) (c : Core) → Represents w c → length w.shared.ties.processes ≡ length c.processes
 ties_length_in w c h = ap (λ t. length t.processes) (sym h.ties) ∙ ties_length c

@@ -6,6 +6,7 @@ use Rattle.pf_model.specs.Maps.{with_number, without_number}
 use Rattle.pf_model.specs.Configuration.{Process, Core, process_at}
 use Rattle.pf_model.specs.Runs.{numbers_of}
 use Rattle.pf_system.specs.Bodies.{Body, process_body, bodies_of}
+use Rattle.pf_ties.proofs.Indices.{eq_of, ne_of, below_not, above_is}
 
 abbrev pub numbers_in : (State → Bool) → ℕ → List Body → List ℕ
 numbers_in so n [] = []
@@ -29,22 +30,6 @@ numbers_alike so n c d e = by_bodies so n c.processes ∙ ap (numbers_in so n) e
 abbrev IsRising : ℕ → List ℕ → Type 0
 IsRising low [] = Unit {0}
 IsRising low (x ∷ xs) = (low ≤ x) × IsRising (suc x) xs
-
-ne_of : (a b : ℕ) → (a ≡ b → ⊥) → (b == a) ≡ false
-ne_of a b e = by (b == a) refl
-  where
-    by : (t : Bool) → (b == a) ≡ t → t ≡ false
-    by true q = absurd (e (grind (arith, nat_tests)))
-    by false q = refl
-
-eq_of : (a b : ℕ) → a ≡ b → (b == a) ≡ true
-eq_of a b e = grind (arith, nat_tests)
-
-below_not : (a b : ℕ) → a < b → nat_lt b a ≡ false
-below_not a b e = grind (arith, nat_tests)
-
-above_is : (a b : ℕ) → b < a → nat_lt b a ≡ true
-above_is a b e = grind (arith, nat_tests)
 
 lower : (low : ℕ) (xs : List ℕ) → IsRising (suc low) xs → IsRising low xs
 lower low [] h = tt

@@ -32,10 +32,11 @@ use Rattle.pf_system.specs.declared.slot.Life.{Life}
 use Rattle.pf_system.specs.declared.slot.Life.TheVariants as life
 use Rattle.pf_system.specs.declared.slot.Slot.{Slot}
 use Rattle.pf_system.specs.declared.processes.Processes.{Processes}
-use Rattle.pf_system.proofs.Bodies.{bodies_same, length_of, map_length, set_length}
+use Rattle.pf_system.proofs.Bodies.{bodies_same, length_of, set_length}
 use Rattle.pf_system.proofs.Ready.{numbers_alike, numbers_kept}
 use Rattle.pf_system.proofs.Rows.{enough_senders, posted_length}
 use Rattle.pf_system.proofs.Processes.{put_back, goes_no_more}
+use Rattle.std.proofs.lemmas.List.{length-map}
 
 -- ---- actions that make no process, and take no message out, keep all bodies
 
@@ -184,7 +185,7 @@ raised_in n w r c e k but =
 
 -- ---- the process has its slot again
 
-alive_going : (s : State) → can_go s ≡ true → is_alive s ≡ true
+pub alive_going : (s : State) → can_go s ≡ true → is_alive s ≡ true
 alive_going (running t) e = refl
 alive_going (waiting t) e = refl
 alive_going (ending r) e = refl
@@ -197,9 +198,6 @@ ties_alive p s vs e = ap (λ b. record { lives = b; traps_exits = p.traps_exits;
 -- with this state and these messages
 abbrev pub in_state : Core → ℕ → State → List Value → Core
 in_state c n s vs = with_process c n (record (of c n) { state = s; mailbox = vs })
-
-state_only : (c : Core) (n : ℕ) (s : State) (vs : List Value) → vs ≡ (of c n).mailbox → in_state c n s vs ≡ with_state c n s
-state_only c n s vs e = ap (in_state c n s) e
 
 module _ (w w' : Processes) (c : Core) (n : ℕ) (s' : Slot) (state : State) (mail : List Value) where
   abbrev Changes : Type 0
@@ -277,7 +275,7 @@ pub but_there : (w : Processes) (c : Core) (n : ℕ) → RepresentsBut w c n →
 but_there w c n h =
     let b = body (ended (failed undefined)) [] in
     let e : length c.processes ≡ length w.slots.items =
-    length_of c ∙ sym (set_length n (bodies_of c) b) ∙ ap length (h.bodies b) ∙ set_length n (bodies_in w) b ∙ map_length slot_body w.slots.items in
+    length_of c ∙ sym (set_length n (bodies_of c) b) ∙ ap length (h.bodies b) ∙ set_length n (bodies_in w) b ∙ length-map w.slots.items slot_body in
     let l = h.there in omega arith
 
 pub waits_in : (n : ℕ) (w w' : Processes) (s1 s' : Slot) → slice_get w.slots.items n ≡ Some s1

@@ -28,11 +28,12 @@ use Rattle.pf_system.specs.declared.shared.Answer.{Answer}
 use Rattle.pf_system.specs.declared.slot.Life.{Life}
 use Rattle.pf_system.specs.declared.slot.Slot.{Slot}
 use Rattle.pf_system.specs.declared.processes.Processes.{Processes}
-use Rattle.pf_system.proofs.Bodies.{map_more, map_length, set_length, set_front, more_length, bodies_same, length_of}
+use Rattle.pf_system.proofs.Bodies.{map_more, set_length, set_front, more_length, bodies_same, length_of}
 use Rattle.pf_system.proofs.Acting.{given_none}
 use Rattle.pf_system.proofs.Ready.{numbers_in, by_bodies, more_in}
 use Rattle.pf_system.proofs.Rows.{senders_length}
-use Rattle.pf_system.proofs.Settling.{but_there, keeps_slot, raised_in, slot_is}
+use Rattle.pf_system.proofs.Settling.{but_there, keeps_slot, raised_in, slot_is, alive_going}
+use Rattle.std.proofs.lemmas.List.{length-map}
 
 pub get_front : {A : Type 0} (n : ℕ) (xs ys : List A) → n < length xs → slice_get (xs ++ ys) n ≡ slice_get xs n
 get_front n [] ys l = absurd (omega arith)
@@ -49,12 +50,6 @@ process_front : (n : ℕ) (ps qs : List Process) → n < length ps → process_a
 process_front n [] qs l = absurd (omega arith)
 process_front zero (p ∷ ps) qs l = refl
 process_front (suc n) (p ∷ ps) qs l = process_front n ps qs (omega arith)
-
-alive_going : (s : State) → can_go s ≡ true → is_alive s ≡ true
-alive_going (running t) e = refl
-alive_going (waiting t) e = refl
-alive_going (ending r) e = refl
-alive_going (ended x) e = absurd (cc)
 
 module _ (c : Core) (a : ℕ) (s : State) where
   spawn_bodies : (b : Bond) → bodies_of (after_spawn c a b s) ≡ bodies_of c ++ body s [] ∷ []
@@ -99,7 +94,7 @@ module _ (a : ℕ) (bond : Bond) (w w' : Processes) (l : Life) (r : Answer) (c :
   same_length : length c.processes ≡ length w.slots.items
   same_length =
       let b = body (ended (failed undefined)) [] in
-      length_of c ∙ sym (set_length a (bodies_of c) b) ∙ ap length (but.bodies b) ∙ set_length a (bodies_in w) b ∙ map_length slot_body w.slots.items
+      length_of c ∙ sym (set_length a (bodies_of c) b) ∙ ap length (but.bodies b) ∙ set_length a (bodies_in w) b ∙ length-map w.slots.items slot_body
 
   new_body : slot_body new_slot ≡ body s []
   new_body = ap (λ z. body z o.slots.0.messages) h.state ∙ ap (body s) o.slots.1
@@ -111,7 +106,7 @@ module _ (a : ℕ) (bond : Bond) (w w' : Processes) (l : Life) (r : Answer) (c :
   new_bodies = ap (map slot_body) o.slots.3 ∙ map_more slot_body w.slots.items new_slot ∙ ap (λ z. bodies_in w ++ z ∷ []) new_body
 
   there_in : a < length (bodies_in w)
-  there_in = let k = map_length slot_body w.slots.items in let j = but.there in omega arith
+  there_in = let k = length-map w.slots.items slot_body in let j = but.there in omega arith
 
   there_of : a < length (bodies_of c)
   there_of = let k = length_of c in let j = but.there in let i = same_length in omega arith
@@ -229,7 +224,7 @@ module _ (a : ℕ) (bond : Bond) (w : Processes) (r : Answer) (home function arg
         reaches w (λ c but.
         let b = body (ended (failed undefined)) [] in
         let e : length c.processes ≡ length w.slots.items =
-        length_of c ∙ sym (set_length a (bodies_of c) b) ∙ ap length (but.bodies b) ∙ set_length a (bodies_in w) b ∙ map_length slot_body w.slots.items in
+        length_of c ∙ sym (set_length a (bodies_of c) b) ∙ ap length (but.bodies b) ∙ set_length a (bodies_in w) b ∙ length-map w.slots.items slot_body in
         let s = start_of (module_in w) h n vs in
         let j = length c.processes in
         let m = but.room.most in

@@ -32,19 +32,13 @@ use Rattle.pf_system.specs.declared.slot.Slot.{Slot}
 use Rattle.pf_system.specs.declared.processes.Processes.{Processes}
 use Rattle.pf_system.proofs.Bodies.{set_length}
 use Rattle.pf_system.proofs.Processes.{ran_but, left_at, body_at, get_within, slots_length, sound_at, ties_length_in}
+use Rattle.pf_model.proofs.Turned.{moved_goes_on}
 
 -- ---- a process that goes on by itself can go
 
 abbrev GoesOn : index.Move → Type 0
 GoesOn (goes_on s) = can_go s ≡ true
 GoesOn x = Unit {0}
-
-moved_goes_on : (fs : List Frame) (d : Change) → GoesOn (moved fs d)
-moved_goes_on fs (Becomes t) = refl
-moved_goes_on fs (Raises e) = refl
-moved_goes_on fs (Exits w) = refl
-moved_goes_on fs (Asks x) = tt
-moved_goes_on fs (Awaits ks) = tt
 
 module _ (m : Module) (a : ℕ) where
   move_goes_on : (t : Tree) (x : index.Move) → Moves m a t x → GoesOn x

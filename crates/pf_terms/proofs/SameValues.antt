@@ -3,10 +3,7 @@ use Rattle.std.proofs.Common.{◌≡◌, Bool, true, false, ◌&&◌, refl, ap, 
 use Rattle.std.specs.Cmp.{signed_Decides}
 use Rattle.std.proofs.lemmas.Bool.Decides.{nat_tests}
 use Rattle.pf_terms.specs.Value.{Value, Values, int, atom, ref, pid, tuple, list, none, more, same, same_all}
-
-both_true : (a b : Bool) → (a && b) ≡ true → (a ≡ true) × (b ≡ true)
-both_true true b e = (refl, e)
-both_true false b e = absurd (cc)
+use Rattle.pf_fault.proofs.Bools.{both}
 
 mutual
   pub same_true : (v w : Value) → same v w ≡ true → v ≡ w
@@ -21,9 +18,9 @@ mutual
   same_all_true : (vs ws : Values) → same_all vs ws ≡ true → vs ≡ ws
   same_all_true none none e = refl
   same_all_true (more v vs) (more w ws) e =
-      let both = both_true (same v w) (same_all vs ws) e in
-      let first = same_true v w both.0 in
-      let rest = same_all_true vs ws both.1 in
+      let parts = both (same v w) (same_all vs ws) e in
+      let first = same_true v w parts.0 in
+      let rest = same_all_true vs ws parts.1 in
       cc
   same_all_true _ _ e = absurd (cc)
 

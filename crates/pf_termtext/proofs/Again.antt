@@ -11,7 +11,6 @@ use Rattle.pf_terms.specs.Atoms.{name_of}
 use Rattle.pf_terms.specs.Order.{TellsApart}
 use Rattle.pf_terms.specs.Value.{Value, Values, int, atom, ref, pid, tuple, list, none, more, count, nodes, nodes_in, depth, depth_in, IsWithinLimits}
 use Rattle.pf_tokens.specs.Bytes.{ends, is_digit, is_lower, is_word}
-use Rattle.pf_tokens.proofs.Runs.{both}
 use Rattle.pf_tokens.proofs.Classes.{lower_word}
 use Rattle.pf_model.specs.TermText.{is_plain_name, quoted_byte, values_text, rest_text}
 use Rattle.pf_termtext.specs.Texts.{CanBeRead, AllCanBeRead}
@@ -23,6 +22,7 @@ use Rattle.pf_termtext.proofs.Words.{word_is, behind_word_is}
 use Rattle.pf_termtext.proofs.Items.{item_step}
 use Rattle.pf_termtext.proofs.Values.{at_brace, at_bracket, at_quote, at_minus, at_digit, at_other, tuple_by, list_by}
 use Rattle.pf_termtext.proofs.Sound.{text_of, behind_some}
+use Rattle.pf_fault.proofs.Bools.{both}
 
 -- the values of elements in turn
 abbrev pub listed : Values → List Value

@@ -8,10 +8,10 @@ use Rattle.std.proofs.lemmas.Fmt.{digits_decimal, digits_value-decimal, decimal-
 use Rattle.std.proofs.lemmas.Str.Parse.{IsNumeralModel, numerals_by_fold}
 use Rattle.pf_tokens.specs.Bytes.{is_digit}
 use Rattle.pf_tokens.specs.TokenKinds.{decimal}
-use Rattle.pf_tokens.proofs.Runs.{both}
 use Rattle.pf_text.specs.Numbers.{is_numeral}
 use Rattle.pf_termtext.specs.Texts.{Has64Bits}
 use Rattle.pf_termtext.specs.Reading.{signed, integer_of}
+use Rattle.pf_fault.proofs.Bools.{both}
 
 abbrev are_digits : List ℕ → Type 0
 are_digits ds = list_all is_digit ds ≡ true

@@ -7,7 +7,6 @@ use Rattle.pf_terms.specs.declared.limits.TheConstants.{MOST_DEPTH, MOST_NODES}
 use Rattle.pf_terms.specs.Atoms.{name_of}
 use Rattle.pf_terms.specs.Value.{Value, int, atom, tuple, list, nodes, depth, IsWithinLimits}
 use Rattle.pf_tokens.specs.Bytes.{is_digit}
-use Rattle.pf_tokens.proofs.Runs.{both}
 use Rattle.pf_model.specs.TermText.{is_plain_name, quoted_byte, value_text, values_text, rest_text}
 use Rattle.std.specs.Prelude.{flat_map}
 use Rattle.pf_termtext.specs.Texts.{CanBeRead, AllCanBeRead}
@@ -16,6 +15,7 @@ use Rattle.pf_termtext.proofs.Names.{atom_stands}
 use Rattle.pf_termtext.proofs.Written.{name_sound}
 use Rattle.pf_termtext.proofs.Numbers.{integer_printed}
 use Rattle.pf_termtext.proofs.Words.{word_split}
+use Rattle.pf_fault.proofs.Bools.{both}
 
 -- what is made of a value, and of which
 before_some : {X Y P : Type 0} (rest : List ℕ) (make : X → Y) (o : Option X) (y : Y) (r : List ℕ) → before rest make o ≡ Some (y, r)

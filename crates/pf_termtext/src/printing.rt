@@ -5,7 +5,7 @@ ghost use Rattle.std.specs.Io.KnownBytes.{Appends};
 ghost use Rattle.pf_terms.specs.Atoms.{name_of};
 ghost use Rattle.pf_terms.specs.Term.{value_of};
 ghost use Rattle.pf_model.specs.TermText.{value_text};
-ghost use Rattle.pf_termtext.specs.Streams.{Leaves};
+ghost use Rattle.pf_terms.specs.Streams.{LeavesFront};
 
 use pf_fault::OrNoMemory;
 use pf_terms::{AtomTable, Counted, StreamFault, Term};
@@ -24,7 +24,7 @@ pub fn print<W: Write, L: Ledger>(
     ensures written { OnOk result (Appends (W.contents writer.old.inner) (W.contents writer.new.inner)
         (value_text (name_of atoms.now) (value_of term.now))) }
     ensures kept { OnOk result (writer.new.failures.total ≡ writer.old.failures.total) }
-    ensures fault { IfErr result (λ e. Leaves e (value_text (name_of atoms.now) (value_of term.now))
+    ensures fault { IfErr result (λ e. LeavesFront e (value_text (name_of atoms.now) (value_of term.now))
         (W.contents writer.old.inner) (W.contents writer.new.inner)
         writer.old.failures.total writer.new.failures.total) }
 {

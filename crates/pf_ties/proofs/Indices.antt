@@ -15,6 +15,13 @@ below_ne a b e = grind (arith, nat_tests)
 pub above_ne : (a b : ℕ) → b < a → (b == a) ≡ false
 above_ne a b e = grind (arith, nat_tests)
 
+pub ne_of : (a b : ℕ) → (a ≡ b → ⊥) → (b == a) ≡ false
+ne_of a b e = by (b == a) refl
+  where
+    by : (t : Bool) → (b == a) ≡ t → t ≡ false
+    by true q = absurd (e (grind (arith, nat_tests)))
+    by false q = refl
+
 pub below_not : (a b : ℕ) → a < b → nat_lt b a ≡ false
 below_not a b e = grind (arith, nat_tests)
 

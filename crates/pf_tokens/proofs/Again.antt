@@ -16,12 +16,13 @@ use Rattle.pf_tokens.specs.TokenKinds.{TokenKind, decimal, mark_text, marks, lon
 use Rattle.pf_tokens.specs.TokenKinds as kinds
 use Rattle.pf_tokens.specs.Scan.{closing, atom_unless, number_at, word_at, variable_at, mark_at, piece_of, piece_at, or_fault, token}
 use Rattle.pf_tokens.specs.Rules.{IsRun, IsNumeral, IsName, IsPiece, IsLongestMark, WritesAll}
-use Rattle.pf_tokens.proofs.Runs.{both, prefix_len-run}
+use Rattle.pf_tokens.proofs.Runs.{prefix_len-run}
 use Rattle.pf_tokens.proofs.Tables.{find_passes, find_some, find_largest, begins, begins_again}
 use Rattle.pf_tokens.proofs.Classes.{blank_class, digit_class, lower_class, upper_class}
 use Rattle.pf_tokens.proofs.Written.{mark_found, mark_class, one_mark, reserved_found}
 use Rattle.pf_tokens.proofs.Quotes.{with_front}
 use Rattle.pf_tokens.proofs.Skips.{IsQuoteMark, closing_skips, closing_closes, character_again}
+use Rattle.pf_fault.proofs.Bools.{both}
 
 -- the piece of a text is that of its class
 pub piece_is : (offset : ℕ) (text : List ℕ) (k : Class) → class_of (slice_index text 0) ≡ k → piece_at offset text ≡ piece_of k offset text

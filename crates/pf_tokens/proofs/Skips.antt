@@ -6,8 +6,9 @@ use Rattle.pf_tokens.specs.declared.quoted.Step.TheVariants.{Means}
 use Rattle.pf_tokens.specs.Bytes.{is_quotable, is_visible}
 use Rattle.pf_tokens.specs.Scan.{Read, put_byte, step_of, closing, behind_dollar}
 use Rattle.pf_tokens.specs.Rules.{Writes, WritesAll, is_plain_in, is_plain_character, IsWrong, IsCutOff}
-use Rattle.pf_tokens.proofs.Runs.{both, not_true}
+use Rattle.pf_tokens.proofs.Runs.{not_true}
 use Rattle.pf_tokens.proofs.Quotes.{with_front}
+use Rattle.pf_fault.proofs.Bools.{both}
 
 -- a quote is no `\`
 abbrev pub IsQuoteMark : ℕ → Type 0

@@ -8,11 +8,11 @@ use Rattle.pf_tokens.specs.TokenKinds.{TokenKind}
 use Rattle.pf_tokens.specs.TokenKinds as kinds
 use Rattle.pf_tokens.specs.Scan.{Read, Cut, ◌>>=◌, token, closing, piece_at}
 use Rattle.pf_tokens.specs.Rules.{IsNumeral, IsName, IsPiece, IsFault, IsStray, OpensQuoted, WritesAll, is_opening}
-use Rattle.pf_tokens.proofs.Runs.{both}
 use Rattle.pf_tokens.proofs.Written.{mark_some}
 use Rattle.pf_tokens.proofs.Skips.{IsQuoteMark, closing_skips, closing_cut, closing_wrong, character_cut, character_wrong}
 use Rattle.pf_tokens.proofs.Again.{piece_is, numeral_fails}
 use Rattle.pf_tokens.proofs.Says.{Says, piece_says}
+use Rattle.pf_fault.proofs.Bools.{both}
 
 name_some : (test : ℕ → Bool) (bytes rest : List ℕ) → IsName test bytes rest → 0 < length bytes
 name_some test [] rest h = absurd h

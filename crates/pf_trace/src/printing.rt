@@ -5,7 +5,7 @@ ghost use Rattle.std.specs.Io.KnownBytes.{Appends};
 ghost use Rattle.pf_terms.specs.Atoms.{name_of};
 ghost use Rattle.pf_model.specs.Reports.{report_of};
 ghost use Rattle.pf_model.specs.Text.{report_text};
-ghost use Rattle.pf_trace.specs.Streams.{Leaves};
+ghost use Rattle.pf_terms.specs.Streams.{LeavesFront};
 
 use crate::report::put_report;
 use pf_fault::OrNoMemory;
@@ -23,7 +23,7 @@ fn print_text<W: Write, M: Ledger>(
     ensures written { OnOk result (Appends (W.contents writer.old.inner) (W.contents writer.new.inner)
         text.now) }
     ensures kept { OnOk result (writer.new.failures.total ≡ writer.old.failures.total) }
-    ensures fault { IfErr result (λ e. Leaves e text.now
+    ensures fault { IfErr result (λ e. LeavesFront e text.now
         (W.contents writer.old.inner) (W.contents writer.new.inner)
         writer.old.failures.total writer.new.failures.total) }
 {
@@ -41,7 +41,7 @@ pub fn print_report<W: Write, M: Ledger>(
     ensures written { OnOk result (Appends (W.contents writer.old.inner) (W.contents writer.new.inner)
         (report_text (name_of atoms.now) (report_of report.now))) }
     ensures kept { OnOk result (writer.new.failures.total ≡ writer.old.failures.total) }
-    ensures fault { IfErr result (λ e. Leaves e (report_text (name_of atoms.now) (report_of report.now))
+    ensures fault { IfErr result (λ e. LeavesFront e (report_text (name_of atoms.now) (report_of report.now))
         (W.contents writer.old.inner) (W.contents writer.new.inner)
         writer.old.failures.total writer.new.failures.total) }
 {

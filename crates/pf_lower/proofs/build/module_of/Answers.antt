@@ -4,8 +4,8 @@ use Rattle.pf_syntax.specs.ExprModule.{tree_of}
 use Rattle.pf_rules.specs.Static.{names_of, export_fault, defined_faults, unlike_faults, head_faults}
 use Rattle.pf_rules.specs.Checks.{Pairwise, FunctionIs, IsModule}
 use Rattle.pf_rules.specs.Formed.{AreFormed}
-use Rattle.pf_lower.proofs.ExprPatterns_mean.{right_empty}
 use Rattle.pf_lower.proofs.build.module_of.Goals as goal
+use Rattle.pf_lower.proofs.Exists.{right_empty}
 
 pub returns : goal.returns
 returns c = λ clean formed.

@@ -6,8 +6,9 @@ use Rattle.pf_model.specs.Module.{module_of}
 use Rattle.pf_stepper.specs.MachineView.{at_call}
 use Rattle.pf_syntax.specs.declared.node.FunctionId.{FunctionId}
 use Rattle.pf_system.specs.Acts.{home_function}
-use Rattle.pf_system.proofs.Beginning.{count_of, start_at, begins_running, begins_ending}
+use Rattle.pf_system.proofs.Beginning.{start_at, begins_running, begins_ending}
 use Rattle.pf_system.proofs.spawn.begun.Goals as goal
+use Rattle.pf_terms.proofs.Counts.{length_count}
 
 pub returns-in_ok-new-in-Some : goal.returns-in_ok-new-in-Some
 returns-in_ok-new-in-Some c =
@@ -16,7 +17,7 @@ returns-in_ok-new-in-Some c =
     let items = c.in_ok-items.items.items in
     let pid = c.args.pid in
     let f = c.in-Some.function.0 in
-    let n : c.len.result ≡ count vs = c.len.ensures.value ∙ count_of items ∙ ap count c.in_ok-items.ensures in
+    let n : c.len.result ≡ count vs = c.len.ensures.value ∙ length_count items ∙ ap count c.in_ok-items.ensures in
     let o : Some f ≡ home_function m c.args.home.0 c.args.name.0 c.len.result =
     ap (option_map {T = FunctionId} (λ i. i.0)) (sym c.in-Some.is) ∙ c.in_ok-function.ensures
     ∙ ap (λ z. home_function (module_of z) c.args.home.0 c.args.name.0 c.len.result) c.deref.ensures in
@@ -29,7 +30,7 @@ pub returns-in_ok-ending_reason-in-None : goal.returns-in_ok-ending_reason-in-No
 returns-in_ok-ending_reason-in-None c =
     let m = module_of c.args.module.now.value in
     let vs = elements_of c.args.arguments.now in
-    let n : c.len.result ≡ count vs = c.len.ensures.value ∙ count_of c.in_ok-items.items.items ∙ ap count c.in_ok-items.ensures in
+    let n : c.len.result ≡ count vs = c.len.ensures.value ∙ length_count c.in_ok-items.items.items ∙ ap count c.in_ok-items.ensures in
     let none : Option ℕ = None in
     let o : none ≡ home_function m c.args.home.0 c.args.name.0 c.len.result =
     ap (option_map {T = FunctionId} (λ i. i.0)) (sym c.in-None.is) ∙ c.in_ok-function.ensures

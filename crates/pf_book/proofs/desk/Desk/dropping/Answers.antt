@@ -8,7 +8,7 @@ use Rattle.pf_quota.specs.Usage.{Covers, charged, refunded}
 use Rattle.pf_desks.specs.Desk.{held_at}
 use Rattle.pf_desks.specs.Calls.{usage_in}
 use Rattle.pf_book.proofs.Planned.{drop_planned}
-use Rattle.pf_book.proofs.Sums.{trial_covers}
+use Rattle.pf_desks.proofs.Sums.{trial_covers}
 use Rattle.pf_book.proofs.desk.Desk.dropping.Goals as goal
 
 pub refund-requires : goal.refund-requires

@@ -18,7 +18,7 @@ use Rattle.pf_book.specs.declared.desk.Desk.TheInside.{Inside}
 use Rattle.pf_book.proofs.Counted.{count_is, number_within}
 use Rattle.pf_book.proofs.Followed.{counts_held, follows_withdrawal}
 use Rattle.pf_book.proofs.Planned.{withdrawal_planned, withdrawal_in_use}
-use Rattle.pf_book.proofs.Sums.{module_covers}
+use Rattle.pf_desks.proofs.Sums.{module_covers}
 use Rattle.pf_book.proofs.desk.Desk.withdrawal.Goals as goal
 
 -- the count of a module that is held is that of its users
