@@ -58,9 +58,9 @@ fn put_lines(
     refusal: Refusal,
 ) -> Result<(), NoMemory>
     ensures { OnOk result (out.new.items
-        ≡ out.old.items ++ explanation source.now refusal.code refusal.position) }
+        ≡ out.old.items ++ explanation source.now refusal.code refusal.offset) }
 {
-    let position = refusal.position.min(source.len());
+    let position = refusal.offset.min(source.len());
     let (front, behind) = source.split_at(position);
     put_position(alloc, out, front)?;
     put_line(out, front, behind)?;
@@ -77,7 +77,7 @@ pub fn put_explanation(
     refusal: Refusal,
 ) -> Result<(), NoMemory>
     ensures put { OnOk result (out.new.items
-        ≡ out.old.items ++ explanation source.now refusal.code refusal.position) }
+        ≡ out.old.items ++ explanation source.now refusal.code refusal.offset) }
     ensures err { OnErr result (out.new.items ≡ out.old.items) }
 {
     let mut text = Vec::new(alloc);

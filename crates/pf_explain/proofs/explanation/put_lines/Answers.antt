@@ -7,7 +7,7 @@ use Rattle.pf_explain.proofs.explanation.put_lines.Goals as goal
 pub returns : goal.returns
 returns c =
     let source = c.args.source.now in
-    let position = c.args.refusal.position in
+    let position = c.args.refusal.offset in
     let front : c.split_at.result.0.now ≡ take position source = c.split_at.ensures.front ∙ ap (λ (n : ℕ). take n source) c.min-position.ensures ∙ take_min position source in
     let behind : c.split_at.result.1.now ≡ drop position source = c.split_at.ensures.back ∙ ap (λ (n : ℕ). drop n source) c.min-position.ensures ∙ drop_min position source in
     let first = rw front at c.in_ok-put_position.ensures in

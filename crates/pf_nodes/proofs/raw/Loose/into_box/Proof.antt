@@ -12,7 +12,7 @@ use contract.Lifetimes.{Lfts}
 use contract.Monad.{fact, fact_i}
 use contract.Running.{tables}
 use types.Kit.{Item, ⋆, ‵, raw, ◌⊛◌, some, later, at_ret, ◌$◌, ◌∵◌, !, qed, by, move, keep, drop, split, join, split3, use0, use1, await, pick, rewrite, fsplit, fjoin, feq_i}
-use types.Operand.{sub, whole}
+use types.Part.{sub, whole}
 use types.Run.{stop, fld, of_opd, no_more, and_then, first, blocks, exec, returns, enter}
 use types.ByLocal.{alloc_all, pass_all, free_all, look_at, get, get_in, sets, lands_last, env}
 use types.Tokens.{lft_new}

@@ -8,7 +8,7 @@ use prog.Wp.{WpFn}
 use contract.Monad.{fact, fact_i}
 use contract.Running.{tables}
 use types.Kit.{Item, ⋆, ‵, raw, ◌⊛◌, ◌$◌, ◌∵◌, !, qed, by, move, keep, split, join, use0, use2, fsplit, fsplit3, fjoin, fjoin3, feq_i, feq_l}
-use types.Operand.{whole, sub, agg}
+use types.Part.{whole, sub, agg}
 use types.Run.{stop, fld, of_opd, and_then, no_more, returns, enter}
 use types.ByLocal.{alloc_all, pass_all, free_all, look_at, get, get_in, sets}
 use types.SemTy.{Body as Borrowed}

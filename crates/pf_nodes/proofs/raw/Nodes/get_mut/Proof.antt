@@ -14,7 +14,7 @@ use contract.BorrowLft.{◌⊑◌}
 use contract.Monad.{fact, fact_i}
 use contract.Running.{tables}
 use types.Kit.{Item, ⋆, ‵, raw, ◌⊛◌, some, later, await, pick, at_ret, ◌$◌, ◌∵◌, !, qed, by, move, keep, split, join, group, use0, use1, use2, rewrite, fsplit, fsplit3, fjoin, fjoin3, fpack, feq_l, done}
-use types.Operand.{whole, sub}
+use types.Part.{whole, sub}
 use types.Run.{stop, fld, of_opd, addr, first, blocks, exec, returns, enter}
 use types.ByLocal.{alloc_all, pass_all, free_all, look_at, get, get_in, through, sets, sets_last, is, env}
 use types.SemTy.{Body as Borrowed}
@@ -23,7 +23,7 @@ use denote.RattleType.{RattleType, owns}
 use denote.Memory.{mem, lone, cell_at, part_at, part_of}
 use denote.RawPtr.{Ptr, block_ptr, null_ptr, ptr_val, in_a_block, lies_at}
 use denote.Ref.{MutBor, MutRef}
-use denote.Follow.{follows, Operand, lends_Part}
+use denote.Follow.{follows, Part, lends_Part}
 use denote.Signature.{types_at, plain, mut_ref_to}
 use denote.Steps.{nothing, heard, opens}
 use denote.Triple.Walked.{Stays, stay_dropped, walk_of, Goes-dropped, Goes-spent_ref}
@@ -83,7 +83,7 @@ get_mut_spec 𝓤 𝓛 𝓜 𝓡 wired T L =
     use1 𝓛 (‵ (Boxed 𝓛 T node_ref.ptr n) ⊛ ‵ (nodes_own (R T) rest)) (node_out 𝓛 T node_ref.ptr d.items n asked.1) $ split ! $
     in_a_block ! node_ref.ptr (λ p. box_owns heap_token (Nr T) p n) (fst∗ 𝓤 (never 𝓤) (sem 𝓛 (heap_token (bare (lone (Nr T).mir)) null_ptr))) (λ pb po e.
     let Kept = Rest T d node_ref n rb ro vs pb po in let way = back T d node_ref n rb ro vs pb po 𝓛 e asked.1 in
-    let Here : GName → SProp 𝓤 = λ δ. Operand 𝓛 (Sr T) (Nr T) becomes (named 0) κ qs.0 rb ro pb po γ (sem 𝓛 Kept) way n δ in
+    let Here : GName → SProp 𝓤 = λ δ. Part 𝓛 (Sr T) (Nr T) becomes (named 0) κ qs.0 rb ro pb po γ (sem 𝓛 Kept) way n δ in
     fsplit ! $
     -- [the node; its token; the others; the mark; its cell; the open borrow; obs; auth; the other token]
     first ! $ blocks ! $
