@@ -22,8 +22,9 @@ pub fn equal(a: &Term, b: &Term) -> bool
     }
 }
 
+/// Whether two lists have the same elements.
 #[cycle(equal)]
-fn equal_lists(a: &List, b: &List) -> bool
+pub fn equal_lists(a: &List, b: &List) -> bool
     ensures { result ≡ same_all (elements_of a.now) (elements_of b.now) }
 {
     let mut a = a;
