@@ -30,14 +30,14 @@ fn receive(
     letter: char,
     tested: &Cell<u32>,
 ) -> Option<(usize, char)> {
-    let found = list.find_from_mark(|item| -> Result<bool, ()> {
+    while let Some(marked) = list.marked() {
         tested.set(tested.get().wrapping_add(1));
-        Ok(*item == letter)
-    });
-    match found {
-        Ok(Some(spot)) => Some((spot.position(), list.unlink(pool, spot))),
-        _ => None,
+        if *marked == letter {
+            return Some((list.mark(), list.take_marked(pool)));
+        }
+        list.pass();
     }
+    None
 }
 
 /// What a mailbox comes to by this script, in which `+a` puts the letter at the end, `?a` receives it from the mark on, and `^` goes back to
@@ -78,25 +78,6 @@ fn receives_selectively(rt: HostRuntime) -> Result<(), Fail> {
     Ok(())
 }
 
-/// What a search comes to that fails at a zero, and where the mark is left, in a list of two.
-fn at_zero(alloc: Global) -> Result<(bool, usize, usize), Fail> {
-    let mut pool = Pool::new(alloc);
-    let mut list = MailList::new(alloc);
-    push(&mut list, &mut pool, 3)?;
-    push(&mut list, &mut pool, 0)?;
-    let found = list.find_from_mark(|item: &u32| 12u32
-        .checked_div(*item)
-        .map(|q| q > 9)
-        .ok_or("zero"));
-    Ok((found == Err("zero"), list.mark(), list.len()))
-}
-
-#[test]
-fn stays_at_a_fault(rt: HostRuntime) -> Result<(), Fail> {
-    assert_eq!(rt; at_zero(rt.alloc())?, (true, 1, 2));
-    Ok(())
-}
-
 /// Puts so many items at the end that count their drops.
 fn add<'a>(
     list: &mut MailList<Counted<'a>>,
@@ -117,10 +98,10 @@ fn drops_and_spare(alloc: Global) -> Result<[(u32, usize); 5], Fail> {
     let mut pool = Pool::new(alloc);
     let mut list = MailList::new(alloc);
     add(&mut list, &mut pool, &drops, 4)?;
-    let Ok(Some(spot)) = list.find_from_mark(|_| -> Result<bool, ()> { Ok(true) }) else {
-        return Err(Fail::from("nothing is found"));
-    };
-    let item = list.unlink(&mut pool, spot);
+    if list.marked().is_none() {
+        return Err(Fail::from("nothing is marked"));
+    }
+    let item = list.take_marked(&mut pool);
     let taken = (drops.get(), pool.len());
     drop(item);
     let dropped = (drops.get(), pool.len());
