@@ -30,7 +30,10 @@ fn receive(
     letter: char,
     tested: &Cell<u32>,
 ) -> Option<(usize, char)> {
-    while let Some(marked) = list.marked() {
+    for _ in list.mark()..list.len() {
+        let Some(marked) = list.marked() else {
+            return None;
+        };
         tested.set(tested.get().wrapping_add(1));
         if *marked == letter {
             return Some((list.mark(), list.take_marked(pool)));
