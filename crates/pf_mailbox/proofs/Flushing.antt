@@ -1,8 +1,7 @@
 -- A flush of a list from its front.
-use Rattle.std.proofs.Common.{◌≡◌, ℕ, zero, suc, ◌+◌, ◌<◌, ◌==◌, Bool, true, false, List, [], ◌∷◌, length, map, refl, sym, ap, ◌∙◌, subst, Some, below_more, arith}
+use Rattle.std.proofs.Common.{◌≡◌, ℕ, zero, suc, ◌<◌, ◌==◌, Bool, true, false, List, [], ◌∷◌, length, map, refl, ap, ◌∙◌, Some, arith}
 use Rattle.std.specs.Prelude.{slice_get, remove}
 use Rattle.std.specs.List.{list_any}
-use Rattle.std.proofs.lemmas.Option.{same_Some}
 use Rattle.pf_terms.specs.Value.{Value, none, more, int, atom, ref, pid, tuple, list}
 use Rattle.pf_terms.specs.Term.{value_of, values_of}
 use Rattle.pf_terms.specs.declared.term.Term.{Term}
@@ -82,9 +81,3 @@ module _ (r : ℕ) where
   pub told_none : (xs : List Term) → QuietTo (length xs) xs → false ≡ list_any (tells_of r) (map value_of xs)
   told_none [] q = refl
   told_none (y ∷ ys) q = rw (q zero y (omega arith) refl) (told_none ys (λ j z l. q (suc j) z (omega arith)))
-
-  -- and the one behind them
-  pub quiet_more : (xs : List Term) (k : ℕ) (x : Term) → QuietTo k xs → slice_get xs k ≡ Some x → Tells false x → QuietTo (k + 1) xs
-  quiet_more xs k x q s t j y l e =
-      let P : ℕ → Type 0 = λ i. (z : Term) → slice_get xs i ≡ Some z → Tells false z in
-      below_more P k (λ i b z f. q i z b f) (λ z f. subst (Tells false) (same_Some x z (sym s ∙ f)) t) j l y e

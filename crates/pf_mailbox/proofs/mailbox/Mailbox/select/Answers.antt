@@ -42,8 +42,8 @@ returns-clause-selected c =
     let before = rw (← c.self.view_is) at c.requires.before in let s = c.search-picked in let t = c.take_marked-message in
     rw (← c.self.view_is)
     (takes c.args.code.now c.args.own c.args.base c.args.env.now.items c.args.clauses.now c.self.inside.list s.new.list s.ensures.items before s.ensures.passed
-    s.new.env.items c.in-Some.body (rw c.in-Some.is at c.in_ok-body.ensures.sought) t.result t.ensures.item t.new.self.items
-    (ap (λ l. l.items) t.ensures.others))
+    s.new.env.items c.in-Some.body (rw c.in-Some.is at c.in_ok-body.ensures.sought) t.result t.ensures.item c.reset_mark.new.self.items
+    (ap (λ l. l.items) c.reset_mark.ensures ∙ ap (λ l. l.items) t.ensures.others))
 
 pub returns-clause-tests : goal.returns-clause-tests
 returns-clause-tests c =
