@@ -23,7 +23,7 @@ pub(crate) struct FunctionTable {
 }
 
 impl FunctionTable {
-    /// The functions of a source.
+    /// The functions of a syntax tree.
     pub(crate) fn new(alloc: Global, source: &SyntaxTree) -> Result<FunctionTable, NoMemory>
         ensures { IfOk result (λ table. Knows table source.now.functions) }
     {
@@ -76,7 +76,7 @@ impl FunctionTable {
     }
 }
 
-/// The functions that a source exports.
+/// The functions that a syntax tree exports.
 pub(crate) fn exports_of(alloc: Global, source: &SyntaxTree) -> Result<Signatures, NoMemory>
     ensures { IfOk result (λ exported. Exports exported source.now.exports) }
 {

@@ -1,4 +1,4 @@
--- Code: what a run is of.
+-- A module: what a run is of.
 use Rattle.std.specs.Prelude.{ℕ, List, Option}
 use Rattle.pf_terms.specs.Atoms.{name_of}
 use Rattle.pf_syntax.specs.Tree.{Program}
@@ -19,6 +19,6 @@ name_in m = name_of m.atoms
 abbrev pub exported_as : Module → (name arity : ℕ) → Option ℕ
 exported_as m name arity = exported_at m.functions (first_named name arity m.functions)
 
--- the code of a checked module
+-- a checked module, as runs know it
 abbrev pub module_of : Checked → Module
 module_of c = record { name = c.name; atoms = c.atoms; functions = c.functions }

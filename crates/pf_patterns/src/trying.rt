@@ -24,7 +24,7 @@ pub(crate) struct Walk<'a> {
     value: &'a Term,
 }
 
-/// Whether a part is the value of a slot in scope, where so many variables of the pattern are bound.
+/// Whether a part is the value of a slot in scope, where `bound` variables of the pattern are bound.
 fn fits_index(walk: &Walk, index: u32, value: Seen, bound: usize) -> bool
     ensures { spec.fit (variable index) (seen_value value.entry) (scope_at walk.now bound)
         ≡ spec.kept_if result (scope_at walk.now bound) }

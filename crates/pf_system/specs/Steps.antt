@@ -49,7 +49,7 @@ unless_spent false c = Some c
 abbrev pub view_of_inside : Inside → SystemView
 view_of_inside s = view_of_system (module_of s.module.value) s.steps (unless_spent s.spent (configuration_of s.processes))
 
--- a world that stands for its own core, and runs this code
+-- processes that represent their own core, and run this module
 pub record RunsModule (m : Module) (w : Processes) : Type 0 where
   pub stands : Represents w (core_of w)
   pub code : module_in w ≡ m

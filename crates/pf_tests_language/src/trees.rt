@@ -22,7 +22,7 @@ fn is_sum(node: Option<&Node>, left: NodeId, right: LiteralId) -> bool {
     }
 }
 
-/// Whether the node is the negative of the variable at the first place.
+/// Whether the node is the negative of the variable in the first slot.
 fn is_negative(node: Option<&Node>) -> bool {
     matches!(node, Some(Node::Negate(Operand::Slot(0))))
 }

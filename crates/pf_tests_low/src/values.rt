@@ -211,7 +211,7 @@ fn add_lists(alloc: Global, rising: &mut Vec<Term>) -> Result<(), Fail> {
     Ok(())
 }
 
-/// The first two of these whose order is not that of their places.
+/// The first two of these whose order is not that of their indices.
 fn out_of_order(rising: &[Term], atoms: &AtomTable) -> Option<(usize, usize)> {
     for (i, x) in rising.iter().enumerate() {
         for (j, y) in rising.iter().enumerate() {
