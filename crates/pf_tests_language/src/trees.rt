@@ -1,4 +1,4 @@
-//! Trees: a module and a source by hand, and long chains that are dropped on small stacks.
+//! Trees: a module and a syntax tree by hand, and long chains that are dropped on small stacks.
 
 ghost use Rattle.std.specs.Prelude.{◌≡◌, ◌+◌, length, OnOk};
 
