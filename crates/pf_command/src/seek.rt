@@ -66,7 +66,7 @@ fn try_shrinking(
     Job::new(alloc, module.share()?, &request, args.edition.number())
 }
 
-/// Whether a schedule may be shrunk within so many runs: the shrinking of the empty one is made, so that its number of runs is refused before
+/// Whether a schedule may be shrunk within n runs: the shrinking of the empty one is made, so that its number of runs is refused before
 /// any seed is run.
 fn may_shrink(
     alloc: Global,

@@ -65,7 +65,7 @@ impl FunctionTable {
         Ok(())
     }
 
-    /// The first function of this name that takes so many arguments.
+    /// The first function of this name that takes this number of arguments.
     pub(crate) fn find(&self, source: &SyntaxTree, name: AtomId, arity: usize) -> Option<FunctionId>
         requires { Knows self.now source.now.functions }
         ensures { MatchOption result (own_in source.now.functions name.0 arity ≡ None)

@@ -15,7 +15,7 @@ pub record Module : Type 0 where
 abbrev pub name_in : Module → ℕ → List ℕ
 name_in m = name_of m.atoms
 
--- the number of the exported function of this name and so many arguments
+-- the number of the exported function of this name and number of arguments
 abbrev pub exported_as : Module → (name arity : ℕ) → Option ℕ
 exported_as m name arity = exported_at m.functions (first_named name arity m.functions)
 

@@ -55,7 +55,7 @@ fn is_literal(code: &Module, id: LiteralId, value: Seen) -> bool
     }
 }
 
-/// Whether a part fits, where so many variables of the whole pattern are bound: how many then are.
+/// Whether a part fits, where n variables of the whole pattern are bound: how many then are.
 #[cycle(walk)]
 fn fits_part(walk: &Walk, part: PatternId, value: Seen, bound: usize) -> Option<usize>
     requires { StandsAt walk.now bound (part_at walk.now part) (seen_value value) }

@@ -109,7 +109,7 @@ pub record FlushesIn (reference : ℕ) (s s' : Slot) : Type 0 where
 
 -- ---- a new process
 
--- the function of this name and so many arguments of a module, which is the own one or none
+-- the exported function of this name and number of arguments in the module `home`, which is the own one; else none
 abbrev pub home_function : Module → (home name arity : ℕ) → Option ℕ
 home_function m home name arity = if home == m.name then exported_as m name arity else None
 

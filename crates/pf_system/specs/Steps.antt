@@ -29,7 +29,7 @@ abbrev pub MayGo : Actor → Option Configuration → Type 0
 MayGo x None = Unit {0}
 MayGo x (Some c) = IsAmong x (enabled c)
 
--- within so many steps an actor went on, by a transition of the definition: it showed this and used so many steps
+-- within `left` steps an actor went on, by a transition of the definition: it showed this and used `used` steps
 pub record PassesTo (left : ℕ) (s : SystemView) (x : Actor) (l : Label) (used : ℕ) (s' : SystemView) : Type 0 where
   pub before : Configuration
   pub passed : Passed

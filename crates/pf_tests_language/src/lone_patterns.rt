@@ -146,7 +146,7 @@ fn patterns_alone_have_the_depth_of_the_grammar(rt: HostRuntime) -> Result<(), F
     Ok(())
 }
 
-/// A quoted atom, or a string, of so many letters.
+/// A quoted atom, or a string, of n letters.
 fn quoted(alloc: Global, quote: u8, letters: usize) -> Result<Vec<u8>, Fail> {
     let mut text = Vec::new(alloc);
     text.push(quote)?;

@@ -119,7 +119,7 @@ fn most_elements_are_4095(rt: HostRuntime) -> Result<(), Fail> {
     Ok(())
 }
 
-/// How many nodes a list of so many zeros has with one more in front, or a tuple of that list alone.
+/// How many nodes a list of n zeros has with one more in front, or a tuple of that list alone.
 fn around(alloc: Global, zeros_within: usize) -> Result<(Option<u32>, Option<u32>), Fail> {
     let longer = match List::cons(alloc, Term::Int(0), zeros(alloc, zeros_within)?) {
         Ok(list) => size(Ok(Term::List(list)))?,
