@@ -22,7 +22,7 @@ with open(crates, encoding="utf-8") as file:
 sys.stdout.writelines(prove.crates_of(top, [it for it in named if os.path.isdir(f"{top}/crates/{it}")]).values())
 END
 cat "$room/below" >> "$room/crates.txt"
-for crate in $(sed 's/[ :].*//' "$room/below"); do
+sed 's/[ :].*//' "$room/below" | while read -r crate; do
   cp -a "$top/crates/$crate" "$room/crates/$crate"
 done
 cd "$room/crates/bench"
