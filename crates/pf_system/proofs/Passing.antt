@@ -1,4 +1,4 @@
--- A delivery of a world, as a transition.
+-- A delivery, as a transition.
 use Rattle.std.proofs.Common.{◌≡◌, ℕ, ◌+◌, Bool, false, Some, refl, sym, ap, ◌∙◌, subst, arith}
 use Rattle.pf_model.specs.Module.{Module, module_of}
 use Rattle.pf_model.specs.Channels.{Channels}
@@ -20,11 +20,11 @@ both c cs = record { core = c; channels = cs }
 pub unspent : (s : SystemView) (m : Module) (k : ℕ) (t : Bool) (d : Configuration) → view_of_system m k (unless_spent t d) ≡ s → t ≡ false → s ≡ view_of_system m k (Some d)
 unspent s m k t d e f = sym e ∙ ap (λ z. view_of_system m k (unless_spent z d)) f
 
--- a world that stands for a core stands for its own
+-- processes that represent a core represent their own
 pub stands_itself : (w : Processes) (c : Core) → Represents w c → Represents w (core_of w)
 stands_itself w c h = subst (Represents w) (sym (again w c h)) h
 
--- the world of a system is kept where the code of another stays
+-- what a system needs is true after a change that leaves module and limit as they were
 pub kept_after : (m : Module) (w w' : Processes) (c : Core) → RunsModule m w → Represents w' c → w'.basis ≡ w.basis → RunsModule m w'
 kept_after m w w' c h s e = record { stands = stands_itself w' c s; code = ap (λ z. module_of z.module.value) e ∙ h.code }
 

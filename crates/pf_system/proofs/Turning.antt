@@ -124,7 +124,7 @@ asks_for m own left used s s1 (v.Take t) r = tt
 asks_for m own left used s s1 v.Wait r = tt
 asks_for m own left used s s1 (v.End e) r = tt
 
--- ---- the turn of a world
+-- ---- the turn, among all processes
 
 shown_from : (w w1 w' : Processes) (a : ℕ) (l : Label) (d : Deed) → w1.shared ≡ w.shared → w1.basis ≡ w.basis → Shown a d w1.shared.channels w1 l w' → Shown a d w.shared.channels w l w'
 shown_from w w1 w' a l d e f h =

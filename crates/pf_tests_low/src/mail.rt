@@ -81,7 +81,7 @@ fn receives_selectively(rt: HostRuntime) -> Result<(), Fail> {
     Ok(())
 }
 
-/// Puts so many items at the end that count their drops.
+/// Puts n items at the end that count their drops.
 fn add<'a>(
     list: &mut MailList<Counted<'a>>,
     pool: &mut Pool<Counted<'a>>,
@@ -137,7 +137,7 @@ const FILLS: [(u32, bool, usize, usize); 10] = [
     (25, false, 1025, 0),
 ];
 
-/// Puts so many items at the end.
+/// Puts n items at the end.
 fn fill(list: &mut MailList<u32>, pool: &mut Pool<u32>, count: u32) -> Result<(), &'static str> {
     for item in 0..count {
         push(list, pool, item)?;
@@ -167,7 +167,7 @@ fn spare_nodes_come_back_and_go_out(rt: HostRuntime) -> Result<(), Fail> {
     Ok(())
 }
 
-/// How many items are dropped, and how many nodes are spare, where so many are put in and drained.
+/// How many items are dropped, and how many nodes are spare, where n are put in and drained.
 fn drained(alloc: Global, count: u32) -> Result<(u32, usize), Fail> {
     let drops = Cell::new(0);
     let mut pool = Pool::new(alloc);
