@@ -11,7 +11,7 @@ use Rattle.pf_system.specs.View.{SystemView, view_of_system}
 use Rattle.pf_system.specs.Steps.{RunsModule, PassesTo, unless_spent}
 use Rattle.pf_system.specs.Processes.{Represents, Delivered, core_of, configuration_of}
 use Rattle.pf_system.specs.declared.processes.Processes.{Processes}
-use Rattle.pf_system.proofs.Processes.{again}
+use Rattle.pf_system.proofs.Changed.{again}
 
 abbrev pub both : Core → Channels → Configuration
 both c cs = record { core = c; channels = cs }

@@ -35,7 +35,7 @@ use Rattle.pf_system.specs.declared.processes.Processes.{Processes}
 use Rattle.pf_system.proofs.Bodies.{bodies_same, length_of, set_length}
 use Rattle.pf_system.proofs.Ready.{numbers_alike, numbers_kept}
 use Rattle.pf_system.proofs.Rows.{enough_senders, posted_length}
-use Rattle.pf_system.proofs.Processes.{put_back, goes_no_more}
+use Rattle.pf_system.proofs.Changed.{put_back, goes_no_more}
 use Rattle.std.proofs.lemmas.List.{length-map}
 
 -- ---- actions that make no process, and take no message out, keep all bodies

@@ -21,7 +21,7 @@ use Rattle.pf_system.specs.declared.processes.Processes.{Processes}
 use Rattle.pf_system.proofs.Bodies.{set_map, set_length, bodies_changed, bodies_same, ties_length}
 use Rattle.pf_system.proofs.Ready.{numbers_kept}
 use Rattle.pf_system.proofs.Rows.{enough_senders, posted_length}
-use Rattle.pf_system.proofs.Processes.{goes_no_more}
+use Rattle.pf_system.proofs.Changed.{goes_no_more}
 
 -- there are rows enough for what is sent
 pub done_so : (w w' : Processes) (a : ℕ) (d : Left) → Represents w' d.core → length d.core.processes ≤ length w.shared.channels

@@ -31,7 +31,7 @@ use Rattle.pf_system.specs.declared.slot.Life.TheVariants as life
 use Rattle.pf_system.specs.declared.slot.Slot.{Slot}
 use Rattle.pf_system.specs.declared.processes.Processes.{Processes}
 use Rattle.pf_system.proofs.Bodies.{set_length}
-use Rattle.pf_system.proofs.Processes.{ran_but, left_at, body_at, get_within, slots_length, sound_at, ties_length_in}
+use Rattle.pf_system.proofs.Changed.{ran_but, left_at, body_at, get_within, slots_length, sound_at, ties_length_in}
 use Rattle.pf_model.proofs.Turned.{moved_goes_on}
 
 -- ---- a process that goes on by itself can go
