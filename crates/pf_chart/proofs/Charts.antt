@@ -8,8 +8,8 @@ use Rattle.pf_model.specs.Reports.{event_of, label_of, outcome_of, report_of}
 use Rattle.pf_model.specs.Text.{label_text, outcome_text}
 use Rattle.pf_chart.specs.declared.columns.Column.{Column}
 use Rattle.pf_chart.specs.Chart.{IsChart, chart, event_labels, process_labels, twice}
-use Rattle.pf_chart.specs.Document.{Draws, drawn, part_text}
-use Rattle.pf_chart.proofs.Drawn.{renamed}
+use Rattle.pf_chart.specs.Words.{Draws}
+use Rattle.pf_svg.proofs.Drawn.{elsewhere, renamed}
 
 abbrev pub of_columns : List ℕ → List Column → List (List ℕ)
 of_columns root cs = flat_map (λ c. process_labels root c.spawned) cs
@@ -44,7 +44,6 @@ chart_of name root r cs o p e e' d =
     ∙ ap (λ (t : List (List ℕ)). (root ∷ root ∷ outcome ∷ []) ++ t) rest) d)
 
 -- a chart that was made by itself, after what stands elsewhere
-pub elsewhere : {name : ℕ → List ℕ} {root : List ℕ} {r : _} {x y : List ℕ} (before after : List ℕ) → x ≡ [] → after ≡ before ++ y
+pub moved : {name : ℕ → List ℕ} {root : List ℕ} {r : _} {x y : List ℕ} (before after : List ℕ) → x ≡ [] → after ≡ before ++ y
     → IsChart name root r x y → IsChart name root r before after
-elsewhere before after none e (chart origins (drawn ps text fixed labels)) =
-    chart origins (drawn ps (e ∙ ap (λ (t : List ℕ). before ++ t) (text ∙ ap (λ (t : List ℕ). t ++ flat_map part_text ps) none)) fixed labels)
+moved before after none e (chart origins d) = chart origins (elsewhere before after none e d)

@@ -2,7 +2,7 @@
 use Rattle.std.specs.Prelude.{ℕ, List, [], ◌∷◌, ◌++◌, Option, Some, None, map, flat_map}
 use Rattle.pf_model.specs.Meaning.{Report}
 use Rattle.pf_model.specs.Text.{label_text, outcome_text}
-use Rattle.pf_chart.specs.Document.{Draws}
+use Rattle.pf_chart.specs.Words.{Draws}
 
 -- whole in a tooltip, and shown
 abbrev pub twice : List ℕ → List (List ℕ)

@@ -1,4 +1,2 @@
 pub mod Chart
-pub mod Document
-pub mod Escaped
 pub mod Words

@@ -1,43 +1,36 @@
--- The words of a chart: all that its documents are made of, but for numbers and labels.
+-- The words of a chart: with those of each document in SVG, all that a chart is made of, but for numbers and labels.
 use Rattle.std.specs.Prelude.{ℕ, Bool, List, [], ◌∷◌, ◌++◌, codes}
-use Rattle.std.specs.List.{list_any}
-use Rattle.std.specs.Str.{bytes_eq}
+use Rattle.pf_svg.specs.Document.{Draws as DrawsIn}
+use Rattle.pf_svg.specs.Words.{is_word as is_word_of}
 use Rattle.pf_chart.specs.declared.marks.TheConstants.{LINKED, UNLINKED}
 use Rattle.pf_chart.specs.declared.style.TheConstants.{DEFINITIONS, LEGEND, LEGEND_OF_SPAWNS, STYLE}
 
 -- tags, or beginnings and ends of tags
 abbrev pub markup : List (List ℕ)
 markup =
-    codes "<svg xmlns=\"http://www.w3.org/2000/svg\" role=\"img\"" ∷ codes " viewBox=\"0 0 " ∷ codes "</svg>\n"
-    ∷ codes "<title>Run of " ∷ codes "</title>\n<desc>A message sequence chart of a run of " ∷ codes ".</desc>\n"
-    ∷ codes "<rect class=\"sheet\" width=\"100%\" height=\"100%\"/>\n" ∷ codes "<rect class=\"bands\""
-    ∷ codes "<rect" ∷ codes " rx=\"4\"/>" ∷ codes "<line class=\"" ∷ codes "<path d=\""
-    ∷ codes "<title>" ∷ codes "</title>" ∷ codes "<text class=\"" ∷ codes "<text class=\"number\""
-    ∷ codes "<text x=\"10\" y=\"-4\">" ∷ codes "</text>" ∷ codes "</text>\n" ∷ codes "</text></g>\n"
-    ∷ codes "<g>" ∷ codes "<g class=\"" ∷ codes "<g class=\"event " ∷ codes "<g class=\"arrow "
-    ∷ codes "<g class=\"arrow spawn\"" ∷ codes " transform=\"translate(" ∷ codes ")\">" ∷ codes "</g>\n"
-    ∷ codes ">" ∷ codes "\"" ∷ codes "\"/>" ∷ codes "/>" ∷ codes "/>\n" ∷ codes "\">\n" ∷ codes "\n" ∷ []
+    codes "<title>Run of " ∷ codes "</title>\n<desc>A message sequence chart of a run of " ∷ codes ".</desc>\n"
+    ∷ codes "<rect class=\"sheet\" width=\"100%\" height=\"100%\"/>\n" ∷ codes " class=\"bands\""
+    ∷ codes "<text x=\"10\" y=\"-4\">" ∷ codes "<g>" ∷ codes " transform=\"translate(" ∷ codes ")\"" ∷ []
 
 -- names of attributes that are numbers
 abbrev pub attributes : List (List ℕ)
-attributes =
-    codes "x" ∷ codes "y" ∷ codes "x1" ∷ codes "y1" ∷ codes "x2" ∷ codes "y2" ∷ codes "width" ∷ codes "height"
-    ∷ codes "data-pid" ∷ codes "data-event" ∷ codes "data-delivery" ∷ []
+attributes = codes "data-pid" ∷ codes "data-event" ∷ codes "data-delivery" ∷ []
 
 -- classes: of lines and texts, of processes, of events and of arrows
 abbrev pub classes : List (List ℕ)
 classes =
     codes "before" ∷ codes "life" ∷ codes "life waiting" ∷ codes "pid" ∷ codes "of" ∷ codes "foot"
-    ∷ codes "outcome" ∷ codes "legend" ∷ codes "process" ∷ codes "process deadlocked"
-    ∷ codes "send" ∷ codes "spawn" ∷ codes "watched" ∷ codes "link" ∷ codes "unlink" ∷ codes "monitor"
-    ∷ codes "demonitor" ∷ codes "exit" ∷ codes "flag" ∷ codes "name" ∷ codes "reference" ∷ codes "receive"
-    ∷ codes "wait" ∷ codes "raise" ∷ codes "end" ∷ codes "cut" ∷ codes "delivery" ∷ codes "dropped"
-    ∷ codes "ending" ∷ codes "message" ∷ codes "down" ∷ codes " lost" ∷ codes " dropped" ∷ codes "" ∷ []
+    ∷ codes "outcome" ∷ codes "legend" ∷ codes "number" ∷ codes "process" ∷ codes "process deadlocked"
+    ∷ codes "event " ∷ codes "send" ∷ codes "spawn" ∷ codes "watched" ∷ codes "link" ∷ codes "unlink"
+    ∷ codes "monitor" ∷ codes "demonitor" ∷ codes "exit" ∷ codes "flag" ∷ codes "name" ∷ codes "reference"
+    ∷ codes "receive" ∷ codes "wait" ∷ codes "raise" ∷ codes "end" ∷ codes "cut" ∷ codes "delivery"
+    ∷ codes "dropped" ∷ codes "ending" ∷ codes "arrow " ∷ codes "arrow spawn" ∷ codes "message" ∷ codes "down"
+    ∷ codes " lost" ∷ codes " dropped" ∷ codes "" ∷ []
 
--- outlines of marks, and what stands between the numbers of a path
+-- outlines of marks
 abbrev pub outlines : List (List ℕ)
 outlines =
-    codes "M" ∷ codes "L" ∷ codes "C" ∷ codes " " ∷ LINKED.now ∷ UNLINKED.now
+    LINKED.now ∷ UNLINKED.now
     ∷ codes "M-2 0a2 2 0 1 0 4 0a2 2 0 1 0 -4 0z" ∷ codes "M-6 -6l12 12M-6 6l12 -12"
     ∷ codes "M-9 -2h18v4h-18zM-5 -10l10 8M-5 -2l10 -8" ∷ codes "M-3 0a3 3 0 1 0 6 0a3 3 0 1 0 -6 0z"
     ∷ codes "M-5 -5h10v10h-10zM-3 0h6M0 -3v6" ∷ codes "M-9 0q9 -11 18 0q-9 11 -18 0zM-3 0h6M0 -3v6"
@@ -53,5 +46,12 @@ phrases =
     ∷ codes " spawned by " ∷ codes " in event " ∷ codes " from " ∷ codes " to " ∷ codes "waits"
     ∷ codes ", never delivered" ∷ codes ", dropped" ∷ LEGEND.now ∷ LEGEND_OF_SPAWNS.now ∷ []
 
+abbrev pub words : List (List ℕ)
+words = markup ++ attributes ++ classes ++ outlines ++ phrases ++ STYLE.now ∷ DEFINITIONS.now ∷ []
+
 abbrev pub is_word : List ℕ → Bool
-is_word w = list_any (bytes_eq w) (markup ++ attributes ++ classes ++ outlines ++ phrases ++ STYLE.now ∷ DEFINITIONS.now ∷ [])
+is_word w = is_word_of words w
+
+-- after what stood there comes what has these labels in their order, each escaped, and for the rest words of a chart and numbers
+abbrev pub Draws : (labels : List (List ℕ)) (before after : List ℕ) → Type 0
+Draws labels before after = DrawsIn words labels before after

@@ -5,8 +5,7 @@ ghost use Rattle.pf_terms.specs.Atoms.{name_of};
 ghost use Rattle.pf_model.specs.Reports.{label_of, outcome_of, report_of};
 ghost use Rattle.pf_model.specs.Text.{label_text, outcome_text};
 ghost use Rattle.pf_chart.specs.Chart.{IsChart, process_labels, twice};
-ghost use Rattle.pf_chart.specs.Document.{Draws};
-ghost use Rattle.pf_chart.specs.Words.{is_word};
+ghost use Rattle.pf_chart.specs.Words.{Draws, is_word};
 
 use crate::events::{put_events, put_numbers};
 use crate::heads::{put_columns, put_spawns};
@@ -14,8 +13,8 @@ use crate::layout::{Layout, layout_of};
 use crate::sheet::{GUTTER, ROW, Sheet, TOP};
 use crate::strokes::put_arrows;
 use crate::style::{DEFINITIONS, LEGEND, LEGEND_OF_SPAWNS, STYLE};
-use crate::svg::Part::{Attribute, Label, Number, Place, Short, Word};
-use crate::svg::Svg;
+use crate::words::Svg;
+use pf_svg::Part::{Attribute, Label, Markup, Number, Short};
 use pf_terms::{AtomTable, NoMemory};
 use pf_text::put;
 use pf_trace::{Report, put_outcome};
@@ -35,22 +34,6 @@ fn text_of_outcome(alloc: Global, atoms: &AtomTable, report: &Report) -> Result<
     Ok(text)
 }
 
-/// Puts the beginning of the document, with its size.
-fn put_opening(svg: &mut Svg, sheet: Sheet) -> Result<(), NoMemory>
-    ensures { OnOk result (Draws [] svg.old.bytes.items svg.new.bytes.items) }
-{
-    let width = sheet.width();
-    let height = sheet.height();
-    svg.put(&[
-        Word("<svg xmlns=\"http://www.w3.org/2000/svg\" role=\"img\""),
-        Attribute("width", width),
-        Attribute("height", height),
-        Word(" viewBox=\"0 0 "),
-        Place(width, height),
-        Word("\">\n"),
-    ])
-}
-
 /// Puts the title of the document, and what it shows in words.
 fn put_words<'a>(
     svg: &mut Svg,
@@ -59,53 +42,52 @@ fn put_words<'a>(
     processes: usize,
     events: usize,
 ) -> Result<(), NoMemory>
-    ensures { OnOk result (Draws (root.now ∷ root.now ∷ outcome.now ∷ [])
-        svg.old.bytes.items svg.new.bytes.items) }
+    ensures { OnOk result (Draws (root.now ∷ root.now ∷ outcome.now ∷ []) svg.old svg.new) }
 {
     svg.put(&[
-        Word("<title>Run of "),
+        Markup("<title>Run of "),
         Label(root),
-        Word("</title>\n<desc>A message sequence chart of a run of "),
+        Markup("</title>\n<desc>A message sequence chart of a run of "),
         Label(root),
-        Word(", from top to bottom. Processes: "),
+        Markup(", from top to bottom. Processes: "),
         Number(processes as u64),
-        Word(". Events: "),
+        Markup(". Events: "),
         Number(events as u64),
-        Word(". Outcome: "),
+        Markup(". Outcome: "),
         Label(outcome),
-        Word(".</desc>\n"),
+        Markup(".</desc>\n"),
     ])
 }
 
 /// Puts the sheet, and bands behind the rows.
 fn put_ground(svg: &mut Svg, events: usize, sheet: Sheet) -> Result<(), NoMemory>
-    ensures { OnOk result (Draws [] svg.old.bytes.items svg.new.bytes.items) }
+    ensures { OnOk result (Draws [] svg.old svg.new) }
 {
-    svg.put(&[
-        Word("<rect class=\"sheet\" width=\"100%\" height=\"100%\"/>\n"),
-        Word("<rect class=\"bands\""),
+    svg.put(&[Markup("<rect class=\"sheet\" width=\"100%\" height=\"100%\"/>\n")])?;
+    svg.rect(&[
+        Markup(" class=\"bands\""),
         Attribute("y", TOP),
         Attribute("width", sheet.width()),
         Attribute("height", (events as u64).saturating_mul(ROW)),
-        Word("/>\n"),
-    ])
+    ])?;
+    svg.end_line()
 }
 
 /// Puts a line of the legend.
 fn put_legend(svg: &mut Svg, line: &'static str, y: u64) -> Result<(), NoMemory>
     requires { IsTrue (is_word line.now) }
-    ensures { OnOk result (Draws [] svg.old.bytes.items svg.new.bytes.items) }
+    ensures { OnOk result (Draws [] svg.old svg.new) }
 {
-    svg.text("legend", (GUTTER, y), &[Word(line)])?;
-    svg.put(&[Word("\n")])
+    svg.text("legend", (GUTTER, y), &[Markup(line)])?;
+    svg.end_line()
 }
 
 /// Puts the outcome, whole in a tooltip and as long as the sheet is wide.
 fn put_result(svg: &mut Svg, outcome: &[u8], y: u64, sheet: Sheet) -> Result<(), NoMemory>
-    ensures { OnOk result (Draws (twice outcome.now) svg.old.bytes.items svg.new.bytes.items) }
+    ensures { OnOk result (Draws (twice outcome.now) svg.old svg.new) }
 {
     let most = (sheet.width().saturating_sub(2 * GUTTER) / LETTER) as usize;
-    svg.put(&[Word("<g>")])?;
+    svg.put(&[Markup("<g>")])?;
     svg.title(&[Label(outcome)])?;
     svg.text("outcome", (GUTTER, y), &[Short(outcome, most)])?;
     svg.close_group()
@@ -113,13 +95,13 @@ fn put_result(svg: &mut Svg, outcome: &[u8], y: u64, sheet: Sheet) -> Result<(),
 
 /// Puts the outcome and the legend below all, and the end of the document.
 fn put_bottom(svg: &mut Svg, outcome: &[u8], sheet: Sheet) -> Result<(), NoMemory>
-    ensures { OnOk result (Draws (twice outcome.now) svg.old.bytes.items svg.new.bytes.items) }
+    ensures { OnOk result (Draws (twice outcome.now) svg.old svg.new) }
 {
     let y = sheet.bottom().saturating_add(48);
     put_result(svg, outcome, y, sheet)?;
     put_legend(svg, LEGEND, y.saturating_add(22))?;
     put_legend(svg, LEGEND_OF_SPAWNS, y.saturating_add(37))?;
-    svg.put(&[Word("</svg>\n")])
+    svg.close()
 }
 
 /// Puts what was laid out, from the back to the front.
@@ -135,13 +117,13 @@ fn put_layout(
     ensures { OnOk result (Draws
         (flat_map (λ c. process_labels root.now c.spawned) layout.now.columns.items
         ++ flat_map (λ e. twice (label_text (name_of atoms.now) (label_of e.label))) report.now.events.items)
-        svg.old.bytes.items svg.new.bytes.items) }
+        svg.old svg.new) }
 {
     put_ground(svg, report.events.len(), sheet)?;
     put_numbers(svg, report.events.len(), sheet)?;
     put_columns(svg, &layout.columns, root, sheet)?;
     put_spawns(svg, &layout.columns, sheet)?;
-    put_arrows(svg, &layout.arrows, &layout.columns, sheet)?;
+    put_arrows(svg, &layout.traffic.arrows, &layout.columns, sheet)?;
     put_events(alloc, svg, atoms, &report.events, &layout.columns, sheet)
 }
 
@@ -153,17 +135,16 @@ fn put_document(
     root: &[u8],
     report: &Report,
 ) -> Result<(), NoMemory>
-    ensures { OnOk result (IsChart (name_of atoms.now) root.now (report_of report.now)
-        svg.old.bytes.items svg.new.bytes.items) }
+    ensures { OnOk result (IsChart (name_of atoms.now) root.now (report_of report.now) svg.old svg.new) }
 {
     let layout = layout_of(alloc, report)?;
     let processes = layout.columns.len();
     let events = report.events.len();
     let sheet = Sheet::new(processes, events);
     let outcome = text_of_outcome(alloc, atoms, report)?;
-    put_opening(svg, sheet)?;
+    svg.open(sheet.width(), sheet.height())?;
     put_words(svg, root, &outcome, processes, events)?;
-    svg.put(&[Word(STYLE), Word(DEFINITIONS)])?;
+    svg.put(&[Markup(STYLE), Markup(DEFINITIONS)])?;
     put_layout(alloc, svg, atoms, root, report, &layout, sheet)?;
     put_bottom(svg, &outcome, sheet)
 }

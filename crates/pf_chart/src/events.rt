@@ -5,15 +5,14 @@ ghost use Rattle.pf_terms.specs.Atoms.{name_of};
 ghost use Rattle.pf_model.specs.Reports.{label_of};
 ghost use Rattle.pf_model.specs.Text.{label_text};
 ghost use Rattle.pf_chart.specs.Chart.{twice};
-ghost use Rattle.pf_chart.specs.Document.{Draws};
-ghost use Rattle.pf_chart.specs.Words.{is_word};
+ghost use Rattle.pf_chart.specs.Words.{Draws, is_word};
 
 use crate::columns::{Column, column_of};
 use crate::marks::mark_of;
-use crate::sheet::{GUTTER, Sheet};
-use crate::svg::Part::{Attribute, Label, Number, Place, Short, Word};
-use crate::svg::Svg;
+use crate::sheet::{GUTTER, Sheet, event_number};
+use crate::words::Svg;
 use pf_model::report::{Actor, Event};
+use pf_svg::Part::{Attribute, Label, Markup, Number, Point, Short};
 use pf_terms::{AtomTable, NoMemory};
 use pf_trace::put_label;
 use std::alloc::Global;
@@ -21,26 +20,14 @@ use std::alloc::Global;
 /// How many bytes of a label are shown at least if it is longer.
 const MOST_OF_LABEL: usize = 32;
 
-/// Puts the number of an event, counted from 1.
-fn put_number(svg: &mut Svg, row: usize, y: u64) -> Result<(), NoMemory>
-    ensures { OnOk result (Draws [] svg.old.bytes.items svg.new.bytes.items) }
-{
-    svg.put(&[
-        Word("<text class=\"number\""),
-        Attribute("x", GUTTER - 10),
-        Attribute("y", y.saturating_add(4)),
-        Word(">"),
-        Number((row as u64).saturating_add(1)),
-        Word("</text>\n"),
-    ])
-}
-
 /// Puts the numbers of all events, one in each row.
 pub(crate) fn put_numbers(svg: &mut Svg, events: usize, sheet: Sheet) -> Result<(), NoMemory>
-    ensures { OnOk result (Draws [] svg.old.bytes.items svg.new.bytes.items) }
+    ensures { OnOk result (Draws [] svg.old svg.new) }
 {
     for row in 0..events {
-        put_number(svg, row, sheet.y(row))?;
+        let at = (GUTTER - 10, sheet.y(row).saturating_add(4));
+        svg.text("number", at, &[Number(event_number(row))])?;
+        svg.end_line()?;
     }
     Ok(())
 }
@@ -52,7 +39,7 @@ fn column_of_actor(columns: &[Column], actor: Actor) -> usize {
     column_of(columns, pid).unwrap_or(0)
 }
 
-/// Puts the beginning of an event of a kind, which stands at a place.
+/// Puts the beginning of an event of a kind, which stands at a point.
 fn put_opening(
     svg: &mut Svg,
     row: usize,
@@ -60,42 +47,35 @@ fn put_opening(
     kind: &'static str,
 ) -> Result<(), NoMemory>
     requires { IsTrue (is_word kind.now) }
-    ensures { OnOk result (Draws [] svg.old.bytes.items svg.new.bytes.items) }
+    ensures { OnOk result (Draws [] svg.old svg.new) }
 {
-    let (x, y) = at;
-    svg.put(&[
-        Word("<g class=\"event "),
-        Word(kind),
-        Word("\""),
-        Attribute("data-event", (row as u64).saturating_add(1)),
-        Word(" transform=\"translate("),
-        Place(x, y),
-        Word(")\">"),
-    ])
-}
-
-fn put_outline(svg: &mut Svg, outline: &'static str) -> Result<(), NoMemory>
-    requires { IsTrue (is_word outline.now) }
-    ensures { OnOk result (Draws [] svg.old.bytes.items svg.new.bytes.items) }
-{
-    svg.path(&[Word(outline)])
+    svg.group(
+        &[Markup("event "), Markup(kind)],
+        &[
+            Attribute("data-event", event_number(row)),
+            Markup(" transform=\"translate("),
+            Point(at.0, at.1),
+            Markup(")\""),
+        ],
+    )
 }
 
 /// Puts a mark with the label of its event beside it, shortened, and whole in its tooltip.
 fn put_mark(svg: &mut Svg, outline: &'static str, label: &[u8]) -> Result<(), NoMemory>
     requires { IsTrue (is_word outline.now) }
-    ensures { OnOk result (Draws (twice label.now) svg.old.bytes.items svg.new.bytes.items) }
+    ensures { OnOk result (Draws (twice label.now) svg.old svg.new) }
 {
     svg.title(&[Label(label)])?;
-    put_outline(svg, outline)?;
+    svg.path(outline)?;
     svg.put(&[
-        Word("<text x=\"10\" y=\"-4\">"),
+        Markup("<text x=\"10\" y=\"-4\">"),
         Short(label, MOST_OF_LABEL),
-        Word("</text></g>\n"),
-    ])
+        Markup("</text>"),
+    ])?;
+    svg.close_group()
 }
 
-/// Puts an event at a place.
+/// Puts an event at a point.
 fn put_event(
     alloc: Global,
     svg: &mut Svg,
@@ -105,7 +85,7 @@ fn put_event(
     at: (u64, u64),
 ) -> Result<(), NoMemory>
     ensures { OnOk result (Draws (twice (label_text (name_of atoms.now) (label_of event.now.label)))
-        svg.old.bytes.items svg.new.bytes.items) }
+        svg.old svg.new) }
 {
     let mut label = Vec::new(alloc);
     put_label(&mut label, atoms, &event.label)?;
@@ -125,11 +105,11 @@ pub(crate) fn put_events(
 ) -> Result<(), NoMemory>
     ensures { OnOk result (Draws
         (flat_map (λ e. twice (label_text (name_of atoms.now) (label_of e.label))) events.now)
-        svg.old.bytes.items svg.new.bytes.items) }
+        svg.old svg.new) }
 {
     for (row, event) in events.iter().enumerate() {
-        let x = sheet.x(column_of_actor(columns, event.actor));
-        put_event(alloc, svg, atoms, event, row, (x, sheet.y(row)))?;
+        let at = sheet.at(column_of_actor(columns, event.actor), row);
+        put_event(alloc, svg, atoms, event, row, at)?;
     }
     Ok(())
 }

@@ -2,13 +2,12 @@
 
 ghost use Rattle.std.specs.Prelude.{◌++◌, [], IsTrue, OnOk, flat_map};
 ghost use Rattle.pf_chart.specs.Chart.{origin_labels, process_labels};
-ghost use Rattle.pf_chart.specs.Document.{Draws};
-ghost use Rattle.pf_chart.specs.Words.{is_word};
+ghost use Rattle.pf_chart.specs.Words.{Draws, is_word};
 
 use crate::columns::{Column, column_of};
-use crate::sheet::Sheet;
-use crate::svg::Part::{Attribute, Number, Pid, Place, Short, Word};
-use crate::svg::{Part, Svg};
+use crate::sheet::{Sheet, event_number};
+use crate::words::Svg;
+use pf_svg::Part::{Attribute, Label, Markup, Number, Pid, Short};
 use pf_terms::NoMemory;
 
 /// Where heads begin and end.
@@ -22,16 +21,15 @@ const FOOT_LINE: u64 = 12;
 
 /// Puts the box of a head, with the pid.
 fn put_box(svg: &mut Svg, pid: u32, x: u64, pitch: u64) -> Result<(), NoMemory>
-    ensures { OnOk result (Draws [] svg.old.bytes.items svg.new.bytes.items) }
+    ensures { OnOk result (Draws [] svg.old svg.new) }
 {
     let width = pitch.saturating_sub(8);
-    svg.put(&[
-        Word("<rect"),
+    svg.rect(&[
         Attribute("x", x.saturating_sub(width / 2)),
         Attribute("y", HEAD_TOP),
         Attribute("width", width),
         Attribute("height", HEAD_HEIGHT),
-        Word(" rx=\"4\"/>"),
+        Attribute("rx", 4),
     ])?;
     svg.text("pid", (x, 29), &[Pid(pid)])
 }
@@ -44,23 +42,14 @@ fn put_origin(
     x: u64,
     pitch: u64,
 ) -> Result<(), NoMemory>
-    ensures { OnOk result (Draws (origin_labels root.now column.now.spawned)
-        svg.old.bytes.items svg.new.bytes.items) }
+    ensures { OnOk result (Draws (origin_labels root.now column.now.spawned) svg.old svg.new) }
 {
     match column.spawned {
-        Some((parent, _)) => svg.text("of", (x, 45), &[Word("by "), Pid(parent)]),
+        Some((parent, _)) => svg.text("of", (x, 45), &[Markup("by "), Pid(parent)]),
         None => {
             let most = LEAST_OF_NAME.saturating_add((pitch.saturating_sub(64) / 6) as usize);
             svg.text("of", (x, 45), &[Short(root, most)])
         }
-    }
-}
-
-/// Where the lifeline begins.
-fn birth(column: &Column, sheet: Sheet) -> u64 {
-    match column.spawned {
-        Some((_, row)) => sheet.y(row),
-        None => HEAD_TOP + HEAD_HEIGHT,
     }
 }
 
@@ -72,80 +61,63 @@ fn end(column: &Column, sheet: Sheet) -> u64 {
     }
 }
 
-/// Puts the dotted line from the head to where a process was spawned.
-fn put_before(svg: &mut Svg, column: &Column, sheet: Sheet, x: u64) -> Result<(), NoMemory>
-    ensures { OnOk result (Draws [] svg.old.bytes.items svg.new.bytes.items) }
+/// Puts the dotted line from the head to where a process was spawned, and tells where that is: there its lifeline begins.
+fn put_before(svg: &mut Svg, column: &Column, sheet: Sheet, x: u64) -> Result<u64, NoMemory>
+    ensures { OnOk result (Draws [] svg.old svg.new) }
 {
+    let head = HEAD_TOP + HEAD_HEIGHT;
     match column.spawned {
-        Some((_, row)) => svg.line("before", x, HEAD_TOP + HEAD_HEIGHT, sheet.y(row)),
-        None => Ok(()),
+        Some((_, row)) => {
+            svg.line("before", x, head, sheet.y(row))?;
+            Ok(sheet.y(row))
+        }
+        None => Ok(head),
     }
 }
 
-/// Puts the lifeline of a process that waits in a deadlock, thick from where it waits.
-fn put_waiting_life(svg: &mut Svg, x: u64, from: u64, waits: u64, to: u64) -> Result<(), NoMemory>
-    ensures { OnOk result (Draws [] svg.old.bytes.items svg.new.bytes.items) }
-{
-    svg.line("life", x, from, waits)?;
-    svg.line("life waiting", x, waits, to)
-}
-
-/// Puts the lifeline.
+/// Puts the lifeline; that of a process in a deadlock is thick from where it waits.
 fn put_life(svg: &mut Svg, column: &Column, sheet: Sheet, x: u64) -> Result<(), NoMemory>
-    ensures { OnOk result (Draws [] svg.old.bytes.items svg.new.bytes.items) }
+    ensures { OnOk result (Draws [] svg.old svg.new) }
 {
-    let from = birth(column, sheet);
+    let from = put_before(svg, column, sheet, x)?;
     let to = end(column, sheet);
     match column.waits {
-        Some(row) if column.deadlocked => put_waiting_life(svg, x, from, sheet.y(row), to),
+        Some(row) if column.deadlocked => {
+            svg.line("life", x, from, sheet.y(row))?;
+            svg.line("life waiting", x, sheet.y(row), to)
+        }
         _ => svg.line("life", x, from, to),
     }
 }
 
-/// Puts whether a process waits in a deadlock.
-fn put_waits(svg: &mut Svg, column: &Column, x: u64, y: u64) -> Result<(), NoMemory>
-    ensures { OnOk result (Draws [] svg.old.bytes.items svg.new.bytes.items) }
-{
-    if column.deadlocked {
-        svg.text("foot", (x, y), &[Word("waits")])
-    } else {
-        Ok(())
-    }
-}
-
-/// Puts the pid at a place, and below it whether the process waits in a deadlock.
-fn put_foot_at(svg: &mut Svg, column: &Column, x: u64, y: u64) -> Result<(), NoMemory>
-    ensures { OnOk result (Draws [] svg.old.bytes.items svg.new.bytes.items) }
-{
-    svg.text("foot", (x, y), &[Pid(column.pid)])?;
-    put_waits(svg, column, x, y.saturating_add(FOOT_LINE))
-}
-
-/// Puts the foot below a lifeline that goes on to the end.
+/// Puts the foot below a lifeline that goes on to the end: the pid, and below it whether the process waits in a deadlock.
 fn put_foot(svg: &mut Svg, column: &Column, sheet: Sheet, x: u64) -> Result<(), NoMemory>
-    ensures { OnOk result (Draws [] svg.old.bytes.items svg.new.bytes.items) }
+    ensures { OnOk result (Draws [] svg.old svg.new) }
 {
     if column.ended.is_some() {
-        Ok(())
-    } else {
-        put_foot_at(svg, column, x, sheet.bottom().saturating_add(14))
+        return Ok(());
     }
+    let y = sheet.bottom().saturating_add(14);
+    svg.text("foot", (x, y), &[Pid(column.pid)])?;
+    if !column.deadlocked {
+        return Ok(());
+    }
+    svg.text("foot", (x, y.saturating_add(FOOT_LINE)), &[Markup("waits")])
 }
 
 /// Puts the tooltip of a process: its pid, and its root function or who spawned it.
 fn put_tooltip(svg: &mut Svg, column: &Column, root: &[u8]) -> Result<(), NoMemory>
-    ensures { OnOk result (Draws (origin_labels root.now column.now.spawned)
-        svg.old.bytes.items svg.new.bytes.items) }
+    ensures { OnOk result (Draws (origin_labels root.now column.now.spawned) svg.old svg.new) }
 {
     match column.spawned {
         Some((parent, row)) => svg.title(&[
             Pid(column.pid),
-            Word(" spawned by "),
+            Markup(" spawned by "),
             Pid(parent),
-            Word(" in event "),
-            Number((row as u64).saturating_add(1)),
+            Markup(" in event "),
+            Number(event_number(row)),
         ]),
-        None => svg.title(&[Pid(column.pid), Word(" from "), Part::Label(root)]),
+        None => svg.title(&[Pid(column.pid), Markup(" from "), Label(root)]),
     }
 }
 
@@ -167,18 +139,11 @@ fn put_column(
     sheet: Sheet,
     x: u64,
 ) -> Result<(), NoMemory>
-    ensures { OnOk result (Draws (process_labels root.now column.now.spawned)
-        svg.old.bytes.items svg.new.bytes.items) }
+    ensures { OnOk result (Draws (process_labels root.now column.now.spawned) svg.old svg.new) }
 {
-    svg.put(&[
-        Word("<g class=\""),
-        Word(class_of(column)),
-        Word("\""),
-        Attribute("data-pid", u64::from(column.pid)),
-        Word(">"),
-    ])?;
+    let pid = Attribute("data-pid", u64::from(column.pid));
+    svg.group(&[Markup(class_of(column))], &[pid])?;
     put_tooltip(svg, column, root)?;
-    put_before(svg, column, sheet, x)?;
     put_life(svg, column, sheet, x)?;
     put_box(svg, column.pid, x, sheet.pitch())?;
     put_origin(svg, column, root, x, sheet.pitch())?;
@@ -194,25 +159,12 @@ pub(crate) fn put_columns(
     sheet: Sheet,
 ) -> Result<(), NoMemory>
     ensures { OnOk result (Draws (flat_map (λ c. process_labels root.now c.spawned) columns.now)
-        svg.old.bytes.items svg.new.bytes.items) }
+        svg.old svg.new) }
 {
     for (index, column) in columns.iter().enumerate() {
         put_column(svg, column, root, sheet, sheet.x(index))?;
     }
     Ok(())
-}
-
-/// Puts an arrow from who spawns to the beginning of a lifeline.
-fn put_spawn(svg: &mut Svg, row: usize, from: u64, to: u64, y: u64) -> Result<(), NoMemory>
-    ensures { OnOk result (Draws [] svg.old.bytes.items svg.new.bytes.items) }
-{
-    svg.put(&[
-        Word("<g class=\"arrow spawn\""),
-        Attribute("data-event", (row as u64).saturating_add(1)),
-        Word(">"),
-    ])?;
-    svg.path(&[Word("M"), Place(from, y), Word("L"), Place(to, y)])?;
-    svg.close_group()
 }
 
 /// The column of who spawned a process, and the row in which it did.
@@ -221,28 +173,31 @@ fn parent_of(columns: &[Column], column: &Column) -> Option<(usize, usize)> {
     Some((column_of(columns, parent)?, row))
 }
 
-/// Puts the arrow to the beginning of a lifeline, unless it is that of the root.
-fn put_spawn_of(
+/// Puts an arrow from who spawns to the beginning of a lifeline, unless it is that of the root.
+fn put_spawn(
     svg: &mut Svg,
     columns: &[Column],
     column: &Column,
     to: u64,
     sheet: Sheet,
 ) -> Result<(), NoMemory>
-    ensures { OnOk result (Draws [] svg.old.bytes.items svg.new.bytes.items) }
+    ensures { OnOk result (Draws [] svg.old svg.new) }
 {
-    match parent_of(columns, column) {
-        Some((from, row)) => put_spawn(svg, row, sheet.x(from), to, sheet.y(row)),
-        None => Ok(()),
-    }
+    let Some((from, row)) = parent_of(columns, column) else {
+        return Ok(());
+    };
+    let event = Attribute("data-event", event_number(row));
+    svg.group(&[Markup("arrow spawn")], &[event])?;
+    svg.stroke(sheet.at(from, row), (to, sheet.y(row)))?;
+    svg.close_group()
 }
 
 /// Puts an arrow to the beginning of each lifeline but that of the root.
 pub(crate) fn put_spawns(svg: &mut Svg, columns: &[Column], sheet: Sheet) -> Result<(), NoMemory>
-    ensures { OnOk result (Draws [] svg.old.bytes.items svg.new.bytes.items) }
+    ensures { OnOk result (Draws [] svg.old svg.new) }
 {
     for (index, column) in columns.iter().enumerate() {
-        put_spawn_of(svg, columns, column, sheet.x(index), sheet)?;
+        put_spawn(svg, columns, column, sheet.x(index), sheet)?;
     }
     Ok(())
 }

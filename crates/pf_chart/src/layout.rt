@@ -1,32 +1,33 @@
 //! What is drawn of a report beside its events: a column for each process, and an arrow for each signal.
 
-use crate::arrows::{Arrow, SignalKind};
 use crate::columns::{Column, column_of, columns_of};
 use crate::traffic::Traffic;
 use pf_model::report::{Actor, Event, Label, Report, Suffix};
 use pf_terms::NoMemory;
 use std::alloc::Global;
 
+/// What is drawn of the events that were read so far.
 #[derive(Drop)]
 pub(crate) struct Layout {
     pub(crate) columns: Vec<Column>,
-    pub(crate) arrows: Vec<Arrow>,
+    pub(crate) traffic: Traffic,
 }
 
-/// A report that is being read, event by event.
-#[derive(Drop)]
-struct Reading {
-    columns: Vec<Column>,
-    traffic: Traffic,
-}
-
-impl Reading {
-    fn started(alloc: Global, report: &Report) -> Result<Reading, NoMemory> {
-        let columns = columns_of(alloc, report)?;
-        let traffic = Traffic::new(alloc, columns.len())?;
-        Ok(Reading { columns, traffic })
+/// Who else takes part in a turn that has this label.
+fn other_of(label: &Label) -> Option<u32> {
+    match label {
+        Label::Sends { to, .. } => Some(*to),
+        Label::Exits { pid, .. }
+        | Label::Spawns { pid, .. }
+        | Label::SpawnsWatched { pid, .. }
+        | Label::Links(pid)
+        | Label::Unlinks(pid)
+        | Label::Monitors { pid, .. } => Some(*pid),
+        _ => None,
     }
+}
 
+impl Layout {
     fn end(&mut self, alloc: Global, row: usize, a: usize) -> Result<(), NoMemory> {
         if let Some(column) = self.columns.get_mut(a) {
             column.ended = Some(row);
@@ -40,66 +41,13 @@ impl Reading {
         }
     }
 
-    /// A signal goes out to a process, where it is there.
-    fn send(&mut self, row: usize, a: usize, pid: u32, kind: SignalKind) -> Result<(), NoMemory> {
+    /// What a process does to another, if that is there.
+    fn act(&mut self, row: usize, a: usize, label: &Label) -> Result<(), NoMemory> {
+        let Some(pid) = other_of(label) else {
+            return Ok(());
+        };
         match column_of(&self.columns, pid) {
-            Some(b) => self.traffic.send(row, a, b, kind),
-            None => Ok(()),
-        }
-    }
-
-    /// A child is linked at once, and no signal goes out.
-    fn spawn_linked(&mut self, a: usize, pid: u32) -> Result<(), NoMemory> {
-        if let Some(b) = column_of(&self.columns, pid) {
-            self.traffic.peers.tie(a, b)?;
-            self.traffic.peers.tie(b, a)?;
-        }
-        Ok(())
-    }
-
-    /// A child is watched at once, and no signal goes out.
-    fn spawn_watched(&mut self, a: usize, reference: u64, pid: u32) -> Result<(), NoMemory> {
-        if let Some(b) = column_of(&self.columns, pid) {
-            self.traffic.peers.activate(reference, a, b)?;
-            self.traffic.peers.watch(b, reference, a)?;
-        }
-        Ok(())
-    }
-
-    /// A link signal goes out where the link is new, and isn't to oneself.
-    fn link(&mut self, row: usize, a: usize, pid: u32) -> Result<(), NoMemory> {
-        let Some(b) = column_of(&self.columns, pid) else {
-            return Ok(());
-        };
-        if a != b && self.traffic.peers.tie(a, b)? {
-            self.traffic.send(row, a, b, SignalKind::Link)?;
-        }
-        Ok(())
-    }
-
-    /// An unlink signal goes out where there was a link.
-    fn unlink(&mut self, row: usize, a: usize, pid: u32) -> Result<(), NoMemory> {
-        let Some(b) = column_of(&self.columns, pid) else {
-            return Ok(());
-        };
-        if self.traffic.peers.untie(a, b) {
-            self.traffic.send(row, a, b, SignalKind::Unlink)?;
-        }
-        Ok(())
-    }
-
-    fn monitor(&mut self, row: usize, a: usize, reference: u64, pid: u32) -> Result<(), NoMemory> {
-        let Some(b) = column_of(&self.columns, pid) else {
-            return Ok(());
-        };
-        self.traffic.peers.activate(reference, a, b)?;
-        self.traffic.send(row, a, b, SignalKind::Monitor)
-    }
-
-    /// A demonitor signal goes out where the reference is active.
-    fn demonitor(&mut self, row: usize, a: usize, reference: u64) -> Result<(), NoMemory> {
-        match self.traffic.peers.deactivate(reference, a) {
-            Some(b) => self.traffic.send(row, a, b, SignalKind::Demonitor),
+            Some(b) => self.traffic.act(row, a, b, label),
             None => Ok(()),
         }
     }
@@ -107,20 +55,13 @@ impl Reading {
     /// A turn of a process.
     fn turn(&mut self, alloc: Global, row: usize, a: usize, label: &Label) -> Result<(), NoMemory> {
         match label {
-            Label::Sends { to, .. } => self.send(row, a, *to, SignalKind::Message),
-            Label::Exits { pid, .. } => self.send(row, a, *pid, SignalKind::Exit),
-            Label::Spawns { linked: true, pid } => self.spawn_linked(a, *pid),
-            Label::SpawnsWatched { pid, reference } => self.spawn_watched(a, *reference, *pid),
-            Label::Links(pid) => self.link(row, a, *pid),
-            Label::Unlinks(pid) => self.unlink(row, a, *pid),
-            Label::Monitors { reference, pid } => self.monitor(row, a, *reference, *pid),
-            Label::Demonitors { reference, .. } => self.demonitor(row, a, *reference),
+            Label::Demonitors { reference, .. } => self.traffic.demonitor(row, a, *reference),
             Label::Ends(_) => self.end(alloc, row, a),
             Label::Waits => {
                 self.wait(row, a);
                 Ok(())
             }
-            _ => Ok(()),
+            _ => self.act(row, a, label),
         }
     }
 
@@ -142,7 +83,7 @@ impl Reading {
         Ok(())
     }
 
-    /// An event, where its processes are there.
+    /// An event, if its processes are there.
     fn event(&mut self, alloc: Global, row: usize, event: &Event) -> Result<(), NoMemory> {
         match event.actor {
             Actor::Process(pid) => match column_of(&self.columns, pid) {
@@ -161,11 +102,11 @@ impl Reading {
 
 /// What is drawn of a report.
 pub(crate) fn layout_of(alloc: Global, report: &Report) -> Result<Layout, NoMemory> {
-    let mut reading = Reading::started(alloc, report)?;
+    let columns = columns_of(alloc, report)?;
+    let traffic = Traffic::new(alloc, columns.len())?;
+    let mut layout = Layout { columns, traffic };
     for (row, event) in report.events.iter().enumerate() {
-        reading.event(alloc, row, event)?;
+        layout.event(alloc, row, event)?;
     }
-    let Reading { columns, traffic } = reading;
-    let Traffic { arrows, .. } = traffic;
-    Ok(Layout { columns, arrows })
+    Ok(layout)
 }

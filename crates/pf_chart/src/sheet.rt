@@ -33,7 +33,7 @@ pub(crate) struct Sheet {
     pitch: u64,
 }
 
-/// How wide each of so many columns is.
+/// How wide each column is if there are this many.
 fn pitch_of(columns: u64) -> u64
     ensures least { NARROWEST ≤ result }
     ensures most { result ≤ WIDEST }
@@ -42,6 +42,11 @@ fn pitch_of(columns: u64) -> u64
         return WIDEST;
     }
     (WIDE / columns).max(NARROWEST).min(WIDEST)
+}
+
+/// The number of the event in a row; the first is 1.
+pub(crate) fn event_number(row: usize) -> u64 {
+    (row as u64).saturating_add(1)
 }
 
 impl Sheet {
@@ -66,12 +71,13 @@ impl Sheet {
 
     /// The middle of a row.
     pub(crate) fn y(&self, row: usize) -> u64 {
-        self.above(row).saturating_add(HALF_ROW)
+        let above = (row as u64).saturating_mul(ROW);
+        above.saturating_add(TOP + HALF_ROW)
     }
 
-    /// The upper edge of a row.
-    pub(crate) fn above(&self, row: usize) -> u64 {
-        (row as u64).saturating_mul(ROW).saturating_add(TOP)
+    /// Where a column and a row meet.
+    pub(crate) fn at(&self, column: usize, row: usize) -> (u64, u64) {
+        (self.x(column), self.y(row))
     }
 
     /// The lower edge of the last row, and as much below it.

@@ -1,39 +1,27 @@
 //! Signals on the sheet.
 
 ghost use Rattle.std.specs.Prelude.{[], IsTrue, OnOk};
-ghost use Rattle.pf_chart.specs.Document.{Draws};
-ghost use Rattle.pf_chart.specs.Words.{is_word};
+ghost use Rattle.pf_chart.specs.Words.{Draws, is_word};
 
 use crate::arrows::{Arrow, Reach, Start};
 use crate::columns::Column;
-use crate::sheet::{HALF_ROW, ROW, Sheet};
-use crate::svg::Part::{Attribute, Pid, Place, Word};
-use crate::svg::Svg;
+use crate::sheet::{HALF_ROW, ROW, Sheet, event_number};
+use crate::words::Svg;
+use pf_svg::Part::{Attribute, Markup, Pid};
 use pf_terms::NoMemory;
 
 /// How far a signal to oneself swings out.
 const SWING: u64 = 22;
 
-/// Puts a line from place to place; one that ends in its own column swings out.
+/// Puts a line from point to point; one that ends in its own column swings out.
 fn put_path(svg: &mut Svg, from: (u64, u64), to: (u64, u64)) -> Result<(), NoMemory>
-    ensures { OnOk result (Draws [] svg.old.bytes.items svg.new.bytes.items) }
+    ensures { OnOk result (Draws [] svg.old svg.new) }
 {
-    let (x, y) = from;
-    let (end, bottom) = to;
-    if x != end {
-        return svg.path(&[Word("M"), Place(x, y), Word("L"), Place(end, bottom)]);
+    if from.0 != to.0 {
+        return svg.stroke(from, to);
     }
-    let swung = x.saturating_sub(SWING);
-    svg.path(&[
-        Word("M"),
-        Place(x, y),
-        Word("C"),
-        Place(swung, y),
-        Word(" "),
-        Place(swung, bottom),
-        Word(" "),
-        Place(end, bottom),
-    ])
+    let swung = from.0.saturating_sub(SWING);
+    svg.curve(from, ((swung, from.1), (swung, to.1)), to)
 }
 
 /// Where a signal ends that is never delivered: beside the sender on the side of the receiver, between two lifelines, a row below.
@@ -49,118 +37,85 @@ fn in_the_air(from: (u64, u64), to: u64, pitch: u64) -> (u64, u64) {
     }
 }
 
-/// The class of an arrow that doesn't end in a delivery which takes effect.
-fn class_of(reach: Reach) -> &'static str
-    ensures { IsTrue (is_word result.now) }
+/// What the end of an arrow adds to its class, and how it is told in words.
+fn end_in_words(reach: Reach) -> (&'static str, &'static str)
+    ensures class { IsTrue (is_word result.0.now) }
+    ensures words { IsTrue (is_word result.1.now) }
 {
     match reach {
-        Reach::Nowhere => " lost",
-        Reach::Taken(_) => "",
-        Reach::Dropped(_) => " dropped",
+        Reach::Nowhere => (" lost", ", never delivered"),
+        Reach::Taken(_) => ("", ""),
+        Reach::Dropped(_) => (" dropped", ", dropped"),
     }
 }
 
-/// How an arrow ends, in words.
-fn end_in_words(reach: Reach) -> &'static str
-    ensures { IsTrue (is_word result.now) }
+/// Puts the beginning of an arrow: its class, and which events are its ends.
+fn put_opening(svg: &mut Svg, arrow: &Arrow, end: &'static str) -> Result<(), NoMemory>
+    requires { IsTrue (is_word end.now) }
+    ensures { OnOk result (Draws [] svg.old svg.new) }
 {
-    match reach {
-        Reach::Nowhere => ", never delivered",
-        Reach::Taken(_) => "",
-        Reach::Dropped(_) => ", dropped",
-    }
-}
-
-/// Puts which event delivers a signal, counted from 1.
-fn put_delivery(svg: &mut Svg, reach: Reach) -> Result<(), NoMemory>
-    ensures { OnOk result (Draws [] svg.old.bytes.items svg.new.bytes.items) }
-{
-    match reach {
-        Reach::Taken(row) | Reach::Dropped(row) => {
-            svg.put(&[Attribute("data-delivery", (row as u64).saturating_add(1))])
-        }
-        Reach::Nowhere => Ok(()),
-    }
-}
-
-/// Puts the beginning of an arrow: its class, the events of its ends, and in words its kind, its processes and its end.
-fn put_opening(svg: &mut Svg, arrow: &Arrow, from: u32, to: u32) -> Result<(), NoMemory>
-    ensures { OnOk result (Draws [] svg.old.bytes.items svg.new.bytes.items) }
-{
-    let word = arrow.kind.word();
+    let class = [Markup("arrow "), Markup(arrow.kind.word()), Markup(end)];
     let (Start::In(row) | Start::Above(row)) = arrow.start;
-    svg.put(&[
-        Word("<g class=\"arrow "),
-        Word(word),
-        Word(class_of(arrow.reach)),
-        Word("\""),
-        Attribute("data-event", (row as u64).saturating_add(1)),
-    ])?;
-    put_delivery(svg, arrow.reach)?;
-    svg.put(&[Word(">")])?;
-    svg.title(&[
-        Word(word),
-        Word(" from "),
-        Pid(from),
-        Word(" to "),
-        Pid(to),
-        Word(end_in_words(arrow.reach)),
-    ])
+    let event = Attribute("data-event", event_number(row));
+    match arrow.reach {
+        Reach::Nowhere => svg.group(&class, &[event]),
+        Reach::Taken(row) | Reach::Dropped(row) => {
+            svg.group(
+                &class,
+                &[event, Attribute("data-delivery", event_number(row))],
+            )
+        }
+    }
 }
 
 /// Where an arrow begins.
 fn beginning(arrow: &Arrow, sheet: Sheet) -> (u64, u64) {
-    let y = match arrow.start {
-        Start::In(row) => sheet.y(row),
-        Start::Above(row) => sheet.y(row).saturating_sub(HALF_ROW),
-    };
-    (sheet.x(arrow.from), y)
+    match arrow.start {
+        Start::In(row) => sheet.at(arrow.from, row),
+        Start::Above(row) => (sheet.x(arrow.from), sheet.y(row).saturating_sub(HALF_ROW)),
+    }
 }
 
 /// Where an arrow ends.
 fn end(arrow: &Arrow, sheet: Sheet) -> (u64, u64) {
-    let x = sheet.x(arrow.to);
     match arrow.reach {
-        Reach::Nowhere => in_the_air(beginning(arrow, sheet), x, sheet.pitch()),
-        Reach::Taken(row) | Reach::Dropped(row) => (x, sheet.y(row)),
+        Reach::Nowhere => in_the_air(beginning(arrow, sheet), sheet.x(arrow.to), sheet.pitch()),
+        Reach::Taken(row) | Reach::Dropped(row) => sheet.at(arrow.to, row),
     }
 }
 
-/// Puts an arrow between the processes of these pids.
+/// Puts an arrow between the processes of these pids, with its kind, its processes and its end in words.
 fn put_arrow(svg: &mut Svg, arrow: &Arrow, from: u32, to: u32, sheet: Sheet) -> Result<(), NoMemory>
-    ensures { OnOk result (Draws [] svg.old.bytes.items svg.new.bytes.items) }
+    ensures { OnOk result (Draws [] svg.old svg.new) }
 {
-    put_opening(svg, arrow, from, to)?;
+    let (class, words) = end_in_words(arrow.reach);
+    put_opening(svg, arrow, class)?;
+    svg.title(&[
+        Markup(arrow.kind.word()),
+        Markup(" from "),
+        Pid(from),
+        Markup(" to "),
+        Pid(to),
+        Markup(words),
+    ])?;
     put_path(svg, beginning(arrow, sheet), end(arrow, sheet))?;
     svg.close_group()
 }
 
-/// Puts an arrow, if both of its columns are there.
-fn put_arrow_among(
-    svg: &mut Svg,
-    arrow: &Arrow,
-    columns: &[Column],
-    sheet: Sheet,
-) -> Result<(), NoMemory>
-    ensures { OnOk result (Draws [] svg.old.bytes.items svg.new.bytes.items) }
-{
-    match (columns.get(arrow.from), columns.get(arrow.to)) {
-        (Some(from), Some(to)) => put_arrow(svg, arrow, from.pid, to.pid, sheet),
-        _ => Ok(()),
-    }
-}
-
-/// Puts all signals.
+/// Puts all signals that have both of their columns.
 pub(crate) fn put_arrows(
     svg: &mut Svg,
     arrows: &[Arrow],
     columns: &[Column],
     sheet: Sheet,
 ) -> Result<(), NoMemory>
-    ensures { OnOk result (Draws [] svg.old.bytes.items svg.new.bytes.items) }
+    ensures { OnOk result (Draws [] svg.old svg.new) }
 {
     for arrow in arrows {
-        put_arrow_among(svg, arrow, columns, sheet)?;
+        let (Some(from), Some(to)) = (columns.get(arrow.from), columns.get(arrow.to)) else {
+            continue;
+        };
+        put_arrow(svg, arrow, from.pid, to.pid, sheet)?;
     }
     Ok(())
 }

@@ -7,7 +7,7 @@
 use crate::arrows::{Arrow, Reach, SignalKind, Start};
 use crate::peers::Peers;
 use pf_model::Signal;
-use pf_model::report::Suffix;
+use pf_model::report::{Label, Suffix};
 use pf_terms::NoMemory;
 use std::alloc::Global;
 use std::collections::{BTreeMap, VecDeque};
@@ -37,7 +37,7 @@ impl Traffic {
     }
 
     /// A signal goes out.
-    pub(crate) fn send(
+    fn send(
         &mut self,
         row: usize,
         from: usize,
@@ -57,13 +57,61 @@ impl Traffic {
         Ok(())
     }
 
+    /// What a process does to another: a link signal goes out if the link is new and isn't to oneself, an unlink signal if there was a link.
+    /// A child that is linked or watched at once is sent no signal.
+    pub(crate) fn act(
+        &mut self,
+        row: usize,
+        a: usize,
+        b: usize,
+        label: &Label,
+    ) -> Result<(), NoMemory> {
+        match label {
+            Label::Sends { .. } => self.send(row, a, b, SignalKind::Message),
+            Label::Exits { .. } => self.send(row, a, b, SignalKind::Exit),
+            Label::Spawns { linked: true, .. } => {
+                self.peers.tie(a, b)?;
+                self.peers.tie(b, a)?;
+                Ok(())
+            }
+            Label::SpawnsWatched { reference, .. } => {
+                self.peers.activate(*reference, a, b)?;
+                self.peers.watch(b, *reference, a)
+            }
+            Label::Links(_) if a != b && self.peers.tie(a, b)? => {
+                self.send(row, a, b, SignalKind::Link)
+            }
+            Label::Unlinks(_) if self.peers.untie(a, b) => {
+                self.send(row, a, b, SignalKind::Unlink)
+            }
+            Label::Monitors { reference, .. } => {
+                self.peers.activate(*reference, a, b)?;
+                self.send(row, a, b, SignalKind::Monitor)
+            }
+            _ => Ok(()),
+        }
+    }
+
+    /// A demonitor signal goes out if the reference is active.
+    pub(crate) fn demonitor(
+        &mut self,
+        row: usize,
+        a: usize,
+        reference: u64,
+    ) -> Result<(), NoMemory> {
+        match self.peers.deactivate(reference, a) {
+            Some(b) => self.send(row, a, b, SignalKind::Demonitor),
+            None => Ok(()),
+        }
+    }
+
     /// The oldest signal of a kind that is on its way, if there is one.
     fn oldest(&mut self, from: usize, to: usize, kind: SignalKind) -> Option<usize> {
         let queue = self.on_way.get_mut(&(from, to, kind as u8))?;
         queue.pop_front()
     }
 
-    /// The oldest signal comes to its end; where there is none, it was sent just above.
+    /// The oldest signal comes to its end; if there is none, it was sent just above.
     fn arrive(
         &mut self,
         row: usize,

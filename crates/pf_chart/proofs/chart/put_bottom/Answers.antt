@@ -1,6 +1,8 @@
 use Rattle.std.proofs.lemmas.Result.{on_ok_weaker}
-use Rattle.pf_chart.proofs.Drawn.{plainly}
+use Rattle.pf_svg.proofs.Drawn.{plainly}
 use Rattle.pf_chart.proofs.chart.put_bottom.Goals as goal
 
 pub returns : goal.returns
-returns c = on_ok_weaker c.put.result (λ h. plainly (plainly (plainly c.in_ok-put_result.ensures c.in_ok-put_legend.ensures) c.in_ok-put_legend-2.ensures) h) c.put.ensures
+returns c =
+    on_ok_weaker c.close.result
+    (λ h. plainly (plainly (plainly c.in_ok-put_result.ensures c.in_ok-put_legend.ensures) c.in_ok-put_legend-2.ensures) h) c.close.ensures

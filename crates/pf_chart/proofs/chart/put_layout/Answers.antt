@@ -2,7 +2,7 @@ use Rattle.std.proofs.Common.{ap}
 use Rattle.std.proofs.lemmas.Result.{on_ok_weaker}
 use Rattle.pf_terms.specs.Atoms.{name_of}
 use Rattle.pf_chart.proofs.Charts.{of_columns, of_events}
-use Rattle.pf_chart.proofs.Drawn.{in_turn, plainly, renamed}
+use Rattle.pf_svg.proofs.Drawn.{in_turn, plainly, renamed}
 use Rattle.pf_chart.proofs.chart.put_layout.Goals as goal
 
 pub returns : goal.returns

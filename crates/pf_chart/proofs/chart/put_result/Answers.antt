@@ -1,5 +1,5 @@
 use Rattle.std.proofs.lemmas.Result.{on_ok_weaker}
-use Rattle.pf_chart.proofs.Drawn.{in_turn, plainly}
+use Rattle.pf_svg.proofs.Drawn.{in_turn, plainly}
 use Rattle.pf_chart.proofs.chart.put_result.Goals as goal
 
 pub returns : goal.returns

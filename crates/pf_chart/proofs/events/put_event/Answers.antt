@@ -4,7 +4,7 @@ use Rattle.pf_terms.specs.Atoms.{name_of}
 use Rattle.pf_model.specs.Reports.{label_of}
 use Rattle.pf_model.specs.Text.{label_text}
 use Rattle.pf_chart.specs.Chart.{twice}
-use Rattle.pf_chart.proofs.Drawn.{in_turn, renamed}
+use Rattle.pf_svg.proofs.Drawn.{in_turn, renamed}
 use Rattle.pf_chart.proofs.events.put_event.Goals as goal
 
 pub returns : goal.returns

@@ -3,7 +3,7 @@ use Rattle.pf_terms.specs.Atoms.{name_of}
 use Rattle.pf_model.specs.Reports.{label_of}
 use Rattle.pf_model.specs.Text.{label_text}
 use Rattle.pf_chart.specs.Chart.{twice}
-use Rattle.pf_chart.proofs.Drawn.{grown_by, in_turn, nothing, renamed, to_end}
+use Rattle.pf_svg.proofs.Drawn.{grown_by, in_turn, nothing, renamed, to_end}
 use Rattle.pf_chart.proofs.events.put_events.Goals as goal
 
 pub loop-row-init : goal.loop-row-init

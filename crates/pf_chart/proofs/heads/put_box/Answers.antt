@@ -1,6 +1,6 @@
 use Rattle.std.proofs.lemmas.Result.{on_ok_weaker}
-use Rattle.pf_chart.proofs.Drawn.{in_turn}
+use Rattle.pf_svg.proofs.Drawn.{in_turn}
 use Rattle.pf_chart.proofs.heads.put_box.Goals as goal
 
 pub returns : goal.returns
-returns c = on_ok_weaker c.text.result (λ h. in_turn c.in_ok-put.ensures h) c.text.ensures
+returns c = on_ok_weaker c.text.result (λ h. in_turn c.in_ok-rect.ensures h) c.text.ensures

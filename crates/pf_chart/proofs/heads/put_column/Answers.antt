@@ -1,8 +1,8 @@
 use Rattle.std.proofs.lemmas.Result.{on_ok_weaker}
-use Rattle.pf_chart.proofs.Drawn.{in_turn, plainly}
+use Rattle.pf_svg.proofs.Drawn.{in_turn, plainly}
 use Rattle.pf_chart.proofs.heads.put_column.Goals as goal
 
 pub returns : goal.returns
-returns c = on_ok_weaker c.close_group.result (λ h. in_turn c.in_ok-put.ensures
-    (in_turn (plainly (plainly (plainly c.in_ok-put_tooltip.ensures c.in_ok-put_before.ensures) c.in_ok-put_life.ensures) c.in_ok-put_box.ensures)
+returns c = on_ok_weaker c.close_group.result (λ h. in_turn c.in_ok-group.ensures
+    (in_turn (plainly (plainly c.in_ok-put_tooltip.ensures c.in_ok-put_life.ensures) c.in_ok-put_box.ensures)
     (plainly (plainly c.in_ok-put_origin.ensures c.in_ok-put_foot.ensures) h))) c.close_group.ensures

@@ -1,5 +1,5 @@
 use Rattle.pf_chart.specs.Chart.{process_labels}
-use Rattle.pf_chart.proofs.Drawn.{grown, in_turn, nothing, renamed, to_end}
+use Rattle.pf_svg.proofs.Drawn.{grown, in_turn, nothing, renamed, to_end}
 use Rattle.pf_chart.proofs.heads.put_columns.Goals as goal
 
 pub loop-index-init : goal.loop-index-init

@@ -1,5 +1,0 @@
-use Rattle.pf_chart.proofs.Drawn.{nothing}
-use Rattle.pf_chart.proofs.heads.put_spawn_of.Goals as goal
-
-pub returns-in-None : goal.returns-in-None
-returns-in-None c = nothing _

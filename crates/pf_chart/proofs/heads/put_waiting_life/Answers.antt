@@ -1,6 +1,0 @@
-use Rattle.std.proofs.lemmas.Result.{on_ok_weaker}
-use Rattle.pf_chart.proofs.Drawn.{in_turn}
-use Rattle.pf_chart.proofs.heads.put_waiting_life.Goals as goal
-
-pub returns : goal.returns
-returns c = on_ok_weaker c.line-2.result (λ h. in_turn c.in_ok-line.ensures h) c.line-2.ensures

@@ -1,5 +1,0 @@
-use Rattle.pf_chart.proofs.Texts.{short_stays, whole_stays}
-use Rattle.pf_chart.proofs.laws.labels_stay_text.Goals as goal
-
-pub returns : goal.returns
-returns c = record { whole = λ label h. whole_stays label h; shortened = λ most label h. short_stays most label h }

@@ -1,0 +1,16 @@
+//! The words of a chart, as those of its document.
+
+ghost use Rattle.pf_chart.specs.Words.{words};
+
+use pf_svg::Vocabulary;
+
+/// What stands for the words of a chart in the type of its document.
+#[derive(Drop)]
+pub(crate) struct Words;
+
+impl Vocabulary for Words {
+    ghost words = { words };
+}
+
+/// A document in the words of a chart.
+pub(crate) type Svg = pf_svg::Svg<Words>;

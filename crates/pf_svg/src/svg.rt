@@ -1,0 +1,218 @@
+//! A document in SVG, which grows at its end by parts.
+
+ghost use Rattle.std.specs.Prelude.{◌≡◌, ◌++◌, ℕ, List, [], IsTrue, OnOk, flat_map};
+ghost use Rattle.std.specs.List.{list_all};
+ghost use Rattle.pf_svg.specs.Document.{Draws, is_fixed, labels_of_part};
+ghost use Rattle.pf_svg.specs.Words.{is_word};
+
+use crate::part::Part::{self, Attribute, Markup, Point};
+use crate::part::put_parts;
+use pf_terms::NoMemory;
+use std::alloc::Global;
+use std::marker::{Model, PhantomData};
+
+/// The words that stand in documents of a kind beside the tags and attributes that all of them have.
+pub trait Vocabulary {
+    ghost words: { List (List ℕ) };
+}
+
+/// A document, or the beginning of one, in the words of `W`.
+#[derive(Drop)]
+pub struct Svg<W: Vocabulary> {
+    bytes: Vec<u8>,
+    words: PhantomData<W>,
+}
+
+impl<W: Vocabulary> Model for Svg<W> {
+    ghost Value = { List ℕ };
+
+    ghost view = { λ s. s.bytes.items };
+}
+
+impl<W: Vocabulary> Svg<W> {
+    pub fn new(alloc: Global) -> Self
+        ensures { result ≡ [] }
+    {
+        Svg {
+            bytes: Vec::new(alloc),
+            words: PhantomData,
+        }
+    }
+
+    pub fn as_bytes(&self) -> &[u8]
+        ensures { result.now ≡ self.now }
+    {
+        &self.bytes
+    }
+
+    /// Puts parts at the end.
+    pub fn put(&mut self, parts: &[Part]) -> Result<(), NoMemory>
+        requires { IsTrue (list_all (is_fixed W.words) parts.now) }
+        ensures { OnOk result (Draws W.words (flat_map labels_of_part parts.now) self.old self.new) }
+    {
+        put_parts(&mut self.bytes, parts)
+    }
+
+    /// Puts the beginning of a document of this size.
+    pub fn open(&mut self, width: u64, height: u64) -> Result<(), NoMemory>
+        ensures { OnOk result (Draws W.words [] self.old self.new) }
+    {
+        self.put(&[
+            Markup("<svg xmlns=\"http://www.w3.org/2000/svg\" role=\"img\""),
+            Attribute("width", width),
+            Attribute("height", height),
+            Markup(" viewBox=\"0 0 "),
+            Point(width, height),
+            Markup("\">\n"),
+        ])
+    }
+
+    /// Puts parts between the beginning and the end of an element.
+    fn element(
+        &mut self,
+        start: &'static str,
+        content: &[Part],
+        end: &'static str,
+    ) -> Result<(), NoMemory>
+        requires start { IsTrue (is_word W.words start.now) }
+        requires content { IsTrue (list_all (is_fixed W.words) content.now) }
+        requires end { IsTrue (is_word W.words end.now) }
+        ensures { OnOk result (Draws W.words (flat_map labels_of_part content.now) self.old self.new) }
+    {
+        self.put(&[Markup(start)])?;
+        self.put(content)?;
+        self.put(&[Markup(end)])
+    }
+
+    /// Puts a tooltip, or the title of the document.
+    pub fn title(&mut self, content: &[Part]) -> Result<(), NoMemory>
+        requires { IsTrue (list_all (is_fixed W.words) content.now) }
+        ensures { OnOk result (Draws W.words (flat_map labels_of_part content.now) self.old self.new) }
+    {
+        self.element("<title>", content, "</title>")
+    }
+
+    /// Puts a text of a class at a point.
+    pub fn text(
+        &mut self,
+        class: &'static str,
+        at: (u64, u64),
+        content: &[Part],
+    ) -> Result<(), NoMemory>
+        requires class { IsTrue (is_word W.words class.now) }
+        requires content { IsTrue (list_all (is_fixed W.words) content.now) }
+        ensures { OnOk result (Draws W.words (flat_map labels_of_part content.now) self.old self.new) }
+    {
+        let (x, y) = at;
+        self.put(&[
+            Markup("<text class=\""),
+            Markup(class),
+            Markup("\""),
+            Attribute("x", x),
+            Attribute("y", y),
+        ])?;
+        self.element(">", content, "</text>")
+    }
+
+    /// Puts a path of this outline.
+    pub fn path(&mut self, outline: &'static str) -> Result<(), NoMemory>
+        requires { IsTrue (is_word W.words outline.now) }
+        ensures { OnOk result (Draws W.words [] self.old self.new) }
+    {
+        self.put(&[Markup("<path d=\""), Markup(outline), Markup("\"/>")])
+    }
+
+    /// Puts a line from point to point, as a path.
+    pub fn stroke(&mut self, from: (u64, u64), to: (u64, u64)) -> Result<(), NoMemory>
+        ensures { OnOk result (Draws W.words [] self.old self.new) }
+    {
+        self.put(&[
+            Markup("<path d=\"M"),
+            Point(from.0, from.1),
+            Markup("L"),
+            Point(to.0, to.1),
+            Markup("\"/>"),
+        ])
+    }
+
+    /// Puts a curve from point to point, as a path that these two points in between draw to them.
+    pub fn curve(
+        &mut self,
+        from: (u64, u64),
+        between: ((u64, u64), (u64, u64)),
+        to: (u64, u64),
+    ) -> Result<(), NoMemory>
+        ensures { OnOk result (Draws W.words [] self.old self.new) }
+    {
+        let ((x, y), (right, below)) = between;
+        self.put(&[
+            Markup("<path d=\"M"),
+            Point(from.0, from.1),
+            Markup("C"),
+            Point(x, y),
+            Markup(" "),
+            Point(right, below),
+            Markup(" "),
+            Point(to.0, to.1),
+            Markup("\"/>"),
+        ])
+    }
+
+    /// Puts a line of a class straight down.
+    pub fn line(&mut self, class: &'static str, x: u64, from: u64, to: u64) -> Result<(), NoMemory>
+        requires { IsTrue (is_word W.words class.now) }
+        ensures { OnOk result (Draws W.words [] self.old self.new) }
+    {
+        self.put(&[
+            Markup("<line class=\""),
+            Markup(class),
+            Markup("\""),
+            Attribute("x1", x),
+            Attribute("y1", from),
+            Attribute("x2", x),
+            Attribute("y2", to),
+            Markup("/>"),
+        ])
+    }
+
+    /// Puts a rectangle of these attributes.
+    pub fn rect(&mut self, attributes: &[Part]) -> Result<(), NoMemory>
+        requires { IsTrue (list_all (is_fixed W.words) attributes.now) }
+        ensures { OnOk result (Draws W.words (flat_map labels_of_part attributes.now) self.old self.new) }
+    {
+        self.element("<rect", attributes, "/>")
+    }
+
+    /// Puts the beginning of a group of a class, with these attributes.
+    pub fn group(&mut self, class: &[Part], attributes: &[Part]) -> Result<(), NoMemory>
+        requires class { IsTrue (list_all (is_fixed W.words) class.now) }
+        requires attributes { IsTrue (list_all (is_fixed W.words) attributes.now) }
+        ensures { OnOk result (Draws W.words
+            (flat_map labels_of_part class.now ++ flat_map labels_of_part attributes.now) self.old self.new) }
+    {
+        self.element("<g class=\"", class, "\"")?;
+        self.put(attributes)?;
+        self.put(&[Markup(">")])
+    }
+
+    /// Puts the end of a group.
+    pub fn close_group(&mut self) -> Result<(), NoMemory>
+        ensures { OnOk result (Draws W.words [] self.old self.new) }
+    {
+        self.put(&[Markup("</g>\n")])
+    }
+
+    /// Puts the end of a line of the document's bytes.
+    pub fn end_line(&mut self) -> Result<(), NoMemory>
+        ensures { OnOk result (Draws W.words [] self.old self.new) }
+    {
+        self.put(&[Markup("\n")])
+    }
+
+    /// Puts the end of the document.
+    pub fn close(&mut self) -> Result<(), NoMemory>
+        ensures { OnOk result (Draws W.words [] self.old self.new) }
+    {
+        self.put(&[Markup("</svg>\n")])
+    }
+}
