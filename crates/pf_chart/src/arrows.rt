@@ -45,14 +45,14 @@ impl SignalKind {
     }
 }
 
-/// Where an arrow begins: in the row of the event that sent the signal, or, where no event tells of it, just above its delivery.
+/// Where an arrow begins: in the row of the event that sent the signal, or, if no event tells of it, just above its delivery.
 #[derive(Clone, Copy)]
 pub(crate) enum Start {
     In(usize),
     Above(usize),
 }
 
-/// Where an arrow ends: nowhere, or in the row of the delivery, where the signal may have been dropped.
+/// Where an arrow ends: nowhere, or in the row of the delivery, at which the signal may have been dropped.
 #[derive(Clone, Copy)]
 pub(crate) enum Reach {
     Nowhere,

@@ -10,7 +10,7 @@ use pf_model::Signal;
 use pf_model::report::{Label, Suffix};
 use pf_terms::NoMemory;
 use std::alloc::Global;
-use std::collections::{BTreeMap, VecDeque};
+use std::collections::{BTreeMap, BTreeSet, VecDeque};
 
 /// The arrows so far, of those on their way which are the oldest, and what the system keeps of processes.
 #[derive(Drop)]
@@ -57,8 +57,23 @@ impl Traffic {
         Ok(())
     }
 
-    /// What a process does to another: a link signal goes out if the link is new and isn't to oneself, an unlink signal if there was a link.
-    /// A child that is linked or watched at once is sent no signal.
+    /// A link signal goes out if the link is new, and isn't to oneself.
+    fn link(&mut self, row: usize, a: usize, b: usize) -> Result<(), NoMemory> {
+        if a != b && self.peers.tie(a, b)? {
+            self.send(row, a, b, SignalKind::Link)?;
+        }
+        Ok(())
+    }
+
+    /// An unlink signal goes out if there was a link.
+    fn unlink(&mut self, row: usize, a: usize, b: usize) -> Result<(), NoMemory> {
+        if self.peers.untie(a, b) {
+            self.send(row, a, b, SignalKind::Unlink)?;
+        }
+        Ok(())
+    }
+
+    /// What a process does to another. No signal goes out to a child that is linked or watched at once.
     pub(crate) fn act(
         &mut self,
         row: usize,
@@ -78,12 +93,8 @@ impl Traffic {
                 self.peers.activate(*reference, a, b)?;
                 self.peers.watch(b, *reference, a)
             }
-            Label::Links(_) if a != b && self.peers.tie(a, b)? => {
-                self.send(row, a, b, SignalKind::Link)
-            }
-            Label::Unlinks(_) if self.peers.untie(a, b) => {
-                self.send(row, a, b, SignalKind::Unlink)
-            }
+            Label::Links(_) => self.link(row, a, b),
+            Label::Unlinks(_) => self.unlink(row, a, b),
             Label::Monitors { reference, .. } => {
                 self.peers.activate(*reference, a, b)?;
                 self.send(row, a, b, SignalKind::Monitor)
@@ -179,14 +190,25 @@ impl Traffic {
         self.settle(row, from, to, signal, suffix)
     }
 
-    /// A process ends: an exit goes to each that is linked, a down to each that watches.
+    /// An exit goes to each that is linked.
+    fn send_exits(
+        &mut self,
+        row: usize,
+        a: usize,
+        links: &BTreeSet<usize>,
+    ) -> Result<(), NoMemory> {
+        for linked in links.iter() {
+            self.send(row, a, *linked, SignalKind::Exit)?;
+        }
+        Ok(())
+    }
+
+    /// A process ends: an exit goes to each that is linked, and then a down to each that watches.
     pub(crate) fn end(&mut self, alloc: Global, row: usize, a: usize) -> Result<(), NoMemory> {
         let Some((links, watchers)) = self.peers.end(alloc, a) else {
             return Ok(());
         };
-        for linked in links.iter() {
-            self.send(row, a, *linked, SignalKind::Exit)?;
-        }
+        self.send_exits(row, a, &links)?;
         for watcher in watchers.values() {
             self.send(row, a, *watcher, SignalKind::Down)?;
         }

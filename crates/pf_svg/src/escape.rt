@@ -6,7 +6,7 @@ ghost use Rattle.pf_svg.specs.Escaped.{code_of, escaped, escaped_byte, reference
 use pf_terms::NoMemory;
 use pf_text::{put, put_byte, put_number};
 
-/// The character that a byte is told as where it can't stand as it is: a blank of lines or a byte of Latin-1 is itself.
+/// The character that a byte is told as if it can't stand as it is: a blank of lines or a byte of Latin-1 is itself.
 fn code_of(byte: u8) -> u64
     ensures { result ≡ code_of byte }
 {
@@ -54,7 +54,7 @@ pub fn put_escaped(out: &mut Vec<u8>, text: &[u8]) -> Result<(), NoMemory>
     Ok(())
 }
 
-/// Puts the first bytes of a text and three dots, or all of it where no more than three would go.
+/// Puts the first bytes of a text and three dots, or all of it if no more than three would go.
 pub fn put_short(out: &mut Vec<u8>, text: &[u8], most: usize) -> Result<(), NoMemory>
     ensures { OnOk result (out.new.items ≡ out.old.items ++ short most text.now) }
 {

@@ -135,7 +135,7 @@ impl<W: Vocabulary> Svg<W> {
         ])
     }
 
-    /// Puts a curve from point to point, as a path that these two points in between draw to them.
+    /// Puts a curve from point to point, as a path; the two points between bend it.
     pub fn curve(
         &mut self,
         from: (u64, u64),
