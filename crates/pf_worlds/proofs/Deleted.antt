@@ -1,8 +1,7 @@
 -- Where only the steps of one project are left, each is answered as it was.
-use Rattle.std.proofs.Common.{◌≡◌, ℕ, zero, suc, ◌≤◌, ◌==◌, Bool, true, false, ◌&&◌, List, [], ◌∷◌, ◌++◌, map, Option, Some, None, refl, sym, ap, ◌∙◌, subst, arith, append-nil}
+use Rattle.std.proofs.Common.{◌≡◌, ℕ, zero, suc, ◌==◌, Bool, true, false, List, [], ◌∷◌, map, Option, Some, None, refl, sym, ap, ◌∙◌, subst}
 use Rattle.std.specs.Prelude.{if◌then◌else◌, unwrap_or, slice_get, slice_set, replicate}
 use Rattle.std.specs.Option.{option_map}
-use Rattle.std.proofs.lemmas.Bool.Decides.{nat_tests}
 use Rattle.std.proofs.lemmas.List.{map-set}
 use Rattle.std.proofs.lemmas.Option.{slice_get-map}
 use Rattle.pf_request.specs.Calls.{Call}
@@ -10,7 +9,7 @@ use Rattle.pf_desks.specs.Desk.{Desk}
 use Rattle.pf_desks.specs.Calls.{reply_to, after_call}
 use Rattle.pf_desks.specs.World.{World, replied, desk_at, put_desk, worked}
 use Rattle.pf_desks.proofs.Isolated.{desk_placed}
-use Rattle.pf_worlds.specs.Workshop.{RunProfile, ClaimedRun, Hand, Deck, Workshop, new_workshop}
+use Rattle.pf_worlds.specs.Workshop.{RunProfile, Hand, Deck, Workshop, new_workshop}
 use Rattle.pf_worlds.specs.Chores.{Chore, Response, answer, Effect, chore_effect}
 use Rattle.pf_worlds.specs.Steps.{WorkshopStep, client_calls, worker_does, deck_owner, is_theft_of_own, with_deck, with_effect, effect_among, effect_of, take_step, responses}
 use Rattle.pf_worlds.specs.Alone.{took_place, is_own, own_part, own_responses}
@@ -90,15 +89,14 @@ module _ (p : RunProfile) (q : ℕ) where
       after d = after_call p.profile d c
 
       own : Next k (client_calls q c) (take_step p s (client_calls q c)) true
-      own =
-          (
-            ap (λ (d : Desk). answer (replied (reply_to p.profile d c))) l.0,
-            (
-              placed_own (after (desk_at q k.desks)) k.desks ∙ ap after l.0 ∙ sym (placed_own (after (desk_at q s.desks)) s.desks),
-              l.1,
-              l.2,
-            ),
-          )
+      own = (
+        ap (λ (d : Desk). answer (replied (reply_to p.profile d c))) l.0,
+        (
+          placed_own (after (desk_at q k.desks)) k.desks ∙ ap after l.0 ∙ sym (placed_own (after (desk_at q s.desks)) s.desks),
+          l.1,
+          l.2,
+        ),
+      )
 
       by : (b : Bool) → (r == q) ≡ b → Next k (client_calls r c) (take_step p s (client_calls r c)) b
       by true e = subst (λ (n : ℕ). Next k (client_calls n c) (take_step p s (client_calls n c)) true) (sym (same_project q r e)) own
@@ -108,26 +106,24 @@ module _ (p : RunProfile) (q : ℕ) where
       → Next k (worker_does w q t x) (with_effect s w (deck_owner w x) q (Some e)) true
   next_own s k w t x e l h =
       subst (λ (o : Option Effect). ((with_effect k w (deck_owner w x) q o).1 ≡ e.response) × IsAlike (with_effect s w (deck_owner w x) q (Some e)).0 (with_effect k w (deck_owner w x) q o).0)
-        (sym (effect_own s k w t x e l h))
+      (sym (effect_own s k w t x e l h)) (
+        refl,
         (
-          refl,
-          (
-            worked_own e.desk s.desks k.desks l.0,
-            ap (λ (hs : List Hand). slice_set hs w (keep q e.hand)) l.1 ∙ sym (map-set (keep q) s.hands w e.hand),
-            ap (λ (ks : List Deck). with_deck (deck_owner w x) (option_map (keep_runs q) e.deck) ks) l.2 ∙ deck_set (deck_owner w x) e.deck s.decks,
-          ),
-        )
+          worked_own e.desk s.desks k.desks l.0,
+          ap (λ (hs : List Hand). slice_set hs w (keep q e.hand)) l.1 ∙ sym (map-set (keep q) s.hands w e.hand),
+          ap (λ (ks : List Deck). with_deck (deck_owner w x) (option_map (keep_runs q) e.deck) ks) l.2 ∙ deck_set (deck_owner w x) e.deck s.decks,
+        ),
+      )
 
   next_other : (s k : Workshop) (w r t : ℕ) (x : Chore) (e : Effect) → IsAlike s k → (r == q) ≡ false → effect_of p s w r t x ≡ Some e
       → IsAlike (with_effect s w (deck_owner w x) r (Some e)).0 k
   next_other s k w r t x e l apart h =
       where_done (λ (e : Effect). IsAlike (with_effect s w (deck_owner w x) r (Some e)).0 k) p s w r t x e h (λ hand rs i j done.
-        let u : IsUnseen q p hand rs e = chore_unseen q p r apart t x (desk_at r s.desks) hand rs e done in
-        (
-          l.0 ∙ sym (worked_other r e.desk s.desks apart),
-          l.1 ∙ sym (set_unseen (keep q) s.hands w hand e.hand i u.0),
-          l.2 ∙ sym (deck_unseen (deck_owner w x) e.deck s.decks rs j u.1),
-        ))
+      let u : IsUnseen q p hand rs e = chore_unseen q p r apart t x (desk_at r s.desks) hand rs e done in (
+        l.0 ∙ sym (worked_other r e.desk s.desks apart),
+        l.1 ∙ sym (set_unseen (keep q) s.hands w hand e.hand i u.0),
+        l.2 ∙ sym (deck_unseen (deck_owner w x) e.deck s.decks rs j u.1),
+      ))
 
   next : (s k : Workshop) (x : WorkshopStep) → IsWholeWorkshop s → IsAlike s k → Next k x (take_step p s x) (is_own q x (take_step p s x).1)
   next s k (client_calls r c) h l = next_call s k r c l
@@ -145,7 +141,7 @@ module _ (p : RunProfile) (q : ℕ) where
           which : (b : Bool) → (r == q) ≡ b → Next k (worker_does w r t x) (with_effect s w (deck_owner w x) r (Some e)) b
           which true is =
               (let f : effect_of p s w r t x ≡ Some e → Next k (worker_does w r t x) (with_effect s w (deck_owner w x) r (Some e)) true =
-                subst (λ (n : ℕ). effect_of p s w n t x ≡ Some e → Next k (worker_does w n t x) (with_effect s w (deck_owner w x) n (Some e)) true) (sym (same_project q r is)) (λ h. next_own s k w t x e l h)
+              subst (λ (n : ℕ). effect_of p s w n t x ≡ Some e → Next k (worker_does w n t x) (with_effect s w (deck_owner w x) n (Some e)) true) (sym (same_project q r is)) (λ h. next_own s k w t x e l h)
               in f i)
           which false is = next_other s k w r t x e l is i
 

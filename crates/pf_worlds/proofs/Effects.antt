@@ -31,7 +31,7 @@ module _ (P : Effect → Type 0) where
   -- what holds of each effect of a chore holds of that in a workshop
   pub where_done : (p : RunProfile) (s : Workshop) (w q t : ℕ) (k : Chore) (e : Effect) → effect_of p s w q t k ≡ Some e
       → ((hand : Hand) (rs : Deck) → slice_get s.hands w ≡ Some hand → slice_get s.decks (deck_owner w k) ≡ Some rs
-          → chore_effect p q t k (desk_at q s.desks) hand rs ≡ Some e → P e)
+      → chore_effect p q t k (desk_at q s.desks) hand rs ≡ Some e → P e)
       → P e
   where_done p s w q t k e h f = own (is_theft_of_own w k) h
     where

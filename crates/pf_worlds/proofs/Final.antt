@@ -2,7 +2,7 @@
 use Rattle.std.proofs.Common.{◌≡◌, ℕ, zero, suc, ◌+◌, Bool, true, false, List, [], ◌∷◌, ◌++◌, length, Option, Some, None, refl, sym, ap, ◌∙◌, subst}
 use Rattle.std.specs.Prelude.{◌≢◌, if◌then◌else◌, nat_lt, unwrap_or, Result, Ok, Err, All, slice_get}
 use Rattle.std.specs.Option.{option_flatten, option_map}
-use Rattle.std.proofs.lemmas.List.Elements.{All-nil, All-set, All-push}
+use Rattle.std.proofs.lemmas.List.Elements.{All-set, All-push}
 use Rattle.pf_fault.specs.declared.code.Code.{Code}
 use Rattle.pf_fault.specs.declared.code.Code.TheVariants as code
 use Rattle.pf_quota.specs.Charges.{steps_of_trial}
@@ -14,7 +14,7 @@ use Rattle.pf_request.specs.Module.{ReadModule}
 use Rattle.pf_desks.specs.Desk.{Profile, State, queued, running, done, Trial, Desk, held_at, with_held, Reading, readable, faulty, job_ordered, marked_whole}
 use Rattle.pf_desks.specs.Desk.{Reply, ticket, result, uses, logged, has_edition, refused, Entry, called, claimed, filed, handed_back}
 use Rattle.pf_desks.specs.Calls.{calls_in, passed_by, within_limits, submitted, with_job, ordered, result_in, fetched, dropped, users_of, withdrawn, is_edition, in_edition, answered, with_entry, noted, reply_to, after_call}
-use Rattle.pf_desks.specs.Work.{is_queued, is_running, in_state, with_state, after_claim, after_file, after_back}
+use Rattle.pf_desks.specs.Work.{is_queued, is_running, in_state, after_claim, after_file, after_back}
 use Rattle.pf_desks.proofs.Always.{OfWork, of_claim, of_file, of_back, moved}
 use Rattle.pf_desks.proofs.Histories.{call_notes}
 use Rattle.pf_desks.proofs.Sums.{calls_more, calls_worked}
@@ -89,19 +89,18 @@ module _ (p : Profile) where
     order_move n (Ok j) =
         within_move (charge.Trial (steps_of_trial j.asked.limit j.asked.runs)) (with_job d n j, ticket (length d.trials + 1)) (with_job (quiet d h) n j, ticket (length (bare d.trials) + 1)) (
           ap (λ (ts : List (Option Trial)). record { edition = d.edition; modules = d.modules; trials = ts; history = h })
-            (bare_more d.trials (Some (record { module_number = n; job = j; state = queued }))),
+              (bare_more d.trials (Some (record { module_number = n; job = j; state = queued }))),
           All-push IsRight d.trials (Some (record { module_number = n; job = j; state = queued })) right tt,
           ap (λ (k : ℕ). ticket (k + 1)) (sym (bare_length d.trials)),
         )
 
     drop_move : (t : ℕ) (o : Option Trial) → IsMove (dropped d t o) (dropped (quiet d h) t (option_map forgot o))
     drop_move t None = (refl, right, refl)
-    drop_move t (Some x) =
-        (
-          ap (λ (ts : List (Option Trial)). record { edition = d.edition; modules = d.modules; trials = ts; history = h }) (bare_with d.trials t None),
-          right_with d.trials t None right tt,
-          refl,
-        )
+    drop_move t (Some x) = (
+      ap (λ (ts : List (Option Trial)). record { edition = d.edition; modules = d.modules; trials = ts; history = h }) (bare_with d.trials t None),
+      right_with d.trials t None right tt,
+      refl,
+    )
 
     withdraw_move : (n : ℕ) (o : Option ReadModule) (k : ℕ) → IsMove (withdrawn d n o k) (withdrawn (quiet d h) n o k)
     withdraw_move n None k = (refl, right, refl)
@@ -136,7 +135,7 @@ module _ (p : Profile) where
     settled_move : (c : Call) → IsSettledMove c (answered p d c) (answered p (quiet d h) c)
     settled_move (submit text) =
         (let m : IsMove (answered p d (submit text)) (answered p (quiet d h) (submit text)) =
-          within_move (charge.Module (length text)) (submitted d text (p.reading text)) (submitted (quiet d h) text (p.reading text)) (submit_move text (p.reading text))
+        within_move (charge.Module (length text)) (submitted d text (p.reading text)) (submitted (quiet d h) text (p.reading text)) (submit_move text (p.reading text))
         in (m.0, m.1, λ s. m.2))
     settled_move (order n r) =
         (let m : IsMove (answered p d (order n r)) (answered p (quiet d h) (order n r)) = order_move n (job_ordered p d.edition (held_at d.modules n) r)
@@ -146,11 +145,11 @@ module _ (p : Profile) where
     settled_move (status t) = (refl, right, λ s. absurd s)
     settled_move (drop_trial t) =
         (let m : IsMove (answered p d (drop_trial t)) (answered p (quiet d h) (drop_trial t)) =
-          subst (λ (o : Option Trial). IsMove (dropped d t (held_at d.trials t)) (dropped (quiet d h) t o)) (sym (bare_held d.trials t)) (drop_move t (held_at d.trials t))
+        subst (λ (o : Option Trial). IsMove (dropped d t (held_at d.trials t)) (dropped (quiet d h) t o)) (sym (bare_held d.trials t)) (drop_move t (held_at d.trials t))
         in (m.0, m.1, λ s. m.2))
     settled_move (withdraw n) =
         (let m : IsMove (answered p d (withdraw n)) (answered p (quiet d h) (withdraw n)) =
-          subst (λ (k : ℕ). IsMove (withdrawn d n (held_at d.modules n) (users_of d n)) (withdrawn (quiet d h) n (held_at d.modules n) k)) (sym (bare_users n d.trials)) (withdraw_move n (held_at d.modules n) (users_of d n))
+        subst (λ (k : ℕ). IsMove (withdrawn d n (held_at d.modules n) (users_of d n)) (withdrawn (quiet d h) n (held_at d.modules n) k)) (sym (bare_users n d.trials)) (withdraw_move n (held_at d.modules n) (users_of d n))
         in (m.0, m.1, λ s. m.2))
     settled_move usage = (refl, right, λ s. ap uses (sym (quiet_usage d h same)))
     settled_move log = (refl, right, λ s. ap logged (sym same))
@@ -161,22 +160,24 @@ module _ (p : Profile) where
     IsCallMove c x y f = IsLike x.0 y.0 × (Settles c x.1 → x.1 ≡ f)
 
     noted_move : (c : Call) (x y : Desk × Reply) → x.0.history ≡ d.history → IsSettledMove c x y → IsCallMove c (noted c x) (noted c y) (final_answer (quiet d h) c)
-    noted_move c x y kept m =
-        ((
-          ap (λ (e : Desk). with_entry e (called c y.1)) m.0 ∙ sym (ap (λ (e : Desk). quiet (with_entry x.0 (called c x.1)) (e.history ++ called c y.1 ∷ [])) m.0),
-          ap (λ (e : Desk). calls_in (e.history ++ called c y.1 ∷ [])) m.0
-          ∙ calls_more h c y.1
-          ∙ ap (λ (n : ℕ). n + 1) same
-          ∙ sym (calls_more d.history c x.1)
-          ∙ sym (ap (λ (es : List Entry). calls_in (es ++ called c x.1 ∷ [])) kept),
-          m.1,
-        ), m.2)
+    noted_move c x y kept m = (
+      (
+        ap (λ (e : Desk). with_entry e (called c y.1)) m.0 ∙ sym (ap (λ (e : Desk). quiet (with_entry x.0 (called c x.1)) (e.history ++ called c y.1 ∷ [])) m.0),
+        ap (λ (e : Desk). calls_in (e.history ++ called c y.1 ∷ [])) m.0
+            ∙ calls_more h c y.1
+            ∙ ap (λ (n : ℕ). n + 1) same
+            ∙ sym (calls_more d.history c x.1)
+            ∙ sym (ap (λ (es : List Entry). calls_in (es ++ called c x.1 ∷ [])) kept),
+        m.1,
+      ),
+      m.2,
+    )
 
     call_move : (c : Call) → IsCallMove c (within_limits d (passed_by d charge.Call) (noted c (answered p d c)))
         (within_limits (quiet d h) (passed_by (quiet d h) charge.Call) (noted c (answered p (quiet d h) c))) (final (quiet d h) c)
     call_move c =
         subst (λ (o : Option Code). IsCallMove c (within_limits d (passed_by d charge.Call) x) (within_limits (quiet d h) o y) (within_limits (quiet d h) o (quiet d h, f)).1)
-          (sym (quiet_passed d h same charge.Call)) (by (passed_by d charge.Call))
+        (sym (quiet_passed d h same charge.Call)) (by (passed_by d charge.Call))
       where
         x : Desk × Reply
         x = noted c (answered p d c)
@@ -194,18 +195,17 @@ module _ (p : Profile) where
   pub like_call : (d e : Desk) (c : Call) → IsLike d e → IsLike (after_call p d c) (after_call p e c) × (Settles c (reply_to p d c) → reply_to p d c ≡ final e c)
   like_call d e c l =
       subst (λ (k : Desk). IsLike (after_call p d c) (after_call p k c) × (Settles c (reply_to p d c) → reply_to p d c ≡ final k c)) (sym l.0) (
-        let m : _ = call_move d e.history l.1 l.2 c in (m.0, m.1)
+      let m : _ = call_move d e.history l.1 l.2 c in (m.0, m.1)
       )
 
   -- ---- chores
 
   like_moved : (d e : Desk) (t : ℕ) (f : Job → State) (x : Entry) → OfWork x → ((j : Job) → IsRightState j (f j)) → IsLike d e → IsLike (moved d t f x) e
-  like_moved d e t f x of right l =
-      (
-        l.0 ∙ ap (λ (ts : List (Option Trial)). record { edition = d.edition; modules = d.modules; trials = ts; history = e.history }) (sym (bare_state d.trials t f)),
-        l.1 ∙ sym (calls_worked d.history x of),
-        right_with d.trials t (option_map (in_state f) (held_at d.trials t)) l.2 (one (held_at d.trials t)),
-      )
+  like_moved d e t f x of right l = (
+    l.0 ∙ ap (λ (ts : List (Option Trial)). record { edition = d.edition; modules = d.modules; trials = ts; history = e.history }) (sym (bare_state d.trials t f)),
+    l.1 ∙ sym (calls_worked d.history x of),
+    right_with d.trials t (option_map (in_state f) (held_at d.trials t)) l.2 (one (held_at d.trials t)),
+  )
     where
       one : (o : Option Trial) → IsRight (option_map (in_state f) o)
       one None = tt
@@ -220,7 +220,7 @@ module _ (p : Profile) where
       like_if (is_queued (held_at d.trials t)) d (after_claim d t) e l (like_moved d e t (λ j. running) (claimed t) (of_claim t) (λ j. tt) l)
   like_chore d e w q t filing l =
       like_if (is_running (held_at d.trials t)) d (after_file p d t marked_whole) e l (
-        like_moved d e t (λ j. done (p.meaning j.asked)) (filed t marked_whole) (of_file t marked_whole) (λ j. refl) l
+      like_moved d e t (λ j. done (p.meaning j.asked)) (filed t marked_whole) (of_file t marked_whole) (λ j. refl) l
       )
   like_chore d e w q t giving_back l =
       like_if (is_running (held_at d.trials t)) d (after_back d t) e l (like_moved d e t (λ j. queued) (handed_back t) (of_back t) (λ j. tt) l)

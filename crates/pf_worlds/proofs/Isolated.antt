@@ -54,7 +54,7 @@ module _ (p : RunProfile) where
   free_done : (w q t : ℕ) (k : Chore) (d : Desk) (rs : Deck) (e : Effect) → free_effect q t k d rs ≡ Some e → IsDoneAs w q t k d e
   free_done w q t claiming d rs e h =
       where_claimed (IsDoneAs w q t claiming d) q t (held_at d.trials t) (claim_step d t) e h (λ x k i j.
-        (sym (ap (λ (o : Option Desk). unwrap_or o d) j), refl, refl))
+      (sym (ap (λ (o : Option Desk). unwrap_or o d) j), refl, refl))
   free_done w q t taking_up d rs e h = where_from_deck (IsDoneAs w q t taking_up d) q t rs e h (λ r ks i is. (refl, refl, refl))
   free_done w q t (stealing v) d rs e h = where_from_deck (IsDoneAs w q t (stealing v) d) q t rs e h (λ r ks i is. (refl, refl, refl))
   free_done w q t (slicing n) d rs e h = absurd (cc)
@@ -74,7 +74,7 @@ module _ (p : RunProfile) where
       by (going k) h one = absurd (cc)
       by (over m) h one =
           from_some (IsDoneAs w q t filing d) _ e h (
-            emptied_as w q t filing d (file_step p.profile d t m) (ap (λ (m : Mark). unwrap_or (file_step p.profile d t m) d) one)
+          emptied_as w q t filing d (file_step p.profile d t m) (ap (λ (m : Mark). unwrap_or (file_step p.profile d t m) d) one)
           )
   busy_done w q t giving_back d r rs e h one =
       from_some (IsDoneAs w q t giving_back d) _ e h (emptied_as w q t giving_back d (back_step d t) refl)
@@ -95,7 +95,7 @@ module _ (p : RunProfile) where
       → effect_of p s w q t k ≡ Some e → IsWholeWorkshop s → IsDoneAs w q t k (desk_at q s.desks) e
   effect_done s w q t k e i h =
       where_done (IsDoneAs w q t k (desk_at q s.desks)) p s w q t k e i (λ hand rs x y done.
-        chore_done w q t k (desk_at q s.desks) hand rs e done (all_at IsWholeHand s.hands w hand x h.0))
+      chore_done w q t k (desk_at q s.desks) hand rs e done (all_at IsWholeHand s.hands w hand x h.0))
 
 -- ---- one project's desk among all
 
@@ -154,19 +154,17 @@ module _ (p : RunProfile) where
 
       by : (b : Bool) → b ≡ true → ((if r == q then replies_of e.response else []) ≡ (if (if b then r == q else false) then said else []))
           × (desk_at q (worked r s.desks e.desk).0 ≡ (if (if b then r == q else false) then desk_done p.profile (at_desk x) (desk_at q s.desks) else desk_at q s.desks))
-      by true i =
-          (
-            none_either_way (r == q) (replies_of e.response) h.2 ∙ sym (none_either_way (r == q) said (silence p.profile w r t k (desk_at q s.desks))),
-            desk_with q r (desk_done p.profile (at_desk x)) e.desk s.desks h.0,
-          )
+      by true i = (
+        none_either_way (r == q) (replies_of e.response) h.2 ∙ sym (none_either_way (r == q) said (silence p.profile w r t k (desk_at q s.desks))),
+        desk_with q r (desk_done p.profile (at_desk x)) e.desk s.desks h.0,
+      )
       by false i = absurd (cc)
 
   local : (q : ℕ) (s : Workshop) (x : WorkshopStep) → IsWholeWorkshop s → IsLocal p q s x (take_step p s x)
-  local q s (client_calls r c) h =
-      (
-        replies_made q r (replies_done p.profile (at_desk (client_calls r c))) s.desks,
-        desk_made q r (λ d. after_call p.profile d c) s.desks,
-      )
+  local q s (client_calls r c) h = (
+    replies_made q r (replies_done p.profile (at_desk (client_calls r c))) s.desks,
+    desk_made q r (λ d. after_call p.profile d c) s.desks,
+  )
   local q s (worker_does w r t k) h = by (effect_of p s w r t k) refl
     where
       by : (o : Option Effect) → effect_of p s w r t k ≡ o → IsLocal p q s (worker_does w r t k) (with_effect s w (deck_owner w k) r o)
@@ -200,7 +198,7 @@ module _ (p : RunProfile) where
   isolated_from q s (x ∷ xs) h =
       let l : IsLocal p q s x (take_step p s x) = local q s x h in
       joined q x (take_step p s x).1 xs (responses p (take_step p s x).0 xs) (desk_at q s.desks) (desk_at q (take_step p s x).0.desks) l.0 l.1 (
-        isolated_from q (take_step p s x).0 xs (whole_step p s x h)
+      isolated_from q (take_step p s x).0 xs (whole_step p s x h)
       )
 
   pub isolated : (n q : ℕ) (xs : List WorkshopStep) → heard q xs (all_responses p n xs) ≡ heard_alone p n q xs

@@ -84,7 +84,7 @@ module _ (p : RunProfile) where
       by None i = h
       by (Some e) i =
           reached_with s.desks r e.desk (
-            where_done (IsWorkEffect (desk_at r s.desks)) p s w r t k e i (λ hand rs x y done. chore_work r t k (desk_at r s.desks) hand rs e done)
+          where_done (IsWorkEffect (desk_at r s.desks)) p s w r t k e i (λ hand rs x y done. chore_work r t k (desk_at r s.desks) hand rs e done)
           ) h
 
   refused_desks : (s : Workshop) (x : WorkshopStep) → (refused_in s x).desks ≡ s.desks

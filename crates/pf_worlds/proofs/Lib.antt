@@ -7,3 +7,4 @@ pub mod Settled
 pub mod Seen
 pub mod Deleted
 pub mod Legal
+pub mod InTurn

@@ -1,5 +1,5 @@
 -- What one project sees of hands and decks, and that chores about its trials are the same with all else out of sight.
-use Rattle.std.proofs.Common.{◌≡◌, ℕ, ◌≤◌, ◌==◌, Bool, true, false, ◌&&◌, List, [], ◌∷◌, ◌++◌, Option, Some, None, refl, sym, ap, ◌∙◌, arith, append-nil}
+use Rattle.std.proofs.Common.{◌≡◌, ℕ, ◌≤◌, ◌==◌, Bool, true, false, ◌&&◌, [], ◌∷◌, ◌++◌, Option, Some, None, refl, sym, ap, ◌∙◌, arith, append-nil}
 use Rattle.std.specs.Prelude.{if◌then◌else◌, nat_lt, length, unwrap_or}
 use Rattle.std.specs.Option.{option_map}
 use Rattle.std.proofs.lemmas.Bool.Decides.{nat_tests}
@@ -80,8 +80,8 @@ module _ (q : ℕ) where
     free_own : (t : ℕ) (k : Chore) (d : Desk) (rs : Deck) (e : Effect) → free_effect q t k d rs ≡ Some e → free_effect q t k d (keep_runs rs) ≡ Some (own_effect e)
     free_own t claiming d rs e h =
         where_claimed (λ e. claim_effect q t (held_at d.trials t) (claim_step d t) ≡ Some (own_effect e)) q t (held_at d.trials t) (claim_step d t) e h (λ x k i j.
-          (λ n. claim_effect q t (i n) (j n))
-          ∙ ap (λ (x' : Hand). Some (record (claimed_as k (new_run q t x.job)) { hand = x' })) (sym (keep_own (new_run q t x.job) (itself q))))
+        (λ n. claim_effect q t (i n) (j n))
+        ∙ ap (λ (x' : Hand). Some (record (claimed_as k (new_run q t x.job)) { hand = x' })) (sym (keep_own (new_run q t x.job) (itself q))))
     free_own t taking_up d rs e h = deck_own t rs e h
     free_own t (stealing v) d rs e h = deck_own t rs e h
     free_own t (slicing n) d rs e h = absurd (cc)
@@ -93,14 +93,14 @@ module _ (q : ℕ) where
         → busy_effect p t k d r (keep_runs rs) ≡ Some (own_effect e)
     busy_own t (slicing n) d r rs e mine h =
         where_so (λ e. busy_effect p t (slicing n) d r (keep_runs rs) ≡ Some (own_effect e)) (is_going r.progress && nat_lt 0 n) _ e h (λ is.
-          ap (λ (b : Bool). if b then Some (in_hand (sliced p n r)) else None) is
-          ∙ ap (λ (x : Hand). Some (record (in_hand (sliced p n r)) { hand = x })) (sym (keep_own (sliced p n r) mine)))
+        ap (λ (b : Bool). if b then Some (in_hand (sliced p n r)) else None) is
+        ∙ ap (λ (x : Hand). Some (record (in_hand (sliced p n r)) { hand = x })) (sym (keep_own (sliced p n r) mine)))
     busy_own t parking d r rs e mine h =
         where_so (λ e. busy_effect p t parking d r (keep_runs rs) ≡ Some (own_effect e)) (is_going r.progress && nat_lt (length rs) MOST_PARKED) _ e h (λ is.
-          ap (λ (b : Bool). if b then Some (onto_deck r (keep_runs rs)) else None)
-            (still_room (is_going r.progress) (length (keep_runs rs)) (length rs) MOST_PARKED (fewer rs) is)
-          ∙ ap (λ (xs : Deck). Some (record (onto_deck r rs) { deck = Some xs }))
-            (sym (runs_more rs r ∙ ap (λ (xs : Deck). keep_runs rs ++ xs) (runs_own r [] mine))))
+        ap (λ (b : Bool). if b then Some (onto_deck r (keep_runs rs)) else None)
+        (still_room (is_going r.progress) (length (keep_runs rs)) (length rs) MOST_PARKED (fewer rs) is)
+        ∙ ap (λ (xs : Deck). Some (record (onto_deck r rs) { deck = Some xs }))
+        (sym (runs_more rs r ∙ ap (λ (xs : Deck). keep_runs rs ++ xs) (runs_own r [] mine))))
     busy_own t filing d r rs e mine h = by r.progress h
       where
         by : (g : Progress) → file_effect p t d g ≡ Some e → file_effect p t d g ≡ Some (own_effect e)
@@ -159,7 +159,7 @@ module _ (q : ℕ) where
           where_so (IsUnseen (Some x) rs) (is_going x.progress && nat_lt 0 n) _ e h (λ is. (keep_other (sliced p n x) out ∙ sym (keep_other x out), refl))
       busy_unseen t parking d x rs e out h =
           where_so (IsUnseen (Some x) rs) (is_going x.progress && nat_lt (length rs) MOST_PARKED) _ e h (λ is.
-            (sym (keep_other x out), runs_more rs x ∙ ap (λ (xs : Deck). keep_runs rs ++ xs) (runs_other x [] out) ∙ append-nil (keep_runs rs)))
+          (sym (keep_other x out), runs_more rs x ∙ ap (λ (xs : Deck). keep_runs rs ++ xs) (runs_other x [] out) ∙ append-nil (keep_runs rs)))
       busy_unseen t filing d x rs e out h = by x.progress h
         where
           by : (g : Progress) → file_effect p t d g ≡ Some e → IsUnseen (Some x) rs e

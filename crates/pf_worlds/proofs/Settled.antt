@@ -1,5 +1,5 @@
 -- What a project hears where it is settled comes of its own calls alone.
-use Rattle.std.proofs.Common.{◌≡◌, ℕ, ◌==◌, Bool, true, false, List, [], ◌∷◌, Option, refl, sym, ◌∙◌, ap, subst}
+use Rattle.std.proofs.Common.{◌≡◌, ℕ, ◌==◌, Bool, true, false, List, [], ◌∷◌, refl, sym, ◌∙◌, ap, subst}
 use Rattle.std.specs.Prelude.{if◌then◌else◌, filter_map}
 use Rattle.std.proofs.lemmas.List.Elements.{All-nil}
 use Rattle.pf_request.specs.Calls.{Call}
@@ -51,7 +51,7 @@ module _ (p : RunProfile) where
       (let m : _ = like_call p.profile d e c l in (m.1, final_along (after_call p.profile d c) (after_call p.profile e c) xs m.0))
   final_along d e (worker_does w r t k ∷ xs) l =
       subst (λ (rs : List Reply). AreFinal (all_calls xs) rs (finals e (all_calls xs))) (no_reply w r t k d xs) (
-        final_along (desk_done p.profile (at_desk (worker_does w r t k)) d) e xs (like_chore p.profile d e w r t k l)
+      final_along (desk_done p.profile (at_desk (worker_does w r t k)) d) e xs (like_chore p.profile d e w r t k l)
       )
 
   -- ---- a project's own calls are those of the steps that belong to it
@@ -80,9 +80,9 @@ module _ (p : RunProfile) where
   heard_final : (n q : ℕ) (xs : List WorkshopStep) → AreFinal (calls_of q xs) (heard q xs (all_responses p n xs)) (finals no_desk (calls_of q xs))
   heard_final n q xs =
       subst (λ (rs : List Reply). AreFinal (calls_of q xs) rs (finals no_desk (calls_of q xs))) (sym (isolated p n q xs)) (
-        subst (λ (cs : List Call). AreFinal cs (heard_alone p n q xs) (finals no_desk cs)) (own_calls q (new_workshop n) xs) (
-          final_along no_desk no_desk (own_part q xs (all_responses p n xs)) (refl, refl, All-nil _)
-        )
+      subst (λ (cs : List Call). AreFinal cs (heard_alone p n q xs) (finals no_desk cs)) (own_calls q (new_workshop n) xs) (
+      final_along no_desk no_desk (own_part q xs (all_responses p n xs)) (refl, refl, All-nil _)
+      )
       )
 
   -- two lists of replies of which both are final agree
@@ -102,5 +102,5 @@ module _ (p : RunProfile) where
 pub settled : SettledReplies
 settled p n m q xs ys h =
     agree p (calls_of q xs) (heard q xs (all_responses p n xs)) (heard q ys (all_responses p m ys)) (finals p no_desk (calls_of q xs)) (heard_final p n q xs) (
-      subst (λ (cs : List Call). AreFinal p cs (heard q ys (all_responses p m ys)) (finals p no_desk cs)) (sym h) (heard_final p m q ys)
+    subst (λ (cs : List Call). AreFinal p cs (heard q ys (all_responses p m ys)) (finals p no_desk cs)) (sym h) (heard_final p m q ys)
     )

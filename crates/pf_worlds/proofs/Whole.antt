@@ -96,10 +96,10 @@ module _ (p : RunProfile) where
       by None i = h
       by (Some e) i =
           let is : IsWholeEffect e =
-            where_done IsWholeEffect p s w q t k e i (
-              λ hand rs x y done. chore_whole q t k (desk_at q s.desks) hand rs e done
-                (all_at IsWholeHand s.hands w hand x h.0) (all_at (All IsWhole) s.decks (deck_owner w k) rs y h.1)
-            )
+          where_done IsWholeEffect p s w q t k e i (
+          λ hand rs x y done. chore_whole q t k (desk_at q s.desks) hand rs e done
+          (all_at IsWholeHand s.hands w hand x h.0) (all_at (All IsWhole) s.decks (deck_owner w k) rs y h.1)
+          )
           in
           (All-set IsWholeHand s.hands w e.hand is.0 h.0, whole_with (deck_owner w k) e.deck s.decks h.1 is.1)
 

@@ -1,5 +1,5 @@
 -- The chores of workers: when each can be done, and what it leaves.
-use Rattle.std.specs.Prelude.{ℕ, ◌+◌, Bool, true, false, ◌&&◌, nat_lt, ◌==◌, if◌then◌else◌, List, [], ◌∷◌, ◌++◌, length, Option, Some, None}
+use Rattle.std.specs.Prelude.{ℕ, ◌+◌, Bool, true, false, ◌&&◌, nat_lt, ◌==◌, if◌then◌else◌, [], ◌∷◌, ◌++◌, length, Option, Some, None}
 use Rattle.pf_model.specs.Meaning as model
 use Rattle.pf_request.specs.Job.{Job}
 use Rattle.pf_desks.specs.Desk.{Trial, Desk, held_at, marked_whole}
@@ -7,8 +7,8 @@ use Rattle.pf_desks.specs.Work.{claim_step, file_step, back_step}
 use Rattle.pf_desks.specs.World.{Answer, work_done}
 use Rattle.pf_worlds.specs.Workshop.{RunProfile, Progress, going, over, ClaimedRun, Hand, Deck}
 
--- what a worker does about a trial: it claims it; makes so many events more of its run; parks the run; takes the run up from its own deck, or
--- steals it from another worker's; files it; or gives it back
+-- what a worker does about a trial: it claims it; makes events of its run, as many as turns; parks the run; takes the run up from its own deck,
+-- or steals it from another worker's; files it; or gives it back
 pub data Chore : Type 0 where
   claiming : Chore
   slicing : (turns : ℕ) → Chore
@@ -23,8 +23,8 @@ pub data Response : Type 0 where
   answer : Answer → Response
   stray : Response
 
--- what a chore that can be done leaves: the desk of its project and the deck that it looks at, where it changes them, and what the worker
--- holds; and what is answered
+-- what a chore that can be done leaves: the desk of its project and the deck that it looks at, if it changes them; what the worker holds; and
+-- what is answered
 pub record Effect : Type 0 where
   pub desk : Option Desk
   pub hand : Hand
@@ -33,7 +33,7 @@ pub record Effect : Type 0 where
 
 -- ---- runs
 
--- a deck has room for so many runs
+-- a deck has room for this many runs
 abbrev pub MOST_PARKED : ℕ
 MOST_PARKED = 64
 
@@ -45,15 +45,17 @@ new_run q t j = record { project = q; ticket = t; job = j; progress = going 0 }
 abbrev pub is_run_of : (project ticket : ℕ) → ClaimedRun → Bool
 is_run_of q t r = r.project == q && r.ticket == t
 
+-- a run isn't over
 abbrev pub is_going : Progress → Bool
 is_going (going k) = true
 is_going (over m) = false
 
--- so many events further, where the job has more than those; else the run is over, and whole
+-- a run goes on by as many events as turns, if its job has more than those in all; else it is over, and whole
 abbrev pub progress_after : RunProfile → (turns : ℕ) → model.Job → Progress → Progress
 progress_after p n j (going k) = if nat_lt (k + n) (p.events j) then going (k + n) else over marked_whole
 progress_after p n j (over m) = over m
 
+-- a run after a slice
 abbrev pub sliced : RunProfile → (turns : ℕ) → ClaimedRun → ClaimedRun
 sliced p n r = record r { progress = progress_after p n r.job.asked r.progress }
 
@@ -75,7 +77,7 @@ onto_deck r rs = record { desk = None; hand = None; deck = Some (rs ++ r ∷ [])
 abbrev pub claimed_as : Desk → ClaimedRun → Effect
 claimed_as d r = record { desk = Some d; hand = Some r; deck = None; response = answer work_done }
 
--- the hand is empty after a file or a hand-back, which is stray where it changes no desk
+-- the hand is empty after a file or a hand-back, which is stray if it leads to no desk
 abbrev pub hand_emptied : Option Desk → Effect
 hand_emptied (Some d) = record { desk = Some d; hand = None; deck = None; response = answer work_done }
 hand_emptied None = record { desk = None; hand = None; deck = None; response = stray }
@@ -87,7 +89,7 @@ abbrev pub claim_effect : (project ticket : ℕ) → Option Trial → Option Des
 claim_effect q t (Some x) (Some d) = Some (claimed_as d (new_run q t x.job))
 claim_effect q t x d = None
 
--- only the oldest run of a deck is taken, where it is that of the ticket
+-- only the oldest run of a deck is taken, if it is that of the ticket
 abbrev pub deck_effect : (project ticket : ℕ) → Deck → Option Effect
 deck_effect q t [] = None
 deck_effect q t (r ∷ rs) = if is_run_of q t r then Some (from_deck r rs) else None
@@ -97,7 +99,7 @@ abbrev pub file_effect : RunProfile → (ticket : ℕ) → Desk → Progress →
 file_effect p t d (going k) = None
 file_effect p t d (over m) = Some (hand_emptied (file_step p.profile d t m))
 
--- a free worker claims, takes up and steals; the project's desk and the deck that it looks at are these
+-- a free worker claims, takes up and steals
 abbrev pub free_effect : (project ticket : ℕ) → Chore → Desk → Deck → Option Effect
 free_effect q t claiming d rs = claim_effect q t (held_at d.trials t) (claim_step d t)
 free_effect q t taking_up d rs = deck_effect q t rs

@@ -1,5 +1,5 @@
 -- The laws of workshops.
-use Rattle.std.specs.Prelude.{◌≡◌, ◌≢◌, ℕ, ◌==◌, if◌then◌else◌, List, [], ◌∷◌, Option}
+use Rattle.std.specs.Prelude.{◌≡◌, ◌≢◌, ◌↔◌, ℕ, ◌==◌, if◌then◌else◌, List, [], ◌∷◌, map, Option, Some}
 use Rattle.pf_fault.specs.declared.code.Code.TheVariants as code
 use Rattle.pf_request.specs.Calls.{Call, status, fetch}
 use Rattle.pf_desks.specs.Desk.{Reply, refused}
@@ -17,30 +17,36 @@ calls_of q [] = []
 calls_of q (client_calls r c ∷ xs) = if r == q then c ∷ calls_of q xs else calls_of q xs
 calls_of q (worker_does w r t k ∷ xs) = calls_of q xs
 
--- a reply settles its call: how far a trial is never does, nor that a trial isn't done
+-- a reply settles its call: how far a trial is never does, nor that it isn't done
 abbrev pub Settles : Call → Reply → Type 0
 Settles (status t) r = ⊥
 Settles (fetch t) r = r ≢ refused code.NotDone
 Settles c r = Unit {0}
 
--- the two replies to each call are the same, where both settle it
+-- the two replies to each call are the same, if both settle it
 abbrev pub AgreeWhereSettled : List Call → List Reply → List Reply → Type 0
 AgreeWhereSettled [] [] [] = Unit {0}
 AgreeWhereSettled (c ∷ cs) (r ∷ rs) (k ∷ ks) = (Settles c r → Settles c k → r ≡ k) × AgreeWhereSettled cs rs ks
 AgreeWhereSettled cs rs ks = ⊥
+
+-- if no growth is refused, steps are answered in turn in one way alone
+abbrev pub AnsweredInTurn : Type 0
+AnsweredInTurn =
+    (p : RunProfile) (n : ℕ) (xs : List WorkshopStep) (ans : List Response)
+    → ((s : Workshop) × RespondsInTurn p (new_workshop n) xs (map Some ans) s) ↔ (ans ≡ all_responses p n xs)
 
 -- whatever steps there are, of any number of workers and projects and in any order, a project hears what it hears alone
 abbrev pub IsolationAmongWorkers : Type 0
 IsolationAmongWorkers =
     (p : RunProfile) (n q : ℕ) (xs : List WorkshopStep) → heard q xs (all_responses p n xs) ≡ heard_alone p n q xs
 
--- where only the steps are left that belong to a project, each of them is answered as it was
+-- if only the steps are left that belong to a project, each of them is answered as it was
 abbrev pub DeletionOfOthers : Type 0
 DeletionOfOthers =
     (p : RunProfile) (n q : ℕ) (xs : List WorkshopStep)
     → all_responses p n (own_part q xs (all_responses p n xs)) ≡ own_responses q xs (all_responses p n xs)
 
--- a project whose clients make the same calls in the same order hears the same where it is settled, whatever numbers of workers there are,
+-- a project whose clients make the same calls in the same order hears the same replies to settled calls, whatever numbers of workers there are,
 -- whatever they do, and whatever other projects do
 abbrev pub SettledReplies : Type 0
 SettledReplies =

@@ -4,3 +4,4 @@ pub mod Steps
 pub mod Memory
 pub mod Alone
 pub mod Laws
+pub mod Worked

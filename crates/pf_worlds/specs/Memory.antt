@@ -1,5 +1,5 @@
 -- Where growths are refused in a workshop.
-use Rattle.std.specs.Prelude.{◌≡◌, IsSome, ℕ, List, [], ◌∷◌, Option, Some, None, slice_get, slice_set}
+use Rattle.std.specs.Prelude.{◌≡◌, IsSome, List, [], ◌∷◌, Option, Some, None, slice_get, slice_set}
 use Rattle.std.specs.Option.{option_flatten, option_map}
 use Rattle.pf_desks.specs.Desk.{marked_memory}
 use Rattle.pf_desks.specs.Calls.{HasRoom}
@@ -8,7 +8,7 @@ use Rattle.pf_worlds.specs.Workshop.{RunProfile, over, ClaimedRun, Workshop}
 use Rattle.pf_worlds.specs.Chores.{Chore, claiming, slicing, parking, Response}
 use Rattle.pf_worlds.specs.Steps.{WorkshopStep, client_calls, worker_does, effect_of, take_step}
 
--- a chore may take memory: a claim, a slice and a parking; all others look, move or give up what stands
+-- claims, slices and parkings may take memory; all other chores look, move or give up what stands
 abbrev pub MayTakeMemory : Chore → Type 0
 MayTakeMemory claiming = Unit {0}
 MayTakeMemory (slicing n) = Unit {0}
@@ -30,7 +30,7 @@ refused_in s (worker_does w q t (slicing n)) =
     record s { hands = slice_set s.hands w (option_map out_of_memory (option_flatten (slice_get s.hands w))) }
 refused_in s x = s
 
--- RespondsTo p s x a s': in a workshop a step is answered so, and leads to a workshop; where a growth was refused nothing is answered
+-- RespondsTo p s x a s': in a workshop a step is answered so, and leads to a workshop; if a growth was refused, nothing is answered
 abbrev pub RespondsTo : RunProfile → Workshop → WorkshopStep → Option Response → Workshop → Type 0
 RespondsTo p s x (Some a) s' = ◌≡◌ {A = Workshop × Response} (take_step p s x) (s', a)
 RespondsTo p s x None s' = MayBeRefused p s x × (s' ≡ refused_in s x)

@@ -1,8 +1,7 @@
 -- The steps of a workshop: what clients and workers do, one after the other, and what is answered.
-use Rattle.std.specs.Prelude.{ℕ, Bool, true, false, ◌==◌, if◌then◌else◌, List, [], ◌∷◌, Option, Some, None, slice_get, slice_set}
+use Rattle.std.specs.Prelude.{ℕ, Bool, false, ◌==◌, if◌then◌else◌, List, [], ◌∷◌, Option, Some, None, slice_get, slice_set}
 use Rattle.pf_request.specs.Calls.{Call}
-use Rattle.pf_desks.specs.Calls.{reply_to, after_call}
-use Rattle.pf_desks.specs.World.{World, Answer, replied, not_now, desk_at, put_desk, worked}
+use Rattle.pf_desks.specs.World.{World, Answer, not_now, client, desk_at, worked, step}
 use Rattle.pf_worlds.specs.Workshop.{RunProfile, Hand, Deck, Workshop, new_workshop}
 use Rattle.pf_worlds.specs.Chores.{Chore, stealing, Response, answer, Effect, chore_effect}
 
@@ -23,7 +22,7 @@ abbrev pub is_theft_of_own : (worker : ℕ) → Chore → Bool
 is_theft_of_own w (stealing v) = v == w
 is_theft_of_own w k = false
 
--- what a chore leaves at a desk, where there are such workers
+-- what a chore leaves, if there are such workers and it can be done
 abbrev pub effect_among : RunProfile → World → (project ticket : ℕ) → Chore → Option Hand → Option Deck → Option Effect
 effect_among p ds q t k (Some h) (Some rs) = chore_effect p q t k (desk_at q ds) h rs
 effect_among p ds q t k h rs = None
@@ -35,7 +34,7 @@ effect_of p s w q t k =
     then None
     else effect_among p s.desks q t k (slice_get s.hands w) (slice_get s.decks (deck_owner w k))
 
--- the decks, that of a worker where it changes
+-- the decks, with that of one worker if it changes
 abbrev pub with_deck : (owner : ℕ) → Option Deck → List Deck → List Deck
 with_deck v (Some rs) ks = slice_set ks v rs
 with_deck v None ks = ks
@@ -48,12 +47,16 @@ with_effect s w v q None = (s, answer not_now)
 
 -- ---- steps
 
+-- what desks alone come to, in a workshop whose workers do nothing
+abbrev pub by_desks : Workshop → World × Answer → Workshop × Response
+by_desks s x = (record s { desks = x.0 }, answer x.1)
+
 -- a call is answered by its project's desk, and a worker's chore is done, or stray, or can't be done now
 abbrev pub take_step : RunProfile → Workshop → WorkshopStep → Workshop × Response
-take_step p s (client_calls q c) =
-    (record s { desks = put_desk q (after_call p.profile (desk_at q s.desks) c) s.desks }, answer (replied (reply_to p.profile (desk_at q s.desks) c)))
+take_step p s (client_calls q c) = by_desks s (step p.profile s.desks (client q c))
 take_step p s (worker_does w q t k) = with_effect s w (deck_owner w k) q (effect_of p s w q t k)
 
+-- what is answered to some steps, one after the other
 abbrev pub responses : RunProfile → Workshop → List WorkshopStep → List Response
 responses p s [] = []
 responses p s (x ∷ xs) = (take_step p s x).1 ∷ responses p (take_step p s x).0 xs

@@ -5,15 +5,15 @@ use Rattle.pf_request.specs.Job.{Job}
 use Rattle.pf_desks.specs.Desk.{Profile, Mark}
 use Rattle.pf_desks.specs.World.{World}
 
--- the profile of the language, as far as workshops ask for it: what desks ask for, and how many events the run of a job has, or the whole
--- shrinking of a job with runs
+-- the profile of the language, as far as workshops ask for it: what desks ask for; and how many events the run of a job has, or of a job with
+-- runs its whole shrinking
 pub record RunProfile : Type 0 where
   pub profile : Profile
   pub events : model.Job → ℕ
 
 -- ---- what a workshop holds
 
--- how far a run is: it made so many events, and there are more; or it is over, and a file of it bears a mark: it is whole, or a growth was
+-- how far a run is: it has made a number of events and isn't over; or it is over, and a file of it bears a mark: it is whole, or a growth was
 -- refused in it
 pub data Progress : Type 0 where
   going : (made : ℕ) → Progress
@@ -40,6 +40,6 @@ pub record Workshop : Type 0 where
   pub hands : List Hand
   pub decks : List Deck
 
--- the workshop of so many workers in which no desk is open, and no worker holds or parked a run
+-- the workshop of n workers in which no desk is open, and no worker holds a run or has parked one
 abbrev pub new_workshop : (workers : ℕ) → Workshop
 new_workshop n = record { desks = []; hands = replicate n None; decks = replicate n [] }
