@@ -12,7 +12,7 @@ pub data WorkshopStep : Type 0 where
 
 -- ---- chores in a workshop
 
--- whose deck a worker looks at: another's where it steals, else its own
+-- whose deck a worker looks at: another's if it steals, else its own
 abbrev pub deck_owner : (worker : ℕ) → Chore → ℕ
 deck_owner w (stealing v) = v
 deck_owner w k = w
@@ -61,6 +61,6 @@ abbrev pub responses : RunProfile → Workshop → List WorkshopStep → List Re
 responses p s [] = []
 responses p s (x ∷ xs) = (take_step p s x).1 ∷ responses p (take_step p s x).0 xs
 
--- what is answered to all steps, in a new workshop of so many workers
+-- what is answered to all steps, in a new workshop of n workers
 abbrev pub all_responses : RunProfile → (workers : ℕ) → List WorkshopStep → List Response
 all_responses p n xs = responses p (new_workshop n) xs
