@@ -13,7 +13,7 @@ pub record RunProfile : Type 0 where
 
 -- ---- what a workshop holds
 
--- how far a run is: it has made a number of events and isn't over; or it is over, and a file of it bears a mark: it is whole, or a growth was
+-- how far a run is: it made n events and isn't over; or it is over, and a file of it bears a mark: it is whole, or a growth was
 -- refused in it
 pub data Progress : Type 0 where
   going : (made : ℕ) → Progress
