@@ -1,0 +1,10 @@
+pub mod Effects
+pub mod Whole
+pub mod Isolated
+pub mod Quiet
+pub mod Final
+pub mod Settled
+pub mod Seen
+pub mod Deleted
+pub mod Legal
+pub mod InTurn

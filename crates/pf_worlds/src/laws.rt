@@ -1,0 +1,45 @@
+//! Laws of the definitions: functions with empty bodies, whose contracts are the laws. None of them promises that a
+//! trial is ever claimed or run to its end.
+
+ghost use Rattle.pf_worlds.specs.Laws.{AnsweredInTurn, DeletionOfOthers, IsolationAmongWorkers, LegalityAmongWorkers, SettledReplies};
+ghost use Rattle.pf_worlds.specs.Worked.{WorkedSteps};
+
+/// Isolation: for every list of steps, of any length, in any order and of any number of workers and projects, a
+/// project hears what it hears alone, along its own steps. It speaks of lists in which no growth is refused. A step
+/// answered `not_now` is nobody's: whoever drives the workers can tell by it that others are at work.
+pub fn isolation()
+    ensures { IsolationAmongWorkers }
+{}
+
+/// Deletion: if only the steps are left that belong to a project, each of them is answered as it was: what was done
+/// stays possible. It doesn't say that what couldn't be done stays impossible, and no growth is refused in the list.
+pub fn deletion()
+    ensures { DeletionOfOthers }
+{}
+
+/// Settled: a project whose clients make the same calls in the same order hears the same replies to settled calls,
+/// whatever the two numbers of workers are, and whatever they and other projects do. A `status` is never settled, and a
+/// `fetch` only if neither list refuses it because its trial isn't done; all other calls are, `edition` among them.
+/// No growth is refused in either list.
+pub fn settled()
+    ensures { SettledReplies }
+{}
+
+/// Legality: for every list of steps, wherever growths are refused, each project's desk is what its own history makes
+/// of an empty one, and the history is legal: calls with the replies that they got, claims of what was queued, and
+/// files of both marks and hand-backs of what was running. That only a run that
+/// is over is filed is what a step says, and no history.
+pub fn legality()
+    ensures { LegalityAmongWorkers }
+{}
+
+/// In turn: if no growth is refused, the steps of a list are answered in one way alone, and that is the way of which
+/// the laws of isolation, deletion and settled replies speak.
+pub fn in_turn()
+    ensures { AnsweredInTurn }
+{}
+
+/// Worked lists of steps are answered as they are to be answered, whatever jobs mean.
+pub fn worked_steps()
+    ensures { WorkedSteps }
+{}
