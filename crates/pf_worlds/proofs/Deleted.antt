@@ -9,9 +9,9 @@ use Rattle.pf_desks.specs.Desk.{Desk}
 use Rattle.pf_desks.specs.Calls.{reply_to, after_call}
 use Rattle.pf_desks.specs.World.{World, replied, desk_at, put_desk, worked}
 use Rattle.pf_desks.proofs.Isolated.{desk_placed}
-use Rattle.pf_worlds.specs.Workshop.{RunProfile, Hand, Deck, Workshop, new_workshop}
+use Rattle.pf_worlds.specs.Workshop.{RunProfile, Hand, Deque, Workshop, new_workshop}
 use Rattle.pf_worlds.specs.Chores.{Chore, Response, answer, Effect, chore_effect}
-use Rattle.pf_worlds.specs.Steps.{WorkshopStep, client_calls, worker_does, deck_owner, is_theft_of_own, with_deck, with_effect, effect_among, effect_of, take_step, responses}
+use Rattle.pf_worlds.specs.Steps.{WorkshopStep, client_calls, worker_does, deque_owner, is_theft_of_own, with_deque, with_effect, effect_among, effect_of, take_step, responses}
 use Rattle.pf_worlds.specs.Alone.{took_place, is_own, own_part, own_responses}
 use Rattle.pf_worlds.specs.Laws.{DeletionOfOthers}
 use Rattle.pf_worlds.proofs.Effects.{where_done}
@@ -29,9 +29,9 @@ map_replicate f zero x = refl
 map_replicate f (suc n) x = ap (λ xs. f x ∷ xs) (map_replicate f n x)
 
 module _ (p : RunProfile) (q : ℕ) where
-  -- in a workshop a project has the desk, the hands and the decks that it sees of another
+  -- in a workshop a project has the desk, the hands and the deques that it sees of another
   abbrev IsAlike : Workshop → Workshop → Type 0
-  IsAlike s k = (desk_at q k.desks ≡ desk_at q s.desks) × (k.hands ≡ map (keep q) s.hands) × (k.decks ≡ map (keep_runs q) s.decks)
+  IsAlike s k = (desk_at q k.desks ≡ desk_at q s.desks) × (k.hands ≡ map (keep q) s.hands) × (k.deques ≡ map (keep_runs q) s.deques)
 
   placed_own : (d : Desk) (ds : World) → desk_at q (put_desk q d ds) ≡ d
   placed_own d ds = desk_placed q q d ds ∙ ap (λ (b : Bool). if b then d else desk_at q ds) (itself q)
@@ -47,20 +47,20 @@ module _ (p : RunProfile) (q : ℕ) where
   worked_other r (Some d) ds h = placed_other r d ds h
   worked_other r None ds h = refl
 
-  deck_set : (v : ℕ) (o : Option Deck) (ks : List Deck) → with_deck v (option_map (keep_runs q) o) (map (keep_runs q) ks) ≡ map (keep_runs q) (with_deck v o ks)
-  deck_set v (Some rs) ks = sym (map-set (keep_runs q) ks v rs)
-  deck_set v None ks = refl
+  deque_set : (v : ℕ) (o : Option Deque) (ks : List Deque) → with_deque v (option_map (keep_runs q) o) (map (keep_runs q) ks) ≡ map (keep_runs q) (with_deque v o ks)
+  deque_set v (Some rs) ks = sym (map-set (keep_runs q) ks v rs)
+  deque_set v None ks = refl
 
-  deck_unseen : (v : ℕ) (o : Option Deck) (ks : List Deck) (rs : Deck) → slice_get ks v ≡ Some rs → keep_runs q (unwrap_or o rs) ≡ keep_runs q rs
-      → map (keep_runs q) (with_deck v o ks) ≡ map (keep_runs q) ks
-  deck_unseen v (Some new) ks rs h e = set_unseen (keep_runs q) ks v rs new h e
-  deck_unseen v None ks rs h e = refl
+  deque_unseen : (v : ℕ) (o : Option Deque) (ks : List Deque) (rs : Deque) → slice_get ks v ≡ Some rs → keep_runs q (unwrap_or o rs) ≡ keep_runs q rs
+      → map (keep_runs q) (with_deque v o ks) ≡ map (keep_runs q) ks
+  deque_unseen v (Some new) ks rs h e = set_unseen (keep_runs q) ks v rs new h e
+  deque_unseen v None ks rs h e = refl
 
   -- the same effect, seen by the project, is what the same chore leaves there
   effect_own : (s k : Workshop) (w t : ℕ) (x : Chore) (e : Effect) → IsAlike s k → effect_of p s w q t x ≡ Some e → effect_of p k w q t x ≡ Some (own_effect q e)
   effect_own s k w t x e l h = by (is_theft_of_own w x) h
     where
-      seen : (o : Option Hand) (r : Option Deck) → effect_among p s.desks q t x o r ≡ Some e
+      seen : (o : Option Hand) (r : Option Deque) → effect_among p s.desks q t x o r ≡ Some e
           → effect_among p k.desks q t x (option_map (keep q) o) (option_map (keep_runs q) r) ≡ Some (own_effect q e)
       seen (Some hand) (Some rs) h =
           ap (λ (d : Desk). chore_effect p q t x d (keep q hand) (keep_runs q rs)) l.0 ∙ chore_own q p t x (desk_at q s.desks) hand rs e h
@@ -68,13 +68,13 @@ module _ (p : RunProfile) (q : ℕ) where
       seen None (Some rs) h = absurd (cc)
       seen None None h = absurd (cc)
 
-      by : (b : Bool) → (if b then None else effect_among p s.desks q t x (slice_get s.hands w) (slice_get s.decks (deck_owner w x))) ≡ Some e
-          → (if b then None else effect_among p k.desks q t x (slice_get k.hands w) (slice_get k.decks (deck_owner w x))) ≡ Some (own_effect q e)
+      by : (b : Bool) → (if b then None else effect_among p s.desks q t x (slice_get s.hands w) (slice_get s.deques (deque_owner w x))) ≡ Some e
+          → (if b then None else effect_among p k.desks q t x (slice_get k.hands w) (slice_get k.deques (deque_owner w x))) ≡ Some (own_effect q e)
       by true h = absurd (cc)
       by false h =
-          (λ i. effect_among p k.desks q t x (slice_get (l.1 i) w) (slice_get (l.2 i) (deck_owner w x)))
-          ∙ (λ i. effect_among p k.desks q t x (slice_get-map (keep q) s.hands w i) (slice_get-map (keep_runs q) s.decks (deck_owner w x) i))
-          ∙ seen (slice_get s.hands w) (slice_get s.decks (deck_owner w x)) h
+          (λ i. effect_among p k.desks q t x (slice_get (l.1 i) w) (slice_get (l.2 i) (deque_owner w x)))
+          ∙ (λ i. effect_among p k.desks q t x (slice_get-map (keep q) s.hands w i) (slice_get-map (keep_runs q) s.deques (deque_owner w x) i))
+          ∙ seen (slice_get s.hands w) (slice_get s.deques (deque_owner w x)) h
 
   -- what becomes of the workshop in which only the project's steps are left: a step that belongs to it is answered there as here, and any
   -- other is left out
@@ -103,26 +103,26 @@ module _ (p : RunProfile) (q : ℕ) where
       by false e = (l.0 ∙ sym (placed_other r (after (desk_at r s.desks)) s.desks e), l.1, l.2)
 
   next_own : (s k : Workshop) (w t : ℕ) (x : Chore) (e : Effect) → IsAlike s k → effect_of p s w q t x ≡ Some e
-      → Next k (worker_does w q t x) (with_effect s w (deck_owner w x) q (Some e)) true
+      → Next k (worker_does w q t x) (with_effect s w (deque_owner w x) q (Some e)) true
   next_own s k w t x e l h =
-      subst (λ (o : Option Effect). ((with_effect k w (deck_owner w x) q o).1 ≡ e.response) × IsAlike (with_effect s w (deck_owner w x) q (Some e)).0 (with_effect k w (deck_owner w x) q o).0)
+      subst (λ (o : Option Effect). ((with_effect k w (deque_owner w x) q o).1 ≡ e.response) × IsAlike (with_effect s w (deque_owner w x) q (Some e)).0 (with_effect k w (deque_owner w x) q o).0)
       (sym (effect_own s k w t x e l h)) (
         refl,
         (
           worked_own e.desk s.desks k.desks l.0,
           ap (λ (hs : List Hand). slice_set hs w (keep q e.hand)) l.1 ∙ sym (map-set (keep q) s.hands w e.hand),
-          ap (λ (ks : List Deck). with_deck (deck_owner w x) (option_map (keep_runs q) e.deck) ks) l.2 ∙ deck_set (deck_owner w x) e.deck s.decks,
+          ap (λ (ks : List Deque). with_deque (deque_owner w x) (option_map (keep_runs q) e.deque) ks) l.2 ∙ deque_set (deque_owner w x) e.deque s.deques,
         ),
       )
 
   next_other : (s k : Workshop) (w r t : ℕ) (x : Chore) (e : Effect) → IsAlike s k → (r == q) ≡ false → effect_of p s w r t x ≡ Some e
-      → IsAlike (with_effect s w (deck_owner w x) r (Some e)).0 k
+      → IsAlike (with_effect s w (deque_owner w x) r (Some e)).0 k
   next_other s k w r t x e l apart h =
-      where_done (λ (e : Effect). IsAlike (with_effect s w (deck_owner w x) r (Some e)).0 k) p s w r t x e h (λ hand rs i j done.
+      where_done (λ (e : Effect). IsAlike (with_effect s w (deque_owner w x) r (Some e)).0 k) p s w r t x e h (λ hand rs i j done.
       let u : IsUnseen q p hand rs e = chore_unseen q p r apart t x (desk_at r s.desks) hand rs e done in (
         l.0 ∙ sym (worked_other r e.desk s.desks apart),
         l.1 ∙ sym (set_unseen (keep q) s.hands w hand e.hand i u.0),
-        l.2 ∙ sym (deck_unseen (deck_owner w x) e.deck s.decks rs j u.1),
+        l.2 ∙ sym (deque_unseen (deque_owner w x) e.deque s.deques rs j u.1),
       ))
 
   next : (s k : Workshop) (x : WorkshopStep) → IsWholeWorkshop s → IsAlike s k → Next k x (take_step p s x) (is_own q x (take_step p s x).1)
@@ -130,18 +130,18 @@ module _ (p : RunProfile) (q : ℕ) where
   next s k (worker_does w r t x) h l = by (effect_of p s w r t x) refl
     where
       by : (o : Option Effect) → effect_of p s w r t x ≡ o
-          → Next k (worker_does w r t x) (with_effect s w (deck_owner w x) r o) (is_own q (worker_does w r t x) (with_effect s w (deck_owner w x) r o).1)
+          → Next k (worker_does w r t x) (with_effect s w (deque_owner w x) r o) (is_own q (worker_does w r t x) (with_effect s w (deque_owner w x) r o).1)
       by None i = l
       by (Some e) i =
-          subst (λ (b : Bool). Next k (worker_does w r t x) (with_effect s w (deck_owner w x) r (Some e)) (if b then r == q else false)) (sym happens) (which (r == q) refl)
+          subst (λ (b : Bool). Next k (worker_does w r t x) (with_effect s w (deque_owner w x) r (Some e)) (if b then r == q else false)) (sym happens) (which (r == q) refl)
         where
           happens : took_place e.response ≡ true
           happens = (let d : IsDoneAs p w r t x (desk_at r s.desks) e = effect_done p s w r t x e i h in d.1)
 
-          which : (b : Bool) → (r == q) ≡ b → Next k (worker_does w r t x) (with_effect s w (deck_owner w x) r (Some e)) b
+          which : (b : Bool) → (r == q) ≡ b → Next k (worker_does w r t x) (with_effect s w (deque_owner w x) r (Some e)) b
           which true is =
-              (let f : effect_of p s w r t x ≡ Some e → Next k (worker_does w r t x) (with_effect s w (deck_owner w x) r (Some e)) true =
-              subst (λ (n : ℕ). effect_of p s w n t x ≡ Some e → Next k (worker_does w n t x) (with_effect s w (deck_owner w x) n (Some e)) true) (sym (same_project q r is)) (λ h. next_own s k w t x e l h)
+              (let f : effect_of p s w r t x ≡ Some e → Next k (worker_does w r t x) (with_effect s w (deque_owner w x) r (Some e)) true =
+              subst (λ (n : ℕ). effect_of p s w n t x ≡ Some e → Next k (worker_does w n t x) (with_effect s w (deque_owner w x) n (Some e)) true) (sym (same_project q r is)) (λ h. next_own s k w t x e l h)
               in f i)
           which false is = next_other s k w r t x e l is i
 

@@ -3,9 +3,9 @@ use Rattle.std.proofs.Common.{◌≡◌, ℕ, Bool, true, false, List, [], ◌�
 use Rattle.std.specs.Prelude.{if◌then◌else◌, All, slice_get}
 use Rattle.std.proofs.lemmas.Option.{slice_get_within, get_or_from_slice_get}
 use Rattle.pf_desks.specs.Desk.{Trial, Desk}
-use Rattle.pf_worlds.specs.Workshop.{RunProfile, ClaimedRun, Hand, Deck, Workshop}
-use Rattle.pf_worlds.specs.Chores.{Chore, Effect, new_run, is_run_of, from_deck, claimed_as, claim_effect, deck_effect, chore_effect}
-use Rattle.pf_worlds.specs.Steps.{deck_owner, is_theft_of_own, effect_among, effect_of}
+use Rattle.pf_worlds.specs.Workshop.{RunProfile, ClaimedRun, Hand, Deque, Workshop}
+use Rattle.pf_worlds.specs.Chores.{Chore, Effect, new_run, is_run_of, from_deque, claimed_as, claim_effect, deque_effect, chore_effect}
+use Rattle.pf_worlds.specs.Steps.{deque_owner, is_theft_of_own, effect_among, effect_of}
 use Rattle.pf_desks.specs.World.{desk_at}
 
 module _ (P : Effect → Type 0) where
@@ -23,27 +23,27 @@ module _ (P : Effect → Type 0) where
   where_claimed q t None (Some d) e h f = absurd (cc)
   where_claimed q t None None e h f = absurd (cc)
 
-  pub where_from_deck : (q t : ℕ) (rs : Deck) (e : Effect) → deck_effect q t rs ≡ Some e
-      → ((r : ClaimedRun) (ks : Deck) → rs ≡ r ∷ ks → is_run_of q t r ≡ true → P (from_deck r ks)) → P e
-  where_from_deck q t [] e h f = absurd (cc)
-  where_from_deck q t (r ∷ ks) e h f = where_so (is_run_of q t r) _ e h (f r ks refl)
+  pub where_from_deque : (q t : ℕ) (rs : Deque) (e : Effect) → deque_effect q t rs ≡ Some e
+      → ((r : ClaimedRun) (ks : Deque) → rs ≡ r ∷ ks → is_run_of q t r ≡ true → P (from_deque r ks)) → P e
+  where_from_deque q t [] e h f = absurd (cc)
+  where_from_deque q t (r ∷ ks) e h f = where_so (is_run_of q t r) _ e h (f r ks refl)
 
   -- what holds of each effect of a chore holds of that in a workshop
   pub where_done : (p : RunProfile) (s : Workshop) (w q t : ℕ) (k : Chore) (e : Effect) → effect_of p s w q t k ≡ Some e
-      → ((hand : Hand) (rs : Deck) → slice_get s.hands w ≡ Some hand → slice_get s.decks (deck_owner w k) ≡ Some rs
+      → ((hand : Hand) (rs : Deque) → slice_get s.hands w ≡ Some hand → slice_get s.deques (deque_owner w k) ≡ Some rs
       → chore_effect p q t k (desk_at q s.desks) hand rs ≡ Some e → P e)
       → P e
   where_done p s w q t k e h f = own (is_theft_of_own w k) h
     where
-      both : (o : Option Hand) (r : Option Deck) → slice_get s.hands w ≡ o → slice_get s.decks (deck_owner w k) ≡ r
+      both : (o : Option Hand) (r : Option Deque) → slice_get s.hands w ≡ o → slice_get s.deques (deque_owner w k) ≡ r
           → effect_among p s.desks q t k o r ≡ Some e → P e
       both (Some hand) (Some rs) i j h = f hand rs i j h
       both (Some hand) None i j h = absurd (cc)
       both None (Some rs) i j h = absurd (cc)
       both None None i j h = absurd (cc)
 
-      own : (b : Bool) → (if b then None else effect_among p s.desks q t k (slice_get s.hands w) (slice_get s.decks (deck_owner w k))) ≡ Some e → P e
-      own false h = both (slice_get s.hands w) (slice_get s.decks (deck_owner w k)) refl refl h
+      own : (b : Bool) → (if b then None else effect_among p s.desks q t k (slice_get s.hands w) (slice_get s.deques (deque_owner w k))) ≡ Some e → P e
+      own false h = both (slice_get s.hands w) (slice_get s.deques (deque_owner w k)) refl refl h
       own true h = absurd (cc)
 
 -- what holds of all holds at each index

@@ -8,11 +8,11 @@ use Rattle.pf_desks.specs.Calls.{after_call}
 use Rattle.pf_desks.specs.Work.{claim_step, file_step, back_step}
 use Rattle.pf_desks.specs.World.{World, Step, desk_at, put_desk, worked, desk_after, desk_replies, replies_along}
 use Rattle.pf_desks.proofs.Isolated.{desk_placed}
-use Rattle.pf_worlds.specs.Workshop.{RunProfile, Progress, going, over, ClaimedRun, Hand, Deck, Workshop, new_workshop}
+use Rattle.pf_worlds.specs.Workshop.{RunProfile, Progress, going, over, ClaimedRun, Hand, Deque, Workshop, new_workshop}
 use Rattle.pf_worlds.specs.Chores.{Chore, claiming, slicing, parking, taking_up, stealing, filing, giving_back, Response, Effect, MOST_PARKED, is_run_of, is_going, hand_emptied, file_effect, free_effect, busy_effect, chore_effect}
-use Rattle.pf_worlds.specs.Steps.{WorkshopStep, client_calls, worker_does, deck_owner, with_effect, effect_of, take_step, responses, all_responses}
+use Rattle.pf_worlds.specs.Steps.{WorkshopStep, client_calls, worker_does, deque_owner, with_effect, effect_of, take_step, responses, all_responses}
 use Rattle.pf_worlds.specs.Alone.{project_of, took_place, is_own, own_part, replies_of, heard, at_desk, heard_alone}
-use Rattle.pf_worlds.proofs.Effects.{from_some, where_so, where_claimed, where_from_deck, where_done, all_at}
+use Rattle.pf_worlds.proofs.Effects.{from_some, where_so, where_claimed, where_from_deque, where_done, all_at}
 use Rattle.pf_worlds.proofs.Whole.{IsWholeProgress, IsWhole, IsWholeHand, IsWholeWorkshop, whole_step, whole_new}
 
 -- ---- what a step at one desk makes of it and replies, and nothing where there is none
@@ -51,18 +51,18 @@ module _ (p : RunProfile) where
   emptied_as w q t k d (Some x) h = (h, refl, refl)
   emptied_as w q t k d None h = (h, refl, refl)
 
-  free_done : (w q t : ℕ) (k : Chore) (d : Desk) (rs : Deck) (e : Effect) → free_effect q t k d rs ≡ Some e → IsDoneAs w q t k d e
+  free_done : (w q t : ℕ) (k : Chore) (d : Desk) (rs : Deque) (e : Effect) → free_effect q t k d rs ≡ Some e → IsDoneAs w q t k d e
   free_done w q t claiming d rs e h =
       where_claimed (IsDoneAs w q t claiming d) q t (held_at d.trials t) (claim_step d t) e h (λ x k i j.
       (sym (ap (λ (o : Option Desk). unwrap_or o d) j), refl, refl))
-  free_done w q t taking_up d rs e h = where_from_deck (IsDoneAs w q t taking_up d) q t rs e h (λ r ks i is. (refl, refl, refl))
-  free_done w q t (stealing v) d rs e h = where_from_deck (IsDoneAs w q t (stealing v) d) q t rs e h (λ r ks i is. (refl, refl, refl))
+  free_done w q t taking_up d rs e h = where_from_deque (IsDoneAs w q t taking_up d) q t rs e h (λ r ks i is. (refl, refl, refl))
+  free_done w q t (stealing v) d rs e h = where_from_deque (IsDoneAs w q t (stealing v) d) q t rs e h (λ r ks i is. (refl, refl, refl))
   free_done w q t (slicing n) d rs e h = absurd (cc)
   free_done w q t parking d rs e h = absurd (cc)
   free_done w q t filing d rs e h = absurd (cc)
   free_done w q t giving_back d rs e h = absurd (cc)
 
-  busy_done : (w q t : ℕ) (k : Chore) (d : Desk) (r : ClaimedRun) (rs : Deck) (e : Effect)
+  busy_done : (w q t : ℕ) (k : Chore) (d : Desk) (r : ClaimedRun) (rs : Deque) (e : Effect)
       → busy_effect p t k d r rs ≡ Some e → IsWhole r → IsDoneAs w q t k d e
   busy_done w q t (slicing n) d r rs e h one =
       where_so (IsDoneAs w q t (slicing n) d) (is_going r.progress && nat_lt 0 n) _ e h (λ is. (refl, refl, refl))
@@ -82,7 +82,7 @@ module _ (p : RunProfile) where
   busy_done w q t taking_up d r rs e h one = absurd (cc)
   busy_done w q t (stealing v) d r rs e h one = absurd (cc)
 
-  pub chore_done : (w q t : ℕ) (k : Chore) (d : Desk) (hand : Hand) (rs : Deck) (e : Effect)
+  pub chore_done : (w q t : ℕ) (k : Chore) (d : Desk) (hand : Hand) (rs : Deque) (e : Effect)
       → chore_effect p q t k d hand rs ≡ Some e → IsWholeHand hand → IsDoneAs w q t k d e
   chore_done w q t k d None rs e h one = free_done w q t k d rs e h
   chore_done w q t k d (Some r) rs e h one = by (is_run_of q t r) h
@@ -143,7 +143,7 @@ IsLocal p q s x r =
 
 module _ (p : RunProfile) where
   local_effect : (q : ℕ) (s : Workshop) (w r t : ℕ) (k : Chore) (e : Effect) → IsDoneAs p w r t k (desk_at r s.desks) e
-      → IsLocal p q s (worker_does w r t k) (with_effect s w (deck_owner w k) r (Some e))
+      → IsLocal p q s (worker_does w r t k) (with_effect s w (deque_owner w k) r (Some e))
   local_effect q s w r t k e h = by (took_place e.response) h.1
     where
       x : WorkshopStep
@@ -167,7 +167,7 @@ module _ (p : RunProfile) where
   )
   local q s (worker_does w r t k) h = by (effect_of p s w r t k) refl
     where
-      by : (o : Option Effect) → effect_of p s w r t k ≡ o → IsLocal p q s (worker_does w r t k) (with_effect s w (deck_owner w k) r o)
+      by : (o : Option Effect) → effect_of p s w r t k ≡ o → IsLocal p q s (worker_does w r t k) (with_effect s w (deque_owner w k) r o)
       by None i = (none_either_way (r == q) [] refl, refl)
       by (Some e) i = local_effect q s w r t k e (effect_done p s w r t k e i h)
 

@@ -7,12 +7,12 @@ use Rattle.pf_desks.specs.Legality.{after_steps}
 use Rattle.pf_desks.specs.Work.{Work, claim, file, hand_back, claim_step, file_step, back_step, worker_step}
 use Rattle.pf_desks.specs.World.{World, Step, client, worker, desk_at, worked, step}
 use Rattle.pf_desks.proofs.Histories as histories
-use Rattle.pf_worlds.specs.Workshop.{RunProfile, Progress, going, over, ClaimedRun, Hand, Deck, Workshop, new_workshop}
+use Rattle.pf_worlds.specs.Workshop.{RunProfile, Progress, going, over, ClaimedRun, Hand, Deque, Workshop, new_workshop}
 use Rattle.pf_worlds.specs.Chores.{Chore, claiming, slicing, parking, taking_up, stealing, filing, giving_back, Response, Effect, MOST_PARKED, is_run_of, is_going, hand_emptied, file_effect, free_effect, busy_effect, chore_effect}
-use Rattle.pf_worlds.specs.Steps.{WorkshopStep, client_calls, worker_does, deck_owner, with_effect, effect_of, take_step}
+use Rattle.pf_worlds.specs.Steps.{WorkshopStep, client_calls, worker_does, deque_owner, with_effect, effect_of, take_step}
 use Rattle.pf_worlds.specs.Memory.{refused_in, RespondsTo, RespondsInTurn}
 use Rattle.pf_worlds.specs.Laws.{LegalityAmongWorkers}
-use Rattle.pf_worlds.proofs.Effects.{from_some, where_so, where_claimed, where_from_deck, where_done}
+use Rattle.pf_worlds.proofs.Effects.{from_some, where_so, where_claimed, where_from_deque, where_done}
 
 module _ (p : RunProfile) where
   -- ---- an effect leaves a desk to which a worker's work at a desk leads, or changes none
@@ -28,16 +28,16 @@ module _ (p : RunProfile) where
   work_emptied d k (Some x) h = (k, h)
   work_emptied d k None h = tt
 
-  free_work : (q t : ℕ) (k : Chore) (d : Desk) (rs : Deck) (e : Effect) → free_effect q t k d rs ≡ Some e → IsWorkEffect d e
+  free_work : (q t : ℕ) (k : Chore) (d : Desk) (rs : Deque) (e : Effect) → free_effect q t k d rs ≡ Some e → IsWorkEffect d e
   free_work q t claiming d rs e h = where_claimed (IsWorkEffect d) q t (held_at d.trials t) (claim_step d t) e h (λ x k i j. (claim t, j))
-  free_work q t taking_up d rs e h = where_from_deck (IsWorkEffect d) q t rs e h (λ r ks i is. tt)
-  free_work q t (stealing v) d rs e h = where_from_deck (IsWorkEffect d) q t rs e h (λ r ks i is. tt)
+  free_work q t taking_up d rs e h = where_from_deque (IsWorkEffect d) q t rs e h (λ r ks i is. tt)
+  free_work q t (stealing v) d rs e h = where_from_deque (IsWorkEffect d) q t rs e h (λ r ks i is. tt)
   free_work q t (slicing n) d rs e h = absurd (cc)
   free_work q t parking d rs e h = absurd (cc)
   free_work q t filing d rs e h = absurd (cc)
   free_work q t giving_back d rs e h = absurd (cc)
 
-  busy_work : (t : ℕ) (k : Chore) (d : Desk) (r : ClaimedRun) (rs : Deck) (e : Effect) → busy_effect p t k d r rs ≡ Some e → IsWorkEffect d e
+  busy_work : (t : ℕ) (k : Chore) (d : Desk) (r : ClaimedRun) (rs : Deque) (e : Effect) → busy_effect p t k d r rs ≡ Some e → IsWorkEffect d e
   busy_work t (slicing n) d r rs e h = where_so (IsWorkEffect d) (is_going r.progress && nat_lt 0 n) _ e h (λ is. tt)
   busy_work t parking d r rs e h = where_so (IsWorkEffect d) (is_going r.progress && nat_lt (length rs) MOST_PARKED) _ e h (λ is. tt)
   busy_work t filing d r rs e h = by r.progress h
@@ -50,7 +50,7 @@ module _ (p : RunProfile) where
   busy_work t taking_up d r rs e h = absurd (cc)
   busy_work t (stealing v) d r rs e h = absurd (cc)
 
-  chore_work : (q t : ℕ) (k : Chore) (d : Desk) (hand : Hand) (rs : Deck) (e : Effect) → chore_effect p q t k d hand rs ≡ Some e → IsWorkEffect d e
+  chore_work : (q t : ℕ) (k : Chore) (d : Desk) (hand : Hand) (rs : Deque) (e : Effect) → chore_effect p q t k d hand rs ≡ Some e → IsWorkEffect d e
   chore_work q t k d None rs e h = free_work q t k d rs e h
   chore_work q t k d (Some r) rs e h = by (is_run_of q t r) h
     where
@@ -80,7 +80,7 @@ module _ (p : RunProfile) where
   reached_after s (client_calls r c) h = reached_step s.desks (client r c) h
   reached_after s (worker_does w r t k) h = by (effect_of p s w r t k) refl
     where
-      by : (o : Option Effect) → effect_of p s w r t k ≡ o → IsReached (with_effect s w (deck_owner w k) r o).0.desks
+      by : (o : Option Effect) → effect_of p s w r t k ≡ o → IsReached (with_effect s w (deque_owner w k) r o).0.desks
       by None i = h
       by (Some e) i =
           reached_with s.desks r e.desk (

@@ -1,13 +1,13 @@
--- What one project sees of hands and decks, and that chores about its trials are the same with all else out of sight.
+-- What one project sees of hands and deques, and that chores about its trials are the same with all else out of sight.
 use Rattle.std.proofs.Common.{◌≡◌, ℕ, ◌≤◌, ◌==◌, Bool, true, false, ◌&&◌, [], ◌∷◌, ◌++◌, Option, Some, None, refl, sym, ap, ◌∙◌, arith, append-nil}
 use Rattle.std.specs.Prelude.{if◌then◌else◌, nat_lt, length, unwrap_or}
 use Rattle.std.specs.Option.{option_map}
 use Rattle.std.proofs.lemmas.Bool.Decides.{nat_tests}
 use Rattle.pf_desks.specs.Desk.{Desk, held_at}
 use Rattle.pf_desks.specs.Work.{claim_step, file_step, back_step}
-use Rattle.pf_worlds.specs.Workshop.{RunProfile, Progress, going, over, ClaimedRun, Hand, Deck}
-use Rattle.pf_worlds.specs.Chores.{Chore, claiming, slicing, parking, taking_up, stealing, filing, giving_back, Effect, MOST_PARKED, new_run, is_run_of, is_going, sliced, in_hand, from_deck, onto_deck, claimed_as, hand_emptied, claim_effect, deck_effect, file_effect, free_effect, busy_effect, chore_effect}
-use Rattle.pf_worlds.proofs.Effects.{from_some, where_so, where_claimed, where_from_deck}
+use Rattle.pf_worlds.specs.Workshop.{RunProfile, Progress, going, over, ClaimedRun, Hand, Deque}
+use Rattle.pf_worlds.specs.Chores.{Chore, claiming, slicing, parking, taking_up, stealing, filing, giving_back, Effect, MOST_PARKED, new_run, is_run_of, is_going, sliced, in_hand, from_deque, onto_deque, claimed_as, hand_emptied, claim_effect, deque_effect, file_effect, free_effect, busy_effect, chore_effect}
+use Rattle.pf_worlds.proofs.Effects.{from_some, where_so, where_claimed, where_from_deque}
 use Rattle.pf_worlds.proofs.Isolated.{same_project}
 
 pub itself : (q : ℕ) → (q == q) ≡ true
@@ -22,7 +22,7 @@ module _ (q : ℕ) where
   keep None = None
   keep (Some r) = if r.project == q then Some r else None
 
-  abbrev pub keep_runs : Deck → Deck
+  abbrev pub keep_runs : Deque → Deque
   keep_runs [] = []
   keep_runs (r ∷ rs) = if r.project == q then r ∷ keep_runs rs else keep_runs rs
 
@@ -32,22 +32,22 @@ module _ (q : ℕ) where
   keep_other : (r : ClaimedRun) → (r.project == q) ≡ false → keep (Some r) ≡ None
   keep_other r h = ap (λ (b : Bool). if b then Some r else None) h
 
-  runs_own : (r : ClaimedRun) (rs : Deck) → (r.project == q) ≡ true → keep_runs (r ∷ rs) ≡ r ∷ keep_runs rs
+  runs_own : (r : ClaimedRun) (rs : Deque) → (r.project == q) ≡ true → keep_runs (r ∷ rs) ≡ r ∷ keep_runs rs
   runs_own r rs h = ap (λ (b : Bool). if b then r ∷ keep_runs rs else keep_runs rs) h
 
-  runs_other : (r : ClaimedRun) (rs : Deck) → (r.project == q) ≡ false → keep_runs (r ∷ rs) ≡ keep_runs rs
+  runs_other : (r : ClaimedRun) (rs : Deque) → (r.project == q) ≡ false → keep_runs (r ∷ rs) ≡ keep_runs rs
   runs_other r rs h = ap (λ (b : Bool). if b then r ∷ keep_runs rs else keep_runs rs) h
 
-  runs_more : (rs : Deck) (r : ClaimedRun) → keep_runs (rs ++ r ∷ []) ≡ keep_runs rs ++ keep_runs (r ∷ [])
+  runs_more : (rs : Deque) (r : ClaimedRun) → keep_runs (rs ++ r ∷ []) ≡ keep_runs rs ++ keep_runs (r ∷ [])
   runs_more [] r = refl
   runs_more (x ∷ rs) r = by (x.project == q) (runs_more rs r)
     where
       by : (b : Bool) → keep_runs (rs ++ r ∷ []) ≡ keep_runs rs ++ keep_runs (r ∷ [])
           → (if b then x ∷ keep_runs (rs ++ r ∷ []) else keep_runs (rs ++ r ∷ [])) ≡ (if b then x ∷ keep_runs rs else keep_runs rs) ++ keep_runs (r ∷ [])
-      by true h = ap (λ (ks : Deck). x ∷ ks) h
+      by true h = ap (λ (ks : Deque). x ∷ ks) h
       by false h = h
 
-  fewer : (rs : Deck) → length (keep_runs rs) ≤ length rs
+  fewer : (rs : Deque) → length (keep_runs rs) ≤ length rs
   fewer [] = omega arith
   fewer (x ∷ rs) = by (x.project == q) (fewer rs)
     where
@@ -61,7 +61,7 @@ module _ (q : ℕ) where
 
   -- an effect, as the project sees it
   abbrev pub own_effect : Effect → Effect
-  own_effect e = record { desk = e.desk; hand = keep e.hand; deck = option_map keep_runs e.deck; response = e.response }
+  own_effect e = record { desk = e.desk; hand = keep e.hand; deque = option_map keep_runs e.deque; response = e.response }
 
   own_emptied : (o : Option Desk) → hand_emptied o ≡ own_effect (hand_emptied o)
   own_emptied (Some d) = refl
@@ -70,26 +70,26 @@ module _ (q : ℕ) where
   module _ (p : RunProfile) where
     -- ---- chores about the project's own trials, with other projects' runs out of sight
 
-    deck_own : (t : ℕ) (rs : Deck) (e : Effect) → deck_effect q t rs ≡ Some e → deck_effect q t (keep_runs rs) ≡ Some (own_effect e)
-    deck_own t rs e h = where_from_deck (λ e. deck_effect q t (keep_runs rs) ≡ Some (own_effect e)) q t rs e h (λ r ks i is.
+    deque_own : (t : ℕ) (rs : Deque) (e : Effect) → deque_effect q t rs ≡ Some e → deque_effect q t (keep_runs rs) ≡ Some (own_effect e)
+    deque_own t rs e h = where_from_deque (λ e. deque_effect q t (keep_runs rs) ≡ Some (own_effect e)) q t rs e h (λ r ks i is.
         let mine : (r.project == q) ≡ true = left_of (r.project == q) (r.ticket == t) is in
-        ap (λ (xs : Deck). deck_effect q t xs) (ap keep_runs i ∙ runs_own r ks mine)
-        ∙ ap (λ (b : Bool). if b then Some (from_deck r (keep_runs ks)) else None) is
-        ∙ ap (λ (x : Hand). Some (record (from_deck r (keep_runs ks)) { hand = x })) (sym (keep_own r mine)))
+        ap (λ (xs : Deque). deque_effect q t xs) (ap keep_runs i ∙ runs_own r ks mine)
+        ∙ ap (λ (b : Bool). if b then Some (from_deque r (keep_runs ks)) else None) is
+        ∙ ap (λ (x : Hand). Some (record (from_deque r (keep_runs ks)) { hand = x })) (sym (keep_own r mine)))
 
-    free_own : (t : ℕ) (k : Chore) (d : Desk) (rs : Deck) (e : Effect) → free_effect q t k d rs ≡ Some e → free_effect q t k d (keep_runs rs) ≡ Some (own_effect e)
+    free_own : (t : ℕ) (k : Chore) (d : Desk) (rs : Deque) (e : Effect) → free_effect q t k d rs ≡ Some e → free_effect q t k d (keep_runs rs) ≡ Some (own_effect e)
     free_own t claiming d rs e h =
         where_claimed (λ e. claim_effect q t (held_at d.trials t) (claim_step d t) ≡ Some (own_effect e)) q t (held_at d.trials t) (claim_step d t) e h (λ x k i j.
         (λ n. claim_effect q t (i n) (j n))
         ∙ ap (λ (x' : Hand). Some (record (claimed_as k (new_run q t x.job)) { hand = x' })) (sym (keep_own (new_run q t x.job) (itself q))))
-    free_own t taking_up d rs e h = deck_own t rs e h
-    free_own t (stealing v) d rs e h = deck_own t rs e h
+    free_own t taking_up d rs e h = deque_own t rs e h
+    free_own t (stealing v) d rs e h = deque_own t rs e h
     free_own t (slicing n) d rs e h = absurd (cc)
     free_own t parking d rs e h = absurd (cc)
     free_own t filing d rs e h = absurd (cc)
     free_own t giving_back d rs e h = absurd (cc)
 
-    busy_own : (t : ℕ) (k : Chore) (d : Desk) (r : ClaimedRun) (rs : Deck) (e : Effect) → (r.project == q) ≡ true → busy_effect p t k d r rs ≡ Some e
+    busy_own : (t : ℕ) (k : Chore) (d : Desk) (r : ClaimedRun) (rs : Deque) (e : Effect) → (r.project == q) ≡ true → busy_effect p t k d r rs ≡ Some e
         → busy_effect p t k d r (keep_runs rs) ≡ Some (own_effect e)
     busy_own t (slicing n) d r rs e mine h =
         where_so (λ e. busy_effect p t (slicing n) d r (keep_runs rs) ≡ Some (own_effect e)) (is_going r.progress && nat_lt 0 n) _ e h (λ is.
@@ -97,10 +97,10 @@ module _ (q : ℕ) where
         ∙ ap (λ (x : Hand). Some (record (in_hand (sliced p n r)) { hand = x })) (sym (keep_own (sliced p n r) mine)))
     busy_own t parking d r rs e mine h =
         where_so (λ e. busy_effect p t parking d r (keep_runs rs) ≡ Some (own_effect e)) (is_going r.progress && nat_lt (length rs) MOST_PARKED) _ e h (λ is.
-        ap (λ (b : Bool). if b then Some (onto_deck r (keep_runs rs)) else None)
+        ap (λ (b : Bool). if b then Some (onto_deque r (keep_runs rs)) else None)
         (still_room (is_going r.progress) (length (keep_runs rs)) (length rs) MOST_PARKED (fewer rs) is)
-        ∙ ap (λ (xs : Deck). Some (record (onto_deck r rs) { deck = Some xs }))
-        (sym (runs_more rs r ∙ ap (λ (xs : Deck). keep_runs rs ++ xs) (runs_own r [] mine))))
+        ∙ ap (λ (xs : Deque). Some (record (onto_deque r rs) { deque = Some xs }))
+        (sym (runs_more rs r ∙ ap (λ (xs : Deque). keep_runs rs ++ xs) (runs_own r [] mine))))
     busy_own t filing d r rs e mine h = by r.progress h
       where
         by : (g : Progress) → file_effect p t d g ≡ Some e → file_effect p t d g ≡ Some (own_effect e)
@@ -113,7 +113,7 @@ module _ (q : ℕ) where
     busy_own t taking_up d r rs e mine h = absurd (cc)
     busy_own t (stealing v) d r rs e mine h = absurd (cc)
 
-    pub chore_own : (t : ℕ) (k : Chore) (d : Desk) (hand : Hand) (rs : Deck) (e : Effect) → chore_effect p q t k d hand rs ≡ Some e
+    pub chore_own : (t : ℕ) (k : Chore) (d : Desk) (hand : Hand) (rs : Deque) (e : Effect) → chore_effect p q t k d hand rs ≡ Some e
         → chore_effect p q t k d (keep hand) (keep_runs rs) ≡ Some (own_effect e)
     chore_own t k d None rs e h = free_own t k d rs e h
     chore_own t k d (Some r) rs e h = by (is_run_of q t r) refl h
@@ -129,37 +129,37 @@ module _ (q : ℕ) where
 
     -- ---- chores about another project's trials aren't seen
 
-    abbrev pub IsUnseen : Hand → Deck → Effect → Type 0
-    IsUnseen hand rs e = (keep e.hand ≡ keep hand) × (keep_runs (unwrap_or e.deck rs) ≡ keep_runs rs)
+    abbrev pub IsUnseen : Hand → Deque → Effect → Type 0
+    IsUnseen hand rs e = (keep e.hand ≡ keep hand) × (keep_runs (unwrap_or e.deque rs) ≡ keep_runs rs)
 
     module _ (r : ℕ) (apart : (r == q) ≡ false) where
       theirs : (t : ℕ) (x : ClaimedRun) → is_run_of r t x ≡ true → (x.project == q) ≡ false
       theirs t x h = ap (λ (n : ℕ). n == q) (same_project r x.project (left_of (x.project == r) (x.ticket == t) h)) ∙ apart
 
-      unseen_emptied : (x : ClaimedRun) (rs : Deck) (o : Option Desk) → (x.project == q) ≡ false → IsUnseen (Some x) rs (hand_emptied o)
+      unseen_emptied : (x : ClaimedRun) (rs : Deque) (o : Option Desk) → (x.project == q) ≡ false → IsUnseen (Some x) rs (hand_emptied o)
       unseen_emptied x rs (Some d) h = (sym (keep_other x h), refl)
       unseen_emptied x rs None h = (sym (keep_other x h), refl)
 
-      unseen_from_deck : (t : ℕ) (rs : Deck) (e : Effect) → deck_effect r t rs ≡ Some e → IsUnseen None rs e
-      unseen_from_deck t rs e h = where_from_deck (IsUnseen None rs) r t rs e h (λ x ks i is.
+      unseen_from_deque : (t : ℕ) (rs : Deque) (e : Effect) → deque_effect r t rs ≡ Some e → IsUnseen None rs e
+      unseen_from_deque t rs e h = where_from_deque (IsUnseen None rs) r t rs e h (λ x ks i is.
           (keep_other x (theirs t x is), sym (ap keep_runs i ∙ runs_other x ks (theirs t x is))))
 
-      free_unseen : (t : ℕ) (k : Chore) (d : Desk) (rs : Deck) (e : Effect) → free_effect r t k d rs ≡ Some e → IsUnseen None rs e
+      free_unseen : (t : ℕ) (k : Chore) (d : Desk) (rs : Deque) (e : Effect) → free_effect r t k d rs ≡ Some e → IsUnseen None rs e
       free_unseen t claiming d rs e h =
           where_claimed (IsUnseen None rs) r t (held_at d.trials t) (claim_step d t) e h (λ x k i j. (keep_other (new_run r t x.job) apart, refl))
-      free_unseen t taking_up d rs e h = unseen_from_deck t rs e h
-      free_unseen t (stealing v) d rs e h = unseen_from_deck t rs e h
+      free_unseen t taking_up d rs e h = unseen_from_deque t rs e h
+      free_unseen t (stealing v) d rs e h = unseen_from_deque t rs e h
       free_unseen t (slicing n) d rs e h = absurd (cc)
       free_unseen t parking d rs e h = absurd (cc)
       free_unseen t filing d rs e h = absurd (cc)
       free_unseen t giving_back d rs e h = absurd (cc)
 
-      busy_unseen : (t : ℕ) (k : Chore) (d : Desk) (x : ClaimedRun) (rs : Deck) (e : Effect) → (x.project == q) ≡ false → busy_effect p t k d x rs ≡ Some e → IsUnseen (Some x) rs e
+      busy_unseen : (t : ℕ) (k : Chore) (d : Desk) (x : ClaimedRun) (rs : Deque) (e : Effect) → (x.project == q) ≡ false → busy_effect p t k d x rs ≡ Some e → IsUnseen (Some x) rs e
       busy_unseen t (slicing n) d x rs e out h =
           where_so (IsUnseen (Some x) rs) (is_going x.progress && nat_lt 0 n) _ e h (λ is. (keep_other (sliced p n x) out ∙ sym (keep_other x out), refl))
       busy_unseen t parking d x rs e out h =
           where_so (IsUnseen (Some x) rs) (is_going x.progress && nat_lt (length rs) MOST_PARKED) _ e h (λ is.
-          (sym (keep_other x out), runs_more rs x ∙ ap (λ (xs : Deck). keep_runs rs ++ xs) (runs_other x [] out) ∙ append-nil (keep_runs rs)))
+          (sym (keep_other x out), runs_more rs x ∙ ap (λ (xs : Deque). keep_runs rs ++ xs) (runs_other x [] out) ∙ append-nil (keep_runs rs)))
       busy_unseen t filing d x rs e out h = by x.progress h
         where
           by : (g : Progress) → file_effect p t d g ≡ Some e → IsUnseen (Some x) rs e
@@ -170,7 +170,7 @@ module _ (q : ℕ) where
       busy_unseen t taking_up d x rs e out h = absurd (cc)
       busy_unseen t (stealing v) d x rs e out h = absurd (cc)
 
-      pub chore_unseen : (t : ℕ) (k : Chore) (d : Desk) (hand : Hand) (rs : Deck) (e : Effect) → chore_effect p r t k d hand rs ≡ Some e → IsUnseen hand rs e
+      pub chore_unseen : (t : ℕ) (k : Chore) (d : Desk) (hand : Hand) (rs : Deque) (e : Effect) → chore_effect p r t k d hand rs ≡ Some e → IsUnseen hand rs e
       chore_unseen t k d None rs e h = free_unseen t k d rs e h
       chore_unseen t k d (Some x) rs e h = by (is_run_of r t x) refl h
         where

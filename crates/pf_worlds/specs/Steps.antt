@@ -2,7 +2,7 @@
 use Rattle.std.specs.Prelude.{ℕ, Bool, false, ◌==◌, if◌then◌else◌, List, [], ◌∷◌, Option, Some, None, slice_get, slice_set}
 use Rattle.pf_request.specs.Calls.{Call}
 use Rattle.pf_desks.specs.World.{World, Answer, not_now, client, desk_at, worked, step}
-use Rattle.pf_worlds.specs.Workshop.{RunProfile, Hand, Deck, Workshop, new_workshop}
+use Rattle.pf_worlds.specs.Workshop.{RunProfile, Hand, Deque, Workshop, new_workshop}
 use Rattle.pf_worlds.specs.Chores.{Chore, stealing, Response, answer, Effect, chore_effect}
 
 -- a client of a project makes a call, or a worker does a chore about the trial of a project's ticket
@@ -12,10 +12,10 @@ pub data WorkshopStep : Type 0 where
 
 -- ---- chores in a workshop
 
--- whose deck a worker looks at: another's if it steals, else its own
-abbrev pub deck_owner : (worker : ℕ) → Chore → ℕ
-deck_owner w (stealing v) = v
-deck_owner w k = w
+-- whose deque a worker looks at: another's if it steals, else its own
+abbrev pub deque_owner : (worker : ℕ) → Chore → ℕ
+deque_owner w (stealing v) = v
+deque_owner w k = w
 
 -- nobody steals from itself
 abbrev pub is_theft_of_own : (worker : ℕ) → Chore → Bool
@@ -23,7 +23,7 @@ is_theft_of_own w (stealing v) = v == w
 is_theft_of_own w k = false
 
 -- what a chore leaves, if there are such workers and it can be done
-abbrev pub effect_among : RunProfile → World → (project ticket : ℕ) → Chore → Option Hand → Option Deck → Option Effect
+abbrev pub effect_among : RunProfile → World → (project ticket : ℕ) → Chore → Option Hand → Option Deque → Option Effect
 effect_among p ds q t k (Some h) (Some rs) = chore_effect p q t k (desk_at q ds) h rs
 effect_among p ds q t k h rs = None
 
@@ -32,17 +32,17 @@ abbrev pub effect_of : RunProfile → Workshop → (worker project ticket : ℕ)
 effect_of p s w q t k =
     if is_theft_of_own w k
     then None
-    else effect_among p s.desks q t k (slice_get s.hands w) (slice_get s.decks (deck_owner w k))
+    else effect_among p s.desks q t k (slice_get s.hands w) (slice_get s.deques (deque_owner w k))
 
--- the decks, with that of one worker if it changes
-abbrev pub with_deck : (owner : ℕ) → Option Deck → List Deck → List Deck
-with_deck v (Some rs) ks = slice_set ks v rs
-with_deck v None ks = ks
+-- the deques, with that of one worker if it changes
+abbrev pub with_deque : (owner : ℕ) → Option Deque → List Deque → List Deque
+with_deque v (Some rs) ks = slice_set ks v rs
+with_deque v None ks = ks
 
 -- the workshop after a worker's chore; a chore that can't be done leaves all as it was
 abbrev pub with_effect : Workshop → (worker owner project : ℕ) → Option Effect → Workshop × Response
 with_effect s w v q (Some e) =
-    (record { desks = (worked q s.desks e.desk).0; hands = slice_set s.hands w e.hand; decks = with_deck v e.deck s.decks }, e.response)
+    (record { desks = (worked q s.desks e.desk).0; hands = slice_set s.hands w e.hand; deques = with_deque v e.deque s.deques }, e.response)
 with_effect s w v q None = (s, answer not_now)
 
 -- ---- steps
@@ -54,7 +54,7 @@ by_desks s x = (record s { desks = x.0 }, answer x.1)
 -- a call is answered by its project's desk, and a worker's chore is done, or stray, or can't be done now
 abbrev pub take_step : RunProfile → Workshop → WorkshopStep → Workshop × Response
 take_step p s (client_calls q c) = by_desks s (step p.profile s.desks (client q c))
-take_step p s (worker_does w q t k) = with_effect s w (deck_owner w k) q (effect_of p s w q t k)
+take_step p s (worker_does w q t k) = with_effect s w (deque_owner w k) q (effect_of p s w q t k)
 
 -- what is answered to some steps, one after the other
 abbrev pub responses : RunProfile → Workshop → List WorkshopStep → List Response

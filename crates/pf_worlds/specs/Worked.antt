@@ -158,7 +158,7 @@ growths_refused =
     ∷ (client_calls 1 (fetch 1), Some (hears (result sum_and_product.atoms (report memory_report))))
     ∷ []
 
--- a deck has room for a run if 63 are on it, and none if 64 are
+-- a deque has room for a run if 63 are on it, and none if 64 are
 abbrev pub HasItsRoom : RunProfile → Desk → ClaimedRun → Type 0
 HasItsRoom p d r =
     IsSome (busy_effect p r.ticket parking d r (replicate 63 r)) × (busy_effect p r.ticket parking d r (replicate 64 r) ≡ None)

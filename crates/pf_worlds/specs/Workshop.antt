@@ -31,15 +31,15 @@ abbrev pub Hand : Type 0
 Hand = Option ClaimedRun
 
 -- the runs that a worker parked, the oldest first
-abbrev pub Deck : Type 0
-Deck = List ClaimedRun
+abbrev pub Deque : Type 0
+Deque = List ClaimedRun
 
--- the desks of projects, and by worker its hand and its deck
+-- the desks of projects, and by worker its hand and its deque
 pub record Workshop : Type 0 where
   pub desks : World
   pub hands : List Hand
-  pub decks : List Deck
+  pub deques : List Deque
 
 -- the workshop of n workers in which no desk is open, and no worker holds a run or has parked one
 abbrev pub new_workshop : (workers : ℕ) → Workshop
-new_workshop n = record { desks = []; hands = replicate n None; decks = replicate n [] }
+new_workshop n = record { desks = []; hands = replicate n None; deques = replicate n [] }
