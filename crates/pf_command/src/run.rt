@@ -23,7 +23,7 @@ use std::alloc::Global;
 use std::sync::Arc;
 
 /// The answer of a run: its report, with the status of its verdict.
-fn tell_run(alloc: Global, atoms: &AtomTable, told: &Report) -> Result<Answer, NoMemory>
+fn write_run(alloc: Global, atoms: &AtomTable, told: &Report) -> Result<Answer, NoMemory>
     ensures { IfOk result (TellsResult atoms.now (report (report_of told.now))) }
 {
     let mut text = Vec::new(alloc);
@@ -33,7 +33,7 @@ fn tell_run(alloc: Global, atoms: &AtomTable, told: &Report) -> Result<Answer, N
 }
 
 /// The answer of a shrinking: the schedule that it found, whether no candidate of that fails, and the report of its run, which fails.
-fn tell_shrunk(
+fn write_shrunk(
     alloc: Global,
     atoms: &AtomTable,
     schedule: &[u32],
@@ -53,40 +53,40 @@ fn tell_shrunk(
 }
 
 /// The answer of what a job came to. If the given schedule doesn't fail, that is refused.
-fn tell_result(alloc: Global, atoms: &AtomTable, told: &JobResult) -> Result<Answer, NoMemory>
+fn write_result(alloc: Global, atoms: &AtomTable, told: &JobResult) -> Result<Answer, NoMemory>
     ensures { IfOk result (TellsResult atoms.now (result_of told.now)) }
 {
     match told {
-        JobResult::Report(report) => tell_run(alloc, atoms, report),
+        JobResult::Report(report) => write_run(alloc, atoms, report),
         JobResult::Shrunk {
             schedule,
             complete,
             report,
-        } => tell_shrunk(alloc, atoms, schedule, *complete, report),
+        } => write_shrunk(alloc, atoms, schedule, *complete, report),
         JobResult::NothingFails => refused_by_code(alloc, Code::NothingFails),
     }
 }
 
 /// The answer of a job within which memory ran out: of a run that this is so, of a shrinking none.
-fn tell_no_memory(alloc: Global, atoms: &AtomTable, job: &Job) -> Result<Answer, NoMemory>
+fn write_no_memory(alloc: Global, atoms: &AtomTable, job: &Job) -> Result<Answer, NoMemory>
     ensures { IfOk result (λ a. (job.now.asked.runs ≡ zero)
         × TellsResult atoms.now (report memory_report) a) }
 {
     if job.runs() > 0 {
         return Err(NoMemory);
     }
-    tell_run(alloc, atoms, &memory_report(alloc))
+    write_run(alloc, atoms, &memory_report(alloc))
 }
 
 /// The answer of a job whose runs are over.
-fn tell_finished(alloc: Global, finished: &Finished) -> Result<Answer, NoMemory>
+fn write_finished(alloc: Global, finished: &Finished) -> Result<Answer, NoMemory>
     ensures { IfOk result (λ a. Tells finished.now.job a.text.items a.status) }
 {
     let job = finished.job();
     let atoms = job.module().atoms();
     match finished.result() {
-        Some(result) => tell_result(alloc, atoms, result),
-        None => tell_no_memory(alloc, atoms, job),
+        Some(result) => write_result(alloc, atoms, result),
+        None => write_no_memory(alloc, atoms, job),
     }
 }
 
@@ -96,7 +96,7 @@ fn answer_job(alloc: Global, job: Job, observer: &mut impl Observer) -> Result<A
 {
     let job = Arc::new(alloc, job)?;
     let finished = run_to_end(alloc, job, &mut Scratch::new(alloc), observer)?;
-    tell_finished(alloc, &finished)
+    write_finished(alloc, &finished)
 }
 
 /// The answer to a module of which this is asked for.

@@ -117,7 +117,7 @@ fn job_of(
 }
 
 /// The answer if no run fails.
-fn tell_none(alloc: Global, args: &HuntArgs) -> Result<Answer, NoMemory>
+fn write_none(alloc: Global, args: &HuntArgs) -> Result<Answer, NoMemory>
     ensures { IfOk result (λ a. (a.text.items ≡ none_text (args.now.end - args.now.first)) × (a.status ≡ 0)) }
 {
     let mut text = Vec::new(alloc);
@@ -133,7 +133,7 @@ struct Told {
 }
 
 /// Tells a seed whose run fails, and the choices of that run.
-fn tell_seed(alloc: Global, failure: &Failure) -> Result<Told, NoMemory>
+fn write_seed(alloc: Global, failure: &Failure) -> Result<Told, NoMemory>
     ensures { IfOk result (λ t. (t.choices.items ≡ choices_of (report_of failure.now.report))
         × (t.text.items ≡ seed_text failure.now.seed (choices_of (report_of failure.now.report)))) }
 {
@@ -144,12 +144,12 @@ fn tell_seed(alloc: Global, failure: &Failure) -> Result<Told, NoMemory>
 }
 
 /// The answer if a run fails: its seed, its choices and its report.
-fn tell_failure(alloc: Global, job: &Job, failure: &Failure) -> Result<Answer, NoMemory>
+fn write_failure(alloc: Global, job: &Job, failure: &Failure) -> Result<Answer, NoMemory>
     ensures { IfOk result (λ a. (a.text.items
         ≡ seed_text failure.now.seed (choices_of (report_of failure.now.report))
         ++ report_text (names_of job.now) (report_of failure.now.report)) × (a.status ≡ 1)) }
 {
-    let Told { mut text, .. } = tell_seed(alloc, failure)?;
+    let Told { mut text, .. } = write_seed(alloc, failure)?;
     put_report(&mut text, job.module().atoms(), &failure.report)?;
     Ok(Answer {
         text,
@@ -199,7 +199,7 @@ fn with_no_memory(alloc: Global, text: Vec<u8>, job: &Job) -> Result<Answer, NoM
 
 /// The answer if a run fails whose schedule is shrunk: its seed, its choices, and what the shrinking is answered with; if memory runs out within
 /// the shrinking, that it did.
-fn tell_shrunk(
+fn write_shrunk(
     alloc: Global,
     args: &HuntArgs,
     module: ReadModule,
@@ -212,7 +212,7 @@ fn tell_shrunk(
         → TellsShrunk (view_of_hunt_args args.now) bytes job.now
         failure.now.seed (report_of failure.now.report) runs a) }
 {
-    let seed = tell_seed(alloc, failure)?;
+    let seed = write_seed(alloc, failure)?;
     match shrink(alloc, args, module, seed.choices, runs, observer) {
         Ok(shrunk) => with_answer(seed.text, &shrunk),
         Err(NoMemory) => with_no_memory(alloc, seed.text, job),
@@ -220,7 +220,7 @@ fn tell_shrunk(
 }
 
 /// The answer if a run fails.
-fn tell_found(
+fn write_found(
     alloc: Global,
     args: &HuntArgs,
     module: ReadModule,
@@ -234,8 +234,8 @@ fn tell_found(
         → TellsSought (view_of_hunt_args args.now) bytes job.now (failure runs) a.text.items a.status) }
 {
     match runs {
-        Some(runs) => tell_shrunk(alloc, args, module, job, found, runs, observer),
-        None => tell_failure(alloc, job, found),
+        Some(runs) => write_shrunk(alloc, args, module, job, found, runs, observer),
+        None => write_failure(alloc, job, found),
     }
 }
 
@@ -255,8 +255,8 @@ fn seek_failure<T: Threads + Sync>(
         → TellsSought (view_of_hunt_args args.now) bytes job.now (failure runs) a.text.items a.status) }
 {
     match first_failing(rt, alloc, job, args.first, args.end, workers, seeds)? {
-        Some(failure) => tell_found(alloc, args, module, job, &failure, runs, observer),
-        None => tell_none(alloc, args),
+        Some(failure) => write_found(alloc, args, module, job, &failure, runs, observer),
+        None => write_none(alloc, args),
     }
 }
 
@@ -284,7 +284,7 @@ fn hunt_failure<T: Threads + Sync>(
 }
 
 /// The answer of rows: each on a line, and 1 if the property of some run fails, else 0.
-fn tell_rows(alloc: Global, job: &Job, tally: &Tally) -> Result<Answer, NoMemory>
+fn write_rows(alloc: Global, job: &Job, tally: &Tally) -> Result<Answer, NoMemory>
     ensures { IfOk result (λ a. (a.text.items
         ≡ flat_map (λ x. row_text (names_of job.now) (row_of x)) tally.now.rows.items)
         × (a.status ≡ (if list_any (λ x. is_failure x.verdict) tally.now.rows.items then 1 else 0))) }
@@ -308,7 +308,7 @@ fn seek_outcomes<T: Threads + Sync>(
         → TellsSought (view_of_hunt_args args.now) bytes job.now outcomes a.text.items a.status) }
 {
     let tally = tally_all(rt, alloc, job, args.first, args.end, workers, seeds)?;
-    tell_rows(alloc, job, &tally)
+    write_rows(alloc, job, &tally)
 }
 
 /// The answer to a module if each outcome is sought.

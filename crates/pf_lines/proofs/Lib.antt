@@ -1,3 +1,3 @@
-pub mod Cutting
+pub mod Splitting
 pub mod Shorter
 pub mod Completed

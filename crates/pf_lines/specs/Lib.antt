@@ -1,5 +1,5 @@
 pub mod Commands
-pub mod Cuts
+pub mod Splits
 pub mod Faults
 pub mod View
 pub mod Complete

@@ -7,7 +7,7 @@ use Rattle.pf_lines.specs.declared.command.Command.{Command}
 use Rattle.pf_lines.specs.declared.command.Command.TheVariants.{Client, Once}
 use Rattle.pf_lines.specs.declared.line.Asked.{Asked}
 use Rattle.pf_lines.specs.declared.line.Asked.TheVariants.{Made, Submission}
-use Rattle.pf_lines.specs.declared.cut.Line.{Line}
+use Rattle.pf_lines.specs.declared.split.Line.{Line}
 
 abbrev pub view_of_line : Line → commands.Line
 view_of_line l = record { text = l.text.now; is_ended = l.is_ended; rest = l.rest.now }

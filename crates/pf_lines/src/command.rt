@@ -8,8 +8,8 @@ ghost use Rattle.pf_lines.specs.Commands.{command_at, with_source};
 ghost use Rattle.pf_lines.specs.Faults.{no_command};
 ghost use Rattle.pf_lines.specs.View.{view_of_command};
 
-use crate::cut::first_line;
 use crate::line::{Asked, read_line};
+use crate::split::first_line;
 use pf_fault::{Code, OrNoMemory};
 use pf_request::{Call, Source};
 use std::alloc::Global;

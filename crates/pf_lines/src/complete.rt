@@ -4,8 +4,8 @@ ghost use Rattle.std.specs.Prelude.{◌≡◌};
 ghost use Rattle.pf_lines.specs.Commands.{asked_by, words_of};
 ghost use Rattle.pf_lines.specs.Complete.{has_source, is_due, is_complete, size_in};
 
-use crate::cut::{first_line, first_word};
 use crate::line::two_numbers;
+use crate::split::{first_line, first_word};
 
 /// How many bytes have to follow the line of a submission.
 fn source_size(line: &[u8]) -> Option<u32>

@@ -3,10 +3,10 @@
 
 mod command;
 mod complete;
-mod cut;
 mod line;
 mod order;
+mod split;
 
 pub use command::{Command, LineFault, NoCommand, read_command};
 pub use complete::is_due;
-pub use cut::{Line, first_line};
+pub use split::{Line, first_line};

@@ -11,8 +11,8 @@ ghost use Rattle.pf_lines.specs.Commands.{made, submission, is_word, of_call, of
 ghost use Rattle.pf_lines.specs.View.{view_of_asked};
 
 use crate::command::Command;
-use crate::cut::{first_word, only_word};
 use crate::order::{read_order, read_shrink};
+use crate::split::{first_word, only_word};
 use pf_request::Call;
 use pf_terms::NoMemory;
 use pf_text::number_of;

@@ -9,8 +9,8 @@ ghost use Rattle.pf_lines.specs.Commands.{choices_at, is_word, of_order, of_seed
 ghost use Rattle.pf_lines.specs.View.{view_of_asked};
 
 use crate::command::Command;
-use crate::cut::{first_part, first_word, only_part, only_word};
 use crate::line::{Asked, is_word};
+use crate::split::{first_part, first_word, only_part, only_word};
 use pf_request::{Call, Kind, Order, Request, RunChoices, ShortBytes};
 use pf_terms::NoMemory;
 use pf_text::{long_number_of, number_of, schedule_of};

@@ -21,9 +21,7 @@ pub(crate) fn open(alloc: Global, choices: &RunChoices) -> Result<Choices, NoMem
             Ok(Choices::weighted(*seed, *run as u8, *deliver as u8))
         }
         RunChoices::Schedule(numbers) => {
-            let mut own = Vec::new(alloc);
-            own.extend_from_slice(numbers.as_slice())?;
-            Ok(Choices::schedule(own))
+            Ok(Choices::schedule(Vec::from_slice(alloc, numbers.as_slice())?))
         }
     }
 }

@@ -41,21 +41,12 @@ pub(crate) enum Advance {
     Over(JobResult),
 }
 
-/// The same numbers, to keep.
-fn copy(alloc: Global, numbers: &[u32]) -> Result<Vec<u32>, NoMemory>
-    ensures { IfOk result (λ v. v.items ≡ numbers.now) }
-{
-    let mut own = Vec::new(alloc);
-    own.extend_from_slice(numbers)?;
-    Ok(own)
-}
-
 /// The choices of a hunt's next schedule; none at its end.
 fn next_choices(alloc: Global, hunt: &Hunt) -> Result<Option<Choices>, NoMemory>
     ensures { IfOk result (λ o. OpensNext (next_of hunt.now) o) }
 {
     match hunt.next() {
-        Some(numbers) => Ok(Some(Choices::schedule(copy(alloc, numbers)?))),
+        Some(numbers) => Ok(Some(Choices::schedule(Vec::from_slice(alloc, numbers)?))),
         None => Ok(None),
     }
 }
@@ -71,7 +62,7 @@ fn found(alloc: Global, hunt: &Hunt, report: Option<Report>) -> Result<JobResult
         return Ok(JobResult::NothingFails);
     };
     Ok(JobResult::Shrunk {
-        schedule: copy(alloc, schedule)?,
+        schedule: Vec::from_slice(alloc, schedule)?,
         complete,
         report: report.unwrap(),
     })
@@ -122,9 +113,9 @@ impl Shrinking {
         ensures shrinking { IfOk result (λ s. IsShrinkingOf job.now s) }
         ensures first { IfOk result (λ s. events_so_far s ≡ 0) }
     {
-        let choices = Choices::schedule(copy(alloc, schedule)?);
+        let choices = Choices::schedule(Vec::from_slice(alloc, schedule)?);
         Ok(Shrinking {
-            hunt: Hunt::new(copy(alloc, schedule)?, runs),
+            hunt: Hunt::new(Vec::from_slice(alloc, schedule)?, runs),
             run: Run::new(alloc, job, choices)?,
             report: None,
             before: 0,

@@ -49,7 +49,7 @@ pub fn failed(rt: &(impl Print + Eprint), file: Option<&str>, fault: &StreamFaul
 }
 
 /// Says what is wrong with words.
-fn tell_fault(rt: &impl Eprint, text: &str) {
+fn write_fault(rt: &impl Eprint, text: &str) {
     let (front, back) = without_tip(text);
     for text in [front, back] {
         let shown = Shown {
@@ -61,7 +61,7 @@ fn tell_fault(rt: &impl Eprint, text: &str) {
 }
 
 /// Prints a text; its status, unless it can't be written.
-fn tell_text<W: Write, M: Ledger>(
+fn write_text<W: Write, M: Ledger>(
     rt: &(impl Print + Eprint),
     text: &str,
     status: u8,
@@ -90,8 +90,8 @@ pub fn tell<W: Write, M: Ledger>(
         writer.old.failures.total writer.new.failures.total }
 {
     if is_fault {
-        tell_fault(rt, text);
+        write_fault(rt, text);
         return status;
     }
-    tell_text(rt, text, status, writer)
+    write_text(rt, text, status, writer)
 }

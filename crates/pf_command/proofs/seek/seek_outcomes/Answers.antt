@@ -15,11 +15,11 @@ returns g c =
     let h = view_of_hunt_args c.args.args.now in
     let j = c.args.job.now in
     let rows = c.in_ok-tally.tally.rows.items in
-    IfOk-weaker c.tell_rows.result
+    IfOk-weaker c.write_rows.result
     (λ a. (a.text.items ≡ flat_map (λ x. row_text (names_of j) (row_of x)) rows)
     × (a.status ≡ (if list_any (λ x. is_failure x.verdict) rows then 1 else 0)))
     (λ a. (bytes : List ℕ) → TellsSought h bytes j outcomes a.text.items a.status)
     (λ a is bytes.
     tells_rows h bytes j (rows_in rows) a c.in_ok-tally.ensures
     (is.0 ∙ texts_are (names_of j) rows, is.1 ∙ ap (λ b. if b then 1 else 0) (fails_are rows)))
-    c.tell_rows.ensures
+    c.write_rows.ensures

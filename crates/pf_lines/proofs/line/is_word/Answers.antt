@@ -1,6 +1,6 @@
 use Rattle.std.proofs.Common.{ap, sym, ◌∙◌}
 use Rattle.std.specs.Prelude.{not}
-use Rattle.pf_lines.proofs.Cutting.{word_of_some}
+use Rattle.pf_lines.proofs.Splitting.{word_of_some}
 use Rattle.pf_lines.proofs.line.is_word.Goals as goal
 
 pub returns-then-not-is_empty : goal.returns-then-not-is_empty
