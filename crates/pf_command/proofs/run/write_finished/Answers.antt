@@ -1,0 +1,35 @@
+use Rattle.std.proofs.Common.{◌≡◌, ◌∙◌, zero, ap, subst}
+use Rattle.std.proofs.lemmas.Result.{IfOk-weaker}
+use Rattle.pf_syntax.specs.Module.{Checked}
+use Rattle.pf_model.specs.Module.{Module}
+use Rattle.pf_model.specs.Shrinking.{report}
+use Rattle.pf_request.specs.Job.{Job, memory_report}
+use Rattle.pf_sched.specs.Views.{result_of}
+use Rattle.pf_command.specs.Answers.{Tells, TellsResult}
+use Rattle.pf_command.proofs.Rows.{tells_result, tells_no_memory}
+use Rattle.pf_command.proofs.run.write_finished.Goals as goal
+
+pub returns-in-Some : goal.returns-in-Some
+returns-in-Some c =
+    let f = c.args.finished.now in
+    let j = f.job in
+    let table = c.atoms-atoms.result.now in
+    let job : c.deref.result.now ≡ j = c.deref.ensures ∙ c.job-job.ensures in
+    let atoms : table ≡ j.asked.code.atoms = c.atoms-atoms.ensures ∙ ap (λ (m : Checked). m.atoms) c.deref-2.ensures
+    ∙ ap (λ (k : Module). k.atoms) c.module.ensures ∙ ap (λ (k : Job). k.asked.code.atoms) job in
+    let came = result_of c.in-Some.result.now in
+    IfOk-weaker c.write_result.result (TellsResult table came) (λ a. Tells j a.text.items a.status)
+    (λ a tells. tells_result j table came f.result a c.in-Some.ensures.1 c.in-Some.ensures.0 atoms tells) c.write_result.ensures
+
+pub returns-in-None : goal.returns-in-None
+returns-in-None c =
+    let j = c.args.finished.now.job in
+    let table = c.atoms-atoms.result.now in
+    let job : c.deref.result.now ≡ j = c.deref.ensures ∙ c.job-job.ensures in
+    let atoms : table ≡ j.asked.code.atoms = c.atoms-atoms.ensures ∙ ap (λ (m : Checked). m.atoms) c.deref-2.ensures
+    ∙ ap (λ (k : Module). k.atoms) c.module.ensures ∙ ap (λ (k : Job). k.asked.code.atoms) job in
+    let asked = c.deref-in-None.result.now in
+    let same : asked ≡ j = c.deref-in-None.ensures ∙ c.job-job.ensures in
+    IfOk-weaker c.write_no_memory.result (λ a. (asked.asked.runs ≡ zero) × TellsResult table (report memory_report) a)
+    (λ a. Tells j a.text.items a.status)
+    (λ a is. tells_no_memory j table a (subst (λ (k : Job). k.asked.runs ≡ zero) same is.0) atoms is.1) c.write_no_memory.ensures

@@ -1,0 +1,81 @@
+//! Splits bytes into lines and words.
+
+ghost use Rattle.std.specs.Prelude.{◌≡◌, ◌++◌, ◌∷◌, [], List, ℕ, MatchOption};
+ghost use Rattle.pf_lines.specs.Commands.{first_line, parts_at, words_of};
+ghost use Rattle.pf_lines.specs.Splits.{Lacks};
+ghost use Rattle.pf_lines.specs.View.{view_of_line};
+
+/// The first line without its end, whether it has one, and what follows.
+#[derive(Clone, Copy)]
+pub struct Line<'a> {
+    pub text: &'a [u8],
+    pub is_ended: bool,
+    pub rest: &'a [u8],
+}
+
+/// What stands before the first of these bytes, and what stands after it.
+fn split(bytes: &[u8], at: u8) -> Option<(&[u8], &[u8])>
+    ensures { MatchOption result
+        (Lacks at bytes.now)
+        (λ parts. (bytes.now ≡ parts.0.now ++ (at ∷ parts.1.now)) × Lacks at parts.0.now) }
+{
+    let end = bytes.iter().position(|byte| *byte == at)?;
+    Some((&bytes[..end], &bytes[end + 1..]))
+}
+
+/// The first line of some bytes.
+pub fn first_line(bytes: &[u8]) -> Line<'_>
+    ensures { view_of_line result ≡ first_line bytes.now }
+{
+    match split(bytes, b'\n') {
+        Some((text, rest)) => Line {
+            text,
+            is_ended: true,
+            rest,
+        },
+        None => Line {
+            text: bytes,
+            is_ended: false,
+            rest: &[],
+        },
+    }
+}
+
+/// What stands before the first of these bytes, and the text of the parts that follow, if some do.
+pub(crate) fn first_part(text: &[u8], at: u8) -> Option<(&[u8], &[u8])>
+    ensures { MatchOption result
+        (parts_at at text.now ≡ text.now ∷ [])
+        (λ parts. parts_at at text.now ≡ parts.0.now ∷ parts_at at parts.1.now) }
+{
+    split(text, at)
+}
+
+/// The part of a text that has none of these bytes.
+pub(crate) fn only_part(text: &[u8], at: u8) -> Option<&[u8]>
+    ensures { MatchOption result
+        ((a : List ℕ) × (b : List ℕ) × (others : List (List ℕ)) × (parts_at at text.now ≡ a ∷ b ∷ others))
+        (λ part. parts_at at text.now ≡ part.now ∷ []) }
+{
+    match first_part(text, at) {
+        Some(_) => None,
+        None => Some(text),
+    }
+}
+
+/// The first word of a text, and the text of those that follow, if some do.
+pub(crate) fn first_word(text: &[u8]) -> Option<(&[u8], &[u8])>
+    ensures { MatchOption result
+        (words_of text.now ≡ text.now ∷ [])
+        (λ parts. words_of text.now ≡ parts.0.now ∷ words_of parts.1.now) }
+{
+    first_part(text, b' ')
+}
+
+/// The word of a text that has no other.
+pub(crate) fn only_word(text: &[u8]) -> Option<&[u8]>
+    ensures { MatchOption result
+        ((a : List ℕ) × (b : List ℕ) × (others : List (List ℕ)) × (words_of text.now ≡ a ∷ b ∷ others))
+        (λ word. words_of text.now ≡ word.now ∷ []) }
+{
+    only_part(text, b' ')
+}
