@@ -9,9 +9,7 @@ use crate::receives::{A, C, empty, no_guard};
 use pf_mailbox::{Mailbox, Opened};
 use pf_nodes::Pool;
 use pf_stepper::{Machine, Move};
-use pf_syntax::{
-    Clause, Function, FunctionClause, FunctionId, Module, Node, Operand, PatternNode,
-};
+use pf_syntax::{Clause, Function, FunctionClause, FunctionId, Module, Node, Operand, PatternNode};
 use pf_terms::{AtomId, NoMemory, Term};
 use smallvec::SmallVec;
 use std::alloc::Global;
