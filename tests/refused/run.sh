@@ -1,5 +1,5 @@
 #!/bin/sh
-# Refuses each growth of three built programs in turn, until a run meets no refusal: of `pf_refused`, of `pf_refused_mailbox`, and
+# Refuses each growth of two built programs in turn, until a run meets no refusal: of `pf_refused`, and
 # of `pulsefarm run` on its stored run and on rows with several processes: three that race by messages, three with links, monitors
 # and names, and one that is killed though it traps exits, and one that watches, stops watching and flushes; by schedules, and one of them by a seed with a property. Each run has to end
 # with the whole text and its status; or with `NoMemory` alone on a line and status 2; or, where the growth was refused within a run of
@@ -167,8 +167,6 @@ most_within() {
 
 built pf_refused
 all_refused pf_refused ended_well
-built pf_refused_mailbox
-all_refused pf_refused_mailbox ended_well
 printf '%s\n' memory 'steps 0' 'no verdict' > "$room/stopped"
 built pulsefarm
 run_refused pulsefarm

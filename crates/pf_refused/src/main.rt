@@ -1,5 +1,5 @@
-//! Makes values, names of atoms and a mail list, runs a process by a machine, sends signals, ties processes, and says so in five
-//! lines. Where a growth is refused it says `NoMemory` and ends with status 2, once it has seen that what refused it is as it was, or for a machine
+//! Makes values, names of atoms, a mail list and a mailbox, runs a process by a machine, sends signals, ties processes, and says so in
+//! seven lines. Where a growth is refused it says `NoMemory` and ends with status 2, once it has seen that what refused it is as it was, or for a machine
 //! that it answers so again; else it ends with status 3. The script under tests/refused runs it with each growth refused in
 //! turn.
 #![tactic(auto)]
@@ -7,6 +7,7 @@
 mod channels;
 mod machine;
 mod mail;
+mod mailbox;
 mod ties;
 
 use crate::machine::Came;
@@ -24,11 +25,12 @@ enum Answer {
     Changed,
 }
 
-/// What the calls made: nodes of a value, spare nodes of a pool, what came out of a machine's run, signals that were delivered,
-/// and signals that told of two ends.
+/// What the calls made: nodes of a value, spare nodes of a pool, pairs that were taken from a mailbox and messages that it kept, what
+/// came out of a machine's run, signals that were delivered, and signals that told of two ends.
 struct Made {
     nodes: u32,
     spare: usize,
+    mail: (u32, usize),
     came: Came,
     delivered: u32,
     told: usize,
@@ -92,6 +94,7 @@ fn made_all(alloc: Global) -> Result<Made, Answer> {
     Ok(Made {
         nodes: make(alloc)?,
         spare: mail::spare_after(alloc)?,
+        mail: mailbox::taken_and_left(alloc)?,
         came: machine::ran(alloc)?,
         delivered: channels::delivered(alloc)?,
         told: ties::told(alloc)?,
@@ -104,10 +107,12 @@ fn main(rt: HostRuntime) -> io::Result<ExitCode> {
             let Made {
                 nodes,
                 spare,
+                mail,
                 came,
                 delivered,
                 told,
             } = made;
+            let (pairs, left) = mail;
             let Came {
                 sent,
                 taken,
@@ -115,6 +120,8 @@ fn main(rt: HostRuntime) -> io::Result<ExitCode> {
             } = came;
             println!(rt; "made {nodes} nodes")?;
             println!(rt; "kept {spare} nodes")?;
+            println!(rt; "took {pairs} pairs")?;
+            println!(rt; "kept {left} messages")?;
             println!(rt; "sent {sent} nodes, took {taken}, ended with {reason}")?;
             println!(rt; "delivered {delivered} signals")?;
             println!(rt; "told {told} of two ends")?;

@@ -1,38 +1,20 @@
 //! A machine that takes messages from an opened mailbox.
 
-ghost use Rattle.std.specs.Prelude.{◌≡◌, ◌≤◌, [], IfOk, length, OnOk};
+ghost use Rattle.std.specs.Prelude.{◌≡◌, ◌≤◌, IfOk, length, OnOk};
 ghost use Rattle.pf_syntax.specs.Within.{OperandRepresents};
 ghost use Rattle.pf_stepper.specs.Turns.{CanMove};
 ghost use Rattle.pf_mailbox.specs.Tests.{IsAheadOf};
 
-use crate::receives::{A, C};
+use crate::receives::{A, C, empty, no_guard};
 use pf_mailbox::{Mailbox, Opened};
 use pf_nodes::Pool;
 use pf_stepper::{Machine, Move};
-use pf_syntax::{
-    Clause, Function, FunctionClause, FunctionId, Guard, Module, Node, Operand, PatternNode,
-};
-use pf_terms::{AtomId, AtomTable, NoMemory, Term};
+use pf_syntax::{Clause, Function, FunctionClause, FunctionId, Module, Node, Operand, PatternNode};
+use pf_terms::{AtomId, NoMemory, Term};
 use smallvec::SmallVec;
 use std::alloc::Global;
 use std::sync::Arc;
 use std::test::Fail;
-
-/// A module in which nothing stands yet.
-fn empty(alloc: Global) -> Result<Module, NoMemory>
-    ensures { IfOk result (λ m. m.tables ≡ record { literals = []; patterns = []; trees = [] }) }
-{
-    Ok(Module::new(alloc, AtomId::UNDEFINED, AtomTable::new(alloc)?))
-}
-
-/// The guard of a clause with no `when`.
-fn no_guard(alloc: Global) -> Guard
-    ensures { result.alternatives.items ≡ [] }
-{
-    Guard {
-        alternatives: Vec::new(alloc),
-    }
-}
 
 /// Adds `main() -> BODY.`.
 fn add_main(alloc: Global, module: &mut Module, body: Operand) -> Result<(), NoMemory>

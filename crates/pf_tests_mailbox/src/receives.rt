@@ -1,6 +1,6 @@
 //! Clauses of a few `receive`s, made by hand, and one `receive` of such clauses.
 
-ghost use Rattle.std.specs.Prelude.{◌≡◌, []};
+ghost use Rattle.std.specs.Prelude.{◌≡◌, [], IfOk};
 ghost use Rattle.pf_model.specs.Module.{module_of};
 ghost use Rattle.pf_stepper.specs.Readiness.{receive_in};
 ghost use Rattle.pf_mailbox.specs.Tests.{FitsNoneBefore, awaited};
@@ -30,17 +30,27 @@ pub(crate) struct Receive {
     pub(crate) clauses: Vec<Clause>,
 }
 
-fn empty(alloc: Global) -> Result<Module, NoMemory> {
+/// A module in which nothing stands yet.
+pub(crate) fn empty(alloc: Global) -> Result<Module, NoMemory>
+    ensures { IfOk result (λ m. m.tables ≡ record { literals = []; patterns = []; trees = [] }) }
+{
     Ok(Module::new(alloc, AtomId::UNDEFINED, AtomTable::new(alloc)?))
+}
+
+/// The guard of a clause with no `when`.
+pub(crate) fn no_guard(alloc: Global) -> Guard
+    ensures { result.alternatives.items ≡ [] }
+{
+    Guard {
+        alternatives: Vec::new(alloc),
+    }
 }
 
 /// A clause with no `when`.
 fn plain(alloc: Global, pattern: PatternId, body: Operand) -> Clause {
     Clause {
         pattern,
-        guard: Guard {
-            alternatives: Vec::new(alloc),
-        },
+        guard: no_guard(alloc),
         body,
     }
 }

@@ -1,38 +1,11 @@
-//! Places messages in a mailbox, takes some, packs and unpacks it, and says in two lines what it took and kept. Where a growth is
-//! refused it says `NoMemory` and ends with status 2, once it has seen that what refused it is as it was; else it ends with status 3.
-#![tactic(auto)]
+//! A mailbox that messages are placed in and taken from, and that is packed and unpacked.
 
-use pf_fault::OrNoMemory;
+use crate::{Answer, pair};
 use pf_mailbox::Mailbox;
 use pf_nodes::Pool;
 use pf_syntax::{Clause, Guard, Module, Operand, PatternNode};
-use pf_terms::{AtomId, AtomTable, NoMemory, Term, TooLarge, tuple_of};
+use pf_terms::{AtomId, AtomTable, NoMemory, Term};
 use std::alloc::Global;
-use std::io;
-use std::process::ExitCode;
-
-/// Why a run of calls did not end.
-#[derive(Clone, Copy, PartialEq, Eq)]
-enum Answer {
-    Refused,
-    /// A refused call changed its value.
-    Changed,
-}
-
-impl From<NoMemory> for Answer {
-    fn from(_refused: NoMemory) -> Answer {
-        Answer::Refused
-    }
-}
-
-impl From<OrNoMemory<TooLarge>> for Answer {
-    fn from(fault: OrNoMemory<TooLarge>) -> Answer {
-        match fault {
-            OrNoMemory::NoMemory => Answer::Refused,
-            OrNoMemory::Fault(TooLarge) => Answer::Changed,
-        }
-    }
-}
 
 /// `receive {exit, X} -> X end`, in a module of its own.
 #[derive(Drop)]
@@ -60,14 +33,6 @@ fn receive_pair(alloc: Global) -> Result<Receive, Answer> {
         return Err(Answer::Refused);
     };
     Ok(Receive { module, clauses })
-}
-
-/// `{exit, NUMBER}`.
-fn pair(alloc: Global, number: i64) -> Result<Term, Answer> {
-    let Ok(items) = vec![in alloc; Term::Atom(AtomId::EXIT), Term::Int(number)] else {
-        return Err(Answer::Refused);
-    };
-    Ok(tuple_of(alloc, items)?)
 }
 
 /// Places a message, and looks at the mailbox where that is refused.
@@ -108,12 +73,13 @@ fn take(
     }
 }
 
-/// An atom and a pair, four times.
+/// An atom and `{exit, NUMBER}`, four times.
 fn filled(alloc: Global, pool: &mut Pool<Term>) -> Result<Mailbox, Answer> {
     let mut mailbox = Mailbox::new(alloc);
     for number in 0..4i64 {
         deliver(&mut mailbox, pool, Term::Atom(AtomId::KILL))?;
-        deliver(&mut mailbox, pool, pair(alloc, number)?)?;
+        let wanted = pair(alloc, Term::Atom(AtomId::EXIT), Term::Int(number))?;
+        deliver(&mut mailbox, pool, wanted)?;
     }
     Ok(mailbox)
 }
@@ -126,7 +92,7 @@ fn moved(alloc: Global, mailbox: Mailbox, pool: &mut Pool<Term>) -> Result<Mailb
 }
 
 /// How many pairs were taken, and how many messages are left.
-fn counts(alloc: Global) -> Result<(u32, usize), Answer> {
+pub fn taken_and_left(alloc: Global) -> Result<(u32, usize), Answer> {
     let mut pool = Pool::new(alloc);
     let mailbox = filled(alloc, &mut pool)?;
     let mut mailbox = moved(alloc, mailbox, &mut pool)?;
@@ -138,22 +104,4 @@ fn counts(alloc: Global) -> Result<(u32, usize), Answer> {
         }
     }
     Ok((pairs, mailbox.len()))
-}
-
-fn main(rt: HostRuntime) -> io::Result<ExitCode> {
-    match counts(rt.alloc()) {
-        Ok((pairs, left)) => {
-            println!(rt; "took {pairs} pairs")?;
-            println!(rt; "kept {left} messages")?;
-            Ok(ExitCode::SUCCESS)
-        }
-        Err(Answer::Refused) => {
-            println!(rt; "NoMemory")?;
-            Ok(ExitCode::from(2))
-        }
-        Err(Answer::Changed) => {
-            println!(rt; "changed")?;
-            Ok(ExitCode::from(3))
-        }
-    }
 }
