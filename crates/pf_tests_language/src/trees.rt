@@ -3,8 +3,8 @@
 ghost use Rattle.std.specs.Prelude.{◌≡◌, ◌+◌, length, OnOk};
 
 use pf_syntax::{
-    Export, ExprId, ExprNode, ExprPatternNode, Function, FunctionClause, FunctionId, Guard,
-    LiteralId, Module, Node, NodeId, Operand, Operator, PatternId, PatternNode, SyntaxTree, Word,
+    Export, ExprId, ExprNode, ExprPatternNode, Function, FunctionClause, FunctionId, Guard, Ident,
+    LiteralId, Module, Node, NodeId, Operand, Operator, PatternId, PatternNode, SyntaxTree,
 };
 use pf_terms::{AtomId, AtomTable, NoMemory, Term};
 use std::alloc::Global;
@@ -94,7 +94,7 @@ fn depths_go_by_the_rules(rt: HostRuntime) -> Result<(), Fail> {
 fn several(alloc: Global) -> Result<(u32, u32, usize), NoMemory> {
     let mut source = SyntaxTree::new(alloc, AtomId::EXIT);
     let one = source.add_expr(ExprNode::Integer(1))?;
-    let word = Word {
+    let word = Ident {
         name: AtomId::DOWN,
         offset: 8,
     };
