@@ -7,13 +7,13 @@ ghost use Rattle.pf_system.specs.Steps.{noted};
 
 use pf_channels::Channels;
 use pf_model::report::Actor;
-use pf_ties::Numbers;
+use pf_sorted::SortedSet;
 
 /// The enabled actors: the processes that neither ended nor wait, by number, and then the channels that aren't empty, by sender and
 /// then by receiver.
 #[derive(Drop)]
 pub struct Enabled<'a> {
-    pub(crate) ready: &'a Numbers,
+    pub(crate) ready: &'a SortedSet,
     pub(crate) channels: &'a Channels,
 }
 

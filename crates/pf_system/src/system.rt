@@ -17,10 +17,11 @@ use pf_channels::Channels;
 use pf_model::limits::most_processes;
 use pf_model::report::{Label, Outcome};
 use pf_nodes::Pool;
+use pf_sorted::SortedSet;
 use pf_stepper::Machine;
 use pf_syntax::{FunctionId, Module};
 use pf_terms::{NoMemory, Term};
-use pf_ties::{Numbers, Ties};
+use pf_ties::Ties;
 use smallvec::SmallVec;
 use std::alloc::Global;
 use std::marker::Model;
@@ -76,7 +77,7 @@ impl System {
                 ties: Ties::new(alloc),
                 channels: Channels::new(alloc),
             },
-            ready: Numbers::new(alloc),
+            ready: SortedSet::new(alloc),
             pool: Pool::new(alloc),
         };
         processes.open(

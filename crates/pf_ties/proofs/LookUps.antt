@@ -4,8 +4,10 @@ use Rattle.std.specs.Prelude.{is_some, unwrap_or}
 use Rattle.std.proofs.lemmas.Bool.{false≢true}
 use Rattle.std.proofs.lemmas.Bool.Decides.{nat_tests}
 use Rattle.pf_model.specs.Maps.{got, put, without}
-use Rattle.pf_ties.proofs.Indices.{eq_of}
-use Rattle.pf_ties.proofs.Maps.{Entries}
+use Rattle.pf_sorted.proofs.Indices.{eq_of}
+
+abbrev pub Entries : Type 0
+Entries = List (ℕ × ℕ)
 
 pub eq_self : (k : ℕ) → (k == k) ≡ true
 eq_self k = eq_of k k refl

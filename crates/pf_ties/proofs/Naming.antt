@@ -7,9 +7,9 @@ use Rattle.pf_model.specs.Maps.{got, put, without}
 use Rattle.pf_model.specs.Actions.{is_named}
 use Rattle.pf_model.specs.Ends.{without_name}
 use Rattle.pf_ties.specs.Names.{AreInverse}
-use Rattle.pf_ties.proofs.Indices.{eq_of}
-use Rattle.pf_ties.proofs.Maps.{Entries, Rises, got_above, put_rises, without_rises}
-use Rattle.pf_ties.proofs.LookUps.{eq_self, same_from, some_is, none_some, got_put, got_put_other, got_without, got_without_other, without_none}
+use Rattle.pf_sorted.proofs.Indices.{eq_of}
+use Rattle.pf_sorted.proofs.Maps.{Rises, got_above, put_rises, without_rises}
+use Rattle.pf_ties.proofs.LookUps.{Entries, eq_self, same_from, some_is, none_some, got_put, got_put_other, got_without, got_without_other, without_none}
 
 eq_flip : (a b : ℕ) → (a == b) ≡ (b == a)
 eq_flip a b = grind (arith, nat_tests)
