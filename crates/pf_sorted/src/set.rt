@@ -1,6 +1,6 @@
 //! A set of numbers, as a sorted list.
 
-ghost use Rattle.std.specs.Prelude.{◌≡◌, ◌≤◌, ◌<◌, length, [], Some, slice_get, OnErr, OnOk, MatchResult};
+ghost use Rattle.std.specs.Prelude.{◌≡◌, ◌≤◌, ◌<◌, length, [], OnErr, OnOk, MatchResult};
 ghost use Rattle.pf_model.specs.Maps.{has, with_number, without_number};
 ghost use Rattle.pf_sorted.specs.Sorted.{IsRising, IsThere, IsGap};
 
@@ -81,14 +81,5 @@ impl SortedSet {
             }
             Err(_) => false,
         }
-    }
-
-    /// Takes the number at an index out.
-    pub fn remove_at(&mut self, at: usize) -> u32
-        requires { at < length self.old }
-        ensures was { slice_get self.old at ≡ Some result }
-        ensures removed { self.new ≡ without_number result self.old }
-    {
-        self.items.remove(at)
     }
 }
