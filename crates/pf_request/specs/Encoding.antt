@@ -3,7 +3,7 @@ use Rattle.std.specs.Prelude.{◌≡◌, ◌⊎◌, ℕ, ◌==◌, if◌then◌e
 use Rattle.std.proofs.Common.{inl, inr}
 use Rattle.std.specs.Coded.{Coded, code_by, coded×, coded⊎, coded_ℕ, coded_list}
 use Rattle.pf_syntax.specs.Pattern.{Pattern}
-use Rattle.pf_syntax.specs.Module.{coded_pattern}
+use Rattle.pf_syntax.specs.Encoding.{coded_pattern}
 use Rattle.pf_syntax.specs.Module.{coded_function}
 use Rattle.pf_model.specs.Module.{Module}
 use Rattle.pf_model.specs.Meaning as model
