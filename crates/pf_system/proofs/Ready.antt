@@ -22,6 +22,16 @@ by_bodies so n (p ∷ ps) = by (by_bodies so (suc n) ps) (so p.state)
     by h true = ap (λ z. n ∷ z) h
     by h false = h
 
+-- no more numbers than processes
+pub numbers_few : (so : State → Bool) (n : ℕ) (ps : List Process) → length (numbers_of so n ps) ≤ length ps
+numbers_few so n [] = omega arith
+numbers_few so n (p ∷ ps) = by (so p.state) (numbers_few so (suc n) ps)
+  where
+    by : (t : Bool) → length (numbers_of so (suc n) ps) ≤ length ps
+        → length (if t then n ∷ numbers_of so (suc n) ps else numbers_of so (suc n) ps) ≤ suc (length ps)
+    by true h = omega arith
+    by false h = omega arith
+
 -- the same bodies, the same numbers
 pub numbers_alike : (so : State → Bool) (n : ℕ) (c d : Core) → bodies_of c ≡ bodies_of d → numbers_of so n c.processes ≡ numbers_of so n d.processes
 numbers_alike so n c d e = by_bodies so n c.processes ∙ ap (numbers_in so n) e ∙ sym (by_bodies so n d.processes)

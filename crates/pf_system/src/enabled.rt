@@ -1,8 +1,9 @@
 //! Who may go.
 
-ghost use Rattle.std.specs.Prelude.{◌≡◌, ◌<◌, length, slice_get, Some};
+ghost use Rattle.std.specs.Prelude.{◌≡◌, ◌^◌, ◌<◌, ◌≤◌, length, slice_get, Some};
 ghost use Rattle.pf_model.specs.Channels.{heads};
 ghost use Rattle.pf_model.specs.Reports.{actor_of};
+ghost use Rattle.pf_model.specs.declared.limits.TheConstants.{MOST_PROCESSES};
 ghost use Rattle.pf_system.specs.Steps.{noted};
 
 use pf_channels::Channels;
@@ -20,7 +21,8 @@ pub struct Enabled<'a> {
 impl Enabled<'_> {
     /// How many there are.
     pub fn len(&self) -> usize
-        ensures { result ≡ length (noted self.now) }
+        ensures count { result ≡ length (noted self.now) }
+        ensures few { length self.now.ready.now ≤ MOST_PROCESSES → result < 2 ^ 32 }
     {
         self.ready.as_slice().len() + self.channels.len()
     }

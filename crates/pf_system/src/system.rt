@@ -1,10 +1,11 @@
 //! The system of processes of one run.
 
-ghost use Rattle.std.specs.Prelude.{◌≡◌, ◌<◌, ◌≤◌, Some, None, IfOk, IsErr, OnErr};
+ghost use Rattle.std.specs.Prelude.{◌≡◌, ◌<◌, ◌≤◌, length, Some, None, IfOk, IsErr, OnErr};
 ghost use Rattle.pf_model.specs.Module.{module_of};
 ghost use Rattle.pf_model.specs.Limits.{IsEdition};
 ghost use Rattle.pf_model.specs.Meaning.{outcome_of as outcome_where};
 ghost use Rattle.pf_model.specs.Reports.{label_of, outcome_of};
+ghost use Rattle.pf_model.specs.declared.limits.TheConstants.{MOST_PROCESSES};
 ghost use Rattle.pf_model.specs.Runs.{process, channel, enabled, start};
 ghost use Rattle.pf_system.specs.View.{view_of_system};
 ghost use Rattle.pf_system.specs.Steps.{IsNoteOf, MayGo, PassesTo, noted};
@@ -107,6 +108,7 @@ impl System {
     pub fn enabled(&self) -> Enabled<'_>
         ensures actors { (c : _) → self.now.standing ≡ Some c → noted result ≡ enabled c }
         ensures both { (c : _) → self.now.standing ≡ Some c → IsNoteOf result c }
+        ensures few { (c : _) → self.now.standing ≡ Some c → length result.ready.now ≤ MOST_PROCESSES }
     {
         Enabled {
             ready: &self.processes.ready,
