@@ -27,7 +27,9 @@ if [ "$(realpath "$(command -v rt)")" != "$room/kit/bin/rt" ]; then
 fi
 unset RT_JOBS
 rm -rf "$room/rattle-kept" "$room/tree"
-git clone -q "$top" "$room/tree"
+# (the tree as it stands, with what isn't committed)
+git init -q "$room/tree"
+(cd "$top" && git ls-files -co --exclude-standard -z | tar --null --ignore-failed-read -T - -c 2> /dev/null) | tar -C "$room/tree" -x
 
 # Seconds of the words.
 seconds() {

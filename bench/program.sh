@@ -9,10 +9,20 @@ mkdir -p "$room/crates/bench/src"
 cp "$top/HANDLES" "$room/HANDLES"
 cp "$top/bench/$1/main.rt.in" "$room/crates/bench/src/main.rt"
 cp "$top/bench/$1/crates" "$room/crates.txt"
-# The crates of the repository that it stands on have their lines of the repository's own crates.txt.
-for crate in $(sed 's/^bench://' "$top/bench/$1/crates"); do
-  [ -d "$top/crates/$crate" ] || continue
-  sed -n "/^$crate\( [^:]*\)\{0,1\}:/p" "$top/crates.txt" >> "$room/crates.txt"
+# The crates of the repository below it have their lines of the repository's own crates.txt.
+python3 - "$top" "$top/bench/$1/crates" > "$room/below" << 'END'
+import os
+import sys
+sys.dont_write_bytecode = True
+top, crates = sys.argv[1:]
+sys.path.insert(0, f"{top}/install")
+import prove
+with open(crates, encoding="utf-8") as file:
+    named = file.read().partition(":")[2].split()
+sys.stdout.writelines(prove.crates_of(top, [it for it in named if os.path.isdir(f"{top}/crates/{it}")]).values())
+END
+cat "$room/below" >> "$room/crates.txt"
+sed 's/[ :].*//' "$room/below" | while read -r crate; do
   cp -a "$top/crates/$crate" "$room/crates/$crate"
 done
 cd "$room/crates/bench"

@@ -37,6 +37,6 @@ complete -c pulsefarm -n '__fish_seen_subcommand_from run shrink chart' -l sched
 complete -c pulsefarm -n '__fish_seen_subcommand_from hunt' -l seeds -x -d 'Seeds A..B'
 complete -c pulsefarm -n '__fish_seen_subcommand_from hunt' -l workers -x -d 'Threads'
 complete -c pulsefarm -n '__fish_seen_subcommand_from hunt' -l all -d 'Tell each outcome'
-complete -c pulsefarm -n '__fish_seen_subcommand_from hunt' -l shrink -x -d 'Shrink within so many runs'
+complete -c pulsefarm -n '__fish_seen_subcommand_from hunt' -l shrink -x -d 'Shrink within N runs'
 complete -c pulsefarm -n '__fish_seen_subcommand_from shrink' -l runs -x -d 'Most runs'
 complete -c pulsefarm -n '__fish_seen_subcommand_from check' -l explain -d 'Tell how to mend a refusal'

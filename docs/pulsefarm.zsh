@@ -44,7 +44,7 @@ _pulsefarm() {
     run | chart) own=($job '--seed[seed]:seed: ' $weights $schedule) ;;
     hunt)
       own=($job '--seeds[seeds A..B]:seeds: ' $weights '--workers[threads]:threads: ' '--all[tell each outcome]'
-        '--shrink[shrink within so many runs]:runs: ')
+        '--shrink[shrink within N runs]:runs: ')
       ;;
     shrink) own=($job $schedule '--runs[most runs]:runs: ') ;;
     check) own=('--explain[tell how to mend a refusal]') ;;

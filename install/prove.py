@@ -31,23 +31,33 @@ class Stopped(Exception):
     """Somebody stopped the run."""
 
 
-def crates_of(tree):
-    """Returns the lines of crates.txt for the program and the crates below it, by name and in their order."""
+def crates_of(tree, tops=(PROGRAM,)):
+    """Returns the lines of crates.txt for the program, or for the crates TOPS, and for all crates below, by name and in their order."""
     lines = {}
     with open(f"{tree}/crates.txt", encoding="utf-8") as file:
         for line in file:
             head, colon, _ = line.partition(":")
             if colon and not line.startswith("#"):
                 lines[head.split()[0]] = line
-    if PROGRAM not in lines:
-        sys.exit(f"crates.txt has no line of {PROGRAM}")
-    wanted = {PROGRAM, *lines[PROGRAM].partition(":")[2].split()}
+    for name in tops:
+        if name not in lines:
+            sys.exit(f"crates.txt has no line of {name}")
+    below = below_of(lines)
+    wanted = set(tops).union(*(below[name] for name in tops))
     return {name: line for name, line in lines.items() if name in wanted}
 
 
 def below_of(crates):
-    """Returns for each crate the set of those below it."""
-    return {name: {it for it in line.partition(":")[2].split() if it in crates} for name, line in crates.items()}
+    """Returns for each crate the set of all those below it. (Its line names those that its own files cite.)"""
+    found = {}
+
+    def below(name):
+        if name not in found:
+            cited = [it for it in crates[name].partition(":")[2].split() if it in crates]
+            found[name] = set(cited).union(*map(below, cited))
+        return found[name]
+
+    return {name: below(name) for name in crates}
 
 
 def seconds_of(crates):

@@ -57,8 +57,8 @@ is_crate() {
   crates | grep -qx "$1"
 }
 
-# The crates of the repository below $1: its line of crates.txt names all of them.
-below() {
+# The crates of the repository that the line of $1 names. (A build of them builds those below them.)
+cited() {
   sed -n "s/^$1\( [^:]*\)\{0,1\}://p" crates.txt | tr ' ' '\n' | while read -r name; do
     if is_crate "$name"; then echo "$name"; fi
   done
@@ -103,7 +103,7 @@ build_below() {
       cp -a "crates/$name/out/$part" "$room/clone/crates/$name/out/$part"
     done
   done
-  for name in $(for tried in "$@"; do below "$tried"; done | sort -u); do
+  for name in $(for tried in "$@"; do cited "$tried"; done | sort -u); do
     (cd "$room/clone/crates/$name" && rt lib) > "$room/build.log" 2>&1 || {
       tail -n 20 "$room/build.log" >&2
       fail "$name is not built"

@@ -18,8 +18,8 @@ lay() {
   rm -rf "$room/tree" "$room/kit" "$FAKE" "$room/prefix" "$TMPDIR"
   mkdir -p "$room/tree/port" "$room/kit/bin" "$FAKE" "$TMPDIR"
   cp -r "$top/install.sh" "$top/install" "$room/tree"
-  printf '%s\n' '# A line that names no crate.' 'low:' 'left: low' 'right may_abort=1: low indexmap' 'high: left right low' 'beside: low' \
-    'pulsefarm: high left right low indexmap' > "$room/tree/crates.txt"
+  printf '%s\n' '# A line that names no crate.' 'low:' 'left: low' 'right may_abort=1: low indexmap' 'high: left right' 'beside: low' \
+    'pulsefarm: high indexmap' > "$room/tree/crates.txt"
   echo 'Handles allowed: none.' > "$room/tree/HANDLES"
   for crate in low left right high beside pulsefarm; do
     mkdir -p "$room/tree/crates/$crate/src" "$room/tree/crates/$crate/must-fail" "$room/tree/crates/$crate/out"
@@ -54,7 +54,7 @@ whole() {
   note "the main job is run (status $status)" $?
   cmp -s "$room/tree/crates/pulsefarm/out/pulsefarm" "$program" && cmp -s "$room/prefix/bin/pulsefarm" "$program"
   note "the program stands in the tree, and a link leads to it" $?
-  printf '%s\n' 'low:' 'left: low' 'right may_abort=1: low indexmap' 'high: left right low' 'pulsefarm: high left right low indexmap' | cmp -s - "$FAKE/crates.txt"
+  printf '%s\n' 'low:' 'left: low' 'right may_abort=1: low indexmap' 'high: left right' 'pulsefarm: high indexmap' | cmp -s - "$FAKE/crates.txt"
   note "the copy has the lines of the program's crates" $?
   ! grep -q 'beside\|must-fail\|^out' "$FAKE/copy" && grep -qx .git "$FAKE/copy" && grep -qx HANDLES "$FAKE/copy"
   note "the copy has these crates alone, and is a repository" $?
@@ -193,14 +193,14 @@ previews() {
   note "the preview says that it is unproved" $?
 }
 
-# Each crate of the table is one, and each crate of the program stands in it.
+# Each crate of the program stands in the table, and each name in it is that of a crate.
 table() {
-  sed -n 's/^pulsefarm[^:]*://p' "$top/crates.txt" | tr ' ' '\n' | grep '^pf_' > "$room/wanted"
-  echo pulsefarm >> "$room/wanted"
-  sort "$room/wanted" > "$room/sorted"
-  sed -n 's/^\([a-z][a-z_]*\) [0-9][0-9]*$/\1/p' "$top/install/seconds.txt" | sort | comm -13 - "$room/sorted" > "$room/out"
-  [ ! -s "$room/out" ]
-  note "the table of seconds has each crate of the program" $?
+  python3 -c 'import sys; sys.path.insert(0, sys.argv[1]); import prove; print(*prove.crates_of(sys.argv[2]), sep="\n")' "$top/install" "$top" | sort > "$room/sorted"
+  sed -n 's/^\([a-z][a-z_]*\) [0-9][0-9]*$/\1/p' "$top/install/seconds.txt" | sort > "$room/table"
+  comm -13 "$room/table" "$room/sorted" > "$room/out"
+  sed -n 's/^\([a-z][a-z0-9_]*\).*:.*/\1/p' "$top/crates.txt" | sort | comm -23 "$room/table" - >> "$room/out"
+  [ ! -s "$room/out" ] && [ "$(wc -l < "$room/sorted")" -gt 40 ]
+  note "the table of seconds has each crate of the program, and crates alone" $?
 }
 
 lanes() {

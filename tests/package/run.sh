@@ -14,10 +14,11 @@ main_job=$(printf '%s\n' '0/1 <0> end normal' 'finished 7' 'steps 4' 'property h
 "$top/tests/debian.sh" zsh fish man-db
 "$top/tests/port/erlang.sh" && has_erlang=1 || has_erlang=0
 
-# A repository of what the tree holds now, with one commit; and a clone of it elsewhere.
+# A repository of what the tree holds now, with one commit; and a clone of it elsewhere. (What the tree holds are the files that git doesn't
+# ignore: in the gate's tree none was added.)
 lay() {
   mkdir -p "$room/one"
-  (cd "$top" && git ls-files -z | tar --null --ignore-failed-read -T - -c 2> /dev/null) | tar -C "$room/one" -x
+  (cd "$top" && git ls-files -co --exclude-standard -z | tar --null --ignore-failed-read -T - -c 2> /dev/null) | tar -C "$room/one" -x
   (
     cd "$room/one" && git init -q && git add -A &&
       GIT_AUTHOR_DATE='@1700000000 +0000' GIT_COMMITTER_DATE='@1700000000 +0000' \

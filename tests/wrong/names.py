@@ -36,12 +36,21 @@ class Tree:
                 if it:
                     self.flags[it[1]], self.lines[it[1]] = it[2].split(), it[3].split()
         self.crates = list(self.lines)
-        self.views = {name: [name, *(it for it in below if it in self.lines)] for name, below in self.lines.items()}
+        self.views = {name: self.view(name) for name in self.crates}
         self.sources = {name: self.files(name) for name in self.crates}
         for name in self.crates:
             for path in self.sources[name]:
                 if path.endswith(".rt"):
                     self.index(name, path)
+
+    def view(self, crate):
+        """Returns a crate and the crates of the repository below it: those of its line, those of their lines, and so on."""
+        found = [crate]
+        for name in found:
+            for it in self.lines[name]:
+                if it in self.lines and it not in found:
+                    found.append(it)
+        return found
 
     def files(self, crate):
         """Returns the paths of a crate's sources, specs and proofs."""

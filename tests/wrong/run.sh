@@ -178,7 +178,7 @@ start_anew() {
   make_low
   make_mid
   make_top
-  printf '# The crates.\nlow:\nmid: low\ntop tests_may=Threads: mid low\n' > crates.txt
+  printf '# The crates.\nlow:\nmid: low\ntop tests_may=Threads: mid\n' > crates.txt
   echo "a kit" > "$room/kit"
   : > "$room/passing"
   cp "$room/seen" "$room/edits" tests/ 2> /dev/null && mv tests/seen tests/wrong.seen && mv tests/edits tests/wrong.edits

@@ -138,7 +138,7 @@ impl Book {
     }
 
     /// Answers a client's call on the desk of its project, and notes it there with its reply. After running out of memory nothing has
-    /// changed and nothing is noted. A new desk gets its index before its first call, which the store then counts.
+    /// changed and nothing is noted. A new desk is put among the others before its first call, which the store then counts.
     fn call(&mut self, alloc: Global, project: u32, call: Call) -> Result<Reply, NoMemory>
         ensures { Answers self.old project (view_of_call call) result self.new }
     {

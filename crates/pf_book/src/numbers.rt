@@ -28,7 +28,7 @@ pub(crate) fn give_up<T>(things: &mut Vec<Option<T>>, number: u64) -> Option<T>
     things[number as usize - 1].take()
 }
 
-/// Makes room for so many more in a list, and is out of memory only if there was none. If there is none it grows by a quarter
+/// Makes room for n more in a list, and is out of memory only if there was none. If there is none it grows by a quarter
 /// at least: what is unused stays small, and a push costs a fixed number of moves on the average.
 pub(crate) fn make_room<T>(list: &mut Vec<T>, more: usize) -> Result<(), NoMemory>
     ensures items { list.new.items ≡ list.old.items }

@@ -39,7 +39,7 @@ const BUILTINS: [(&str, u64, Builtin); 27] = [
     ("demonitor", 2, Builtin::DemonitorWith),
 ];
 
-/// The built-in function of this name that takes so many arguments.
+/// The built-in function of this name that takes this number of arguments.
 pub fn builtin_named(name: &[u8], arity: u64) -> Option<Builtin>
     ensures { option_map builtin_of result ≡ forms.builtin_named name.now arity }
 {
@@ -92,7 +92,7 @@ pub fn is_pure(builtin: Builtin) -> bool
     }
 }
 
-/// Whether a guard may call a function of this name with so many arguments: a built-in one, and pure.
+/// Whether a guard may call a function of this name with this number of arguments: a built-in one, and pure.
 pub fn guard_may_call(name: &[u8], arity: u64) -> bool
     ensures { result ≡ option_map_or (λ b. forms.may_stand true (forms.calling b)) (forms.builtin_named name.now arity) false }
 {

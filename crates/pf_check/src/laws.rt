@@ -17,7 +17,7 @@ pub fn some_outcome()
     ensures { (bytes : List ℕ) → (o : Outcome) × Reads bytes o }
 {}
 
-/// The tokens of a source and its end, one of which is the offset of E5, stand within it.
+/// The offsets of the tokens of a source and that of its end, one of which E5 has, are within it.
 pub fn offsets_are_within()
     ensures { (bytes : List ℕ) (ts : List Placed) (offset : ℕ) →
         HasTokens bytes ts → IsOffsetOf (numbered ts) (length bytes) offset → offset ≤ length bytes }

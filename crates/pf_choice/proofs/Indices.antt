@@ -1,11 +1,11 @@
--- Places of weighted things, and that each chooses one of them.
+-- Indices of weighted things, and that each chooses one of them.
 use Rattle.std.proofs.Common.{◌≡◌, ℕ, ◌+◌, ◌-◌, ◌*◌, ◌/◌, ◌%◌, ◌≤◌, ◌<◌, Bool, true, false, nat_lt, if◌then◌else◌, refl, ap, ◌∙◌, arith}
 use Rattle.std.proofs.Math.Nat.{le-mul_of_pos_right, lt_of_mul-lt-mul_right, div-mul-le_self, mul-one, div-one}
 use Rattle.std.proofs.lemmas.Nat.{mod_below}
 use Rattle.std.proofs.lemmas.Bool.Decides.{nat_tests}
 use Rattle.pf_choice.specs.Chosen.{Profile, alike, weighted, IsProfile, at_index, chosen, WeightsOne}
 
--- as many things take at least as many indices
+-- n things take at least n indices
 pub grows : (n k : ℕ) → 1 ≤ k → n ≤ n * k
 grows n k h = le-mul_of_pos_right n (omega arith)
 
@@ -13,11 +13,11 @@ grows n k h = le-mul_of_pos_right n (omega arith)
 pub has_index : (a b r d : ℕ) → 1 ≤ r → 1 ≤ d → 0 < a + b → 0 < a * r + b * d
 has_index a b r d h k l = let x = grows a r h in let y = grows b d k in omega arith
 
--- an index below those of so many things is of one of them
+-- an index below those of n things is that of one of them
 within : (n k index : ℕ) → index < n * k → index / k < n
 within n k index h = lt_of_mul-lt-mul_right k (let x = div-mul-le_self index k in omega arith)
 
--- an index of so many processes and channels is of one of them
+-- an index below those of a processes and b channels is that of one of them
 pub at_index_below : (a b r d index : ℕ) → index < a * r + b * d → at_index r d a index < a + b
 at_index_below a b r d index h = by (nat_lt index (a * r)) refl
   where

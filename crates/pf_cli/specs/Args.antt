@@ -116,12 +116,12 @@ pub record RunArgs : Type 0 where
   pub request : Request
   pub edition : ℕ
 
--- what is sought among seeds: the least that fails, whose schedule is shrunk within so many runs where that is asked for; or each outcome
+-- what is sought among seeds: the least that fails, whose schedule is shrunk within n runs where that is asked for; or each outcome
 pub data Sought : Type 0 where
   failure : (runs : Option ℕ) → Sought
   outcomes : Sought
 
--- a hunt is asked for: the request is the run by the seed 0, in whose place the seeds from a first to before an end go; by so many workers if
+-- a hunt is asked for: the request is the run by the seed 0, in whose place the seeds from a first to before an end go; by n workers if
 -- these are named
 pub record HuntArgs : Type 0 where
   pub request : Request

@@ -17,7 +17,7 @@ use std::io::{Read, Write};
 use std::sync::ledger::Ledger;
 use std::thread::Threads;
 
-/// The answer to a source of these bytes, by so many workers: the least seed that fails, or each outcome; or why no seed was run.
+/// The answer to a source of these bytes, by the given number of workers: the least seed that fails, or each outcome; or why no seed was run.
 fn answer_hunt<T: Threads + Sync>(
     rt: &T,
     alloc: Global,
@@ -36,7 +36,7 @@ fn answer_hunt<T: Threads + Sync>(
     }
 }
 
-/// Answers a source whose runs by many seeds are asked for, by so many workers: reads at most one byte more than a source may have, writes a
+/// Answers a source whose runs by many seeds are asked for, by n workers: reads at most one byte more than a source may have, writes a
 /// text and gives the status. Who watches is told how many seeds are done, and the observer receives the progress of a shrinking.
 pub fn hunt_source<R: Read, W: Write, L: Ledger, M: Ledger, T: Threads + Sync>(
     rt: &T,

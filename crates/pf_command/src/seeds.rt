@@ -36,7 +36,7 @@ pub(crate) fn choices_of(alloc: Global, report: &Report) -> Result<Vec<u32>, NoM
     choices_in(alloc, report)
 }
 
-/// Puts that no run of so many seeds fails.
+/// Puts that no run of n seeds fails.
 pub(crate) fn put_none(out: &mut Vec<u8>, seeds: u64) -> Result<(), NoMemory>
     ensures { OnOk result (out.new.items ≡ out.old.items ++ none_text seeds) }
 {

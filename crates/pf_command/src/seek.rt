@@ -66,7 +66,7 @@ fn try_shrinking(
     Job::new(alloc, module.share()?, &request, args.edition.number())
 }
 
-/// Whether a schedule may be shrunk within so many runs: the shrinking of the empty one is made, so that its number of runs is refused before
+/// Whether a schedule may be shrunk within n runs: the shrinking of the empty one is made, so that its number of runs is refused before
 /// any seed is run.
 fn may_shrink(
     alloc: Global,
@@ -239,7 +239,7 @@ fn tell_found(
     }
 }
 
-/// The answer if the least seed that fails is sought, by so many workers.
+/// The answer if the least seed that fails is sought, by the given number of workers.
 fn seek_failure<T: Threads + Sync>(
     rt: &T,
     alloc: Global,
@@ -295,7 +295,7 @@ fn tell_rows(alloc: Global, job: &Job, tally: &Tally) -> Result<Answer, NoMemory
     Ok(Answer { text, status })
 }
 
-/// The answer if each outcome is sought, by so many workers.
+/// The answer if each outcome is sought, by the given number of workers.
 fn seek_outcomes<T: Threads + Sync>(
     rt: &T,
     alloc: Global,
@@ -330,7 +330,7 @@ fn hunt_outcomes<T: Threads + Sync>(
     }
 }
 
-/// The answer to a module, by so many workers.
+/// The answer to a module, by the given number of workers.
 pub(crate) fn hunt_module<T: Threads + Sync>(
     rt: &T,
     alloc: Global,

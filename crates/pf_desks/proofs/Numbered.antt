@@ -18,7 +18,7 @@ use Rattle.pf_desks.specs.Numbers.{number_in, ticket_in, CountUp}
 use Rattle.pf_desks.proofs.Isolated.{isolated}
 use Rattle.pf_desks.proofs.Always.{OfWork, moved, moves}
 
--- so many were told, then this, and then so many are told
+-- k were told, then this, and then k' are told
 abbrev Tells : ℕ → Option ℕ → ℕ → Type 0
 Tells k None k' = k' ≡ k
 Tells k (Some n) k' = (n ≡ k + 1) × (k' ≡ k + 1)
@@ -91,7 +91,7 @@ module _ (p : Profile) (d : Desk) where
   call_tells : (c : Call) → TellsNext d (after_call p d c, reply_to p d c)
   call_tells c = told_within (passed_by d charge.Call) (noted c (answered p d c)) (answer_tells c)
 
--- so many numbers of modules and of trials were told at a desk
+-- k numbers of modules and t of trials were told at a desk
 abbrev Told : ℕ → ℕ → Desk → Type 0
 Told k t d = (length d.modules ≡ k) × (length d.trials ≡ t)
 

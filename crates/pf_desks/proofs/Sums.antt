@@ -176,7 +176,7 @@ module _ (d : Desk) where
     pub trial_refunded : refunded (usage_in d) (held.Trial (steps_of_trial t.job.asked.limit t.job.asked.runs)) ≡ usage_in (record d { trials = with_held d.trials n None })
     trial_refunded = trial_gone.refund
 
-    -- a trial of the same job at its index uses what was used
+    -- a trial of the same job under its number uses what was used
     pub trial_same : (t' : Trial) → t'.job ≡ t.job → map held_trial (all_held (with_held d.trials n (Some t'))) ≡ map held_trial (all_held d.trials)
     trial_same t' same =
         let a : Around d.trials n t = around d.trials n t h in

@@ -44,7 +44,7 @@ pub(crate) fn put_shown(out: &mut Vec<u8>, bytes: &[u8]) -> Result<(), NoMemory>
     Ok(())
 }
 
-/// Puts so many blanks.
+/// Puts n blanks.
 pub(crate) fn put_blanks(out: &mut Vec<u8>, count: usize) -> Result<(), NoMemory>
     ensures { OnOk result (out.new.items ≡ out.old.items ++ replicate count 32) }
 {

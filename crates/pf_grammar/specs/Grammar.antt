@@ -203,7 +203,7 @@ abbrev mutual
 
 -- ---- expressions
 
--- whether a call of this name with so many arguments may stand: in a guard, of a pure built-in function alone
+-- whether a call of this name with this number of arguments may stand: in a guard, of a pure built-in function alone
 abbrev pub named_stands : Option Builtin → Bool
 named_stands None = false
 named_stands (Some b) = may_stand true (calling b)

@@ -1,4 +1,4 @@
--- Places of tokens.
+-- Offsets of tokens.
 use Rattle.std.specs.Prelude.{◌≡◌, ◌⊎◌, ℕ, List, [], ◌∷◌}
 use Rattle.pf_intern.specs.NumberedTokens.{NumberedToken}
 

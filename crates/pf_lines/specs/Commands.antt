@@ -90,7 +90,7 @@ of_order (p ∷ m ∷ root ∷ property ∷ choices ∷ limit ∷ []) =
     else None
 of_order _ = None
 
--- the shrinking of a schedule within so many runs
+-- the shrinking of a schedule within n runs
 abbrev pub with_runs : Option (List ℕ) → Option ℕ → Option Kind
 with_runs (Some ns) (Some runs) = Some (shrink ns runs)
 with_runs _ _ = None
@@ -134,7 +134,7 @@ abbrev pub after_source : Step → List ℕ → Option (Step × List ℕ)
 after_source s [] = Some (s, [])
 after_source s (b ∷ bs) = if b == 10 then Some (s, bs) else None
 
--- the source of so many bytes stands in the lines that follow an ended line
+-- the source of n bytes stands in the lines that follow an ended line
 abbrev pub with_source : Bool → (project size : ℕ) → List ℕ → Option (Step × List ℕ)
 with_source ended project size rest =
     if ended && nat_le size (length rest)

@@ -8,7 +8,7 @@ abbrev pub size_in : Option Asked → Option ℕ
 size_in (Some (submission project size)) = Some size
 size_in _ = None
 
--- so many bytes follow and one more, which is a line end or else makes the line no command
+-- n bytes follow and one more, which is a line end or else makes the line no command
 abbrev pub has_source : Option ℕ → List ℕ → Bool
 has_source None rest = true
 has_source (Some size) rest = nat_lt size (length rest)

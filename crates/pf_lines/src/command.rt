@@ -46,7 +46,7 @@ impl Error for NoCommand {}
 /// Why no command was read.
 pub type LineFault = OrNoMemory<NoCommand>;
 
-/// The source of so many bytes that stands in front, and what follows the line end after it.
+/// The source of n bytes that stands in front, and what follows the line end after it.
 fn split_source(bytes: &[u8], size: usize) -> Option<(&[u8], &[u8])>
     ensures { (project : _) → option_map (λ p. (client project (submit p.0.now), p.1.now)) result
         ≡ with_source true project size bytes.now }

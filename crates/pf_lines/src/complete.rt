@@ -19,7 +19,7 @@ fn source_size(line: &[u8]) -> Option<u32>
     Some(size)
 }
 
-/// Whether a source of so many bytes stands in front, with one byte more.
+/// Whether a source of n bytes stands in front, with one byte more.
 fn has_source(size: Option<u32>, bytes: &[u8]) -> bool
     ensures { result ≡ has_source size bytes.now }
 {

@@ -22,7 +22,7 @@ use std::alloc::Global;
 #[derive(Drop)]
 pub(crate) enum Asked {
     Made(Command),
-    /// The submission to a project of a source of so many bytes, which follow the line.
+    /// The submission to a project of a source of n bytes, which follow the line.
     Submission(u32, u32),
 }
 

@@ -32,7 +32,7 @@ pub record FunctionMeans (fs : List (List Head)) (exports : List Export) (m : Ch
   pub stands : FunctionRepresents m.tables f
   pub means : FunctionFormed hs → flat_map (head_faults (names_of m.atoms fs)) hs ≡ [] → FunctionIs (names_of m.atoms fs) exports hs (function_over m.tables f)
 
--- the functions of a source were added to a module that had none
+-- the functions of a syntax tree were added to a module that had none
 pub record FunctionsAdded (fs : List (List Head)) (exports : List Export) (old new : Checked) : Type 0 where
   pub name : new.name ≡ old.name
   pub atoms : new.atoms ≡ old.atoms

@@ -1,4 +1,4 @@
-//! The checked module of a module as it is written.
+//! The checked module of a syntax tree.
 
 ghost use Rattle.std.specs.Prelude.{◌≡◌, [], map, IfOk, List, OnOk};
 ghost use Rattle.pf_syntax.specs.SyntaxTreeOver.{head_over, heads_over};
@@ -121,7 +121,7 @@ fn function(
     }
 }
 
-/// Adds the functions of a source, which the tables know, to its module, which has none yet.
+/// Adds the functions of a syntax tree, which the tables know, to its module, which has none yet.
 fn add_each(
     alloc: Global,
     source: &SyntaxTree,
@@ -144,7 +144,7 @@ fn add_each(
     Ok(())
 }
 
-/// Adds the functions of a source to its module, which has none yet.
+/// Adds the functions of a syntax tree to its module, which has none yet.
 fn add_functions(alloc: Global, source: &SyntaxTree, module: &mut Module) -> Result<(), NoMemory>
     requires { module.old.functions ≡ [] }
     ensures { OnOk result (FunctionsAdded source.now.functions source.now.exports module.old module.new) }
@@ -154,7 +154,7 @@ fn add_functions(alloc: Global, source: &SyntaxTree, module: &mut Module) -> Res
     add_each(alloc, source, &functions, &exported, module)
 }
 
-/// The checked module of a source that has no static fault and is formed as the grammar says; of another it is some module.
+/// The checked module of a syntax tree that has no static fault and is formed as the grammar says; of another it is some module.
 pub fn module_of(alloc: Global, source: &SyntaxTree, atoms: AtomTable) -> Result<Module, NoMemory>
     ensures { IfOk result (λ m. faults_of atoms (tree_of source.now) ≡ [] → AreFormed source.now.functions
         → IsModule atoms (tree_of source.now) m) }

@@ -23,7 +23,7 @@ pub(crate) struct FunctionTable {
 }
 
 impl FunctionTable {
-    /// The functions of a source.
+    /// The functions of a syntax tree.
     pub(crate) fn new(alloc: Global, source: &SyntaxTree) -> Result<FunctionTable, NoMemory>
         ensures { IfOk result (λ table. Knows table source.now.functions) }
     {
@@ -65,7 +65,7 @@ impl FunctionTable {
         Ok(())
     }
 
-    /// The first function of this name that takes so many arguments.
+    /// The first function of this name that takes this number of arguments.
     pub(crate) fn find(&self, source: &SyntaxTree, name: AtomId, arity: usize) -> Option<FunctionId>
         requires { Knows self.now source.now.functions }
         ensures { MatchOption result (own_in source.now.functions name.0 arity ≡ None)
@@ -76,7 +76,7 @@ impl FunctionTable {
     }
 }
 
-/// The functions that a source exports.
+/// The functions that a syntax tree exports.
 pub(crate) fn exports_of(alloc: Global, source: &SyntaxTree) -> Result<Signatures, NoMemory>
     ensures { IfOk result (λ exported. Exports exported source.now.exports) }
 {

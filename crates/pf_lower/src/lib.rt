@@ -1,4 +1,4 @@
-//! The checked module of a module as it is written: slots in place of names, and nodes by number.
+//! The checked module of a syntax tree: slots in place of names, and nodes by number.
 #![tactic(auto)]
 
 mod alone;

@@ -91,7 +91,7 @@ impl Slots {
         }
     }
 
-    /// Only the first so many variables are bound.
+    /// Only the first `len` variables are bound.
     pub(crate) fn truncate(&mut self, len: usize)
         ensures { self.new ≡ take len self.old }
     {

@@ -1,17 +1,11 @@
 -- A flush of a list from its front.
-use Rattle.std.proofs.Common.{◌≡◌, ℕ, zero, suc, ◌<◌, ◌==◌, Bool, true, false, List, [], ◌∷◌, length, map, refl, ap, ◌∙◌, Some, None, arith}
-use Rattle.std.specs.Prelude.{slice_get, remove, Option, Result, Ok}
+use Rattle.std.proofs.Common.{◌≡◌, ℕ, zero, suc, ◌<◌, ◌==◌, Bool, true, false, List, [], ◌∷◌, length, map, refl, ap, ◌∙◌, Some, arith}
+use Rattle.std.specs.Prelude.{slice_get, remove}
 use Rattle.std.specs.List.{list_any}
-use Rattle.std.specs.Fn.{FnReturnsAt, Shared}
-use denote.Ref.{Bor}
-use Rattle.pf_fault.specs.declared.memory.NoMemory.{NoMemory}
 use Rattle.pf_terms.specs.Value.{Value, none, more, int, atom, ref, pid, tuple, list}
 use Rattle.pf_terms.specs.Term.{value_of, values_of}
 use Rattle.pf_terms.specs.declared.term.Term.{Term}
 use Rattle.pf_model.specs.Flush.{flushed, tells_of}
-use Rattle.pf_nodes.specs.Find.{PassesRefused, EndsAs}
-use Rattle.pf_nodes.specs.Mail.{Mail}
-use Rattle.pf_nodes.specs.declared.mail.Spot.{Spot}
 
 -- ---- whether one message tells
 
@@ -87,18 +81,3 @@ module _ (r : ℕ) where
   pub told_none : (xs : List Term) → QuietTo (length xs) xs → false ≡ list_any (tells_of r) (map value_of xs)
   told_none [] q = refl
   told_none (y ∷ ys) q = rw (q zero y (omega arith) refl) (told_none ys (λ j z l. q (suc j) z (omega arith)))
-
-  -- what a search told
-  module _ {F : Type 0} (g : Shared F (Bor Term × Unit {0}) (Result Bool NoMemory)) (f : F) (old new : Mail Term) (front : old.mark ≡ 0)
-      (p : PassesRefused (FnReturnsAt g f) old new) (says : (x : Term) (o : Result Bool NoMemory) → FnReturnsAt g f x o → o ≡ Ok (tells_of r (value_of x))) where
-    pub quiet : QuietTo new.mark old.items
-    quiet j y l s =
-        let a : ◌≡◌ {A = Result Bool NoMemory} (Ok false) (Ok (tells_of r (value_of y))) = says y (Ok false) (p.1 j y (omega arith) l s) in
-        cc
-
-    pub tells : (o : Option Spot) (spot : Spot) → o ≡ Some spot → EndsAs (FnReturnsAt g f) old new (Ok o)
-        → (x : Term) × (slice_get old.items new.mark ≡ Some x) × Tells true x
-    tells None spot e h = absurd cc
-    tells (Some other) spot e h =
-        let a : ◌≡◌ {A = Result Bool NoMemory} (Ok true) (Ok (tells_of r (value_of h.1.0))) = says h.1.0 (Ok true) h.1.2 in
-        (h.1.0, h.1.1, cc)

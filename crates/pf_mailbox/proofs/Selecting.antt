@@ -50,8 +50,8 @@ module _ (m : Checked) (own base : ℕ) (env : List Term) (l : List Clause) (old
         ∙ ap (λ n. n - old.mark) (sym end)
 
   module _ (env' : List Term) (body : Operand) (s : PicksMarked m own base env l env' new body) (x : Term) (at : slice_get new.items new.mark ≡ Some x) where
-    value_is : s.value ≡ value_of x
-    value_is = sym s.stands.value ∙ ap value_of (same_Some s.stands.message x (sym s.stands.there ∙ at))
+    value_is : value_of s.message ≡ value_of x
+    value_is = ap value_of (same_Some s.message x (sym s.there ∙ at))
 
     picks : Picked m base env env' (Some body) (picked (module_of m) own (awaited m base env l) (value_of x))
     picks = subst (λ v. Picked m base env env' (Some body) (picked (module_of m) own (awaited m base env l) v)) value_is s.picks

@@ -1,7 +1,7 @@
 //! The mailbox of a process over the mail list: a selective receive tests each message at most once.
 #![tactic(auto)]
 
-mod list;
+mod flush;
 mod mailbox;
 mod opened;
 mod packed;

@@ -1,12 +1,9 @@
 //! A mailbox with the pool of its nodes, as a machine uses them.
 
-ghost use Rattle.std.specs.Prelude.{◌≡◌, ◌-◌, ◌≤◌, drop, length};
-ghost use Rattle.std.specs.Prelude.{IfOk, IfSome, MatchOption, OnErr, OnOk};
-ghost use Rattle.pf_syntax.specs.Over.{clauses_over};
-ghost use Rattle.pf_model.specs.Module.{module_of};
+ghost use Rattle.std.specs.Prelude.{◌≡◌, ◌≤◌, length, IfOk, IfSome, OnErr, OnOk};
 ghost use Rattle.pf_stepper.specs.Readiness.{IsReadyForAll, receive_in};
-ghost use Rattle.pf_stepper.specs.Selected.{TakesMessage, TakesNothing};
-ghost use Rattle.pf_mailbox.specs.Tests.{IsReadyFor, awaited, risen, tested};
+ghost use Rattle.pf_mailbox.specs.Receives.{Selects, TestsFromMark, TestsPassed};
+ghost use Rattle.pf_mailbox.specs.Tests.{IsReadyFor};
 
 use crate::mailbox::Mailbox;
 use pf_nodes::Pool;
@@ -40,23 +37,16 @@ impl Inbox for Opened {
         requires slots { base ≤ length env.old.items }
         requires ready { IsReadyFor (receive_in code.now own base env.old.items clauses.now)
             self.old.mailbox }
-        ensures selected { IfOk result (λ o. MatchOption o
-            (TakesNothing code.now own base env.old.items env.new.items
-            (clauses_over code.now.tables clauses.now) self.old.mailbox.messages self.new.mailbox.messages)
-            (λ t. TakesMessage code.now own base env.old.items env.new.items
-            (clauses_over code.now.tables clauses.now) self.old.mailbox.messages self.new.mailbox.messages
-            t.0 t.1)) }
+        ensures selected { IfOk result (Selects code.now own base env.old.items env.new.items
+            clauses.now self.old.mailbox self.new.mailbox) }
         ensures still { IsReadyFor (receive_in code.now own base env.old.items clauses.now)
             self.new.mailbox }
         ensures anew { IfOk result (λ o. IfSome o
             (λ _. IsReadyForAll (λ r. IsReadyFor r self.new.mailbox))) }
         ensures refused { OnErr result (self.new.mailbox.messages ≡ self.old.mailbox.messages) }
-        ensures tests { OnOk result (self.new.mailbox.tests ≡ risen self.old.mailbox.tests
-            (tested (module_of code.now) own (awaited code.now base env.old.items clauses.now)
-            (drop self.old.mailbox.mark self.old.mailbox.messages))) }
-        ensures passed { OnErr result ((self.old.mailbox.mark ≤ self.new.mailbox.mark)
-            × (self.new.mailbox.tests ≡ risen self.old.mailbox.tests
-            (self.new.mailbox.mark - self.old.mailbox.mark))) }
+        ensures tests { OnOk result (TestsFromMark code.now own base env.old.items clauses.now
+            self.old.mailbox self.new.mailbox) }
+        ensures passed { OnErr result (TestsPassed self.old.mailbox self.new.mailbox) }
     {
         self.mailbox
             .select(&mut self.pool, alloc, code, clauses, env, base, own)

@@ -2,7 +2,6 @@
 
 ghost use Rattle.std.specs.Prelude.{◌≡◌, IfOk};
 
-use crate::list::{mark_end, take_marked};
 use crate::mailbox::Mailbox;
 use pf_nodes::{MailList, Pool};
 use pf_terms::{NoMemory, Term};
@@ -40,8 +39,8 @@ impl Mailbox {
         let mark = self.list.mark();
         self.list.reset_mark();
         let mut messages = Vec::with_capacity(alloc, self.list.len())?;
-        while let Some(message) = take_marked(&mut self.list, pool) {
-            messages.push(message)?;
+        while !self.list.is_empty() {
+            messages.push(self.list.take_marked(pool))?;
         }
         Ok(PackedMail {
             messages,
@@ -68,8 +67,8 @@ impl Mailbox {
             if list.push_back(pool, message).is_err() {
                 return Err(NoMemory);
             }
-            if list.len() == mark {
-                mark_end(&mut list);
+            if list.len() <= mark {
+                list.pass();
             }
         }
         Ok(Mailbox { list, tests })

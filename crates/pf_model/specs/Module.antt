@@ -1,4 +1,4 @@
--- Code: what a run is of.
+-- A module: what a run is of.
 use Rattle.std.specs.Prelude.{ℕ, List, Option}
 use Rattle.pf_terms.specs.Atoms.{name_of}
 use Rattle.pf_syntax.specs.Tree.{Program}
@@ -15,10 +15,10 @@ pub record Module : Type 0 where
 abbrev pub name_in : Module → ℕ → List ℕ
 name_in m = name_of m.atoms
 
--- the number of the exported function of this name and so many arguments
+-- the number of the exported function of this name and number of arguments
 abbrev pub exported_as : Module → (name arity : ℕ) → Option ℕ
 exported_as m name arity = exported_at m.functions (first_named name arity m.functions)
 
--- the code of a checked module
+-- a checked module, as runs know it
 abbrev pub module_of : Checked → Module
 module_of c = record { name = c.name; atoms = c.atoms; functions = c.functions }

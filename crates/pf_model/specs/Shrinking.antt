@@ -36,14 +36,14 @@ pub record Found : Type 0 where
 abbrev pub found : List ℕ → Bool → Found
 found ns b = record { schedule = ns; complete = b }
 
--- from a schedule that fails and the candidates of it that are left, with so many runs left: the first candidate that fails becomes
+-- from a schedule that fails and the candidates of it that are left, with n runs left: the first candidate that fails becomes
 -- the schedule, and all begins again
 abbrev pub search : (List ℕ → Bool) → ℕ → List ℕ → List (List ℕ) → Found
 search fails k ns [] = found ns true
 search fails zero ns (c ∷ cs) = found ns false
 search fails (suc k) ns (c ∷ cs) = if fails c then search fails k c (candidates c) else search fails k ns cs
 
--- the shrinking of a schedule within so many runs, of which its own is the first; None where it doesn't fail
+-- the shrinking of a schedule within n runs, of which its own is the first; None where it doesn't fail
 abbrev pub shrunk : (List ℕ → Bool) → (runs : ℕ) → List ℕ → Option Found
 shrunk fails zero ns = None
 shrunk fails (suc k) ns = if fails ns then Some (search fails k ns (candidates ns)) else None

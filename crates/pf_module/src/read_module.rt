@@ -14,7 +14,7 @@ use std::alloc::Global;
 use std::marker::Model;
 use std::sync::Arc;
 
-/// A module with the source that it was read from. Contracts see the source and the module's code.
+/// A module with the source that it was read from. Contracts see the source and the module as runs know it.
 #[derive(Drop)]
 pub struct ReadModule {
     source: Source,

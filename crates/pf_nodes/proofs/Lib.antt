@@ -2,7 +2,6 @@ mod Boxes
 mod Chains
 mod Crossing
 mod Cuts
-mod Finds
 mod Mails
 mod Memory
 mod Pointers

@@ -1,4 +1,3 @@
-pub mod Find
 pub mod Lends
 pub mod Links
 pub mod Mail

@@ -9,5 +9,5 @@ mod mail;
 mod raw;
 mod spare;
 
-pub use mail::{MailList, Spot};
+pub use mail::MailList;
 pub use spare::Pool;

@@ -1,28 +1,12 @@
 //! The mail list: its items in the order in which they came, and a mark.
-ghost use Rattle.std.specs.Prelude.{◌≡◌, ℕ, ◌+◌, ◌-◌, ◌^◌, ◌<◌, ◌≤◌, ◌==◌, [], ◌∷◌, ◌++◌, length, remove, slice_get, Some, IsOk, IfErr, OnOk, OnErr, min};
-ghost use Rattle.std.specs.Fn.{FnReturnsAt};
-ghost use Rattle.pf_nodes.specs.Find.{IsAtMark, PassesRefused, EndsAs};
+ghost use Rattle.std.specs.Prelude.{◌≡◌, ℕ, ◌+◌, ◌-◌, ◌^◌, ◌<◌, ◌≤◌, ◌==◌, [], ◌∷◌, ◌++◌, length, remove, slice_get, min};
+ghost use Rattle.std.specs.Prelude.{Some, IfSome, MatchOption, IsOk, IfErr, OnOk, OnErr};
 ghost use Rattle.pf_nodes.specs.Mail.{mail};
 
 use crate::raw::{Loose, Node, NodeRef, Nodes};
 use crate::spare::{CAPACITY, Pool};
 use std::alloc::Global;
 use std::marker::Model;
-
-/// Where `find_from_mark` found an item.
-#[derive(Clone, Copy, Debug, PartialEq, Eq)]
-pub struct Spot {
-    position: usize,
-}
-
-impl Spot {
-    /// The item's position in the list.
-    pub fn position(&self) -> usize
-        ensures { result ≡ self.now.position }
-    {
-        self.position
-    }
-}
 
 /// A list of items with a mark, which is a position from 0 to the length.
 pub struct MailList<T> {
@@ -93,36 +77,31 @@ impl<T> MailList<T> {
         self.position = 0;
     }
 
-    /// The first item from the mark on that `f` accepts. The mark moves past each item that `f` refuses, and stays
-    /// at the item that it accepts or at which it fails.
-    pub fn find_from_mark<E, F: Fn(&T) -> Result<bool, E>>(
-        &mut self,
-        f: F,
-    ) -> Result<Option<Spot>, E>
-        requires { F.IsAlwaysCallable f }
-        ensures items { self.new.items ≡ self.old.items }
-        ensures refused { PassesRefused (FnReturnsAt F.Fn f) self.old self.new }
-        ensures found { EndsAs (FnReturnsAt F.Fn f) self.old self.new result }
+    /// The item at the mark, or none where the mark is at the end.
+    #[inline(always)]
+    pub fn marked(&self) -> Option<&T>
+        ensures item { MatchOption result (self.now.mark ≡ length self.now.items)
+            (λ t. slice_get self.now.items self.now.mark ≡ Some t.now) }
+        ensures within { IfSome result (λ _. self.now.mark < length self.now.items) }
     {
-        while let Some(node_ref) = self.at {
-            let node = self.nodes.get(node_ref);
-            let Some(item) = &node.value else {
-                unreachable!();
-            };
-            match f(item) {
-                Ok(false) => {}
-                Ok(true) => {
-                    return Ok(Some(Spot {
-                        position: self.position,
-                    }));
-                }
-                Err(fault) => return Err(fault),
-            }
-            prove!(self.position < self.count);
-            self.at = node.next;
-            self.position += 1;
+        match self.at {
+            Some(node_ref) => self.nodes.get(node_ref).value.as_ref(),
+            None => None,
         }
-        Ok(None)
+    }
+
+    /// Moves the mark past the item at it.
+    #[inline(always)]
+    pub fn pass(&mut self)
+        requires { self.old.mark < length self.old.items }
+        ensures { self.new ≡ mail self.old.items (self.old.mark + 1) }
+    {
+        let Some(node_ref) = self.at else {
+            unreachable!();
+        };
+        prove!(self.position < self.count);
+        self.at = self.nodes.get(node_ref).next;
+        self.position += 1;
     }
 }
 
@@ -175,13 +154,12 @@ impl<T: Drop> MailList<T> {
 
     /// Takes the item at the mark out. Its node goes to the pool, or is freed where the pool is full.
     /// The mark keeps its position, which is that of the next item.
-    pub fn unlink(&mut self, pool: &mut Pool<T>, spot: Spot) -> T
-        requires { IsAtMark spot self.old }
+    pub fn take_marked(&mut self, pool: &mut Pool<T>) -> T
+        requires { self.old.mark < length self.old.items }
         ensures item { slice_get self.old.items self.old.mark ≡ Some result }
         ensures others { self.new ≡ mail (remove self.old.items self.old.mark) self.old.mark }
         ensures pooled { pool.new ≡ min 1024 (pool.old + 1) }
     {
-        prove!(spot.position == self.position);
         let mut node = self.cut_at_mark();
         let item = node.value.take();
         pool.put(node);

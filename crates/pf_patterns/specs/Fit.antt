@@ -3,7 +3,7 @@ use Rattle.std.specs.Prelude.{◌≡◌, Bool, if◌then◌else◌, List, [], �
 use Rattle.pf_terms.specs.Value.{Value, Values, tuple, list, none, more, same}
 use Rattle.pf_syntax.specs.Pattern.{Pattern, Patterns, any, new, slot, known, tuple_of, cons_of, never, no_patterns, pattern}
 
--- the values of the variables in scope: a finite map from places, counted from 0
+-- the values of the variables in scope: a finite map from slots, counted from 0
 abbrev pub Scope : Type 0
 Scope = List Value
 

@@ -1,4 +1,4 @@
--- Substitution: values in place of the first variables in scope; the places after them move down.
+-- Substitution: values in place of the first variables in scope; the slots after them move down.
 use Rattle.std.specs.Prelude.{ℕ, ◌-◌, length, Option, Some, None, slice_get}
 use Rattle.pf_terms.specs.Value.{Value}
 use Rattle.pf_syntax.specs.Pattern.{Pattern, Patterns, any, new, slot, known, tuple_of, cons_of, never, no_patterns, pattern}
@@ -28,7 +28,7 @@ abbrev mutual
   sub_patterns e no_patterns = no_patterns
   sub_patterns e (pattern p ps) = pattern (sub_pattern e p) (sub_patterns e ps)
 
--- a binder keeps what it binds: its places come after those that are replaced
+-- a binder keeps what it binds: its slots come after those that are replaced
 abbrev mutual
   pub sub : Scope → Tree → Tree
   sub e (lit v) = lit v

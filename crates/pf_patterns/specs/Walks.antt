@@ -29,7 +29,7 @@ cons_at w p q = cons_of (part_at w p) (part_at w q)
 abbrev pub all_of : Walk → Scope
 all_of w = bindings (part_at w w.pattern) (value_of w.value.now)
 
--- the variables in scope when so many are bound
+-- the variables in scope when n are bound
 abbrev pub scope_at : Walk → ℕ → Scope
 scope_at w n = scope_of w.scope.now ++ take n (all_of w)
 

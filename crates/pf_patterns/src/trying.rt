@@ -24,7 +24,7 @@ pub(crate) struct Walk<'a> {
     value: &'a Term,
 }
 
-/// Whether a part is the value of a slot in scope, where so many variables of the pattern are bound.
+/// Whether a part is the value of a slot in scope, where `bound` variables of the pattern are bound.
 fn fits_index(walk: &Walk, index: u32, value: Seen, bound: usize) -> bool
     ensures { spec.fit (variable index) (seen_value value.entry) (scope_at walk.now bound)
         ≡ spec.kept_if result (scope_at walk.now bound) }
@@ -55,7 +55,7 @@ fn is_literal(code: &Module, id: LiteralId, value: Seen) -> bool
     }
 }
 
-/// Whether a part fits, where so many variables of the whole pattern are bound: how many then are.
+/// Whether a part fits, where n variables of the whole pattern are bound: how many then are.
 #[cycle(walk)]
 fn fits_part(walk: &Walk, part: PatternId, value: Seen, bound: usize) -> Option<usize>
     requires { StandsAt walk.now bound (part_at walk.now part) (seen_value value) }

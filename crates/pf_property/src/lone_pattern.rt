@@ -52,7 +52,7 @@ fn tokens_of(alloc: Global, text: &[u8]) -> Result<Vec<Token>, OrNoMemory<Code>>
     }
 }
 
-/// What a pattern as it is written becomes.
+/// What a pattern of the surface syntax becomes.
 fn lowered(alloc: Global, read: &ReadPattern) -> Result<LonePattern, NoMemory>
     ensures { IfOk result (BecomesAlone (pattern_of read.now)) }
 {

@@ -27,7 +27,7 @@ abbrev pub step_count : Held → ℕ
 step_count (held.Module bytes) = 0
 step_count (held.Trial steps) = steps
 
--- the usage of a project that holds these things and has logged so many calls: the sums over the things
+-- the usage of a project that holds these things and has logged n calls: the sums over the things
 abbrev pub usage_of : List Held → ℕ → Usage
 usage_of things calls = record {
   modules = sum_by module_count things;

@@ -8,18 +8,18 @@ ghost use Rattle.pf_quota.specs.Charges.{steps_of_trial};
 pub enum Charge {
     /// One client call, which is logged. It is charged before what the call asks for.
     Call,
-    /// One module with so many bytes of source.
+    /// One module with n bytes of source.
     Module { bytes: u64 },
-    /// One trial with so many steps, as [`trial_steps`] counts them.
+    /// One trial with n steps, as [`trial_steps`] counts them.
     Trial { steps: u64 },
 }
 
 /// What a project holds, until it is given up.
 #[derive(Clone, Copy, Debug, PartialEq, Eq)]
 pub enum Held {
-    /// A module with so many bytes of source.
+    /// A module with n bytes of source.
     Module { bytes: u64 },
-    /// A trial with so many steps.
+    /// A trial with n steps.
     Trial { steps: u64 },
 }
 

@@ -59,7 +59,7 @@ others_as_many h (x ∷ hs) d =
 same_parameters : (h : Head) (hs : List Head) → unlike_faults (h ∷ hs) ≡ [] → All (AsMany h) (h ∷ hs)
 same_parameters h hs d = All-cons (AsMany h) h hs refl (others_as_many h hs d)
 
--- a function that is named so has so many parameters
+-- a function that is named so has that number of parameters
 module _ (atoms : List (List ℕ)) (m : Tree) (fs : Program) (all : Pairwise (FunctionIs (names_of atoms m.functions) m.exports) m.functions fs) where
   abbrev names : Names
   names = names_of atoms m.functions

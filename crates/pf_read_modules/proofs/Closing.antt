@@ -27,7 +27,7 @@ module _ (fs : Program) where
   ending_closed n no_patterns x h k = k
   ending_closed n (pattern y ys) x h k = (h, k)
 
-  -- names of functions stand for functions of so many arguments
+  -- names of functions stand for functions with that number of arguments
   pub record StandRight (n : Names) : Type 0 where
     pub own : (f k i : ℕ) → n.own_of f k ≡ Some i → HasArity fs i k
     pub built_in : (f k : ℕ) (b : Builtin) → n.builtin_of f k ≡ Some b → builtin_arity b ≡ k

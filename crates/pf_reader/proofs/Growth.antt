@@ -1,4 +1,4 @@
--- Sources that grow.
+-- Syntax trees that grow.
 use Rattle.std.proofs.Common.{◌≡◌, refl, ◌∙◌}
 use Rattle.pf_syntax.specs.SyntaxTree.{NodeTable, ExprArena}
 use Rattle.pf_syntax.specs.SyntaxTreeOver.{expr_pattern_over, with_expr_pattern, with_expr, with_node_table}

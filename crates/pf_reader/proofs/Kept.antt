@@ -1,4 +1,4 @@
--- What was read stands, and means the same, when the source has grown.
+-- What was read stands, and means the same, when the syntax tree has grown.
 use Rattle.std.proofs.Common.{◌≡◌, List, [], ◌∷◌, ◌++◌, refl, sym, subst}
 use Rattle.std.specs.Prelude.{map}
 use Rattle.std.specs.List.{All}

@@ -87,7 +87,7 @@ module _ (n : Names) where
 
   -- ---- a clause of a function
 
-  -- its parts are seen anew where their source has grown
+  -- its parts are seen anew where their tree has grown
   pub head_is : (ts r1 r2 r3 r4 r5 r6 : List NumberedToken) (a at : ℕ) (qs : List ExprPattern) (g again : Condition) (es : List Expr) (all_expr_patterns : ExprPatterns) (all_exprs : Exprs)
       → all_expr_patterns ≡ expr_patterns_of qs → again ≡ g → all_exprs ≡ exprs_of es
       → named n ts ≡ Some ((a, at), r1) → after (mark marks.OpenParenthesis) r1 ≡ Some r2 → until (mark marks.CloseParenthesis) (pattern n MOST_TREE_DEPTH) r2 ≡ Some (qs, r3) → when (parse_expr n true MOST_TREE_DEPTH top) r3 ≡ Some (g, r4)

@@ -31,9 +31,9 @@ abbrev pub Gives : {X Y : Type 0} → (X → Y) → Result X (OrNoMemory Syntax)
 Gives view (Ok x) read = read ≡ Some (view x)
 Gives view (Err e) read = Fails e read
 
--- ---- sources that are read into
+-- ---- syntax trees that are read into
 
--- a source that grew: its table of nodes goes on where it ended, and the rest is as it was
+-- a syntax tree that grew: its table of nodes goes on where it ended, and the rest is as it was
 pub record Grown (old new : ExprArena) : Type 0 where
   pub name : new.name ≡ old.name
   pub exports : new.exports ≡ old.exports

@@ -111,7 +111,7 @@ fn add_exports(source: &mut SyntaxTree, entries: &[Export]) -> Result<(), NoMemo
     Ok(())
 }
 
-/// Export forms as long as there are some, whose entries go into the source.
+/// Export forms as long as there are some, whose entries go into the syntax tree.
 pub(crate) fn read_exports<'a, 't>(
     alloc: Global,
     context: Context,

@@ -91,7 +91,7 @@ fn read_function<'a, 't>(
     Ok((ExprFunction { heads }, rest))
 }
 
-/// Functions up to the end, which go into the source.
+/// Functions up to the end, which go into the syntax tree.
 pub(crate) fn read_functions(
     alloc: Global,
     context: Context,

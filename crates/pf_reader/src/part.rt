@@ -1,4 +1,4 @@
-//! Parts that were read into a source, and what follows each of them.
+//! Parts that were read into a syntax tree, and what follows each of them.
 
 ghost use Rattle.std.specs.Prelude.{◌≡◌, if◌then◌else◌, IfOk, None, Some};
 ghost use Rattle.pf_syntax.specs.SyntaxTreeOver.{expr_over, expr_pattern_over, ExprPartsStand, ExprRepresents, ExprPatternPartsStand, ExprPatternRepresents};

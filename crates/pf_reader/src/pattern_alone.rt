@@ -21,7 +21,7 @@ use pf_terms::{AtomId, AtomTable};
 use pf_tokens::{Kind, Token};
 use std::alloc::Global;
 
-/// A pattern by itself, in a source of its own.
+/// A pattern by itself, in a syntax tree of its own.
 #[derive(Drop)]
 pub struct ReadPattern {
     pub source: SyntaxTree,

@@ -22,7 +22,7 @@ use pf_terms::{AtomId, AtomTable};
 use pf_tokens::{Mark, Token};
 use std::alloc::Global;
 
-/// A module as it is read: its source, and the names of its atoms by number.
+/// A module as it is read: its syntax tree, and the names of its atoms by number.
 #[derive(Drop)]
 pub struct ReadModule {
     pub source: SyntaxTree,

@@ -104,7 +104,7 @@ impl Context<'_> {
         }
     }
 
-    /// Whether a call of this name with so many arguments may stand, in a guard where the flag says so.
+    /// Whether a call of this name with this number of arguments may stand, in a guard where the flag says so.
     pub(crate) fn call_stands(self, guard: bool, name: AtomId, arity: usize) -> bool
         ensures { result ≡ call_stands (names_of self.entry) guard name.0 arity }
     {

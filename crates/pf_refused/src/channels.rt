@@ -32,7 +32,7 @@ fn drained(channels: &mut Channels) -> u32 {
     count
 }
 
-/// What a refused call comes to, where there were so many senders before.
+/// What a refused call comes to, where there were n senders before.
 fn looked_at(sent: &mut Sent, senders: usize) -> Answer {
     let same = sent.channels.senders() == senders;
     if drained(&mut sent.channels) == sent.count && same {

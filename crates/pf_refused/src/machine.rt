@@ -209,7 +209,7 @@ fn mail(alloc: Global) -> Result<PlainInbox, Answer> {
     Ok(PlainInbox { messages })
 }
 
-/// Looks at a machine that was refused, and at its inbox, which held so many messages.
+/// Looks at a machine that was refused, and at its inbox, which held n messages.
 fn looked_at(alloc: Global, machine: &mut Machine, inbox: &mut PlainInbox, held: usize) -> Answer
     requires { CanMove machine.old.standing }
 {

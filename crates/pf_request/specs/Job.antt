@@ -10,7 +10,7 @@ use Rattle.pf_model.specs.Properties.{Property}
 use Rattle.pf_request.specs.Module.{ReadModule}
 use Rattle.pf_request.specs.Request.{Request, choices_in, runs_in, is_within, may_weigh}
 
--- what is asked for of a module's code, with the source that the module was read from
+-- what is asked for of a module, with the source that the module was read from
 pub record Job : Type 0 where
   pub source : List ℕ
   pub asked : model.Job

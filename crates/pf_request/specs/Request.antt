@@ -4,12 +4,12 @@ use Rattle.pf_model.specs.Meaning.{Choices, seed, schedule, weighted_seed}
 use Rattle.pf_model.specs.Limits.{is_in_range}
 use Rattle.pf_shrink.specs.declared.hunt.TheConstants.{MOST_RUNS}
 
--- one run by choices, or the shrinking of a schedule within so many runs
+-- one run by choices, or the shrinking of a schedule within n runs
 pub data Kind : Type 0 where
   run : Choices → Kind
   shrink : (schedule : List ℕ) (runs : ℕ) → Kind
 
--- a run or a shrinking is asked for: from the function of this name, whether the property of these bytes holds, each run within so many steps
+-- a run or a shrinking is asked for: from the function of this name, whether the property of these bytes holds, each run within n steps
 pub record Request : Type 0 where
   pub root : List ℕ
   pub property : List ℕ
@@ -21,7 +21,7 @@ abbrev pub choices_in : Kind → Choices
 choices_in (run cs) = cs
 choices_in (shrink ns k) = schedule ns
 
--- how many runs are asked for: none of a run, so many of a shrinking
+-- how many runs are asked for: none of a run, n of a shrinking
 abbrev pub runs_in : Kind → ℕ
 runs_in (run cs) = zero
 runs_in (shrink ns k) = k

@@ -20,7 +20,7 @@ pub type ShortBytes = SmallVec<u8, 16>;
 pub enum Kind {
     /// One run, by these choices.
     Run(RunChoices),
-    /// The shrinking of a schedule within so many runs, of which its own is the first.
+    /// The shrinking of a schedule within n runs, of which its own is the first.
     Shrink { schedule: Arc<Vec<u32>>, runs: u32 },
 }
 
@@ -90,7 +90,7 @@ impl Kind {
 }
 
 /// What is asked for of a module: a run or a shrinking, from the function of this name, and whether the property of these bytes holds, each run
-/// within so many steps.
+/// within n steps.
 #[derive(Drop)]
 pub struct Request {
     pub root: ShortBytes,

@@ -14,7 +14,7 @@ Pairwise R [] [] = Unit {0}
 Pairwise R (a ∷ xs) (b ∷ ys) = R a b × Pairwise R xs ys
 Pairwise R _ _ = ⊥
 
--- whether a name with so many arguments is exported
+-- whether a name with this number of arguments is exported
 abbrev pub is_exported : List Export → ℕ → ℕ → Bool
 is_exported exports f arity = list_any (λ e. (e.name == f) && (e.arity == arity)) exports
 

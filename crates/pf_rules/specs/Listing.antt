@@ -6,7 +6,7 @@ use Rattle.pf_rules.specs.Checks.{is_exported}
 use Rattle.pf_rules.specs.Static.{own_in}
 use Rattle.pf_rules.specs.declared.signatures.Signatures.{Signatures}
 
--- whether a function of this name with so many arguments is kept
+-- whether a function of this name with this number of arguments is kept
 abbrev pub lists : Signatures → ℕ → ℕ → Bool
 lists o f arity = list_any (λ k. (f == k.name) && (arity == k.arity)) o.signatures.keys
 

@@ -31,7 +31,7 @@ abbrev pub is_named : ℕ → ℕ → List Head → Bool
 is_named f arity [] = false
 is_named f arity (h ∷ hs) = (h.name == f) && (parameters_of h.parameters == arity)
 
--- the first function of this name with so many arguments
+-- the first function of this name with this number of arguments
 abbrev pub own_in : List (List Head) → ℕ → ℕ → Option ℕ
 own_in fs f arity = position (is_named f arity) fs
 
@@ -62,7 +62,7 @@ abbrev mutual
 
 -- ---- expressions
 
--- whether a name with so many arguments can be called
+-- whether a name with this number of arguments can be called
 abbrev pub is_defined : Names → ℕ → ℕ → Bool
 is_defined n f arity = is_some (n.own_of f arity) || is_some (n.builtin_of f arity)
 

@@ -31,7 +31,7 @@ impl Signatures {
         }
     }
 
-    /// Whether a function of this name takes so many arguments.
+    /// Whether a function of this name takes this number of arguments.
     pub fn has(&self, name: AtomId, arity: u64) -> bool
         ensures { result ≡ lists self.now name.0 arity }
     {
@@ -41,7 +41,7 @@ impl Signatures {
         })
     }
 
-    /// Adds a function. It says whether none of this name takes so many arguments yet.
+    /// Adds a function. It says whether none of this name takes this number of arguments yet.
     pub fn add(&mut self, name: AtomId, arity: u64) -> Result<bool, NoMemory>
         ensures fresh { IfOk result (λ fresh. fresh ≡ not (lists self.old name.0 arity)) }
         ensures added { OnOk result ((f a : ℕ) → lists self.new f a ≡ (lists self.old f a || ((name.0 == f) && (arity == a)))) }

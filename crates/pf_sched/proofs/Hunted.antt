@@ -119,7 +119,7 @@ module _ (j : Job) where
         ∙ ap (tried hunt.fails (suc hunt.further)) same ∙ hunt.order)
         has
 
-    -- if the next run has more than so many events, so has the shrinking after those before it
+    -- if the next run has more than n events, so has the shrinking after those before it
     pub hunt_goes_past : (ns : List ℕ) → next_of h ≡ Some ns → (n : ℕ) → ((r : Report) → Means (by_schedule j ns) r → n < length r.events)
         → (m : ℕ) → HasEvents j m → before + n < m
     hunt_goes_past ns e n past m has =

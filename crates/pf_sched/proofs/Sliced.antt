@@ -48,7 +48,7 @@ goes_past : (j : Job) (r : code.Run) → IsRunOf j r → (IsOver j.asked.limit r
 goes_past j r run going _ (of_run report e h) = run_goes_past j j.asked.choices r run.1 going report h
 goes_past j r run going m (of_shrinking k ns fails _ e c tells has) = absurd (let no : j.asked.runs ≡ zero = run.0 in let some : j.asked.runs ≡ suc k = e in cc)
 
--- where so many events were made, a test of where the run stands says whether it is over
+-- where n events were made, a test of where the run stands says whether it is over
 pub ended : (limit before turns : ℕ) (r : code.Run) (c : Configuration) → r.system.standing ≡ Some c → length r.events.items ≡ before + turns → (over : Bool)
     → MatchBool over (Stops (limit - r.system.steps) c) (Stops (limit - r.system.steps) c → ⊥) → Advances before (length r.events.items) turns over (IsOver limit r)
 ended limit before turns r c stands count true stops = (omega arith, omega arith, (c, stands, stops))
@@ -61,7 +61,7 @@ advances_alike limit turns old new s t e f over went =
     subst (λ z. RunAdvances limit old (record new { system = z }) turns over) (sym f)
     (subst (λ z. RunAdvances limit (record old { system = z }) new turns over) e went)
 
--- if it isn't over the job goes on after so many events more, and has more than those
+-- if it isn't over the job goes on after n events more, and has more than those
 pub goes_on : (j : Job) (before turns limit : ℕ) (new : code.Run) → limit ≡ j.asked.limit → j.asked.runs ≡ zero → (over : Bool) → over ≡ false
     → IsRunBy j j.asked.choices new × Advances before (length new.events.items) turns over (IsOver limit new)
     → (length new.events.items ≡ before + turns) × GoesPast j (before + turns)
@@ -84,7 +84,7 @@ run_ends j k e run going over r told =
     let events : length (report_of r).events ≡ length r.events.items = length-map r.events.items event_of in
     (shrinking.plain (report_of r) going.0 h.0, (length (report_of r).events, of_run (report_of r) going.0 h.0, omega arith))
 
--- where it is over it has so many events at most
+-- where it is over it has n events at most
 pub is_over : (j : Job) (before turns limit : ℕ) (new : code.Run) → limit ≡ j.asked.limit → (over : Bool) → over ≡ true
     → IsRunBy j j.asked.choices new × Advances before (length new.events.items) turns over (IsOver limit new)
     → IsOver j.asked.limit new × (length new.events.items ≤ before + turns)
@@ -93,7 +93,7 @@ is_over j before turns limit new same over on went =
     subst (λ b. Advances before (length new.events.items) turns b (IsOver limit new)) on went.1 in
     (subst (λ n. IsOver n new) same a.2, a.1)
 
--- what ends by so many events ends by more
+-- what ends by n events ends by more
 pub ends_sooner : (j : Job) (n m : ℕ) (r : shrinking.Result) → n ≤ m → EndsBy j n r ⊎ (r ≡ without_memory) → EndsBy j m r ⊎ (r ≡ without_memory)
 ends_sooner j n m r h (inl e) = inl (e.0, (e.1.0, e.1.1, (let k = e.1.2 in omega arith)))
 ends_sooner j n m r h (inr e) = inr e

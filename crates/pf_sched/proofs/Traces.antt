@@ -26,7 +26,7 @@ use Rattle.pf_sched.proofs.Longer.{goes_on, pick_at}
 use Rattle.std.proofs.lemmas.Option.{same_Some}
 use Rattle.pf_system.proofs.Bodies.{map_more}
 
--- what stands at a place is among them
+-- what stands at an index is among them
 pub among : (xs : List Actor) (k : ℕ) (x : Actor) → slice_get xs k ≡ Some x → IsAmong x xs
 among [] k x e = absurd (cc)
 among (y ∷ xs) zero x e = ([], xs, ap (λ z. z ∷ xs) (same_Some y x e))

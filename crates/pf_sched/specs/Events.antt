@@ -4,13 +4,13 @@ use Rattle.pf_model.specs.Meaning.{Job, Report, Means, schedule}
 use Rattle.pf_model.specs.Shrinking.{by_schedule, TellsFailures}
 use Rattle.pf_shrink.specs.Tried.{tried}
 
--- the runs of a job by these schedules have so many events in all
+-- the runs of a job by these schedules have n events in all
 pub data RunsHave (j : Job) : List (List ℕ) → ℕ → Type 0 where
   no_runs : RunsHave j [] zero
   and_run : (ns : List ℕ) (nss : List (List ℕ)) (r : Report) (n : ℕ) → Means (by_schedule j ns) r → RunsHave j nss n
       → RunsHave j (ns ∷ nss) (length r.events + n)
 
--- a job has so many events; a shrinking those of the schedules that it tries
+-- a job has n events; a shrinking those of the schedules that it tries
 pub data HasEvents (j : Job) : ℕ → Type 0 where
   of_run : (r : Report) → j.runs ≡ zero → Means j r → HasEvents j (length r.events)
   of_shrinking : (k : ℕ) (ns : List ℕ) (fails : List ℕ → Bool) (n : ℕ) → j.runs ≡ suc k → j.choices ≡ schedule ns

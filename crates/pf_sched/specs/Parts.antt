@@ -27,7 +27,7 @@ IsRunOf j r = (j.asked.runs ≡ zero) × IsRunBy j j.asked.choices r
 -- ---- shrinkings
 
 -- the hunt of a shrinking was told true answers only: with them it comes to what the shrinking comes to, and the runs that were made,
--- with so many events in all, are those that the shrinking tries first
+-- with n events in all, are those that the shrinking tries first
 pub record IsHuntOf (j : meaning.Job) (h : Hunting) (before : ℕ) : Type 0 where
   pub further : ℕ
   pub given : List ℕ

@@ -20,15 +20,15 @@ use Rattle.pf_sched.specs.Events.{HasEvents}
 use Rattle.pf_sched.specs.Parts.{IsRunBy, IsShrinkingOf, events_so_far}
 use Rattle.pf_sched.specs.Traces.{Makes}
 
--- a job has more events than so many
+-- a job has more than n events
 abbrev pub GoesPast : Job → ℕ → Type 0
 GoesPast j n = (m : ℕ) → HasEvents j.asked m → n < m
 
--- a job comes to this, and has at most so many events
+-- a job comes to this, and has at most n events
 abbrev pub EndsBy : Job → ℕ → shrinking.Result → Type 0
 EndsBy j n r = IsResult j.asked r × ((m : ℕ) × HasEvents j.asked m × (m ≤ n))
 
--- a slice of so many turns: the job goes on after so many events more, if it has more than those; else it is over, with what it comes
+-- a slice of n turns: the job goes on after n events more, if it has more than those; else it is over, with what it comes
 -- to, or memory ran out
 abbrev pub Sliced : ParkedView → (turns : ℕ) → Slice → Type 0
 Sliced p turns (More q) = (q ≡ view_of_parked p.job (p.at + turns)) × GoesPast p.job (p.at + turns)
@@ -36,7 +36,7 @@ Sliced p turns (Done f) = (f.job ≡ p.job) × (EndsBy p.job (p.at + turns) f.re
 
 -- ---- within a slice
 
--- from where a run stands it goes on by so many events, and isn't over; or it is over, after so many more at most
+-- from where a run stands it goes on by n events, and isn't over; or it is over, after n more at most
 abbrev pub Advances : (before after turns : ℕ) → (over : Bool) → (stops : Type 0) → Type 0
 Advances before after turns true stops = (before ≤ after) × (after ≤ before + turns) × stops
 Advances before after turns false stops = (after ≡ before + turns) × (stops → ⊥)
@@ -65,7 +65,7 @@ abbrev pub TellsFound : meaning.Job → Option Found → shrinking.Result → Ty
 TellsFound j None r = r ≡ nothing_fails
 TellsFound j (Some f) r = (report : Report) × Means (by_schedule j f.schedule) report × (r ≡ shrunk_to f report)
 
--- a shrinking goes on at so many events, if it has more than those; or it is over, after so many at most
+-- a shrinking goes on at n events, if it has more than those; or it is over, after n at most
 abbrev pub GoesOn : Job → (at : ℕ) → Advance → Type 0
 GoesOn j n (advance.More s) = IsShrinkingOf j s × (events_so_far s ≡ n) × GoesPast j n
 GoesOn j n (advance.Over r) = EndsBy j n (result_of r)
@@ -76,7 +76,7 @@ runs_left (begins k ns) = suc k
 runs_left (searches k ns c cs) = suc k
 runs_left (ended f) = zero
 
--- the next run of a shrinking begins after so many events, as one of so many at most; or it is over, with so many events in all
+-- the next run of a shrinking begins after n events, as one of m at most; or it is over, with n events in all
 abbrev pub Follows : Job → (at runs : ℕ) → Advance → Type 0
 Follows j n k (advance.More s) = IsShrinkingOf j s × (events_so_far s ≡ n) × (runs_left s.hunt ≤ k)
 Follows j n k (advance.Over r) = EndsBy j n (result_of r)

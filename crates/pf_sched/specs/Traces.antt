@@ -29,7 +29,7 @@ ready_in c = length (numbers_of can_go zero c.core.processes)
 abbrev pub heads_in : Configuration → ℕ
 heads_in c = length (heads c.channels)
 
--- of the actors that may go the one that the next word chooses went, within so many steps, and the event tells so
+-- of the actors that may go the one that the next word chooses went, within n steps, and the event tells so
 pub record Went (left : ℕ) (c : Configuration) (s : SystemView) (q : Choices Lcg) (e : Event) (s' : SystemView) (q' : Choices Lcg) : Type 0 where
   pub used : ℕ
   pub counts : e.count ≡ length (enabled c)

@@ -27,7 +27,7 @@ code_of refusal.NoProperty = code.NoProperty
 code_of refusal.OutOfRange = code.OutOfRange
 code_of refusal.WeightsOutOfRange = code.WeightsOutOfRange
 
--- a job that is parked: its run, or all runs of a shrinking one after another, after so many events
+-- a job that is parked: its run, or all runs of a shrinking one after another, after n events
 pub record ParkedView : Type 0 where
   pub job : Job
   pub at : ℕ

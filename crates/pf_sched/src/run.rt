@@ -106,7 +106,7 @@ impl Run {
         })
     }
 
-    /// Goes on by so many events, or fewer if the run is over before; whether it is over then.
+    /// Goes on by n events, or fewer if the run is over before; whether it is over then.
     fn advance(&mut self, alloc: Global, limit: u32, turns: u32) -> Result<bool, NoMemory>
         ensures { IfOk result (RunAdvances limit self.old self.new turns) }
     {

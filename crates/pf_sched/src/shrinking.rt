@@ -88,7 +88,7 @@ fn tell(hunt: &mut Hunt, kept: Option<Report>, ended: Report) -> Option<Report>
     if fails { Some(ended) } else { kept }
 }
 
-/// The run of a hunt's next schedule, or what the hunt came to, after so many events.
+/// The run of a hunt's next schedule, or what the hunt came to, after n events.
 fn begin(
     alloc: Global,
     job: &Job,
@@ -114,7 +114,7 @@ fn begin(
 }
 
 impl Shrinking {
-    /// The shrinking of a schedule within so many runs, before its first event.
+    /// The shrinking of a schedule within n runs, before its first event.
     pub fn new(alloc: Global, job: &Job, schedule: &[u32], runs: u32) -> Result<Shrinking, NoMemory>
         requires runs { 0 < runs }
         requires job_runs { job.now.asked.runs ≡ runs }
@@ -132,7 +132,7 @@ impl Shrinking {
         })
     }
 
-    /// Goes on with the run by so many events, or fewer if the run is over before; whether it is over then.
+    /// Goes on with the run by n events, or fewer if the run is over before; whether it is over then.
     fn go(
         &mut self,
         alloc: Global,
@@ -167,7 +167,7 @@ impl Shrinking {
         begin(alloc, job, hunt, kept, after, further)
     }
 
-    /// Goes on by so many events, over as many runs as they take. It goes on if the shrinking has more; else it is over, with what the job
+    /// Goes on by n events, over as many runs as they take. It goes on if the shrinking has more; else it is over, with what the job
     /// comes to.
     pub fn advance(
         self,

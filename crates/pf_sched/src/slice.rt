@@ -88,7 +88,7 @@ fn slice_of_shrinking(
     }
 }
 
-/// Goes on with a job by so many events at most, over as many runs as they take. It goes on if the job has more; else it is over, with what
+/// Goes on with a job by n events at most, over as many runs as they take. It goes on if the job has more; else it is over, with what
 /// the job comes to. If a growth is refused it is over too, and its result is that memory ran out. What stands in the scratch makes no
 /// difference.
 pub fn run_slice(alloc: Global, parked: Parked, scratch: &mut Scratch, turns: u32) -> Slice

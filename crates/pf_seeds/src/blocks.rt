@@ -16,7 +16,7 @@ use std::thread::Threads;
 /// How many seeds of a block each worker has at most.
 const MOST: u64 = 2_048;
 
-/// Where a block ends that begins here, in which each worker has so many seeds.
+/// Where a block ends that begins here, in which each worker has `each` seeds.
 fn block_end(from: u64, end: u64, each: u64, workers: u64) -> u64
     requires { from < end }
     ensures { (from < result) × (result ≤ end) }
@@ -30,7 +30,7 @@ fn grown(each: u64) -> u64 {
     each.saturating_mul(2).min(MOST)
 }
 
-/// The least seed from a first to before an end whose run fails, by so many workers. The observer is told how far it came.
+/// The least seed from a first to before an end whose run fails, by the given number of workers. The observer is told how far it came.
 pub fn first_failing<R: Threads + Sync>(
     rt: &R,
     alloc: Global,
@@ -57,7 +57,7 @@ pub fn first_failing<R: Threads + Sync>(
     Ok(None)
 }
 
-/// The rows of the runs by the seeds from a first to before an end, by so many workers. The observer is told how far it came.
+/// The rows of the runs by the seeds from a first to before an end, by the given number of workers. The observer is told how far it came.
 pub fn tally_all<R: Threads + Sync>(
     rt: &R,
     alloc: Global,

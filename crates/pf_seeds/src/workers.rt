@@ -23,7 +23,7 @@ fn edge(from: u64, end: u64, first: u64, workers: u64) -> u64
     from + part.min(count)
 }
 
-/// The least seed from a first to before an end whose run fails, by so many workers.
+/// The least seed from a first to before an end whose run fails, by the given number of workers.
 #[cycle(first)]
 pub fn first_of_block<R: Threads + Sync>(
     rt: &R,
@@ -56,7 +56,7 @@ pub fn first_of_block<R: Threads + Sync>(
     }
 }
 
-/// The rows of the runs by the seeds from a first to before an end, by so many workers.
+/// The rows of the runs by the seeds from a first to before an end, by the given number of workers.
 #[cycle(tallied)]
 pub fn tally_of_block<R: Threads + Sync>(
     rt: &R,

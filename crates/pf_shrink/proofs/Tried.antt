@@ -62,7 +62,7 @@ module _ (fails : List ℕ → Bool) where
   all_tried zero ns h = absurd (omega arith)
   all_tried (suc k) ns h = let e : suc k - 1 ≡ k = omega arith in ap (λ n. tried fails (suc n) ns) e
 
--- within so many runs
+-- within n runs
 pub tried_within_runs : (fails : List ℕ → Bool) (runs : ℕ) (ns : List ℕ) → length (tried fails runs ns) ≤ runs
 tried_within_runs fails runs ns = few fails runs ns
 

@@ -3,14 +3,14 @@ use Rattle.std.specs.Prelude.{◌≡◌, ℕ, zero, suc, Bool, true, false, if�
 use Rattle.pf_model.specs.Shrinking.{candidates, Found, found, search, shrunk}
 use Rattle.pf_model.specs.Laws.{IsSmaller}
 
--- a hunt, with so many runs behind that of the next schedule: before the run of the given schedule; within a search from a
+-- a hunt, with n runs after that of the next schedule: before the run of the given schedule; within a search from a
 -- schedule that fails, before the run of a candidate, with others left behind it; or at its end, with what it found
 pub data Hunting : Type 0 where
   begins : (further : ℕ) (schedule : List ℕ) → Hunting
   searches : (further : ℕ) (schedule candidate : List ℕ) (others : List (List ℕ)) → Hunting
   ended : Option Found → Hunting
 
--- a search from a schedule that fails, with these candidates of it left and so many runs
+-- a search from a schedule that fails, with these candidates of it left and n runs
 abbrev pub searching : (runs : ℕ) (schedule : List ℕ) (left : List (List ℕ)) → Hunting
 searching k ns [] = ended (Some (found ns true))
 searching zero ns (c ∷ cs) = ended (Some (found ns false))

@@ -6,7 +6,7 @@ use Rattle.pf_shrink.specs.Rounds.{Round, AreSmaller}
 use Rattle.pf_shrink.specs.declared.hunt.Phase.{Phase}
 use Rattle.pf_shrink.specs.declared.hunt.Phase.TheVariants.{Given, Search, Partial, Nothing}
 
--- the hunt, with so many runs left
+-- the hunt, with n runs left
 abbrev pub standing : (runs : ℕ) → Phase → Round → Hunting
 standing zero Given r = ended None
 standing (suc k) Given r = begins k r.schedule

@@ -24,7 +24,7 @@ enum Phase {
     Nothing,
 }
 
-/// The search for a small schedule that fails, within so many runs. It runs nothing: it gives the schedule
+/// The search for a small schedule that fails, within n runs. It runs nothing: it gives the schedule
 /// that is to be run next, and is told whether it fails.
 #[derive(Drop)]
 pub struct Hunt {
@@ -46,7 +46,7 @@ impl Model for Hunt {
 }
 
 impl Hunt {
-    /// The hunt from this schedule, within so many runs. The run of the schedule is the first of them.
+    /// The hunt from this schedule, within n runs. The run of the schedule is the first of them.
     pub fn new(schedule: Vec<u32>, runs: u32) -> Hunt
         requires { 0 < runs }
         ensures begins { result ≡ begins (runs - 1) schedule.items }

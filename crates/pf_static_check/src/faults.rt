@@ -1,4 +1,4 @@
-//! The first static fault of a module as it is written.
+//! The first static fault of a module, by its syntax tree.
 
 ghost use Rattle.std.specs.Prelude.{◌≡◌, flat_map, List, [], ◌∷◌, IfNone, IfOk, IfSome, OnOk};
 ghost use Rattle.pf_syntax.specs.SyntaxTree.{NodeTable, Head as HeadTree};

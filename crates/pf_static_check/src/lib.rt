@@ -1,4 +1,4 @@
-//! The first static fault of a module as it is written.
+//! The first static fault of a module, by its syntax tree.
 #![tactic(auto)]
 
 mod faults;

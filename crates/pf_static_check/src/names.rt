@@ -8,14 +8,14 @@ use pf_builtins::builtin_named;
 use pf_rules::Signatures;
 use pf_terms::{AtomId, AtomTable};
 
-/// Whether a built-in function of this name takes so many arguments.
+/// Whether a built-in function of this name takes this number of arguments.
 pub(crate) fn is_builtin(atoms: &AtomTable, name: AtomId, arity: u64) -> bool
     ensures { result ≡ is_built_in atoms.now name.0 arity }
 {
     builtin_named(atoms.name(name), arity).is_some()
 }
 
-/// Whether a function of this name with so many arguments can be called: one that is listed, or a built-in one.
+/// Whether a function of this name with this number of arguments can be called: one that is listed, or a built-in one.
 pub(crate) fn is_defined(atoms: &AtomTable, own: &Signatures, name: AtomId, arity: u64) -> bool
     ensures { result ≡ (lists own.now name.0 arity || is_built_in atoms.now name.0 arity) }
 {

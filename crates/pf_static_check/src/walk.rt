@@ -258,7 +258,7 @@ impl Walk {
         self.first.note(Code::Unbound, offset);
     }
 
-    /// The name of a call with so many arguments.
+    /// The name of a call with this number of arguments.
     fn call(&mut self, atoms: &AtomTable, own: &Signatures, word: Ident, arity: usize)
         ensures { CallWalked atoms.now own.now self.old self.new word.name.0 word.offset arity }
     {

@@ -13,7 +13,7 @@ pub data Standing : Type 0 where
   asking : List Frame → Standing
   over : Standing
 
--- a machine: its pid, the code that it runs, and how it stands
+-- a machine: its pid, the module that it runs, and how it stands
 pub record MachineView : Type 0 where
   pub own : ℕ
   pub code : Module

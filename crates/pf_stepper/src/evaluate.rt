@@ -167,7 +167,7 @@ impl Stack {
         }
     }
 
-    /// The index of a left operand that can be read after the right one: the left one is a variable in scope,
+    /// The slot of a left operand that can be read after the right one: the left one is a variable in scope,
     /// and the right one a node.
     #[inline(always)]
     fn left_in_scope(&self, left: Operand, right: Operand) -> Option<u32>

@@ -59,7 +59,7 @@ pub(crate) enum Focus {
     /// An expression of the activation.
     Eval(Operand),
     Value(Term),
-    /// A call whose arguments are the last operands, so many.
+    /// A call whose arguments are the last n operands.
     Enter(Callee, usize),
     /// A raise of this reason.
     Raised(Term),

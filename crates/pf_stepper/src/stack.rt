@@ -24,7 +24,7 @@ pub(crate) struct Stack {
     pub(crate) base: usize,
 }
 
-/// Takes off what comes after the first so many.
+/// Takes off what comes after the first n.
 #[inline(always)]
 pub(crate) fn cut(values: &mut Vec<Term>, end: usize)
     ensures { values.new.items ≡ take end values.old.items }
@@ -98,7 +98,7 @@ impl Stack {
         Ok(())
     }
 
-    /// The operands after the first so many become the newest slots.
+    /// The operands after the first n become the newest slots.
     #[inline(always)]
     pub(crate) fn move_operands(&mut self, from: usize) -> Result<(), NoMemory>
         requires { from ≤ length self.old.operands.items }

@@ -110,9 +110,9 @@ nobody_holds es q e = holders_counted es q ∙ by (lookup (bytes_eq q) es) e
     by None e' = refl
     by (Some h) e' = absurd (true≢false e')
 
--- ---- places
+-- ---- indices
 
--- what stands at a source's index stands there under the source
+-- what is held at the index of a source is held under that source
 pub entry_at : (es : Modules) (q : List ℕ) (i : ℕ) (h : Held) → position (bytes_eq q) (keys_of es) ≡ Some i → slice_get (values_of es) i ≡ Some h
     → slice_get es i ≡ Some (q, h)
 entry_at es q i h offset value = by (slice_get es i) refl

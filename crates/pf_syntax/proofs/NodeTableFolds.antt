@@ -118,7 +118,7 @@ expr_formed b (d ∷ es) (suc k) e a h =
 pub expr_pattern_alike : (b c : NodeTable) (e : ExprPatternEntry) → b.expr_patterns ≡ c.expr_patterns → expr_pattern_over b e.node ≡ expr_pattern_over c e.node
 expr_pattern_alike b c e h = ap (λ (qs : List ExprPattern). let d : NodeTable = record { expr_patterns = qs; exprs = b.exprs } in expr_pattern_over d e.node) h
 
--- of the fields of a source
+-- of the fields of a syntax tree
 pub expr_pattern_of_entry : (a : Inside) → Sound a → (k : ℕ) (e : ExprPatternEntry) → slice_get a.expr_patterns.items k ≡ Some e → ExprPatternFormed (node_table_of a) k e
 expr_pattern_of_entry a s k e h =
     let left = exprs_leave (expr_patterns_of a) a.exprs.items in

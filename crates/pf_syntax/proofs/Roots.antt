@@ -14,7 +14,7 @@ use Rattle.pf_syntax.specs.Tree.{Function, Program}
 use Rattle.pf_syntax.specs.Module.{first_named}
 use Rattle.pf_syntax.specs.Root.{root_of, root_at, exported_at, exported_of}
 
--- where no name is this one, none stands at a slot
+-- where nothing passes, nothing stands at an index
 none_any : {X : Type 0} (p : X → Bool) (xs : List X) → list_any p xs ≡ false → position_or_len p xs ≡ length xs
 none_any p [] h = refl
 none_any p (x ∷ xs) h = grind (arith, common_steps, none_any p xs)

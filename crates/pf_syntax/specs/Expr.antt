@@ -1,4 +1,4 @@
--- Expressions and modules as they are written, before the static rules.
+-- Expressions of the surface syntax, before the static rules.
 use Rattle.std.specs.Prelude.{ℕ, ◌+◌, max, ℤ, List}
 use Rattle.pf_syntax.specs.Tree.{Operator}
 use Rattle.pf_syntax.specs.ExprPattern.{ExprPattern, expr_pattern_size, expr_pattern_depth}

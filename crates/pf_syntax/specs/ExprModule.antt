@@ -1,4 +1,4 @@
--- A module as it is written, without its table of nodes.
+-- A module of the surface syntax, without its table of nodes.
 use Rattle.std.specs.Prelude.{ℕ, List}
 use Rattle.pf_syntax.specs.Expr.{Condition, no_exprs, no_tests, tests}
 use Rattle.pf_syntax.specs.SyntaxTree.{Export, Head, ExprArena}
@@ -9,7 +9,7 @@ pub record Tree : Type 0 where
   pub exports : List Export
   pub functions : List (List Head)
 
--- what is told of a source
+-- what is told of a syntax tree
 abbrev pub tree_of : ExprArena → Tree
 tree_of w = record { name = w.name; exports = w.exports; functions = w.functions }
 

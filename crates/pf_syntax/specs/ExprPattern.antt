@@ -1,4 +1,4 @@
--- Patterns as they are written, before the static rules.
+-- Patterns of the surface syntax, before the static rules.
 use Rattle.std.specs.Prelude.{ℕ, ◌+◌, max, ℤ, List}
 
 mutual

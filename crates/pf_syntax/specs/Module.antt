@@ -34,11 +34,11 @@ pattern_at t i = slice_index_or t.patterns i any
 abbrev pub tree_at : Tables → ℕ → Tree
 tree_at t i = slice_index_or t.trees i (lit (list none))
 
--- whether a function has this name and takes so many arguments
+-- whether a function has this name and takes this number of arguments
 abbrev pub is_named : ℕ → ℕ → Function → Bool
 is_named name arity f = (f.name == name) && (f.arity == arity)
 
--- the number of the first function of this name and so many arguments
+-- the number of the first function of this name and number of arguments
 abbrev pub first_named : ℕ → ℕ → Program → Option ℕ
 first_named name arity fs = position (is_named name arity) fs
 

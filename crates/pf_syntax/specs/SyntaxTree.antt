@@ -1,4 +1,4 @@
--- A module as it is written, as contracts see it.
+-- The syntax tree of a module, as contracts see it.
 use Rattle.std.specs.Prelude.{ℕ, List, [], slice_index_or}
 use Rattle.pf_syntax.specs.ExprPattern.{ExprPattern, ExprPatterns, anything}
 use Rattle.pf_syntax.specs.Expr.{Expr, Exprs, Condition, list, no_exprs}

@@ -1,4 +1,4 @@
--- What the nodes of a source stand for, over its table of nodes, and that their parts stand in it.
+-- What the nodes of a syntax tree stand for, over its table of nodes, and that their parts stand in it.
 use Rattle.std.specs.Prelude.{ℕ, ◌+◌, ◌<◌, List, [], ◌∷◌, ◌++◌, length, map, max}
 use Rattle.std.specs.List.{All}
 use Rattle.pf_syntax.specs.ExprPattern.{ExprPattern, ExprPatterns, no_expr_patterns, expr_pattern, expr_pattern_size, expr_pattern_depth}

@@ -1,4 +1,4 @@
--- What the fields of a source stand for, and what is true of them.
+-- What the fields of a syntax tree stand for, and what is true of them.
 use Rattle.std.specs.Prelude.{[], map, fold}
 use Rattle.std.specs.List.{All}
 use Rattle.pf_syntax.specs.ExprPattern.{expr_pattern_size, expr_pattern_depth}

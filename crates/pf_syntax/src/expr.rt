@@ -1,14 +1,14 @@
-//! The nodes of a module as it is written: patterns and expressions whose parts are named by numbers. The names of atoms
-//! and functions are numbers too, of the table of atoms that stands beside the source; those of variables are numbers of another.
+//! The nodes of the surface syntax: patterns and expressions whose parts are named by numbers. The names of atoms and functions
+//! are numbers too, of the table of atoms that stands beside the syntax tree; those of variables are numbers of another.
 
 use crate::operator::Operator;
 use pf_terms::AtomId;
 
-/// A pattern as it is written, by its number in a source.
+/// A pattern of the surface syntax, by its number in a syntax tree.
 #[derive(Clone, Copy, PartialEq, Eq, Debug)]
 pub struct ExprPatternId(pub u32);
 
-/// An expression as it is written, by its number in a source.
+/// An expression of the surface syntax, by its number in a syntax tree.
 #[derive(Clone, Copy, PartialEq, Eq, Debug)]
 pub struct ExprId(pub u32);
 
@@ -19,7 +19,7 @@ pub struct Ident {
     pub offset: u32,
 }
 
-/// A pattern as it is written (Erlang Reference Manual, "Patterns").
+/// A pattern of the surface syntax (Erlang Reference Manual, "Patterns").
 #[derive(Drop)]
 pub enum ExprPatternNode {
     /// An integer with its sign, which is no level of its own.
@@ -37,7 +37,7 @@ pub enum ExprPatternNode {
     ListOn(Vec<ExprPatternId>, ExprPatternId),
 }
 
-/// An expression as it is written (Erlang Reference Manual, "Expressions").
+/// An expression of the surface syntax (Erlang Reference Manual, "Expressions").
 #[derive(Drop)]
 pub enum ExprNode {
     Integer(i64),
@@ -72,19 +72,19 @@ pub enum ExprNode {
     Receive(Vec<Branch>),
 }
 
-/// An alternative of a guard, as it is written.
+/// An alternative of a guard of the surface syntax.
 #[derive(Drop)]
 pub struct Tests {
     pub tests: Vec<ExprId>,
 }
 
-/// A guard as it is written. With no `when` it is one alternative with no test.
+/// A guard of the surface syntax. With no `when` it is one alternative with no test.
 #[derive(Drop)]
 pub struct Condition {
     pub alternatives: Vec<Tests>,
 }
 
-/// A clause of a `case`, an `if` or a `receive`, as it is written.
+/// A clause of a `case`, an `if` or a `receive` of the surface syntax.
 #[derive(Drop)]
 pub struct Branch {
     pub expr_pattern: ExprPatternId,
@@ -92,7 +92,7 @@ pub struct Branch {
     pub body: Vec<ExprId>,
 }
 
-/// A clause of a function, as it is written.
+/// A clause of a function of the surface syntax.
 #[derive(Drop)]
 pub struct Head {
     pub word: Ident,
@@ -101,7 +101,7 @@ pub struct Head {
     pub body: Vec<ExprId>,
 }
 
-/// A function as it is written: its clauses, each with a head of its own.
+/// A function of the surface syntax: its clauses, each with a head of its own.
 #[derive(Drop)]
 pub struct ExprFunction {
     pub heads: Vec<Head>,

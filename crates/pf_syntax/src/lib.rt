@@ -1,4 +1,4 @@
-//! The trees of the language, as arenas of nodes: modules as they are written, and checked modules.
+//! The trees of the language, as arenas of nodes: the surface syntax of modules, and checked modules.
 #![tactic(auto)]
 
 mod expr;

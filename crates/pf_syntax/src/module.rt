@@ -43,7 +43,7 @@ impl Model for Module {
     ghost invariant = { Sound };
 }
 
-/// The index of the first function of this name that takes so many arguments.
+/// The index of the first function of this name that takes this number of arguments.
 fn index_of(functions: &[Function], name: AtomId, arity: u32) -> Option<usize>
     ensures { result ≡ position (λ f. (f.name.0 == name.0) && (f.arity == arity)) functions.now }
 {
@@ -170,7 +170,7 @@ impl Module {
         entry(&self.functions, id.0)
     }
 
-    /// The first function of this name that takes so many arguments.
+    /// The first function of this name that takes this number of arguments.
     pub fn find(&self, name: AtomId, arity: u32) -> Option<FunctionId>
         ensures { MatchOption result (first_named name.0 arity self.now.functions ≡ None) (λ f. first_named name.0 arity self.now.functions ≡ Some f.0) }
     {

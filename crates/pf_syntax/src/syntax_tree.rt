@@ -1,4 +1,4 @@
-//! A module as it is written: an arena in which each node stands after its parts, with its size and its depth.
+//! The syntax tree of a module: an arena in which each node stands after its parts, with its size and its depth.
 
 ghost use Rattle.std.specs.Prelude.{◌≡◌, ◌≤◌, length, map, IfNone, IfOk, MatchOption, OnErr, OnOk};
 ghost use Rattle.pf_syntax.specs.ExprPattern.{anything, expr_pattern_depth, expr_pattern_size};
@@ -28,7 +28,7 @@ struct ExprEntry {
     measure: Measure,
 }
 
-/// A module as it is written. What is added to it stands after its parts, and nothing is ever taken out or changed.
+/// The syntax tree of a module. What is added to it stands after its parts, and nothing is ever taken out or changed.
 #[derive(Drop)]
 pub struct SyntaxTree {
     name: AtomId,

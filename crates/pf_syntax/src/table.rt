@@ -4,7 +4,7 @@ ghost use Rattle.std.specs.Prelude.{◌≡◌, IfOk, MatchOption, None, slice_ge
 
 use pf_terms::NoMemory;
 
-/// The number of the next entry of a table with so many.
+/// The number of the next entry of a table with n entries.
 pub(crate) fn next_id(len: usize) -> Result<u32, NoMemory>
     ensures { IfOk result (λ n. n ≡ len) }
 {

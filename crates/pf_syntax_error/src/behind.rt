@@ -78,7 +78,7 @@ impl Walk<'_> {
         self.behind_last(kind, last, true)
     }
 
-    /// Behind an argument, before which so many were read; in a guard there are so many in all.
+    /// Behind an argument, before which `read` were read; in a guard there are `arity` in all.
     fn behind_argument(
         &mut self,
         kind: NumberedKind<'_>,

@@ -27,7 +27,7 @@ use Rattle.pf_system.specs.Processes.{Represents, IsShaped, Done, Shown, Deliver
 use Rattle.pf_system.specs.declared.processes.Processes.{Processes}
 use Rattle.pf_system.proofs.Bodies.{set_length, set_twice}
 use Rattle.pf_system.proofs.Rows.{sent_length}
-use Rattle.pf_system.proofs.Processes.{slots_length, ties_length_in}
+use Rattle.pf_system.proofs.Changed.{slots_length, ties_length_in}
 use Rattle.pf_system.proofs.Shown.{done_so, rows_more, tied}
 
 -- ---- one process and its ties

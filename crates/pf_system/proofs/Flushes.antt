@@ -25,7 +25,7 @@ use Rattle.pf_system.proofs.Delivering.{at_set}
 use Rattle.pf_system.proofs.Ready.{numbers_kept}
 use Rattle.pf_system.proofs.Rows.{posted_length}
 use Rattle.pf_system.proofs.Settling.{Keeps, acted_in, between, but_there, demonitor_keeps, one_body, posted_rows, raised_in, same_size, slot_is}
-use Rattle.pf_system.proofs.Processes.{get_set, get_within}
+use Rattle.pf_system.proofs.Changed.{get_set, get_within}
 
 -- a message more or less is taken out of the slot of a process, and of the process
 flush_stands : (n k : ℕ) (d : Core) (w w' : Processes) (s' : Slot) → w'.slots.items ≡ slice_set w.slots.items n s' → w'.shared ≡ w.shared → w'.ready ≡ w.ready

@@ -1,6 +1,6 @@
 pub mod Bodies
 pub mod Ready
-pub mod Processes
+pub mod Changed
 pub mod Turning
 pub mod Rows
 pub mod Placing

@@ -1,4 +1,4 @@
--- A delivery of a world, as a transition.
+-- A delivery, as a transition.
 use Rattle.std.proofs.Common.{◌≡◌, ℕ, zero, ◌+◌, ◌≤◌, Bool, true, false, Option, Some, None, refl, sym, ap, ◌∙◌, subst, arith, length}
 use Rattle.pf_model.specs.Module.{Module, module_of}
 use Rattle.pf_model.specs.Channels.{Channels}
@@ -13,7 +13,7 @@ use Rattle.pf_system.specs.Steps.{IsValid, RunsModule, PassesTo, unless_spent, v
 use Rattle.pf_system.specs.Processes.{Represents, Delivered, core_of, configuration_of}
 use Rattle.pf_system.specs.declared.processes.Processes.{Processes}
 use Rattle.pf_system.specs.declared.system.System.TheInside.{Inside}
-use Rattle.pf_system.proofs.Processes.{again}
+use Rattle.pf_system.proofs.Changed.{again}
 use Rattle.pf_system.proofs.Ready.{numbers_few}
 
 abbrev pub both : Core → Channels → Configuration
@@ -40,11 +40,11 @@ ready_few s v c e valid stands = by s.spent refl
         omega (arith, numbers_few can_go zero (core_of s.processes).processes, w.room.few) in
         subst (λ z. length z ≤ MOST_PROCESSES) (sym w.ready) few
 
--- a world that stands for a core stands for its own
+-- processes that represent a core represent their own
 pub stands_itself : (w : Processes) (c : Core) → Represents w c → Represents w (core_of w)
 stands_itself w c h = subst (Represents w) (sym (again w c h)) h
 
--- the world of a system is kept where the code of another stays
+-- what a system needs is true after a change that leaves module and limit as they were
 pub kept_after : (m : Module) (w w' : Processes) (c : Core) → RunsModule m w → Represents w' c → w'.basis ≡ w.basis → RunsModule m w'
 kept_after m w w' c h s e = record { stands = stands_itself w' c s; code = ap (λ z. module_of z.module.value) e ∙ h.code }
 

@@ -1,4 +1,4 @@
--- A message that comes to a process of a world.
+-- A message that comes to a process.
 use Rattle.std.proofs.Common.{◌≡◌, ℕ, zero, ◌+◌, ◌<◌, Bool, true, false, Some, if◌then◌else◌, refl, sym, ap, ◌∙◌, subst, arith, length, slice_set, slice_get}
 use Rattle.pf_terms.specs.Value.{Value}
 use Rattle.pf_model.specs.Module.{Module}
@@ -15,7 +15,7 @@ use Rattle.pf_system.specs.declared.slot.Slot.{Slot}
 use Rattle.pf_system.specs.declared.processes.Processes.{Processes}
 use Rattle.pf_system.specs.Placed.{Places}
 use Rattle.pf_system.proofs.Ready.{numbers_kept}
-use Rattle.pf_system.proofs.Processes.{get_within, sound_at, sound_set, body_at, slots_length, put_back, goes_now}
+use Rattle.pf_system.proofs.Changed.{get_within, sound_at, sound_set, body_at, slots_length, put_back, goes_now}
 
 pub stands_but : (w : Processes) (c : Core) (a : ℕ) → Represents w c → a < length w.slots.items → RepresentsBut w c a
 stands_but w c a h l =

@@ -58,7 +58,7 @@ module _ (w w' : Processes) (c : Core) (a b : ℕ) (s reply : Program) (h : Repr
 -- ---- at one that lives
 
 module _ (w : Processes) (c : Core) (a b : ℕ) (s : Program) (h : Represents w c) where
-  -- the row of a signal, at a world that is equal
+  -- the row of a signal, at processes that are equal
   taking : (x : Program) (w' w1 : Processes) → s ≡ x → w' ≡ w1 → Shown b (at_living c a b (signal_of x)) w.shared.channels w (shows.Delivers x suffix.TookEffect) w1
       → Shown b (at_living c a b (signal_of s)) w.shared.channels w (shows.Delivers s suffix.TookEffect) w'
   taking x w' w1 e f k =

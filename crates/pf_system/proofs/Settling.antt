@@ -1,4 +1,4 @@
--- The last step of a turn, in a world.
+-- The last step of a turn, among all processes.
 use Rattle.std.proofs.Common.{◌≡◌, ℕ, zero, suc, ◌<◌, ◌≤◌, ◌==◌, ◌||◌, Bool, true, false, List, [], ◌∷◌, Option, Some, None, if◌then◌else◌, refl, sym, ap, ◌∙◌, subst, arith, length, map, slice_set}
 use Rattle.std.specs.Prelude.{Result, Ok, Err, slice_get}
 use Rattle.pf_terms.specs.Value.{Value, same}
@@ -35,7 +35,7 @@ use Rattle.pf_system.specs.declared.processes.Processes.{Processes}
 use Rattle.pf_system.proofs.Bodies.{bodies_same, length_of, set_length}
 use Rattle.pf_system.proofs.Ready.{numbers_alike, numbers_kept}
 use Rattle.pf_system.proofs.Rows.{enough_senders, posted_length}
-use Rattle.pf_system.proofs.Processes.{put_back, goes_no_more}
+use Rattle.pf_system.proofs.Changed.{put_back, goes_no_more}
 use Rattle.std.proofs.lemmas.List.{length-map}
 
 -- ---- actions that make no process, and take no message out, keep all bodies
@@ -108,7 +108,7 @@ body_of_in (suc n) (p ∷ ps) = body_of_in n ps
 pub one_body : (n : ℕ) (c d : Core) → bodies_of c ≡ bodies_of d → process_body (of c n) ≡ process_body (of d n)
 one_body n c d e = body_of_in n c.processes ∙ ap (body_in n) e ∙ sym (body_of_in n d.processes)
 
--- ---- an action in a world
+-- ---- an action among all processes
 
 pub slot_is : (s t : Slot) → ◌≡◌ {A = Option Slot} (Some s) (Some t) → s ≡ t
 slot_is s t e = cc

@@ -1,4 +1,4 @@
--- What is left of a world after a delivery or an end.
+-- What is left of the processes after a delivery or an end.
 use Rattle.std.proofs.Common.{◌≡◌, ℕ, zero, ◌<◌, ◌≤◌, List, [], refl, sym, ap, ◌∙◌, subst, arith, length, map, slice_set}
 use Rattle.std.specs.Prelude.{Result}
 use Rattle.pf_terms.specs.declared.term.Term.{Term}
@@ -21,7 +21,7 @@ use Rattle.pf_system.specs.declared.processes.Processes.{Processes}
 use Rattle.pf_system.proofs.Bodies.{set_map, set_length, bodies_changed, bodies_same, ties_length}
 use Rattle.pf_system.proofs.Ready.{numbers_kept}
 use Rattle.pf_system.proofs.Rows.{enough_senders, posted_length}
-use Rattle.pf_system.proofs.Processes.{goes_no_more}
+use Rattle.pf_system.proofs.Changed.{goes_no_more}
 
 -- there are rows enough for what is sent
 pub done_so : (w w' : Processes) (a : ℕ) (d : Left) → Represents w' d.core → length d.core.processes ≤ length w.shared.channels
@@ -29,7 +29,7 @@ pub done_so : (w w' : Processes) (a : ℕ) (d : Left) → Represents w' d.core �
 done_so w w' a d h n e m =
     record { stands = h; channels = e ∙ ap (posted a d.sent) (sym (enough_senders (length d.core.processes) w.shared.channels n)); basis = m }
 
--- a world in which nothing but ties and channels is changed
+-- processes of which nothing but ties and channels is changed
 module _ (w w' : Processes) (c : Core) (slots : w'.slots.items ≡ w.slots.items) (ready : w'.ready ≡ w.ready) (basis : w'.basis ≡ w.basis) where
   kept_slots : Represents w c → SlotsAreSound (module_in w') zero w'.slots.items
   kept_slots h =

@@ -24,7 +24,7 @@ use Rattle.pf_system.specs.declared.slot.Slot.{Slot}
 use Rattle.pf_system.specs.declared.processes.Processes.{Processes}
 use Rattle.pf_system.proofs.Going.{IsIn, split_in, in_either}
 use Rattle.pf_system.proofs.Passing.{both, kept_after, stands_itself}
-use Rattle.pf_system.proofs.Processes.{again}
+use Rattle.pf_system.proofs.Changed.{again}
 
 -- ---- a process that may go can go
 

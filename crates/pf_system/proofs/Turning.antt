@@ -31,7 +31,7 @@ use Rattle.pf_system.specs.declared.slot.Life.TheVariants as life
 use Rattle.pf_system.specs.declared.slot.Slot.{Slot}
 use Rattle.pf_system.specs.declared.processes.Processes.{Processes}
 use Rattle.pf_system.proofs.Bodies.{set_length}
-use Rattle.pf_system.proofs.Processes.{ran_but, left_at, body_at, get_within, slots_length, sound_at, ties_length_in}
+use Rattle.pf_system.proofs.Changed.{ran_but, left_at, body_at, get_within, slots_length, sound_at, ties_length_in}
 use Rattle.pf_model.proofs.Turned.{moved_goes_on}
 
 -- ---- a process that goes on by itself can go
@@ -124,7 +124,7 @@ asks_for m own left used s s1 (v.Take t) r = tt
 asks_for m own left used s s1 v.Wait r = tt
 asks_for m own left used s s1 (v.End e) r = tt
 
--- ---- the turn of a world
+-- ---- the turn, among all processes
 
 shown_from : (w w1 w' : Processes) (a : ℕ) (l : Label) (d : Deed) → w1.shared ≡ w.shared → w1.basis ≡ w.basis → Shown a d w1.shared.channels w1 l w' → Shown a d w.shared.channels w l w'
 shown_from w w1 w' a l d e f h =

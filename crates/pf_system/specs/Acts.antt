@@ -63,7 +63,7 @@ IsBetween (asked.Unregister name) = Unit {0}
 IsBetween (asked.Whereis name) = Unit {0}
 IsBetween asked.MakeRef = Unit {0}
 
--- the world is what an action of process a makes of it, but for the slot of that process, which waits for the answer
+-- the processes are what an action of process a makes of them, but for the slot of that process, which waits for the answer
 pub record ActedIn (c : Core) (x : Acted) (a : ℕ) (w : Processes) (r : Answer) (w' : Processes) : Type 0 where
   pub stands : RepresentsBut w' x.left.core a
   pub state : (of x.left.core a).state ≡ (of c a).state
@@ -109,7 +109,7 @@ pub record FlushesIn (reference : ℕ) (s s' : Slot) : Type 0 where
 
 -- ---- a new process
 
--- the function of this name and so many arguments of a module, which is the own one or none
+-- the exported function of this name and number of arguments in the module `home`, which is the own one; else none
 abbrev pub home_function : Module → (home name arity : ℕ) → Option ℕ
 home_function m home name arity = if home == m.name then exported_as m name arity else None
 

@@ -34,6 +34,6 @@ joined [] ts = []
 joined (b ∷ bs) [] = []
 joined (b ∷ bs) (t ∷ ts) = process_with b t ∷ joined bs ts
 
--- the core of these bodies and ties, with so many processes at most
+-- the core of these bodies and ties, with n processes at most
 abbrev pub core_with : List Body → AllTies → (most : ℕ) → Core
 core_with bs t n = record { processes = joined bs t.processes; names = t.names; next_reference = t.next_reference; most = n }

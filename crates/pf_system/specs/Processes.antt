@@ -1,4 +1,4 @@
--- What a world of processes stands for.
+-- What the processes of a run stand for.
 use Rattle.std.specs.Prelude.{◌≡◌, ◌<◌, ◌≤◌, ℕ, zero, List, Option, Some, None, Result, map, length, slice_get, slice_set}
 use Rattle.pf_terms.specs.declared.term.Term.{Term}
 use Rattle.pf_model.specs.Module.{Module, module_of}
@@ -37,7 +37,7 @@ pub record IsRoomy (w : Processes) (c : Core) : Type 0 where
   pub most : c.most ≡ w.basis.most
   pub within : w.basis.most ≤ MOST_PROCESSES
 
--- the world stands for this core, with any channels, and those processes are noted that can go
+-- the processes represent this core, with any channels, and those that can go are noted
 pub record Represents (w : Processes) (c : Core) : Type 0 where
   pub bodies : bodies_of c ≡ bodies_in w
   pub ties : ties_of c ≡ w.shared.ties
@@ -61,7 +61,7 @@ pub record IsLeftAt (w : Processes) (a : ℕ) (x : Standing) (s : Slot) : Type 0
 
 -- ---- what one step of an actor does
 
--- a did this, over these channels, and this is what is left: a world that stands for the definition's core and channels
+-- a did this, over these channels, and this is what is left: processes that represent the definition's core and channels
 pub record Done (a : ℕ) (d : Left) (cs : Channels) (w w' : Processes) : Type 0 where
   pub stands : Represents w' d.core
   pub channels : w'.shared.channels ≡ posted a d.sent (with_senders (length d.core.processes) cs)
@@ -89,7 +89,7 @@ pub record Delivered (c : Core) (from to : ℕ) (w : Processes) (l : Label) (w' 
 abbrev pub EndsProcess : Core → ℕ → Result Term Term → Processes → Processes → Type 0
 EndsProcess c a e w w' = Done a (ended_by c a (end_of e)) w.shared.channels w w'
 
--- ---- what is plainly true of a world in which a process does something
+-- ---- what is plainly true of processes of which one does something
 
 -- process a has a slot, ties and a row of channels
 pub record IsShaped (a : ℕ) (w : Processes) : Type 0 where

@@ -53,7 +53,7 @@ abbrev pub StandsAs : Bool → Standing → Type 0
 StandsAs true x = (t : Tree) × (x ≡ goes (running t))
 StandsAs false x = (s : State) × (x ≡ goes s) × (can_go s ≡ true)
 
--- it is the process of this pid that runs this code
+-- it is the process of this pid, and runs this module
 abbrev pub IsOf : Module → ℕ → MachineView → Type 0
 IsOf m own k = (k.own ≡ own) × (k.code ≡ m)
 

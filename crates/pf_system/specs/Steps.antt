@@ -29,7 +29,7 @@ abbrev pub MayGo : Actor → Option Configuration → Type 0
 MayGo x None = Unit {0}
 MayGo x (Some c) = IsAmong x (enabled c)
 
--- within so many steps an actor went on, by a transition of the definition: it showed this and used so many steps
+-- within `left` steps an actor went on, by a transition of the definition: it showed this and used `used` steps
 pub record PassesTo (left : ℕ) (s : SystemView) (x : Actor) (l : Label) (used : ℕ) (s' : SystemView) : Type 0 where
   pub before : Configuration
   pub passed : Passed
@@ -49,7 +49,7 @@ unless_spent false c = Some c
 abbrev pub view_of_inside : Inside → SystemView
 view_of_inside s = view_of_system (module_of s.module.value) s.steps (unless_spent s.spent (configuration_of s.processes))
 
--- a world that stands for its own core, and runs this code
+-- processes that represent their own core, and run this module
 pub record RunsModule (m : Module) (w : Processes) : Type 0 where
   pub stands : Represents w (core_of w)
   pub code : module_in w ≡ m

@@ -3,7 +3,7 @@ use Rattle.std.specs.Prelude.{ℕ, Option}
 use Rattle.pf_model.specs.Module.{Module}
 use Rattle.pf_model.specs.Configuration.{Configuration}
 
--- the code that its processes run, the steps that were used, and all that there is of processes and signals; None once memory ran out
+-- the module that its processes run, the steps that were used, and all that there is of processes and signals; None once memory ran out
 pub record SystemView : Type 0 where
   pub code : Module
   pub steps : ℕ

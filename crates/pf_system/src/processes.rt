@@ -8,14 +8,14 @@ use pf_syntax::Module;
 use pf_terms::Term;
 use std::sync::Arc;
 
-/// What a run stands on: the code of its processes, and how many of them there may be.
+/// What a run stands on: the module that its processes run, and how many of them there may be.
 #[derive(Drop)]
 pub(crate) struct Basis {
     pub(crate) module: Arc<Module>,
     pub(crate) most: u32,
 }
 
-/// Code and limit, the slot of each process by its pid, ties and signals, the processes that can go by rising pid, and the spare nodes
+/// Module and limit, the slot of each process by its pid, ties and signals, the processes that can go by rising pid, and the spare nodes
 /// of all mailboxes.
 #[derive(Drop)]
 pub(crate) struct Processes {

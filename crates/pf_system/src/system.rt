@@ -29,8 +29,8 @@ use std::marker::Model;
 use std::mem;
 use std::sync::Arc;
 
-/// The processes of one run and the signals between them. Once memory ran out each turn and each delivery answers so; of the world
-/// nothing is said then, but the code stays known.
+/// The processes of one run and the signals between them. Once memory ran out each turn and each delivery answers so; of the processes
+/// nothing is said then, but the module stays known.
 #[derive(Drop)]
 pub struct System {
     module: Arc<Module>,

@@ -27,7 +27,7 @@ impl Model for PackedNames {
     ghost invariant = { λ a. AscendsTo (length a.bytes.items) 0 a.ends.items };
 }
 
-/// Where so many bytes behind so many others end. No table has 2^32 bytes.
+/// Where `more` bytes after `before` others end. No table has 2^32 bytes.
 fn end_of(before: usize, more: usize) -> Result<u32, NoMemory>
     ensures { IfOk result (λ end. end ≡ before + more) }
 {

@@ -132,7 +132,7 @@ impl Model for Elements {
     ghost size_decreases = { λ a h. omega (arith, most_le-nodes_in a.items.items) };
 }
 
-/// Whether a tuple or a list may have elements of so many nodes and such a depth.
+/// Whether a tuple or a list may have elements with this number of nodes and this depth.
 fn fit(nodes: u32, depth: u32) -> bool
     ensures { IsTrue result ↔ ((nodes < MOST_NODES) × (depth < MOST_DEPTH)) }
 {

@@ -131,7 +131,7 @@ abbrev pub next_items : (List ℕ → Front (List Value)) → Value → List ℕ
 next_items others v rest None = Some (v ∷ [], rest)
 next_items others v rest (Some text) = option_map (λ p. (v ∷ p.0, p.1)) (others text)
 
--- one element or several with commas between them, at most so many
+-- one element or several with commas between them, at most n
 unfoldable pub items_at : (List ℕ → Front Value) → ℕ → List ℕ → Front (List Value)
 items_at read zero text = None
 items_at read (suc n) text = read text >>= λ p. next_items (items_at read n) p.0 p.1 (behind 44 p.1)

@@ -2,7 +2,7 @@
 
 use pf_request::{Kind, Request, RunChoices};
 
-/// Whether it is a request of `main` with this property and within so many steps.
+/// Whether it is a request of `main` with this property and within n steps.
 pub fn is_main(request: &Request, property: &str, limit: u32) -> bool {
     request.root.as_slice() == b"main".as_slice()
         && request.property.as_slice() == property.as_bytes()
@@ -25,7 +25,7 @@ pub fn is_scheduled(request: &Request, numbers: &[u32]) -> bool {
     }
 }
 
-/// Whether it asks for the shrinking of a schedule of these numbers within so many runs.
+/// Whether it asks for the shrinking of a schedule of these numbers within n runs.
 pub fn is_shrinking(request: &Request, numbers: &[u32], most: u32) -> bool {
     match &request.kind {
         Kind::Shrink { schedule, runs } => schedule.as_slice() == numbers && *runs == most,

@@ -12,13 +12,13 @@ use std::test::Fail;
 /// A client's call, of the one module that is submitted here.
 #[derive(Clone, Copy)]
 enum Ask {
-    /// Submits it with blanks behind it, up to so many bytes.
+    /// Submits it with blanks behind it, up to n bytes.
     Submit(usize),
-    /// Orders a trial of module 1, within so many steps.
+    /// Orders a trial of module 1, within n steps.
     Order(u32),
-    /// Orders a shrinking of the empty schedule, in so many runs of so many steps each.
+    /// Orders a shrinking of the empty schedule, in n runs of at most m steps each.
     Shrink(u32, u32),
-    /// Orders a trial by these weights, of a run and of a delivery, within so many steps.
+    /// Orders a trial by these weights, of a run and of a delivery, within n steps.
     Weigh(u32, u32, u32),
     Edition(u32),
     Usage,
@@ -57,7 +57,7 @@ fn replied(alloc: Global, book: &mut Book, project: u32, ask: Ask) -> Result<Rep
     Ok(reply)
 }
 
-/// What is told last if a project makes a call so many times.
+/// What is told last if a project makes a call n times.
 fn last_told(
     alloc: Global,
     book: &mut Book,

@@ -11,7 +11,7 @@ const SUM: &str = "-module(m). -export([main/0]). main() -> 1 + 2 * 3.";
 /// The size of a module whose run takes 4 steps.
 pub(crate) const SUM_BYTES: usize = 51;
 
-/// The first so many bytes of that module, with blanks behind it where it has fewer.
+/// The first n bytes of that module, with blanks behind it where it has fewer.
 pub(crate) fn source_of(alloc: Global, size: usize) -> Result<Source, Fail> {
     let mut bytes = Vec::from_slice(alloc, SUM.as_bytes())?;
     bytes.resize(size, b' ')?;

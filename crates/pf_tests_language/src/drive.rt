@@ -32,7 +32,7 @@ pub(crate) fn started(alloc: Global, module: Module) -> Result<Machine, NoMemory
     Machine::new(alloc, OWN, shared, FunctionId(0), SmallVec::new(alloc))
 }
 
-/// It goes on by itself for so many steps.
+/// It goes on by itself for n steps.
 pub(crate) fn goes_on(
     alloc: Global,
     machine: &mut Machine,

@@ -17,7 +17,7 @@ fn read(alloc: Global, text: &[u8]) -> Result<Result<ReadPattern, OrNoMemory<Cod
     Ok(read_pattern(alloc, &found, &atoms))
 }
 
-/// Writes a node: its atoms and variables by number, variables with their places, and how many parts it has.
+/// Writes a node: its atoms and variables by number, variables with their offsets, and how many parts it has.
 fn describe(out: &mut String, source: &SyntaxTree, id: ExprPatternId) -> Result<(), Fail> {
     match source.expr_pattern(id) {
         Some(ExprPatternNode::Integer(n)) => write!(out, " {n}")?,
@@ -146,7 +146,7 @@ fn patterns_alone_have_the_depth_of_the_grammar(rt: HostRuntime) -> Result<(), F
     Ok(())
 }
 
-/// A quoted atom, or a string, of so many letters.
+/// A quoted atom, or a string, of n letters.
 fn quoted(alloc: Global, quote: u8, letters: usize) -> Result<Vec<u8>, Fail> {
     let mut text = Vec::new(alloc);
     text.push(quote)?;

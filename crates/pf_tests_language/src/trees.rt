@@ -1,4 +1,4 @@
-//! Trees: a module and a source by hand, and long chains that are dropped on small stacks.
+//! Trees: a module and a syntax tree by hand, and long chains that are dropped on small stacks.
 
 ghost use Rattle.std.specs.Prelude.{◌≡◌, ◌+◌, length, OnOk};
 
@@ -22,7 +22,7 @@ fn is_sum(node: Option<&Node>, left: NodeId, right: LiteralId) -> bool {
     }
 }
 
-/// Whether the node is the negative of the variable at the first place.
+/// Whether the node is the negative of the variable in the first slot.
 fn is_negative(node: Option<&Node>) -> bool {
     matches!(node, Some(Node::Negate(Operand::Slot(0))))
 }

@@ -8,7 +8,7 @@ use std::test::Fail;
 
 fn needs_send<T: Send>(_: &T) {}
 
-/// Channels for so many senders.
+/// Channels for n senders.
 fn opened(alloc: Global, senders: usize) -> Result<Channels, Fail> {
     let mut channels = Channels::new(alloc);
     for _ in 0..senders {

@@ -41,7 +41,7 @@ fn words_of_seeds(rt: HostRuntime) {
     }
 }
 
-// From the same definition: the last of so many words.
+// From the same definition: the last of n words.
 #[test]
 fn words_far_on(rt: HostRuntime) {
     for (seed, count, last) in [
@@ -77,7 +77,7 @@ const THREE_TO_ONE_OF_ONE: [usize; 12] = [0, 1, 1, 0, 0, 4, 1, 1, 4, 3, 3, 4];
 /// One process and one channel by weights 1 and 4: the choices by the first words of seed 1.
 const ONE_TO_FOUR: [usize; 12] = [1, 1, 1, 1, 0, 0, 1, 1, 1, 1, 1, 1];
 
-/// Whether choices among so many processes and channels are these.
+/// Whether choices among these numbers of processes and channels are these.
 fn chooses(choices: &mut Choices, procs: usize, chans: usize, wanted: &[usize]) -> bool
     requires { 0 < procs }
 {

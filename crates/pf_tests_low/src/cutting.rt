@@ -146,7 +146,7 @@ fn places_each_fault(rt: HostRuntime) -> Result<(), Fail> {
     Ok(())
 }
 
-/// What is read of so many blanks.
+/// What is read of n blanks.
 fn blanks(alloc: Global, count: usize) -> Result<String, Fail> {
     let source = vec![in alloc; b' '; count]?;
     read(alloc, &source)

@@ -30,14 +30,17 @@ fn receive(
     letter: char,
     tested: &Cell<u32>,
 ) -> Option<(usize, char)> {
-    let found = list.find_from_mark(|item| -> Result<bool, ()> {
+    for _ in list.mark()..list.len() {
+        let Some(marked) = list.marked() else {
+            return None;
+        };
         tested.set(tested.get().wrapping_add(1));
-        Ok(*item == letter)
-    });
-    match found {
-        Ok(Some(spot)) => Some((spot.position(), list.unlink(pool, spot))),
-        _ => None,
+        if *marked == letter {
+            return Some((list.mark(), list.take_marked(pool)));
+        }
+        list.pass();
     }
+    None
 }
 
 /// What a mailbox comes to by this script, in which `+a` puts the letter at the end, `?a` receives it from the mark on, and `^` goes back to
@@ -78,26 +81,7 @@ fn receives_selectively(rt: HostRuntime) -> Result<(), Fail> {
     Ok(())
 }
 
-/// What a search comes to that fails at a zero, and where the mark is left, in a list of two.
-fn at_zero(alloc: Global) -> Result<(bool, usize, usize), Fail> {
-    let mut pool = Pool::new(alloc);
-    let mut list = MailList::new(alloc);
-    push(&mut list, &mut pool, 3)?;
-    push(&mut list, &mut pool, 0)?;
-    let found = list.find_from_mark(|item: &u32| 12u32
-        .checked_div(*item)
-        .map(|q| q > 9)
-        .ok_or("zero"));
-    Ok((found == Err("zero"), list.mark(), list.len()))
-}
-
-#[test]
-fn stays_at_a_fault(rt: HostRuntime) -> Result<(), Fail> {
-    assert_eq!(rt; at_zero(rt.alloc())?, (true, 1, 2));
-    Ok(())
-}
-
-/// Puts so many items at the end that count their drops.
+/// Puts n items at the end that count their drops.
 fn add<'a>(
     list: &mut MailList<Counted<'a>>,
     pool: &mut Pool<Counted<'a>>,
@@ -117,10 +101,10 @@ fn drops_and_spare(alloc: Global) -> Result<[(u32, usize); 5], Fail> {
     let mut pool = Pool::new(alloc);
     let mut list = MailList::new(alloc);
     add(&mut list, &mut pool, &drops, 4)?;
-    let Ok(Some(spot)) = list.find_from_mark(|_| -> Result<bool, ()> { Ok(true) }) else {
-        return Err(Fail::from("nothing is found"));
-    };
-    let item = list.unlink(&mut pool, spot);
+    if list.marked().is_none() {
+        return Err(Fail::from("nothing is marked"));
+    }
+    let item = list.take_marked(&mut pool);
     let taken = (drops.get(), pool.len());
     drop(item);
     let dropped = (drops.get(), pool.len());
@@ -153,7 +137,7 @@ const FILLS: [(u32, bool, usize, usize); 10] = [
     (25, false, 1025, 0),
 ];
 
-/// Puts so many items at the end.
+/// Puts n items at the end.
 fn fill(list: &mut MailList<u32>, pool: &mut Pool<u32>, count: u32) -> Result<(), &'static str> {
     for item in 0..count {
         push(list, pool, item)?;
@@ -183,7 +167,7 @@ fn spare_nodes_come_back_and_go_out(rt: HostRuntime) -> Result<(), Fail> {
     Ok(())
 }
 
-/// How many items are dropped, and how many nodes are spare, where so many are put in and drained.
+/// How many items are dropped, and how many nodes are spare, where n are put in and drained.
 fn drained(alloc: Global, count: u32) -> Result<(u32, usize), Fail> {
     let drops = Cell::new(0);
     let mut pool = Pool::new(alloc);

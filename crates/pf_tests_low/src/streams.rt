@@ -90,7 +90,7 @@ fn take<R: Read + Drop>(
 
 const TEXT: &[u8] = b"0/1 <0> wait";
 
-/// A writer that takes at most 3 bytes a call, and so many in all.
+/// A writer that takes at most 3 bytes a call, and n in all.
 fn narrow_writer(alloc: Global, room: usize) -> Narrow {
     Narrow {
         taken: Vec::new(alloc),
@@ -131,7 +131,7 @@ fn a_failing_call_leaves_a_beginning(rt: HostRuntime) {
     }
 }
 
-/// How many bytes are read of so many at the most, where this call of the reader fails; none where one does.
+/// How many bytes are read of n at the most, where this call of the reader fails; none where one does.
 fn count(alloc: Global, fails_at: u64, limit: usize) -> Option<usize> {
     match take(alloc, FailAt::new(Endless, fails_at), limit) {
         Ok(bytes) => Some(bytes.len()),
@@ -145,7 +145,7 @@ fn a_reader_is_read_to_the_limit(rt: HostRuntime) {
     assert_eq!(rt; count(rt.alloc(), 3, 65_537), None);
 }
 
-/// Whether just these bytes are read of a text of six, so many at the most.
+/// Whether just these bytes are read of a text of six, n at the most.
 fn reads(alloc: Global, limit: usize, wanted: &[u8]) -> bool {
     match take(alloc, b"ok.yes".as_slice(), limit) {
         Ok(bytes) => bytes.as_slice() == wanted,

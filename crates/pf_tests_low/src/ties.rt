@@ -189,7 +189,7 @@ impl World {
     }
 }
 
-/// Which of these calls, made in turn among so many processes, is the first that comes to another answer.
+/// Which of these calls, made in turn among n processes, is the first that comes to another answer.
 fn first_other(
     alloc: Global,
     processes: u32,

@@ -119,7 +119,7 @@ fn most_elements_are_4095(rt: HostRuntime) -> Result<(), Fail> {
     Ok(())
 }
 
-/// How many nodes a list of so many zeros has with one more in front, or a tuple of that list alone.
+/// How many nodes a list of n zeros has with one more in front, or a tuple of that list alone.
 fn around(alloc: Global, zeros_within: usize) -> Result<(Option<u32>, Option<u32>), Fail> {
     let longer = match List::cons(alloc, Term::Int(0), zeros(alloc, zeros_within)?) {
         Ok(list) => size(Ok(Term::List(list)))?,
@@ -211,7 +211,7 @@ fn add_lists(alloc: Global, rising: &mut Vec<Term>) -> Result<(), Fail> {
     Ok(())
 }
 
-/// The first two of these whose order is not that of their places.
+/// The first two of these whose order is not that of their indices.
 fn out_of_order(rising: &[Term], atoms: &AtomTable) -> Option<(usize, usize)> {
     for (i, x) in rising.iter().enumerate() {
         for (j, y) in rising.iter().enumerate() {

@@ -90,7 +90,7 @@ fn copies(alloc: Global, plain: &PlainInbox) -> Result<Vec<Term>, NoMemory> {
     Ok(messages)
 }
 
-/// How many of these messages a `receive` tests that has seen so many: those behind them, up to and with the one that it
+/// How many of these messages a `receive` tests that has seen n: those behind them, up to and with the one that it
 /// takes, or all.
 fn due(messages: &[Term], taken: &Option<Taken>, seen: usize) -> usize {
     let mut end = 0usize;

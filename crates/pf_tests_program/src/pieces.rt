@@ -13,7 +13,7 @@ use std::marker::Brand;
 use std::sync::ledger::{Blank, Ledger};
 use std::test::Fail;
 
-/// A reader that gives so many bytes at once.
+/// A reader that gives n bytes at once.
 #[derive(Drop)]
 struct Bites<'a> {
     rest: &'a [u8],
@@ -51,7 +51,7 @@ impl Write for Tally {
     }
 }
 
-/// What was written, in so many calls, and how the work ended.
+/// What was written, in n calls, and how the work ended.
 #[derive(Drop)]
 struct Told {
     ended: Ended,

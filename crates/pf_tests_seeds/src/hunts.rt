@@ -8,7 +8,7 @@ use std::alloc::Global;
 use std::test::Fail;
 use std::thread::Threads;
 
-/// The least seed that fails of so many, by one worker, and by two and by three.
+/// The least seed that fails of n, by one worker, and by two and by three.
 fn first_of<R: Threads + Sync>(
     rt: &R,
     alloc: Global,
@@ -26,7 +26,7 @@ fn first_of<R: Threads + Sync>(
     Ok(alone)
 }
 
-/// The rows of so many seeds, by one worker, and by two and by three.
+/// The rows of n seeds, by one worker, and by two and by three.
 fn tally_of<R: Threads + Sync>(
     rt: &R,
     alloc: Global,

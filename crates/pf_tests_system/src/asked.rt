@@ -121,7 +121,7 @@ pub(crate) fn text_of_run(alloc: Global, job: &Job) -> Result<String, Fail> {
     string_of(text)
 }
 
-/// The end of a run by slices of so many turns, which share their spare nodes.
+/// The end of a run by slices of n turns, which share their spare nodes.
 pub(crate) fn run_sliced(alloc: Global, job: &Arc<Job>, turns: u32) -> Result<Finished, Fail> {
     if turns == 0 {
         return Err(Fail::from("a slice has a turn at least"));

@@ -121,7 +121,7 @@ fn a_job_keeps_its_edition(rt: HostRuntime) -> Result<(), Fail> {
     Ok(())
 }
 
-/// What a job with a schedule of so many zeros is refused for.
+/// What a job with a schedule of n zeros is refused for.
 fn of_zeros(alloc: Global, count: usize) -> Result<Option<JobRefusal>, Fail> {
     let zeros = vec![in alloc; 0; count]?;
     let choices = scheduled(alloc, &zeros)?;

@@ -12,7 +12,7 @@ const RACE: &str = "-module(m).\n-export([main/0, a/1, b/1]).\n\
 main() -> P = self(), spawn(m, a, [P]), spawn(m, b, [P]), receive M -> M == 1 end.\n\
 a(P) -> P ! 1.\nb(P) -> P ! 2.\n";
 
-/// The shrinking of a schedule of the race within so many runs.
+/// The shrinking of a schedule of the race within n runs.
 fn race(alloc: Global, property: &str, runs: u32) -> Result<Arc<Job>, Fail> {
     let module = module_of(alloc, RACE)?;
     let schedule = Arc::new(alloc, vec![in alloc; 0, 0, 0, 0, 0, 0, 0, 3, 1]?)?;
@@ -31,7 +31,7 @@ fn comes_to(alloc: Global, job: &Arc<Job>, first: &str, last: &str) -> Result<bo
     Ok(text.as_str().starts_with(first) && text.as_str().ends_with(last))
 }
 
-/// What the shrinking comes to within so many runs: the first lines.
+/// What the shrinking comes to within n runs: the first lines.
 const FRONTS: [(u32, &str); 3] = [
     (
         1,

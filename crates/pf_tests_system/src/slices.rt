@@ -103,7 +103,7 @@ fn the_choices_of_a_seed_come_to_its_report(rt: HostRuntime) -> Result<(), Fail>
     Ok(())
 }
 
-/// The run behind so many events, where it goes on.
+/// The run after n events, where it goes on.
 fn gone(alloc: Global, parked: Parked, scratch: &mut Scratch, turns: u32) -> Result<Parked, Fail> {
     if turns == 0 {
         return Err(Fail::from("a slice has a turn at least"));

@@ -6,7 +6,7 @@ use pf_termtext::read;
 use std::alloc::Global;
 use std::test::Fail;
 
-/// `[0,0,..]` with so many zeros, in these brackets; with one at least.
+/// `[0,0,..]` with n zeros, in these brackets; with one at least.
 fn zeros(alloc: Global, count: usize, open: u8, close: u8) -> Result<Vec<u8>, Fail> {
     let mut text = Vec::new(alloc);
     text.push(open)?;

@@ -111,7 +111,7 @@ IsWrong may_stand (b ∷ rest) = IsFalse (may_stand b) ⊎ ((b ≡ backslash) ×
 abbrev pub IsCutOff : List ℕ → Type 0
 IsCutOff rest = (rest ≡ []) ⊎ (rest ≡ backslash ∷ [])
 
--- the text opens a quoted text, writes so many bytes of it with the quote, and goes on
+-- the text opens a quoted text, writes n bytes of it with the quote, and goes on
 pub record OpensQuoted (text : List ℕ) (written : ℕ) (rest : List ℕ) : Type 0 where
   pub quote : ℕ
   pub is_quote : (quote ≡ single_quote) ⊎ (quote ≡ double_quote)
@@ -121,7 +121,7 @@ pub record OpensQuoted (text : List ℕ) (written : ℕ) (rest : List ℕ) : Typ
   pub whole : text ≡ quote ∷ (body ++ rest)
   pub written_is : written ≡ length body + 1
 
--- a quoted text or a character goes on with a wrong byte, so many bytes on
+-- a quoted text or a character goes on with a wrong byte, n bytes on
 abbrev pub HasWrongByte : List ℕ → ℕ → Type 0
 HasWrongByte text n = (rest : List ℕ)
     × ((OpensQuoted text n rest × IsWrong is_quotable rest) ⊎ ((text ≡ dollar ∷ rest) × (n ≡ 1) × IsWrong is_visible rest))
@@ -134,7 +134,7 @@ IsUnfinished text = (rest : List ℕ) × IsCutOff rest × (((n : ℕ) × OpensQu
 abbrev pub IsTooLarge : List ℕ → Type 0
 IsTooLarge text = (value : ℕ) × (bytes rest : List ℕ) × (text ≡ bytes ++ rest) × IsNumeral value bytes rest × (2 ^ 63 ≤ value)
 
--- a text that begins with no piece has this fault, so many bytes on
+-- a text that begins with no piece has this fault, n bytes on
 abbrev pub IsFault : Code → ℕ → List ℕ → Type 0
 IsFault UnexpectedByte n text = (IsStray text × (n ≡ 0)) ⊎ HasWrongByte text n
 IsFault Unfinished n text = IsUnfinished text × (n ≡ 0)

@@ -192,7 +192,7 @@ scan_step more offset [] = Ok []
 scan_step more offset (b ∷ bs) =
     piece_at offset (b ∷ bs) >>= λ p. more (offset + p.1) (drop p.1 (b ∷ bs)) >>= λ ts. Ok (put_first p.0 offset (offset + p.1) ts)
 
--- the tokens from an offset on, of at most so many pieces
+-- the tokens from an offset on, of at most n pieces
 unfoldable pub scan : ℕ → ℕ → List ℕ → Read (List Placed)
 scan zero offset bytes = Ok []
 scan (suc n) offset bytes = scan_step (scan n) offset bytes

@@ -168,7 +168,7 @@ covers most over (Some input) None read h le ends = absurd h
 covers most over (Some input) (Some left) read h le ends =
     (take (most - length read) left, λ o. none_left most left read (ends o), sym (ap (take most) h ∙ take_both most read left le))
 
--- so many bytes were read, and what went out is the text of their commands up to the bytes that are kept
+-- n bytes were read, and what went out is the text of their commands up to the bytes that are kept
 abbrev pub Stands : (over : Bool) (bytes : List ℕ) → World → (k taken : ℕ) (read_old read_new written_old written_new : Option (List ℕ)) → Type 0
 Stands over bytes w k taken r0 r1 w0 w1 = (read : List ℕ) × Consumes r0 r1 read × (length read ≡ taken)
     × (over ≡ true → IsAtEnd r1 ⊎ (taken ≡ MOST_BYTES)) × ForRight (λ p. TellsUpTo p over read [] 1 bytes w k w0 w1)

@@ -63,7 +63,7 @@ TurnsLeave p (Fault (Write e)) over bytes v j w0 w1 n0 n1 = (n1 ≡ n0 + 1) × T
 
 -- ---- pieces of an input
 
--- a piece was taken; so many bytes of the input are taken then, and whether the input is over
+-- a piece was taken; n bytes of the input are taken then, and whether the input is over
 abbrev pub TakesPiece : (read_old read_new : Option (List ℕ)) → (bytes_old bytes_new : List ℕ) → (taken_old taken_new : ℕ) → Bool → Type 0
 TakesPiece r0 r1 b0 b1 t0 t1 over = (piece : List ℕ) × Consumes r0 r1 piece × (b1 ≡ b0 ++ piece) × (t1 ≡ t0 + length piece)
     × (over ≡ true → IsAtEnd r1 ⊎ (t1 ≡ MOST_BYTES)) × (over ≡ false → (t0 < t1) × (t1 < MOST_BYTES)) × (t1 ≤ MOST_BYTES)

@@ -47,7 +47,7 @@ impl Line {
     }
 }
 
-/// How far a shrinking of at most so many runs came.
+/// How far a shrinking of at most n runs came.
 #[derive(Drop)]
 struct RunsDone {
     progress: Progress,
@@ -61,7 +61,7 @@ impl fmt::Display for RunsDone {
     }
 }
 
-/// Who watches a shrinking of at most so many runs.
+/// Who watches a shrinking of at most n runs.
 #[derive(Drop)]
 pub struct Runs<'a> {
     line: &'a Line,
@@ -87,7 +87,7 @@ impl Observer for Runs<'_> {
     }
 }
 
-/// How far a hunt over so many seeds came, and in what time if that is known.
+/// How far a hunt over n seeds came, and in what time if that is known.
 #[derive(Drop)]
 struct SeedsDone {
     done: u64,
@@ -113,7 +113,7 @@ impl fmt::Display for SeedsDone {
 /// How many milliseconds what a hunt told stands there at least.
 const PAUSE: u128 = 100;
 
-/// Who watches a hunt over so many seeds.
+/// Who watches a hunt over n seeds.
 #[derive(Drop)]
 pub struct Seeds<'a, C> {
     line: &'a Line,

@@ -1,4 +1,4 @@
--- The code of worked runs, each under its text.
+-- The modules of worked runs, each under its text.
 use Rattle.std.specs.Prelude.{ℕ, Bool, true, List, [], ◌∷◌, ◌++◌, codes, pos}
 use Rattle.pf_terms.specs.Value.{int, atom, list, none, more}
 use Rattle.pf_terms.specs.Atoms.{fixed_names}

@@ -32,28 +32,26 @@ returns-in_default-clause-tests c =
     ∙ sym (all_tested c.args.code.now c.args.own c.args.base c.args.env.now.items c.args.clauses.now c.self.inside.list s.new.list s.ensures.items before s.ensures.passed
     s.new.env.items (rw c.in_default.is at c.in_ok-body.ensures.sought))))
 
-pub unreachable-requires : goal.unreachable-requires
-unreachable-requires c =
+pub take_marked-message-requires : goal.take_marked-message-requires
+take_marked-message-requires c =
     let s = rw c.in-Some.is at c.in_ok-body.ensures.sought in
-    let within = slice_get_within c.search-picked.new.list.items c.search-picked.new.list.mark s.stands.message s.stands.there in
-    let end = c.in_default-take_marked.ensures.1 in
-    omega (arith, within, end)
+    slice_get_within c.search-picked.new.list.items c.search-picked.new.list.mark s.message s.there
 
 pub returns-clause-selected : goal.returns-clause-selected
 returns-clause-selected c =
-    let before = rw (← c.self.view_is) at c.requires.before in let s = c.search-picked in let t = c.in-Some-take_marked in
+    let before = rw (← c.self.view_is) at c.requires.before in let s = c.search-picked in let t = c.take_marked-message in
     rw (← c.self.view_is)
     (takes c.args.code.now c.args.own c.args.base c.args.env.now.items c.args.clauses.now c.self.inside.list s.new.list s.ensures.items before s.ensures.passed
-    s.new.env.items c.in-Some.body (rw c.in-Some.is at c.in_ok-body.ensures.sought) t.message t.ensures.0 c.take_marked.new.list.items
-    (ap (λ l. l.items) t.ensures.1))
+    s.new.env.items c.in-Some.body (rw c.in-Some.is at c.in_ok-body.ensures.sought) t.result t.ensures.item c.reset_mark.new.self.items
+    (ap (λ l. l.items) c.reset_mark.ensures ∙ ap (λ l. l.items) t.ensures.others))
 
 pub returns-clause-tests : goal.returns-clause-tests
 returns-clause-tests c =
-    let before = rw (← c.self.view_is) at c.requires.before in let s = c.search-picked in let t = c.in-Some-take_marked in
+    let before = rw (← c.self.view_is) at c.requires.before in let s = c.search-picked in let t = c.take_marked-message in
     let more : c.mark.result - c.mark-start.result ≡ s.new.list.mark - c.self.inside.list.mark = omega (arith, c.mark.ensures.position, c.mark-start.ensures.position) in
     rw (← c.self.view_is)
     (c.counted-self-inside-2.ensures ∙ ap (λ n. risen n 1) (c.counted-self-inside.ensures ∙ ap (risen c.self.inside.tests) more)
     ∙ risen_more c.self.inside.tests (s.new.list.mark - c.self.inside.list.mark)
     ∙ ap (risen c.self.inside.tests)
     (sym (tested_to c.args.code.now c.args.own c.args.base c.args.env.now.items c.args.clauses.now c.self.inside.list s.new.list s.ensures.items before s.ensures.passed
-    s.new.env.items c.in-Some.body (rw c.in-Some.is at c.in_ok-body.ensures.sought) t.message t.ensures.0)))
+    s.new.env.items c.in-Some.body (rw c.in-Some.is at c.in_ok-body.ensures.sought) t.result t.ensures.item)))

@@ -1,4 +1,4 @@
-use Rattle.std.proofs.Common.{◌≡◌, ◌++◌, ◌<◌, ◌≤◌, length}
+use Rattle.std.proofs.Common.{◌≡◌, ◌++◌, ◌≤◌, length, min}
 use Rattle.std.specs.Prelude.{map}
 use Rattle.pf_terms.specs.Term.{value_of}
 use Rattle.pf_mailbox.proofs.mailbox.Mailbox.unpack.Given as goal
@@ -10,6 +10,5 @@ invariant-loop-message l =
       mark : l.mark ≡ l.fn.packed.mark;
       within : l.mark ≤ length l.fn.packed.messages;
       tests : l.tests ≡ l.fn.packed.tests;
-      before : length l.list.items < l.mark → l.list.mark ≡ 0;
-      behind : l.mark ≤ length l.list.items → l.list.mark ≡ l.mark;
+      marked : l.list.mark ≡ min (length l.list.items) l.mark;
     }

@@ -4,7 +4,7 @@ use Rattle.std.proofs.lemmas.Option.{slice_get_read}
 use Rattle.pf_stepper.specs.Acts.{act_of}
 use Rattle.pf_system.specs.declared.processes.Processes.{Processes}
 use Rattle.pf_system.proofs.Settling.{shows_act}
-use Rattle.pf_system.proofs.Processes.{get_within}
+use Rattle.pf_system.proofs.Changed.{get_within}
 use Rattle.pf_system.proofs.processes.Processes.act.Goals as goal
 
 pub returns : goal.returns

@@ -4,7 +4,7 @@ use Rattle.std.proofs.lemmas.Option.{slice_get_read}
 use Rattle.pf_system.specs.Processes.{module_in, core_of}
 use Rattle.pf_system.specs.declared.processes.Processes.{Processes}
 use Rattle.pf_system.proofs.Turning.{asks_for, slot_can, slot_ready, slot_sound, slot_there, still_shaped, turned}
-use Rattle.pf_system.proofs.Processes.{get_set}
+use Rattle.pf_system.proofs.Changed.{get_set}
 use Rattle.pf_system.proofs.processes.Processes.turn.Goals as goal
 
 pub index_mut-slot-requires : goal.index_mut-slot-requires

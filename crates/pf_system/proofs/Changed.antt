@@ -1,4 +1,4 @@
--- Worlds in which the slot of one process is changed.
+-- Processes of which the slot of one is changed.
 use Rattle.std.proofs.Common.{◌≡◌, ℕ, zero, suc, ◌+◌, ◌<◌, ◌≤◌, true, false, List, [], ◌∷◌, Option, Some, refl, sym, ap, ◌∙◌, subst, arith, length, map, slice_set}
 use Rattle.std.specs.Prelude.{slice_get}
 use Rattle.pf_model.specs.Module.{Module, module_of}
@@ -54,7 +54,7 @@ sound_set m n zero (x ∷ ss) s h k = let e : n + zero ≡ n = omega arith in (s
 sound_set m n (suc a) (x ∷ ss) s h k =
     let e : n + suc a ≡ suc n + a = omega arith in (h.0, sound_set m (suc n) a ss s h.1 (subst (λ j. SlotIsSound m j s) e k))
 
--- ---- worlds
+-- ---- all processes
 
 pub again : (w : Processes) (c : Core) → Represents w c → core_of w ≡ c
 again w c h = core_again c (bodies_in w) w.shared.ties w.basis.most h.bodies h.ties h.room.most
@@ -69,7 +69,7 @@ slots_length w c h = sym (length-map w.slots.items slot_body) ∙ ap length (sym
 pub ties_length_in : (w : Processes) (c : Core) → Represents w c → length w.shared.ties.processes ≡ length c.processes
 ties_length_in w c h = ap (λ t. length t.processes) (sym h.ties) ∙ ties_length c
 
--- a slot of a world is changed, and all else stays
+-- one slot is changed, and all else stays
 module _ (w w' : Processes) (c : Core) (a : ℕ) (s' : Slot) where
   pub ran_but : Represents w c → a < length w.slots.items → w'.slots.items ≡ slice_set w.slots.items a s' → w'.shared ≡ w.shared → w'.ready ≡ w.ready
       → w'.basis ≡ w.basis → RepresentsBut w' c a

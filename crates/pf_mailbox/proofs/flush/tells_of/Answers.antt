@@ -4,7 +4,7 @@ use Rattle.pf_terms.specs.Value.{tuple}
 use Rattle.pf_terms.specs.Term.{value_of}
 use Rattle.pf_model.specs.Flush.{tells_of}
 use Rattle.pf_mailbox.proofs.Flushing.{second_tells, quiet_unless_five, tells_by_second}
-use Rattle.pf_mailbox.proofs.list.tells_of.Goals as goal
+use Rattle.pf_mailbox.proofs.flush.tells_of.Goals as goal
 
 pub returns-then-items-ne5 : goal.returns-then-items-ne5
 returns-then-items-ne5 c =
