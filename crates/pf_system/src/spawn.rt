@@ -43,12 +43,7 @@ fn elements(alloc: Global, list: &List) -> Result<SmallVec<Term, 4>, NoMemory>
 }
 
 /// The exported function of a module, which is the own one or none, by its name and the number of its arguments.
-fn exported(
-    code: &Module,
-    home: AtomId,
-    name: AtomId,
-    arity: u32,
-) -> Option<FunctionId>
+fn exported(code: &Module, home: AtomId, name: AtomId, arity: u32) -> Option<FunctionId>
     ensures { option_map (λ i. i.0) result
         ≡ home_function (module_of code.now) home.0 name.0 arity }
 {

@@ -28,5 +28,5 @@ returns-clause-items c = all_copied (values_of c.loop-first.items.items) _ _ c.i
 pub returns-clause-few : goal.returns-clause-few
 returns-clause-few c =
     let copied = all_copied (values_of c.loop-first.items.items) _ _ c.in_default.ensures c.loop-first.invariant in
-    let most = c.nodes-_nodes.ensures in
+    let most = c.nodes-nodes.ensures in
     omega (arith, length_count c.loop-first.items.items, ap count copied, count_le (elements_of c.args.list.now), most.value, most.bound)
