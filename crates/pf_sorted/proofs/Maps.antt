@@ -1,5 +1,5 @@
 -- What a change at an index makes of a map.
-use Rattle.std.proofs.Common.{◌≡◌, ℕ, zero, suc, ◌<◌, ◌≤◌, ◌==◌, Bool, true, false, nat_lt, if◌then◌else◌, List, [], ◌∷◌, Option, Some, None}
+use Rattle.std.proofs.Common.{◌≡◌, ℕ, zero, suc, ◌<◌, ◌≤◌, ◌==◌, Bool, true, false, nat_lt, if◌then◌else◌, List, [], ◌∷◌, Some, None}
 use Rattle.std.proofs.Common.{Result, Ok, Err, MatchResult, is_ok, refl, sym, ap, ◌∙◌, arith, length, slice_index_or, slice_set}
 use Rattle.std.specs.Prelude.{insert, remove, is_some}
 use Rattle.std.proofs.lemmas.Bool.Decides.{nat_tests}

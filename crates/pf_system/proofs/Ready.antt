@@ -1,6 +1,5 @@
 -- The processes that can go, as their bodies change.
 use Rattle.std.proofs.Common.{◌≡◌, ℕ, zero, suc, ◌+◌, ◌<◌, ◌≤◌, ◌==◌, Bool, true, false, List, [], ◌∷◌, ◌++◌, if◌then◌else◌, refl, sym, ap, ◌∙◌, arith, nat_lt, length, map, slice_set}
-use Rattle.std.proofs.lemmas.Bool.Decides.{nat_tests}
 use Rattle.pf_model.specs.Context.{State}
 use Rattle.pf_model.specs.Maps.{with_number, without_number}
 use Rattle.pf_model.specs.Configuration.{Process, Core, process_at}

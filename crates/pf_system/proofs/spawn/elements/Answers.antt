@@ -1,4 +1,4 @@
-use Rattle.std.proofs.Common.{◌≡◌, ◌<◌, List, ◌∷◌, [], ◌++◌, sym, ap, ◌∙◌, arith, length}
+use Rattle.std.proofs.Common.{◌≡◌, List, ◌∷◌, [], ◌++◌, sym, ap, ◌∙◌, arith}
 use Rattle.pf_terms.specs.Value.{Value, Values, none, more, count}
 use Rattle.pf_terms.specs.Term.{elements_of, value_of, values_of}
 use Rattle.pf_terms.specs.declared.term.Term.{Term}

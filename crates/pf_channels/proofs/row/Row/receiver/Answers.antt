@@ -1,4 +1,4 @@
-use Rattle.std.proofs.Common.{◌≡◌, ◌<◌, sym, ap, arith, length, slice_index_or}
+use Rattle.std.proofs.Common.{arith}
 use Rattle.pf_channels.proofs.Rows.{receiver_at, receiver_key}
 use Rattle.pf_channels.proofs.row.Row.receiver.Goals as goal
 

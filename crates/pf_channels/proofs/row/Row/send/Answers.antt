@@ -1,4 +1,3 @@
-use Rattle.std.proofs.Common.{◌≡◌}
 use Rattle.pf_model.specs.Signals.{signal_of}
 use Rattle.pf_channels.proofs.Rows.{receivers_value, sent_found, refused_found, count_found, one_found, sent_gap, receivers_gap, count_gap, one_gap}
 use Rattle.pf_channels.proofs.row.Row.send.Goals as goal

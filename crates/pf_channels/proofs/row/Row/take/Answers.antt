@@ -1,4 +1,4 @@
-use Rattle.std.proofs.Common.{ℕ, ◌≡◌, ◌≤◌, ap, sym, ◌∙◌, arith}
+use Rattle.std.proofs.Common.{ap, sym, ◌∙◌, arith}
 use Rattle.pf_model.specs.Signals.{signal_of}
 use Rattle.pf_sorted.specs.Values.{with_value}
 use Rattle.pf_channels.proofs.Rows.{receivers_value, receivers_without, length_value, length_without, entry_at, taken_found, taken_only, taken_none}

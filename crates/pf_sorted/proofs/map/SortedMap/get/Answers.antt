@@ -1,4 +1,4 @@
-use Rattle.std.proofs.Common.{◌≡◌, Some, sym, ap, ◌∙◌}
+use Rattle.std.proofs.Common.{Some, sym, ap, ◌∙◌}
 use Rattle.pf_sorted.proofs.Maps.{got_there, got_gap}
 use Rattle.pf_sorted.proofs.map.SortedMap.get.Goals as goal
 

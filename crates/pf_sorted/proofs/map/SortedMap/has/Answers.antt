@@ -1,4 +1,4 @@
-use Rattle.std.proofs.Common.{◌≡◌, ◌∙◌}
+use Rattle.std.proofs.Common.{◌∙◌}
 use Rattle.pf_sorted.proofs.Maps.{told}
 use Rattle.pf_sorted.proofs.map.SortedMap.has.Goals as goal
 

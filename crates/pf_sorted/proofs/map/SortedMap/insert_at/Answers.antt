@@ -1,4 +1,4 @@
-use Rattle.std.proofs.Common.{◌≡◌, ◌≤◌, arith}
+use Rattle.std.proofs.Common.{arith}
 use Rattle.pf_sorted.proofs.Indices.{rises_insert, gap_within}
 use Rattle.pf_sorted.proofs.Maps.{put_gap}
 use Rattle.pf_sorted.proofs.map.SortedMap.insert_at.Goals as goal

@@ -1,4 +1,4 @@
-use Rattle.std.proofs.Common.{◌≡◌, sym, ap}
+use Rattle.std.proofs.Common.{sym, ap}
 use Rattle.pf_sorted.proofs.Indices.{rises_remove, there_from}
 use Rattle.pf_sorted.proofs.Maps.{without_there}
 use Rattle.pf_sorted.proofs.map.SortedMap.remove_at.Goals as goal

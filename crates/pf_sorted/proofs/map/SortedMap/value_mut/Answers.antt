@@ -1,4 +1,4 @@
-use Rattle.std.proofs.Common.{◌≡◌, refl}
+use Rattle.std.proofs.Common.{refl}
 use Rattle.pf_sorted.proofs.Maps.{set_entry, rises_value, value_at}
 use Rattle.pf_sorted.proofs.map.SortedMap.value_mut.Goals as goal
 

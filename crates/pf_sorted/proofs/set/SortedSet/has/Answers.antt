@@ -1,4 +1,4 @@
-use Rattle.std.proofs.Common.{◌≡◌, ◌∙◌}
+use Rattle.std.proofs.Common.{◌∙◌}
 use Rattle.pf_sorted.proofs.Sets.{told}
 use Rattle.pf_sorted.proofs.set.SortedSet.has.Goals as goal
 

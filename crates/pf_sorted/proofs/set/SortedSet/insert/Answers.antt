@@ -1,4 +1,4 @@
-use Rattle.std.proofs.Common.{◌≡◌, sym, arith}
+use Rattle.std.proofs.Common.{sym, arith}
 use Rattle.pf_sorted.proofs.Indices.{rises_insert}
 use Rattle.pf_sorted.proofs.Sets.{with_there, with_gap}
 use Rattle.pf_sorted.proofs.set.SortedSet.insert.Goals as goal

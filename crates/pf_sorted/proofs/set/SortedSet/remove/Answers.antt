@@ -1,4 +1,4 @@
-use Rattle.std.proofs.Common.{◌≡◌, sym}
+use Rattle.std.proofs.Common.{sym}
 use Rattle.pf_sorted.proofs.Indices.{rises_remove}
 use Rattle.pf_sorted.proofs.Sets.{was_there, was_gap, without_there, without_gap}
 use Rattle.pf_sorted.proofs.set.SortedSet.remove.Goals as goal

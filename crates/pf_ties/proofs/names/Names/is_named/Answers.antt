@@ -1,4 +1,4 @@
-use Rattle.std.proofs.Common.{◌≡◌, ◌∙◌}
+use Rattle.std.proofs.Common.{◌∙◌}
 use Rattle.pf_ties.proofs.Naming.{named_same}
 use Rattle.pf_ties.proofs.names.Names.is_named.Goals as goal
 
