@@ -1,4 +1,3 @@
-pub mod Sorted
 pub mod Rows
 pub mod Indices
 pub mod Heads

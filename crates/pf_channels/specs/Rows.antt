@@ -1,5 +1,5 @@
 -- Rows one by one, and how many heads they have together.
-use Rattle.std.specs.Prelude.{◌≡◌, ℕ, ◌≤◌, ◌^◌, [], ◌∷◌, Option, Some, None, length}
+use Rattle.std.specs.Prelude.{◌≡◌, ℕ, ◌<◌, ◌≤◌, ◌^◌, [], ◌∷◌, Option, Some, None, length}
 use Rattle.pf_model.specs.Channels.{Signal, Queue, Row, Channels, left_in, heads}
 use Rattle.pf_model.specs.declared.limits.TheConstants.{MOST_PROCESSES}
 
@@ -8,13 +8,13 @@ abbrev pub taken_in : (b : ℕ) → Row → Option Queue → Option (Signal × R
 taken_in b r None = None
 taken_in b r (Some q) = Some (q.first, left_in b q.rest r)
 
--- no row has more queues than there are numbers of receivers
-abbrev pub AreShort : Channels → Type 0
-AreShort [] = Unit {0}
-AreShort (r ∷ rs) = (length r ≤ 2 ^ 32) × AreShort rs
+-- each receiver is a number of 32 bits
+abbrev pub AreReceivers : Row → Type 0
+AreReceivers [] = Unit {0}
+AreReceivers (p ∷ ps) = (p.0 < 2 ^ 32) × AreReceivers ps
 
--- so many heads, which a number of 64 bits can count
+-- that many heads, and no more than are let in
 pub record IsCounted (cs : Channels) (count : ℕ) : Type 0 where
   pub counted : count ≡ length (heads cs)
-  pub short : AreShort cs
+  pub within : count ≤ 2 ^ 31
   pub few : length cs ≤ MOST_PROCESSES

@@ -1,37 +1,36 @@
 //! What one process has on its way to others.
 
-ghost use Rattle.std.specs.Prelude.{◌≡◌, ◌+◌, ◌^◌, ◌<◌, ◌≤◌, length, map, [], Some, None, slice_get};
-ghost use Rattle.std.specs.Prelude.{IfSome, IfNone, OnOk, OnErr, MatchResult};
+ghost use Rattle.std.specs.Prelude.{◌≡◌, ◌+◌, ◌<◌, ◌≤◌, length, map, [], Some, None, slice_get, IfSome, IfNone, OnOk, OnErr};
 ghost use Rattle.pf_model.specs.Channels.{with_last};
 ghost use Rattle.pf_model.specs.Maps.{got, put};
 ghost use Rattle.pf_model.specs.Signals.{signal_of};
 ghost use Rattle.pf_channels.specs.Rows.{taken_in};
-ghost use Rattle.pf_channels.specs.Sorted.{IsAt, IsGapFor};
 
 use crate::queue::Queue;
 use pf_fault::NoMemory;
 use pf_model::Signal;
+use pf_sorted::SortedMap;
 use std::alloc::Global;
 use std::marker::Model;
 
 /// The queues of one sender, by rising receiver.
 #[derive(Drop)]
 pub(crate) struct Row {
-    queues: Vec<(u32, Queue)>,
+    queues: SortedMap<Queue>,
 }
 
 impl Model for Row {
     ghost use Rattle.pf_model.specs.Channels.{Row as Queues};
     ghost use Rattle.pf_channels.specs.Encoding.{coded_row};
-    ghost use Rattle.pf_channels.specs.Sorted.{Rises};
+    ghost use Rattle.pf_channels.specs.Rows.{AreReceivers};
 
     ghost Value = { Queues };
 
     ghost coded = { coded_row };
 
-    ghost view = { λ r. r.queues.items };
+    ghost view = { λ r. r.queues };
 
-    ghost invariant = { λ r. Rises 0 r.queues.items };
+    ghost invariant = { λ r. AreReceivers r.queues };
 }
 
 impl Row {
@@ -40,7 +39,7 @@ impl Row {
         ensures { result ≡ [] }
     {
         Row {
-            queues: Vec::new(alloc),
+            queues: SortedMap::new(alloc),
         }
     }
 
@@ -56,7 +55,7 @@ impl Row {
         requires { at < length self.now }
         ensures { slice_get (map (λ queue. queue.0) self.now) at ≡ Some result }
     {
-        self.queues[at].0
+        self.queues.as_slice()[at].0 as u32
     }
 
     /// Adds a signal as the youngest to a receiver.
@@ -64,14 +63,15 @@ impl Row {
         ensures sent { OnOk result
             (self.new ≡ put to (with_last (got to self.old) (signal_of signal)) self.old) }
         ensures refused { OnErr result (self.new ≡ self.old) }
-        ensures count { length self.old ≤ length self.new }
-        ensures bound { length self.new ≤ 2 ^ 32 }
+        ensures count { OnOk result (length self.old ≤ length self.new) }
+        ensures one { OnOk result (length self.new ≤ length self.old + 1) }
     {
-        match self.search(to) {
-            Ok(at) => self.queues[at].1.push(signal),
+        let key = u64::from(to);
+        match self.queues.index_of(key) {
+            Ok(at) => self.queues.value_mut(at).push(signal),
             Err(at) => {
                 let queue = Queue::new(alloc, signal)?;
-                Ok(self.queues.insert(at, (to, queue))?)
+                self.queues.insert_at(at, key, queue)
             }
         }
     }
@@ -84,20 +84,12 @@ impl Row {
         ensures stays { IfNone result (self.new ≡ self.old) }
         ensures count { length self.new ≤ length self.old }
     {
-        let Ok(at) = self.search(to) else {
+        let Ok(at) = self.queues.index_of(u64::from(to)) else {
             return None;
         };
-        match self.queues[at].1.shift() {
+        match self.queues.value_mut(at).shift() {
             Some(signal) => Some(signal),
-            None => Some(self.queues.remove(at).1.into_first()),
+            None => Some(self.queues.remove_at(at).1.into_first()),
         }
-    }
-
-    // Where the queue to a receiver stands, or where it would stand.
-    fn search(&self, to: u32) -> Result<usize, usize>
-        ensures { MatchResult result (λ at. (at < length self.now) × IsAt to self.now at)
-            (λ at. (at ≤ length self.now) × IsGapFor to self.now at) }
-    {
-        self.queues.binary_search_by_key(&to, |queue| queue.0)
     }
 }

@@ -76,15 +76,9 @@ fn go(
     let index = choose(choices, &enabled);
     let actor = enabled.actor(index);
     let (label, _) = pass(alloc, system, actor, left)?;
-    let Ok(choice) = u32::try_from(index) else {
-        return Err(NoMemory);
-    };
-    let Ok(count) = u32::try_from(among) else {
-        return Err(NoMemory);
-    };
     Ok(Some(Event {
-        choice,
-        count,
+        choice: index as u32,
+        count: among as u32,
         actor,
         label,
     }))

@@ -1,7 +1,7 @@
 -- How a process begins.
-use Rattle.std.proofs.Common.{◌≡◌, ℕ, false, List, [], ◌∷◌, Option, None, refl, sym, ap, ◌∙◌, length, arith}
+use Rattle.std.proofs.Common.{◌≡◌, ℕ, false, Option, None, refl, sym, ap, ◌∙◌}
 use Rattle.pf_terms.specs.Value.{Values, count}
-use Rattle.pf_terms.specs.Term.{value_of, values_of}
+use Rattle.pf_terms.specs.Term.{value_of}
 use Rattle.pf_terms.specs.Fixed.{undef}
 use Rattle.pf_terms.specs.declared.term.Term.{Term}
 use Rattle.pf_terms.specs.declared.term.Term.TheVariants as term

@@ -1,17 +1,20 @@
 -- A delivery, as a transition.
-use Rattle.std.proofs.Common.{◌≡◌, ℕ, ◌+◌, Bool, false, Some, refl, sym, ap, ◌∙◌, subst, arith}
+use Rattle.std.proofs.Common.{◌≡◌, ℕ, zero, ◌+◌, ◌≤◌, Bool, true, false, Option, Some, None, refl, sym, ap, ◌∙◌, subst, arith, length}
 use Rattle.pf_model.specs.Module.{Module, module_of}
 use Rattle.pf_model.specs.Channels.{Channels}
 use Rattle.pf_model.specs.Configuration.{Core, Configuration}
 use Rattle.pf_model.specs.Deliveries.{delivered}
-use Rattle.pf_model.specs.Runs.{channel, Passed, passed, delivery}
+use Rattle.pf_model.specs.declared.limits.TheConstants.{MOST_PROCESSES}
+use Rattle.pf_model.specs.Runs.{can_go, numbers_of, channel, Passed, passed, delivery}
 use Rattle.pf_model.specs.Reports.{label_of}
 use Rattle.pf_model.specs.declared.report.Label.{Label}
 use Rattle.pf_system.specs.View.{SystemView, view_of_system}
-use Rattle.pf_system.specs.Steps.{RunsModule, PassesTo, unless_spent}
+use Rattle.pf_system.specs.Steps.{IsValid, RunsModule, PassesTo, unless_spent, view_of_inside}
 use Rattle.pf_system.specs.Processes.{Represents, Delivered, core_of, configuration_of}
 use Rattle.pf_system.specs.declared.processes.Processes.{Processes}
+use Rattle.pf_system.specs.declared.system.System.TheInside.{Inside}
 use Rattle.pf_system.proofs.Changed.{again}
+use Rattle.pf_system.proofs.Ready.{numbers_few}
 
 abbrev pub both : Core → Channels → Configuration
 both c cs = record { core = c; channels = cs }
@@ -19,6 +22,23 @@ both c cs = record { core = c; channels = cs }
 -- what is seen of a system that isn't spent
 pub unspent : (s : SystemView) (m : Module) (k : ℕ) (t : Bool) (d : Configuration) → view_of_system m k (unless_spent t d) ≡ s → t ≡ false → s ≡ view_of_system m k (Some d)
 unspent s m k t d e f = sym e ∙ ap (λ z. view_of_system m k (unless_spent z d)) f
+
+-- no more processes can go than there may be
+pub ready_few : (s : Inside) (v : SystemView) (c : Configuration) → view_of_inside s ≡ v → IsValid s → v.standing ≡ Some c
+    → length s.processes.ready ≤ MOST_PROCESSES
+ready_few s v c e valid stands = by s.spent refl
+  where
+    stood : unless_spent s.spent (configuration_of s.processes) ≡ Some c
+    stood = ap (λ x. x.standing) e ∙ stands
+
+    by : (t : Bool) → s.spent ≡ t → length s.processes.ready ≤ MOST_PROCESSES
+    by true q =
+        let gone : ◌≡◌ {A = Option Configuration} None (Some c) = ap (λ t. unless_spent t (configuration_of s.processes)) (sym q) ∙ stood in absurd (cc)
+    by false q =
+        let w = (valid q).stands in
+        let few : length (numbers_of can_go zero (core_of s.processes).processes) ≤ MOST_PROCESSES =
+        omega (arith, numbers_few can_go zero (core_of s.processes).processes, w.room.few) in
+        subst (λ z. length z ≤ MOST_PROCESSES) (sym w.ready) few
 
 -- processes that represent a core represent their own
 pub stands_itself : (w : Processes) (c : Core) → Represents w c → Represents w (core_of w)

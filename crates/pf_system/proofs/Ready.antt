@@ -1,12 +1,12 @@
 -- The processes that can go, as their bodies change.
 use Rattle.std.proofs.Common.{◌≡◌, ℕ, zero, suc, ◌+◌, ◌<◌, ◌≤◌, ◌==◌, Bool, true, false, List, [], ◌∷◌, ◌++◌, if◌then◌else◌, refl, sym, ap, ◌∙◌, arith, nat_lt, length, map, slice_set}
-use Rattle.std.proofs.lemmas.Bool.Decides.{nat_tests}
 use Rattle.pf_model.specs.Context.{State}
 use Rattle.pf_model.specs.Maps.{with_number, without_number}
 use Rattle.pf_model.specs.Configuration.{Process, Core, process_at}
 use Rattle.pf_model.specs.Runs.{numbers_of}
 use Rattle.pf_system.specs.Bodies.{Body, process_body, bodies_of}
-use Rattle.pf_ties.proofs.Indices.{eq_of, ne_of, below_not, above_is}
+use Rattle.pf_sorted.proofs.Indices.{eq_of, ne_of, below_not, lower}
+use Rattle.pf_sorted.proofs.Sets.{Rises, with_front, without_above}
 
 abbrev pub numbers_in : (State → Bool) → ℕ → List Body → List ℕ
 numbers_in so n [] = []
@@ -21,37 +21,30 @@ by_bodies so n (p ∷ ps) = by (by_bodies so (suc n) ps) (so p.state)
     by h true = ap (λ z. n ∷ z) h
     by h false = h
 
+-- no more numbers than processes
+pub numbers_few : (so : State → Bool) (n : ℕ) (ps : List Process) → length (numbers_of so n ps) ≤ length ps
+numbers_few so n [] = omega arith
+numbers_few so n (p ∷ ps) = by (so p.state) (numbers_few so (suc n) ps)
+  where
+    by : (t : Bool) → length (numbers_of so (suc n) ps) ≤ length ps
+        → length (if t then n ∷ numbers_of so (suc n) ps else numbers_of so (suc n) ps) ≤ suc (length ps)
+    by true h = omega arith
+    by false h = omega arith
+
 -- the same bodies, the same numbers
 pub numbers_alike : (so : State → Bool) (n : ℕ) (c d : Core) → bodies_of c ≡ bodies_of d → numbers_of so n c.processes ≡ numbers_of so n d.processes
 numbers_alike so n c d e = by_bodies so n c.processes ∙ ap (numbers_in so n) e ∙ sym (by_bodies so n d.processes)
 
 -- ---- numbers that rise
 
-abbrev IsRising : ℕ → List ℕ → Type 0
-IsRising low [] = Unit {0}
-IsRising low (x ∷ xs) = (low ≤ x) × IsRising (suc x) xs
-
-lower : (low : ℕ) (xs : List ℕ) → IsRising (suc low) xs → IsRising low xs
-lower low [] h = tt
-lower low (x ∷ xs) h = let q = h.0 in (omega arith, h.1)
-
 module _ (so : State → Bool) where
-  rise : (n : ℕ) (bs : List Body) → IsRising n (numbers_in so n bs)
+  rise : (n : ℕ) (bs : List Body) → Rises n (numbers_in so n bs)
   rise n [] = tt
   rise n (b ∷ bs) = by (so b.state) (rise (suc n) bs)
     where
-      by : (e : Bool) → IsRising (suc n) (numbers_in so (suc n) bs) → IsRising n (if e then n ∷ numbers_in so (suc n) bs else numbers_in so (suc n) bs)
+      by : (e : Bool) → Rises (suc n) (numbers_in so (suc n) bs) → Rises n (if e then n ∷ numbers_in so (suc n) bs else numbers_in so (suc n) bs)
       by true h = (omega arith, h)
-      by false h = lower n (numbers_in so (suc n) bs) h
-
-  with_front : (b low : ℕ) (xs : List ℕ) → b < low → IsRising low xs → with_number b xs ≡ b ∷ xs
-  with_front b low [] l h = refl
-  with_front b low (x ∷ xs) l h = let k = h.0 in let q = ne_of x b (λ z. omega arith) in let p = above_is x b (omega arith) in rw (q, p) refl
-
-  without_below : (b low : ℕ) (xs : List ℕ) → b < low → IsRising low xs → without_number b xs ≡ xs
-  without_below b low [] l h = refl
-  without_below b low (x ∷ xs) l h =
-      let k = h.0 in let q = ne_of x b (λ z. omega arith) in rw q (ap (λ r. x ∷ r) (without_below b (suc x) xs (omega arith) h.1))
+      by false h = lower (λ x. x) (suc n) n (numbers_in so (suc n) bs) (omega arith) h
 
   -- a body that can go no more
   pub gone_in : (n : ℕ) (bs : List Body) (a : ℕ) (b : Body) → a < length bs → so b.state ≡ false
@@ -64,7 +57,7 @@ module _ (so : State → Bool) where
       zero_more = omega arith
 
       h : without_number n (numbers_in so (suc n) bs) ≡ numbers_in so (suc n) bs
-      h = without_below n (suc n) (numbers_in so (suc n) bs) (omega arith) (rise (suc n) bs)
+      h = without_above n (suc n) (numbers_in so (suc n) bs) (omega arith) (rise (suc n) bs)
 
       same_key : (n == n) ≡ true
       same_key = eq_of n n refl

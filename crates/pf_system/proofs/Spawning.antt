@@ -12,7 +12,7 @@ use Rattle.pf_model.specs.Channels.{with_senders}
 use Rattle.pf_model.specs.Configuration.{Process, Core, fresh, of, process_at, is_alive}
 use Rattle.pf_model.specs.Actions.{gives, raising, given, given_for, shown_for, as_atom, as_elements, linked_with, watching_with, after_spawn, spawned, start_of}
 use Rattle.pf_model.specs.Labels as label
-use Rattle.pf_model.specs.Context.{State, running, waiting, ending, ended, failed}
+use Rattle.pf_model.specs.Context.{State, ended, failed}
 use Rattle.pf_model.specs.Runs.{can_go}
 use Rattle.pf_model.specs.Reports.{label_of}
 use Rattle.pf_model.specs.declared.limits.TheConstants.{MOST_PROCESSES}

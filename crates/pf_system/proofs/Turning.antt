@@ -1,10 +1,9 @@
 -- A turn, from what a machine ran and what its last step did.
-use Rattle.std.proofs.Common.{◌≡◌, ℕ, zero, suc, ◌+◌, ◌<◌, ◌≤◌, true, List, [], ◌∷◌, Some, refl, sym, ap, ◌∙◌, subst, arith, length, slice_set}
+use Rattle.std.proofs.Common.{◌≡◌, ℕ, zero, suc, ◌+◌, ◌<◌, ◌≤◌, true, List, [], ◌∷◌, Some, sym, ap, ◌∙◌, subst, arith, length, slice_set}
 use Rattle.std.specs.Prelude.{slice_get}
 use Rattle.pf_terms.specs.Value.{Value}
 use Rattle.pf_syntax.specs.Tree.{Tree}
 use Rattle.pf_model.specs.Module.{Module, module_of}
-use Rattle.pf_model.specs.Contraction.{Change, Becomes, Raises, Exits, Asks, Awaits}
 use Rattle.pf_model.specs.Context as index
 use Rattle.pf_model.specs.Context.{Frame, State, running, waiting, ending, ended, goes_on, asks, awaits, moved, Moves, at_value, at_index}
 use Rattle.pf_model.specs.Channels.{with_senders}

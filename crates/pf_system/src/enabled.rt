@@ -1,26 +1,28 @@
 //! Who may go.
 
-ghost use Rattle.std.specs.Prelude.{◌≡◌, ◌<◌, length, slice_get, Some};
+ghost use Rattle.std.specs.Prelude.{◌≡◌, ◌^◌, ◌<◌, ◌≤◌, length, slice_get, Some};
 ghost use Rattle.pf_model.specs.Channels.{heads};
 ghost use Rattle.pf_model.specs.Reports.{actor_of};
+ghost use Rattle.pf_model.specs.declared.limits.TheConstants.{MOST_PROCESSES};
 ghost use Rattle.pf_system.specs.Steps.{noted};
 
 use pf_channels::Channels;
 use pf_model::report::Actor;
-use pf_ties::Numbers;
+use pf_sorted::SortedSet;
 
 /// The enabled actors: the processes that neither ended nor wait, by number, and then the channels that aren't empty, by sender and
 /// then by receiver.
 #[derive(Drop)]
 pub struct Enabled<'a> {
-    pub(crate) ready: &'a Numbers,
+    pub(crate) ready: &'a SortedSet,
     pub(crate) channels: &'a Channels,
 }
 
 impl Enabled<'_> {
     /// How many there are.
     pub fn len(&self) -> usize
-        ensures { result ≡ length (noted self.now) }
+        ensures count { result ≡ length (noted self.now) }
+        ensures few { length self.now.ready.now ≤ MOST_PROCESSES → result < 2 ^ 32 }
     {
         self.ready.as_slice().len() + self.channels.len()
     }

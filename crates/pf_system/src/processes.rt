@@ -3,9 +3,9 @@
 use crate::shared::Shared;
 use crate::slot::Slot;
 use pf_nodes::Pool;
+use pf_sorted::SortedSet;
 use pf_syntax::Module;
 use pf_terms::Term;
-use pf_ties::Numbers;
 use std::sync::Arc;
 
 /// What a run stands on: the module that its processes run, and how many of them there may be.
@@ -22,6 +22,6 @@ pub(crate) struct Processes {
     pub(crate) basis: Basis,
     pub(crate) slots: Vec<Slot>,
     pub(crate) shared: Shared,
-    pub(crate) ready: Numbers,
+    pub(crate) ready: SortedSet,
     pub(crate) pool: Pool<Term>,
 }

@@ -2,6 +2,7 @@
 
 ghost use Rattle.std.specs.Prelude.{◌≡◌, ◌<◌, if◌then◌else◌, length, option_map, IfOk, OnOk};
 ghost use Rattle.pf_terms.specs.Term.{elements_of, value_of, values_of};
+ghost use Rattle.pf_terms.specs.declared.limits.TheConstants.{MOST_NODES};
 ghost use Rattle.pf_model.specs.Actions.{start_of};
 ghost use Rattle.pf_model.specs.Module.{module_of};
 ghost use Rattle.pf_model.specs.Contraction.{linking, spawn, unbound, watching};
@@ -27,8 +28,11 @@ use std::sync::Arc;
 
 /// The elements of a list, each shared.
 fn elements(alloc: Global, list: &List) -> Result<SmallVec<Term, 4>, NoMemory>
-    ensures { IfOk result (λ items. values_of items.items ≡ elements_of list.now) }
+    ensures items { IfOk result (λ items. values_of items.items ≡ elements_of list.now) }
+    ensures few { IfOk result (λ items. length items.items < MOST_NODES) }
 {
+    // Its contract says that they are few.
+    let _nodes = list.nodes();
     let mut items = SmallVec::new(alloc);
     let mut rest = list;
     while let Some((first, others)) = rest.split() {
@@ -39,27 +43,17 @@ fn elements(alloc: Global, list: &List) -> Result<SmallVec<Term, 4>, NoMemory>
 }
 
 /// The exported function of a module, which is the own one or none, by its name and the number of its arguments.
-fn exported(
-    code: &Module,
-    home: AtomId,
-    name: AtomId,
-    arity: usize,
-) -> Result<Option<FunctionId>, NoMemory>
-    ensures { IfOk result (λ f. option_map (λ i. i.0) f
-        ≡ home_function (module_of code.now) home.0 name.0 arity) }
+fn exported(code: &Module, home: AtomId, name: AtomId, arity: u32) -> Option<FunctionId>
+    ensures { option_map (λ i. i.0) result
+        ≡ home_function (module_of code.now) home.0 name.0 arity }
 {
     if home != code.name() {
-        return Ok(None);
+        return None;
     }
-    let Ok(arity) = u32::try_from(arity) else {
-        return Err(NoMemory);
-    };
-    let Some(id) = code.find(name, arity) else {
-        return Ok(None);
-    };
+    let id = code.find(name, arity)?;
     match code.function(id) {
-        Some(function) if function.exported => Ok(Some(id)),
-        _ => Ok(None),
+        Some(function) if function.exported => Some(id),
+        _ => None,
     }
 }
 
@@ -76,7 +70,7 @@ fn begun(
         (start_of (module_of «module».now.value) home.0 name.0 (elements_of arguments.now)) l) }
 {
     let items = elements(alloc, arguments)?;
-    match exported(module, home, name, items.len())? {
+    match exported(module, home, name, items.len() as u32) {
         Some(function) => Ok(Life::Lives {
             machine: Machine::new(alloc, pid, Arc::try_clone(module)?, function, items)?,
             waits: false,

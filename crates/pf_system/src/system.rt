@@ -1,10 +1,11 @@
 //! The system of processes of one run.
 
-ghost use Rattle.std.specs.Prelude.{◌≡◌, ◌<◌, ◌≤◌, Some, None, IfOk, IsErr, OnErr};
+ghost use Rattle.std.specs.Prelude.{◌≡◌, ◌<◌, ◌≤◌, length, Some, None, IfOk, IsErr, OnErr};
 ghost use Rattle.pf_model.specs.Module.{module_of};
 ghost use Rattle.pf_model.specs.Limits.{IsEdition};
 ghost use Rattle.pf_model.specs.Meaning.{outcome_of as outcome_where};
 ghost use Rattle.pf_model.specs.Reports.{label_of, outcome_of};
+ghost use Rattle.pf_model.specs.declared.limits.TheConstants.{MOST_PROCESSES};
 ghost use Rattle.pf_model.specs.Runs.{process, channel, enabled, start};
 ghost use Rattle.pf_system.specs.View.{view_of_system};
 ghost use Rattle.pf_system.specs.Steps.{IsNoteOf, MayGo, PassesTo, noted};
@@ -17,10 +18,11 @@ use pf_channels::Channels;
 use pf_model::limits::most_processes;
 use pf_model::report::{Label, Outcome};
 use pf_nodes::Pool;
+use pf_sorted::SortedSet;
 use pf_stepper::Machine;
 use pf_syntax::{FunctionId, Module};
 use pf_terms::{NoMemory, Term};
-use pf_ties::{Numbers, Ties};
+use pf_ties::Ties;
 use smallvec::SmallVec;
 use std::alloc::Global;
 use std::marker::Model;
@@ -76,7 +78,7 @@ impl System {
                 ties: Ties::new(alloc),
                 channels: Channels::new(alloc),
             },
-            ready: Numbers::new(alloc),
+            ready: SortedSet::new(alloc),
             pool: Pool::new(alloc),
         };
         processes.open(
@@ -106,6 +108,7 @@ impl System {
     pub fn enabled(&self) -> Enabled<'_>
         ensures actors { (c : _) → self.now.standing ≡ Some c → noted result ≡ enabled c }
         ensures both { (c : _) → self.now.standing ≡ Some c → IsNoteOf result c }
+        ensures few { (c : _) → self.now.standing ≡ Some c → length result.ready.now ≤ MOST_PROCESSES }
     {
         Enabled {
             ready: &self.processes.ready,

@@ -1,6 +1,3 @@
-pub mod Indices
-pub mod Sets
-pub mod Maps
 pub mod LookUps
 pub mod Naming
 pub mod Kept

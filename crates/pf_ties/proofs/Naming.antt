@@ -1,15 +1,16 @@
 -- Names and the processes that have them, after a change.
-use Rattle.std.proofs.Common.{◌≡◌, ℕ, suc, zero, Bool, true, false, not, List, [], ◌∷◌, Option, Some, None, ◌==◌, if◌then◌else◌, refl, sym, ap, ◌∙◌, arith}
+use Rattle.std.proofs.Common.{◌≡◌, ℕ, suc, Bool, true, false, not, [], ◌∷◌, Option, Some, None, ◌==◌, if◌then◌else◌, refl, sym, ap, ◌∙◌, arith}
 use Rattle.std.specs.Prelude.{is_some}
 use Rattle.std.proofs.lemmas.Bool.{false≢true}
 use Rattle.std.proofs.lemmas.Bool.Decides.{nat_tests}
 use Rattle.pf_model.specs.Maps.{got, put, without}
 use Rattle.pf_model.specs.Actions.{is_named}
 use Rattle.pf_model.specs.Ends.{without_name}
+use Rattle.pf_model.proofs.Maps.{got_put, got_other, got_without, got_without_other}
 use Rattle.pf_ties.specs.Names.{AreInverse}
-use Rattle.pf_ties.proofs.Indices.{eq_of}
-use Rattle.pf_ties.proofs.Maps.{Entries, Rises, got_above, put_rises, without_rises}
-use Rattle.pf_ties.proofs.LookUps.{eq_self, same_from, some_is, none_some, got_put, got_put_other, got_without, got_without_other, without_none}
+use Rattle.pf_sorted.proofs.Indices.{eq_of}
+use Rattle.pf_sorted.proofs.Maps.{Rises, got_above, put_rises, without_rises}
+use Rattle.pf_ties.proofs.LookUps.{Entries, eq_self, same_from, some_is, none_some, without_none}
 
 eq_flip : (a b : ℕ) → (a == b) ≡ (b == a)
 eq_flip a b = grind (arith, nat_tests)
@@ -25,8 +26,8 @@ leads_put a b n p h free m q e = by (m == n) refl
   where
     other : (t : Bool) → (q == p) ≡ t → (m == n) ≡ false → got q (put p n b) ≡ Some m
     other true z k =
-        none_some (got p b) m free (ap (λ y. got y b) (sym (same_from q p z)) ∙ h m q (sym (got_put_other m n p a k) ∙ e))
-    other false z k = got_put_other q p n b z ∙ h m q (sym (got_put_other m n p a k) ∙ e)
+        none_some (got p b) m free (ap (λ y. got y b) (sym (same_from q p z)) ∙ h m q (sym (got_other m n p a k) ∙ e))
+    other false z k = got_other q p n b z ∙ h m q (sym (got_other m n p a k) ∙ e)
 
     by : (t : Bool) → (m == n) ≡ t → got q (put p n b) ≡ Some m
     by true k =

@@ -1,4 +1,3 @@
-pub mod Sorted
 pub mod Names
 pub mod Ties
 pub mod Fates

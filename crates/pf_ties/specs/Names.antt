@@ -1,7 +1,7 @@
 -- Names in use, and the same by process.
 use Rattle.std.specs.Prelude.{◌≡◌, ℕ, List, Some}
 use Rattle.pf_model.specs.Maps.{got}
-use Rattle.pf_ties.specs.Sorted.{IsRising}
+use Rattle.pf_sorted.specs.Sorted.{IsRising}
 
 -- a process stands at a name exactly where the name stands at the process
 pub record AreInverse (names processes : List (ℕ × ℕ)) : Type 0 where

@@ -3,14 +3,11 @@
 
 mod fate;
 pub mod laws;
-mod map;
 mod names;
-mod numbers;
 mod process;
 mod refusal;
 mod ties;
 
 pub use fate::Fate;
-pub use numbers::Numbers;
 pub use refusal::BadArgument;
 pub use ties::Ties;

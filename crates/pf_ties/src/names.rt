@@ -5,7 +5,7 @@ ghost use Rattle.pf_model.specs.Maps.{got, put, without};
 ghost use Rattle.pf_model.specs.Actions.{is_named};
 ghost use Rattle.pf_model.specs.Ends.{without_name};
 
-use crate::map::Map;
+use pf_sorted::SortedMap;
 use pf_terms::{AtomId, NoMemory};
 use std::alloc::Global;
 use std::marker::Model;
@@ -13,8 +13,8 @@ use std::marker::Model;
 /// The process of each name in use. Contracts see it by the name's number.
 #[derive(Drop)]
 pub(crate) struct Names {
-    by_name: Map,
-    by_process: Map,
+    by_name: SortedMap<u32>,
+    by_process: SortedMap<u32>,
 }
 
 impl Model for Names {
@@ -33,22 +33,22 @@ impl Names {
         ensures { result ≡ [] }
     {
         Names {
-            by_name: Map::new(alloc),
-            by_process: Map::new(alloc),
+            by_name: SortedMap::new(alloc),
+            by_process: SortedMap::new(alloc),
         }
     }
 
     pub(crate) fn get(&self, name: AtomId) -> Option<u32>
         ensures { result ≡ got name.0 self.now }
     {
-        self.by_name.get(u64::from(name.0))
+        self.by_name.get(u64::from(name.0)).copied()
     }
 
     /// Whether a process has a name.
     pub(crate) fn is_named(&self, pid: u32) -> bool
         ensures { result ≡ is_named pid self.now }
     {
-        self.by_process.get(u64::from(pid)).is_some()
+        self.by_process.has(u64::from(pid))
     }
 
     /// Gives a process a name.

@@ -11,15 +11,15 @@ pub overflow_sub-self-2 : goal.overflow_sub-self-2
 overflow_sub-self-2 c =
     let w = row_within c.self.inside.rows.items c.args.from c.index_mut-row.result.now c.self.inside.count c.self.invariant
     (omega (arith, c.len.ensures, c.if-sender-len.false)) c.index_mut-row.ensures.value in
-    omega (arith, w.0, c.len-before.ensures.count)
+    omega (arith, w, c.len-before.ensures.count)
 
 pub invariant_of-self : goal.invariant_of-self
 invariant_of-self c =
     let w = row_within c.self.inside.rows.items c.args.from c.index_mut-row.result.now c.self.inside.count c.self.invariant
     (omega (arith, c.len.ensures, c.if-sender-len.false)) c.index_mut-row.ensures.value in
     counted_set c.self.inside.rows.items c.args.from c.index_mut-row.result.now c.take-signal.new.self c.self.inside.count _ c.self.invariant
-    (omega (arith, c.len.ensures, c.if-sender-len.false)) c.index_mut-row.ensures.value (omega (arith, w.1, c.take-signal.ensures.count))
-    (omega (arith, w.0, c.len-before.ensures.count, c.len-2.ensures.count, c.take-signal.ensures.count))
+    (omega (arith, c.len.ensures, c.if-sender-len.false)) c.index_mut-row.ensures.value (omega (arith, c.self.invariant.within))
+    (omega (arith, w, c.len-before.ensures.count, c.len-2.ensures.count, c.take-signal.ensures.count))
 
 pub returns-clause-delivered : goal.returns-clause-delivered
 returns-clause-delivered c =

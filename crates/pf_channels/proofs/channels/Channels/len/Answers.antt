@@ -1,5 +1,4 @@
-use Rattle.pf_channels.proofs.Heads.{counted_few}
 use Rattle.pf_channels.proofs.channels.Channels.len.Goals as goal
 
 pub returns-clause-few : goal.returns-clause-few
-returns-clause-few c = counted_few _ _ c.self.invariant
+returns-clause-few c = c.self.invariant.within

@@ -1,5 +1,5 @@
-use Rattle.std.proofs.Common.{◌+◌, ◌-◌, arith}
-use Rattle.pf_channels.proofs.Heads.{counted_set, counted_fits}
+use Rattle.std.proofs.Common.{arith}
+use Rattle.pf_channels.proofs.Heads.{counted_set}
 use Rattle.pf_channels.proofs.Indices.{sent_at}
 use Rattle.pf_channels.proofs.channels.Channels.send.Goals as goal
 
@@ -7,17 +7,9 @@ pub invariant_of-self-2 : goal.invariant_of-self-2
 invariant_of-self-2 c =
     let l = rw (← c.self.view_is) at c.requires in
     counted_set c.self.inside.rows.items c.args.from c.index_mut-row.result.now c.send.new.self c.self.inside.count _ c.self.invariant l
-    c.index_mut-row.ensures.value c.in_ok-send.ensures.bound (omega (arith, c.len-before.ensures.count, c.len.ensures.count, c.in_ok-send.ensures.count))
-
-pub overflow_add-self : goal.overflow_add-self
-overflow_add-self c =
-    let l = rw (← c.self.view_is) at c.requires in
-    let after = c.self.inside.count + (c.len.result - c.len-before.result) in
-    let counted =
-    counted_set c.self.inside.rows.items c.args.from c.index_mut-row.result.now c.send.new.self c.self.inside.count after c.self.invariant l
-    c.index_mut-row.ensures.value c.in_ok-send.ensures.bound
-    (omega (arith, c.len-before.ensures.count, c.len.ensures.count, c.in_ok-send.ensures.count)) in
-    omega (arith, counted_fits _ after counted)
+    c.index_mut-row.ensures.value
+    (omega (arith, c.len-before.ensures.count, c.len.ensures.count, c.in_ok-send.ensures.one, c.if-self-ge-MOST_HEADS.false))
+    (omega (arith, c.len-before.ensures.count, c.len.ensures.count, c.in_ok-send.ensures.count))
 
 pub returns-clause-sent : goal.returns-clause-sent
 returns-clause-sent c =

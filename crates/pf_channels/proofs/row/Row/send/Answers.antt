@@ -1,49 +1,53 @@
-use Rattle.std.proofs.Common.{slice_set, arith}
-use Rattle.pf_channels.proofs.Sorted.{rises_insert, rises_short}
-use Rattle.pf_channels.proofs.Rows.{found, found_rises, sent_found, sent_gap}
+use Rattle.pf_model.specs.Signals.{signal_of}
+use Rattle.pf_channels.proofs.Rows.{receivers_value, sent_found, refused_found, count_found, one_found, sent_gap, receivers_gap, count_gap, one_gap}
 use Rattle.pf_channels.proofs.row.Row.send.Goals as goal
 
 pub invariant_of-self : goal.invariant_of-self
-invariant_of-self c =
-    found_rises c.args.to c.self.inside.queues.items c.in-Ok.at c.index_mut.result.now c.push.new.self
-    (found c.args.to c.self.inside.queues.items c.args.self.now c.in-Ok.at c.index_mut.result.now c.self.invariant c.self.view_is c.in-Ok.ensures
-    c.index_mut.ensures.value)
-
-pub returns-in_err-queue-in-Err-clause-bound : goal.returns-in_err-queue-in-Err-clause-bound
-returns-in_err-queue-in-Err-clause-bound c = rw (← c.self.view_is) (rises_short c.self.inside.queues.items c.self.invariant)
-
-pub returns-in_err-insert-in-Err-clause-bound : goal.returns-in_err-insert-in-Err-clause-bound
-returns-in_err-insert-in-Err-clause-bound c =
-    rw c.in_err-insert-in-Err.ensures.items (rises_short c.self.inside.queues.items c.self.invariant)
+invariant_of-self c = receivers_value c.self.inside.queues c.in-Ok.at c.push.new.self c.self.invariant
 
 pub invariant_of-self-in-Err : goal.invariant_of-self-in-Err
 invariant_of-self-in-Err c =
-    let g = rw (← c.self.view_is) at c.in-Err.ensures in
-    rw c.in_ok-insert-in-Err.ensures.items
-    (rises_insert c.args.to 0 c.self.inside.queues.items c.in-Err.at _ (omega arith) c.ranges.to.fits c.self.invariant g.1)
+    let inserted = rw c.from-key.ensures at c.insert_at.ensures.inserted in
+    receivers_gap c.args.to c.in_ok-queue-in-Err.queue c.self.inside.queues c.insert_at.new.self c.insert_at.result c.ranges.to.fits
+    c.self.invariant inserted c.insert_at.ensures.refused
 
 pub returns-in-Ok-clause-sent : goal.returns-in-Ok-clause-sent
 returns-in-Ok-clause-sent c =
+    let h = rw c.from-key.ensures at c.in-Ok.ensures.found in
     rw (← c.self.view_is)
-    (sent_found c.args.to c.self.inside.queues.items c.in-Ok.at c.index_mut.result.now c.push.new.self _ c.push.result
-    (found c.args.to c.self.inside.queues.items c.args.self.now c.in-Ok.at c.index_mut.result.now c.self.invariant c.self.view_is
-    c.in-Ok.ensures c.index_mut.ensures.value) c.push.ensures.pushed)
+    (sent_found c.args.to c.self.inside.queues c.in-Ok.at c.value_mut.result.now c.push.new.self (signal_of c.args.signal) c.push.result
+    h.1 c.value_mut.ensures.value c.push.ensures.pushed)
 
-pub returns-in-Ok-clause-bound : goal.returns-in-Ok-clause-bound
-returns-in-Ok-clause-bound c =
-    rises_short (slice_set c.self.inside.queues.items c.in-Ok.at (c.index_mut.result.now.0, c.push.new.self))
-    (found_rises c.args.to c.self.inside.queues.items c.in-Ok.at c.index_mut.result.now c.push.new.self
-    (found c.args.to c.self.inside.queues.items c.args.self.now c.in-Ok.at c.index_mut.result.now c.self.invariant c.self.view_is
-    c.in-Ok.ensures c.index_mut.ensures.value))
+pub returns-in-Ok-clause-refused : goal.returns-in-Ok-clause-refused
+returns-in-Ok-clause-refused c =
+    rw (← c.self.view_is)
+    (refused_found c.args.to c.self.inside.queues c.in-Ok.at c.value_mut.result.now c.push.new.self c.push.result c.value_mut.ensures.value
+    c.push.ensures.refused)
 
-pub returns-in_ok-insert-in-Err-clause-sent : goal.returns-in_ok-insert-in-Err-clause-sent
-returns-in_ok-insert-in-Err-clause-sent c =
-    let g = rw (← c.self.view_is) at c.in-Err.ensures in
-    rw (c.in_ok-insert-in-Err.ensures.items, c.in_ok-queue-in-Err.ensures, ← c.self.view_is)
-    (sent_gap c.args.to c.self.inside.queues.items c.in-Err.at _ c.self.invariant g.1)
+pub returns-in-Ok-clause-count : goal.returns-in-Ok-clause-count
+returns-in-Ok-clause-count c =
+    rw (← c.self.view_is) (count_found c.args.to c.self.inside.queues c.in-Ok.at c.push.new.self c.push.result)
 
-pub returns-in_ok-insert-in-Err-clause-bound : goal.returns-in_ok-insert-in-Err-clause-bound
-returns-in_ok-insert-in-Err-clause-bound c =
-    let g = rw (← c.self.view_is) at c.in-Err.ensures in
-    rw c.in_ok-insert-in-Err.ensures.items
-    (rises_short _ (rises_insert c.args.to 0 c.self.inside.queues.items c.in-Err.at _ (omega arith) c.ranges.to.fits c.self.invariant g.1))
+pub returns-in-Ok-clause-one : goal.returns-in-Ok-clause-one
+returns-in-Ok-clause-one c =
+    rw (← c.self.view_is) (one_found c.args.to c.self.inside.queues c.in-Ok.at c.push.new.self c.push.result)
+
+pub returns-in_ok-queue-in-Err-clause-sent : goal.returns-in_ok-queue-in-Err-clause-sent
+returns-in_ok-queue-in-Err-clause-sent c =
+    let inserted = rw c.from-key.ensures at c.insert_at.ensures.inserted in
+    let g = rw c.from-key.ensures at c.in-Err.ensures.found in
+    rw (← c.self.view_is)
+    (sent_gap c.args.to c.in_ok-queue-in-Err.queue c.self.inside.queues c.insert_at.new.self c.in-Err.at (signal_of c.args.signal)
+    c.insert_at.result c.index_of.ensures.rises g.1 c.in_ok-queue-in-Err.ensures inserted)
+
+pub returns-in_ok-queue-in-Err-clause-count : goal.returns-in_ok-queue-in-Err-clause-count
+returns-in_ok-queue-in-Err-clause-count c =
+    let inserted = rw c.from-key.ensures at c.insert_at.ensures.inserted in
+    rw (← c.self.view_is)
+    (count_gap c.args.to c.in_ok-queue-in-Err.queue c.self.inside.queues c.insert_at.new.self c.insert_at.result inserted)
+
+pub returns-in_ok-queue-in-Err-clause-one : goal.returns-in_ok-queue-in-Err-clause-one
+returns-in_ok-queue-in-Err-clause-one c =
+    let inserted = rw c.from-key.ensures at c.insert_at.ensures.inserted in
+    rw (← c.self.view_is)
+    (one_gap c.args.to c.in_ok-queue-in-Err.queue c.self.inside.queues c.insert_at.new.self c.insert_at.result inserted)

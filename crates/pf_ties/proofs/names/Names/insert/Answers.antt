@@ -1,4 +1,3 @@
-use Rattle.std.proofs.Common.{◌≡◌, sym, ap, ◌∙◌}
 use Rattle.pf_ties.proofs.LookUps.{without_put}
 use Rattle.pf_ties.proofs.Naming.{inverse_put, unnamed_none}
 use Rattle.pf_ties.proofs.names.Names.insert.Goals as goal

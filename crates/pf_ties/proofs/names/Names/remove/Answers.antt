@@ -1,4 +1,4 @@
-use Rattle.std.proofs.Common.{◌≡◌, sym, ap, ◌∙◌}
+use Rattle.std.proofs.Common.{sym}
 use Rattle.pf_ties.proofs.Naming.{inverse_without, inverse_same}
 use Rattle.pf_ties.proofs.names.Names.remove.Goals as goal
 

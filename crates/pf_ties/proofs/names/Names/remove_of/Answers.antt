@@ -1,4 +1,4 @@
-use Rattle.std.proofs.Common.{◌≡◌, sym, ap, ◌∙◌}
+use Rattle.std.proofs.Common.{sym}
 use Rattle.pf_ties.proofs.LookUps.{without_none}
 use Rattle.pf_ties.proofs.Naming.{inverse_without, name_kept, name_lost}
 use Rattle.pf_ties.proofs.names.Names.remove_of.Goals as goal

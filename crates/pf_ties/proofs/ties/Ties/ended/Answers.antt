@@ -1,6 +1,4 @@
-use Rattle.std.proofs.Common.{◌≡◌, refl, sym, ap, ◌∙◌, arith}
-use Rattle.pf_ties.specs.Ties.{AllTies}
-use Rattle.pf_ties.proofs.Kept.{at_index, past_end, unlinked_is, demonitored_is, links_same, all_same}
+use Rattle.pf_ties.proofs.Kept.{at_index}
 use Rattle.pf_ties.proofs.ties.Ties.ended.Goals as goal
 
 pub returns-clause-last : goal.returns-clause-last

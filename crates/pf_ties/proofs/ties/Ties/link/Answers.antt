@@ -1,7 +1,6 @@
-use Rattle.std.proofs.Common.{◌≡◌, ◌++◌, ◌∷◌, [], refl, sym, ap, ◌∙◌, arith, add-one, length, slice_set}
-use Rattle.pf_ties.specs.Ties.{AllTies, begun}
-use Rattle.pf_ties.proofs.Kept.{at_index, past_end, unlinked_is, demonitored_is, on_ok, not_new, all_same, same_ties, is_new, new_ties, dropped, exit_same, exit_changed, fate_linked, fate_other, at_front, set_front}
-use Rattle.pf_ties.proofs.Indices.{lt_from, le_from}
+use Rattle.std.proofs.Common.{sym, ◌∙◌, arith}
+use Rattle.pf_ties.specs.Ties.{AllTies}
+use Rattle.pf_ties.proofs.Kept.{at_index, not_new, all_same, same_ties, is_new, new_ties}
 use Rattle.std.proofs.lemmas.Bool.Decides.{nat_tests}
 use Rattle.pf_ties.proofs.ties.Ties.link.Goals as goal
 

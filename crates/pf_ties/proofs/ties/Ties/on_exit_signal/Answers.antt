@@ -1,8 +1,6 @@
-use Rattle.std.proofs.Common.{◌≡◌, ◌++◌, ◌∷◌, [], refl, sym, ap, ◌∙◌, arith, add-one, length, slice_set}
-use Rattle.pf_ties.specs.Ties.{AllTies, begun}
-use Rattle.pf_ties.proofs.Kept.{at_index, past_end, unlinked_is, demonitored_is, on_ok, not_new, same_ties, is_new, new_ties, dropped, exit_same, exit_changed, fate_linked, fate_other, at_front, set_front}
-use Rattle.pf_ties.proofs.Indices.{lt_from, le_from}
-use Rattle.std.proofs.lemmas.Bool.Decides.{nat_tests}
+use Rattle.std.proofs.Common.{sym}
+use Rattle.pf_ties.specs.Ties.{AllTies}
+use Rattle.pf_ties.proofs.Kept.{at_index, dropped, exit_same, exit_changed, fate_linked, fate_other}
 use Rattle.pf_ties.proofs.ties.Ties.on_exit_signal.Goals as goal
 
 pub returns-then-not-by_link-clause-fate : goal.returns-then-not-by_link-clause-fate

@@ -1,4 +1,4 @@
-use Rattle.std.proofs.Common.{List, ◌≡◌, ◌++◌, ◌∷◌, [], ap, ◌∙◌}
+use Rattle.std.proofs.Common.{List, ◌++◌, ◌∷◌, [], ap, ◌∙◌}
 use Rattle.pf_ties.specs.Ties.{AllTies, ProcessTies, begun}
 use Rattle.pf_ties.proofs.Kept.{at_more, opened_is}
 use Rattle.pf_ties.proofs.ties.Ties.open_linked.Goals as goal

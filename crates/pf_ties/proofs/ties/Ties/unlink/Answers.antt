@@ -1,6 +1,5 @@
-use Rattle.std.proofs.Common.{◌≡◌, refl, sym, ap, ◌∙◌, arith}
 use Rattle.pf_ties.specs.Ties.{AllTies}
-use Rattle.pf_ties.proofs.Kept.{at_index, past_end, unlinked_is, demonitored_is, links_same, all_same}
+use Rattle.pf_ties.proofs.Kept.{at_index, unlinked_is}
 use Rattle.pf_ties.proofs.ties.Ties.unlink.Goals as goal
 
 pub returns-clause-was : goal.returns-clause-was

@@ -1,0 +1,11 @@
+use Rattle.std.proofs.Common.{rules}
+use Rattle.std.proofs.lemmas.List.Sorted.{answers_always}
+use Rattle.pf_sorted.proofs.Indices.{searched}
+use Rattle.pf_sorted.proofs.map.SortedMap.index_of.Goals as goal
+
+pub returns-clause-found : goal.returns-clause-found
+returns-clause-found g c =
+    let facts = c.binary_search_by_key.ensures in
+    let by_key = facts.position (λ entry. entry.0) (answers_always _ _ _ (λ f a r s called. search rules)) in
+    rw (← c.self.view_is, ← c.deref.ensures.value)
+    (searched (λ e. e.0) c.args.key c.deref.result.now (rw c.deref.ensures.value c.self.invariant) _ facts.bound by_key)
