@@ -29,21 +29,21 @@ pub(crate) struct Run {
     pub events: Vec<Event>,
 }
 
-/// What an actor does that may go, within the steps that are left: what it shows, and how many steps it used.
+/// What an actor does that may go, within the limit of steps: what it shows, and how many steps it used.
 fn pass(
     alloc: Global,
     system: &mut System,
     actor: Actor,
-    left: u32,
+    limit: u32,
 ) -> Result<(Label, u32), NoMemory>
     requires enabled { MayGo (actor_of actor) system.old.standing }
-    requires left { 0 < left }
+    requires left { system.old.steps < limit }
     ensures { IfOk result (λ r.
-        PassesTo left system.old (actor_of actor) (label_of r.0) r.1 system.new) }
+        PassesTo (limit - system.old.steps) system.old (actor_of actor) (label_of r.0) r.1 system.new) }
 {
     match actor {
-        Actor::Process(pid) => system.turn(alloc, pid, left),
-        Actor::Channel { from, to } => Ok((system.deliver(alloc, from, to)?, 1)),
+        Actor::Process(pid) => system.turn(alloc, pid, limit),
+        Actor::Channel { from, to } => Ok((system.deliver(alloc, from, to, limit)?, 1)),
     }
 }
 
@@ -57,16 +57,16 @@ fn choose(choices: &mut Choices, enabled: &Enabled<'_>) -> usize
     choices.next_of(enabled.processes(), enabled.channels())
 }
 
-/// The transition of the actor that the next word chooses, within the steps that are left; none if nobody may go.
+/// The transition of the actor that the next word chooses, within the limit of steps; none if nobody may go.
 fn go(
     alloc: Global,
     system: &mut System,
     choices: &mut Choices,
-    left: u32,
+    limit: u32,
 ) -> Result<Option<Event>, NoMemory>
-    requires { 0 < left }
+    requires { system.old.steps < limit }
     ensures { IfOk result (λ o. (c : Configuration) → system.old.standing ≡ Some c
-        → MayHaveGone left c system.old choices.old o system.new choices.new) }
+        → MayHaveGone (limit - system.old.steps) c system.old choices.old o system.new choices.new) }
 {
     let enabled = system.enabled();
     let among = enabled.len();
@@ -75,7 +75,7 @@ fn go(
     }
     let index = choose(choices, &enabled);
     let actor = enabled.actor(index);
-    let (label, _) = pass(alloc, system, actor, left)?;
+    let (label, _) = pass(alloc, system, actor, limit)?;
     Ok(Some(Event {
         choice: index as u32,
         count: among as u32,
@@ -114,8 +114,7 @@ impl Run {
             if self.system.steps() >= limit {
                 return Ok(true);
             }
-            let left = limit - self.system.steps();
-            match go(alloc, &mut self.system, &mut self.choices, left)? {
+            match go(alloc, &mut self.system, &mut self.choices, limit)? {
                 None => return Ok(true),
                 Some(event) => self.events.push(event)?,
             }

@@ -1,6 +1,6 @@
 //! The system of processes of one run.
 
-ghost use Rattle.std.specs.Prelude.{◌≡◌, ◌<◌, ◌≤◌, length, Some, None, IfOk, IsErr, OnErr};
+ghost use Rattle.std.specs.Prelude.{◌≡◌, ◌-◌, ◌<◌, ◌≤◌, length, Some, None, IfOk, IsErr, OnErr};
 ghost use Rattle.pf_model.specs.Module.{module_of};
 ghost use Rattle.pf_model.specs.Limits.{IsEdition};
 ghost use Rattle.pf_model.specs.Meaning.{outcome_of as outcome_where};
@@ -131,13 +131,13 @@ impl System {
         self.processes.outcome(alloc)
     }
 
-    /// The turn of a process that may go: all its steps up to and with its next action, message, wait or end, but no more than
-    /// `left`; what it shows, and how many they were.
-    pub fn turn(&mut self, alloc: Global, pid: u32, left: u32) -> Result<(Label, u32), NoMemory>
+    /// The turn of a process that may go: all its steps up to and with its next action, message, wait or end, but none past the
+    /// limit of steps; what it shows, and how many they were.
+    pub fn turn(&mut self, alloc: Global, pid: u32, limit: u32) -> Result<(Label, u32), NoMemory>
         requires enabled { MayGo (process pid) self.old.standing }
-        requires left { 0 < left }
+        requires left { self.old.steps < limit }
         ensures passed { IfOk result (λ r.
-            PassesTo left self.old (process pid) (label_of r.0) r.1 self.new) }
+            PassesTo (limit - self.old.steps) self.old (process pid) (label_of r.0) r.1 self.new) }
         ensures spent { OnErr result (self.new ≡ view_of_system self.old.code self.old.steps None) }
         ensures refused { self.old.standing ≡ None → IsErr result }
     {
@@ -145,18 +145,22 @@ impl System {
             return Err(NoMemory);
         }
         self.spent = true;
-        let (label, used) = self.processes.turn(alloc, pid, left)?;
-        let Some(steps) = self.steps.checked_add(used) else {
-            return Err(NoMemory);
-        };
-        self.steps = steps;
+        let (label, used) = self.processes.turn(alloc, pid, limit - self.steps)?;
+        self.steps += used;
         self.spent = false;
         Ok((label, used))
     }
 
-    /// The delivery of the oldest signal from one process to another, which is a step, and what it shows.
-    pub fn deliver(&mut self, alloc: Global, from: u32, to: u32) -> Result<Label, NoMemory>
+    /// The delivery of the oldest signal from one process to another, which is a step within the limit, and what it shows.
+    pub fn deliver(
+        &mut self,
+        alloc: Global,
+        from: u32,
+        to: u32,
+        limit: u32,
+    ) -> Result<Label, NoMemory>
         requires enabled { MayGo (channel from to) self.old.standing }
+        requires left { self.old.steps < limit }
         ensures passed { IfOk result (λ l.
             PassesTo 1 self.old (channel from to) (label_of l) 1 self.new) }
         ensures spent { OnErr result (self.new ≡ view_of_system self.old.code self.old.steps None) }
@@ -167,10 +171,7 @@ impl System {
         }
         self.spent = true;
         let label = self.processes.deliver(alloc, from, to)?;
-        let Some(steps) = self.steps.checked_add(1) else {
-            return Err(NoMemory);
-        };
-        self.steps = steps;
+        self.steps += 1;
         self.spent = false;
         Ok(label)
     }

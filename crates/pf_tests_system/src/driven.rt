@@ -9,7 +9,7 @@ use std::alloc::Global;
 use std::sync::Arc;
 use std::test::Fail;
 
-/// More steps than any turn of a test takes.
+/// More steps than any run of a test takes.
 const ENOUGH: u32 = 1000;
 
 /// The module of a source, and its function `main`.
@@ -57,9 +57,12 @@ impl Driven {
             return Err(Fail::from("so many may not go"));
         }
         let actor = enabled.actor(index);
+        if self.system.steps() >= ENOUGH {
+            return Err(Fail::from("the run has too many steps"));
+        }
         let label = match actor {
             Actor::Process(pid) => self.system.turn(alloc, pid, ENOUGH)?.0,
-            Actor::Channel { from, to } => self.system.deliver(alloc, from, to)?,
+            Actor::Channel { from, to } => self.system.deliver(alloc, from, to, ENOUGH)?,
         };
         self.events.push(Event {
             choice: u32::try_from(index)?,

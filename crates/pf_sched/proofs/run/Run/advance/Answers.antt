@@ -19,7 +19,7 @@ returns-in-None c j cs e run =
     let g = i.0 in
     let s = c.loop.self.system in
     let w =
-    subst (λ o. MayHaveGone (c.args.limit - c.steps-in-loop.result) g.last s c.loop.self.choices o c.go.new.system c.go.new.choices) c.in-None.is
+    subst (λ o. MayHaveGone (c.args.limit - s.steps) g.last s c.loop.self.choices o c.go.new.system c.go.new.choices) c.in-None.is
     (c.in_ok-go.ensures g.last g.stands) in
     let count : length c.loop.self.events.items ≤ length c.args.self.now.events.items + c.args.turns = omega arith in
     let there =
@@ -32,9 +32,9 @@ loop-preserved c j cs e run =
     let g = i.0 in
     let s = c.loop.self.system in
     let w =
-    subst (λ o. MayHaveGone (c.args.limit - c.steps-in-loop.result) g.last s c.loop.self.choices o c.go.new.system c.go.new.choices) c.in-Some.is
+    subst (λ o. MayHaveGone (c.args.limit - s.steps) g.last s c.loop.self.choices o c.go.new.system c.go.new.choices) c.in-Some.is
     (c.in_ok-go.ensures g.last g.stands) in
-    let left : c.args.limit - c.steps-in-loop.result ≡ j.asked.limit - s.steps = omega arith in
+    let left : c.args.limit - s.steps ≡ j.asked.limit - s.steps = omega arith in
     let some : s.steps < j.asked.limit = omega arith in
     let went = subst (λ n. Went n g.last s c.loop.self.choices c.in-Some.event c.go.new.system c.go.new.choices) left w in
     let there =

@@ -1,4 +1,4 @@
-use Rattle.std.proofs.Common.{Some, sym, subst}
+use Rattle.std.proofs.Common.{◌≡◌, ◌+◌, Some, sym, subst, arith}
 use Rattle.pf_model.specs.Module.{module_of}
 use Rattle.pf_model.specs.Runs.{channel}
 use Rattle.pf_model.specs.Reports.{label_of}
@@ -16,6 +16,11 @@ deliver-requires-clause-there c =
     let v = unspent c.args.self.now (module_of f.module.value) f.steps f.spent d c.self.view_is c.if-self.false in
     has_signal c.args.from c.args.to d (subst (λ s. MayGo (channel c.args.from c.args.to) s.standing) v c.requires.enabled)
 
+pub overflow_add-self : goal.overflow_add-self
+overflow_add-self c =
+    let h = rw (← c.self.view_is) at c.requires.left in
+    omega (arith, h, c.ranges.limit.fits)
+
 pub invariant_of-self-2 : goal.invariant_of-self-2
 invariant_of-self-2 c e =
     still_kept (module_of c.self.inside.module.value) c.self.inside.processes c.deliver.new.self c.args.from c.args.to c.in_ok-label.label
@@ -29,6 +34,6 @@ returns-clause-passed c =
     let e = configuration_of c.deliver.new.self in
     let x = channel c.args.from c.args.to in
     let l = label_of c.in_ok-label.label in
-    subst (λ s. PassesTo 1 s x l 1 (view_of_system m c.in-Some.steps (Some e))) (sym (unspent c.args.self.now m f.steps f.spent d c.self.view_is c.if-self.false))
-    (subst (λ j. PassesTo 1 (view_of_system m f.steps (Some d)) x l 1 (view_of_system m j (Some e))) (sym c.in-Some.ensures.1)
-    (delivery_passes m f.processes c.deliver.new.self f.steps c.args.from c.args.to c.in_ok-label.label c.in_ok-label.ensures))
+    subst (λ s. PassesTo 1 s x l 1 (view_of_system m (f.steps + 1) (Some e)))
+    (sym (unspent c.args.self.now m f.steps f.spent d c.self.view_is c.if-self.false))
+    (delivery_passes m f.processes c.deliver.new.self f.steps c.args.from c.args.to c.in_ok-label.label c.in_ok-label.ensures)

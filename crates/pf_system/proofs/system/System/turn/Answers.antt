@@ -1,4 +1,4 @@
-use Rattle.std.proofs.Common.{◌≡◌, Some, sym, ap, ◌∙◌, subst}
+use Rattle.std.proofs.Common.{◌≡◌, ◌+◌, ◌-◌, Some, sym, ap, ◌∙◌, subst, arith}
 use Rattle.pf_model.specs.Module.{module_of}
 use Rattle.pf_model.specs.Runs.{process}
 use Rattle.pf_model.specs.Reports.{label_of}
@@ -20,10 +20,18 @@ turn-requires-clause-enabled c =
     sym c.self.view_is ∙ ap (λ t. view_of_system m c.self.inside.steps (unless_spent t (configuration_of w))) c.if-self.false in
     can_go_of c.args.pid (configuration_of w) (subst (λ s. MayGo (process c.args.pid) s.standing) v c.requires.enabled)
 
+pub turn-requires-clause-left : goal.turn-requires-clause-left
+turn-requires-clause-left c = let h = rw (← c.self.view_is) at c.requires.left in omega arith
+
+pub overflow_add-self : goal.overflow_add-self
+overflow_add-self c =
+    let h = rw (← c.self.view_is) at c.requires.left in
+    omega (arith, h, c.in_ok-label.ensures.within, c.ranges.limit.fits)
+
 pub invariant_of-self-2 : goal.invariant_of-self-2
 invariant_of-self-2 c e =
-    turn_kept (module_of c.self.inside.module.value) c.self.inside.processes c.turn.new.self (core_of c.self.inside.processes) c.args.pid c.args.left c.in_ok-label.used
-    c.in_ok-label.label (c.self.invariant c.if-self.false) c.in_ok-label.ensures
+    turn_kept (module_of c.self.inside.module.value) c.self.inside.processes c.turn.new.self (core_of c.self.inside.processes) c.args.pid
+    (c.args.limit - c.self.inside.steps) c.in_ok-label.used c.in_ok-label.label (c.self.invariant c.if-self.false) c.in_ok-label.ensures
 
 pub returns-clause-passed : goal.returns-clause-passed
 returns-clause-passed c =
@@ -33,10 +41,9 @@ returns-clause-passed c =
     let k = c.self.inside.steps in
     let x = process c.args.pid in
     let u = c.in_ok-label.used in
-    let n = c.args.left in
+    let n = c.args.limit in
     let l = label_of c.in_ok-label.label in
     let v : c.args.self.now ≡ view_of_system m k (Some (configuration_of w)) =
     sym c.self.view_is ∙ ap (λ t. view_of_system m k (unless_spent t (configuration_of w))) c.if-self.false in
-    subst (λ s. PassesTo n s x l u (view_of_system m c.in-Some.steps (Some (configuration_of w')))) (sym v)
-    (subst (λ j. PassesTo n (view_of_system m k (Some (configuration_of w))) x l u (view_of_system m j (Some (configuration_of w')))) (sym c.in-Some.ensures.1)
-    (turn_passes m w w' k c.args.pid n u c.in_ok-label.label (c.self.invariant c.if-self.false) c.in_ok-label.ensures))
+    subst (λ s. PassesTo (n - s.steps) s x l u (view_of_system m (k + u) (Some (configuration_of w')))) (sym v)
+    (turn_passes m w w' k c.args.pid (n - k) u c.in_ok-label.label (c.self.invariant c.if-self.false) c.in_ok-label.ensures)

@@ -10,11 +10,8 @@ turn-requires-clause-enabled c =
     subst (λ a. MayGo (actor_of a) o) c.in-Process.is
     (may_go o (noted c.enabled-enabled.result) c.enabled-enabled.ensures.actors c.args.index (actor_of c.actor-actor.result) c.actor-actor.ensures)
 
-pub deliver-requires : goal.deliver-requires
-deliver-requires c =
+pub deliver-requires-clause-enabled : goal.deliver-requires-clause-enabled
+deliver-requires-clause-enabled c =
     let o = c.args.self.now.system.standing in
-    record {
-      enabled =
-          subst (λ a. MayGo (actor_of a) o) c.in-Channel.is
-          (may_go o (noted c.enabled-enabled.result) c.enabled-enabled.ensures.actors c.args.index (actor_of c.actor-actor.result) c.actor-actor.ensures);
-    }
+    subst (λ a. MayGo (actor_of a) o) c.in-Channel.is
+    (may_go o (noted c.enabled-enabled.result) c.enabled-enabled.ensures.actors c.args.index (actor_of c.actor-actor.result) c.actor-actor.ensures)
