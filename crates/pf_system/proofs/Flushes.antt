@@ -20,13 +20,12 @@ use Rattle.pf_system.specs.declared.shared.Answer.{Answer}
 use Rattle.pf_system.specs.declared.slot.Slot.{Slot}
 use Rattle.pf_system.specs.declared.processes.Processes.{Processes}
 use Rattle.pf_system.proofs.Acting.{given_none}
-use Rattle.pf_system.proofs.Bodies.{set_map, set_length, set_twice, bodies_changed}
+use Rattle.pf_system.proofs.Bodies.{set_map, set_length, set_twice, bodies_changed, ties_same}
 use Rattle.pf_system.proofs.Delivering.{at_set}
 use Rattle.pf_system.proofs.Ready.{numbers_kept}
 use Rattle.pf_system.proofs.Rows.{posted_length}
 use Rattle.pf_system.proofs.Settling.{Keeps, acted_in, between, but_there, demonitor_keeps, one_body, posted_rows, raised_in, same_size, slot_is}
 use Rattle.pf_system.proofs.Changed.{get_set, get_within}
-use Rattle.pf_ties.proofs.Followed.{none_changed}
 
 -- a message more or less is taken out of the slot of a process, and of the process
 flush_stands : (n k : ℕ) (d : Core) (w w' : Processes) (s' : Slot) → w'.slots.items ≡ slice_set w.slots.items n s' → w'.shared ≡ w.shared → w'.ready ≡ w.ready
@@ -38,7 +37,7 @@ flush_stands n k d w w' s' e b r m h =
       there = let j = ap length e ∙ set_length n w.slots.items s' in let t = h.there in omega arith;
       bodies = λ x. ap (λ bs. slice_set bs n x) (bodies_changed d n p) ∙ set_twice n (bodies_of d) (process_body p) x ∙ h.bodies x
           ∙ sym (ap (λ ss. slice_set (map slot_body ss) n x) e ∙ ap (λ bs. slice_set bs n x) (set_map slot_body n w.slots.items s') ∙ set_twice n (bodies_in w) (slot_body s') x);
-      ties = none_changed d n p refl ∙ h.ties ∙ ap (λ z. z.ties) (sym b);
+      ties = ties_same d n p refl ∙ h.ties ∙ ap (λ z. z.ties) (sym b);
       ready = r ∙ h.ready ∙ sym (numbers_kept can_go zero d.processes n p refl);
       slots = λ t z.
           let q : slice_set w'.slots.items n t ≡ slice_set w.slots.items n t = ap (λ ss. slice_set ss n t) e ∙ set_twice n w.slots.items s' t in
@@ -92,7 +91,7 @@ module _ (n k : ℕ) (w w1 w' : Processes) (r : Answer) (c : Core) (slots : w1.s
     pub was_flushed : CarriesOut (demonitored_so c n k true) n w.shared r w1.shared → ActedIn c (demonitored_so c n k true) n w r w'
     was_flushed g =
         let x : Acted = demonitored_so c n k true in
-        let t : ties_of middle ≡ w1.shared.ties = sym (none_changed middle n asker refl) ∙ g.ties in
+        let t : ties_of middle ≡ w1.shared.ties = sym (ties_same middle n asker refl) ∙ g.ties in
         let o = posted_length n x.left.sent w.shared.channels in
         let l = ap length g.channels in
         let i = same_size c middle kept in
