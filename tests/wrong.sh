@@ -18,9 +18,10 @@
 # from the contract and the body of the function that it changes, from its new texts, from the Models in that file and from the
 # contracts of what is called. One that changes anything but the body of a function has all that its crate reaches.
 #
-# Where the own sum of a crate changed, all its edits are due. Where only the sum below did, those whose own sums changed, the ones first
-# that were seen the longest ago, until MOST_EDITS (100) are due with those of changed crates. Where no more than that are due, all
-# edits of the TURNS (2) crates that were seen the longest ago.
+# Where the own sum of a crate changed, all its edits are due; but a gate takes no more than MOST_CHANGED (350) edits of changed crates:
+# crates go whole, new ones first and then those that were seen the longest ago, and the others wait. Where only the sum below did, those
+# edits are due whose own sums changed, the ones first that were seen the longest ago, until MOST_EDITS (100) are due with those of
+# changed crates. Where no more than that are due, all edits of the TURNS (2) crates that were seen the longest ago.
 #
 # What was seen refused is noted in tests/wrong.seen, a line a crate: its name, its own sum, its sum below, the second at which it was
 # seen, and how many wrong bodies it has; and in tests/wrong.edits, a line an edit: its crate and name, its sum, and the second at which
@@ -74,7 +75,7 @@ clone() {
 
 # Prints the lines of the plan $1 that are to be tried.
 to_try() {
-  grep -vE ' (seen|waits)$' "$1"
+  grep -vE ' (seen|waits|later)$' "$1"
 }
 
 # Moves the wrong bodies that the plan $2 tries into must-fail/ of the clone $1.

@@ -2,13 +2,14 @@
 
     due.py TOP apply              tells the edits that can't be applied
     due.py TOP plan PLAN [NAME..] tells what is due and why, or these crates, and writes a line for each of their edits to PLAN: its crate
-                                  and name, the crate's own sum and its sum below, the edit's sum, and why it is tried, or `seen` or
-                                  `waits`
+                                  and name, the crate's own sum and its sum below, the edit's sum, and why it is tried, or `seen`,
+                                  `waits` or `later`
     due.py TOP note PLAN LOG..    notes by such a plan what the logs of `rt` say
 
 KIT is the kit's name, TURNS (2) how many crates are due in turn, and MOST_EDITS (100) how many edits are due at once of crates that are
 as they were and stand on names that changed below them. All edits of crates that changed themselves count among these; where more
-are due than that, none waits its turn."""
+are due than that, none waits its turn. MOST_CHANGED (350) is how many edits of changed crates are due at once: crates go whole, new ones
+first and then those that were seen the longest ago, and those that would pass it wait for a later gate."""
 import os
 import re
 import sys
@@ -18,7 +19,7 @@ import edits
 import names
 import notes
 
-LEFT = ("seen", "waits")
+LEFT = ("seen", "waits", "later")
 
 
 class Line:
@@ -50,10 +51,24 @@ def lines_of_crate(tree, crate, noted, why=None):
     return lines
 
 
+def hold_back(by_crate, noted):
+    """Has changed crates wait for a later gate that would bring more edits than one gate can try."""
+    changed = [crate for crate, lines in by_crate.items() if lines[0].why in ("new", "changed")]
+    changed.sort(key=lambda it: (noted.crates[it][2] if it in noted.crates else 0, it))
+    left = int(os.environ.get("MOST_CHANGED", "350"))
+    for crate in changed:
+        if len(by_crate[crate]) <= left or crate == changed[0]:
+            left -= len(by_crate[crate])
+        else:
+            for it in by_crate[crate]:
+                it.why = "later"
+
+
 def plan(tree, noted):
     """Returns the lines of the crates that are due."""
     by_crate = {crate: lines_of_crate(tree, crate, noted) for crate in tree.crates}
     by_crate = {crate: lines for crate, lines in by_crate.items() if lines}
+    hold_back(by_crate, noted)
     below = [it for lines in by_crate.values() for it in lines if it.why == "below"]
     below.sort(key=lambda it: (noted.edits.get(it.key(), ("", 0))[1], it.crate, it.name))
     most = int(os.environ.get("MOST_EDITS", "100"))
@@ -78,6 +93,7 @@ WHY = {
     "turn": "in turn",
     "asked": "asked for",
     "waits": "wait for a later gate: names below changed",
+    "later": "wait for a later gate: changed, beside more than a gate can try",
 }
 
 
@@ -91,7 +107,7 @@ def tell(lines):
             count = sum(1 for it in lines if it.crate == crate)
             which = f": {' '.join(found)}" if why in ("below", "waits") else ""
             print(f"{crate} {len(found)} of {count}, {WHY[why]}{which}")
-    waiting = sum(1 for it in lines if it.why == "waits")
+    waiting = sum(1 for it in lines if it.why in ("waits", "later"))
     print(f"{sum(1 for it in lines if it.why not in LEFT)} wrong bodies are due, and {waiting} wait for a later gate")
 
 
@@ -106,6 +122,8 @@ def read_plan(path):
 
 def note_crate(noted, crate, lines, log):
     """Notes of a crate what the log says of the edits that were tried, and returns whether all were refused."""
+    if lines[0].why == "later":
+        return True
     tried = [it for it in lines if it.why not in LEFT]
     said = {it[1]: it[0] for it in re.finditer(rf"^(?:rt: )?must-fail ({crate}/[^ :]+): .*$", log, re.M)}
     refused = [it for it in tried if ": refused, as it must be" in said.get(it.key(), "")]

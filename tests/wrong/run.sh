@@ -11,7 +11,7 @@ failed=0
 mkdir -p "$room/bin" "$room/farm"
 cd "$room/farm" || exit 2
 export stand_in="$room" PATH="$room/bin:$PATH" TURNS=0 LANES=1
-unset MOST_EDITS
+unset MOST_EDITS MOST_CHANGED
 
 cat > "$room/bin/rt" << 'END'
 #!/bin/sh
@@ -289,6 +289,20 @@ tests/wrong.sh mid > /dev/null
 same "at most a hundred" "$(tests/wrong.sh due | tail -n 1)" "100 wrong bodies are due, and 4 wait for a later gate"
 tests/wrong.sh > /dev/null
 same "the rest" "$(tests/wrong.sh due | tail -n 1)" "4 wrong bodies are due, and 0 wait for a later gate"
+
+# Changed crates go whole, those first that were seen the longest ago; one that a gate has no time for keeps its line and waits.
+start_anew
+sed -i 's/^\(top .* \)[0-9]* 2$/\15 2/; s/^\(mid .* \)[0-9]* 4$/\16 4/; s/^\(low .* \)[0-9]* 1$/\17 1/' tests/wrong.seen
+echo "another kit" > "$room/kit"
+later="wait for a later gate: changed, beside more than a gate can try"
+same "more than a gate can try" "$(MOST_CHANGED=5 tests/wrong.sh due)" \
+  "$(printf 'low 1 of 1, changed\nmid 4 of 4, %s\ntop 2 of 2, changed\n3 wrong bodies are due, and 4 wait for a later gate' "$later")"
+before=$(grep '^mid ' tests/wrong.seen)
+MOST_CHANGED=5 tests/wrong.sh > /dev/null
+same "a crate that waits keeps its line" "$(grep '^mid ' tests/wrong.seen)" "$before"
+same "a crate that waited is due" "$(due)" "mid 4 of 4, changed"
+MOST_CHANGED=1 tests/wrong.sh > /dev/null
+same "the first goes, however many it has" "$(due)" ""
 
 # In a clone for the gate.
 start_anew
