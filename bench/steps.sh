@@ -1,5 +1,5 @@
 #!/bin/sh
-# Times `pulsefarm steps` on scripts of many projects, each with 16 modules, 64 orders, and a worker's `once` and a `fetch` for each order, and
+# Times `pulsefarm steps` on scripts of many projects, each with 16 modules, 64 orders, and for each order a worker's claim, slice and file, and a `fetch`, and
 # takes how many bytes stand in blocks at most. It prints tables for docs/SPEED.md, and fails where
 # - a command costs over 1.5 times as much in one script as in another,
 # - 100 projects that submit the same 16 modules take 3 bytes or more for each byte that is read and written: the sources, the calls and the replies
@@ -30,7 +30,7 @@ script() {
     }
     for (t = 1; t <= orders; t++) {
       for (p = 1; p <= projects; p++) printf "order %d %d main returns none 1000\n", p, 1 + t % modules
-      for (p = 1; p <= projects; p++) printf "once %d %d\n", p, t
+      for (p = 1; p <= projects; p++) printf "claim 0 %d %d\nslice 0 %d %d 1000\nfile 0 %d %d\n", p, t, p, t, p, t
       for (p = 1; p <= projects; p++) printf "fetch %d %d\n", p, t
     }
   }'
@@ -59,7 +59,7 @@ echo "| commands | a command |"
 echo "|---|---|"
 for projects in 8 31 123; do
   script "$projects" 16 64 own > "$room/in"
-  commands=$((projects * 208))
+  commands=$((projects * 336))
   each=$((($(least) - start_up) / commands))
   echo "| $commands | $each ns |"
   if [ -z "$low" ] || [ "$each" -lt "$low" ]; then low=$each; fi
@@ -74,8 +74,8 @@ measure() {
   text=$(($(wc -c < "$room/in") + $(wc -c < "$room/out")))
 }
 
-# The bytes of what is noted, ordered and told, as the types have them and without what blocks have beside: a note (a call with its reply, a
-# claim or a file), an order with its two words, and a report with its one event.
+# The bytes of what is noted, ordered and told, as the types had them when the bound was set and without what blocks have beside: a note (a call
+# with its reply, a claim or a file), an order with its two words, and a report with its one event.
 note=24
 order=96
 report=$((64 + 48))
@@ -89,7 +89,7 @@ count_things() {
 echo
 script 100 16 64 all > "$room/in"
 measure
-echo "100 projects with the same modules, 20,800 commands: at most $most bytes in blocks, for $text bytes read and written"
+echo "100 projects with the same modules, 33,600 commands: at most $most bytes in blocks, for $text bytes read and written"
 [ "$most" -lt $((text * 3)) ] || bad=1
 
 script 100 16 64 own > "$room/in"
@@ -106,7 +106,7 @@ lines=$(wc -c < "$room/more")
 cat "$room/more" >> "$room/in"
 measure
 each=$(((most - before - lines) / 6400))
-echo "one more fetch: $each bytes, beside its line, where a note has $note and a report $report"
+echo "one more fetch: $each bytes, beside its line, where a note had $note and a report $report when the bound was set"
 [ "$each" -lt $((note + report)) ] || bad=1
 
 awk 'BEGIN {
@@ -207,7 +207,7 @@ dropped() {
     printf "submit 1 %d\n%s\n", length(text), text
     for (r = 0; r < rounds; r++) {
       for (t = 1; t <= 64; t++) print "order 1 1 main returns none 10000"
-      for (t = 1; t <= 64; t++) printf "once 1 %d\n", 64 * r + t
+      for (t = 1; t <= 64; t++) printf "claim 0 1 %d\nslice 0 1 %d 10000\nfile 0 1 %d\n", 64 * r + t, 64 * r + t, 64 * r + t
       for (t = 1; t <= 64; t++) printf "drop 1 %d\n", 64 * r + t
     }
   }'

@@ -37,11 +37,12 @@ bad=0
   END { for (kind in high) if (high[kind] > 1.3 * low[kind]) bad = 1
     exit bad || NR != 20 }' || bad=1
 
-# The bytes that stand in blocks at most in a run of so many messages, beside the list of its events.
+# The bytes that stand in blocks at most in a run of so many messages, beside the list of its events, which grows by doubling and is cut to its
+# size at the end.
 beside() {
   LD_PRELOAD="$room/blocks.so" BLOCKS_TOLD="$room/blocks" "$program" "$1" > "$room/told"
   most=$(sed -n 's/.*, \([0-9]*\) bytes at most$/\1/p' "$room/blocks")
-  echo $((most - $(cut -d ' ' -f 2 "$room/told")))
+  echo $((most - $(awk '{ n = 4; while (n < $1) n *= 2; print n * $2 / $1 }' "$room/told")))
 }
 
 few=$(beside 100)

@@ -18,7 +18,7 @@
 # from the contract and the body of the function that it changes, from its new texts, from the Models in that file and from the
 # contracts of what is called. One that changes anything but the body of a function has all that its crate reaches.
 #
-# Where the own sum of a crate changed, all its edits are due; but a gate takes no more than MOST_CHANGED edits of changed crates, 110 a
+# Where the own sum of a crate changed, all its edits are due; but a gate takes no more than MOST_CHANGED edits of changed crates, 85 a
 # processor: crates go whole, new ones first and then those that were seen the longest ago, and the others wait. Where only the sum below did, those
 # edits are due whose own sums changed, the ones first that were seen the longest ago, until MOST_EDITS (100) are due with those of
 # changed crates. Where no more than that are due, all edits of the TURNS (2) crates that were seen the longest ago.

@@ -12,7 +12,12 @@ import os
 import re
 import sys
 
-VERBS = b"submit order shrink fetch status drop withdraw usage log edition once".split()
+# The commands, by how many words stand before the project: none in a client's, the worker in a worker's, and two workers in a theft.
+VERBS = {
+    **dict.fromkeys(b"submit order shrink fetch status drop withdraw usage log edition".split(), 1),
+    **dict.fromkeys(b"claim slice park take file back".split(), 2),
+    b"steal": 3,
+}
 NUMBER = re.compile(rb"0|[1-9][0-9]{0,9}")
 LONG = re.compile(rb"p[0-9]+ (?:report|shrunk [0-9a-z,]+ (?:complete|partial)) ([0-9]+)")
 
@@ -37,7 +42,8 @@ def commands_of(path):
         count += 1
         end = text.find(b"\n", at) + 1 or len(text)
         words = text[at:end].rstrip(b"\n").split(b" ")
-        if words[0] not in VERBS or len(words) < 2 or not NUMBER.fullmatch(words[1]):
+        index = VERBS.get(words[0], 0)
+        if not 0 < index < len(words) or not NUMBER.fullmatch(words[index]):
             stop(f"{path}: command {count} is none")
         if words[0] == b"submit":
             if len(words) != 3 or not NUMBER.fullmatch(words[2]):
@@ -46,7 +52,7 @@ def commands_of(path):
             if end > len(text) or text[end : end + 1] not in (b"\n", b""):
                 stop(f"{path}: the source of command {count} doesn't end where its length says")
             end = min(end + 1, len(text))
-        yield words[1].decode(), text[at:end]
+        yield words[index].decode(), text[at:end]
         at = end
 
 

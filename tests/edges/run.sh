@@ -243,8 +243,9 @@ client_that_waits() {
   waits 'a source without a line end' '-export([main/0]).\nmain() -> 1 + 2 * 3.\n'
   says 'the line end' '\n' 'p1 module 1'
   says order 'order 1 1 main returns none 1000\n' 'p1 ticket 1'
-  says once 'once 1 1\n' 'w0 done'
-  says 'two commands at once' 'once 1 1\nusage 2\n' 'w0 not now N2'
+  says claim 'claim 0 1 1\n' 'w0 done'
+  says slice 'slice 0 1 1 100\n' 'w0 done'
+  says 'two commands at once' 'claim 3 1 1\nusage 2\n' 'w3 not now N2'
   says 'nothing more' '' 'p2 usage 0 0 0 0 0'
   waits 'a last line without its end' 'usage 2'
   exec 3>&-
@@ -469,21 +470,21 @@ deepest_of_each_form() {
 
 # Memory goes by the longest command, and no byte past 67,108,864 leaves the input.
 long_inputs() {
-  yes 'once 7 1' | head -c 60000000 > in
+  yes 'file 0 7 1' | head -c 60000000 > in
   (ulimit -v 40000; exec timeout 60 "$program" steps) < in > out 2> err
   status=$?
   check 'memory of 60 MB of commands' test "$status" = 2
-  check 'memory of 60 MB of commands' test "$(wc -l < out)" = 6666667
-  check 'memory of 60 MB of commands' test "$(tail -n 1 out)" = 'command 6666667 refused C1'
-  repeated 'once 7 1
-' 7456541 | head -c 67108869 > in
+  check 'memory of 60 MB of commands' test "$(wc -l < out)" = 5454546
+  check 'memory of 60 MB of commands' test "$(tail -n 1 out)" = 'command 5454546 refused C1'
+  repeated 'file 0 7 1
+' 6100807 | head -c 67108869 > in
   { timeout 60 "$program" steps > out; status=$?; cat > rest; } < in 2> err
   check 'what is left of the input' test "$(wc -c < rest)" = 5
-  check 'bytes at the most' test "$(tail -n 1 out)" = 'command 7456541 refused C1'
-  printf 'submit 1 52\n%b\nusage 1\nonce 1 1' "$module" > in
+  check 'bytes at the most' test "$(tail -n 1 out)" = 'command 6100806 refused C1'
+  printf 'submit 1 52\n%b\nusage 1\nfile 3 1 1' "$module" > in
   dd if=in bs=1 2> /dev/null | timeout 60 "$program" steps > out 2> err
   status=$?
-  ended 'a byte at a time' 0 'p1 module 1\np1 usage 1 52 0 0 1\nw0 not now N2\n' ''
+  ended 'a byte at a time' 0 'p1 module 1\np1 usage 1 52 0 0 1\nw3 not now N2\n' ''
 }
 
 files

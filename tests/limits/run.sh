@@ -150,10 +150,10 @@ schedules() {
   expect 'number 4294967296' 2 run --root main --limit 1000 --schedule 0,4294967296
   cp "$room/in" "$room/source"
   size=$(($(wc -c < "$room/source")))
-  { echo "submit 3 $size"; cat "$room/source"; echo; echo "order 3 1 main returns 0$(repeated ,4294967295 99999) 100000"; echo 'once 3 1'; echo 'fetch 3 1'
+  { echo "submit 3 $size"; cat "$room/source"; echo; echo "order 3 1 main returns 0$(repeated ,4294967295 99999) 100000"; printf 'claim 0 3 1\nslice 0 3 1 100000\nfile 0 3 1\n'; echo 'fetch 3 1'
     echo "order 3 1 main returns 0$(repeated ,1 100000) 100000"; echo 'order 3 1 main returns 4294967296 1'; } > "$room/in"
-  printf '%s\n' 'p3 module 1' 'p3 ticket 1' 'w0 done' 'p3 report 4' '0/1 <0> end normal' 'finished 7' 'steps 4' 'property holds' \
-    'p3 refused B6' 'command 6 refused C1' > "$room/wanted"
+  printf '%s\n' 'p3 module 1' 'p3 ticket 1' 'w0 done' 'w0 done' 'w0 done' 'p3 report 4' '0/1 <0> end normal' 'finished 7' 'steps 4' 'property holds' \
+    'p3 refused B6' 'command 8 refused C1' > "$room/wanted"
   expect 'schedules of 100,000 and 100,001 numbers' 2 steps
 }
 
@@ -250,10 +250,11 @@ trials_keep_their_editions() {
   cp "$room/in" "$room/source"
   {
     echo "submit 1 $(($(wc -c < "$room/source")))"; cat "$room/source"; echo
-    printf '%s\n' 'order 1 1 main returns none 6000' 'edition 1 2' 'order 1 1 main returns none 6000' 'once 1 1' 'once 1 2' 'fetch 1 1' 'fetch 1 2'
+    printf '%s\n' 'order 1 1 main returns none 6000' 'edition 1 2' 'order 1 1 main returns none 6000' \
+      'claim 0 1 1' 'claim 1 1 2' 'slice 1 1 2 3000' 'slice 0 1 1 3000' 'file 0 1 1' 'file 1 1 2' 'fetch 1 1' 'fetch 1 2'
   } > "$room/in"
   {
-    printf '%s\n' 'p1 module 1' 'p1 ticket 1' 'p1 done' 'p1 ticket 2' 'w0 done' 'w0 done' 'p1 report 515'
+    printf '%s\n' 'p1 module 1' 'p1 ticket 1' 'p1 done' 'p1 ticket 2' 'w0 done' 'w1 done' 'w1 done' 'w0 done' 'w0 done' 'w1 done' 'p1 report 515'
     spawned_on 256 1279
     echo 'p1 report 2051'
     spawned_on 1024 5119
@@ -364,8 +365,11 @@ projects_in_turns() {
         printf "p%s ticket %d\n", projects[i], r > wanted
       }
       for (i = most; i >= 1; i--) {
-        printf "fetch %s %d\nonce %s %d\n", projects[i], r, projects[i], r > input
-        printf "p%s refused B5\nw0 done\n", projects[i] > wanted
+        worker = (i + r) % 4
+        printf "fetch %s %d\nclaim %d %s %d\npark %d %s %d\n", projects[i], r, worker, projects[i], r, worker, projects[i], r > input
+        printf "take %d %s %d\nslice %d %s %d 100\nfile %d %s %d\n", worker, projects[i], r, worker, projects[i], r, worker, projects[i], r > input
+        printf "p%s refused B5\n", projects[i] > wanted
+        for (n = 1; n <= 5; n++) printf "w%d done\n", worker > wanted
       }
       for (i = 1; i <= most; i++) {
         printf "fetch %s %d\nusage %s\n", projects[i], r, projects[i] > input
@@ -402,13 +406,13 @@ calls_of_a_project() {
     echo "submit 0 $size"; cat "$room/source"; echo; echo 'order 0 1 main returns none 100'
     repeated 'log 0\nfetch 0 2\n' 4999
     printf 'log 0\nusage 0\nstatus 0 1\nfetch 0 2\ndrop 0 1\nwithdraw 0 2\nsubmit 0 1\n \norder 0 2 main returns none 0\nshrink 0 2 main returns none 0 0\n'
-    printf 'once 0 1\nonce 0 1\nlog 0\nlog 1\n'
+    printf 'claim 0 0 1\nclaim 0 0 1\nslice 0 0 1 1\nslice 0 0 1 1\nfile 0 0 1\nfile 0 0 1\nlog 0\nlog 1\n'
   } > "$room/in"
   {
     printf 'p0 module 1\np0 ticket 1\n'
     awk 'BEGIN { for (n = 2; n < 10000; n += 2) printf "p0 log %d\np0 refused B3\n", n }'
     repeated 'p0 refused Q5\n' 9
-    printf 'w0 done\nw0 not now N2\np0 refused Q5\np1 log 0\n'
+    printf 'w0 done\nw0 not now N2\nw0 done\nw0 not now N2\nw0 done\nw0 not now N2\np0 refused Q5\np1 log 0\n'
   } > "$room/wanted"
   expect '10,000 calls of a project' 0 steps
 }

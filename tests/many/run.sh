@@ -268,8 +268,8 @@ commands() {
         1) printf 'submit %s %s\n%s\n' "$project" "${#source}" "$source" ;;
         2) echo "order $project 1 main returns seed:$project 100" ;;
         3) echo "shrink $project 1 main true 1,2,$project 9 100" ;;
-        4) echo "once $project 1" ;;
-        5) echo "once $project 2" ;;
+        4) printf '%s\n' "claim 0 $project 1" "slice 0 $project 1 999" "file 0 $project 1" ;;
+        5) printf '%s\n' "claim 2 $project 2" "slice 2 $project 2 999" "park 2 $project 2" "file 2 $project 2" ;;
         6) echo "fetch $project $((project % 3))" ;;
         7) echo "fetch $project 2" ;;
         8) echo "usage $project" ;;

@@ -25,8 +25,8 @@ no_command() { answered "$1\n" 2 'command 2 refused C1\n'; }
 
 # The report of an order with the property and the choices $1 tells that the property $2.
 verdict() {
-  answered "order 1 1 main $1 100\nonce 1 1\nfetch 1 1\n" 0 \
-    "p1 ticket 1\nw0 done\np1 report 4\n0/1 <0> end normal\nfinished 7\nsteps 4\nproperty $2\n"
+  answered "order 1 1 main $1 100\nclaim 0 1 1\nslice 0 1 1 1\nfile 0 1 1\nfetch 1 1\n" 0 \
+    "p1 ticket 1\nw0 done\nw0 done\nw0 done\np1 report 4\n0/1 <0> end normal\nfinished 7\nsteps 4\nproperty $2\n"
 }
 
 ticketed 'returns seed:7'
@@ -58,6 +58,13 @@ verdict 'never:_ 1,2' holds
 for words in 'seed:1 3 100' '0,1 3' '0,1 3 100 1' '0,1 4294967296 100' '0,1 03 100' '0,1 3 x' '0,,1 3 100'; do
   no_command "shrink 1 1 main returns $words"
 done
+
+# A worker's line has its numbers and no more, and a slice has a turn at least.
+for line in 'once 1 1' 'claim 0 1' 'claim 0 1 1 1' 'slice 0 1 1' 'slice 0 1 1 0' 'slice 0 1 1 01' 'park 0 1' 'take 0 1 4294967296' 'steal 0 1 1' \
+  'steal 0 1 1 1 1' 'file 0 1 x' 'back -1 1 1' 'Claim 0 1 1' 'claim  0 1 1' 'park 0 1 1 '; do
+  no_command "$line"
+done
+answered 'claim 4294967295 1 1\nslice 0 1 1 4294967295\nsteal 0 4294967295 1 1\n' 0 'w4294967295 not now N2\nw0 not now N2\nw0 not now N2\n'
 
 # A shrinking has from 1 to 1,000 runs.
 answered 'shrink 1 1 main returns none 0 100\n' 0 'p1 refused B6\n'

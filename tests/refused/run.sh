@@ -83,7 +83,7 @@ ended_well() {
 # standard error, behind which nothing more went out.
 commands_ended_well() {
   ended_well \
-    || { [ "$status" = 0 ] && grep -q -x -e 'p[12] refused NoMemory' -e 'w0 no memory' "$room/out"; } \
+    || { [ "$status" = 0 ] && grep -q -x -e 'p[12] refused NoMemory' -e 'w[0-3] no memory' "$room/out"; } \
     || { [ "$status" = 2 ] && ! grep -q -x NoMemory "$room/out" && grep -q 'NoMemory$' "$room/err"; }
 }
 
@@ -150,10 +150,10 @@ some_commands() {
   echo steps > "$room/words"
   source='-module(m).\n-export([main/0]).\nmain() -> 1 + 2 * 3.\n'
   order='main returns none 100'
-  printf "submit 1 52\n$source\nsubmit 2 52\n$source\norder 1 1 $order\norder 2 1 $order\nonce 1 1\nfetch 1 1\nfetch 2 1\nusage 2\n" > "$room/in"
+  printf "submit 1 52\n$source\nsubmit 2 52\n$source\norder 1 1 $order\norder 2 1 $order\nclaim 0 1 1\npark 0 1 1\nsteal 3 0 1 1\nslice 3 1 1 9\nfile 3 1 1\nfetch 1 1\nfetch 2 1\nusage 2\n" > "$room/in"
   whole=$room/whole
   wanted=0
-  printf '%s\n' 'p1 module 1' 'p2 module 1' 'p1 ticket 1' 'p2 ticket 1' 'w0 done' 'p1 report 4' '0/1 <0> end normal' 'finished 7' \
+  printf '%s\n' 'p1 module 1' 'p2 module 1' 'p1 ticket 1' 'p2 ticket 1' 'w0 done' 'w0 done' 'w3 done' 'w3 done' 'w3 done' 'p1 report 4' '0/1 <0> end normal' 'finished 7' \
     'steps 4' 'property holds' 'p2 refused B5' 'p2 usage 1 52 1 100 3' > "$whole"
 }
 

@@ -8,7 +8,7 @@
 
 KIT is the kit's name, TURNS (2) how many crates are due in turn, and MOST_EDITS (100) how many edits are due at once of crates that are
 as they were and stand on names that changed below them. All edits of crates that changed themselves count among these; where more
-are due than that, none waits its turn. MOST_CHANGED (110 a processor) is how many edits of changed crates are due at once: crates go
+are due than that, none waits its turn. MOST_CHANGED (85 a processor) is how many edits of changed crates are due at once: crates go
 whole, new ones first and then those that were seen the longest ago, and those that would pass it wait for a later gate."""
 import os
 import re
@@ -55,7 +55,7 @@ def hold_back(by_crate, noted):
     """Has changed crates wait for a later gate that would bring more edits than one gate can try."""
     changed = [crate for crate, lines in by_crate.items() if lines[0].why in ("new", "changed")]
     changed.sort(key=lambda it: (noted.crates[it][2] if it in noted.crates else 0, it))
-    left = int(os.environ.get("MOST_CHANGED", 110 * (os.cpu_count() or 1)))
+    left = int(os.environ.get("MOST_CHANGED", 85 * (os.cpu_count() or 1)))
     for crate in changed:
         if len(by_crate[crate]) <= left or crate == changed[0]:
             left -= len(by_crate[crate])

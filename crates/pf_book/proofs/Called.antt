@@ -1,6 +1,7 @@
 -- What a desk keeps is kept by a call.
-use Rattle.std.proofs.Common.{◌≡◌, ℕ, List, [], ◌∷◌, ◌++◌, map, Option, Some, None, Ok, refl, sym, ap, ◌∙◌, subst}
+use Rattle.std.proofs.Common.{◌≡◌, ℕ, List, [], ◌∷◌, ◌++◌, map, Option, Some, None, Ok, refl, sym, ap, ◌∙◌, subst, arith, ◌+◌, ◌≤◌}
 use Rattle.std.specs.Option.{option_map}
+use Rattle.std.specs.Vec.{vec_len, vec_capacity}
 use Rattle.pf_fault.specs.declared.code.Code.{Code}
 use Rattle.pf_quota.specs.declared.usage.Usage.{Usage}
 use Rattle.pf_quota.specs.declared.charges.Charge.TheVariants as charge
@@ -20,6 +21,8 @@ use Rattle.pf_book.specs.Answers.{DeskAnswers}
 use Rattle.pf_book.specs.Kept.{desk_in, IsValid}
 use Rattle.pf_book.specs.Plans.{with_change, IsPlan}
 use Rattle.pf_book.specs.Profile.{ForRight}
+use Rattle.pf_book.specs.Queues.{ended_by}
+use Rattle.pf_book.specs.Running.{running_in}
 use Rattle.pf_book.specs.Users.{holding, CountUsers}
 use Rattle.pf_book.specs.View.{view_of_reply, view_of_entry}
 use Rattle.pf_book.specs.declared.desk.Desk.TheInside.{Inside}
@@ -27,14 +30,15 @@ use Rattle.pf_book.specs.declared.plan.Change.{Change}
 use Rattle.pf_book.specs.declared.plan.Change.TheVariants as change
 use Rattle.pf_book.specs.declared.plan.Plan.{Plan}
 use Rattle.pf_book.specs.declared.reply.Reply.{Reply}
+use Rattle.pf_book.proofs.Queued.{change_running}
 use Rattle.pf_desks.proofs.Sums.{calls_more}
 
 -- ---- the same desk in other lists
 
--- what is kept is kept where the lists hold the same
+-- what is kept is kept where the lists hold the same, and the history has its room
 pub same_valid : (b b' : Inside) → b'.edition ≡ b.edition → b'.modules.items ≡ b.modules.items → b'.trials.items ≡ b.trials.items → b'.history.items ≡ b.history.items
-    → b'.users.items ≡ b.users.items → b'.usage ≡ b.usage → IsValid b → IsValid b'
-same_valid b b' edition modules trials history users usage h =
+    → b'.users.items ≡ b.users.items → b'.usage ≡ b.usage → b'.running ≡ b.running → vec_len b'.history + b'.running ≤ vec_capacity b'.history → IsValid b → IsValid b'
+same_valid b b' edition modules trials history users usage running room h =
     let same : desk_in b' ≡ desk_in b = λ i. record { edition = edition i; modules = modules i; trials = trials i; history = map view_of_entry (history i) } in
     let counts : CountUsers b.users.items b.modules.items b.trials.items = record { counted = h.counted; exact = h.users; used = h.used } in
     let one : CountUsers b'.users.items b.modules.items b.trials.items = subst (λ (l : List ℕ). CountUsers l b.modules.items b.trials.items) (sym users) counts in
@@ -47,6 +51,8 @@ same_valid b b' edition modules trials history users usage h =
       counted = all.counted;
       users = all.exact;
       used = all.used;
+      running = running ∙ h.running ∙ ap running_in (sym same);
+      room = room;
     }
 
 -- ---- a call that the log has room for, or none
@@ -123,12 +129,15 @@ module _ (d : Desk) (c : Call) (plan : Plan) (planned : IsPlan d c plan) (room :
 
   -- what a desk keeps, where it is this desk
   pub called_valid : (b' : Inside) → desk_in b' ≡ d' → b'.usage ≡ plan.usage → IsEdition b'.edition → CountUsers b'.users.items b'.modules.items b'.trials.items
+      → b'.running + ended_by d.trials plan.change ≡ running_in d → vec_len b'.history + b'.running ≤ vec_capacity b'.history
       → ForRight (λ p. IsLegalDesk p d) → IsValid b'
-  called_valid b' here uses edition counts legal = record {
+  called_valid b' here uses edition counts running room legal = record {
     legal = λ p right. subst (IsLegalDesk p) (sym here) (called_legal legal p right);
     edition = edition;
     sums = uses ∙ called_sums ∙ ap usage_in (sym here);
     counted = counts.counted;
     users = counts.exact;
     used = counts.used;
+    running = omega (arith, running, change_running d plan.change, ap running_in here, ap running_in is);
+    room = room;
   }

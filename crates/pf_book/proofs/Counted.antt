@@ -54,7 +54,7 @@ all_with P [] after x p h = All-cons P x after p h
 all_with P (y ∷ before) after x p h =
     All-cons P y (before ++ x ∷ after) (All-head P y (before ++ after) h) (all_with P before after x p (All-tail P y (before ++ after) h))
 
-sum_around : {X : Type 0} (f : X → ℕ) (before after : List X) (x : X) → sum_by f (before ++ x ∷ after) ≡ sum_by f (before ++ after) + f x
+pub sum_around : {X : Type 0} (f : X → ℕ) (before after : List X) (x : X) → sum_by f (before ++ x ∷ after) ≡ sum_by f (before ++ after) + f x
 sum_around f before after x =
     omega (arith, sum_by-append f before (x ∷ after), sum_by-cons f x after, sum_by-append f before after)
 
@@ -86,7 +86,7 @@ get_other (x ∷ xs) zero (suc j) y ne = refl
 get_other (x ∷ xs) (suc i) zero y ne = refl
 get_other (x ∷ xs) (suc i) (suc j) y ne = get_other xs i j y (λ e. ne (omega arith))
 
-held_other : {T : Type 0} (xs : List (Option T)) (n m : ℕ) (y : Option T) → (m ≡ n → ⊥) → held_at (with_held xs n y) m ≡ held_at xs m
+pub held_other : {T : Type 0} (xs : List (Option T)) (n m : ℕ) (y : Option T) → (m ≡ n → ⊥) → held_at (with_held xs n y) m ≡ held_at xs m
 held_other {T} xs zero m y ne = refl
 held_other {T} xs (suc i) zero y ne = refl
 held_other {T} xs (suc i) (suc j) y ne = ap (λ (o : Option (Option T)). option_flatten o) (get_other xs i j y (λ e. ne (omega arith)))

@@ -3,6 +3,10 @@ pub mod Followed
 pub mod Profiles
 pub mod Planned
 pub mod Called
-pub mod Filed
-pub mod Placed
+pub mod Marks
+pub mod Worked
 pub mod Counts
+pub mod Queued
+pub mod Tickets
+pub mod Placed
+pub mod Claims

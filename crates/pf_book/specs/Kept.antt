@@ -1,6 +1,7 @@
 -- What the fields of a desk and of a book stand for, and what is true of them.
 use Rattle.std.specs.Prelude.{◌≡◌, ◌≤◌, ◌+◌, ℕ, suc, List, length, map, All, IfSome, IsSome, slice_get, sum_by, count_by}
 use Rattle.std.specs.Str.{bytes_eq}
+use Rattle.std.specs.Vec.{vec_len, vec_capacity}
 use Rattle.pf_store.specs.Sources.{Kept, holders}
 use Rattle.pf_model.specs.Limits.{IsEdition}
 use Rattle.pf_desks.specs.Desk.{Desk, held_at, all_held}
@@ -8,6 +9,7 @@ use Rattle.pf_desks.specs.Calls.{usage_in, users_of}
 use Rattle.pf_desks.specs.World.{World}
 use Rattle.pf_desks.specs.History.{IsLegalDesk}
 use Rattle.pf_book.specs.Profile.{ForRight}
+use Rattle.pf_book.specs.Running.{running_in}
 use Rattle.pf_book.specs.View.{view_of_entry}
 use Rattle.pf_book.specs.declared.desk.Desk.TheInside.{Inside}
 
@@ -15,7 +17,8 @@ abbrev pub desk_in : Inside → Desk
 desk_in b = record { edition = b.edition; modules = b.modules.items; trials = b.trials.items; history = map view_of_entry b.history.items }
 
 -- the desk is what its history makes of an empty one, in an edition that there is; its sums are those over what it holds; it counts for each
--- module number the held trials that use it, and each held trial uses a module that is held
+-- module number the held trials that use it, and each held trial uses a module that is held; it counts the trials that run, and its history has
+-- room for one note more of each of them
 pub record IsValid (b : Inside) : Type 0 where
   pub legal : ForRight (λ p. IsLegalDesk p (desk_in b))
   pub edition : IsEdition b.edition
@@ -23,6 +26,8 @@ pub record IsValid (b : Inside) : Type 0 where
   pub counted : length b.users.items ≡ length b.modules.items
   pub users : (i : ℕ) → IfSome (slice_get b.users.items i) (λ k. k ≡ users_of (desk_in b) (suc i))
   pub used : All (λ t. IsSome (held_at b.modules.items t.module_number)) (all_held b.trials.items)
+  pub running : b.running ≡ running_in (desk_in b)
+  pub room : vec_len b.history + b.running ≤ vec_capacity b.history
 
 -- ---- the store beside the desks
 

@@ -4,6 +4,8 @@ pub mod Trials
 pub mod Queued
 pub mod Orders
 pub mod Users
+pub mod Running
 pub mod Kept
 pub mod Plans
+pub mod Queues
 pub mod Answers

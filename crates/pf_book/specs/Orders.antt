@@ -20,3 +20,8 @@ Asked e modules o r = ForRight (λ p. job_ordered p e (held_at modules o.module)
 abbrev pub IsRefusedJob : (Result Job Code → Type 0) → OrNoMemory Refusal → Type 0
 IsRefusedJob P NoMemory = Unit {0}
 IsRefusedJob P (Fault e) = P (Err (code_of e))
+
+-- a refusal is one of these; out of memory says nothing
+abbrev pub IsRefusal : (Refusal → Type 0) → OrNoMemory Refusal → Type 0
+IsRefusal P NoMemory = Unit {0}
+IsRefusal P (Fault e) = P e

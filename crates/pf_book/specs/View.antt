@@ -1,11 +1,15 @@
 -- What the code's replies, notes and trials stand for.
+use Rattle.std.specs.Prelude.{Bool, true, false}
 use Rattle.pf_fault.specs.declared.code.Code.{Code}
 use Rattle.pf_fault.specs.declared.code.Code.TheVariants as code
 use Rattle.pf_quota.specs.Refusals as quota
+use Rattle.pf_model.specs.Properties.{Outcome, memory}
+use Rattle.pf_model.specs.Shrinking.{Result, report, shrunk_to, nothing_fails}
 use Rattle.pf_desks.specs.Desk as desk
 use Rattle.pf_request.specs.Calls as calls
 use Rattle.pf_request.specs.Job.{Job}
 use Rattle.pf_request.specs.View.{view_of_order}
+use Rattle.pf_sched.specs.Views.{without_memory}
 use Rattle.pf_book.specs.declared.refusal.Refusal.{Refusal}
 use Rattle.pf_book.specs.declared.refusal.Refusal.TheVariants as refusal
 use Rattle.pf_book.specs.declared.reply.Stage.{Stage}
@@ -14,6 +18,8 @@ use Rattle.pf_book.specs.declared.reply.Reply.{Reply}
 use Rattle.pf_book.specs.declared.reply.Reply.TheVariants as reply
 use Rattle.pf_book.specs.declared.entry.Entry.{Entry}
 use Rattle.pf_book.specs.declared.entry.Entry.TheVariants as entry
+use Rattle.pf_book.specs.declared.entry.Mark.{Mark}
+use Rattle.pf_book.specs.declared.entry.Mark.TheVariants as mark
 use Rattle.pf_book.specs.declared.trial.State.{State}
 use Rattle.pf_book.specs.declared.trial.State.TheVariants as state
 
@@ -47,12 +53,31 @@ view_of_reply (reply.Logged n) = desk.logged n
 view_of_reply reply.HasEdition = desk.has_edition
 view_of_reply (reply.Refused e) = desk.refused (code_of e)
 
+-- ---- marks
+
+abbrev pub view_of_mark : Mark → desk.Mark
+view_of_mark mark.Whole = desk.marked_whole
+view_of_mark mark.Memory = desk.marked_memory
+
+abbrev pub mark_by : Outcome → desk.Mark
+mark_by memory = desk.marked_memory
+mark_by _ = desk.marked_whole
+
+-- the mark under which what a job came to is filed
+abbrev pub mark_of : Result → desk.Mark
+mark_of (report r) = mark_by r.outcome
+mark_of (shrunk_to f r) = desk.marked_whole
+mark_of nothing_fails = desk.marked_whole
+
+-- ---- notes and states
+
 abbrev pub view_of_entry : Entry → desk.Entry
 view_of_entry (entry.Submitted s n) = desk.called (calls.submit s) (desk.number n)
 view_of_entry (entry.SubmitRefused s e) = desk.called (calls.submit s) (desk.refused (code_of e))
 view_of_entry (entry.Ordered o t) = desk.called (view_of_order o.value) (desk.ticket t)
 view_of_entry (entry.OrderRefused o e) = desk.called (view_of_order o.value) (desk.refused (code_of e))
-view_of_entry (entry.Fetched t f) = desk.called (calls.fetch t) (desk.result f.job.asked.code.atoms f.result)
+view_of_entry (entry.Fetched t w) = desk.called (calls.fetch t) (desk.result w.job.asked.code.atoms w.result)
+view_of_entry (entry.ToldMemory t j) = desk.called (calls.fetch t) (desk.result j.value.asked.code.atoms without_memory)
 view_of_entry (entry.FetchRefused t e) = desk.called (calls.fetch t) (desk.refused (code_of e))
 view_of_entry (entry.Stood t s) = desk.called (calls.status t) (desk.stage (view_of_stage s))
 view_of_entry (entry.StatusRefused t e) = desk.called (calls.status t) (desk.refused (code_of e))
@@ -65,13 +90,21 @@ view_of_entry (entry.Counted n) = desk.called calls.log (desk.logged n)
 view_of_entry (entry.Moved e) = desk.called (calls.edition e) desk.has_edition
 view_of_entry (entry.MoveRefused e r) = desk.called (calls.edition e) (desk.refused (code_of r))
 view_of_entry (entry.Claimed t) = desk.claimed t
-view_of_entry (entry.Filed t) = desk.filed t desk.marked_whole
+view_of_entry (entry.Filed t m) = desk.filed t (view_of_mark m)
+view_of_entry (entry.HandedBack t) = desk.handed_back t
+
+-- a worker has it, or it waits for one
+abbrev pub state_running : Bool → desk.State
+state_running true = desk.running
+state_running false = desk.queued
 
 abbrev pub view_of_state : State → desk.State
-view_of_state (state.Queued job) = desk.queued
-view_of_state (state.Done f) = desk.done f.result
+view_of_state (state.Undone running job) = state_running running
+view_of_state (state.Done w) = desk.done w.result
+view_of_state (state.WithoutMemory job) = desk.done without_memory
 
 -- the job of a trial, however far it is
 abbrev pub job_within : State → Job
-job_within (state.Queued job) = job.value
-job_within (state.Done f) = f.job
+job_within (state.Undone running job) = job.value
+job_within (state.Done w) = w.job
+job_within (state.WithoutMemory job) = job.value

@@ -1,35 +1,40 @@
 //! The desk of one project.
 
-ghost use Rattle.std.specs.Prelude.{◌≡◌, ◌<◌, IfOk, OnOk, length};
+ghost use Rattle.std.specs.Prelude.{◌≡◌, ◌<◌, ◌≤◌, ◌+◌, true, IfOk, IfSome, MatchBool, OnOk, length};
+ghost use Rattle.std.specs.Bool.{OnTrue};
 ghost use Rattle.std.specs.Option.{option_map};
 ghost use Rattle.std.specs.Vec.{vec_len, vec_capacity};
 ghost use Rattle.pf_model.specs.Limits.{IsEdition};
 ghost use Rattle.pf_desks.specs.Desk as desk;
-ghost use Rattle.pf_desks.specs.Desk.{no_desk};
-ghost use Rattle.pf_desks.specs.Work.{with_state};
+ghost use Rattle.pf_desks.specs.Desk.{no_desk, held_at};
+ghost use Rattle.pf_desks.specs.Work.{is_running, with_state};
 ghost use Rattle.pf_desks.specs.History.{IsLegalDesk};
+ghost use Rattle.pf_desks.specs.Jobs.{KeepsTickets};
 ghost use Rattle.pf_book.specs.Profile.{ForRight};
 ghost use Rattle.pf_request.specs.View.{view_of_call};
-ghost use Rattle.pf_book.specs.Answers.{DeskAnswers, DeskWorks};
+ghost use Rattle.pf_book.specs.Answers.{DeskAnswers, DeskClaims, DeskFiles, DeskTakesBack};
 ghost use Rattle.pf_book.specs.Kept.{Counts, FollowsDesk};
 ghost use Rattle.pf_book.specs.Plans.{IsPlan, IsCharged, CanChange, FollowsPlan};
-ghost use Rattle.pf_book.specs.Queued.{job_at};
-ghost use Rattle.pf_book.specs.Trials.{JobAt};
+ghost use Rattle.pf_book.specs.Queued.{is_undone, job_at};
+ghost use Rattle.pf_book.specs.Queues.{ended_by, FollowsQueue, HoldsRoom};
+ghost use Rattle.pf_book.specs.Running.{running_in};
+ghost use Rattle.pf_book.specs.Trials.{JobAt, IsStray};
+ghost use Rattle.pf_book.specs.View.{state_running};
 
 mod planning;
 
 use crate::change::carry_out;
-use crate::entry::Entry;
-use crate::job::run;
+use crate::entry::{Entry, Mark};
 use crate::numbers::{make_room, numbered};
-use crate::plan::Plan;
+use crate::plan::{Change, Plan};
+use crate::queue::Queue;
 use crate::refusal::Refusal;
 use crate::reply::Reply;
 use crate::trial::Trial;
 use pf_module::ReadModule;
 use pf_quota::{Charge, Usage};
 use pf_request::Call;
-use pf_sched::{Finished, Job, Scratch};
+use pf_sched::{Finished, Job};
 use pf_store::Store;
 use pf_terms::NoMemory;
 use std::alloc::Global;
@@ -37,8 +42,8 @@ use std::marker::Model;
 use std::sync::Arc;
 
 /// The desk of one project: its edition, its modules and trials by number, with nothing at a number that was given up, and what it
-/// noted; with the sums of what it uses, and for each module the count of the held trials that use it. Contracts see a desk that is what
-/// its history makes of an empty one.
+/// noted; with the sums of what it uses, for each module the count of the held trials that use it, and how many trials run. There is room to note
+/// the file or the hand-back of each of those. Contracts see a desk that is what its history makes of an empty one.
 #[derive(Drop)]
 pub(crate) struct Desk {
     edition: u32,
@@ -47,6 +52,7 @@ pub(crate) struct Desk {
     history: Vec<Entry>,
     users: Vec<u64>,
     usage: Usage,
+    running: usize,
 }
 
 impl Model for Desk {
@@ -75,6 +81,7 @@ impl Desk {
             history: Vec::new(alloc),
             users: Vec::new(alloc),
             usage: Usage::new(),
+            running: 0,
         }
     }
 
@@ -94,19 +101,33 @@ impl Desk {
         self.edition
     }
 
-    /// Answers a call and notes it with its reply. One for which the log has no room is refused first of all, wants no memory, and isn't
-    /// noted. A source that is in store isn't read again. After running out of memory nothing has changed.
-    pub fn call(&mut self, alloc: Global, store: &mut Store, call: Call) -> Result<Reply, NoMemory>
-        requires { Counts store.old self.old }
+    /// Answers a call and notes it with its reply; a trial that is ordered waits in the queue from then on. A call for which the log has no room is
+    /// refused first of all, wants no memory, and isn't noted. A source that is in store isn't read again. After running out of memory nothing
+    /// has changed.
+    pub fn call(
+        &mut self,
+        alloc: Global,
+        store: &mut Store,
+        queue: &mut Queue,
+        project: u32,
+        call: Call,
+    ) -> Result<Reply, NoMemory>
+        requires store { Counts store.old self.old }
+        requires room { HoldsRoom queue.old 0 }
+        requires running { running_in self.old ≤ queue.old.running }
         ensures answer { DeskAnswers self.old (view_of_call call) result self.new }
         ensures store { FollowsDesk store.old self.old store.new self.new }
+        ensures queue { FollowsQueue project queue.old self.old queue.new self.new }
+        ensures tickets { KeepsTickets self.old self.new }
     {
         let mut usage = self.usage;
         if let Err(limit) = usage.charge(self.edition, Charge::Call) {
             return Ok(Reply::Refused(Refusal::PastLimit(limit)));
         }
+        queue.make_room()?;
         make_call_room(
             &mut self.history,
+            self.running,
             &mut self.modules,
             &mut self.trials,
             &mut self.users,
@@ -117,6 +138,10 @@ impl Desk {
             reply,
             usage,
         } = self.plan(alloc, store, call, usage)?;
+        let ended = ended_by(&self.trials, &change);
+        let next = self.trials.len() as u64 + 1;
+        queue.follow(project, next, ended, &change);
+        self.running -= ended;
         carry_out(
             &mut self.edition,
             &mut self.modules,
@@ -156,26 +181,58 @@ impl Desk {
         }
     }
 
-    /// A worker claims a trial, runs it whole and files what came of it; says false if the trial isn't queued, which takes no memory.
-    /// After running out of memory nothing has changed. What stands in the scratch makes no difference.
-    pub fn once(
-        &mut self,
-        alloc: Global,
-        scratch: &mut Scratch,
-        ticket: u64,
-    ) -> Result<bool, NoMemory>
-        ensures work { DeskWorks self.old ticket result self.new }
+    /// The job of the trial of a ticket, if it is queued.
+    pub fn queued(&self, ticket: u64) -> Option<&Arc<Job>>
+        ensures { option_map (λ j. j.now.value) result ≡ job_at self.now.trials ticket }
+    {
+        queued(&self.trials, ticket)
+    }
+
+    /// Claims the trial of a ticket, if it is queued, and makes room for the note of its claim and that of its end. After running out of memory
+    /// nothing has changed.
+    pub fn claim(&mut self, ticket: u64) -> Result<Option<Arc<Job>>, NoMemory>
+        ensures claim { DeskClaims self.old ticket result self.new }
         ensures modules { self.new.modules ≡ self.old.modules }
     {
         let Some(job) = queued(&self.trials, ticket) else {
-            return Ok(false);
+            return Ok(None);
         };
-        let finished = run(alloc, job, scratch)?;
-        make_room(&mut self.history, 2)?;
-        file(&mut self.trials, ticket, finished);
+        let job = Arc::try_clone(job)?;
+        make_room(&mut self.history, self.running + 2)?;
+        set_running(&mut self.trials, ticket, true);
+        self.running += 1;
         self.history.push_reserved(Entry::Claimed(ticket));
-        self.history.push_reserved(Entry::Filed(ticket));
-        Ok(true)
+        Ok(Some(job))
+    }
+
+    /// Files what the job of the trial of a ticket came to, if it is running and of that job, by the room that its claim made.
+    pub fn file(&mut self, ticket: u64, finished: Finished) -> bool
+        ensures file { DeskFiles self.old ticket finished result self.new }
+        ensures own { OnTrue result (JobAt self.old.trials ticket finished.job) }
+        ensures modules { self.new.modules ≡ self.old.modules }
+    {
+        if !runs_job(&self.trials, ticket, finished.job()) {
+            return false;
+        }
+        let mark = Mark::of(&finished);
+        file(&mut self.trials, ticket, finished);
+        self.running -= 1;
+        self.history.push_reserved(Entry::Filed(ticket, mark));
+        true
+    }
+
+    /// Takes the trial of a ticket back, if it is running, by the room that its claim made: it waits again.
+    pub fn take_back(&mut self, ticket: u64) -> bool
+        ensures back { DeskTakesBack self.old ticket result self.new }
+        ensures modules { self.new.modules ≡ self.old.modules }
+    {
+        if !is_running(&self.trials, ticket) {
+            return false;
+        }
+        set_running(&mut self.trials, ticket, false);
+        self.running -= 1;
+        self.history.push_reserved(Entry::HandedBack(ticket));
+        true
     }
 }
 
@@ -184,6 +241,51 @@ fn queued(trials: &[Option<Trial>], ticket: u64) -> Option<&Arc<Job>>
     ensures { option_map (λ j. j.now.value) result ≡ job_at trials.now ticket }
 {
     numbered(trials, ticket)?.queued()
+}
+
+/// Whether a worker has the trial of a ticket.
+fn is_running(trials: &[Option<Trial>], ticket: u64) -> bool
+    ensures { result ≡ is_running (held_at trials.now ticket) }
+{
+    match numbered(trials, ticket) {
+        Some(trial) => trial.is_running(),
+        None => false,
+    }
+}
+
+/// Whether a worker has the trial of a ticket, and it is of this job.
+fn runs_job(trials: &[Option<Trial>], ticket: u64, job: &Job) -> bool
+    ensures { MatchBool result
+        ((is_running (held_at trials.now ticket) ≡ true) × JobAt trials.now ticket job.now)
+        (IsStray trials.now ticket job.now) }
+{
+    let Some(trial) = numbered(trials, ticket) else {
+        return false;
+    };
+    trial.is_running() && job.same(trial.job())
+}
+
+/// How many running trials a change gives up.
+fn ended_by(trials: &[Option<Trial>], change: &Change) -> usize
+    ensures { result ≡ ended_by trials.now change.now }
+{
+    match change {
+        Change::DropTrial(ticket) => { if is_running(trials, *ticket) { 1 } else { 0 } }
+        _ => 0,
+    }
+}
+
+/// A worker has the trial of a ticket from now on, or it waits for one. It isn't done.
+fn set_running(trials: &mut Vec<Option<Trial>>, ticket: u64, running: bool)
+    requires { IfSome (held_at trials.old.items ticket) (λ t. is_undone t.state ≡ true) }
+    ensures { trials.new.items ≡ with_state trials.old.items ticket (λ j. state_running running) }
+{
+    if ticket == 0 || ticket > trials.len() as u64 {
+        return;
+    }
+    if let Some(trial) = &mut trials[ticket as usize - 1] {
+        trial.set_running(running);
+    }
 }
 
 /// Files what the job of the trial of a ticket came to.
@@ -199,23 +301,26 @@ fn file(trials: &mut Vec<Option<Trial>>, ticket: u64, finished: Finished)
     }
 }
 
-/// Makes room for one note, one module with its count of users, and one trial.
+/// Makes room for one note beside those of the trials that run, one module with its count of users, and one trial.
 fn make_call_room(
     history: &mut Vec<Entry>,
+    running: usize,
     modules: &mut Vec<Option<ReadModule>>,
     trials: &mut Vec<Option<Trial>>,
     users: &mut Vec<u64>,
 ) -> Result<(), NoMemory>
+    requires { vec_len history.old + running ≤ vec_capacity history.old }
     ensures history { history.new.items ≡ history.old.items }
     ensures modules { modules.new.items ≡ modules.old.items }
     ensures trials { trials.new.items ≡ trials.old.items }
     ensures users { users.new.items ≡ users.old.items }
-    ensures room { OnOk result ((vec_len history.new < vec_capacity history.new)
+    ensures kept { vec_len history.new + running ≤ vec_capacity history.new }
+    ensures room { OnOk result ((vec_len history.new + running < vec_capacity history.new)
         × (vec_len modules.new < vec_capacity modules.new)
         × (vec_len trials.new < vec_capacity trials.new)
         × (vec_len users.new < vec_capacity users.new)) }
 {
-    make_room(history, 1)?;
+    make_room(history, running + 1)?;
     make_room(modules, 1)?;
     make_room(trials, 1)?;
     make_room(users, 1)

@@ -1,13 +1,42 @@
 //! What a desk notes.
 
+ghost use Rattle.std.specs.Prelude.{◌≡◌};
+ghost use Rattle.pf_desks.specs.Desk as desk;
+ghost use Rattle.pf_desks.specs.Work.{result_marked};
+ghost use Rattle.pf_request.specs.Calls as calls;
+ghost use Rattle.pf_book.specs.Profile.{ForRight};
+ghost use Rattle.pf_book.specs.View.{mark_of, view_of_entry, view_of_mark};
+
 use crate::refusal::Refusal;
 use crate::reply::Stage;
 use pf_quota::Usage;
 use pf_request::{Order, Source};
-use pf_sched::Finished;
+use pf_sched::{Ending, Finished, Job, Whole};
 use std::sync::Arc;
 
-/// What a desk notes: a call with its reply, and that a worker claimed the trial of a ticket or filed what came of it.
+/// What a file bears: the whole of what the job came to, or that memory ran out.
+#[derive(Clone, Copy, Debug, PartialEq, Eq)]
+pub(crate) enum Mark {
+    Whole,
+    Memory,
+}
+
+impl Mark {
+    /// The mark of what a job came to.
+    pub fn of(finished: &Finished) -> Mark
+        ensures mark { view_of_mark result ≡ mark_of finished.now.result }
+        ensures puts { ForRight (λ p.
+            result_marked p (view_of_mark result) finished.now.job ≡ finished.now.result) }
+    {
+        if finished.is_whole() {
+            Mark::Whole
+        } else {
+            Mark::Memory
+        }
+    }
+}
+
+/// What a desk notes: a call with its reply, and that a worker claimed the trial of a ticket, filed what came of it, or handed it back.
 #[derive(Drop)]
 pub(crate) enum Entry {
     /// A source was submitted, and given this number.
@@ -15,11 +44,13 @@ pub(crate) enum Entry {
     /// A source was submitted, and refused.
     SubmitRefused(Source, Refusal),
     /// A trial was ordered, and given this ticket.
-    Ordered(Arc<Order>, u64),
+    Ordered(Box<Order>, u64),
     /// A trial was ordered, and refused.
-    OrderRefused(Arc<Order>, Refusal),
-    /// What came of the trial of a ticket was handed out.
-    Fetched(u64, Finished),
+    OrderRefused(Box<Order>, Refusal),
+    /// The whole of what came of the trial of a ticket was handed out.
+    Fetched(u64, Whole),
+    /// It was told that memory ran out for the job of the trial of a ticket.
+    ToldMemory(u64, Arc<Job>),
     /// What came of the trial of a ticket was refused.
     FetchRefused(u64, Refusal),
     /// The trial of a ticket stood so far.
@@ -43,5 +74,20 @@ pub(crate) enum Entry {
     /// This edition was refused.
     MoveRefused(u32, Refusal),
     Claimed(u64),
-    Filed(u64),
+    /// What came of the trial of a ticket was filed under a mark.
+    Filed(u64, Mark),
+    HandedBack(u64),
+}
+
+impl Entry {
+    /// The note that what came of the trial of a ticket was handed out.
+    pub fn fetched(ticket: u64, finished: Finished) -> Entry
+        ensures { view_of_entry result
+            ≡ desk.called (calls.fetch ticket) (desk.result finished.job.asked.code.atoms finished.result) }
+    {
+        match finished.into_ending() {
+            Ending::Whole(whole) => Entry::Fetched(ticket, whole),
+            Ending::Memory(job) => Entry::ToldMemory(ticket, job),
+        }
+    }
 }

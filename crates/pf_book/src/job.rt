@@ -1,8 +1,7 @@
-//! Jobs of orders, and their runs.
+//! Jobs of orders.
 
-ghost use Rattle.std.specs.Prelude.{◌≡◌, Ok, IfOk, IsSome, MatchResult, OnOk};
+ghost use Rattle.std.specs.Prelude.{Ok, IsSome, MatchResult, OnOk};
 ghost use Rattle.pf_model.specs.Limits.{IsEdition};
-ghost use Rattle.pf_model.specs.Shrinking.{IsResult};
 ghost use Rattle.pf_desks.specs.Desk.{held_at};
 ghost use Rattle.pf_book.specs.Orders.{Asked, IsRefusedJob};
 
@@ -11,8 +10,7 @@ use crate::refusal::Refusal;
 use pf_fault::OrNoMemory;
 use pf_module::ReadModule;
 use pf_request::Order;
-use pf_sched::{Finished, Job, Scratch, Silent, run_to_end};
-use pf_terms::NoMemory;
+use pf_sched::Job;
 use std::alloc::Global;
 use std::sync::Arc;
 
@@ -35,20 +33,4 @@ pub(crate) fn job_of(
         Err(OrNoMemory::NoMemory) => Err(OrNoMemory::NoMemory),
         Err(OrNoMemory::Fault(refusal)) => Err(OrNoMemory::Fault(Refusal::from(refusal))),
     }
-}
-
-/// Runs a job whole. Memory that ran out within it is no end.
-pub(crate) fn run(
-    alloc: Global,
-    job: &Arc<Job>,
-    scratch: &mut Scratch,
-) -> Result<Finished, NoMemory>
-    ensures job { IfOk result (λ f. f.job ≡ job.now.value) }
-    ensures whole { IfOk result (λ f. IsResult f.job.asked f.result) }
-{
-    let finished = run_to_end(alloc, Arc::try_clone(job)?, scratch, &mut Silent)?;
-    if !finished.is_whole() {
-        return Err(NoMemory);
-    }
-    Ok(finished)
 }

@@ -3,15 +3,18 @@
 
 mod book;
 mod change;
+mod claimed;
 mod desk;
 mod entry;
 mod job;
 mod numbers;
 mod plan;
+mod queue;
 mod refusal;
 mod reply;
 mod trial;
 
 pub use book::Book;
+pub use claimed::Claimed;
 pub use refusal::Refusal;
 pub use reply::{Reply, Stage};

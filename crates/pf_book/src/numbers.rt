@@ -28,16 +28,17 @@ pub(crate) fn give_up<T>(things: &mut Vec<Option<T>>, number: u64) -> Option<T>
     things[number as usize - 1].take()
 }
 
-/// Makes room for n more in a list, and is out of memory only if there was none. If there is none it grows by a quarter
+/// Makes room for n more in a list, and is out of memory only if there was none. If there is none it grows by an eighth
 /// at least: what is unused stays small, and a push costs a fixed number of moves on the average.
 pub(crate) fn make_room<T>(list: &mut Vec<T>, more: usize) -> Result<(), NoMemory>
     ensures items { list.new.items ≡ list.old.items }
     ensures len { vec_len list.new ≡ vec_len list.old }
+    ensures capacity { vec_capacity list.old ≤ vec_capacity list.new }
     ensures room { OnOk result (vec_len list.new + more ≤ vec_capacity list.new) }
     ensures full { OnErr result (vec_capacity list.old < vec_len list.old + more) }
 {
     if list.capacity() - list.len() < more {
-        list.reserve_exact(more.max(list.len() / 4))?;
+        list.reserve_exact(more.max(list.len() / 8))?;
     }
     Ok(())
 }

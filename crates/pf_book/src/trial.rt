@@ -1,27 +1,32 @@
 //! Trials of a desk.
 
-ghost use Rattle.std.specs.Prelude.{◌≡◌, MatchResult};
+ghost use Rattle.std.specs.Prelude.{◌≡◌, true, MatchResult};
 ghost use Rattle.std.specs.Option.{option_map};
 ghost use Rattle.pf_quota.specs.Charges.{steps_of_trial};
 ghost use Rattle.pf_desks.specs.Desk as desk;
 ghost use Rattle.pf_desks.specs.Calls.{result_in, stage_of};
-ghost use Rattle.pf_book.specs.View.{code_of, view_of_stage};
-ghost use Rattle.pf_book.specs.Queued.{queued_job};
+ghost use Rattle.pf_desks.specs.Work.{is_running_state};
+ghost use Rattle.pf_book.specs.Orders.{IsRefusal};
+ghost use Rattle.pf_book.specs.View.{code_of, state_running, view_of_stage};
+ghost use Rattle.pf_book.specs.Queued.{is_undone, queued_job};
 
 use crate::refusal::Refusal;
 use crate::reply::Stage;
+use pf_fault::OrNoMemory;
 use pf_quota::{Held, trial_steps};
-use pf_sched::{Finished, Job};
+use pf_sched::{Ending, Finished, Job, Whole};
 use std::marker::Model;
 use std::sync::Arc;
 
 /// How far a trial is.
 #[derive(Drop)]
 pub(crate) enum State {
-    /// Its job waits for a worker.
-    Queued(Arc<Job>),
-    /// What its job came to is filed.
-    Done(Finished),
+    /// Its job waits for a worker, or a worker runs it.
+    Undone { running: bool, job: Arc<Job> },
+    /// The whole of what its job came to is filed.
+    Done(Whole),
+    /// It is filed that memory ran out for its job.
+    WithoutMemory(Arc<Job>),
 }
 
 /// The number of the module that a trial uses, and how far it is, with its job.
@@ -50,7 +55,10 @@ impl Trial {
     {
         Trial {
             module_number,
-            state: State::Queued(job),
+            state: State::Undone {
+                running: false,
+                job,
+            },
         }
     }
 
@@ -62,12 +70,13 @@ impl Trial {
     }
 
     /// Its job.
-    fn job(&self) -> &Job
+    pub fn job(&self) -> &Job
         ensures { result.now ≡ self.now.job }
     {
         match &self.state {
-            State::Queued(job) => job,
-            State::Done(finished) => finished.job(),
+            State::Undone { job, .. } => job,
+            State::Done(whole) => whole.job(),
+            State::WithoutMemory(job) => job,
         }
     }
 
@@ -86,8 +95,14 @@ impl Trial {
         ensures { view_of_stage result ≡ stage_of self.now.state }
     {
         match &self.state {
-            State::Queued(_) => Stage::Queued,
-            State::Done(_) => Stage::Done,
+            State::Undone { running, .. } => {
+                if *running {
+                    Stage::Running
+                } else {
+                    Stage::Queued
+                }
+            }
+            State::Done(_) | State::WithoutMemory(_) => Stage::Done,
         }
     }
 
@@ -96,8 +111,28 @@ impl Trial {
         ensures { option_map (λ j. j.now.value) result ≡ queued_job self.now }
     {
         match &self.state {
-            State::Queued(job) => Some(job),
-            State::Done(_) => None,
+            State::Undone { running, job } => { if *running { None } else { Some(job) } }
+            State::Done(_) | State::WithoutMemory(_) => None,
+        }
+    }
+
+    /// Whether a worker has it.
+    pub fn is_running(&self) -> bool
+        ensures { result ≡ is_running_state self.now.state }
+    {
+        match &self.state {
+            State::Undone { running, .. } => *running,
+            State::Done(_) | State::WithoutMemory(_) => false,
+        }
+    }
+
+    /// A worker has it from now on, or it waits for one.
+    pub fn set_running(&mut self, running: bool)
+        requires { is_undone self.old.state ≡ true }
+        ensures { self.new ≡ record self.old { state = state_running running } }
+    {
+        if let State::Undone { running: now, .. } = &mut self.state {
+            *now = running;
         }
     }
 
@@ -106,19 +141,23 @@ impl Trial {
         requires { finished.job ≡ self.old.job }
         ensures { self.new ≡ record self.old { state = desk.done finished.result } }
     {
-        self.state = State::Done(finished);
+        self.state = match finished.into_ending() {
+            Ending::Whole(whole) => State::Done(whole),
+            Ending::Memory(job) => State::WithoutMemory(job),
+        };
     }
 
-    /// What its job came to, if that is filed.
-    pub fn filed(&self) -> Result<&Finished, Refusal>
+    /// What its job came to once more, if that is filed. It takes no memory.
+    pub fn filed(&self) -> Result<Finished, OrNoMemory<Refusal>>
         ensures { MatchResult result
-            (λ f. result_in self.now.job.asked.code.atoms self.now.state
-            ≡ desk.result f.now.job.asked.code.atoms f.now.result)
-            (λ e. result_in self.now.job.asked.code.atoms self.now.state ≡ desk.refused (code_of e)) }
+            (λ f. result_in self.now.job.asked.code.atoms self.now.state ≡ desk.result f.job.asked.code.atoms f.result)
+            (IsRefusal (λ e. result_in self.now.job.asked.code.atoms self.now.state ≡ desk.refused (code_of e))) }
     {
-        match &self.state {
-            State::Queued(_) => Err(Refusal::NotDone),
-            State::Done(finished) => Ok(finished),
-        }
+        let ending = match &self.state {
+            State::Undone { .. } => return Err(OrNoMemory::Fault(Refusal::NotDone)),
+            State::Done(whole) => Ending::Whole(whole.share()?),
+            State::WithoutMemory(job) => Ending::Memory(Arc::try_clone(job)?),
+        };
+        Ok(Finished::from_ending(ending))
     }
 }

@@ -11,6 +11,9 @@ use std::collections::VecDeque;
 use std::marker::Model;
 use std::mem;
 
+/// The most signals for which a queue has room that is kept as a spare one.
+const MOST_SPARE: usize = 64;
+
 /// Signals, the oldest first: never none. They stand in a block of their own, so that a queue moves as a pointer where others come and
 /// go beside it.
 #[derive(Drop)]
@@ -39,10 +42,19 @@ impl Model for Queue {
 }
 
 impl Queue {
-    /// The queue of one signal.
-    pub(crate) fn new(alloc: Global, signal: Signal) -> Result<Queue, NoMemory>
+    /// The queue of one signal. If there is a spare queue it is this one, which takes no memory then.
+    pub(crate) fn new(
+        alloc: Global,
+        spare: &mut Option<Queue>,
+        signal: Signal,
+    ) -> Result<Queue, NoMemory>
         ensures { IfOk result (λ q. q ≡ with_last None (signal_of signal)) }
     {
+        if let Some(mut queue) = spare.take() {
+            queue.waiting.first = signal;
+            queue.waiting.rest.clear();
+            return Ok(queue);
+        }
         let alone = Waiting {
             first: signal,
             rest: VecDeque::new(alloc),
@@ -72,11 +84,14 @@ impl Queue {
         Some(mem::replace(&mut self.waiting.first, next))
     }
 
-    /// The oldest signal, without those after it.
-    pub(crate) fn into_first(self) -> Signal
+    /// The oldest signal, without those after it. The queue becomes the spare one, unless it has room for many.
+    pub(crate) fn into_first(mut self, spare: &mut Option<Queue>) -> Signal
         ensures { signal_of result ≡ self.first }
     {
-        let Waiting { first, rest: _ } = Box::into_inner(self.waiting);
+        let first = mem::replace(&mut self.waiting.first, Signal::Link);
+        if self.waiting.rest.capacity() <= MOST_SPARE {
+            *spare = Some(self);
+        }
         first
     }
 }

@@ -13,10 +13,11 @@ use pf_sorted::SortedMap;
 use std::alloc::Global;
 use std::marker::Model;
 
-/// The queues of one sender, by rising receiver.
+/// The queues of one sender, by rising receiver; and a queue that was emptied, for the next, whose signals are none of the row's.
 #[derive(Drop)]
 pub(crate) struct Row {
     queues: SortedMap<Queue>,
+    spare: Option<Queue>,
 }
 
 impl Model for Row {
@@ -40,6 +41,7 @@ impl Row {
     {
         Row {
             queues: SortedMap::new(alloc),
+            spare: None,
         }
     }
 
@@ -70,7 +72,7 @@ impl Row {
         match self.queues.index_of(key) {
             Ok(at) => self.queues.value_mut(at).push(signal),
             Err(at) => {
-                let queue = Queue::new(alloc, signal)?;
+                let queue = Queue::new(alloc, &mut self.spare, signal)?;
                 self.queues.insert_at(at, key, queue)
             }
         }
@@ -89,7 +91,7 @@ impl Row {
         };
         match self.queues.value_mut(at).shift() {
             Some(signal) => Some(signal),
-            None => Some(self.queues.remove_at(at).1.into_first()),
+            None => Some(self.queues.remove_at(at).1.into_first(&mut self.spare)),
         }
     }
 }

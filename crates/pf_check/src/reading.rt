@@ -19,13 +19,13 @@ use std::alloc::Global;
 /// Whether a module as it is read has no static fault; else its first one.
 fn no_fault(
     alloc: Global,
-    source: &SyntaxTree,
+    syntax: &SyntaxTree,
     atoms: &AtomTable,
 ) -> Result<(), OrNoMemory<Refusal>>
-    ensures none { OnOk result (faults_of atoms.now (tree_of source.now) ≡ []) }
-    ensures first { IfErr result (IsFirstOf (faults_of atoms.now (tree_of source.now))) }
+    ensures none { OnOk result (faults_of atoms.now (tree_of syntax.now) ≡ []) }
+    ensures first { IfErr result (IsFirstOf (faults_of atoms.now (tree_of syntax.now))) }
 {
-    match first_fault(alloc, source, atoms)? {
+    match first_fault(alloc, syntax, atoms)? {
         Some(fault) => Err(OrNoMemory::Fault(fault)),
         None => Ok(()),
     }
@@ -34,14 +34,14 @@ fn no_fault(
 /// The checked module of a module as it is read, or its first static fault.
 fn check(
     alloc: Global,
-    source: &SyntaxTree,
+    syntax: &SyntaxTree,
     atoms: AtomTable,
 ) -> Result<Module, OrNoMemory<Refusal>>
-    ensures checked { IfOk result (λ m. (faults_of atoms (tree_of source.now) ≡ []) × (AreFormed source.now.functions → IsModule atoms (tree_of source.now) m)) }
-    ensures fault { IfErr result (IsFirstOf (faults_of atoms (tree_of source.now))) }
+    ensures checked { IfOk result (λ m. (faults_of atoms (tree_of syntax.now) ≡ []) × (AreFormed syntax.now.functions → IsModule atoms (tree_of syntax.now) m)) }
+    ensures fault { IfErr result (IsFirstOf (faults_of atoms (tree_of syntax.now))) }
 {
-    no_fault(alloc, source, &atoms)?;
-    Ok(module_of(alloc, source, atoms)?)
+    no_fault(alloc, syntax, &atoms)?;
+    Ok(module_of(alloc, syntax, atoms)?)
 }
 
 /// The module that the bytes of a source are, or its first refusal and its offset. Where the grammar refuses, the offset is one of
@@ -51,6 +51,6 @@ pub fn read(alloc: Global, source: &[u8]) -> Result<Module, OrNoMemory<Refusal>>
     ensures fault { IfErr result (IsRefusalOf source.now) }
 {
     let found = tokens(alloc, source)?;
-    let ReadModule { source, atoms } = read_tree(alloc, &found, source.len())?;
-    check(alloc, &source, atoms)
+    let ReadModule { syntax, atoms } = read_tree(alloc, &found, source.len())?;
+    check(alloc, &syntax, atoms)
 }

@@ -1,6 +1,6 @@
 -- What a hunt asks for.
-use Rattle.std.proofs.Common.{◌≡◌, ℕ, List, Option, Ok, Err, Some, None, subst, sym, ap}
-use Rattle.std.specs.Prelude.{Result, MatchResult, []}
+use Rattle.std.proofs.Common.{◌≡◌, ℕ, Ok, Err, subst}
+use Rattle.std.specs.Prelude.{Result, MatchResult}
 use Rattle.pf_fault.specs.declared.code.Code.{Code}
 use Rattle.pf_fault.specs.declared.fault.OrNoMemory.{OrNoMemory}
 use Rattle.pf_fault.specs.declared.fault.OrNoMemory.TheVariants.{NoMemory, Fault}
@@ -10,8 +10,8 @@ use Rattle.pf_request.specs.Job.{Job}
 use Rattle.pf_sched.specs.Asked.{Asks, IsRefusal}
 use Rattle.pf_sched.specs.Views.{code_of}
 use Rattle.pf_sched.specs.declared.refusal.JobRefusal.{JobRefusal}
-use Rattle.pf_cli.specs.Args.{HuntArgs, Sought, failure}
-use Rattle.pf_command.specs.Hunts.{AsksFor, MayShrink, shrinking_refused, run_asked}
+use Rattle.pf_cli.specs.Args.{HuntArgs, Sought}
+use Rattle.pf_command.specs.Hunts.{AsksFor, MayShrink, run_asked}
 
 -- who is refused for one thing is refused for what that implies
 pub refusal_weaker : (P Q : Result Job Code → Type 0) → ((code : Code) → P (Err code) → Q (Err code)) → (e : OrNoMemory JobRefusal) → IsRefusal P e

@@ -1,19 +1,36 @@
 -- What is told of charts, for texts and statuses that are equal to theirs.
-use Rattle.std.proofs.Common.{◌≡◌, ℕ, List, sym, subst}
-use Rattle.pf_model.specs.Shrinking as shrinking
-use Rattle.pf_model.specs.Shrinking.{IsResult, report, shrunk_to, nothing_fails}
+use Rattle.std.proofs.Common.{◌≡◌, ◌<◌, ℕ, zero, List, arith, subst}
+use Rattle.pf_fault.specs.Codes.{code_text}
+use Rattle.pf_fault.specs.declared.code.Code.TheVariants as code
+use Rattle.pf_model.specs.Meaning as meaning
+use Rattle.pf_model.specs.Meaning.{Means, Report}
+use Rattle.pf_model.specs.Shrinking.{Found, IsResult, by_schedule, report, shrunk_to, nothing_fails, plain, smaller}
 use Rattle.pf_request.specs.Job.{Job}
-use Rattle.pf_command.specs.Charts.{Draws, DrawsResult, run_drawn, found_drawn, none_drawn}
+use Rattle.pf_command.specs.Answers.{Refuses}
+use Rattle.pf_command.specs.Charts.{Draws, DrawsMeaning, DrawsRun, run_drawn, found_drawn, none_drawn}
 use Rattle.pf_command.specs.declared.answer.Answer.{Answer}
 
-drawn : (root : List ℕ) (j : Job) (x : shrinking.Result) (a : Answer) → IsResult j.asked x → DrawsResult j.asked.code.atoms root x a
-    → Draws root j a.text.items a.status
-drawn root j (report r) a is draws = rw draws.1 (run_drawn r a.text.items is draws.0)
-drawn root j (shrunk_to f r) a is draws = rw draws.1 (found_drawn f r a.text.items is draws.0)
-drawn root j nothing_fails a is told = rw (told.0, told.1) (none_drawn is)
+-- what draws the run that a job means
+pub draws_meaning : (j : meaning.Job) (root : List ℕ) (atoms : List (List ℕ)) (r : Report) (a : Answer) → Means j r → atoms ≡ j.code.atoms
+    → DrawsRun atoms root r a → DrawsMeaning j root a
+draws_meaning j root atoms r a means same drawn = (r, means, subst (λ l. DrawsRun l root r a) same drawn)
 
--- what draws a result of a job
-pub draws_result : (root : List ℕ) (j : Job) (atoms : List (List ℕ)) (x y : shrinking.Result) (a : Answer) → IsResult j.asked y → x ≡ y
-    → atoms ≡ j.asked.code.atoms → DrawsResult atoms root x a → Draws root j a.text.items a.status
-draws_result root j atoms x y a is e f draws =
-    drawn root j y a is (subst (λ l. DrawsResult l root y a) f (subst (λ z. DrawsResult atoms root z a) e draws))
+-- a shrinking comes to no report alone
+pub no_report : (j : meaning.Job) (r : Report) → 0 < j.runs → IsResult j (report r) → ⊥
+no_report j _ shrinks (plain r one means) = omega arith
+
+-- what was found stands with each report that its schedule means
+found_again : (j : meaning.Job) (f : Found) (r s : Report) → IsResult j (shrunk_to f r) → Means (by_schedule j f.schedule) s → IsResult j (shrunk_to f s)
+found_again j _ _ s (smaller k ns fails f r runs choices tells is means) again = smaller k ns fails f s runs choices tells is again
+
+module _ (root : List ℕ) (j : Job) (a : Answer) where
+  pub draws_one_run : j.asked.runs ≡ zero → DrawsMeaning j.asked root a → Draws root j a.text.items a.status
+  draws_one_run one (r, means, drawn) = rw drawn.1 (run_drawn r a.text.items (plain r one means) drawn.0)
+
+  -- the run by the schedule that was found is the one of the result
+  pub draws_found : (f : Found) (r : Report) → IsResult j.asked (shrunk_to f r) → DrawsMeaning (by_schedule j.asked f.schedule) root a
+      → Draws root j a.text.items a.status
+  draws_found f r is (s, means, drawn) = rw drawn.1 (found_drawn f s a.text.items (found_again j.asked f r s is means) drawn.0)
+
+  pub draws_none : IsResult j.asked nothing_fails → Refuses a (code_text code.NothingFails) → Draws root j a.text.items a.status
+  draws_none is told = rw (told.0, told.1) (none_drawn is)

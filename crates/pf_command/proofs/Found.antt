@@ -1,6 +1,5 @@
 -- What is told of hunts, for texts and statuses that are equal to theirs.
-use Rattle.std.proofs.Common.{◌≡◌, ◌++◌, ◌-◌, ◌||◌, ◌∙◌, ℕ, List, [], ◌∷◌, Option, None, Some, map, flat_map, inl, inr, refl, sym, ap, subst}
-use Rattle.std.specs.Prelude.{if◌then◌else◌}
+use Rattle.std.proofs.Common.{◌≡◌, ◌++◌, ◌-◌, ◌||◌, ℕ, List, [], ◌∷◌, Option, None, Some, map, flat_map, inl, inr, refl, sym, ap}
 use Rattle.std.specs.List.{list_any}
 use Rattle.std.proofs.lemmas.Simd.{map-map}
 use Rattle.std.proofs.lemmas.List.Folds.{flat_map-map}

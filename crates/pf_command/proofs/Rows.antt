@@ -1,5 +1,5 @@
 -- The rows of answers, for texts and statuses that are equal to theirs.
-use Rattle.std.proofs.Common.{◌≡◌, ◌++◌, ◌∙◌, ℕ, zero, Bool, List, Option, Ok, Err, ap, subst}
+use Rattle.std.proofs.Common.{◌≡◌, ◌++◌, ℕ, zero, Bool, List, Ok, Err, subst}
 use Rattle.std.specs.Prelude.{Result, codes}
 use Rattle.pf_fault.specs.Codes.{code_text, refusal_text}
 use Rattle.pf_fault.specs.declared.code.Code.{Code}
@@ -7,11 +7,10 @@ use Rattle.pf_syntax.specs.Module.{Checked}
 use Rattle.pf_model.specs.Shrinking as shrinking
 use Rattle.pf_model.specs.Shrinking.{IsResult}
 use Rattle.pf_model.specs.TermText.{line}
-use Rattle.pf_model.specs.Text.{report_text}
 use Rattle.pf_check.specs.Reads.{Reads, refused, accepted_as}
 use Rattle.pf_request.specs.Module.{ReadModule}
 use Rattle.pf_request.specs.Job.{Job, memory_report}
-use Rattle.pf_command.specs.Answers.{AnswersBy, IsModuleOf, Refuses, Tells, TellsResult, names_of, told_text, told_status, source_refused, job_refused, told, result, out_of_memory}
+use Rattle.pf_command.specs.Answers.{AnswersBy, IsModuleOf, Refuses, Tells, TellsResult, source_refused, job_refused, told, result, out_of_memory}
 use Rattle.pf_command.specs.Checks.{Checks, explained, is_module, is_refused}
 use Rattle.pf_command.specs.declared.answer.Answer.{Answer}
 

@@ -3,13 +3,14 @@ use Rattle.std.specs.Prelude.{◌≡◌, ℕ, List, []}
 use Rattle.pf_fault.specs.Codes.{code_text}
 use Rattle.pf_fault.specs.declared.code.Code.TheVariants as code
 use Rattle.pf_terms.specs.Atoms.{name_of}
-use Rattle.pf_model.specs.Meaning.{Report}
-use Rattle.pf_model.specs.Shrinking.{Found, Result, IsResult, report, shrunk_to, nothing_fails}
+use Rattle.pf_model.specs.Meaning as meaning
+use Rattle.pf_model.specs.Meaning.{Means, Report}
+use Rattle.pf_model.specs.Shrinking.{Found, IsResult, report, shrunk_to, nothing_fails}
 use Rattle.pf_model.specs.TermText.{line}
 use Rattle.pf_request.specs.Job.{Job}
 use Rattle.pf_chart.specs.Chart.{IsChart}
 use Rattle.pf_cli.specs.Args.{RunArgs}
-use Rattle.pf_command.specs.Answers.{AnswersBy, AsksOf, Refuses, names_of, run_status}
+use Rattle.pf_command.specs.Answers.{AnswersBy, AsksOf, names_of, run_status}
 use Rattle.pf_command.specs.declared.answer.Answer.{Answer}
 
 -- what is told of a job from this root: a chart of its run with the status of that, or of a shrinking that of the run which it found. If memory
@@ -31,8 +32,6 @@ ChartAnswers a = AnswersBy (AsksOf a) (Draws a.request.root)
 abbrev pub DrawsRun : (atoms : List (List ℕ)) → (root : List ℕ) → Report → Answer → Type 0
 DrawsRun atoms root r a = IsChart (name_of atoms) root r [] a.text.items × (a.status ≡ run_status r.verdict)
 
--- the answer draws a result
-abbrev pub DrawsResult : (atoms : List (List ℕ)) → (root : List ℕ) → Result → Answer → Type 0
-DrawsResult atoms root (report r) a = DrawsRun atoms root r a
-DrawsResult atoms root (shrunk_to f r) a = DrawsRun atoms root r a
-DrawsResult atoms root nothing_fails a = Refuses a (code_text code.NothingFails)
+-- the answer draws the run that a job means
+abbrev pub DrawsMeaning : meaning.Job → (root : List ℕ) → Answer → Type 0
+DrawsMeaning j root a = (r : Report) × Means j r × DrawsRun j.code.atoms root r a

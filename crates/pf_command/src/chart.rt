@@ -1,10 +1,11 @@
 //! What a source is answered with of which the chart of a run is asked for.
 
-ghost use Rattle.std.specs.Prelude.{List, ℕ, IfOk};
+ghost use Rattle.std.specs.Prelude.{◌≡◌, ◌<◌, List, ℕ, zero, IfOk};
 ghost use Rattle.pf_model.specs.Reports.{report_of};
+ghost use Rattle.pf_model.specs.Shrinking.{IsResult, by_schedule};
 ghost use Rattle.pf_sched.specs.Views.{result_of};
 ghost use Rattle.pf_command.specs.Answers.{IsModuleOf, run_args};
-ghost use Rattle.pf_command.specs.Charts.{ChartAnswers, Draws, DrawsResult, DrawsRun};
+ghost use Rattle.pf_command.specs.Charts.{ChartAnswers, Draws, DrawsMeaning, DrawsRun};
 
 use crate::answer::{Answer, read_source, refused_at, refused_by_code, run_status};
 use crate::serving::Answering;
@@ -14,7 +15,9 @@ use pf_fault::{Code, NoMemory, OrNoMemory};
 use pf_model::report::Report;
 use pf_module::ReadModule;
 use pf_request::Request;
-use pf_sched::{Finished, Job, JobResult, Scratch, Silent, run_to_end};
+use pf_sched::{
+    Finished, Job, JobResult, Scratch, Silent, report_by_schedule, report_of_run, run_to_end,
+};
 use pf_terms::AtomTable;
 use std::alloc::Global;
 use std::sync::Arc;
@@ -29,40 +32,71 @@ fn draw_run(alloc: Global, atoms: &AtomTable, root: &[u8], run: &Report) -> Resu
     Ok(Answer { text, status })
 }
 
-/// The chart of what a job came to. If the given schedule doesn't fail, that is refused.
-fn draw_result(
+/// The chart of a job that is one run, which is made with its events.
+fn draw_one_run(alloc: Global, root: &[u8], job: &Job) -> Result<Answer, NoMemory>
+    requires { job.now.asked.runs ≡ zero }
+    ensures { IfOk result (DrawsMeaning job.now.asked root.now) }
+{
+    let run = report_of_run(alloc, job, &mut Scratch::new(alloc))?;
+    draw_run(alloc, job.module().atoms(), root, &run)
+}
+
+/// The chart of a job's run by this schedule, which is made with its events: what is filed has none.
+fn draw_by_schedule(
     alloc: Global,
-    atoms: &AtomTable,
     root: &[u8],
-    came: &JobResult,
+    job: &Job,
+    schedule: &[u32],
 ) -> Result<Answer, NoMemory>
-    ensures { IfOk result (DrawsResult atoms.now root.now (result_of came.now)) }
+    ensures { IfOk result (DrawsMeaning (by_schedule job.now.asked schedule.now) root.now) }
+{
+    let run = report_by_schedule(alloc, job, schedule, &mut Scratch::new(alloc))?;
+    draw_run(alloc, job.module().atoms(), root, &run)
+}
+
+/// The chart of what a shrinking came to: of the run by the schedule that it found. If the given schedule doesn't fail, that is refused.
+fn draw_result(alloc: Global, root: &[u8], job: &Job, came: &JobResult) -> Result<Answer, NoMemory>
+    requires shrinks { 0 < job.now.asked.runs }
+    requires result { IsResult job.now.asked (result_of came.now) }
+    ensures { IfOk result (λ a. Draws root.now job.now a.text.items a.status) }
 {
     match came {
-        JobResult::Report(report) => draw_run(alloc, atoms, root, report),
-        JobResult::Shrunk { report, .. } => draw_run(alloc, atoms, root, report),
+        JobResult::Report(_) => unreachable!(),
+        JobResult::Shrunk { schedule, .. } => draw_by_schedule(alloc, root, job, schedule),
         JobResult::NothingFails => refused_by_code(alloc, Code::NothingFails),
     }
 }
 
-/// The chart of a job whose runs are over. If memory ran out within them, there is none.
+/// The chart of a shrinking whose runs are over. If memory ran out within them, there is none.
 fn draw_finished(alloc: Global, root: &[u8], finished: &Finished) -> Result<Answer, NoMemory>
+    requires { 0 < finished.now.job.asked.runs }
     ensures { IfOk result (λ a. Draws root.now finished.now.job a.text.items a.status) }
 {
-    let atoms = finished.job().module().atoms();
     match finished.result() {
-        Some(result) => draw_result(alloc, atoms, root, result),
+        Some(came) => draw_result(alloc, root, finished.job(), came),
         None => Err(NoMemory),
     }
 }
 
-/// The chart of a job, which is run to its end.
-fn draw_job(alloc: Global, root: &[u8], job: Job) -> Result<Answer, NoMemory>
+/// The chart of a shrinking, which is run to its end.
+fn draw_shrinking(alloc: Global, root: &[u8], job: Job) -> Result<Answer, NoMemory>
+    requires { 0 < job.asked.runs }
     ensures { IfOk result (λ a. Draws root.now job a.text.items a.status) }
 {
     let job = Arc::new(alloc, job)?;
     let finished = run_to_end(alloc, job, &mut Scratch::new(alloc), &mut Silent)?;
     draw_finished(alloc, root, &finished)
+}
+
+/// The chart of a job.
+fn draw_job(alloc: Global, root: &[u8], job: Job) -> Result<Answer, NoMemory>
+    ensures { IfOk result (λ a. Draws root.now job a.text.items a.status) }
+{
+    if job.runs() > 0 {
+        draw_shrinking(alloc, root, job)
+    } else {
+        draw_one_run(alloc, root, &job)
+    }
 }
 
 /// The answer to a module.

@@ -1,33 +1,33 @@
 //! What a source is answered with of which a run or a shrinking is asked for.
 
 ghost use Rattle.std.specs.Prelude.{◌≡◌, List, ℕ, zero, IfOk};
-ghost use Rattle.pf_model.specs.Reports.{report_of};
+ghost use Rattle.pf_terms.specs.Atoms.{name_of};
 ghost use Rattle.pf_model.specs.Shrinking.{found, report, shrunk_to};
 ghost use Rattle.pf_model.specs.Text.{report_text};
-ghost use Rattle.pf_terms.specs.Atoms.{name_of};
-ghost use Rattle.pf_sched.specs.Views.{result_of};
 ghost use Rattle.pf_request.specs.Job.{memory_report};
+ghost use Rattle.pf_trace.specs.Written.{AreWritten, report_in};
+ghost use Rattle.pf_sched.specs.Views.{IsWritten, result_of};
 ghost use Rattle.pf_command.specs.Answers.{Answers, IsModuleOf, Tells, TellsResult, run_args};
 
 use crate::answer::{Answer, FAILED, read_source, refused_at, refused_by_code, run_status};
 use crate::serving::Answering;
 use pf_cli::{Edition, RunArgs};
 use pf_fault::{Code, NoMemory, OrNoMemory};
-use pf_model::report::Report;
 use pf_module::ReadModule;
 use pf_request::Request;
 use pf_sched::{Finished, Job, JobResult, Observer, Scratch, Silent, memory_report, run_to_end};
 use pf_terms::AtomTable;
-use pf_trace::{put_found, put_report};
+use pf_trace::{WrittenReport, put_found, put_written};
 use std::alloc::Global;
 use std::sync::Arc;
 
 /// The answer of a run: its report, with the status of its verdict.
-fn write_run(alloc: Global, atoms: &AtomTable, told: &Report) -> Result<Answer, NoMemory>
-    ensures { IfOk result (TellsResult atoms.now (report (report_of told.now))) }
+fn write_run(alloc: Global, atoms: &AtomTable, told: &WrittenReport) -> Result<Answer, NoMemory>
+    requires { AreWritten (name_of atoms.now) told.now.lines }
+    ensures { IfOk result (TellsResult atoms.now (report (report_in told.now))) }
 {
     let mut text = Vec::new(alloc);
-    put_report(&mut text, atoms, told)?;
+    put_written(&mut text, atoms, told)?;
     let status = run_status(told.verdict);
     Ok(Answer { text, status })
 }
@@ -38,14 +38,15 @@ fn write_shrunk(
     atoms: &AtomTable,
     schedule: &[u32],
     complete: bool,
-    told: &Report,
+    told: &WrittenReport,
 ) -> Result<Answer, NoMemory>
+    requires { AreWritten (name_of atoms.now) told.now.lines }
     ensures { IfOk result (TellsResult atoms.now
-        (shrunk_to (found schedule.now complete) (report_of told.now))) }
+        (shrunk_to (found schedule.now complete) (report_in told.now))) }
 {
     let mut text = Vec::new(alloc);
     put_found(&mut text, schedule, complete)?;
-    put_report(&mut text, atoms, told)?;
+    put_written(&mut text, atoms, told)?;
     Ok(Answer {
         text,
         status: FAILED,
@@ -54,6 +55,7 @@ fn write_shrunk(
 
 /// The answer of what a job came to. If the given schedule doesn't fail, that is refused.
 fn write_result(alloc: Global, atoms: &AtomTable, told: &JobResult) -> Result<Answer, NoMemory>
+    requires { IsWritten (name_of atoms.now) told.now }
     ensures { IfOk result (TellsResult atoms.now (result_of told.now)) }
 {
     match told {

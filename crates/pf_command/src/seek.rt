@@ -24,7 +24,7 @@ use pf_request::{Kind, Request, ShortBytes};
 use pf_sched::{Job, JobRefusal, Observer, memory_report};
 use pf_seeds::{Failure, Tally, first_failing, tally_all};
 use pf_text::put;
-use pf_trace::put_report;
+use pf_trace::{put_report, put_written};
 use std::alloc::Global;
 use std::sync::Arc;
 use std::thread::Threads;
@@ -190,7 +190,7 @@ fn with_no_memory(alloc: Global, text: Vec<u8>, job: &Job) -> Result<Answer, NoM
         × (a.status ≡ 2)) }
 {
     let mut text = text;
-    put_report(&mut text, job.module().atoms(), &memory_report(alloc))?;
+    put_written(&mut text, job.module().atoms(), &memory_report(alloc))?;
     Ok(Answer {
         text,
         status: REFUSED,

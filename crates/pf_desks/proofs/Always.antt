@@ -1,11 +1,11 @@
 -- What each call and each step of a worker keeps is true of each desk after all steps.
 use Rattle.std.proofs.Common.{◌≡◌, ℕ, ◌==◌, Bool, true, false, List, [], ◌∷◌, Option, Some, None, refl, sym, subst}
-use Rattle.std.specs.Prelude.{if◌then◌else◌, option_and_then}
+use Rattle.std.specs.Prelude.{if◌then◌else◌}
 use Rattle.pf_request.specs.Calls.{Call}
 use Rattle.pf_request.specs.Job.{Job}
-use Rattle.pf_desks.specs.Desk.{Profile, Desk, no_desk, State, queued, running, done, Entry, claimed, filed, handed_back, Mark, marked_whole, held_at}
+use Rattle.pf_desks.specs.Desk.{Profile, Desk, no_desk, State, queued, running, done, Entry, claimed, filed, handed_back, Mark, held_at}
 use Rattle.pf_desks.specs.Calls.{after_call, with_entry}
-use Rattle.pf_desks.specs.Work.{is_queued, is_running, after_claim, after_file, after_back, with_state, result_marked, Work, claim, file, hand_back, once, claim_step, file_step, worker_step}
+use Rattle.pf_desks.specs.Work.{is_queued, is_running, after_claim, after_file, after_back, with_state, result_marked, Work, claim, file, hand_back, worker_step}
 use Rattle.pf_desks.specs.World.{World, Step, client, worker, desk_at, put_desk, worked, step}
 use Rattle.pf_desks.specs.Legality.{after_steps}
 use Rattle.pf_desks.proofs.Isolated.{desk_placed}
@@ -61,15 +61,7 @@ module _ (p : Profile) (P : Desk → Type 0) (by_move : (d : Desk) (t : ℕ) (f 
   by_back : (d d' : Desk) (t : ℕ) → worker_step p d (hand_back t) ≡ Some d' → P d → P d'
   by_back d d' t h k = subst P (sym (where_so (is_running (held_at d.trials t)) (after_back d t) d' h)) (by_move d t (λ j. queued) (handed_back t) (of_back t) k)
 
-  by_once : (d d' : Desk) (t : ℕ) → worker_step p d (once t) ≡ Some d' → P d → P d'
-  by_once d d' t h k = by (claim_step d t) refl h
-    where
-      by : (o : Option Desk) → claim_step d t ≡ o → option_and_then (λ x. file_step p x t marked_whole) o ≡ Some d' → P d'
-      by (Some x) e h = by_file x d' t marked_whole h (by_claim d x t e k)
-      by None e h = absurd (cc)
-
   pub moves : (d d' : Desk) (k : Work) → worker_step p d k ≡ Some d' → P d → P d'
   moves d d' (claim t) h k = by_claim d d' t h k
   moves d d' (file t m) h k = by_file d d' t m h k
   moves d d' (hand_back t) h k = by_back d d' t h k
-  moves d d' (once t) h k = by_once d d' t h k

@@ -16,7 +16,15 @@ pub desk_placed : (q r : ℕ) (d : Desk) (w : World) → desk_at q (put_desk r d
 desk_placed q r d [] = grind (arith, nat_tests)
 desk_placed q r d (e ∷ es) = grind (arith, nat_tests, desk_placed q r d es)
 
-same_project : (q r : ℕ) → (r == q) ≡ true → r ≡ q
+-- the desk that was put there
+pub desk_there : (q : ℕ) (d : Desk) (w : World) → desk_at q (put_desk q d w) ≡ d
+desk_there q d w = desk_placed q q d w ∙ by (q == q) (grind (arith, nat_tests))
+  where
+    by : (b : Bool) → b ≡ true → (if b then d else desk_at q w) ≡ d
+    by true e = refl
+    by false e = absurd (cc)
+
+pub same_project : (q r : ℕ) → (r == q) ≡ true → r ≡ q
 same_project q r h = grind (arith, nat_tests)
 
 -- what is made of the named project's desk is made of this project's, where they are one

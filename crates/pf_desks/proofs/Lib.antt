@@ -5,3 +5,4 @@ pub mod Sums
 pub mod Always
 pub mod Within
 pub mod Numbered
+pub mod Jobs

@@ -8,3 +8,4 @@ pub mod Encoding
 pub mod Legality
 pub mod Limits
 pub mod Numbers
+pub mod Jobs

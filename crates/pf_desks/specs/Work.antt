@@ -1,5 +1,5 @@
--- The work of workers at a desk: claims, files and hand-backs, and a trial run whole.
-use Rattle.std.specs.Prelude.{ℕ, Bool, true, false, if◌then◌else◌, List, Option, Some, None, option_and_then}
+-- The work of workers at a desk: claims, files and hand-backs.
+use Rattle.std.specs.Prelude.{ℕ, Bool, true, false, if◌then◌else◌, List, Option, Some, None}
 use Rattle.std.specs.Option.{option_map}
 use Rattle.pf_model.specs.Shrinking as shrinking
 use Rattle.pf_request.specs.Job.{Job, memory_report}
@@ -49,13 +49,11 @@ after_file p d t m = with_entry (record d { trials = with_state d.trials t (λ j
 abbrev pub after_back : Desk → ℕ → Desk
 after_back d t = with_entry (record d { trials = with_state d.trials t (λ j. queued) }) (handed_back t)
 
--- what a worker does at the trial of a ticket: it claims it, it files what came of it under a mark, it hands it back, or it runs it
--- whole, from claim to file
+-- what a worker does at the trial of a ticket: it claims it, it files what came of it under a mark, or it hands it back
 pub data Work : Type 0 where
   claim : ℕ → Work
   file : ℕ → Mark → Work
   hand_back : ℕ → Work
-  once : ℕ → Work
 
 -- only what is queued is claimed
 abbrev pub claim_step : Desk → ℕ → Option Desk
@@ -74,4 +72,3 @@ abbrev pub worker_step : Profile → Desk → Work → Option Desk
 worker_step p d (claim t) = claim_step d t
 worker_step p d (file t m) = file_step p d t m
 worker_step p d (hand_back t) = back_step d t
-worker_step p d (once t) = option_and_then (λ k. file_step p k t marked_whole) (claim_step d t)

@@ -4,6 +4,7 @@ ghost use Rattle.pf_desks.specs.World.{Isolation};
 ghost use Rattle.pf_desks.specs.Legality.{Legality};
 ghost use Rattle.pf_desks.specs.Limits.{StaysInLimits};
 ghost use Rattle.pf_desks.specs.Numbers.{NoNumberTwice};
+ghost use Rattle.pf_desks.specs.Jobs.{TicketsStay};
 
 /// Isolation: for every list of steps, of any length, in any order and of any number of projects, a project is
 /// told what it is told alone, along its own steps.
@@ -26,4 +27,10 @@ pub fn stays_in_limits()
 /// tickets. None is told twice.
 pub fn no_number_twice()
     ensures { NoNumberTwice }
+{}
+
+/// Tickets: for every list of steps, in every world, a ticket that was given is for its job still: its trial, if it is held
+/// yet, is of that job.
+pub fn tickets_stay()
+    ensures { TicketsStay }
 {}

@@ -5,7 +5,7 @@ use Rattle.std.proofs.lemmas.List.{map-append}
 use Rattle.std.proofs.lemmas.List.Sums.{fold-append}
 use Rattle.pf_terms.specs.Atoms.{with_name, with_names}
 use Rattle.pf_tokens.specs.TokenKinds.{Placed, placed_of}
-use Rattle.pf_tokens.specs.TokenKinds as written
+use Rattle.pf_tokens.specs.TokenKinds as token
 use Rattle.pf_tokens.specs.declared.token.Token.{Token}
 use Rattle.pf_intern.specs.declared.numbered_token.NumberedKind.{NumberedKind as CodeNumberedKind}
 use Rattle.pf_intern.specs.declared.numbered_token.NumberedToken.{NumberedToken as CodeNumberedToken}
@@ -34,8 +34,8 @@ module _ (rest next : List Token) (x : Token) (e : rest ≡ x ∷ next) where
       ∙ w
 
 -- a token whose kind is numbered, and whose offset is known
-pub numbered_as : (k : CodeNumberedKind) (at : ℕ) (x : Token) (atoms variables all_atoms all_variables : List (List ℕ)) → kind_of k ≡ kind_in atoms variables (written.kind_of x.kind) → atoms ≡ all_atoms → variables ≡ all_variables → at ≡ x.start
+pub numbered_as : (k : CodeNumberedKind) (at : ℕ) (x : Token) (atoms variables all_atoms all_variables : List (List ℕ)) → kind_of k ≡ kind_in atoms variables (token.kind_of x.kind) → atoms ≡ all_atoms → variables ≡ all_variables → at ≡ x.start
     → numbered_token_of (record { kind = k; at = at }) ≡ numbered_token_in all_atoms all_variables (placed_of x)
 numbered_as k at x atoms variables all_atoms all_variables s a v e =
-    ap (λ z. record { kind = z; at = at }) (s ∙ ap (λ ns. kind_in ns variables (written.kind_of x.kind)) a ∙ ap (λ ns. kind_in all_atoms ns (written.kind_of x.kind)) v)
-    ∙ ap (λ z. record { kind = kind_in all_atoms all_variables (written.kind_of x.kind); at = z }) e
+    ap (λ z. record { kind = z; at = at }) (s ∙ ap (λ ns. kind_in ns variables (token.kind_of x.kind)) a ∙ ap (λ ns. kind_in all_atoms ns (token.kind_of x.kind)) v)
+    ∙ ap (λ z. record { kind = kind_in all_atoms all_variables (token.kind_of x.kind); at = z }) e

@@ -6,7 +6,7 @@ use Rattle.pf_terms.specs.Atoms.{fixed_names, with_names}
 use Rattle.pf_tokens.specs.declared.marks.Mark.{Mark}
 use Rattle.pf_tokens.specs.declared.words.Reserved.{Reserved}
 use Rattle.pf_tokens.specs.TokenKinds.{Placed}
-use Rattle.pf_tokens.specs.TokenKinds as written
+use Rattle.pf_tokens.specs.TokenKinds as token
 
 -- what a token is
 pub data NumberedKind : Type 0 where
@@ -28,12 +28,12 @@ pub record NumberedToken : Type 0 where
 -- ---- names
 
 -- the name of an atom or of a variable, where the token is one
-abbrev pub atom_name : written.TokenKind → List (List ℕ)
-atom_name (written.atom name) = name ∷ []
+abbrev pub atom_name : token.TokenKind → List (List ℕ)
+atom_name (token.atom name) = name ∷ []
 atom_name _ = []
 
-abbrev pub variable_name : written.TokenKind → List (List ℕ)
-variable_name (written.variable name) = name ∷ []
+abbrev pub variable_name : token.TokenKind → List (List ℕ)
+variable_name (token.variable name) = name ∷ []
 variable_name _ = []
 
 -- the names, and behind them the atoms that tokens have and they lack, in order of appearance
@@ -54,16 +54,16 @@ number_in names name = prefix_len (λ other. not (bytes_eq name other)) names
 
 -- ---- tokens by number
 
-abbrev pub kind_in : List (List ℕ) → List (List ℕ) → written.TokenKind → NumberedKind
-kind_in atoms variables (written.integer n) = integer n
-kind_in atoms variables (written.atom name) = atom (number_in atoms name)
-kind_in atoms variables (written.variable name) = variable (number_in variables name)
-kind_in atoms variables written.anonymous = anonymous
-kind_in atoms variables (written.text cs) = text cs
-kind_in atoms variables written.own_module = own_module
-kind_in atoms variables written.dot = dot
-kind_in atoms variables (written.mark m) = mark m
-kind_in atoms variables (written.reserved r) = reserved r
+abbrev pub kind_in : List (List ℕ) → List (List ℕ) → token.TokenKind → NumberedKind
+kind_in atoms variables (token.integer n) = integer n
+kind_in atoms variables (token.atom name) = atom (number_in atoms name)
+kind_in atoms variables (token.variable name) = variable (number_in variables name)
+kind_in atoms variables token.anonymous = anonymous
+kind_in atoms variables (token.text cs) = text cs
+kind_in atoms variables token.own_module = own_module
+kind_in atoms variables token.dot = dot
+kind_in atoms variables (token.mark m) = mark m
+kind_in atoms variables (token.reserved r) = reserved r
 
 abbrev pub numbered_token_in : List (List ℕ) → List (List ℕ) → Placed → NumberedToken
 numbered_token_in atoms variables t = record { kind = kind_in atoms variables t.kind; at = t.start }

@@ -4,7 +4,7 @@ use Rattle.std.specs.Prelude.{◌&&◌, nat_le, take, if◌then◌else◌}
 use Rattle.std.proofs.lemmas.Bool.{ltb-true, lt-ltb, le-leb}
 use Rattle.std.proofs.lemmas.List.{take-append-le, drop-append-le}
 use Rattle.pf_request.specs.Calls.{submit}
-use Rattle.pf_desks.specs.World.{Step, client}
+use Rattle.pf_worlds.specs.Steps.{WorkshopStep, client_calls}
 use Rattle.pf_lines.specs.Commands.{Line, with_byte, first_line, Asked, made, submission, asked_by, words_of, after_source, with_source, complete_command, command_at}
 use Rattle.pf_lines.specs.Complete.{size_in, has_source, is_complete}
 use Rattle.pf_fault.proofs.Bools.{both}
@@ -43,21 +43,21 @@ open_is_unfinished bs h = ap (λ (c : Bool). c && has_source (size_in (asked_by 
 
 -- ---- commands
 
-abbrev pub with_more : List ℕ → Option (Step × List ℕ) → Option (Step × List ℕ)
+abbrev pub with_more : List ℕ → Option (WorkshopStep × List ℕ) → Option (WorkshopStep × List ℕ)
 with_more more None = None
 with_more more (Some p) = Some (p.0, p.1 ++ more)
 
-end_stays : (ends : Bool) (s : Step) (bs more : List ℕ) → if◌then◌else◌ {A = Option (Step × List ℕ)} ends (Some (s, bs ++ more)) None
-    ≡ with_more more (if◌then◌else◌ {A = Option (Step × List ℕ)} ends (Some (s, bs)) None)
+end_stays : (ends : Bool) (s : WorkshopStep) (bs more : List ℕ) → if◌then◌else◌ {A = Option (WorkshopStep × List ℕ)} ends (Some (s, bs ++ more)) None
+    ≡ with_more more (if◌then◌else◌ {A = Option (WorkshopStep × List ℕ)} ends (Some (s, bs)) None)
 end_stays true s bs more = refl
 end_stays false s bs more = refl
 
-after_stays : (s : Step) (bs more : List ℕ) → 0 < length bs → after_source s (bs ++ more) ≡ with_more more (after_source s bs)
+after_stays : (s : WorkshopStep) (bs more : List ℕ) → 0 < length bs → after_source s (bs ++ more) ≡ with_more more (after_source s bs)
 after_stays s [] more h = absurd (omega arith)
 after_stays s (b ∷ bs) more h = end_stays (b == 10) s bs more
 
-abbrev cut_source : Bool → Step → List ℕ → Option (Step × List ℕ)
-cut_source fits s after = if◌then◌else◌ {A = Option (Step × List ℕ)} fits (after_source s after) None
+abbrev cut_source : Bool → WorkshopStep → List ℕ → Option (WorkshopStep × List ℕ)
+cut_source fits s after = if◌then◌else◌ {A = Option (WorkshopStep × List ℕ)} fits (after_source s after) None
 
 source_stays : (project size : ℕ) (rest more : List ℕ) → size < length rest
     → with_source true project size (rest ++ more) ≡ with_more more (with_source true project size rest)
@@ -68,11 +68,11 @@ source_stays project size rest more lt =
     let source = take-append-le size rest more le in
     let after = drop-append-le size rest more le in
     let some : 0 < length (drop size rest) = omega (arith, lt, length-drop size rest) in
-    ap (λ (c : Bool). cut_source c (client project (submit (take size (rest ++ more)))) (drop size (rest ++ more))) fits_both
-    ∙ ap (λ (t : List ℕ). after_source (client project (submit t)) (drop size (rest ++ more))) source
-    ∙ ap (after_source (client project (submit (take size rest)))) after
-    ∙ after_stays (client project (submit (take size rest))) (drop size rest) more some
-    ∙ ap (λ (c : Bool). with_more more (cut_source c (client project (submit (take size rest))) (drop size rest))) (sym fits)
+    ap (λ (c : Bool). cut_source c (client_calls project (submit (take size (rest ++ more)))) (drop size (rest ++ more))) fits_both
+    ∙ ap (λ (t : List ℕ). after_source (client_calls project (submit t)) (drop size (rest ++ more))) source
+    ∙ ap (after_source (client_calls project (submit (take size rest)))) after
+    ∙ after_stays (client_calls project (submit (take size rest))) (drop size rest) more some
+    ∙ ap (λ (c : Bool). with_more more (cut_source c (client_calls project (submit (take size rest))) (drop size rest))) (sym fits)
 
 asked_stays : (o : Option Asked) (rest more : List ℕ) → has_source (size_in o) rest ≡ true → complete_command o true (rest ++ more) ≡ with_more more (complete_command o true rest)
 asked_stays None rest more h = refl
@@ -83,7 +83,7 @@ has_stays : (o : Option ℕ) (rest more : List ℕ) → has_source o rest ≡ tr
 has_stays None rest more h = refl
 has_stays (Some size) rest more h = lt-ltb size (length (rest ++ more)) (omega (arith, ltb-true size (length rest) h, length-append rest more))
 
-abbrev line_command : Line → Option (Step × List ℕ)
+abbrev line_command : Line → Option (WorkshopStep × List ℕ)
 line_command l = complete_command (asked_by (words_of l.text)) l.is_ended l.rest
 
 abbrev line_is_complete : Line → Bool

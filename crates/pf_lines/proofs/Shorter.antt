@@ -2,7 +2,7 @@
 use Rattle.std.proofs.Common.{◌≡◌, ◌≤◌, ◌==◌, ℕ, Bool, true, false, List, [], ◌∷◌, length, drop, Option, Some, None, sym, ap, arith, length-drop}
 use Rattle.std.specs.Prelude.{◌&&◌, nat_le, take, if◌then◌else◌}
 use Rattle.pf_request.specs.Calls.{submit}
-use Rattle.pf_desks.specs.World.{Step, client}
+use Rattle.pf_worlds.specs.Steps.{WorkshopStep, client_calls}
 use Rattle.pf_lines.specs.Commands.{Line, with_byte, first_line, Asked, made, submission, asked_by, words_of, after_source, complete_command, command_at}
 use Rattle.pf_desks.proofs.Isolated.{pick}
 
@@ -18,32 +18,32 @@ line_shorter b bs =
     let rest = line_left bs in
     pick (λ (l : Line). length l.rest ≤ length bs) (b == 10) (record { text = []; is_ended = true; rest = bs }) (with_byte b (first_line bs)) (omega arith) (omega arith)
 
-abbrev rest_of : List ℕ → Option (Step × List ℕ) → List ℕ
+abbrev rest_of : List ℕ → Option (WorkshopStep × List ℕ) → List ℕ
 rest_of none None = none
 rest_of none (Some p) = p.1
 
-same_rest : (s t : Step) (xs ys : List ℕ) → ◌≡◌ {A = Option (Step × List ℕ)} (Some (s, xs)) (Some (t, ys)) → ys ≡ xs
+same_rest : (s t : WorkshopStep) (xs ys : List ℕ) → ◌≡◌ {A = Option (WorkshopStep × List ℕ)} (Some (s, xs)) (Some (t, ys)) → ys ≡ xs
 same_rest s t xs ys e = sym (ap (rest_of xs) e)
 
-line_end : (c : Bool) (s t : Step) (bs rest : List ℕ) → if◌then◌else◌ {A = Option (Step × List ℕ)} c (Some (s, bs)) None ≡ Some (t, rest) → rest ≡ bs
+line_end : (c : Bool) (s t : WorkshopStep) (bs rest : List ℕ) → if◌then◌else◌ {A = Option (WorkshopStep × List ℕ)} c (Some (s, bs)) None ≡ Some (t, rest) → rest ≡ bs
 line_end true s t bs rest e = same_rest s t bs rest e
 line_end false s t bs rest e = absurd cc
 
-source_left : (s t : Step) (bs rest : List ℕ) → after_source s bs ≡ Some (t, rest) → length rest ≤ length bs
+source_left : (s t : WorkshopStep) (bs rest : List ℕ) → after_source s bs ≡ Some (t, rest) → length rest ≤ length bs
 source_left s t [] rest e = let same = same_rest s t [] rest e in omega (arith, ap length same)
 source_left s t (b ∷ bs) rest e = let same = line_end (b == 10) s t bs rest e in omega (arith, ap length same)
 
-source_shorter : (c : Bool) (project size : ℕ) (bs : List ℕ) (t : Step) (rest : List ℕ)
-    → if◌then◌else◌ {A = Option (Step × List ℕ)} c (after_source (client project (submit (take size bs))) (drop size bs)) None ≡ Some (t, rest) → length rest ≤ length bs
+source_shorter : (c : Bool) (project size : ℕ) (bs : List ℕ) (t : WorkshopStep) (rest : List ℕ)
+    → if◌then◌else◌ {A = Option (WorkshopStep × List ℕ)} c (after_source (client_calls project (submit (take size bs))) (drop size bs)) None ≡ Some (t, rest) → length rest ≤ length bs
 source_shorter true project size bs t rest e = omega (arith, source_left _ t (drop size bs) rest e, length-drop size bs)
 source_shorter false project size bs t rest e = absurd cc
 
-asked_left : (o : Option Asked) (ended : Bool) (bs : List ℕ) (t : Step) (rest : List ℕ) → complete_command o ended bs ≡ Some (t, rest) → length rest ≤ length bs
+asked_left : (o : Option Asked) (ended : Bool) (bs : List ℕ) (t : WorkshopStep) (rest : List ℕ) → complete_command o ended bs ≡ Some (t, rest) → length rest ≤ length bs
 asked_left None ended bs t rest e = absurd cc
 asked_left (Some (made s)) ended bs t rest e = let same = same_rest s t bs rest e in omega (arith, ap length same)
 asked_left (Some (submission project size)) ended bs t rest e = source_shorter (ended && nat_le size (length bs)) project size bs t rest e
 
-pub command_shorter : (b : ℕ) (bs : List ℕ) (s : Step) (rest : List ℕ) → command_at (b ∷ bs) ≡ Some (s, rest) → length rest ≤ length bs
+pub command_shorter : (b : ℕ) (bs : List ℕ) (s : WorkshopStep) (rest : List ℕ) → command_at (b ∷ bs) ≡ Some (s, rest) → length rest ≤ length bs
 command_shorter b bs s rest e =
     let line = first_line (b ∷ bs) in
     omega (arith, asked_left (asked_by (words_of line.text)) line.is_ended line.rest s rest e, line_shorter b bs)

@@ -1,6 +1,6 @@
 -- Complete commands: those that stay what they are, whatever follows the bytes that were read.
 use Rattle.std.specs.Prelude.{◌≡◌, ℕ, Bool, true, false, ◌&&◌, not, nat_lt, if◌then◌else◌, List, [], ◌∷◌, length, ◌==◌, Option, Some, None}
-use Rattle.pf_desks.specs.World.{Step}
+use Rattle.pf_worlds.specs.Steps.{WorkshopStep}
 use Rattle.pf_lines.specs.Commands.{Asked, submission, asked_by, first_line, words_of, command_at}
 
 -- how many bytes have to follow the line of a submission
@@ -22,7 +22,7 @@ abbrev pub is_due : Bool → List ℕ → Bool
 is_due over bytes = if over then not (length bytes == 0) else is_complete bytes
 
 -- CompleteCommands bytes steps: the bytes are complete commands of these steps, and after them nothing is complete
-pub data CompleteCommands : List ℕ → List Step → Type 0 where
+pub data CompleteCommands : List ℕ → List WorkshopStep → Type 0 where
   unfinished : (bytes : List ℕ) → is_complete bytes ≡ false → CompleteCommands bytes []
-  command : (bytes rest : List ℕ) (s : Step) (ss : List Step) → is_complete bytes ≡ true → command_at bytes ≡ Some (s, rest)
+  command : (bytes rest : List ℕ) (s : WorkshopStep) (ss : List WorkshopStep) → is_complete bytes ≡ true → command_at bytes ≡ Some (s, rest)
       → CompleteCommands rest ss → CompleteCommands bytes (s ∷ ss)

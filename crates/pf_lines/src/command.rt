@@ -1,29 +1,20 @@
-//! Commands, and the command at the front of some bytes.
+//! The command at the front of some bytes.
 
 ghost use Rattle.std.specs.Prelude.{◌≡◌, Err, None, Some, true, IfOk};
 ghost use Rattle.std.specs.Option.{option_map};
 ghost use Rattle.pf_request.specs.Calls.{submit};
-ghost use Rattle.pf_desks.specs.World.{client};
+ghost use Rattle.pf_worlds.specs.Steps.{client_calls};
+ghost use Rattle.pf_worlds.specs.View.{view_of_step};
 ghost use Rattle.pf_lines.specs.Commands.{command_at, with_source};
 ghost use Rattle.pf_lines.specs.Faults.{no_command};
-ghost use Rattle.pf_lines.specs.View.{view_of_command};
 
 use crate::line::{Asked, read_line};
 use crate::split::first_line;
 use pf_fault::{Code, OrNoMemory};
-use pf_request::{Call, Source};
+use pf_request::{Call, Source, Step};
 use std::alloc::Global;
 use std::error::Error;
 use std::fmt;
-
-/// What a line asks for.
-#[derive(Drop)]
-pub enum Command {
-    /// A call of a client of a project.
-    Client(u32, Call),
-    /// The work of a worker at the trial of a project with this ticket.
-    Once(u32, u64),
-}
 
 /// `C1`: the line is no command. It prints as its code.
 #[derive(Clone, Copy, Debug, PartialEq, Eq)]
@@ -48,7 +39,7 @@ pub type LineFault = OrNoMemory<NoCommand>;
 
 /// The source of n bytes that stands in front, and what follows the line end after it.
 fn split_source(bytes: &[u8], size: usize) -> Option<(&[u8], &[u8])>
-    ensures { (project : _) → option_map (λ p. (client project (submit p.0.now), p.1.now)) result
+    ensures { (project : _) → option_map (λ p. (client_calls project (submit p.0.now), p.1.now)) result
         ≡ with_source true project size bytes.now }
 {
     if bytes.len() < size {
@@ -62,20 +53,21 @@ fn split_source(bytes: &[u8], size: usize) -> Option<(&[u8], &[u8])>
     }
 }
 
-/// The command that some bytes begin with, and what follows it.
-pub fn read_command(alloc: Global, bytes: &[u8]) -> Result<(Command, &[u8]), LineFault>
-    ensures command { IfOk result (λ r. command_at bytes.now ≡ Some (view_of_command r.0, r.1.now)) }
+/// The step that the command asks for with which some bytes begin, and what follows the command.
+pub fn read_command(alloc: Global, bytes: &[u8]) -> Result<(Step, &[u8]), LineFault>
+    ensures command { IfOk result (λ r. command_at bytes.now ≡ Some (view_of_step r.0, r.1.now)) }
     ensures none { result ≡ Err no_command → command_at bytes.now ≡ None }
 {
     let line = first_line(bytes);
     match read_line(alloc, line.text)? {
-        Some(Asked::Made(command)) => Ok((command, line.rest)),
+        Some(Asked::Made(step)) => Ok((step, line.rest)),
         Some(Asked::Submission(project, size)) if line.is_ended => {
             let Some((source, rest)) = split_source(line.rest, size as usize) else {
                 return Err(OrNoMemory::Fault(NoCommand));
             };
             let source = Source::new(alloc, Vec::from_slice(alloc, source)?)?;
-            Ok((Command::Client(project, Call::Submit(source)), rest))
+            let call = Call::Submit(source);
+            Ok((Step::Call { project, call }, rest))
         }
         _ => Err(OrNoMemory::Fault(NoCommand)),
     }

@@ -6,7 +6,8 @@ mod complete;
 mod line;
 mod order;
 mod split;
+mod work;
 
-pub use command::{Command, LineFault, NoCommand, read_command};
+pub use command::{LineFault, NoCommand, read_command};
 pub use complete::is_due;
 pub use split::{Line, first_line};

@@ -4,16 +4,16 @@ ghost use Rattle.std.specs.Prelude.{◌≡◌, ◌==◌, ◌||◌, ℕ, IfOk};
 ghost use Rattle.std.specs.List.{list_any};
 ghost use Rattle.std.specs.Option.{option_map};
 ghost use Rattle.pf_request.specs.Calls.{fetch, status, drop_trial, withdraw, usage, log, edition};
-ghost use Rattle.pf_desks.specs.Work.{once};
-ghost use Rattle.pf_desks.specs.World.{client, worker};
+ghost use Rattle.pf_request.specs.View.{view_of_call};
+ghost use Rattle.pf_worlds.specs.Steps.{client_calls};
 ghost use Rattle.pf_lines.specs.Commands as commands;
 ghost use Rattle.pf_lines.specs.Commands.{made, submission, is_word, of_call, of_one, of_project, of_two, asked_by, words_of};
 ghost use Rattle.pf_lines.specs.View.{view_of_asked};
 
-use crate::command::Command;
 use crate::order::{read_order, read_shrink};
 use crate::split::{first_word, only_word};
-use pf_request::Call;
+use crate::work::read_work;
+use pf_request::{Call, Step};
 use pf_terms::NoMemory;
 use pf_text::number_of;
 use std::alloc::Global;
@@ -21,9 +21,19 @@ use std::alloc::Global;
 /// What a line asks for.
 #[derive(Drop)]
 pub(crate) enum Asked {
-    Made(Command),
+    /// A step.
+    Made(Step),
     /// The submission to a project of a source of n bytes, which follow the line.
     Submission(u32, u32),
+}
+
+impl Asked {
+    /// A call of a client of a project.
+    pub(crate) fn call(project: u32, call: Call) -> Asked
+        ensures { view_of_asked result ≡ made (client_calls project (view_of_call call)) }
+    {
+        Asked::Made(Step::Call { project, call })
+    }
 }
 
 /// The number that the words are, if they are one.
@@ -53,56 +63,49 @@ fn read_fetch(words: &[u8]) -> Option<Asked>
     ensures { option_map view_of_asked result ≡ of_call fetch (words_of words.now) }
 {
     let (project, ticket) = two_numbers(words)?;
-    Some(Asked::Made(Command::Client(project, Call::Fetch(u64::from(ticket)))))
+    Some(Asked::call(project, Call::Fetch(u64::from(ticket))))
 }
 
 fn read_status(words: &[u8]) -> Option<Asked>
     ensures { option_map view_of_asked result ≡ of_call status (words_of words.now) }
 {
     let (project, ticket) = two_numbers(words)?;
-    Some(Asked::Made(Command::Client(project, Call::Status(u64::from(ticket)))))
+    Some(Asked::call(project, Call::Status(u64::from(ticket))))
 }
 
 fn read_drop(words: &[u8]) -> Option<Asked>
     ensures { option_map view_of_asked result ≡ of_call drop_trial (words_of words.now) }
 {
     let (project, ticket) = two_numbers(words)?;
-    Some(Asked::Made(Command::Client(project, Call::DropTrial(u64::from(ticket)))))
+    Some(Asked::call(project, Call::DropTrial(u64::from(ticket))))
 }
 
 fn read_withdraw(words: &[u8]) -> Option<Asked>
     ensures { option_map view_of_asked result ≡ of_call withdraw (words_of words.now) }
 {
     let (project, module) = two_numbers(words)?;
-    Some(Asked::Made(Command::Client(project, Call::Withdraw(u64::from(module)))))
+    Some(Asked::call(project, Call::Withdraw(u64::from(module))))
 }
 
 fn read_usage(words: &[u8]) -> Option<Asked>
     ensures { option_map view_of_asked result ≡ of_project usage (words_of words.now) }
 {
     let project = one_number(words)?;
-    Some(Asked::Made(Command::Client(project, Call::Usage)))
+    Some(Asked::call(project, Call::Usage))
 }
 
 fn read_log(words: &[u8]) -> Option<Asked>
     ensures { option_map view_of_asked result ≡ of_project log (words_of words.now) }
 {
     let project = one_number(words)?;
-    Some(Asked::Made(Command::Client(project, Call::Log)))
+    Some(Asked::call(project, Call::Log))
 }
 
 fn read_edition(words: &[u8]) -> Option<Asked>
     ensures { option_map view_of_asked result ≡ of_call edition (words_of words.now) }
 {
     let (project, edition) = two_numbers(words)?;
-    Some(Asked::Made(Command::Client(project, Call::Edition(edition))))
-}
-
-fn read_once(words: &[u8]) -> Option<Asked>
-    ensures { option_map view_of_asked result ≡ of_two (λ p t. made (worker p (once t))) (words_of words.now) }
-{
-    let (project, ticket) = two_numbers(words)?;
-    Some(Asked::Made(Command::Once(project, u64::from(ticket))))
+    Some(Asked::call(project, Call::Edition(edition)))
 }
 
 /// Whether a tabulator or a carriage return is among some bytes.
@@ -146,9 +149,7 @@ pub(crate) fn read_line(alloc: Global, line: &[u8]) -> Result<Option<Asked>, NoM
         Ok(read_log(words))
     } else if name == b"edition".as_slice() {
         Ok(read_edition(words))
-    } else if name == b"once".as_slice() {
-        Ok(read_once(words))
     } else {
-        Ok(None)
+        Ok(read_work(name, words))
     }
 }

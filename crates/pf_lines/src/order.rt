@@ -8,7 +8,6 @@ ghost use Rattle.pf_request.specs.View.{view_of_choices, view_of_kind};
 ghost use Rattle.pf_lines.specs.Commands.{choices_at, is_word, of_order, of_seed, of_shrink, parts_at, with_order, with_runs, words_of};
 ghost use Rattle.pf_lines.specs.View.{view_of_asked};
 
-use crate::command::Command;
 use crate::line::{Asked, is_word};
 use crate::split::{first_part, first_word, only_part, only_word};
 use pf_request::{Call, Kind, Order, Request, RunChoices, ShortBytes};
@@ -83,7 +82,7 @@ fn order_of(
             limit,
         },
     };
-    Ok(Some(Asked::Made(Command::Client(project, Call::Order(order)))))
+    Ok(Some(Asked::call(project, Call::Order(order))))
 }
 
 /// The choices of a seed, by weights if the text has any.

@@ -86,11 +86,11 @@ knows_more b ws fs k x f a old new e lt at h n =
 -- ---- a function's name
 
 pub named_first : (b : NodeTable) (f a : ℕ) (hs : List HeadNode) (h : HeadNode) → Some h ≡ slice_get hs 0
-    → same_key (h.word.name.0, length h.parameters.items) (f, a) ≡ is_named f a (map (head_over b) hs)
+    → same_key (h.ident.name.0, length h.parameters.items) (f, a) ≡ is_named f a (map (head_over b) hs)
 named_first b f a [] h e = cc
 named_first b f a (x ∷ hs) h e =
     let same : h ≡ x = cc in
-    ap (λ y. same_key (y.word.name.0, length y.parameters.items) (f, a)) same ∙ ap (λ n. nat_eq x.word.name.0 f && nat_eq n a) (sym (parameters_length b x.parameters.items))
+    ap (λ y. same_key (y.ident.name.0, length y.parameters.items) (f, a)) same ∙ ap (λ n. nat_eq x.ident.name.0 f && nat_eq n a) (sym (parameters_length b x.parameters.items))
 
 pub unnamed : (b : NodeTable) (f a : ℕ) (hs : List HeadNode) → None ≡ slice_get hs 0 → false ≡ is_named f a (map (head_over b) hs)
 unnamed b f a [] e = refl

@@ -15,13 +15,13 @@ use std::alloc::Global;
 /// the module names them.
 pub fn pattern_alone(
     alloc: Global,
-    source: &SyntaxTree,
+    syntax: &SyntaxTree,
     module: &mut Module,
     id: ExprPatternId,
 ) -> Result<PatternId, NoMemory>
-    ensures { IfOk result (λ p. BecomesAlone (expr_pattern_at source.now.node_table id.0)
+    ensures { IfOk result (λ p. BecomesAlone (expr_pattern_at syntax.now.node_table id.0)
         (pattern_at module.new.tables p.0)) }
 {
     let mut slots = Slots::new(alloc);
-    pattern(alloc, source, &mut slots, module, id)
+    pattern(alloc, syntax, &mut slots, module, id)
 }

@@ -23,22 +23,22 @@ use std::alloc::Global;
 /// A clause of a function, which begins with no variable.
 fn clause(
     alloc: Global,
-    source: &SyntaxTree,
+    syntax: &SyntaxTree,
     functions: &FunctionTable,
     slots: &mut Slots,
     module: &mut Module,
     head: &Head,
 ) -> Result<FunctionClause, NoMemory>
-    requires knows { Knows functions.now source.now.functions }
+    requires knows { Knows functions.now syntax.now.functions }
     requires none_bound { slots.old ≡ [] }
     ensures { IfOk result (λ c. Lowers module.old module.new slots.new []
-        (λ t. HeadMeans source.now.functions t (head_over source.now.node_table head.now) c)) }
+        (λ t. HeadMeans syntax.now.functions t (head_over syntax.now.node_table head.now) c)) }
 {
-    let parameters = patterns(alloc, source, slots, module, head.parameters.as_slice())?;
-    let guard = guard(alloc, source, functions, slots, module, &head.condition)?;
+    let parameters = patterns(alloc, syntax, slots, module, head.parameters.as_slice())?;
+    let guard = guard(alloc, syntax, functions, slots, module, &head.condition)?;
     let body = body(
         alloc,
-        source,
+        syntax,
         functions,
         slots,
         module,
@@ -55,20 +55,20 @@ fn clause(
 /// The clauses of a function.
 fn clauses(
     alloc: Global,
-    source: &SyntaxTree,
+    syntax: &SyntaxTree,
     functions: &FunctionTable,
     slots: &mut Slots,
     module: &mut Module,
     heads: &[Head],
 ) -> Result<Vec<FunctionClause>, NoMemory>
-    requires knows { Knows functions.now source.now.functions }
+    requires knows { Knows functions.now syntax.now.functions }
     requires none_bound { slots.old ≡ [] }
     ensures { IfOk result (λ cs. Lowers module.old module.new slots.new []
-        (λ t. HeadsMean source.now.functions t (map (head_over source.now.node_table) heads.now) cs.items)) }
+        (λ t. HeadsMean syntax.now.functions t (map (head_over syntax.now.node_table) heads.now) cs.items)) }
 {
     let mut found = Vec::with_capacity(alloc, heads.len())?;
     for head in heads {
-        let one = clause(alloc, source, functions, slots, module, head)?;
+        let one = clause(alloc, syntax, functions, slots, module, head)?;
         found.push(one)?;
     }
     Ok(found)
@@ -77,29 +77,29 @@ fn clauses(
 /// A function, named by its first clause. One with no clause, which the grammar has not, has no arguments.
 fn function(
     alloc: Global,
-    source: &SyntaxTree,
+    syntax: &SyntaxTree,
     functions: &FunctionTable,
     exported: &Signatures,
     slots: &mut Slots,
     module: &mut Module,
-    written: &ExprFunction,
+    read: &ExprFunction,
 ) -> Result<Function, NoMemory>
-    requires knows { Knows functions.now source.now.functions }
-    requires exports { Exports exported.now source.now.exports }
+    requires knows { Knows functions.now syntax.now.functions }
+    requires exports { Exports exported.now syntax.now.exports }
     requires none_bound { slots.old ≡ [] }
     ensures { IfOk result (λ f. Lowers module.old module.new slots.new []
-        (λ t. FunctionMeans source.now.functions source.now.exports t
-        (heads_over source.now.node_table written.now) f)) }
+        (λ t. FunctionMeans syntax.now.functions syntax.now.exports t
+        (heads_over syntax.now.node_table read.now) f)) }
 {
     let clauses = clauses(
         alloc,
-        source,
+        syntax,
         functions,
         slots,
         module,
-        written.heads.as_slice(),
+        read.heads.as_slice(),
     )?;
-    match written.heads.first() {
+    match read.heads.first() {
         None => Ok(Function {
             name: AtomId::UNDEFINED,
             arity: 0,
@@ -112,9 +112,9 @@ fn function(
                 return Err(NoMemory);
             };
             Ok(Function {
-                name: head.word.name,
+                name: head.ident.name,
                 arity,
-                exported: exported.has(head.word.name, count as u64),
+                exported: exported.has(head.ident.name, count as u64),
                 clauses,
             })
         }
@@ -124,43 +124,41 @@ fn function(
 /// Adds the functions of a syntax tree, which the tables know, to its module, which has none yet.
 fn add_each(
     alloc: Global,
-    source: &SyntaxTree,
+    syntax: &SyntaxTree,
     functions: &FunctionTable,
     exported: &Signatures,
     module: &mut Module,
 ) -> Result<(), NoMemory>
-    requires knows { Knows functions.now source.now.functions }
-    requires exports { Exports exported.now source.now.exports }
+    requires knows { Knows functions.now syntax.now.functions }
+    requires exports { Exports exported.now syntax.now.exports }
     requires empty { module.old.functions ≡ [] }
-    ensures { OnOk result (FunctionsAdded source.now.functions source.now.exports module.old module.new) }
+    ensures { OnOk result (FunctionsAdded syntax.now.functions syntax.now.exports module.old module.new) }
 {
     let mut slots = Slots::new(alloc);
-    for written in source.functions() {
-        let one = function(
-            alloc, source, functions, exported, &mut slots, module, written,
-        )?;
+    for read in syntax.functions() {
+        let one = function(alloc, syntax, functions, exported, &mut slots, module, read)?;
         module.add_function(one)?;
     }
     Ok(())
 }
 
 /// Adds the functions of a syntax tree to its module, which has none yet.
-fn add_functions(alloc: Global, source: &SyntaxTree, module: &mut Module) -> Result<(), NoMemory>
+fn add_functions(alloc: Global, syntax: &SyntaxTree, module: &mut Module) -> Result<(), NoMemory>
     requires { module.old.functions ≡ [] }
-    ensures { OnOk result (FunctionsAdded source.now.functions source.now.exports module.old module.new) }
+    ensures { OnOk result (FunctionsAdded syntax.now.functions syntax.now.exports module.old module.new) }
 {
-    let functions = FunctionTable::new(alloc, source)?;
-    let exported = exports_of(alloc, source)?;
-    add_each(alloc, source, &functions, &exported, module)
+    let functions = FunctionTable::new(alloc, syntax)?;
+    let exported = exports_of(alloc, syntax)?;
+    add_each(alloc, syntax, &functions, &exported, module)
 }
 
 /// The checked module of a syntax tree that has no static fault and is formed as the grammar says; of another it is some module.
-pub fn module_of(alloc: Global, source: &SyntaxTree, atoms: AtomTable) -> Result<Module, NoMemory>
-    ensures { IfOk result (λ m. faults_of atoms (tree_of source.now) ≡ [] → AreFormed source.now.functions
-        → IsModule atoms (tree_of source.now) m) }
+pub fn module_of(alloc: Global, syntax: &SyntaxTree, atoms: AtomTable) -> Result<Module, NoMemory>
+    ensures { IfOk result (λ m. faults_of atoms (tree_of syntax.now) ≡ [] → AreFormed syntax.now.functions
+        → IsModule atoms (tree_of syntax.now) m) }
 {
-    let mut module = Module::new(alloc, source.name(), atoms);
-    add_functions(alloc, source, &mut module)?;
+    let mut module = Module::new(alloc, syntax.name(), atoms);
+    add_functions(alloc, syntax, &mut module)?;
     module.shrink_to_fit();
     Ok(module)
 }

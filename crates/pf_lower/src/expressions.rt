@@ -1,7 +1,7 @@
 //! The expressions and the bodies of a checked module.
 
 ghost use Rattle.std.specs.Prelude.{◌≡◌, ◌↔◌, IfOk, IfSome, IfNone, IsTrue, List};
-ghost use Rattle.pf_syntax.specs.Expr as written;
+ghost use Rattle.pf_syntax.specs.Expr as expr;
 ghost use Rattle.pf_syntax.specs.SyntaxTree.{NodeTable, expr_at, expr_pattern_at};
 ghost use Rattle.pf_syntax.specs.SyntaxTreeOver.{branches_over, condition_over, expr_over, exprs_at};
 ghost use Rattle.pf_syntax.specs.ExprModule.{unguarded};
@@ -26,12 +26,12 @@ use pf_terms::NoMemory;
 use std::alloc::Global;
 
 /// A variable: its slot. An unbound one is `[]`, which no module without faults has.
-fn variable(source: &SyntaxTree, slots: &Slots, module: &Module, word: Ident) -> Operand
+fn variable(syntax: &SyntaxTree, slots: &Slots, module: &Module, ident: Ident) -> Operand
     ensures { Lowers module.now module.now slots.now slots.now
-        (λ t. ExprMeans source.now.functions t slots.now
-        (written.variable word.name.0 word.offset) result) }
+        (λ t. ExprMeans syntax.now.functions t slots.now
+        (expr.variable ident.name.0 ident.offset) result) }
 {
-    match slots.slot(word.name) {
+    match slots.slot(ident.name) {
         Some(slot) => Operand::Slot(slot),
         None => Operand::Nil,
     }
@@ -40,13 +40,13 @@ fn variable(source: &SyntaxTree, slots: &Slots, module: &Module, word: Ident) ->
 /// A string.
 fn text(
     alloc: Global,
-    source: &SyntaxTree,
+    syntax: &SyntaxTree,
     slots: &Slots,
     module: &mut Module,
     codes: &[u8],
 ) -> Result<Operand, NoMemory>
     ensures { IfOk result (λ x. Lowers module.old module.new slots.now slots.now
-        (λ t. ExprMeans source.now.functions t slots.now (written.text codes.now) x)) }
+        (λ t. ExprMeans syntax.now.functions t slots.now (expr.text codes.now) x)) }
 {
     let made = string(alloc, codes)?;
     match made {
@@ -57,38 +57,38 @@ fn text(
 
 /// A call of an own function or of a built-in one, whose arguments are these parts.
 fn call(
-    source: &SyntaxTree,
+    syntax: &SyntaxTree,
     functions: &FunctionTable,
     slots: &Slots,
     module: &mut Module,
-    word: Ident,
+    ident: Ident,
     ids: &[ExprId],
     parts: Vec<Operand>,
 ) -> Result<Operand, NoMemory>
-    requires knows { Knows functions.now source.now.functions }
-    requires parts_are { ExprsMean source.now.functions module.old slots.now
-        (exprs_at source.now.node_table ids.now) parts.items }
+    requires knows { Knows functions.now syntax.now.functions }
+    requires parts_are { ExprsMean syntax.now.functions module.old slots.now
+        (exprs_at syntax.now.node_table ids.now) parts.items }
     ensures { IfOk result (λ x. Lowers module.old module.new slots.now slots.now
-        (λ t. ExprMeans source.now.functions t slots.now
-        (written.call word.name.0 word.offset (exprs_at source.now.node_table ids.now)) x)) }
+        (λ t. ExprMeans syntax.now.functions t slots.now
+        (expr.call ident.name.0 ident.offset (exprs_at syntax.now.node_table ids.now)) x)) }
 {
-    if let Some(function) = functions.find(source, word.name, ids.len()) {
+    if let Some(function) = functions.find(syntax, ident.name, ids.len()) {
         return put_node(module, Node::Call(function, parts));
     }
-    match builtin_named(module.atoms().name(word.name), ids.len() as u64) {
+    match builtin_named(module.atoms().name(ident.name), ids.len() as u64) {
         Some(builtin) => put_node(module, Node::Builtin(builtin, parts)),
         None => Ok(Operand::Nil),
     }
 }
 
 /// The pattern and the right side of a match.
-fn as_match(source: &SyntaxTree, id: ExprId) -> Option<(ExprPatternId, ExprId)>
-    ensures some { IfSome result (λ m. expr_at source.now.node_table id.0 ≡ written.match
-        (expr_pattern_at source.now.node_table m.0.0)
-        (expr_at source.now.node_table m.1.0)) }
-    ensures none { IfNone result (IsPlain (expr_at source.now.node_table id.0)) }
+fn as_match(syntax: &SyntaxTree, id: ExprId) -> Option<(ExprPatternId, ExprId)>
+    ensures some { IfSome result (λ m. expr_at syntax.now.node_table id.0 ≡ expr.match
+        (expr_pattern_at syntax.now.node_table m.0.0)
+        (expr_at syntax.now.node_table m.1.0)) }
+    ensures none { IfNone result (IsPlain (expr_at syntax.now.node_table id.0)) }
 {
-    match source.expr(id) {
+    match syntax.expr(id) {
         None => None,
         Some(node) => match node {
             ExprNode::Match(pattern, right) => Some((*pattern, *right)),
@@ -101,37 +101,37 @@ fn as_match(source: &SyntaxTree, id: ExprId) -> Option<(ExprPatternId, ExprId)>
 #[cycle(expr)]
 pub(crate) fn expression(
     alloc: Global,
-    source: &SyntaxTree,
+    syntax: &SyntaxTree,
     functions: &FunctionTable,
     slots: &mut Slots,
     module: &mut Module,
     id: ExprId,
 ) -> Result<Operand, NoMemory>
-    requires { Knows functions.now source.now.functions }
+    requires { Knows functions.now syntax.now.functions }
     ensures { IfOk result (λ x. Lowers module.old module.new slots.new slots.old
-        (λ t. ExprMeans source.now.functions t slots.old
-        (expr_at source.now.node_table id.0) x)) }
+        (λ t. ExprMeans syntax.now.functions t slots.old
+        (expr_at syntax.now.node_table id.0) x)) }
 {
-    match source.expr(id) {
+    match syntax.expr(id) {
         None => Ok(Operand::Nil),
         Some(node) => match node {
             ExprNode::Integer(n) => Ok(Operand::Int(*n)),
             ExprNode::Atom(atom) => Ok(Operand::Atom(*atom)),
-            ExprNode::Text(codes) => text(alloc, source, slots, module, codes.as_slice()),
-            ExprNode::Variable(word) => Ok(variable(source, slots, module, *word)),
+            ExprNode::Text(codes) => text(alloc, syntax, slots, module, codes.as_slice()),
+            ExprNode::Variable(ident) => Ok(variable(syntax, slots, module, *ident)),
             ExprNode::Anonymous(_) | ExprNode::Match(_, _) => Ok(Operand::Nil),
-            ExprNode::Parentheses(a) => expression(alloc, source, functions, slots, module, *a),
+            ExprNode::Parentheses(a) => expression(alloc, syntax, functions, slots, module, *a),
             ExprNode::Tuple(_)
             | ExprNode::List(_)
             | ExprNode::ListOn(_, _)
-            | ExprNode::Call(_, _) => sequence(alloc, source, functions, slots, module, node),
+            | ExprNode::Call(_, _) => sequence(alloc, syntax, functions, slots, module, node),
             ExprNode::Binary(_, _, _)
             | ExprNode::Negate(_)
             | ExprNode::AndAlso(_, _)
             | ExprNode::OrElse(_, _)
-            | ExprNode::Send(_, _) => operation(alloc, source, functions, slots, module, node),
+            | ExprNode::Send(_, _) => operation(alloc, syntax, functions, slots, module, node),
             ExprNode::Case(_, _) | ExprNode::If(_) | ExprNode::Receive(_) => {
-                construct(alloc, source, functions, slots, module, node)
+                construct(alloc, syntax, functions, slots, module, node)
             }
         },
     }
@@ -141,40 +141,40 @@ pub(crate) fn expression(
 #[cycle(expr)]
 fn sequence(
     alloc: Global,
-    source: &SyntaxTree,
+    syntax: &SyntaxTree,
     functions: &FunctionTable,
     slots: &mut Slots,
     module: &mut Module,
     node: &ExprNode,
 ) -> Result<Operand, NoMemory>
-    requires knows { Knows functions.now source.now.functions }
+    requires knows { Knows functions.now syntax.now.functions }
     requires kind { IsSequence node.now }
     ensures { IfOk result (λ x. Lowers module.old module.new slots.new slots.old
-        (λ t. ExprMeans source.now.functions t slots.old
-        (expr_over source.now.node_table node.now) x)) }
+        (λ t. ExprMeans syntax.now.functions t slots.old
+        (expr_over syntax.now.node_table node.now) x)) }
 {
     match node {
         ExprNode::Tuple(ids) => {
-            let parts = expressions(alloc, source, functions, slots, module, ids.as_slice())?;
+            let parts = expressions(alloc, syntax, functions, slots, module, ids.as_slice())?;
             put_node(module, Node::Tuple(parts))
         }
         ExprNode::List(ids) => {
-            let parts = expressions(alloc, source, functions, slots, module, ids.as_slice())?;
+            let parts = expressions(alloc, syntax, functions, slots, module, ids.as_slice())?;
             put_list(module, parts, Operand::Nil)
         }
         ExprNode::ListOn(ids, tail) => {
-            let parts = expressions(alloc, source, functions, slots, module, ids.as_slice())?;
-            let rest = expression(alloc, source, functions, slots, module, *tail)?;
+            let parts = expressions(alloc, syntax, functions, slots, module, ids.as_slice())?;
+            let rest = expression(alloc, syntax, functions, slots, module, *tail)?;
             put_list(module, parts, rest)
         }
-        ExprNode::Call(word, ids) => {
-            let parts = expressions(alloc, source, functions, slots, module, ids.as_slice())?;
+        ExprNode::Call(ident, ids) => {
+            let parts = expressions(alloc, syntax, functions, slots, module, ids.as_slice())?;
             call(
-                source,
+                syntax,
                 functions,
                 slots,
                 module,
-                *word,
+                *ident,
                 ids.as_slice(),
                 parts,
             )
@@ -187,37 +187,37 @@ fn sequence(
 #[cycle(expr)]
 fn operation(
     alloc: Global,
-    source: &SyntaxTree,
+    syntax: &SyntaxTree,
     functions: &FunctionTable,
     slots: &mut Slots,
     module: &mut Module,
     node: &ExprNode,
 ) -> Result<Operand, NoMemory>
-    requires knows { Knows functions.now source.now.functions }
+    requires knows { Knows functions.now syntax.now.functions }
     requires kind { IsOperation node.now }
     ensures { IfOk result (λ x. Lowers module.old module.new slots.new slots.old
-        (λ t. ExprMeans source.now.functions t slots.old
-        (expr_over source.now.node_table node.now) x)) }
+        (λ t. ExprMeans syntax.now.functions t slots.old
+        (expr_over syntax.now.node_table node.now) x)) }
 {
     match node {
         ExprNode::Negate(a) => {
-            let inner = expression(alloc, source, functions, slots, module, *a)?;
+            let inner = expression(alloc, syntax, functions, slots, module, *a)?;
             put_node(module, Node::Negate(inner))
         }
         ExprNode::Binary(operator, a, b) => {
-            let operands = pair(alloc, source, functions, slots, module, *a, *b)?;
+            let operands = pair(alloc, syntax, functions, slots, module, *a, *b)?;
             put_node(module, Node::Binary(*operator, operands.0, operands.1))
         }
         ExprNode::AndAlso(a, b) => {
-            let operands = pair(alloc, source, functions, slots, module, *a, *b)?;
+            let operands = pair(alloc, syntax, functions, slots, module, *a, *b)?;
             put_node(module, Node::AndAlso(operands.0, operands.1))
         }
         ExprNode::OrElse(a, b) => {
-            let operands = pair(alloc, source, functions, slots, module, *a, *b)?;
+            let operands = pair(alloc, syntax, functions, slots, module, *a, *b)?;
             put_node(module, Node::OrElse(operands.0, operands.1))
         }
         ExprNode::Send(a, b) => {
-            let operands = pair(alloc, source, functions, slots, module, *a, *b)?;
+            let operands = pair(alloc, syntax, functions, slots, module, *a, *b)?;
             put_node(module, Node::Send(operands.0, operands.1))
         }
         _ => Ok(Operand::Nil),
@@ -228,30 +228,30 @@ fn operation(
 #[cycle(expr)]
 fn construct(
     alloc: Global,
-    source: &SyntaxTree,
+    syntax: &SyntaxTree,
     functions: &FunctionTable,
     slots: &mut Slots,
     module: &mut Module,
     node: &ExprNode,
 ) -> Result<Operand, NoMemory>
-    requires knows { Knows functions.now source.now.functions }
+    requires knows { Knows functions.now syntax.now.functions }
     requires kind { IsConstruct node.now }
     ensures { IfOk result (λ x. Lowers module.old module.new slots.new slots.old
-        (λ t. ExprMeans source.now.functions t slots.old
-        (expr_over source.now.node_table node.now) x)) }
+        (λ t. ExprMeans syntax.now.functions t slots.old
+        (expr_over syntax.now.node_table node.now) x)) }
 {
     match node {
         ExprNode::Case(a, arms) => {
-            let value = expression(alloc, source, functions, slots, module, *a)?;
-            let clauses = branches(alloc, source, functions, slots, module, arms.as_slice())?;
+            let value = expression(alloc, syntax, functions, slots, module, *a)?;
+            let clauses = branches(alloc, syntax, functions, slots, module, arms.as_slice())?;
             put_node(module, Node::Case(value, clauses))
         }
         ExprNode::If(arms) => {
-            let clauses = branches(alloc, source, functions, slots, module, arms.as_slice())?;
+            let clauses = branches(alloc, syntax, functions, slots, module, arms.as_slice())?;
             put_node(module, Node::If(clauses))
         }
         ExprNode::Receive(arms) => {
-            let clauses = branches(alloc, source, functions, slots, module, arms.as_slice())?;
+            let clauses = branches(alloc, syntax, functions, slots, module, arms.as_slice())?;
             put_node(module, Node::Receive(clauses))
         }
         _ => Ok(Operand::Nil),
@@ -262,21 +262,21 @@ fn construct(
 #[cycle(expr)]
 fn pair(
     alloc: Global,
-    source: &SyntaxTree,
+    syntax: &SyntaxTree,
     functions: &FunctionTable,
     slots: &mut Slots,
     module: &mut Module,
     first: ExprId,
     second: ExprId,
 ) -> Result<(Operand, Operand), NoMemory>
-    requires { Knows functions.now source.now.functions }
+    requires { Knows functions.now syntax.now.functions }
     ensures { IfOk result (λ x. Lowers module.old module.new slots.new slots.old
-        (λ t. ExprMeans source.now.functions t slots.old
-        (expr_at source.now.node_table first.0) x.0
-        × ExprMeans source.now.functions t slots.old (expr_at source.now.node_table second.0) x.1)) }
+        (λ t. ExprMeans syntax.now.functions t slots.old
+        (expr_at syntax.now.node_table first.0) x.0
+        × ExprMeans syntax.now.functions t slots.old (expr_at syntax.now.node_table second.0) x.1)) }
 {
-    let a = expression(alloc, source, functions, slots, module, first)?;
-    let b = expression(alloc, source, functions, slots, module, second)?;
+    let a = expression(alloc, syntax, functions, slots, module, first)?;
+    let b = expression(alloc, syntax, functions, slots, module, second)?;
     Ok((a, b))
 }
 
@@ -284,20 +284,20 @@ fn pair(
 #[cycle(expr)]
 fn expressions(
     alloc: Global,
-    source: &SyntaxTree,
+    syntax: &SyntaxTree,
     functions: &FunctionTable,
     slots: &mut Slots,
     module: &mut Module,
     ids: &[ExprId],
 ) -> Result<Vec<Operand>, NoMemory>
-    requires { Knows functions.now source.now.functions }
+    requires { Knows functions.now syntax.now.functions }
     ensures { IfOk result (λ xs. Lowers module.old module.new slots.new slots.old
-        (λ t. ExprsMean source.now.functions t slots.old
-        (exprs_at source.now.node_table ids.now) xs.items)) }
+        (λ t. ExprsMean syntax.now.functions t slots.old
+        (exprs_at syntax.now.node_table ids.now) xs.items)) }
 {
     let mut parts = Vec::with_capacity(alloc, ids.len())?;
     for id in ids {
-        let part = expression(alloc, source, functions, slots, module, *id)?;
+        let part = expression(alloc, syntax, functions, slots, module, *id)?;
         parts.push(part)?;
     }
     Ok(parts)
@@ -307,29 +307,29 @@ fn expressions(
 #[cycle(expr)]
 fn element(
     alloc: Global,
-    source: &SyntaxTree,
+    syntax: &SyntaxTree,
     functions: &FunctionTable,
     slots: &mut Slots,
     module: &mut Module,
     id: ExprId,
 ) -> Result<Element, NoMemory>
-    requires { Knows functions.now source.now.functions }
+    requires { Knows functions.now syntax.now.functions }
     ensures { IfOk result (λ x. Lowers module.old module.new slots.new
-        (bound_after slots.old (expr_at source.now.node_table id.0))
-        (λ t. ElementBuilt source.now.functions t slots.old
-        (expr_at source.now.node_table id.0) x)) }
+        (bound_after slots.old (expr_at syntax.now.node_table id.0))
+        (λ t. ElementBuilt syntax.now.functions t slots.old
+        (expr_at syntax.now.node_table id.0) x)) }
 {
-    match as_match(source, id) {
+    match as_match(syntax, id) {
         None => {
-            let value = expression(alloc, source, functions, slots, module, id)?;
+            let value = expression(alloc, syntax, functions, slots, module, id)?;
             Ok(Element {
                 patterns: Vec::new(alloc),
                 value,
             })
         }
         Some((expr_pattern, right)) => {
-            let inner = element(alloc, source, functions, slots, module, right)?;
-            let outer = pattern(alloc, source, slots, module, expr_pattern)?;
+            let inner = element(alloc, syntax, functions, slots, module, right)?;
+            let outer = pattern(alloc, syntax, slots, module, expr_pattern)?;
             let mut patterns = inner.patterns;
             patterns.push(outer)?;
             Ok(Element {
@@ -344,20 +344,20 @@ fn element(
 #[cycle(expr)]
 fn elements(
     alloc: Global,
-    source: &SyntaxTree,
+    syntax: &SyntaxTree,
     functions: &FunctionTable,
     slots: &mut Slots,
     module: &mut Module,
     ids: &[ExprId],
 ) -> Result<Vec<Element>, NoMemory>
-    requires { Knows functions.now source.now.functions }
+    requires { Knows functions.now syntax.now.functions }
     ensures { IfOk result (λ xs. Lowers module.old module.new slots.new
-        (all_bound_after slots.old (exprs_at source.now.node_table ids.now))
-        (λ t. EachElementMeans source.now.functions source.now.node_table t slots.old ids.now xs.items)) }
+        (all_bound_after slots.old (exprs_at syntax.now.node_table ids.now))
+        (λ t. EachElementMeans syntax.now.functions syntax.now.node_table t slots.old ids.now xs.items)) }
 {
     let mut found = Vec::new(alloc);
     for id in ids {
-        let one = element(alloc, source, functions, slots, module, *id)?;
+        let one = element(alloc, syntax, functions, slots, module, *id)?;
         found.push(one)?;
     }
     Ok(found)
@@ -367,19 +367,19 @@ fn elements(
 #[cycle(expr)]
 pub(crate) fn body(
     alloc: Global,
-    source: &SyntaxTree,
+    syntax: &SyntaxTree,
     functions: &FunctionTable,
     slots: &mut Slots,
     module: &mut Module,
     ids: &[ExprId],
 ) -> Result<Operand, NoMemory>
-    requires { Knows functions.now source.now.functions }
+    requires { Knows functions.now syntax.now.functions }
     ensures { IfOk result (λ x. Lowers module.old module.new slots.new
-        (all_bound_after slots.old (exprs_at source.now.node_table ids.now))
-        (λ t. BodyMeans source.now.functions t slots.old
-        (exprs_at source.now.node_table ids.now) x)) }
+        (all_bound_after slots.old (exprs_at syntax.now.node_table ids.now))
+        (λ t. BodyMeans syntax.now.functions t slots.old
+        (exprs_at syntax.now.node_table ids.now) x)) }
 {
-    let mut front = elements(alloc, source, functions, slots, module, ids)?;
+    let mut front = elements(alloc, syntax, functions, slots, module, ids)?;
     match front.pop() {
         None => Ok(Operand::Nil),
         Some(last) => {
@@ -403,16 +403,16 @@ fn is_unguarded(condition: &Condition) -> bool
 #[cycle(expr)]
 pub(crate) fn guard(
     alloc: Global,
-    source: &SyntaxTree,
+    syntax: &SyntaxTree,
     functions: &FunctionTable,
     slots: &mut Slots,
     module: &mut Module,
     condition: &Condition,
 ) -> Result<Guard, NoMemory>
-    requires { Knows functions.now source.now.functions }
+    requires { Knows functions.now syntax.now.functions }
     ensures { IfOk result (λ d. Lowers module.old module.new slots.new slots.old
-        (λ t. GuardMeans source.now.functions t slots.old
-        (condition_over source.now.node_table condition.now) d)) }
+        (λ t. GuardMeans syntax.now.functions t slots.old
+        (condition_over syntax.now.node_table condition.now) d)) }
 {
     if is_unguarded(condition) {
         let alternatives = Vec::new(alloc);
@@ -422,7 +422,7 @@ pub(crate) fn guard(
     for one in &condition.alternatives {
         let tests = expressions(
             alloc,
-            source,
+            syntax,
             functions,
             slots,
             module,
@@ -437,20 +437,20 @@ pub(crate) fn guard(
 #[cycle(expr)]
 fn branch(
     alloc: Global,
-    source: &SyntaxTree,
+    syntax: &SyntaxTree,
     functions: &FunctionTable,
     slots: &mut Slots,
     module: &mut Module,
     arm: &Branch,
 ) -> Result<Clause, NoMemory>
-    requires { Knows functions.now source.now.functions }
+    requires { Knows functions.now syntax.now.functions }
     ensures { IfOk result (λ x. Lowers module.old module.new slots.new slots.old
-        (λ t. BranchMeans source.now.functions source.now.node_table t slots.old arm.now x)) }
+        (λ t. BranchMeans syntax.now.functions syntax.now.node_table t slots.old arm.now x)) }
 {
     let bound = slots.len();
-    let asked = pattern(alloc, source, slots, module, arm.expr_pattern)?;
-    let guard = guard(alloc, source, functions, slots, module, &arm.condition)?;
-    let body = body(alloc, source, functions, slots, module, arm.body.as_slice())?;
+    let asked = pattern(alloc, syntax, slots, module, arm.expr_pattern)?;
+    let guard = guard(alloc, syntax, functions, slots, module, &arm.condition)?;
+    let body = body(alloc, syntax, functions, slots, module, arm.body.as_slice())?;
     slots.truncate(bound);
     Ok(Clause {
         pattern: asked,
@@ -463,20 +463,20 @@ fn branch(
 #[cycle(expr)]
 fn branches(
     alloc: Global,
-    source: &SyntaxTree,
+    syntax: &SyntaxTree,
     functions: &FunctionTable,
     slots: &mut Slots,
     module: &mut Module,
     arms: &[Branch],
 ) -> Result<Vec<Clause>, NoMemory>
-    requires { Knows functions.now source.now.functions }
+    requires { Knows functions.now syntax.now.functions }
     ensures { IfOk result (λ cs. Lowers module.old module.new slots.new slots.old
-        (λ t. BranchesMean source.now.functions t slots.old
-        (branches_over source.now.node_table arms.now) cs.items)) }
+        (λ t. BranchesMean syntax.now.functions t slots.old
+        (branches_over syntax.now.node_table arms.now) cs.items)) }
 {
     let mut clauses = Vec::with_capacity(alloc, arms.len())?;
     for arm in arms {
-        let clause = branch(alloc, source, functions, slots, module, arm)?;
+        let clause = branch(alloc, syntax, functions, slots, module, arm)?;
         clauses.push(clause)?;
     }
     Ok(clauses)

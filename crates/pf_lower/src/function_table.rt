@@ -24,13 +24,13 @@ pub(crate) struct FunctionTable {
 
 impl FunctionTable {
     /// The functions of a syntax tree.
-    pub(crate) fn new(alloc: Global, source: &SyntaxTree) -> Result<FunctionTable, NoMemory>
-        ensures { IfOk result (λ table. Knows table source.now.functions) }
+    pub(crate) fn new(alloc: Global, syntax: &SyntaxTree) -> Result<FunctionTable, NoMemory>
+        ensures { IfOk result (λ table. Knows table syntax.now.functions) }
     {
         let mut table = FunctionTable {
             numbers: BTreeMap::new(alloc),
         };
-        for (number, function) in source.functions().iter().enumerate() {
+        for (number, function) in syntax.functions().iter().enumerate() {
             table.enter_function(function, number)?;
         }
         Ok(table)
@@ -44,7 +44,7 @@ impl FunctionTable {
     {
         match function.heads.first() {
             None => Ok(()),
-            Some(head) => self.enter(head.word.name, head.parameters.len(), number),
+            Some(head) => self.enter(head.ident.name, head.parameters.len(), number),
         }
     }
 
@@ -66,10 +66,10 @@ impl FunctionTable {
     }
 
     /// The first function of this name that takes this number of arguments.
-    pub(crate) fn find(&self, source: &SyntaxTree, name: AtomId, arity: usize) -> Option<FunctionId>
-        requires { Knows self.now source.now.functions }
-        ensures { MatchOption result (own_in source.now.functions name.0 arity ≡ None)
-            (λ f. own_in source.now.functions name.0 arity ≡ Some f.0) }
+    pub(crate) fn find(&self, syntax: &SyntaxTree, name: AtomId, arity: usize) -> Option<FunctionId>
+        requires { Knows self.now syntax.now.functions }
+        ensures { MatchOption result (own_in syntax.now.functions name.0 arity ≡ None)
+            (λ f. own_in syntax.now.functions name.0 arity ≡ Some f.0) }
     {
         let number = self.numbers.get(&(name.0, arity))?;
         Some(FunctionId(*number))
@@ -77,12 +77,12 @@ impl FunctionTable {
 }
 
 /// The functions that a syntax tree exports.
-pub(crate) fn exports_of(alloc: Global, source: &SyntaxTree) -> Result<Signatures, NoMemory>
-    ensures { IfOk result (λ exported. Exports exported source.now.exports) }
+pub(crate) fn exports_of(alloc: Global, syntax: &SyntaxTree) -> Result<Signatures, NoMemory>
+    ensures { IfOk result (λ exported. Exports exported syntax.now.exports) }
 {
     let mut exported = Signatures::new(alloc);
-    for export in source.exports() {
-        exported.add(export.word.name, export.arity)?;
+    for export in syntax.exports() {
+        exported.add(export.ident.name, export.arity)?;
     }
     Ok(exported)
 }

@@ -1,7 +1,7 @@
 //! The patterns of a checked module.
 
 ghost use Rattle.std.specs.Prelude.{◌≡◌, IfOk, List};
-ghost use Rattle.pf_syntax.specs.ExprPattern as written;
+ghost use Rattle.pf_syntax.specs.ExprPattern as expr_pattern;
 ghost use Rattle.pf_syntax.specs.SyntaxTree.{expr_pattern_at};
 ghost use Rattle.pf_syntax.specs.SyntaxTreeOver.{expr_patterns_at};
 ghost use Rattle.pf_lower.specs.Bound.{all_bound_by, bound_by, with_bound};
@@ -18,19 +18,19 @@ use std::alloc::Global;
 
 /// A variable: its slot where it is bound, and else it is bound here.
 fn variable(
-    source: &SyntaxTree,
+    syntax: &SyntaxTree,
     slots: &mut Slots,
     module: &mut Module,
-    word: Ident,
+    ident: Ident,
 ) -> Result<PatternId, NoMemory>
-    ensures { IfOk result (λ p. Lowers module.old module.new slots.new (with_bound slots.old word.name.0)
-        (λ t. ExprPatternMeans source.now.functions t slots.old
-        (written.variable word.name.0 word.offset) p)) }
+    ensures { IfOk result (λ p. Lowers module.old module.new slots.new (with_bound slots.old ident.name.0)
+        (λ t. ExprPatternMeans syntax.now.functions t slots.old
+        (expr_pattern.variable ident.name.0 ident.offset) p)) }
 {
-    match slots.slot(word.name) {
+    match slots.slot(ident.name) {
         Some(slot) => put_pattern(module, PatternNode::Slot(slot)),
         None => {
-            slots.bind(word.name)?;
+            slots.bind(ident.name)?;
             put_pattern(module, PatternNode::New)
         }
     }
@@ -39,13 +39,13 @@ fn variable(
 /// A string.
 fn text(
     alloc: Global,
-    source: &SyntaxTree,
+    syntax: &SyntaxTree,
     slots: &Slots,
     module: &mut Module,
     codes: &[u8],
 ) -> Result<PatternId, NoMemory>
     ensures { IfOk result (λ p. Lowers module.old module.new slots.now slots.now
-        (λ t. ExprPatternMeans source.now.functions t slots.now (written.text codes.now) p)) }
+        (λ t. ExprPatternMeans syntax.now.functions t slots.now (expr_pattern.text codes.now) p)) }
 {
     let made = string(alloc, codes)?;
     match made {
@@ -58,36 +58,36 @@ fn text(
 #[cycle(pattern)]
 pub(crate) fn pattern(
     alloc: Global,
-    source: &SyntaxTree,
+    syntax: &SyntaxTree,
     slots: &mut Slots,
     module: &mut Module,
     id: ExprPatternId,
 ) -> Result<PatternId, NoMemory>
     ensures { IfOk result (λ p. Lowers module.old module.new slots.new
-        (bound_by slots.old (expr_pattern_at source.now.node_table id.0))
-        (λ t. ExprPatternMeans source.now.functions t slots.old
-        (expr_pattern_at source.now.node_table id.0) p)) }
+        (bound_by slots.old (expr_pattern_at syntax.now.node_table id.0))
+        (λ t. ExprPatternMeans syntax.now.functions t slots.old
+        (expr_pattern_at syntax.now.node_table id.0) p)) }
 {
-    match source.expr_pattern(id) {
+    match syntax.expr_pattern(id) {
         None => put_pattern(module, PatternNode::Any),
         Some(node) => match node {
             ExprPatternNode::Integer(n) => put_pattern(module, PatternNode::Int(*n)),
             ExprPatternNode::Atom(atom) => put_pattern(module, PatternNode::Atom(*atom)),
-            ExprPatternNode::Text(codes) => text(alloc, source, slots, module, codes.as_slice()),
-            ExprPatternNode::Variable(word) => variable(source, slots, module, *word),
+            ExprPatternNode::Text(codes) => text(alloc, syntax, slots, module, codes.as_slice()),
+            ExprPatternNode::Variable(ident) => variable(syntax, slots, module, *ident),
             ExprPatternNode::Anything => put_pattern(module, PatternNode::Any),
             ExprPatternNode::Tuple(ids) => {
-                let parts = patterns(alloc, source, slots, module, ids.as_slice())?;
+                let parts = patterns(alloc, syntax, slots, module, ids.as_slice())?;
                 put_pattern(module, PatternNode::Tuple(parts))
             }
             ExprPatternNode::List(ids) => {
-                let parts = patterns(alloc, source, slots, module, ids.as_slice())?;
+                let parts = patterns(alloc, syntax, slots, module, ids.as_slice())?;
                 let nil = put_pattern(module, PatternNode::Nil)?;
                 put_list_pattern(module, parts, nil)
             }
             ExprPatternNode::ListOn(ids, tail) => {
-                let parts = patterns(alloc, source, slots, module, ids.as_slice())?;
-                let rest = pattern(alloc, source, slots, module, *tail)?;
+                let parts = patterns(alloc, syntax, slots, module, ids.as_slice())?;
+                let rest = pattern(alloc, syntax, slots, module, *tail)?;
                 put_list_pattern(module, parts, rest)
             }
         },
@@ -98,19 +98,19 @@ pub(crate) fn pattern(
 #[cycle(pattern)]
 pub(crate) fn patterns(
     alloc: Global,
-    source: &SyntaxTree,
+    syntax: &SyntaxTree,
     slots: &mut Slots,
     module: &mut Module,
     ids: &[ExprPatternId],
 ) -> Result<Vec<PatternId>, NoMemory>
     ensures { IfOk result (λ ps. Lowers module.old module.new slots.new
-        (all_bound_by slots.old (expr_patterns_at source.now.node_table ids.now))
-        (λ t. ExprPatternsMean source.now.functions t slots.old
-        (expr_patterns_at source.now.node_table ids.now) ps.items)) }
+        (all_bound_by slots.old (expr_patterns_at syntax.now.node_table ids.now))
+        (λ t. ExprPatternsMean syntax.now.functions t slots.old
+        (expr_patterns_at syntax.now.node_table ids.now) ps.items)) }
 {
     let mut parts = Vec::with_capacity(alloc, ids.len())?;
     for id in ids {
-        let part = pattern(alloc, source, slots, module, *id)?;
+        let part = pattern(alloc, syntax, slots, module, *id)?;
         parts.push(part)?;
     }
     Ok(parts)

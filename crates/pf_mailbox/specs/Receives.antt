@@ -11,10 +11,10 @@ use Rattle.pf_mailbox.specs.MailView.{MailView}
 use Rattle.pf_mailbox.specs.Tests.{awaited, risen, tested}
 
 -- the oldest message that a clause picks is taken, or there is none and all stays
-abbrev pub Selects : (m : Checked) (own base : ℕ) (before after' : List Term) (l : List Clause) (b b' : MailView) → Option (Operand × Term) → Type 0
-Selects m own base before after' l b b' o =
+abbrev pub Selects : (m : Checked) (own base : ℕ) (before after' : List Term) (l : List Clause) (b b' : MailView) (message : Term) → Option Operand → Type 0
+Selects m own base before after' l b b' message o =
     MatchOption o (TakesNothing m own base before after' (clauses_over m.tables l) b.messages b'.messages)
-    (λ t. TakesMessage m own base before after' (clauses_over m.tables l) b.messages b'.messages t.0 t.1)
+    (λ body. TakesMessage m own base before after' (clauses_over m.tables l) b.messages b'.messages body message)
 
 -- each message from the mark on was tested, up to and with the one that is picked
 abbrev pub TestsFromMark : (m : Checked) (own base : ℕ) (env : List Term) (l : List Clause) (b b' : MailView) → Type 0

@@ -3,10 +3,8 @@
 
 mod flush;
 mod mailbox;
-mod opened;
 mod packed;
 mod search;
 
 pub use mailbox::Mailbox;
-pub use opened::Opened;
 pub use packed::PackedMail;

@@ -1,6 +1,6 @@
 //! A module with the source that it was read from.
 
-ghost use Rattle.std.specs.Prelude.{◌≡◌, length, IfErr, IfOk};
+ghost use Rattle.std.specs.Prelude.{◌≡◌, length, Decides, IfErr, IfOk};
 ghost use Rattle.pf_check.specs.Reads.{IsRefusalOf, Reads, accepted_as};
 ghost use Rattle.pf_model.specs.Module.{module_of};
 ghost use Rattle.pf_module.specs.Reading.{IsReadAs};
@@ -78,6 +78,13 @@ impl ReadModule {
         ensures { result ≡ length self.now.source }
     {
         self.source.bytes().len()
+    }
+
+    /// Whether it is the same module of the same source: a source is read as one module, so the sources tell.
+    pub fn same(&self, other: &ReadModule) -> bool
+        ensures { Decides result (self.now ≡ other.now) }
+    {
+        self.source.bytes() == other.source.bytes()
     }
 
     /// The same module once more.

@@ -3,3 +3,4 @@ pub mod FitFrom
 pub mod Substituted
 pub mod Operands
 pub mod Bound
+pub mod SamePatterns

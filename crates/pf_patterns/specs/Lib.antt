@@ -7,3 +7,4 @@ pub mod Sizes
 pub mod Operands
 pub mod Bindings
 pub mod Walks
+pub mod Sameness

@@ -4,10 +4,12 @@
 mod finding;
 mod fitting;
 pub mod laws;
+mod sameness;
 mod seen;
 mod slots;
 mod trying;
 
 pub use fitting::{bind, bind_all};
+pub use sameness::same_patterns;
 pub use slots::{copied, operand, slot};
 pub use trying::fits;

@@ -1,9 +1,9 @@
 -- The profile of the language is right.
-use Rattle.std.proofs.Common.{◌≡◌, ℕ, suc, Bool, List, Option, Some, None, refl, sym, ap, ◌∙◌}
+use Rattle.std.proofs.Common.{◌≡◌, ℕ, suc, ◌+◌, Bool, List, length, Option, Some, None, refl, sym, ap, ◌∙◌}
 use Rattle.pf_check.specs.Reads.{Outcome, accepted, refused, Reads, SameOutcome}
 use Rattle.pf_check.proofs.AnyOutcome.{any_outcome}
 use Rattle.pf_check.proofs.Same.{same_outcome}
-use Rattle.pf_model.specs.Meaning.{Job}
+use Rattle.pf_model.specs.Meaning.{Job, Report}
 use Rattle.pf_model.specs.Shrinking.{Result, report, shrunk_to, IsResult, plain, smaller, no_failure, TellsFailures, by_schedule, shrunk}
 use Rattle.pf_desks.specs.Desk.{readable, faulty}
 use Rattle.pf_model.specs.Evaluation.{evaluated}
@@ -12,8 +12,12 @@ use Rattle.pf_model.specs.Properties.{Property}
 use Rattle.pf_property.specs.Texts.{IsPropertyOf}
 use Rattle.pf_property.proofs.AnyProperty.{any_property}
 use Rattle.pf_property.proofs.One.{at_most_one}
-use Rattle.pf_book.specs.Profile.{reading_from, IsRight}
-use Rattle.pf_profile.specs.Profile.{profile, fails_by, shrunk_so, comes_to}
+use Rattle.pf_shrink.specs.Tried.{tried}
+use Rattle.pf_sched.specs.Events.{RunsHave, no_runs, and_run, HasEvents, of_run, of_shrinking}
+use Rattle.pf_book.specs.Profile as book
+use Rattle.pf_book.specs.Profile.{reading_from}
+use Rattle.pf_workshop.specs.Profile.{IsRight}
+use Rattle.pf_profile.specs.Profile.{profile, run_profile, fails_by, shrunk_so, comes_to, events_by, events_of}
 
 same_reading : (o p : Outcome) → SameOutcome o p → reading_from o ≡ reading_from p
 same_reading (accepted n a f) (accepted m b g) h = λ i. readable (record { name = h.0 i; atoms = h.1 i; functions = h.2 i })
@@ -41,8 +45,8 @@ same_failures j fails tells = λ i ns. sym (tells ns (evaluated (by_schedule j n
 
 meaning_is : (j : Job) (r : Result) → IsResult j r → profile.meaning j ≡ r
 unfolding profile
-meaning_is j _ (plain r no_runs means) =
-    ap (λ (n : ℕ). comes_to j n j.choices) no_runs ∙ ap report (sym (only_evaluated j r means))
+meaning_is j _ (plain r one_run means) =
+    ap (λ (n : ℕ). comes_to j n j.choices) one_run ∙ ap report (sym (only_evaluated j r means))
 meaning_is j _ (smaller k ns fails f r runs choices tells found means) =
     (λ i. comes_to j (runs i) (choices i))
     ∙ ap (λ (g : List ℕ → Bool). shrunk_so j (shrunk g (suc k) ns)) (same_failures j fails tells)
@@ -53,5 +57,25 @@ meaning_is j _ (no_failure k ns fails runs choices tells none) =
     ∙ ap (λ (g : List ℕ → Bool). shrunk_so j (shrunk g (suc k) ns)) (same_failures j fails tells)
     ∙ ap (shrunk_so j) none
 
-pub right : IsRight profile
-right = record { reads = reading_is; properties = property_is; means = meaning_is }
+desks_are : book.IsRight profile
+desks_are = record { reads = reading_is; properties = property_is; means = meaning_is }
+
+-- ---- events
+
+runs_have : (j : Job) (nss : List (List ℕ)) (n : ℕ) → RunsHave j nss n → events_by j nss ≡ n
+runs_have j _ _ no_runs = refl
+runs_have j _ _ (and_run ns nss r n means rest) =
+    ap (λ (s : Report). length s.events + events_by j nss) (sym (only_evaluated (by_schedule j ns) r means))
+    ∙ ap (λ (m : ℕ). length r.events + m) (runs_have j nss n rest)
+
+job_has : (j : Job) (n : ℕ) → HasEvents j n → events_of j j.runs j.choices ≡ n
+job_has j _ (of_run r one_run means) =
+    ap (λ (k : ℕ). events_of j k j.choices) one_run ∙ ap (λ (s : Report). length s.events) (sym (only_evaluated j r means))
+job_has j _ (of_shrinking k ns fails n runs choices tells have) =
+    (λ i. events_of j (runs i) (choices i))
+    ∙ ap (λ (g : List ℕ → Bool). events_by j (tried g (suc k) ns)) (same_failures j fails tells)
+    ∙ runs_have j (tried fails (suc k) ns) n have
+
+pub right : IsRight run_profile
+unfolding run_profile
+right = record { desks = desks_are; events = job_has }

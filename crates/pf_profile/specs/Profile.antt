@@ -1,11 +1,13 @@
--- The profile of the language: what a source is read as, which property bytes are, and what a job comes to.
-use Rattle.std.specs.Prelude.{ℕ, zero, suc, Bool, List, Option, Some, None}
+-- The profile of the language: what a source is read as, which property bytes are, what a job comes to, and how many events it has.
+use Rattle.std.specs.Prelude.{ℕ, zero, suc, ◌+◌, Bool, List, [], ◌∷◌, length, Option, Some, None}
 use Rattle.pf_check.proofs.AnyOutcome.{any_outcome}
 use Rattle.pf_desks.specs.Desk.{Profile}
 use Rattle.pf_model.specs.Evaluation.{evaluated}
 use Rattle.pf_model.specs.Meaning.{Job, Choices, seed, schedule, weighted_seed}
 use Rattle.pf_model.specs.Shrinking.{Found, Result, report, shrunk_to, nothing_fails, by_schedule, is_failure, shrunk}
 use Rattle.pf_property.proofs.AnyProperty.{any_property}
+use Rattle.pf_shrink.specs.Tried.{tried}
+use Rattle.pf_worlds.specs.Workshop.{RunProfile}
 use Rattle.pf_book.specs.Profile.{reading_from}
 
 -- whether a job fails by a schedule: by what its run comes to
@@ -25,6 +27,22 @@ comes_to j (suc k) (schedule ns) = shrunk_so j (shrunk (fails_by j) (suc k) ns)
 comes_to j (suc k) (seed n) = nothing_fails
 comes_to j (suc k) (weighted_seed n process channel) = nothing_fails
 
+-- ---- events
+
+-- how many events the runs of a job by these schedules have in all
+abbrev pub events_by : Job → List (List ℕ) → ℕ
+events_by j [] = zero
+events_by j (ns ∷ nss) = length (evaluated (by_schedule j ns)).events + events_by j nss
+
+-- how many events a job has: those of its run; or with runs those of all schedules that its shrinking tries. Of what isn't shrunk it is left open
+abbrev pub events_of : Job → (runs : ℕ) → Choices → ℕ
+events_of j zero cs = length (evaluated j).events
+events_of j (suc k) (schedule ns) = events_by j (tried (fails_by j) (suc k) ns)
+events_of j (suc k) (seed n) = zero
+events_of j (suc k) (weighted_seed n process channel) = zero
+
+-- ---- profiles
+
 -- a source is read as the rules of reading say; bytes are the property that their text says, or none; a job comes to the one result that it
 -- has in the language
 unfoldable pub profile : Profile
@@ -33,3 +51,7 @@ profile = record {
   property = λ names bytes. (any_property names bytes).0;
   meaning = λ j. comes_to j j.runs j.choices;
 }
+
+-- the profile, and the one number of events that a job has in the language
+unfoldable pub run_profile : RunProfile
+run_profile = record { profile = profile; events = λ j. events_of j j.runs j.choices }

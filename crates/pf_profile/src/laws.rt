@@ -1,10 +1,11 @@
 //! Laws of the definitions: functions with empty bodies, whose contracts are the laws.
 
-ghost use Rattle.pf_book.specs.Profile.{IsRight};
-ghost use Rattle.pf_profile.specs.Profile.{profile};
+ghost use Rattle.pf_workshop.specs.Profile.{IsRight};
+ghost use Rattle.pf_profile.specs.Profile.{run_profile};
 
 /// The profile of the language is right: it reads a source as the rules of reading do, bytes are the property that their text says, and a
 /// job comes to its result: what its module means from its root by its choices, within its limit, or with runs the shrinking of its schedule.
+/// The job has the events of its run, or of all runs that its shrinking makes.
 pub fn profile_is_right()
-    ensures { IsRight profile }
+    ensures { IsRight run_profile }
 {}

@@ -3,7 +3,7 @@
 ghost use Rattle.std.specs.Prelude.{◌≡◌, ◌≤◌, ℕ, List, length, IfOk, IfErr, OnOk};
 ghost use Rattle.std.specs.Io.KnownBytes.{Consumes};
 ghost use Rattle.pf_wire.specs.Steps.{StepsAnswered, StepsLeaves};
-ghost use Rattle.pf_profile.specs.Profile.{profile};
+ghost use Rattle.pf_profile.specs.Profile.{run_profile};
 
 use pf_fault::OrNoMemory;
 use pf_terms::{Counted, StreamFault};
@@ -14,20 +14,21 @@ use std::io::{Read, Write};
 use std::sync::ledger::Ledger;
 
 /// Reads at most 64 MiB, piece by piece, answers each command before it waits for more, and gives the status: 2 if a
-/// line is no command, after which nothing is done, and else 0. The book hashes with these keys, which no answer depends on.
+/// line is no command, after which nothing is done, and else 0. The workshop of four workers hashes with these
+/// keys, which no answer depends on.
 pub fn run_steps<R: Read, W: Write, L: Ledger, M: Ledger>(
     alloc: Global,
     keys: RandomState,
     reader: &mut Counted<R, L>,
     writer: &mut Counted<W, M>,
 ) -> Result<u8, OrNoMemory<StreamFault>>
-    ensures answered { IfOk result (λ status. StepsAnswered profile (R.remaining reader.old.inner)
+    ensures answered { IfOk result (λ status. StepsAnswered run_profile (R.remaining reader.old.inner)
         (W.contents writer.old.inner) (W.contents writer.new.inner) status) }
     ensures taken { (bytes : List ℕ) × (length bytes ≤ MOST_BYTES)
         × Consumes (R.remaining reader.old.inner) (R.remaining reader.new.inner) bytes }
     ensures counts { OnOk result ((reader.new.failures.total ≡ reader.old.failures.total)
         × (writer.new.failures.total ≡ writer.old.failures.total)) }
-    ensures fault { IfErr result (λ e. StepsLeaves profile e
+    ensures fault { IfErr result (λ e. StepsLeaves run_profile e
         (R.remaining reader.old.inner) (R.remaining reader.new.inner)
         (W.contents writer.old.inner) (W.contents writer.new.inner)
         reader.old.failures.total reader.new.failures.total

@@ -1,6 +1,7 @@
 -- What a property and the events of a run stand for.
 use Rattle.std.specs.Prelude.{List, map}
 use Rattle.pf_model.specs.Labels.{Label}
+use Rattle.pf_model.specs.Meaning as meaning
 use Rattle.pf_model.specs.Properties as spec
 use Rattle.pf_model.specs.Reports.{label_of}
 use Rattle.pf_model.specs.declared.report.Event.{Event}
@@ -18,3 +19,7 @@ property_of (p.Never pattern) = spec.never pattern
 -- what the events show, in order
 abbrev pub labels_of : List Event → List Label
 labels_of es = map (λ e. label_of e.label) es
+
+-- the same of events of the meaning
+abbrev pub labels_in : List meaning.Event → List Label
+labels_in es = map (λ e. e.label) es

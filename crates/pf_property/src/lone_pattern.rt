@@ -1,6 +1,6 @@
 //! A pattern that stands by itself.
 
-ghost use Rattle.std.specs.Prelude.{◌≡◌, [], is_some, map, IfErr, IfOk};
+ghost use Rattle.std.specs.Prelude.{◌≡◌, [], is_some, map, Decides, IfErr, IfOk};
 ghost use Rattle.pf_tokens.specs.Rules.{HasTokens};
 ghost use Rattle.pf_tokens.specs.TokenKinds.{placed_of};
 ghost use Rattle.pf_terms.specs.Term.{value_of};
@@ -11,7 +11,7 @@ ghost use Rattle.pf_property.specs.Texts.{HasNoTokens, IsNoPatternText, ReadsPat
 
 use pf_fault::{Code, OrNoMemory};
 use pf_lower::pattern_alone;
-use pf_patterns::fits;
+use pf_patterns::{fits, same_patterns};
 use pf_reader::{ReadPattern, read_pattern};
 use pf_syntax::{Module, PatternId};
 use pf_terms::{AtomId, AtomTable, NoMemory, Term};
@@ -57,7 +57,7 @@ fn lowered(alloc: Global, read: &ReadPattern) -> Result<LonePattern, NoMemory>
     ensures { IfOk result (BecomesAlone (pattern_of read.now)) }
 {
     let mut module = Module::new(alloc, AtomId::TRUE, AtomTable::new(alloc)?);
-    let pattern = pattern_alone(alloc, &read.source, &mut module, read.pattern)?;
+    let pattern = pattern_alone(alloc, &read.syntax, &mut module, read.pattern)?;
     module.shrink_to_fit();
     let module = Arc::new(alloc, module)?;
     Ok(LonePattern { module, pattern })
@@ -86,6 +86,13 @@ impl LonePattern {
             module: Arc::try_clone(&self.module)?,
             pattern: self.pattern,
         })
+    }
+
+    /// Whether it is the same pattern, in whichever module. It takes no memory.
+    pub(crate) fn same(&self, other: &LonePattern) -> bool
+        ensures { Decides result (self.now ≡ other.now) }
+    {
+        same_patterns(&self.module, self.pattern, &other.module, other.pattern)
     }
 
     /// Whether a value fits. It takes no memory.

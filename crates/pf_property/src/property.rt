@@ -1,6 +1,6 @@
 //! Properties that a run may have, and their texts.
 
-ghost use Rattle.std.specs.Prelude.{◌≡◌, IfErr, IfOk};
+ghost use Rattle.std.specs.Prelude.{◌≡◌, Decides, IfErr, IfOk};
 ghost use Rattle.pf_property.specs.Texts.{IsNoPropertyText, ReadsProperty};
 ghost use Rattle.pf_property.specs.Views.{property_of};
 
@@ -58,6 +58,21 @@ impl Property {
                 let pattern = LonePattern::read(alloc, text, atoms)?;
                 Ok(Property::Never(pattern))
             }
+        }
+    }
+
+    /// Whether it is the same property. It takes no memory.
+    pub fn same(&self, other: &Property) -> bool
+        ensures { Decides result (property_of self.now ≡ property_of other.now) }
+    {
+        match (self, other) {
+            (Property::Returns, Property::Returns)
+            | (Property::True, Property::True)
+            | (Property::NoCrash, Property::NoCrash)
+            | (Property::NoDeadlock, Property::NoDeadlock)
+            | (Property::WithinLimit, Property::WithinLimit) => true,
+            (Property::Never(pattern), Property::Never(other)) => pattern.same(other),
+            _ => false,
         }
     }
 

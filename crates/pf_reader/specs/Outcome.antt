@@ -12,7 +12,7 @@ use Rattle.pf_grammar.specs.Grammar.{tree_of, DerivesTree, HasHead, Tree}
 
 -- the outcome is this module, unless memory ran out
 abbrev pub IsReadAs : Tree → Result ReadModule (OrNoMemory Refusal) → Type 0
-IsReadAs m (Ok t) = tree_of t.source ≡ m
+IsReadAs m (Ok t) = tree_of t.syntax ≡ m
 IsReadAs m (Err NoMemory) = Unit {0}
 IsReadAs m (Err _) = ⊥
 

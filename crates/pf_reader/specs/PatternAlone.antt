@@ -32,7 +32,7 @@ pub record DerivesPatternAlone (names : List (List ℕ)) (q : ExprPattern) (ts :
 
 -- the pattern that was read
 abbrev pub pattern_of : ReadPattern → ExprPattern
-pattern_of r = expr_pattern_at r.source.node_table r.pattern.0
+pattern_of r = expr_pattern_at r.syntax.node_table r.pattern.0
 
 -- the outcome is this pattern, unless memory ran out
 abbrev pub IsPatternReadAs : ExprPattern → Result ReadPattern (OrNoMemory Code) → Type 0

@@ -25,12 +25,12 @@ fn read_entry<'a, 't>(
     ensures { Gives (λ x. (export_of x.0, tokens_in x.1)) result
         (entry (names_of context.entry) (tokens_in tokens.entry)) }
 {
-    let (word, rest) = read_name(context, tokens)?;
+    let (ident, rest) = read_name(context, tokens)?;
     let rest = behind(rest, NumberedKind::Mark(Mark::Slash))?;
     match read_number(rest) {
         Some((arity, rest)) => Ok((
             Export {
-                word,
+                ident,
                 arity: arity.value,
             },
             rest,
@@ -100,13 +100,13 @@ fn read_export<'a, 't>(
 }
 
 /// Adds entries in their order.
-fn add_exports(source: &mut SyntaxTree, entries: &[Export]) -> Result<(), NoMemory>
-    ensures added { OnOk result (source.new.exports ≡ source.old.exports ++ map export_of entries.now) }
-    ensures name { source.new.name ≡ source.old.name }
-    ensures functions { source.new.functions ≡ source.old.functions }
+fn add_exports(syntax: &mut SyntaxTree, entries: &[Export]) -> Result<(), NoMemory>
+    ensures added { OnOk result (syntax.new.exports ≡ syntax.old.exports ++ map export_of entries.now) }
+    ensures name { syntax.new.name ≡ syntax.old.name }
+    ensures functions { syntax.new.functions ≡ syntax.old.functions }
 {
     for entry in entries {
-        source.add_export(*entry)?;
+        syntax.add_export(*entry)?;
     }
     Ok(())
 }
@@ -115,14 +115,14 @@ fn add_exports(source: &mut SyntaxTree, entries: &[Export]) -> Result<(), NoMemo
 pub(crate) fn read_exports<'a, 't>(
     alloc: Global,
     context: Context,
-    source: &mut SyntaxTree,
+    syntax: &mut SyntaxTree,
     tokens: Tokens<'a, 't>,
 ) -> Result<Tokens<'a, 't>, ReadFault>
-    ensures given { Gives (λ rest. (source.new.exports, tokens_in rest)) result
-        (with_front source.old.exports (exports (names_of context.entry) (length (tokens_in tokens.entry))
+    ensures given { Gives (λ rest. (syntax.new.exports, tokens_in rest)) result
+        (with_front syntax.old.exports (exports (names_of context.entry) (length (tokens_in tokens.entry))
         (tokens_in tokens.entry))) }
-    ensures name { source.new.name ≡ source.old.name }
-    ensures functions { source.new.functions ≡ source.old.functions }
+    ensures name { syntax.new.name ≡ syntax.old.name }
+    ensures functions { syntax.new.functions ≡ syntax.old.functions }
 {
     let mut rest = tokens;
     for _ in 0..tokens.list.len() {
@@ -130,7 +130,7 @@ pub(crate) fn read_exports<'a, 't>(
             return Ok(rest);
         };
         let (entries, after) = read_export(alloc, context, form)?;
-        add_exports(source, &entries)?;
+        add_exports(syntax, &entries)?;
         rest = after;
     }
     Ok(rest)

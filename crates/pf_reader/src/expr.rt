@@ -44,15 +44,15 @@ fn unguarded(alloc: Global) -> Result<Condition, NoMemory>
 fn read_prim<'a, 't>(
     alloc: Global,
     context: Context,
-    source: &mut SyntaxTree,
+    syntax: &mut SyntaxTree,
     guard: bool,
     limit: u32,
     tokens: Tokens<'a, 't>,
 ) -> Result<Operand<'a, 't>, ReadFault>
     requires { 0 < limit }
-    ensures grown { Grown source.old source.new }
-    ensures stands { IfOk result (λ x. ExprRepresents source.new.node_table x.expr) }
-    ensures given { Gives (seen source.new.node_table) result
+    ensures grown { Grown syntax.old syntax.new }
+    ensures stands { IfOk result (λ x. ExprRepresents syntax.new.node_table x.expr) }
+    ensures given { Gives (seen syntax.new.node_table) result
         (prim (names_of context.entry) guard limit (tokens_in tokens.entry)) }
 {
     let Some((first, rest)) = tokens.first() else {
@@ -61,23 +61,23 @@ fn read_prim<'a, 't>(
     let offset = first.at;
     let inner = limit - 1;
     match first.kind {
-        NumberedKind::Integer(n) => put(source, ExprNode::Integer(n.value as i64), rest),
-        NumberedKind::Text(text) => put_text(alloc, source, text, rest),
+        NumberedKind::Integer(n) => put(syntax, ExprNode::Integer(n.value as i64), rest),
+        NumberedKind::Text(text) => put_text(alloc, syntax, text, rest),
         NumberedKind::Variable(name) => put(
-            source,
+            syntax,
             ExprNode::Variable(Ident { name, offset }),
             rest,
         ),
-        NumberedKind::Anonymous => put(source, ExprNode::Anonymous(offset), rest),
-        NumberedKind::Mark(mark) => read_marked(alloc, context, source, guard, inner, mark, rest),
+        NumberedKind::Anonymous => put(syntax, ExprNode::Anonymous(offset), rest),
+        NumberedKind::Mark(mark) => read_marked(alloc, context, syntax, guard, inner, mark, rest),
         NumberedKind::Reserved(word) => {
-            read_worded(alloc, context, source, guard, inner, word, rest)
+            read_worded(alloc, context, syntax, guard, inner, word, rest)
         }
         kind => match context.atom(kind) {
             None => Err(OrNoMemory::Fault(Syntax)),
             Some(name) => {
-                let word = Ident { name, offset };
-                read_named(alloc, context, source, guard, inner, word, rest)
+                let ident = Ident { name, offset };
+                read_named(alloc, context, syntax, guard, inner, ident, rest)
             }
         },
     }
@@ -88,29 +88,29 @@ fn read_prim<'a, 't>(
 fn read_named<'a, 't>(
     alloc: Global,
     context: Context,
-    source: &mut SyntaxTree,
+    syntax: &mut SyntaxTree,
     guard: bool,
     limit: u32,
-    word: Ident,
+    ident: Ident,
     tokens: Tokens<'a, 't>,
 ) -> Result<Operand<'a, 't>, ReadFault>
-    ensures grown { Grown source.old source.new }
-    ensures stands { IfOk result (λ x. ExprRepresents source.new.node_table x.expr) }
-    ensures given { Gives (seen source.new.node_table) result
+    ensures grown { Grown syntax.old syntax.new }
+    ensures stands { IfOk result (λ x. ExprRepresents syntax.new.node_table x.expr) }
+    ensures given { Gives (seen syntax.new.node_table) result
         (call_step (names_of context.entry) guard
-        (parse_expr (names_of context.entry) guard limit top) word.name.0 word.offset (tokens_in tokens.entry)
+        (parse_expr (names_of context.entry) guard limit top) ident.name.0 ident.offset (tokens_in tokens.entry)
         (after (mark OpenParenthesis) (tokens_in tokens.entry))) }
 {
     let Some(rest) = skip(tokens, NumberedKind::Mark(Mark::OpenParenthesis)) else {
-        return put(source, ExprNode::Atom(word.name), tokens);
+        return put(syntax, ExprNode::Atom(ident.name), tokens);
     };
     let item = Item::Expression(guard);
     let last = Mark::CloseParenthesis;
-    let (arguments, rest) = read_until(alloc, context, source, item, limit, last, rest)?;
-    if !context.call_stands(guard, word.name, arguments.len()) {
+    let (arguments, rest) = read_until(alloc, context, syntax, item, limit, last, rest)?;
+    if !context.call_stands(guard, ident.name, arguments.len()) {
         return Err(OrNoMemory::Fault(Syntax));
     }
-    put(source, ExprNode::Call(word, arguments), rest)
+    put(syntax, ExprNode::Call(ident, arguments), rest)
 }
 
 /// What stands behind the mark that a part begins with.
@@ -118,31 +118,31 @@ fn read_named<'a, 't>(
 fn read_marked<'a, 't>(
     alloc: Global,
     context: Context,
-    source: &mut SyntaxTree,
+    syntax: &mut SyntaxTree,
     guard: bool,
     limit: u32,
     first: Mark,
     tokens: Tokens<'a, 't>,
 ) -> Result<Operand<'a, 't>, ReadFault>
-    ensures grown { Grown source.old source.new }
-    ensures stands { IfOk result (λ x. ExprRepresents source.new.node_table x.expr) }
-    ensures given { Gives (seen source.new.node_table) result
+    ensures grown { Grown syntax.old syntax.new }
+    ensures stands { IfOk result (λ x. ExprRepresents syntax.new.node_table x.expr) }
+    ensures given { Gives (seen syntax.new.node_table) result
         (marked (parse_expr (names_of context.entry) guard limit top) first (tokens_in tokens.entry)) }
 {
     match first {
         Mark::OpenParenthesis => {
-            let part = read_level(alloc, context, source, guard, limit, TOP, tokens)?;
+            let part = read_level(alloc, context, syntax, guard, limit, TOP, tokens)?;
             let rest = behind(part.rest, NumberedKind::Mark(Mark::CloseParenthesis))?;
             let node = ExprNode::Parentheses(part.expr);
-            put(source, node, rest)
+            put(syntax, node, rest)
         }
         Mark::OpenBrace => {
             let item = Item::Expression(guard);
             let last = Mark::CloseBrace;
-            let (parts, rest) = read_until(alloc, context, source, item, limit, last, tokens)?;
-            put(source, ExprNode::Tuple(parts), rest)
+            let (parts, rest) = read_until(alloc, context, syntax, item, limit, last, tokens)?;
+            put(syntax, ExprNode::Tuple(parts), rest)
         }
-        Mark::OpenBracket => read_list(alloc, context, source, guard, limit, tokens),
+        Mark::OpenBracket => read_list(alloc, context, syntax, guard, limit, tokens),
         _ => Err(OrNoMemory::Fault(Syntax)),
     }
 }
@@ -152,31 +152,31 @@ fn read_marked<'a, 't>(
 fn read_list<'a, 't>(
     alloc: Global,
     context: Context,
-    source: &mut SyntaxTree,
+    syntax: &mut SyntaxTree,
     guard: bool,
     limit: u32,
     tokens: Tokens<'a, 't>,
 ) -> Result<Operand<'a, 't>, ReadFault>
-    ensures grown { Grown source.old source.new }
-    ensures stands { IfOk result (λ x. ExprRepresents source.new.node_table x.expr) }
-    ensures given { Gives (seen source.new.node_table) result
+    ensures grown { Grown syntax.old syntax.new }
+    ensures stands { IfOk result (λ x. ExprRepresents syntax.new.node_table x.expr) }
+    ensures given { Gives (seen syntax.new.node_table) result
         (list (parse_expr (names_of context.entry) guard limit top) (tokens_in tokens.entry)) }
 {
     if let Some(rest) = skip(tokens, NumberedKind::Mark(Mark::CloseBracket)) {
-        return put(source, ExprNode::List(Vec::new(alloc)), rest);
+        return put(syntax, ExprNode::List(Vec::new(alloc)), rest);
     }
     let item = Item::Expression(guard);
-    let (parts, rest) = read_items(alloc, context, source, item, limit, tokens)?;
+    let (parts, rest) = read_items(alloc, context, syntax, item, limit, tokens)?;
     match skip(rest, NumberedKind::Mark(Mark::Bar)) {
         None => {
             let rest = behind(rest, NumberedKind::Mark(Mark::CloseBracket))?;
-            put(source, ExprNode::List(parts), rest)
+            put(syntax, ExprNode::List(parts), rest)
         }
         Some(rest) => {
-            let tail = read_level(alloc, context, source, guard, limit, TOP, rest)?;
+            let tail = read_level(alloc, context, syntax, guard, limit, TOP, rest)?;
             let rest = behind(tail.rest, NumberedKind::Mark(Mark::CloseBracket))?;
             let node = ExprNode::ListOn(parts, tail.expr);
-            put(source, node, rest)
+            put(syntax, node, rest)
         }
     }
 }
@@ -186,23 +186,23 @@ fn read_list<'a, 't>(
 fn read_unary<'a, 't>(
     alloc: Global,
     context: Context,
-    source: &mut SyntaxTree,
+    syntax: &mut SyntaxTree,
     guard: bool,
     limit: u32,
     tokens: Tokens<'a, 't>,
 ) -> Result<Operand<'a, 't>, ReadFault>
     requires { 0 < limit }
-    ensures grown { Grown source.old source.new }
-    ensures stands { IfOk result (λ x. ExprRepresents source.new.node_table x.expr) }
-    ensures given { Gives (seen source.new.node_table) result
+    ensures grown { Grown syntax.old syntax.new }
+    ensures stands { IfOk result (λ x. ExprRepresents syntax.new.node_table x.expr) }
+    ensures given { Gives (seen syntax.new.node_table) result
         (unary (prim (names_of context.entry) guard limit) limit (tokens_in tokens.entry)) }
 {
     match skip(tokens, NumberedKind::Mark(Mark::Minus)) {
-        None => read_prim(alloc, context, source, guard, limit, tokens),
+        None => read_prim(alloc, context, syntax, guard, limit, tokens),
         Some(rest) => {
-            let part = read_prim(alloc, context, source, guard, limit, rest)?;
+            let part = read_prim(alloc, context, syntax, guard, limit, rest)?;
             let negation = ExprNode::Negate(part.expr);
-            put_within(source, limit, negation, part.rest)
+            put_within(syntax, limit, negation, part.rest)
         }
     }
 }
@@ -212,21 +212,21 @@ fn read_unary<'a, 't>(
 fn read_level<'a, 't>(
     alloc: Global,
     context: Context,
-    source: &mut SyntaxTree,
+    syntax: &mut SyntaxTree,
     guard: bool,
     limit: u32,
     level: u32,
     tokens: Tokens<'a, 't>,
 ) -> Result<Operand<'a, 't>, ReadFault>
-    ensures grown { Grown source.old source.new }
-    ensures stands { IfOk result (λ x. ExprRepresents source.new.node_table x.expr) }
-    ensures given { Gives (seen source.new.node_table) result
+    ensures grown { Grown syntax.old syntax.new }
+    ensures stands { IfOk result (λ x. ExprRepresents syntax.new.node_table x.expr) }
+    ensures given { Gives (seen syntax.new.node_table) result
         (parse_expr (names_of context.entry) guard limit level (tokens_in tokens.entry)) }
 {
     if limit == 0 {
         return Err(OrNoMemory::Fault(Syntax));
     }
-    let mut left = read_unary(alloc, context, source, guard, limit, tokens)?;
+    let mut left = read_unary(alloc, context, syntax, guard, limit, tokens)?;
     let mut floor = 1;
     let turns = left.rest.list.len();
     for _ in 0..turns {
@@ -234,9 +234,9 @@ fn read_level<'a, 't>(
             return Ok(left);
         };
         let above = infix.right_level();
-        let right = read_level(alloc, context, source, guard, limit - 1, above, after)?;
+        let right = read_level(alloc, context, syntax, guard, limit - 1, above, after)?;
         let node = joined(infix, left.expr, right.expr);
-        left = put_within(source, limit, node, right.rest)?;
+        left = put_within(syntax, limit, node, right.rest)?;
         floor = infix.level();
     }
     Ok(left)
@@ -256,24 +256,24 @@ enum Item {
 fn read_element<'a, 't>(
     alloc: Global,
     context: Context,
-    source: &mut SyntaxTree,
+    syntax: &mut SyntaxTree,
     limit: u32,
     tokens: Tokens<'a, 't>,
 ) -> Result<Operand<'a, 't>, ReadFault>
-    ensures grown { Grown source.old source.new }
-    ensures stands { IfOk result (λ x. ExprRepresents source.new.node_table x.expr) }
-    ensures given { Gives (seen source.new.node_table) result
+    ensures grown { Grown syntax.old syntax.new }
+    ensures stands { IfOk result (λ x. ExprRepresents syntax.new.node_table x.expr) }
+    ensures given { Gives (seen syntax.new.node_table) result
         (element (names_of context.entry) limit (tokens_in tokens.entry)) }
 {
     if limit == 0 {
         return Err(OrNoMemory::Fault(Syntax));
     }
-    match read_match_ahead(alloc, context, source, limit - 1, tokens)? {
-        None => read_level(alloc, context, source, false, limit, TOP, tokens),
+    match read_match_ahead(alloc, context, syntax, limit - 1, tokens)? {
+        None => read_level(alloc, context, syntax, false, limit, TOP, tokens),
         Some(ahead) => {
-            let part = read_element(alloc, context, source, limit - 1, ahead.rest)?;
+            let part = read_element(alloc, context, syntax, limit - 1, ahead.rest)?;
             let node = ExprNode::Match(ahead.expr_pattern, part.expr);
-            put_within(source, limit, node, part.rest)
+            put_within(syntax, limit, node, part.rest)
         }
     }
 }
@@ -283,19 +283,19 @@ fn read_element<'a, 't>(
 fn read_item<'a, 't>(
     alloc: Global,
     context: Context,
-    source: &mut SyntaxTree,
+    syntax: &mut SyntaxTree,
     item: Item,
     limit: u32,
     tokens: Tokens<'a, 't>,
 ) -> Result<Operand<'a, 't>, ReadFault>
-    ensures grown { Grown source.old source.new }
-    ensures stands { IfOk result (λ x. ExprRepresents source.new.node_table x.expr) }
-    ensures given { Gives (seen source.new.node_table) result
+    ensures grown { Grown syntax.old syntax.new }
+    ensures stands { IfOk result (λ x. ExprRepresents syntax.new.node_table x.expr) }
+    ensures given { Gives (seen syntax.new.node_table) result
         (item_at (names_of context.entry) item limit (tokens_in tokens.entry)) }
 {
     match item {
-        Item::Expression(guard) => read_level(alloc, context, source, guard, limit, TOP, tokens),
-        Item::Element => read_element(alloc, context, source, limit, tokens),
+        Item::Expression(guard) => read_level(alloc, context, syntax, guard, limit, TOP, tokens),
+        Item::Element => read_element(alloc, context, syntax, limit, tokens),
     }
 }
 
@@ -304,16 +304,16 @@ fn read_item<'a, 't>(
 fn read_items<'a, 't>(
     alloc: Global,
     context: Context,
-    source: &mut SyntaxTree,
+    syntax: &mut SyntaxTree,
     item: Item,
     limit: u32,
     tokens: Tokens<'a, 't>,
 ) -> Result<(Vec<ExprId>, Tokens<'a, 't>), ReadFault>
-    ensures grown { Grown source.old source.new }
-    ensures stands { IfOk result (λ x. All (ExprRepresents source.new.node_table) x.0.items) }
+    ensures grown { Grown syntax.old syntax.new }
+    ensures stands { IfOk result (λ x. All (ExprRepresents syntax.new.node_table) x.0.items) }
     ensures given { Gives (λ x. (
       map
-          (expr_of source.new.node_table) x.0.items,
+          (expr_of syntax.new.node_table) x.0.items,
       tokens_in x.1,
     )) result
         (items (mark Comma) (item_at (names_of context.entry) item limit) (length (tokens_in tokens.entry))
@@ -322,7 +322,7 @@ fn read_items<'a, 't>(
     let mut found = Vec::new(alloc);
     let mut rest = tokens;
     for _ in 0..tokens.list.len() {
-        let part = read_item(alloc, context, source, item, limit, rest)?;
+        let part = read_item(alloc, context, syntax, item, limit, rest)?;
         found.push(part.expr)?;
         let Some(after) = skip(part.rest, NumberedKind::Mark(Mark::Comma)) else {
             return Ok((found, part.rest));
@@ -337,17 +337,17 @@ fn read_items<'a, 't>(
 fn read_until<'a, 't>(
     alloc: Global,
     context: Context,
-    source: &mut SyntaxTree,
+    syntax: &mut SyntaxTree,
     item: Item,
     limit: u32,
     last: Mark,
     tokens: Tokens<'a, 't>,
 ) -> Result<(Vec<ExprId>, Tokens<'a, 't>), ReadFault>
-    ensures grown { Grown source.old source.new }
-    ensures stands { IfOk result (λ x. All (ExprRepresents source.new.node_table) x.0.items) }
+    ensures grown { Grown syntax.old syntax.new }
+    ensures stands { IfOk result (λ x. All (ExprRepresents syntax.new.node_table) x.0.items) }
     ensures given { Gives (λ x. (
       map
-          (expr_of source.new.node_table) x.0.items,
+          (expr_of syntax.new.node_table) x.0.items,
       tokens_in x.1,
     )) result
         (until (mark last) (item_at (names_of context.entry) item limit) (tokens_in tokens.entry)) }
@@ -355,7 +355,7 @@ fn read_until<'a, 't>(
     if let Some(rest) = skip(tokens, NumberedKind::Mark(last)) {
         return Ok((Vec::new(alloc), rest));
     }
-    let (parts, rest) = read_items(alloc, context, source, item, limit, tokens)?;
+    let (parts, rest) = read_items(alloc, context, syntax, item, limit, tokens)?;
     let rest = behind(rest, NumberedKind::Mark(last))?;
     Ok((parts, rest))
 }
@@ -364,20 +364,20 @@ fn read_until<'a, 't>(
 pub(crate) fn read_body<'a, 't>(
     alloc: Global,
     context: Context,
-    source: &mut SyntaxTree,
+    syntax: &mut SyntaxTree,
     limit: u32,
     tokens: Tokens<'a, 't>,
 ) -> Result<(Vec<ExprId>, Tokens<'a, 't>), ReadFault>
-    ensures grown { Grown source.old source.new }
-    ensures stands { IfOk result (λ x. All (ExprRepresents source.new.node_table) x.0.items) }
+    ensures grown { Grown syntax.old syntax.new }
+    ensures stands { IfOk result (λ x. All (ExprRepresents syntax.new.node_table) x.0.items) }
     ensures given { Gives (λ x. (
       map
-          (expr_of source.new.node_table) x.0.items,
+          (expr_of syntax.new.node_table) x.0.items,
       tokens_in x.1,
     )) result
         (body (element (names_of context.entry) limit) (tokens_in tokens.entry)) }
 {
-    read_items(alloc, context, source, Item::Element, limit, tokens)
+    read_items(alloc, context, syntax, Item::Element, limit, tokens)
 }
 
 /// A guard: alternatives with semicolons between them, each tests with commas between them.
@@ -385,20 +385,20 @@ pub(crate) fn read_body<'a, 't>(
 fn read_guard<'a, 't>(
     alloc: Global,
     context: Context,
-    source: &mut SyntaxTree,
+    syntax: &mut SyntaxTree,
     limit: u32,
     tokens: Tokens<'a, 't>,
 ) -> Result<(Condition, Tokens<'a, 't>), ReadFault>
-    ensures grown { Grown source.old source.new }
-    ensures stands { IfOk result (λ x. ConditionRepresents source.new.node_table x.0) }
-    ensures given { Gives (λ x. (condition_over source.new.node_table x.0, tokens_in x.1)) result
+    ensures grown { Grown syntax.old syntax.new }
+    ensures stands { IfOk result (λ x. ConditionRepresents syntax.new.node_table x.0) }
+    ensures given { Gives (λ x. (condition_over syntax.new.node_table x.0, tokens_in x.1)) result
         (guard (parse_expr (names_of context.entry) true limit top) (tokens_in tokens.entry)) }
 {
     let mut alternatives = Vec::new(alloc);
     let mut rest = tokens;
     for _ in 0..tokens.list.len() {
         let item = Item::Expression(true);
-        let (tests, behind_it) = read_items(alloc, context, source, item, limit, rest)?;
+        let (tests, behind_it) = read_items(alloc, context, syntax, item, limit, rest)?;
         alternatives.push(Tests { tests })?;
         let Some(after) = skip(behind_it, NumberedKind::Mark(Mark::Semicolon)) else {
             return Ok((Condition { alternatives }, behind_it));
@@ -413,13 +413,13 @@ fn read_guard<'a, 't>(
 pub(crate) fn read_when<'a, 't>(
     alloc: Global,
     context: Context,
-    source: &mut SyntaxTree,
+    syntax: &mut SyntaxTree,
     limit: u32,
     tokens: Tokens<'a, 't>,
 ) -> Result<(Condition, Tokens<'a, 't>), ReadFault>
-    ensures grown { Grown source.old source.new }
-    ensures stands { IfOk result (λ x. ConditionRepresents source.new.node_table x.0) }
-    ensures given { Gives (λ x. (condition_over source.new.node_table x.0, tokens_in x.1)) result
+    ensures grown { Grown syntax.old syntax.new }
+    ensures stands { IfOk result (λ x. ConditionRepresents syntax.new.node_table x.0) }
+    ensures given { Gives (λ x. (condition_over syntax.new.node_table x.0, tokens_in x.1)) result
         (when (parse_expr (names_of context.entry) true limit top) (tokens_in tokens.entry)) }
 {
     match skip(tokens, NumberedKind::Reserved(Reserved::When)) {
@@ -427,7 +427,7 @@ pub(crate) fn read_when<'a, 't>(
             let condition = unguarded(alloc)?;
             Ok((condition, tokens))
         }
-        Some(rest) => read_guard(alloc, context, source, limit, rest),
+        Some(rest) => read_guard(alloc, context, syntax, limit, rest),
     }
 }
 
@@ -436,19 +436,19 @@ pub(crate) fn read_when<'a, 't>(
 fn read_front<'a, 't>(
     alloc: Global,
     context: Context,
-    source: &mut SyntaxTree,
+    syntax: &mut SyntaxTree,
     choice: bool,
     limit: u32,
     tokens: Tokens<'a, 't>,
 ) -> Result<FrontPart<'a, 't>, ReadFault>
-    ensures grown { Grown source.old source.new }
-    ensures stands { IfOk result (λ x. FrontRepresents source.new.node_table x) }
-    ensures given { Gives (view_of_front source.new.node_table) result
+    ensures grown { Grown syntax.old syntax.new }
+    ensures stands { IfOk result (λ x. FrontRepresents syntax.new.node_table x) }
+    ensures given { Gives (view_of_front syntax.new.node_table) result
         (front (readers (names_of context.entry) limit) choice (tokens_in tokens.entry)) }
 {
     if choice {
-        let part = put_expr_pattern(source, ExprPatternNode::Anything, tokens)?;
-        let (condition, rest) = read_guard(alloc, context, source, limit, tokens)?;
+        let part = put_expr_pattern(syntax, ExprPatternNode::Anything, tokens)?;
+        let (condition, rest) = read_guard(alloc, context, syntax, limit, tokens)?;
         let expr_pattern = part.expr_pattern;
         Ok(FrontPart {
             expr_pattern,
@@ -456,8 +456,8 @@ fn read_front<'a, 't>(
             rest,
         })
     } else {
-        let part = read_expr_pattern(alloc, context, source, limit, tokens)?;
-        let (condition, rest) = read_when(alloc, context, source, limit, part.rest)?;
+        let part = read_expr_pattern(alloc, context, syntax, limit, tokens)?;
+        let (condition, rest) = read_when(alloc, context, syntax, limit, part.rest)?;
         let expr_pattern = part.expr_pattern;
         Ok(FrontPart {
             expr_pattern,
@@ -472,19 +472,19 @@ fn read_front<'a, 't>(
 fn read_clause<'a, 't>(
     alloc: Global,
     context: Context,
-    source: &mut SyntaxTree,
+    syntax: &mut SyntaxTree,
     choice: bool,
     limit: u32,
     tokens: Tokens<'a, 't>,
 ) -> Result<(Branch, Tokens<'a, 't>), ReadFault>
-    ensures grown { Grown source.old source.new }
-    ensures stands { IfOk result (λ x. BranchRepresents source.new.node_table x.0) }
-    ensures given { Gives (λ x. (clause_of source.new.node_table x.0, tokens_in x.1)) result
+    ensures grown { Grown syntax.old syntax.new }
+    ensures stands { IfOk result (λ x. BranchRepresents syntax.new.node_table x.0) }
+    ensures given { Gives (λ x. (clause_of syntax.new.node_table x.0, tokens_in x.1)) result
         (clause (readers (names_of context.entry) limit) choice (tokens_in tokens.entry)) }
 {
-    let front = read_front(alloc, context, source, choice, limit, tokens)?;
+    let front = read_front(alloc, context, syntax, choice, limit, tokens)?;
     let rest = behind(front.rest, NumberedKind::Mark(Mark::Arrow))?;
-    let (body, rest) = read_items(alloc, context, source, Item::Element, limit, rest)?;
+    let (body, rest) = read_items(alloc, context, syntax, Item::Element, limit, rest)?;
     let branch = Branch {
         expr_pattern: front.expr_pattern,
         condition: front.condition,
@@ -498,21 +498,21 @@ fn read_clause<'a, 't>(
 fn read_clauses<'a, 't>(
     alloc: Global,
     context: Context,
-    source: &mut SyntaxTree,
+    syntax: &mut SyntaxTree,
     choice: bool,
     limit: u32,
     tokens: Tokens<'a, 't>,
 ) -> Result<(Vec<Branch>, Tokens<'a, 't>), ReadFault>
-    ensures grown { Grown source.old source.new }
-    ensures stands { IfOk result (λ x. All (BranchRepresents source.new.node_table) x.0.items) }
-    ensures given { Gives (λ x. (map (clause_of source.new.node_table) x.0.items, tokens_in x.1)) result
+    ensures grown { Grown syntax.old syntax.new }
+    ensures stands { IfOk result (λ x. All (BranchRepresents syntax.new.node_table) x.0.items) }
+    ensures given { Gives (λ x. (map (clause_of syntax.new.node_table) x.0.items, tokens_in x.1)) result
         (items (mark Semicolon) (clause (readers (names_of context.entry) limit) choice)
         (length (tokens_in tokens.entry)) (tokens_in tokens.entry)) }
 {
     let mut found = Vec::new(alloc);
     let mut rest = tokens;
     for _ in 0..tokens.list.len() {
-        let (branch, behind_it) = read_clause(alloc, context, source, choice, limit, rest)?;
+        let (branch, behind_it) = read_clause(alloc, context, syntax, choice, limit, rest)?;
         found.push(branch)?;
         let Some(after) = skip(behind_it, NumberedKind::Mark(Mark::Semicolon)) else {
             return Ok((found, behind_it));
@@ -527,17 +527,17 @@ fn read_clauses<'a, 't>(
 fn read_branches<'a, 't>(
     alloc: Global,
     context: Context,
-    source: &mut SyntaxTree,
+    syntax: &mut SyntaxTree,
     choice: bool,
     limit: u32,
     tokens: Tokens<'a, 't>,
 ) -> Result<(Vec<Branch>, Tokens<'a, 't>), ReadFault>
-    ensures grown { Grown source.old source.new }
-    ensures stands { IfOk result (λ x. All (BranchRepresents source.new.node_table) x.0.items) }
-    ensures given { Gives (λ x. (branches_over source.new.node_table x.0.items, tokens_in x.1)) result
+    ensures grown { Grown syntax.old syntax.new }
+    ensures stands { IfOk result (λ x. All (BranchRepresents syntax.new.node_table) x.0.items) }
+    ensures given { Gives (λ x. (branches_over syntax.new.node_table x.0.items, tokens_in x.1)) result
         (branches (readers (names_of context.entry) limit) choice (tokens_in tokens.entry)) }
 {
-    let (found, rest) = read_clauses(alloc, context, source, choice, limit, tokens)?;
+    let (found, rest) = read_clauses(alloc, context, syntax, choice, limit, tokens)?;
     let rest = behind(rest, NumberedKind::Reserved(Reserved::End))?;
     Ok((found, rest))
 }
@@ -547,22 +547,22 @@ fn read_branches<'a, 't>(
 fn read_case<'a, 't>(
     alloc: Global,
     context: Context,
-    source: &mut SyntaxTree,
+    syntax: &mut SyntaxTree,
     guard: bool,
     limit: u32,
     tokens: Tokens<'a, 't>,
 ) -> Result<Operand<'a, 't>, ReadFault>
-    ensures grown { Grown source.old source.new }
-    ensures stands { IfOk result (λ x. ExprRepresents source.new.node_table x.expr) }
-    ensures given { Gives (seen source.new.node_table) result
+    ensures grown { Grown syntax.old syntax.new }
+    ensures stands { IfOk result (λ x. ExprRepresents syntax.new.node_table x.expr) }
+    ensures given { Gives (seen syntax.new.node_table) result
         (case_of (readers (names_of context.entry) limit) (parse_expr (names_of context.entry) guard limit top)
         (tokens_in tokens.entry)) }
 {
-    let subject = read_level(alloc, context, source, guard, limit, TOP, tokens)?;
+    let subject = read_level(alloc, context, syntax, guard, limit, TOP, tokens)?;
     let rest = behind(subject.rest, NumberedKind::Reserved(Reserved::Of))?;
-    let (found, rest) = read_branches(alloc, context, source, false, limit, rest)?;
+    let (found, rest) = read_branches(alloc, context, syntax, false, limit, rest)?;
     let node = ExprNode::Case(subject.expr, found);
-    put(source, node, rest)
+    put(syntax, node, rest)
 }
 
 /// What stands behind the reserved word that a part begins with.
@@ -570,29 +570,29 @@ fn read_case<'a, 't>(
 fn read_worded<'a, 't>(
     alloc: Global,
     context: Context,
-    source: &mut SyntaxTree,
+    syntax: &mut SyntaxTree,
     guard: bool,
     limit: u32,
     first: Reserved,
     tokens: Tokens<'a, 't>,
 ) -> Result<Operand<'a, 't>, ReadFault>
-    ensures grown { Grown source.old source.new }
-    ensures stands { IfOk result (λ x. ExprRepresents source.new.node_table x.expr) }
-    ensures given { Gives (seen source.new.node_table) result
+    ensures grown { Grown syntax.old syntax.new }
+    ensures stands { IfOk result (λ x. ExprRepresents syntax.new.node_table x.expr) }
+    ensures given { Gives (seen syntax.new.node_table) result
         (worded (readers (names_of context.entry) limit) guard
         (parse_expr (names_of context.entry) guard limit top) first (tokens_in tokens.entry)) }
 {
     match first {
         Reserved::Case if may_stand(guard, Form::Deciding) => {
-            read_case(alloc, context, source, guard, limit, tokens)
+            read_case(alloc, context, syntax, guard, limit, tokens)
         }
         Reserved::If if may_stand(guard, Form::Choosing) => {
-            let (found, rest) = read_branches(alloc, context, source, true, limit, tokens)?;
-            put(source, ExprNode::If(found), rest)
+            let (found, rest) = read_branches(alloc, context, syntax, true, limit, tokens)?;
+            put(syntax, ExprNode::If(found), rest)
         }
         Reserved::Receive if may_stand(guard, Form::Receiving) => {
-            let (found, rest) = read_branches(alloc, context, source, false, limit, tokens)?;
-            put(source, ExprNode::Receive(found), rest)
+            let (found, rest) = read_branches(alloc, context, syntax, false, limit, tokens)?;
+            put(syntax, ExprNode::Receive(found), rest)
         }
         _ => Err(OrNoMemory::Fault(Syntax)),
     }

@@ -21,17 +21,17 @@ use std::alloc::Global;
 
 /// An integer behind a minus, as a pattern.
 fn read_negative<'a, 't>(
-    source: &mut SyntaxTree,
+    syntax: &mut SyntaxTree,
     tokens: Tokens<'a, 't>,
 ) -> Result<ExprPatternPart<'a, 't>, ReadFault>
-    ensures grown { Grown source.old source.new }
-    ensures stands { IfOk result (λ p. ExprPatternRepresents source.new.node_table p.expr_pattern) }
-    ensures given { Gives (seen_expr_pattern source.new.node_table) result
+    ensures grown { Grown syntax.old syntax.new }
+    ensures stands { IfOk result (λ p. ExprPatternRepresents syntax.new.node_table p.expr_pattern) }
+    ensures given { Gives (seen_expr_pattern syntax.new.node_table) result
         (negative (tokens_in tokens.entry)) }
 {
     match read_number(tokens) {
         Some((n, rest)) => put_expr_pattern(
-            source,
+            syntax,
             ExprPatternNode::Integer(-(n.value as i64)),
             rest,
         ),
@@ -44,19 +44,19 @@ fn read_negative<'a, 't>(
 pub(crate) fn read_expr_pattern<'a, 't>(
     alloc: Global,
     context: Context,
-    source: &mut SyntaxTree,
+    syntax: &mut SyntaxTree,
     limit: u32,
     tokens: Tokens<'a, 't>,
 ) -> Result<ExprPatternPart<'a, 't>, ReadFault>
-    ensures grown { Grown source.old source.new }
-    ensures stands { IfOk result (λ p. ExprPatternRepresents source.new.node_table p.expr_pattern) }
-    ensures given { Gives (seen_expr_pattern source.new.node_table) result
+    ensures grown { Grown syntax.old syntax.new }
+    ensures stands { IfOk result (λ p. ExprPatternRepresents syntax.new.node_table p.expr_pattern) }
+    ensures given { Gives (seen_expr_pattern syntax.new.node_table) result
         (pattern (names_of context.entry) limit (tokens_in tokens.entry)) }
 {
     if limit == 0 {
         return Err(OrNoMemory::Fault(Syntax));
     }
-    read_begun(alloc, context, source, limit - 1, tokens)
+    read_begun(alloc, context, syntax, limit - 1, tokens)
 }
 
 /// A pattern whose parts may be as deep as the limit.
@@ -64,13 +64,13 @@ pub(crate) fn read_expr_pattern<'a, 't>(
 fn read_begun<'a, 't>(
     alloc: Global,
     context: Context,
-    source: &mut SyntaxTree,
+    syntax: &mut SyntaxTree,
     limit: u32,
     tokens: Tokens<'a, 't>,
 ) -> Result<ExprPatternPart<'a, 't>, ReadFault>
-    ensures grown { Grown source.old source.new }
-    ensures stands { IfOk result (λ p. ExprPatternRepresents source.new.node_table p.expr_pattern) }
-    ensures given { Gives (seen_expr_pattern source.new.node_table) result
+    ensures grown { Grown syntax.old syntax.new }
+    ensures stands { IfOk result (λ p. ExprPatternRepresents syntax.new.node_table p.expr_pattern) }
+    ensures given { Gives (seen_expr_pattern syntax.new.node_table) result
         (pattern_with (names_of context.entry) (pattern (names_of context.entry) limit)
         (tokens_in tokens.entry)) }
 {
@@ -80,20 +80,20 @@ fn read_begun<'a, 't>(
     let offset = first.at;
     match first.kind {
         NumberedKind::Integer(n) => put_expr_pattern(
-            source,
+            syntax,
             ExprPatternNode::Integer(n.value as i64),
             rest,
         ),
-        NumberedKind::Text(text) => put_expr_pattern_text(alloc, source, text, rest),
+        NumberedKind::Text(text) => put_expr_pattern_text(alloc, syntax, text, rest),
         NumberedKind::Variable(name) => put_expr_pattern(
-            source,
+            syntax,
             ExprPatternNode::Variable(Ident { name, offset }),
             rest,
         ),
-        NumberedKind::Anonymous => put_expr_pattern(source, ExprPatternNode::Anything, rest),
-        NumberedKind::Mark(mark) => read_marked(alloc, context, source, limit, mark, rest),
+        NumberedKind::Anonymous => put_expr_pattern(syntax, ExprPatternNode::Anything, rest),
+        NumberedKind::Mark(mark) => read_marked(alloc, context, syntax, limit, mark, rest),
         kind => match context.atom(kind) {
-            Some(atom) => put_expr_pattern(source, ExprPatternNode::Atom(atom), rest),
+            Some(atom) => put_expr_pattern(syntax, ExprPatternNode::Atom(atom), rest),
             None => Err(OrNoMemory::Fault(Syntax)),
         },
     }
@@ -104,30 +104,30 @@ fn read_begun<'a, 't>(
 fn read_marked<'a, 't>(
     alloc: Global,
     context: Context,
-    source: &mut SyntaxTree,
+    syntax: &mut SyntaxTree,
     limit: u32,
     first: Mark,
     tokens: Tokens<'a, 't>,
 ) -> Result<ExprPatternPart<'a, 't>, ReadFault>
-    ensures grown { Grown source.old source.new }
-    ensures stands { IfOk result (λ p. ExprPatternRepresents source.new.node_table p.expr_pattern) }
-    ensures given { Gives (seen_expr_pattern source.new.node_table) result
+    ensures grown { Grown syntax.old syntax.new }
+    ensures stands { IfOk result (λ p. ExprPatternRepresents syntax.new.node_table p.expr_pattern) }
+    ensures given { Gives (seen_expr_pattern syntax.new.node_table) result
         (marked_expr_pattern (pattern (names_of context.entry) limit) first (tokens_in tokens.entry)) }
 {
     match first {
-        Mark::Minus => read_negative(source, tokens),
+        Mark::Minus => read_negative(syntax, tokens),
         Mark::OpenBrace => {
             let (parts, rest) = read_expr_patterns(
                 alloc,
                 context,
-                source,
+                syntax,
                 limit,
                 Mark::CloseBrace,
                 tokens,
             )?;
-            put_expr_pattern(source, ExprPatternNode::Tuple(parts), rest)
+            put_expr_pattern(syntax, ExprPatternNode::Tuple(parts), rest)
         }
-        Mark::OpenBracket => read_list(alloc, context, source, limit, tokens),
+        Mark::OpenBracket => read_list(alloc, context, syntax, limit, tokens),
         _ => Err(OrNoMemory::Fault(Syntax)),
     }
 }
@@ -137,29 +137,29 @@ fn read_marked<'a, 't>(
 fn read_list<'a, 't>(
     alloc: Global,
     context: Context,
-    source: &mut SyntaxTree,
+    syntax: &mut SyntaxTree,
     limit: u32,
     tokens: Tokens<'a, 't>,
 ) -> Result<ExprPatternPart<'a, 't>, ReadFault>
-    ensures grown { Grown source.old source.new }
-    ensures stands { IfOk result (λ p. ExprPatternRepresents source.new.node_table p.expr_pattern) }
-    ensures given { Gives (seen_expr_pattern source.new.node_table) result
+    ensures grown { Grown syntax.old syntax.new }
+    ensures stands { IfOk result (λ p. ExprPatternRepresents syntax.new.node_table p.expr_pattern) }
+    ensures given { Gives (seen_expr_pattern syntax.new.node_table) result
         (list_expr_pattern (pattern (names_of context.entry) limit) (tokens_in tokens.entry)) }
 {
     if let Some(rest) = skip(tokens, NumberedKind::Mark(Mark::CloseBracket)) {
-        return put_expr_pattern(source, ExprPatternNode::List(Vec::new(alloc)), rest);
+        return put_expr_pattern(syntax, ExprPatternNode::List(Vec::new(alloc)), rest);
     }
-    let (parts, rest) = read_expr_pattern_items(alloc, context, source, limit, tokens)?;
+    let (parts, rest) = read_expr_pattern_items(alloc, context, syntax, limit, tokens)?;
     match skip(rest, NumberedKind::Mark(Mark::Bar)) {
         None => {
             let rest = behind(rest, NumberedKind::Mark(Mark::CloseBracket))?;
-            put_expr_pattern(source, ExprPatternNode::List(parts), rest)
+            put_expr_pattern(syntax, ExprPatternNode::List(parts), rest)
         }
         Some(rest) => {
-            let tail = read_expr_pattern(alloc, context, source, limit, rest)?;
+            let tail = read_expr_pattern(alloc, context, syntax, limit, rest)?;
             let rest = behind(tail.rest, NumberedKind::Mark(Mark::CloseBracket))?;
             let node = ExprPatternNode::ListOn(parts, tail.expr_pattern);
-            put_expr_pattern(source, node, rest)
+            put_expr_pattern(syntax, node, rest)
         }
     }
 }
@@ -169,15 +169,15 @@ fn read_list<'a, 't>(
 fn read_expr_pattern_items<'a, 't>(
     alloc: Global,
     context: Context,
-    source: &mut SyntaxTree,
+    syntax: &mut SyntaxTree,
     limit: u32,
     tokens: Tokens<'a, 't>,
 ) -> Result<(Vec<ExprPatternId>, Tokens<'a, 't>), ReadFault>
-    ensures grown { Grown source.old source.new }
-    ensures stands { IfOk result (λ x. All (ExprPatternRepresents source.new.node_table) x.0.items) }
+    ensures grown { Grown syntax.old syntax.new }
+    ensures stands { IfOk result (λ x. All (ExprPatternRepresents syntax.new.node_table) x.0.items) }
     ensures given { Gives (λ x. (
       map
-          (expr_pattern_of source.new.node_table) x.0.items,
+          (expr_pattern_of syntax.new.node_table) x.0.items,
       tokens_in x.1,
     )) result
         (items (mark Comma) (pattern (names_of context.entry) limit) (length (tokens_in tokens.entry))
@@ -186,7 +186,7 @@ fn read_expr_pattern_items<'a, 't>(
     let mut found = Vec::new(alloc);
     let mut rest = tokens;
     for _ in 0..tokens.list.len() {
-        let part = read_expr_pattern(alloc, context, source, limit, rest)?;
+        let part = read_expr_pattern(alloc, context, syntax, limit, rest)?;
         found.push(part.expr_pattern)?;
         let Some(after) = skip(part.rest, NumberedKind::Mark(Mark::Comma)) else {
             return Ok((found, part.rest));
@@ -201,16 +201,16 @@ fn read_expr_pattern_items<'a, 't>(
 pub(crate) fn read_expr_patterns<'a, 't>(
     alloc: Global,
     context: Context,
-    source: &mut SyntaxTree,
+    syntax: &mut SyntaxTree,
     limit: u32,
     last: Mark,
     tokens: Tokens<'a, 't>,
 ) -> Result<(Vec<ExprPatternId>, Tokens<'a, 't>), ReadFault>
-    ensures grown { Grown source.old source.new }
-    ensures stands { IfOk result (λ x. All (ExprPatternRepresents source.new.node_table) x.0.items) }
+    ensures grown { Grown syntax.old syntax.new }
+    ensures stands { IfOk result (λ x. All (ExprPatternRepresents syntax.new.node_table) x.0.items) }
     ensures given { Gives (λ x. (
       map
-          (expr_pattern_of source.new.node_table) x.0.items,
+          (expr_pattern_of syntax.new.node_table) x.0.items,
       tokens_in x.1,
     )) result
         (until (mark last) (pattern (names_of context.entry) limit) (tokens_in tokens.entry)) }
@@ -218,7 +218,7 @@ pub(crate) fn read_expr_patterns<'a, 't>(
     if let Some(rest) = skip(tokens, NumberedKind::Mark(last)) {
         return Ok((Vec::new(alloc), rest));
     }
-    let (parts, rest) = read_expr_pattern_items(alloc, context, source, limit, tokens)?;
+    let (parts, rest) = read_expr_pattern_items(alloc, context, syntax, limit, tokens)?;
     let rest = behind(rest, NumberedKind::Mark(last))?;
     Ok((parts, rest))
 }
@@ -241,20 +241,20 @@ fn has_no_match(tokens: Tokens) -> bool
 pub(crate) fn read_match_ahead<'a, 't>(
     alloc: Global,
     context: Context,
-    source: &mut SyntaxTree,
+    syntax: &mut SyntaxTree,
     limit: u32,
     tokens: Tokens<'a, 't>,
 ) -> Result<Option<ExprPatternPart<'a, 't>>, NoMemory>
-    ensures grown { Grown source.old source.new }
+    ensures grown { Grown syntax.old syntax.new }
     ensures stands { IfOk result (λ o. IfSome o
-        (λ p. ExprPatternRepresents source.new.node_table p.expr_pattern)) }
-    ensures given { IfOk result (λ o. option_map (seen_expr_pattern source.new.node_table) o ≡ match_ahead
+        (λ p. ExprPatternRepresents syntax.new.node_table p.expr_pattern)) }
+    ensures given { IfOk result (λ o. option_map (seen_expr_pattern syntax.new.node_table) o ≡ match_ahead
         (pattern (names_of context.entry) limit) (tokens_in tokens.entry)) }
 {
     if has_no_match(tokens) {
         return Ok(None);
     }
-    match read_expr_pattern(alloc, context, source, limit, tokens) {
+    match read_expr_pattern(alloc, context, syntax, limit, tokens) {
         Ok(part) => match skip(part.rest, NumberedKind::Mark(Mark::Match)) {
             Some(rest) => Ok(Some(ExprPatternPart {
                 expr_pattern: part.expr_pattern,

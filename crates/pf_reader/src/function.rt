@@ -23,24 +23,24 @@ use std::alloc::Global;
 fn read_head<'a, 't>(
     alloc: Global,
     context: Context,
-    source: &mut SyntaxTree,
+    syntax: &mut SyntaxTree,
     tokens: Tokens<'a, 't>,
 ) -> Result<(Head, Tokens<'a, 't>), ReadFault>
-    ensures grown { Grown source.old source.new }
-    ensures stands { IfOk result (λ x. HeadRepresents source.new.node_table x.0) }
-    ensures given { Gives (λ x. (head_over source.new.node_table x.0, tokens_in x.1)) result
+    ensures grown { Grown syntax.old syntax.new }
+    ensures stands { IfOk result (λ x. HeadRepresents syntax.new.node_table x.0) }
+    ensures given { Gives (λ x. (head_over syntax.new.node_table x.0, tokens_in x.1)) result
         (head (names_of context.entry) (tokens_in tokens.entry)) }
 {
     let limit = MOST_TREE_DEPTH;
     let last = Mark::CloseParenthesis;
-    let (word, rest) = read_name(context, tokens)?;
+    let (ident, rest) = read_name(context, tokens)?;
     let rest = behind(rest, NumberedKind::Mark(Mark::OpenParenthesis))?;
-    let (parameters, rest) = read_expr_patterns(alloc, context, source, limit, last, rest)?;
-    let (condition, rest) = read_when(alloc, context, source, limit, rest)?;
+    let (parameters, rest) = read_expr_patterns(alloc, context, syntax, limit, last, rest)?;
+    let (condition, rest) = read_when(alloc, context, syntax, limit, rest)?;
     let rest = behind(rest, NumberedKind::Mark(Mark::Arrow))?;
-    let (body, rest) = read_body(alloc, context, source, limit, rest)?;
+    let (body, rest) = read_body(alloc, context, syntax, limit, rest)?;
     let head = Head {
-        word,
+        ident,
         parameters,
         condition,
         body,
@@ -52,19 +52,19 @@ fn read_head<'a, 't>(
 fn read_heads<'a, 't>(
     alloc: Global,
     context: Context,
-    source: &mut SyntaxTree,
+    syntax: &mut SyntaxTree,
     tokens: Tokens<'a, 't>,
 ) -> Result<(Vec<Head>, Tokens<'a, 't>), ReadFault>
-    ensures grown { Grown source.old source.new }
-    ensures stands { IfOk result (λ x. All (HeadRepresents source.new.node_table) x.0.items) }
-    ensures given { Gives (λ x. (map (head_over source.new.node_table) x.0.items, tokens_in x.1)) result
+    ensures grown { Grown syntax.old syntax.new }
+    ensures stands { IfOk result (λ x. All (HeadRepresents syntax.new.node_table) x.0.items) }
+    ensures given { Gives (λ x. (map (head_over syntax.new.node_table) x.0.items, tokens_in x.1)) result
         (items (mark Semicolon) (head (names_of context.entry)) (length (tokens_in tokens.entry))
         (tokens_in tokens.entry)) }
 {
     let mut found = Vec::new(alloc);
     let mut rest = tokens;
     for _ in 0..tokens.list.len() {
-        let (head, behind_it) = read_head(alloc, context, source, rest)?;
+        let (head, behind_it) = read_head(alloc, context, syntax, rest)?;
         found.push(head)?;
         let Some(after) = skip(behind_it, NumberedKind::Mark(Mark::Semicolon)) else {
             return Ok((found, behind_it));
@@ -78,15 +78,15 @@ fn read_heads<'a, 't>(
 fn read_function<'a, 't>(
     alloc: Global,
     context: Context,
-    source: &mut SyntaxTree,
+    syntax: &mut SyntaxTree,
     tokens: Tokens<'a, 't>,
 ) -> Result<(ExprFunction, Tokens<'a, 't>), ReadFault>
-    ensures grown { Grown source.old source.new }
-    ensures stands { IfOk result (λ x. HeadsStand source.new.node_table x.0) }
-    ensures given { Gives (λ x. (heads_over source.new.node_table x.0, tokens_in x.1)) result
+    ensures grown { Grown syntax.old syntax.new }
+    ensures stands { IfOk result (λ x. HeadsStand syntax.new.node_table x.0) }
+    ensures given { Gives (λ x. (heads_over syntax.new.node_table x.0, tokens_in x.1)) result
         (function (names_of context.entry) (tokens_in tokens.entry)) }
 {
-    let (heads, rest) = read_heads(alloc, context, source, tokens)?;
+    let (heads, rest) = read_heads(alloc, context, syntax, tokens)?;
     let rest = behind(rest, NumberedKind::Dot)?;
     Ok((ExprFunction { heads }, rest))
 }
@@ -95,22 +95,22 @@ fn read_function<'a, 't>(
 pub(crate) fn read_functions(
     alloc: Global,
     context: Context,
-    source: &mut SyntaxTree,
+    syntax: &mut SyntaxTree,
     tokens: Tokens,
 ) -> Result<(), ReadFault>
-    ensures given { Gives (λ _. source.new.functions) result
-        (with_first source.old.functions
+    ensures given { Gives (λ _. syntax.new.functions) result
+        (with_first syntax.old.functions
         (functions (names_of context.entry) (length (tokens_in tokens.entry)) (tokens_in tokens.entry))) }
-    ensures name { source.new.name ≡ source.old.name }
-    ensures exports { source.new.exports ≡ source.old.exports }
+    ensures name { syntax.new.name ≡ syntax.old.name }
+    ensures exports { syntax.new.exports ≡ syntax.old.exports }
 {
     let mut rest = tokens;
     for _ in 0..tokens.list.len() {
         if rest.list.is_empty() {
             return Ok(());
         }
-        let (function, after) = read_function(alloc, context, source, rest)?;
-        source.add_function(function)?;
+        let (function, after) = read_function(alloc, context, syntax, rest)?;
+        syntax.add_function(function)?;
         rest = after;
     }
     if rest.list.is_empty() {

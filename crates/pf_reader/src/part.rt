@@ -39,51 +39,51 @@ pub(crate) struct FrontPart<'a, 't> {
 
 /// Adds a pattern.
 pub(crate) fn put_expr_pattern<'a, 't>(
-    source: &mut SyntaxTree,
+    syntax: &mut SyntaxTree,
     node: ExprPatternNode,
     rest: Tokens<'a, 't>,
 ) -> Result<ExprPatternPart<'a, 't>, ReadFault>
-    requires { ExprPatternPartsStand source.old.node_table node }
-    ensures grown { Grown source.old source.new }
-    ensures stands { IfOk result (λ p. ExprPatternRepresents source.new.node_table p.expr_pattern) }
-    ensures given { Gives (seen_expr_pattern source.new.node_table) result
-        (Some (expr_pattern_over source.old.node_table node, tokens_in rest.entry)) }
+    requires { ExprPatternPartsStand syntax.old.node_table node }
+    ensures grown { Grown syntax.old syntax.new }
+    ensures stands { IfOk result (λ p. ExprPatternRepresents syntax.new.node_table p.expr_pattern) }
+    ensures given { Gives (seen_expr_pattern syntax.new.node_table) result
+        (Some (expr_pattern_over syntax.old.node_table node, tokens_in rest.entry)) }
 {
-    let expr_pattern = source.add_expr_pattern(node)?;
+    let expr_pattern = syntax.add_expr_pattern(node)?;
     Ok(ExprPatternPart { expr_pattern, rest })
 }
 
 /// Adds an expression.
 pub(crate) fn put<'a, 't>(
-    source: &mut SyntaxTree,
+    syntax: &mut SyntaxTree,
     node: ExprNode,
     rest: Tokens<'a, 't>,
 ) -> Result<Operand<'a, 't>, ReadFault>
-    requires { ExprPartsStand source.old.node_table node }
-    ensures grown { Grown source.old source.new }
-    ensures stands { IfOk result (λ p. ExprRepresents source.new.node_table p.expr) }
-    ensures given { Gives (seen source.new.node_table) result
-        (Some (expr_over source.old.node_table node, tokens_in rest.entry)) }
+    requires { ExprPartsStand syntax.old.node_table node }
+    ensures grown { Grown syntax.old syntax.new }
+    ensures stands { IfOk result (λ p. ExprRepresents syntax.new.node_table p.expr) }
+    ensures given { Gives (seen syntax.new.node_table) result
+        (Some (expr_over syntax.old.node_table node, tokens_in rest.entry)) }
 {
-    let expr = source.add_expr(node)?;
+    let expr = syntax.add_expr(node)?;
     Ok(Operand { expr, rest })
 }
 
 /// Adds an expression, which may be no deeper than the limit.
 pub(crate) fn put_within<'a, 't>(
-    source: &mut SyntaxTree,
+    syntax: &mut SyntaxTree,
     limit: u32,
     node: ExprNode,
     rest: Tokens<'a, 't>,
 ) -> Result<Operand<'a, 't>, ReadFault>
-    requires { ExprPartsStand source.old.node_table node }
-    ensures grown { Grown source.old source.new }
-    ensures stands { IfOk result (λ p. ExprRepresents source.new.node_table p.expr) }
-    ensures given { Gives (seen source.new.node_table) result
-        (within limit (expr_over source.old.node_table node) (tokens_in rest.entry)) }
+    requires { ExprPartsStand syntax.old.node_table node }
+    ensures grown { Grown syntax.old syntax.new }
+    ensures stands { IfOk result (λ p. ExprRepresents syntax.new.node_table p.expr) }
+    ensures given { Gives (seen syntax.new.node_table) result
+        (within limit (expr_over syntax.old.node_table node) (tokens_in rest.entry)) }
 {
-    let part = put(source, node, rest)?;
-    if source.depth(part.expr) > limit {
+    let part = put(syntax, node, rest)?;
+    if syntax.depth(part.expr) > limit {
         return Err(OrNoMemory::Fault(Syntax));
     }
     Ok(part)
@@ -102,31 +102,31 @@ fn read_characters(alloc: Global, text: &[u8]) -> Result<Vec<u8>, ReadFault>
 /// Adds a pattern that is a string.
 pub(crate) fn put_expr_pattern_text<'a, 't>(
     alloc: Global,
-    source: &mut SyntaxTree,
+    syntax: &mut SyntaxTree,
     text: &[u8],
     rest: Tokens<'a, 't>,
 ) -> Result<ExprPatternPart<'a, 't>, ReadFault>
-    ensures grown { Grown source.old source.new }
-    ensures stands { IfOk result (λ p. ExprPatternRepresents source.new.node_table p.expr_pattern) }
-    ensures given { Gives (seen_expr_pattern source.new.node_table) result
+    ensures grown { Grown syntax.old syntax.new }
+    ensures stands { IfOk result (λ p. ExprPatternRepresents syntax.new.node_table p.expr_pattern) }
+    ensures given { Gives (seen_expr_pattern syntax.new.node_table) result
         (if is_short text.now then Some (patterns.text text.now, tokens_in rest.entry) else None) }
 {
     let characters = read_characters(alloc, text)?;
-    put_expr_pattern(source, ExprPatternNode::Text(characters), rest)
+    put_expr_pattern(syntax, ExprPatternNode::Text(characters), rest)
 }
 
 /// Adds an expression that is a string.
 pub(crate) fn put_text<'a, 't>(
     alloc: Global,
-    source: &mut SyntaxTree,
+    syntax: &mut SyntaxTree,
     text: &[u8],
     rest: Tokens<'a, 't>,
 ) -> Result<Operand<'a, 't>, ReadFault>
-    ensures grown { Grown source.old source.new }
-    ensures stands { IfOk result (λ p. ExprRepresents source.new.node_table p.expr) }
-    ensures given { Gives (seen source.new.node_table) result
+    ensures grown { Grown syntax.old syntax.new }
+    ensures stands { IfOk result (λ p. ExprRepresents syntax.new.node_table p.expr) }
+    ensures given { Gives (seen syntax.new.node_table) result
         (if is_short text.now then Some (expressions.text text.now, tokens_in rest.entry) else None) }
 {
     let characters = read_characters(alloc, text)?;
-    put(source, ExprNode::Text(characters), rest)
+    put(syntax, ExprNode::Text(characters), rest)
 }

@@ -24,7 +24,7 @@ use std::alloc::Global;
 /// A pattern by itself, in a syntax tree of its own.
 #[derive(Drop)]
 pub struct ReadPattern {
-    pub source: SyntaxTree,
+    pub syntax: SyntaxTree,
     pub pattern: ExprPatternId,
 }
 
@@ -46,18 +46,18 @@ fn read_alone(
     context: Context,
     tokens: &[NumberedToken],
 ) -> Result<ReadPattern, ReadFault>
-    ensures stands { IfOk result (λ r. ExprPatternRepresents r.source.node_table r.pattern) }
+    ensures stands { IfOk result (λ r. ExprPatternRepresents r.syntax.node_table r.pattern) }
     ensures given { Gives pattern_of result
         (alone (pattern (names_of context.entry) MOST_TREE_DEPTH (token_list tokens.now))) }
 {
-    let mut source = SyntaxTree::new(alloc, context.own);
+    let mut syntax = SyntaxTree::new(alloc, context.own);
     let tokens = Tokens { list: tokens };
-    let part = read_expr_pattern(alloc, context, &mut source, MOST_TREE_DEPTH, tokens)?;
+    let part = read_expr_pattern(alloc, context, &mut syntax, MOST_TREE_DEPTH, tokens)?;
     if part.rest.first().is_some() {
         return Err(OrNoMemory::Fault(Syntax));
     }
     Ok(ReadPattern {
-        source,
+        syntax,
         pattern: part.expr_pattern,
     })
 }
@@ -71,7 +71,7 @@ pub fn read_pattern(
 ) -> Result<ReadPattern, OrNoMemory<Code>>
     ensures found { IfOk result
         (λ r. DerivesPatternAlone atoms.now (pattern_of r) (map placed_of tokens.now)) }
-    ensures stands { IfOk result (λ r. ExprPatternRepresents r.source.node_table r.pattern) }
+    ensures stands { IfOk result (λ r. ExprPatternRepresents r.syntax.node_table r.pattern) }
 
     // What derives the tokens is read, unless memory runs out.
     ensures only { (q : ExprPattern) → DerivesPatternAlone atoms.now q (map placed_of tokens.now)

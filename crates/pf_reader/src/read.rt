@@ -25,7 +25,7 @@ use std::alloc::Global;
 /// A module as it is read: its syntax tree, and the names of its atoms by number.
 #[derive(Drop)]
 pub struct ReadModule {
-    pub source: SyntaxTree,
+    pub syntax: SyntaxTree,
     pub atoms: AtomTable,
 }
 
@@ -65,13 +65,13 @@ fn read_module(
         return Err(OrNoMemory::Fault(Syntax));
     };
     let context = Context { atoms, own };
-    let mut source = SyntaxTree::new(alloc, own);
-    let rest = read_exports(alloc, context, &mut source, rest)?;
-    read_functions(alloc, context, &mut source, rest)?;
+    let mut syntax = SyntaxTree::new(alloc, own);
+    let rest = read_exports(alloc, context, &mut syntax, rest)?;
+    read_functions(alloc, context, &mut syntax, rest)?;
     if atoms.name(own).len() > MOST_NAME_BYTES {
         return Err(OrNoMemory::Fault(Syntax));
     }
-    Ok(source)
+    Ok(syntax)
 }
 
 /// Why tokens that aren't a module have no tree, in a source that ends at `end`.
@@ -99,7 +99,7 @@ pub fn read_tree(
     tokens: &[Token],
     end: usize,
 ) -> Result<ReadModule, OrNoMemory<Refusal>>
-    ensures found { IfOk result (λ t. DerivesTree (atoms_of (map placed_of tokens.now)) (tree_of t.source)
+    ensures found { IfOk result (λ t. DerivesTree (atoms_of (map placed_of tokens.now)) (tree_of t.syntax)
         (numbered (map placed_of tokens.now))) }
     ensures atoms { IfOk result (λ t. t.atoms ≡ atoms_of (map placed_of tokens.now)) }
 
@@ -111,7 +111,7 @@ pub fn read_tree(
 {
     let (atoms, found) = number_tokens(alloc, tokens)?;
     match read_module(alloc, &atoms, &found) {
-        Ok(source) => Ok(ReadModule { source, atoms }),
+        Ok(syntax) => Ok(ReadModule { syntax, atoms }),
         Err(OrNoMemory::NoMemory) => Err(OrNoMemory::NoMemory),
         Err(OrNoMemory::Fault(Syntax)) => Err(tree_fault(alloc, &atoms, &found, end)),
     }

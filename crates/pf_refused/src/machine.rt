@@ -11,12 +11,14 @@
 //! down({X, N}) -> [N | down({X, N - 1})].
 //! ```
 
-ghost use Rattle.std.specs.Prelude.{◌≡◌, ◌<◌, length, true, IfOk};
+ghost use Rattle.std.specs.Prelude.{◌≡◌, ◌<◌, length, map, true, IfOk, OnErr};
+ghost use Rattle.pf_terms.specs.Term.{value_of};
 ghost use Rattle.pf_syntax.specs.Within.{ClauseRepresents, FunctionClauseRepresents, OperandRepresents, PatternRepresents};
-ghost use Rattle.pf_stepper.specs.Turns.{CanMove};
+ghost use Rattle.pf_stepper.specs.Turns.{CanMove, RunsTurn};
 
 use crate::Answer;
-use pf_stepper::{Act, Machine, Move, PlainInbox};
+use pf_nodes::Pool;
+use pf_stepper::{Act, Machine, Move, PlainInbox, Room};
 use pf_syntax::{
     Builtin, Clause, Function, FunctionClause, FunctionId, Guard, Module, Node, NodeId, Operand,
     Operator, PatternId, PatternNode,
@@ -177,7 +179,13 @@ fn started(alloc: Global) -> Result<Machine, NoMemory>
     add_main(alloc, &mut module)?;
     add_down(alloc, &mut module)?;
     let shared = Arc::new(alloc, module)?;
-    Machine::new(alloc, OWN, shared, FunctionId(0), SmallVec::new(alloc))
+    Machine::new(
+        OWN,
+        shared,
+        FunctionId(0),
+        SmallVec::new(alloc),
+        Room::new(alloc),
+    )
 }
 
 /// The tuple of five times 7.
@@ -209,12 +217,29 @@ fn mail(alloc: Global) -> Result<PlainInbox, Answer> {
     Ok(PlainInbox { messages })
 }
 
+/// The next move of the process within these steps, and how many they were.
+fn moved(
+    alloc: Global,
+    machine: &mut Machine,
+    inbox: &mut PlainInbox,
+    steps: u32,
+) -> Result<(Move, u32), NoMemory>
+    requires { CanMove machine.old.standing }
+    ensures ran { IfOk result (λ r. RunsTurn steps machine.old (map value_of inbox.old.messages.items)
+        r.0 machine.new r.1 (map value_of inbox.new.messages.items)) }
+    ensures spent { OnErr result (CanMove machine.new.standing) }
+{
+    let mut did = Move::Pure;
+    let used = machine.run(alloc, inbox, &mut Pool::new(alloc), steps, &mut did)?;
+    Ok((did, used))
+}
+
 /// Looks at a machine that was refused, and at its inbox, which held n messages.
 fn looked_at(alloc: Global, machine: &mut Machine, inbox: &mut PlainInbox, held: usize) -> Answer
     requires { CanMove machine.old.standing }
 {
     let kept = inbox.messages.len() == held;
-    match machine.run(alloc, inbox, FEW) {
+    match moved(alloc, machine, inbox, FEW) {
         Err(NoMemory) if kept && inbox.messages.len() == held => Answer::Refused,
         _ => Answer::Changed,
     }
@@ -242,7 +267,7 @@ fn goes_on(
     ensures { IfOk result (λ goes. goes ≡ true → CanMove machine.new.standing) }
 {
     let held = inbox.messages.len();
-    let Ok((did, _used)) = machine.run(alloc, inbox, FEW) else {
+    let Ok((did, _used)) = moved(alloc, machine, inbox, FEW) else {
         return Err(looked_at(alloc, machine, inbox, held));
     };
     match did {

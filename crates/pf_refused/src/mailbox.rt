@@ -3,6 +3,7 @@
 use crate::{Answer, pair};
 use pf_mailbox::Mailbox;
 use pf_nodes::Pool;
+use pf_stepper::Inbox;
 use pf_syntax::{Clause, Guard, Module, Operand, PatternNode};
 use pf_terms::{AtomId, AtomTable, NoMemory, Term};
 use std::alloc::Global;
@@ -60,9 +61,11 @@ fn take(
     let before = (mailbox.len(), pool.len());
     mailbox.reset_mark();
     let mut bound = Vec::new(alloc);
+    let mut message = Term::Int(0);
     let Receive { module, clauses } = wanted;
-    match mailbox.select(pool, alloc, module, clauses.as_slice(), &mut bound, 0, 0) {
-        Ok(taken) => Ok(taken.is_some()),
+    let clauses = clauses.as_slice();
+    match mailbox.select(alloc, pool, module, clauses, &mut bound, 0, 0, &mut message) {
+        Ok(picked) => Ok(picked.is_some()),
         Err(NoMemory) => {
             if (mailbox.len(), pool.len()) == before {
                 Err(Answer::Refused)

@@ -1,6 +1,6 @@
 //! Where the choices of a run come from.
 
-ghost use Rattle.std.specs.Prelude.{◌≡◌, IfOk};
+ghost use Rattle.std.specs.Prelude.{◌≡◌, Decides, IfOk};
 ghost use Rattle.pf_model.specs.Meaning as model;
 ghost use Rattle.pf_request.specs.Job.{reseeded};
 ghost use Rattle.pf_request.specs.Request.{count_of, may_weigh};
@@ -62,6 +62,25 @@ impl RunChoices {
                 deliver: *deliver,
             },
             RunChoices::Seed(_) | RunChoices::Schedule(_) => RunChoices::Seed(seed),
+        }
+    }
+
+    /// Whether the choices are the same: of one seed with the same weights or none, or a schedule of the same numbers.
+    pub fn same(&self, other: &RunChoices) -> bool
+        ensures { Decides result (view_of_choices self.now ≡ view_of_choices other.now) }
+    {
+        match (self, other) {
+            (RunChoices::Seed(a), RunChoices::Seed(b)) => a == b,
+            (RunChoices::Schedule(a), RunChoices::Schedule(b)) => a.as_slice() == b.as_slice(),
+            (
+                RunChoices::Weighted { seed, run, deliver },
+                RunChoices::Weighted {
+                    seed: other_seed,
+                    run: other_run,
+                    deliver: other_deliver,
+                },
+            ) => seed == other_seed && run == other_run && deliver == other_deliver,
+            _ => false,
         }
     }
 

@@ -1,12 +1,14 @@
-//! What is asked for of the farm and of a module: calls, orders, requests, and the jobs that requests come to.
+//! What is asked for of the farm and of a module: steps, calls, orders, requests, and the jobs that requests come to.
 #![tactic(auto)]
 
 mod call;
 mod choices;
 mod request;
 mod source;
+mod step;
 
 pub use call::{Call, Order};
 pub use choices::RunChoices;
 pub use request::{Kind, Request, ShortBytes};
 pub use source::Source;
+pub use step::{Chore, Step};

@@ -1,6 +1,6 @@
 //! What is asked for of a module.
 
-ghost use Rattle.std.specs.Prelude.{◌≡◌, IfOk};
+ghost use Rattle.std.specs.Prelude.{◌≡◌, Decides, IfOk};
 ghost use Rattle.pf_request.specs.Job.{reseeded};
 ghost use Rattle.pf_request.specs.Request.{choices_in, count_of, is_within, may_shrink, may_weigh, runs_in};
 ghost use Rattle.pf_request.specs.View.{view_of_choices, view_of_kind, view_of_request};
@@ -72,6 +72,23 @@ impl Kind {
         match self {
             Kind::Run(choices) => choices.reseeded(seed),
             Kind::Shrink { .. } => RunChoices::Seed(seed),
+        }
+    }
+
+    /// Whether the same is asked for: a run by the same choices, or the shrinking of the same schedule within as many runs.
+    pub fn same(&self, other: &Kind) -> bool
+        ensures { Decides result (view_of_kind self.now ≡ view_of_kind other.now) }
+    {
+        match (self, other) {
+            (Kind::Run(a), Kind::Run(b)) => a.same(b),
+            (
+                Kind::Shrink { schedule, runs },
+                Kind::Shrink {
+                    schedule: other_schedule,
+                    runs: other_runs,
+                },
+            ) => runs == other_runs && schedule.as_slice() == other_schedule.as_slice(),
+            _ => false,
         }
     }
 

@@ -151,38 +151,51 @@ module _ (j : Job) where
 
   -- ---- how many events there can be
 
-  -- a job has some number of events, which its limit and its runs bound
-  pub bounded : IsProfile (profile_of j.choices) → (j.runs ≡ zero) ⊎ ((ns : List ℕ) × (j.choices ≡ schedule ns)) → (m : ℕ) × HasEvents j m × (m ≤ max 1 j.runs * j.limit)
-  bounded weighs kept = by j.runs refl kept
+  -- the limit of each of its runs bounds the events of a job
+  pub all_within : (m : ℕ) → HasEvents j m → m ≤ max 1 j.runs * j.limit
+  all_within _ (of_run r e means) = let one = few_events j r means in subst (λ k. length r.events ≤ max 1 k * j.limit) (sym e) (omega arith)
+  all_within _ (of_shrinking k ns fails m e c tells has) =
+      let all = few j (tried fails (suc k) ns) m has in
+      let within = tried_within_runs fails (suc k) ns in
+      subst (λ n. m ≤ max 1 n * j.limit) (sym e) (bound m (length (tried fails (suc k) ns)) k j.limit all within)
     where
-      plain : j.runs ≡ zero → (m : ℕ) × HasEvents j m × (m ≤ max 1 j.runs * j.limit)
-      plain e =
-          let m = one_meaning j weighs in
-          let one = few_events j m.0 m.1 in
-          (length m.0.events, of_run m.0 e m.1, subst (λ k. length m.0.events ≤ max 1 k * j.limit) (sym e) (omega arith))
+      bound : (m l k n : ℕ) → m ≤ l * n → l ≤ suc k → m ≤ max 1 (suc k) * n
+      bound m l k n a b = let more = mul-le l n (max 1 (suc k)) n (omega arith) (omega arith) in omega arith
 
-      shrinking : (k : ℕ) (ns : List ℕ) → j.runs ≡ suc k → j.choices ≡ schedule ns → (m : ℕ) × HasEvents j m × (m ≤ max 1 j.runs * j.limit)
+  -- it has some number of them
+  some_events : IsProfile (profile_of j.choices) → (j.runs ≡ zero) ⊎ ((ns : List ℕ) × (j.choices ≡ schedule ns)) → (m : ℕ) × HasEvents j m
+  some_events weighs kept = by j.runs refl kept
+    where
+      plain : j.runs ≡ zero → (m : ℕ) × HasEvents j m
+      plain e = let m = one_meaning j weighs in (length m.0.events, of_run m.0 e m.1)
+
+      shrinking : (k : ℕ) (ns : List ℕ) → j.runs ≡ suc k → j.choices ≡ schedule ns → (m : ℕ) × HasEvents j m
       shrinking k ns e c =
-          let nss = tried (fails_in j) (suc k) ns in
-          let s = so_many j nss in
-          let all = few j nss s.0 s.1 in
-          let within = tried_within_runs (fails_in j) (suc k) ns in
-          (s.0, of_shrinking k ns (fails_in j) s.0 e c (tells_failures j) s.1, subst (λ n. s.0 ≤ max 1 n * j.limit) (sym e) (bound s.0 (length nss) k j.limit all within))
-        where
-          bound : (m l k n : ℕ) → m ≤ l * n → l ≤ suc k → m ≤ max 1 (suc k) * n
-          bound m l k n a b = let more = mul-le l n (max 1 (suc k)) n (omega arith) (omega arith) in omega arith
+          let s = so_many j (tried (fails_in j) (suc k) ns) in
+          (s.0, of_shrinking k ns (fails_in j) s.0 e c (tells_failures j) s.1)
 
-      by : (k : ℕ) → j.runs ≡ k → (j.runs ≡ zero) ⊎ ((ns : List ℕ) × (j.choices ≡ schedule ns)) → (m : ℕ) × HasEvents j m × (m ≤ max 1 j.runs * j.limit)
+      by : (k : ℕ) → j.runs ≡ k → (j.runs ≡ zero) ⊎ ((ns : List ℕ) × (j.choices ≡ schedule ns)) → (m : ℕ) × HasEvents j m
       by zero e kept = plain e
       by (suc k) e (inl alone) = plain alone
       by (suc k) e (inr s) = shrinking k s.0 e s.1
 
--- so more events can't be left than that
-pub past_bound : (j : request.Job) → IsValid j → (n : ℕ) → GoesPast j n → n < max 1 j.asked.runs * j.asked.limit
-past_bound j valid n past =
-    let b = bounded j.asked (is_profile j.asked.choices valid.weighs) valid.shrinks in
-    let more = past b.0 b.1 in
-    let most = b.2 in
+-- a valid job has some number of events
+pub has_events : (j : request.Job) → IsValid j → (m : ℕ) × HasEvents j.asked m
+has_events j valid = some_events j.asked (is_profile j.asked.choices valid.weighs) valid.shrinks
+
+-- whatever number of events a job has is above n
+abbrev pub HasNoFewer : request.Job → ℕ → Type 0
+HasNoFewer j n = (m : ℕ) → HasEvents j.asked m → n < m
+
+-- so a valid job has more than n
+pub has_more : (j : request.Job) → IsValid j → (n : ℕ) → HasNoFewer j n → GoesPast j n
+has_more j valid n past = let h = has_events j valid in (h.0, h.1, past h.0 h.1)
+
+-- more events can't be left than its limit and its runs bound
+pub past_bound : (j : request.Job) (n : ℕ) → GoesPast j n → n < max 1 j.asked.runs * j.asked.limit
+past_bound j n past =
+    let most = all_within j.asked past.0 past.1 in
+    let more = past.2 in
     omega arith
 
 -- few events are those before a hunt's next run

@@ -8,4 +8,5 @@ pub mod Tries
 pub mod Hunted
 pub mod Ended
 pub mod Shrunk
+mod SystemCrossing
 pub mod Crossing

@@ -16,6 +16,14 @@ within_steps m _ _ _ _ _ _ (more ps n c x p ts d k e pass rest) =
     let more = within_steps m (later ps) (suc n - p.used) p.after ts d k rest in
     omega arith
 
+-- so there are no more transitions than steps
+pub as_many_steps : (m : Module) (ps : Picks) (n : ℕ) (c : Configuration) (ts : List Transition) (d : Configuration) (k : ℕ) → Goes m ps n c ts d k → length ts ≤ k
+as_many_steps m _ _ _ _ _ _ (stays ps n c) = omega arith
+as_many_steps m _ _ _ _ _ _ (more ps n c x p ts d k e pass rest) =
+    let one = pass_uses m n c x p pass in
+    let more = as_many_steps m (later ps) (suc n - p.used) p.after ts d k rest in
+    omega arith
+
 module _ (m : Module) where
   -- no transition was made
   record None (n : ℕ) (c : Configuration) (d : Configuration) (k : ℕ) : Type 0 where

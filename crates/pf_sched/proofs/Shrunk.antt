@@ -1,26 +1,26 @@
 -- Shrinkings as far as they came.
 use Rattle.std.proofs.Common.{◌≡◌, ℕ, zero, suc, ◌+◌, ◌-◌, ◌<◌, ◌≤◌, Bool, true, false, List, [], ◌∷◌, length, Option, Some, None, refl, sym, ap, ◌∙◌, subst, arith, if◌then◌else◌}
-use Rattle.std.proofs.lemmas.List.{length-map}
 use Rattle.rand_pcg.specs.Lcg.{Lcg}
+use Rattle.pf_terms.specs.Atoms.{name_of}
 use Rattle.pf_choice.specs.declared.choices.Choices.{Choices}
 use Rattle.pf_model.specs.Meaning.{Means, schedule}
 use Rattle.pf_model.specs.Meaning as meaning
-use Rattle.pf_model.specs.Reports.{event_of, report_of}
 use Rattle.pf_model.specs.Shrinking.{by_schedule, candidates, is_failure}
-use Rattle.pf_model.specs.declared.report.Report.{Report}
 use Rattle.pf_shrink.specs.Hunts.{Hunting, begins, searches, ended, searching, next_of, told_of}
 use Rattle.pf_request.specs.Job.{Job}
+use Rattle.pf_trace.specs.Written.{AreWritten, events_of, report_in}
+use Rattle.pf_trace.specs.declared.lines.WrittenReport.{WrittenReport}
 use Rattle.pf_sched.specs.declared.progress.Progress.{Progress}
 use Rattle.pf_sched.specs.declared.run.Run.{Run}
 use Rattle.pf_sched.specs.declared.shrinking.Advance.{Advance}
 use Rattle.pf_sched.specs.declared.shrinking.Advance.TheVariants as advance
 use Rattle.pf_sched.specs.declared.shrinking.Shrinking.{Shrinking}
-use Rattle.pf_sched.specs.Parts.{IsHuntOf, IsRunBy, IsShrinkingOf, KeepsReport, events_so_far, stands_at}
-use Rattle.pf_sched.specs.Slices.{Advances, EndsBy, Follows, GoesOn, GoesPast, IsOver, OpensNext, RunAdvances, runs_left}
+use Rattle.pf_sched.specs.Asked.{IsValid}
+use Rattle.pf_sched.specs.Parts.{IsHuntOf, IsRunBy, IsShrinkingOf, KeepsReport, events_in, events_so_far, stands_at}
+use Rattle.pf_sched.specs.Slices.{Advances, ComesTo, Follows, GoesOn, IsOver, OpensNext, RunAdvances, runs_left}
 use Rattle.pf_sched.specs.Traces.{Makes}
-use Rattle.pf_sched.specs.Views.{result_of}
 use Rattle.pf_sched.proofs.Sliced.{run_goes_past}
-use Rattle.pf_sched.proofs.Hunted.{hunt_begins, hunt_told, hunt_goes_past, stands_at_failed, stands_as_it_was}
+use Rattle.pf_sched.proofs.Hunted.{HasNoFewer, has_more, hunt_begins, hunt_told, hunt_goes_past, stands_at_failed, stands_as_it_was}
 
 -- ---- the next schedule
 
@@ -55,10 +55,10 @@ some_runs (ended f) ns e = absurd (cc)
 
 module _ (j : meaning.Job) where
   -- that of the schedule that failed, or the one from before
-  pub keeps_on : (h : Hunting) (ns : List ℕ) → next_of h ≡ Some ns → (kept : Option Report) (r : Report) → Means (by_schedule j ns) (report_of r)
-      → KeepsReport j (stands_at h) kept → (b : Bool) → KeepsReport j (stands_at (told_of b h)) (if b then Some r else kept)
-  keeps_on h ns e kept r means k true = subst (λ o. KeepsReport j o (Some r)) (sym (stands_at_failed h ns e)) means
-  keeps_on h ns e kept r means k false = subst (λ o. KeepsReport j o kept) (sym (stands_as_it_was h ns e)) k
+  pub keeps_on : (h : Hunting) (ns : List ℕ) → next_of h ≡ Some ns → (kept : Option WrittenReport) (r : WrittenReport) → Means (by_schedule j ns) (report_in r)
+      → AreWritten (name_of j.code.atoms) r.lines → KeepsReport j (stands_at h) kept → (b : Bool) → KeepsReport j (stands_at (told_of b h)) (if b then Some r else kept)
+  keeps_on h ns e kept r means written k true = subst (λ o. KeepsReport j o (Some r)) (sym (stands_at_failed h ns e)) (means, written)
+  keeps_on h ns e kept r means written k false = subst (λ o. KeepsReport j o kept) (sym (stands_as_it_was h ns e)) k
 
 module _ (j : Job) where
   -- with another run by the same schedule
@@ -69,9 +69,10 @@ module _ (j : Job) where
       subst (IsShrinkingOf j) (sym e) same
 
   -- where its run isn't over it has more events
-  pub shrinking_goes_past : (s : Shrinking) → IsShrinkingOf j s → (IsOver j.asked.limit s.run → ⊥) → GoesPast j (events_so_far s)
+  pub shrinking_goes_past : (s : Shrinking) → IsShrinkingOf j s → (IsOver j.asked.limit s.run.execution → ⊥) → HasNoFewer j (events_so_far s)
   shrinking_goes_past s x going m has =
-      hunt_goes_past j.asked s.hunt s.before x.hunt x.next x.is_next (length s.run.events.items) (run_goes_past j (schedule x.next) s.run x.run going) m has
+      hunt_goes_past j.asked s.hunt s.before x.hunt x.next x.is_next (length (events_in s.run))
+      (λ r means. run_goes_past j (schedule x.next) (events_in s.run) s.run.execution x.run.run going r means) m has
 
   -- before its first event
   pub shrinking_begins : (h : Hunting) (r : Run) (c : Progress) (runs : ℕ) (ns items : List ℕ) → 0 < runs → j.asked.runs ≡ runs → j.asked.choices ≡ schedule ns → items ≡ ns
@@ -84,57 +85,57 @@ module _ (j : Job) where
       subst (λ z. IsShrinkingOf j (record { hunt = z; run = r; report = None; before = zero; progress = c })) begun first
 
   -- after a run the hunt was told the truth
-  pub hunt_goes_on : (s : Shrinking) (x : IsShrinkingOf j s) (r : Report) → Means (by_schedule j.asked x.next) (report_of r)
-      → length r.events.items ≡ length s.run.events.items → (h : Hunting) → h ≡ told_of (is_failure r.verdict) s.hunt → (behind : ℕ) → behind ≡ events_so_far s
+  pub hunt_goes_on : (s : Shrinking) (x : IsShrinkingOf j s) (r : WrittenReport) → Means (by_schedule j.asked x.next) (report_in r)
+      → events_of r.lines ≡ events_in s.run → (h : Hunting) → h ≡ told_of (is_failure r.verdict) s.hunt → (behind : ℕ) → behind ≡ events_so_far s
       → IsHuntOf j.asked h behind
   hunt_goes_on s x r means same h told behind count =
-      let told_it = hunt_told j.asked s.hunt s.before x.hunt x.next x.is_next (report_of r) means in
-      let events : length (report_of r).events ≡ length r.events.items = length-map r.events.items event_of in
-      let at : s.before + length (report_of r).events ≡ behind = omega arith in
+      let told_it : IsHuntOf j.asked (told_of (is_failure r.verdict) s.hunt) (s.before + length (events_of r.lines)) =
+      hunt_told j.asked s.hunt s.before x.hunt x.next x.is_next (report_in r) means in
+      let at : s.before + length (events_of r.lines) ≡ behind = ap (λ es. s.before + length es) same ∙ sym count in
       subst (λ z. IsHuntOf j.asked z behind) (sym told) (subst (IsHuntOf j.asked (told_of (is_failure r.verdict) s.hunt)) at told_it)
 
   -- and a report is kept of where it stands
-  pub report_goes_on : (s : Shrinking) (x : IsShrinkingOf j s) (r : Report) → Means (by_schedule j.asked x.next) (report_of r)
-      → (h : Hunting) → h ≡ told_of (is_failure r.verdict) s.hunt → (kept : Option Report) → kept ≡ (if is_failure r.verdict then Some r else s.report)
-      → KeepsReport j.asked (stands_at h) kept
-  report_goes_on s x r means h told kept is =
-      let k = keeps_on j.asked s.hunt x.next x.is_next s.report r means x.report (is_failure r.verdict) in
+  pub report_goes_on : (s : Shrinking) (x : IsShrinkingOf j s) (r : WrittenReport) → Means (by_schedule j.asked x.next) (report_in r)
+      → AreWritten (name_of j.asked.code.atoms) r.lines → (h : Hunting) → h ≡ told_of (is_failure r.verdict) s.hunt
+      → (kept : Option WrittenReport) → kept ≡ (if is_failure r.verdict then Some r else s.report) → KeepsReport j.asked (stands_at h) kept
+  report_goes_on s x r means written h told kept is =
+      let k = keeps_on j.asked s.hunt x.next x.is_next s.report r means written x.report (is_failure r.verdict) in
       subst (λ z. KeepsReport j.asked (stands_at z) kept) (sym told)
       (subst (KeepsReport j.asked (stands_at (told_of (is_failure r.verdict) s.hunt))) (sym is) k)
 
-  module _ (s t : Shrinking) (x : IsShrinkingOf j s) (limit turns : ℕ) (same : limit ≡ j.asked.limit) (rest : t ≡ record s { run = t.run }) where
+  module _ (s t : Shrinking) (x : IsShrinkingOf j s) (turns : ℕ) (rest : t ≡ record s { run = t.run }) where
     before_same : t.before ≡ s.before
     before_same = ap (λ z. z.before) rest
 
     -- its run isn't over
-    pub goes_further : (over : Bool) → over ≡ false → RunAdvances limit s.run t.run turns over → GoesOn j (events_so_far s + turns) (advance.More t)
-    goes_further over off went =
-        let a = went j (schedule x.next) (sym same) x.run in
-        let b : Advances (length s.run.events.items) (length t.run.events.items) turns false (IsOver limit t.run) =
-        subst (λ v. Advances (length s.run.events.items) (length t.run.events.items) turns v (IsOver limit t.run)) off a.1 in
+    pub goes_further : IsValid j → (over : Bool) → over ≡ false → RunAdvances j s.run t.run turns over → GoesOn j (events_so_far s + turns) (advance.More t)
+    goes_further valid over off went =
+        let a = went (schedule x.next) x.run in
+        let b : Advances (length (events_in s.run)) (length (events_in t.run)) turns false (IsOver j.asked.limit t.run.execution) =
+        subst (λ v. Advances (length (events_in s.run)) (length (events_in t.run)) turns v (IsOver j.asked.limit t.run.execution)) off a.1 in
         let y = with_run s t x rest a.0 in
         let e = before_same in
         let count = b.0 in
         let at : events_so_far t ≡ events_so_far s + turns = omega arith in
-        (y, at, subst (GoesPast j) at (shrinking_goes_past t y (subst (λ n. IsOver n t.run → ⊥) same b.1)))
+        (y, at, has_more j valid (events_so_far s + turns) (subst (HasNoFewer j) at (shrinking_goes_past t y b.1)))
 
     -- or it is
     pub record AtEdge : Type 0 where
       pub shrinking : IsShrinkingOf j t
-      pub over : IsOver j.asked.limit t.run
-      pub from : length s.run.events.items ≤ length t.run.events.items
-      pub within : length t.run.events.items ≤ length s.run.events.items + turns
+      pub over : IsOver j.asked.limit t.run.execution
+      pub from : length (events_in s.run) ≤ length (events_in t.run)
+      pub within : length (events_in t.run) ≤ length (events_in s.run) + turns
       pub before : t.before ≡ s.before
       pub hunt : t.hunt ≡ s.hunt
 
-    pub at_edge : (over : Bool) → over ≡ true → RunAdvances limit s.run t.run turns over → AtEdge
+    pub at_edge : (over : Bool) → over ≡ true → RunAdvances j s.run t.run turns over → AtEdge
     at_edge over on went =
-        let a = went j (schedule x.next) (sym same) x.run in
-        let b : Advances (length s.run.events.items) (length t.run.events.items) turns true (IsOver limit t.run) =
-        subst (λ v. Advances (length s.run.events.items) (length t.run.events.items) turns v (IsOver limit t.run)) on a.1 in
+        let a = went (schedule x.next) x.run in
+        let b : Advances (length (events_in s.run)) (length (events_in t.run)) turns true (IsOver j.asked.limit t.run.execution) =
+        subst (λ v. Advances (length (events_in s.run)) (length (events_in t.run)) turns v (IsOver j.asked.limit t.run.execution)) on a.1 in
         record {
           shrinking = with_run s t x rest a.0;
-          over = subst (λ n. IsOver n t.run) same b.2;
+          over = b.2;
           from = b.0;
           within = b.1;
           before = before_same;
@@ -144,4 +145,4 @@ module _ (j : Job) where
   -- what follows, told by other numbers
   pub follows_so : (n m k l : ℕ) → n ≡ m → k ≤ l → (p : Advance) → Follows j n k p → Follows j m l p
   follows_so n m k l e h (advance.More s) f = (f.0, f.1 ∙ e, (let few = f.2 in omega arith))
-  follows_so n m k l e h (advance.Over r) f = subst (λ z. EndsBy j z (result_of r)) e f
+  follows_so n m k l e h (advance.Over r) f = subst (λ z. ComesTo j z r) e f

@@ -1,96 +1,133 @@
 -- What a slice leaves of the run of a job.
-use Rattle.std.proofs.Common.{◌≡◌, ◌⊎◌, inl, inr, ℕ, zero, suc, ◌+◌, ◌-◌, ◌<◌, ◌≤◌, Bool, true, false, length, Some, sym, ap, ◌∙◌, subst, arith}
+use Rattle.std.proofs.Common.{◌≡◌, ◌⊎◌, inl, inr, ℕ, zero, suc, ◌+◌, ◌-◌, ◌<◌, ◌≤◌, Bool, true, false, List, length, Some, sym, ap, ◌∙◌, subst, arith}
 use Rattle.std.specs.Prelude.{MatchBool}
 use Rattle.std.proofs.lemmas.List.{length-map}
+use Rattle.pf_terms.specs.Atoms.{name_of}
 use Rattle.pf_model.specs.Configuration.{Configuration}
 use Rattle.pf_model.specs.Meaning as meaning
 use Rattle.pf_model.specs.Meaning.{Means, picks_of}
-use Rattle.pf_model.specs.Reports.{event_of, report_of}
+use Rattle.pf_model.specs.Properties.{some_label}
 use Rattle.pf_model.specs.Runs.{Stops, start}
 use Rattle.pf_model.specs.Shrinking as shrinking
-use Rattle.pf_model.specs.declared.report.Report.{Report}
+use Rattle.pf_property.specs.Judging.{rules_out}
+use Rattle.pf_property.specs.Views.{labels_in, property_of}
 use Rattle.pf_system.specs.View.{SystemView}
 use Rattle.pf_request.specs.Job.{Job}
+use Rattle.pf_trace.specs.Written.{AreWritten, AreWrittenSoFar, events_of, report_in, told_so_far}
+use Rattle.pf_trace.specs.declared.lines.WrittenReport.{WrittenReport}
+use Rattle.pf_sched.specs.Asked.{IsValid}
 use Rattle.pf_sched.specs.Events.{of_run, of_shrinking}
-use Rattle.pf_sched.specs.Parts.{IsRunBy, IsRunOf}
-use Rattle.pf_sched.specs.Slices.{Advances, EndsBy, GoesPast, IsOver, RunAdvances}
+use Rattle.pf_sched.specs.Parts.{Executes, IsRunBy, IsRunOf, events_in}
+use Rattle.pf_sched.specs.Slices.{Advances, Continues, EndsBy, GoesPast, IsOver, IsReportBy, RunAdvances}
+use Rattle.pf_sched.specs.Told.{Writes}
 use Rattle.pf_sched.specs.Views.{without_memory}
+use Rattle.pf_sched.specs.declared.execution.Execution.{Execution}
 use Rattle.pf_sched.specs.declared.run.Run as code
+use Rattle.pf_sched.specs.declared.trace.Writer.{Writer}
+use Rattle.pf_sched.proofs.Hunted.{HasNoFewer, has_more}
 use Rattle.pf_sched.proofs.Past.{longer, within_steps}
 use Rattle.pf_sched.proofs.Reported.{one_stands}
 
 -- as many events as transitions
-made : (j : Job) (cs : meaning.Choices) (r : code.Run) (g : IsRunBy j cs r) → length r.events.items ≡ length g.transitions
-made j cs r g = sym (length-map r.events.items event_of) ∙ ap length g.events ∙ length-map g.transitions meaning.event_of
+pub made : (j : Job) (cs : meaning.Choices) (es : List meaning.Event) (x : Execution) (g : Executes j cs es x) → length es ≡ length g.transitions
+made j cs es x g = ap length g.events ∙ length-map g.transitions meaning.event_of
 
 -- a run that isn't over has more events to come
-pub run_goes_past : (j : Job) (cs : meaning.Choices) (r : code.Run) → IsRunBy j cs r → (IsOver j.asked.limit r → ⊥)
-    → (report : meaning.Report) → Means (record j.asked { choices = cs }) report → length r.events.items < length report.events
-run_goes_past j cs r g going report h = omega (arith, more, made j cs r g, all)
+pub run_goes_past : (j : Job) (cs : meaning.Choices) (es : List meaning.Event) (x : Execution) → Executes j cs es x → (IsOver j.asked.limit x → ⊥)
+    → (report : meaning.Report) → Means (record j.asked { choices = cs }) report → length es < length report.events
+run_goes_past j cs es x g going report h = omega (arith, more, made j cs es x g, all)
   where
     more : length g.transitions < length h.transitions
     more =
-        longer j.asked.code (picks_of cs) j.asked.limit (start j.asked.root j.asked.edition) g.transitions g.last r.system.steps g.goes (λ stops. going (g.last, g.stands, stops))
+        longer j.asked.code (picks_of cs) j.asked.limit (start j.asked.root j.asked.edition) g.transitions g.last x.system.steps g.goes (λ stops. going (g.last, g.stands, stops))
         h.transitions h.last report.steps h.run.goes h.run.stops
 
     all : length report.events ≡ length h.transitions
     all = ap (λ z. length z.events) h.report ∙ length-map h.transitions meaning.event_of
 
 -- few events are those of a run so far
-pub few_so_far : (j : Job) (cs : meaning.Choices) (r : code.Run) → IsRunBy j cs r → length r.events.items ≤ j.asked.limit
-few_so_far j cs r g = omega (arith, made j cs r g, within)
+pub few_so_far : (j : Job) (cs : meaning.Choices) (es : List meaning.Event) (x : Execution) → Executes j cs es x → length es ≤ j.asked.limit
+few_so_far j cs es x g = omega (arith, made j cs es x g, within)
   where
     within : length g.transitions ≤ j.asked.limit
-    within = within_steps j.asked.code (picks_of cs) j.asked.limit (start j.asked.root j.asked.edition) g.transitions g.last r.system.steps g.goes
+    within = within_steps j.asked.code (picks_of cs) j.asked.limit (start j.asked.root j.asked.edition) g.transitions g.last x.system.steps g.goes
 
 -- so has the job, where it is no shrinking
-goes_past : (j : Job) (r : code.Run) → IsRunOf j r → (IsOver j.asked.limit r → ⊥) → GoesPast j (length r.events.items)
-goes_past j r run going _ (of_run report e h) = run_goes_past j j.asked.choices r run.1 going report h
-goes_past j r run going m (of_shrinking k ns fails _ e c tells has) = absurd (let no : j.asked.runs ≡ zero = run.0 in let some : j.asked.runs ≡ suc k = e in cc)
+goes_past : (j : Job) (es : List meaning.Event) (x : Execution) → j.asked.runs ≡ zero → Executes j j.asked.choices es x → (IsOver j.asked.limit x → ⊥) → HasNoFewer j (length es)
+goes_past j es x plain g going _ (of_run report e h) = run_goes_past j j.asked.choices es x g going report h
+goes_past j es x plain g going m (of_shrinking k ns fails _ e c tells has) = absurd (let some : j.asked.runs ≡ suc k = e in cc)
 
 -- where n events were made, a test of where the run stands says whether it is over
-pub ended : (limit before turns : ℕ) (r : code.Run) (c : Configuration) → r.system.standing ≡ Some c → length r.events.items ≡ before + turns → (over : Bool)
-    → MatchBool over (Stops (limit - r.system.steps) c) (Stops (limit - r.system.steps) c → ⊥) → Advances before (length r.events.items) turns over (IsOver limit r)
-ended limit before turns r c stands count true stops = (omega arith, omega arith, (c, stands, stops))
-ended limit before turns r c stands count false goes = (count, λ over. goes (subst (Stops (limit - r.system.steps)) (one_stands r.system.standing over.0 c over.1 stands) over.2))
+pub ended : (limit before after turns : ℕ) (x : Execution) (c : Configuration) → x.system.standing ≡ Some c → after ≡ before + turns → (over : Bool)
+    → MatchBool over (Stops (limit - x.system.steps) c) (Stops (limit - x.system.steps) c → ⊥) → Advances before after turns over (IsOver limit x)
+ended limit before after turns x c stands count true stops = (omega arith, omega arith, (c, stands, stops))
+ended limit before after turns x c stands count false goes = (count, λ over. goes (subst (Stops (limit - x.system.steps)) (one_stands x.system.standing over.0 c over.1 stands) over.2))
 
 -- so it is where the system has other spare nodes
-pub advances_alike : (limit turns : ℕ) (old new : code.Run) (s t : SystemView) → s ≡ old.system → t ≡ new.system → (over : Bool)
-    → RunAdvances limit (record old { system = s }) new turns over → RunAdvances limit old (record new { system = t }) turns over
-advances_alike limit turns old new s t e f over went =
-    subst (λ z. RunAdvances limit old (record new { system = z }) turns over) (sym f)
-    (subst (λ z. RunAdvances limit (record old { system = z }) new turns over) e went)
+pub continues_alike : {T : Type 0} (Told : T → meaning.Job → List meaning.Event → Type 0) (limit turns : ℕ) (old new : Execution) (t u : T) (s r : SystemView) → s ≡ old.system → r ≡ new.system
+    → (over : Bool) → Continues Told limit (record old { system = s }) t new u turns over → Continues Told limit old t (record new { system = r }) u turns over
+continues_alike Told limit turns old new t u s r e f over went =
+    subst (λ z. Continues Told limit old t (record new { system = z }) u turns over) (sym f)
+    (subst (λ z. Continues Told limit (record old { system = z }) t new u turns over) e went)
+
+-- a run has the events that its trace was told
+pub advances_written : (j : Job) (turns limit : ℕ) → limit ≡ j.asked.limit → (old new : code.Run) (t u : Writer) → property_of t.property.now ≡ j.asked.property
+    → t.atoms.now ≡ j.asked.code.atoms → t.written ≡ old.written → u.written ≡ new.written → (over : Bool)
+    → Continues Writes limit old.execution t new.execution u turns over → RunAdvances j old new turns over
+advances_written j turns limit same old new t u property atoms before after over went cs run = (
+  record { run = subst (λ es. Executes j cs es new.execution) (sym events) w.1; written = written; ruled_out = ruled_out },
+  subst (λ n. Advances (length (events_in old)) n turns over (IsOver j.asked.limit new.execution)) (ap length (sym events))
+      (subst (λ l. Advances (length (events_in old)) (length w.0) turns over (IsOver l new.execution)) same w.3),
+)
+  where
+    lines : AreWrittenSoFar (name_of t.atoms.now) t.written.lines
+    lines =
+        subst (λ x. AreWrittenSoFar (name_of t.atoms.now) x.lines) (sym before)
+        (subst (λ ns. AreWrittenSoFar (name_of ns) old.written.lines) (sym atoms) run.written)
+
+    told : Writes t j.asked (events_in old)
+    told = ((property, ap (λ x. x.ruled_out) before ∙ run.ruled_out), atoms, ap (λ x. told_so_far x.lines) before, lines)
+
+    w : (es : List meaning.Event) × Executes j cs es new.execution × Writes u j.asked es × Advances (length (events_in old)) (length es) turns over (IsOver limit new.execution)
+    w = went j cs (events_in old) (sym same) run.run told
+
+    events : events_in new ≡ w.0
+    events = ap (λ x. told_so_far x.lines) (sym after) ∙ w.2.2
+
+    written : AreWrittenSoFar (name_of j.asked.code.atoms) new.written.lines
+    written =
+        subst (λ x. AreWrittenSoFar (name_of j.asked.code.atoms) x.lines) after
+        (subst (λ ns. AreWrittenSoFar (name_of ns) u.written.lines) w.2.1 w.2.3)
+
+    ruled_out : new.written.ruled_out ≡ some_label (rules_out j.asked.property) (labels_in (events_in new))
+    ruled_out =
+        ap (λ x. x.ruled_out) (sym after) ∙ w.2.0.1 ∙ ap (λ es. some_label (rules_out j.asked.property) (labels_in es)) (sym events)
 
 -- if it isn't over the job goes on after n events more, and has more than those
-pub goes_on : (j : Job) (before turns limit : ℕ) (new : code.Run) → limit ≡ j.asked.limit → j.asked.runs ≡ zero → (over : Bool) → over ≡ false
-    → IsRunBy j j.asked.choices new × Advances before (length new.events.items) turns over (IsOver limit new)
-    → (length new.events.items ≡ before + turns) × GoesPast j (before + turns)
-goes_on j before turns limit new same plain over off went =
-    let a : Advances before (length new.events.items) turns false (IsOver limit new) =
-    subst (λ b. Advances before (length new.events.items) turns b (IsOver limit new)) off went.1 in
-    let past = goes_past j new (plain, went.0) (subst (λ n. IsOver n new → ⊥) same a.1) in
-    (a.0, subst (GoesPast j) a.0 past)
+pub goes_on : (j : Job) → IsValid j → (before turns : ℕ) (run : code.Run) → j.asked.runs ≡ zero → IsRunBy j j.asked.choices run → (over : Bool) → over ≡ false
+    → Advances before (length (events_in run)) turns over (IsOver j.asked.limit run.execution) → (length (events_in run) ≡ before + turns) × GoesPast j (before + turns)
+goes_on j valid before turns run plain is over off went =
+    let a : Advances before (length (events_in run)) turns false (IsOver j.asked.limit run.execution) =
+    subst (λ b. Advances before (length (events_in run)) turns b (IsOver j.asked.limit run.execution)) off went in
+    (a.0, has_more j valid (before + turns) (subst (HasNoFewer j) a.0 (goes_past j (events_in run) run.execution plain is.run a.1)))
 
 -- the report of a run that is over is what the job comes to, where it is no shrinking
-pub run_ends : (j k : Job) → k ≡ j → (run : code.Run) → IsRunOf j run → IsOver j.asked.limit run → (r : Report)
-    → ((cs : meaning.Choices) → IsRunBy k cs run → IsOver k.asked.limit run
-    → Means (record k.asked { choices = cs }) (report_of r) × (length r.events.items ≡ length run.events.items))
-    → EndsBy j (length run.events.items) (shrinking.report (report_of r))
+pub run_ends : (j k : Job) → k ≡ j → (run : code.Run) → IsRunOf j run → IsOver j.asked.limit run.execution → (r : WrittenReport)
+    → ((cs : meaning.Choices) → IsRunBy k cs run → IsOver k.asked.limit run.execution → IsReportBy k cs r × (events_of r.lines ≡ events_in run))
+    → EndsBy j (length (events_in run)) (shrinking.report (report_in r)) × AreWritten (name_of j.asked.code.atoms) r.lines
 run_ends j k e run going over r told =
     let h =
-    subst (λ z. (cs : meaning.Choices) → IsRunBy z cs run → IsOver z.asked.limit run
-    → Means (record z.asked { choices = cs }) (report_of r) × (length r.events.items ≡ length run.events.items)) e told j.asked.choices going.1 over in
-    let same = h.1 in
-    let events : length (report_of r).events ≡ length r.events.items = length-map r.events.items event_of in
-    (shrinking.plain (report_of r) going.0 h.0, (length (report_of r).events, of_run (report_of r) going.0 h.0, omega arith))
+    subst (λ z. (cs : meaning.Choices) → IsRunBy z cs run → IsOver z.asked.limit run.execution → IsReportBy z cs r × (events_of r.lines ≡ events_in run)) e told
+    j.asked.choices going.1 over in
+    let count : length (events_of r.lines) ≡ length (events_in run) = ap length h.1 in
+    let within : length (events_of r.lines) ≤ length (events_in run) = omega arith in
+    ((shrinking.plain (report_in r) going.0 h.0.0, (length (events_of r.lines), of_run (report_in r) going.0 h.0.0, within)), h.0.1)
 
 -- where it is over it has n events at most
-pub is_over : (j : Job) (before turns limit : ℕ) (new : code.Run) → limit ≡ j.asked.limit → (over : Bool) → over ≡ true
-    → IsRunBy j j.asked.choices new × Advances before (length new.events.items) turns over (IsOver limit new)
-    → IsOver j.asked.limit new × (length new.events.items ≤ before + turns)
-is_over j before turns limit new same over on went =
-    let a : Advances before (length new.events.items) turns true (IsOver limit new) =
-    subst (λ b. Advances before (length new.events.items) turns b (IsOver limit new)) on went.1 in
+pub is_over : (j : Job) (before after turns limit : ℕ) (new : Execution) → limit ≡ j.asked.limit → (over : Bool) → over ≡ true
+    → Advances before after turns over (IsOver limit new) → IsOver j.asked.limit new × (after ≤ before + turns)
+is_over j before after turns limit new same over on went =
+    let a : Advances before after turns true (IsOver limit new) = subst (λ b. Advances before after turns b (IsOver limit new)) on went in
     (subst (λ n. IsOver n new) same a.2, a.1)
 
 -- what ends by n events ends by more

@@ -5,11 +5,11 @@ use Rattle.pf_sched.specs.declared.parked.Parked.TheInside as parked
 use Rattle.pf_sched.specs.declared.parked.Work.{Work}
 use Rattle.pf_sched.specs.declared.parked.Work.TheVariants as work
 use Rattle.pf_sched.specs.Views.{ParkedView, view_of_parked}
-use Rattle.pf_sched.specs.Parts.{IsRunOf, IsShrinkingOf, events_so_far}
+use Rattle.pf_sched.specs.Parts.{IsRunOf, IsShrinkingOf, events_in, events_so_far}
 
 -- the events so far
 abbrev pub at_of : Work → ℕ
-at_of (work.Run run) = length run.events.items
+at_of (work.Run run) = length (events_in run)
 at_of (work.Shrinking shrinking) = events_so_far shrinking
 
 abbrev pub parked_in : parked.Inside → ParkedView

@@ -1,9 +1,12 @@
 pub mod Views
 pub mod Asked
 pub mod InJob
+pub mod Told
 pub mod Traces
 pub mod Events
 pub mod Parts
 pub mod InParked
+pub mod InWhole
 pub mod InFinished
 pub mod Slices
+pub mod Judging

@@ -1,24 +1,39 @@
 -- What is true of a run, of a shrinking as far as it came, and of the end of a job.
 use Rattle.std.specs.Prelude.{◌≡◌, ◌⊎◌, ℕ, zero, suc, ◌+◌, Bool, List, ◌++◌, length, Option, Some, None}
+use Rattle.pf_terms.specs.Atoms.{name_of}
 use Rattle.pf_model.specs.Meaning as meaning
-use Rattle.pf_model.specs.Meaning.{Choices, schedule, Means, profile_of, words_of}
-use Rattle.pf_model.specs.Reports.{report_of}
+use Rattle.pf_model.specs.Meaning.{Choices, schedule, Event, Means, profile_of, words_of}
+use Rattle.pf_model.specs.Properties.{some_label}
 use Rattle.pf_model.specs.Runs.{start}
 use Rattle.pf_model.specs.Shrinking as shrinking
 use Rattle.pf_model.specs.Shrinking.{by_schedule, shrunk, IsResult, TellsFailures}
-use Rattle.pf_model.specs.declared.report.Report.{Report}
+use Rattle.pf_property.specs.Judging.{rules_out}
+use Rattle.pf_property.specs.Views.{labels_in}
+use Rattle.pf_trace.specs.Written.{AreWritten, AreWrittenSoFar, report_in, told_so_far}
+use Rattle.pf_trace.specs.declared.lines.WrittenReport.{WrittenReport}
 use Rattle.pf_shrink.specs.Hunts.{Hunting, begins, searches, ended, next_of, comes_to}
 use Rattle.pf_shrink.specs.Tried.{tried, tried_from}
 use Rattle.pf_request.specs.Job.{Job}
+use Rattle.pf_sched.specs.declared.execution.Execution.{Execution}
 use Rattle.pf_sched.specs.declared.run.Run.{Run}
 use Rattle.pf_sched.specs.declared.shrinking.Shrinking.{Shrinking}
 use Rattle.pf_sched.specs.Events.{RunsHave}
 use Rattle.pf_sched.specs.Views.{without_memory}
 use Rattle.pf_sched.specs.Traces.{Going}
 
--- a run of a job's module by these choices, as far as it came
-abbrev pub IsRunBy : Job → Choices → Run → Type 0
-IsRunBy j cs r = Going j.asked.code (profile_of cs) (words_of cs) j.asked.limit (start j.asked.root j.asked.edition) r.events.items r.system r.choices
+-- a run of a job's module by these choices, as far as it came, with these events
+abbrev pub Executes : Job → Choices → List Event → Execution → Type 0
+Executes j cs es x = Going j.asked.code (profile_of cs) (words_of cs) j.asked.limit (start j.asked.root j.asked.edition) es x
+
+-- the events of a run so far
+abbrev pub events_in : Run → List Event
+events_in r = told_so_far r.written.lines
+
+-- the same with its events, which are written by the names of the module; and whether the label of one rules the property out
+pub record IsRunBy (j : Job) (cs : Choices) (r : Run) : Type 0 where
+  pub run : Executes j cs (events_in r) r.execution
+  pub written : AreWrittenSoFar (name_of j.asked.code.atoms) r.written.lines
+  pub ruled_out : r.written.ruled_out ≡ some_label (rules_out j.asked.property) (labels_in (events_in r))
 
 -- the run of a job that is no shrinking
 abbrev pub IsRunOf : Job → Run → Type 0
@@ -47,11 +62,11 @@ stands_at (searches k ns c cs) = Some ns
 stands_at (ended None) = None
 stands_at (ended (Some f)) = Some f.schedule
 
--- the report of the schedule that a hunt stands at is kept
-abbrev pub KeepsReport : meaning.Job → Option (List ℕ) → Option Report → Type 0
+-- the report of the schedule that a hunt stands at is kept, written by the names of the module
+abbrev pub KeepsReport : meaning.Job → Option (List ℕ) → Option WrittenReport → Type 0
 KeepsReport j None kept = Unit {0}
 KeepsReport j (Some ns) None = ⊥
-KeepsReport j (Some ns) (Some r) = Means (by_schedule j ns) (report_of r)
+KeepsReport j (Some ns) (Some r) = Means (by_schedule j ns) (report_in r) × AreWritten (name_of j.code.atoms) r.lines
 
 -- a shrinking, as far as it came: its hunt, the report of the schedule that it stands at, and the run of the next schedule
 pub record IsShrinkingOf (j : Job) (s : Shrinking) : Type 0 where
@@ -63,7 +78,7 @@ pub record IsShrinkingOf (j : Job) (s : Shrinking) : Type 0 where
 
 -- the events of all its runs so far
 abbrev pub events_so_far : Shrinking → ℕ
-events_so_far s = s.before + length s.run.events.items
+events_so_far s = s.before + length (events_in s.run)
 
 -- ---- the end
 

@@ -1,28 +1,33 @@
 -- What a slice makes of a parked job.
 use Rattle.std.specs.Prelude.{◌≡◌, ◌⊎◌, ◌+◌, ◌-◌, ◌<◌, ◌≤◌, ℕ, zero, suc, Bool, true, false, List, length, Option, Some, None}
 use Rattle.rand_pcg.specs.Lcg.{Lcg}
+use Rattle.pf_terms.specs.Atoms.{name_of}
 use Rattle.pf_choice.specs.declared.choices.Choices.{Choices}
 use Rattle.pf_model.specs.Configuration.{Configuration}
 use Rattle.pf_model.specs.Shrinking as shrinking
 use Rattle.pf_model.specs.Shrinking.{by_schedule, Found, IsResult, nothing_fails, shrunk_to}
 use Rattle.pf_model.specs.Meaning as meaning
-use Rattle.pf_model.specs.Meaning.{Means, Report, schedule}
+use Rattle.pf_model.specs.Meaning.{Event, Means, Report, schedule}
 use Rattle.pf_model.specs.Runs.{Stops}
 use Rattle.pf_shrink.specs.Hunts.{Hunting, begins, searches, ended}
 use Rattle.pf_request.specs.Job.{Job}
+use Rattle.pf_trace.specs.Written.{AreWritten, report_in}
+use Rattle.pf_trace.specs.declared.lines.WrittenReport.{WrittenReport}
+use Rattle.pf_sched.specs.declared.execution.Execution.{Execution}
+use Rattle.pf_sched.specs.declared.result.JobResult.{JobResult}
 use Rattle.pf_sched.specs.declared.run.Run.{Run}
 use Rattle.pf_sched.specs.declared.shrinking.Advance.{Advance}
 use Rattle.pf_sched.specs.declared.shrinking.Advance.TheVariants as advance
 use Rattle.pf_sched.specs.declared.slice.Slice.{Slice}
 use Rattle.pf_sched.specs.declared.slice.Slice.TheVariants.{More, Done}
-use Rattle.pf_sched.specs.Views.{ParkedView, view_of_parked, result_of, without_memory}
+use Rattle.pf_sched.specs.Views.{IsWritten, ParkedView, view_of_parked, result_of, without_memory}
 use Rattle.pf_sched.specs.Events.{HasEvents}
-use Rattle.pf_sched.specs.Parts.{IsRunBy, IsShrinkingOf, events_so_far}
+use Rattle.pf_sched.specs.Parts.{Executes, IsRunBy, IsShrinkingOf, events_in, events_so_far}
 use Rattle.pf_sched.specs.Traces.{Makes}
 
 -- a job has more than n events
 abbrev pub GoesPast : Job → ℕ → Type 0
-GoesPast j n = (m : ℕ) → HasEvents j.asked m → n < m
+GoesPast j n = (m : ℕ) × HasEvents j.asked m × (n < m)
 
 -- a job comes to this, and has at most n events
 abbrev pub EndsBy : Job → ℕ → shrinking.Result → Type 0
@@ -42,14 +47,28 @@ Advances before after turns true stops = (before ≤ after) × (after ≤ before
 Advances before after turns false stops = (after ≡ before + turns) × (stops → ⊥)
 
 -- where a run stands it is over
-abbrev pub IsOver : (limit : ℕ) → Run → Type 0
-IsOver limit r = (c : Configuration) × (r.system.standing ≡ Some c) × Stops (limit - r.system.steps) c
+abbrev pub IsOver : (limit : ℕ) → Execution → Type 0
+IsOver limit x = (c : Configuration) × (x.system.standing ≡ Some c) × Stops (limit - x.system.steps) c
 
--- so a run goes on, whichever job's it is and by whichever choices
-abbrev pub RunAdvances : (limit : ℕ) (old new : Run) (turns : ℕ) (over : Bool) → Type 0
-RunAdvances limit old new turns over =
-    (j : Job) (cs : meaning.Choices) → j.asked.limit ≡ limit → IsRunBy j cs old
-    → IsRunBy j cs new × Advances (length old.events.items) (length new.events.items) turns over (IsOver limit new)
+-- a run goes on, whichever job's it is and by whichever choices, and a trace is told all its events
+abbrev pub Continues : {T : Type 0} (Told : T → meaning.Job → List Event → Type 0) (limit : ℕ) (old : Execution) (t : T) (new : Execution) (u : T) (turns : ℕ) (over : Bool) → Type 0
+Continues Told limit old t new u turns over =
+    (j : Job) (cs : meaning.Choices) (es : List Event) → j.asked.limit ≡ limit → Executes j cs es old → Told t j.asked es
+    → (es' : List Event) × Executes j cs es' new × Told u j.asked es' × Advances (length es) (length es') turns over (IsOver limit new)
+
+-- a run of a job by these choices is over, and a trace was told all its events
+abbrev pub IsComplete : {T : Type 0} (Told : T → meaning.Job → List Event → Type 0) → Job → meaning.Choices → Execution → T → Type 0
+IsComplete Told j cs x t = (es : List Event) × Executes j cs es x × Told t j.asked es × IsOver j.asked.limit x
+
+-- a run of a job goes on with what is written of its events, by whichever choices
+abbrev pub RunAdvances : Job → (old new : Run) (turns : ℕ) (over : Bool) → Type 0
+RunAdvances j old new turns over =
+    (cs : meaning.Choices) → IsRunBy j cs old
+    → IsRunBy j cs new × Advances (length (events_in old)) (length (events_in new)) turns over (IsOver j.asked.limit new.execution)
+
+-- a report is the one of a job's run by these choices, written by the names of its module
+abbrev pub IsReportBy : Job → meaning.Choices → WrittenReport → Type 0
+IsReportBy j cs r = Means (record j.asked { choices = cs }) (report_in r) × AreWritten (name_of j.asked.code.atoms) r.lines
 
 -- ---- within a shrinking
 
@@ -65,10 +84,14 @@ abbrev pub TellsFound : meaning.Job → Option Found → shrinking.Result → Ty
 TellsFound j None r = r ≡ nothing_fails
 TellsFound j (Some f) r = (report : Report) × Means (by_schedule j f.schedule) report × (r ≡ shrunk_to f report)
 
+-- a job comes to this by n events, and its report is written by the names of its module
+abbrev pub ComesTo : Job → ℕ → JobResult → Type 0
+ComesTo j n r = EndsBy j n (result_of r) × IsWritten (name_of j.asked.code.atoms) r
+
 -- a shrinking goes on at n events, if it has more than those; or it is over, after n at most
 abbrev pub GoesOn : Job → (at : ℕ) → Advance → Type 0
 GoesOn j n (advance.More s) = IsShrinkingOf j s × (events_so_far s ≡ n) × GoesPast j n
-GoesOn j n (advance.Over r) = EndsBy j n (result_of r)
+GoesOn j n (advance.Over r) = ComesTo j n r
 
 -- how many runs a hunt may still make
 abbrev pub runs_left : Hunting → ℕ
@@ -79,4 +102,4 @@ runs_left (ended f) = zero
 -- the next run of a shrinking begins after n events, as one of m at most; or it is over, with n events in all
 abbrev pub Follows : Job → (at runs : ℕ) → Advance → Type 0
 Follows j n k (advance.More s) = IsShrinkingOf j s × (events_so_far s ≡ n) × (runs_left s.hunt ≤ k)
-Follows j n k (advance.Over r) = EndsBy j n (result_of r)
+Follows j n k (advance.Over r) = ComesTo j n r

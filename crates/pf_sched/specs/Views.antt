@@ -1,15 +1,15 @@
 -- What the code's own results, parked runs and finished runs stand for.
-use Rattle.std.specs.Prelude.{ℕ, refl}
+use Rattle.std.specs.Prelude.{ℕ, List, refl}
 use Rattle.std.specs.Coded.{Coded, code_by, coded×, coded_ℕ}
 use Rattle.pf_fault.specs.declared.code.Code.{Code}
 use Rattle.pf_fault.specs.declared.code.Code.TheVariants as code
-use Rattle.pf_model.specs.Reports.{report_of}
 use Rattle.pf_model.specs.Shrinking as shrinking
 use Rattle.pf_model.specs.Shrinking.{found}
 use Rattle.pf_request.specs.Job.{Job}
 use Rattle.pf_request.specs.Encoding.{coded_job}
 use Rattle.pf_request.specs.ReportEncoding.{coded_result}
 use Rattle.pf_request.specs.Job.{memory_report}
+use Rattle.pf_trace.specs.Written.{AreWritten, report_in}
 use Rattle.pf_sched.specs.declared.result.JobResult.{JobResult}
 use Rattle.pf_sched.specs.declared.result.JobResult.TheVariants as r
 use Rattle.pf_sched.specs.declared.refusal.JobRefusal.{JobRefusal}
@@ -17,9 +17,15 @@ use Rattle.pf_sched.specs.declared.refusal.JobRefusal.TheVariants as refusal
 
 -- what came of a job
 abbrev pub result_of : JobResult → shrinking.Result
-result_of (r.Report report) = shrinking.report (report_of report)
-result_of (r.Shrunk schedule complete report) = shrinking.shrunk_to (found schedule.items complete) (report_of report)
+result_of (r.Report w) = shrinking.report (report_in w)
+result_of (r.Shrunk complete schedule w) = shrinking.shrunk_to (found schedule.value.items complete) (report_in w)
 result_of r.NothingFails = shrinking.nothing_fails
+
+-- the lines of its report are those of the report's events, if atoms have these names
+abbrev pub IsWritten : (name : ℕ → List ℕ) → JobResult → Type 0
+IsWritten name (r.Report w) = AreWritten name w.lines
+IsWritten name (r.Shrunk complete schedule w) = AreWritten name w.lines
+IsWritten name r.NothingFails = Unit {0}
 
 abbrev pub code_of : JobRefusal → Code
 code_of refusal.NoRoot = code.NoRoot

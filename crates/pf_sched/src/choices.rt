@@ -1,6 +1,7 @@
 //! The choices of a run, opened.
 
 ghost use Rattle.std.specs.Prelude.{◌≡◌, true, IfOk};
+ghost use Rattle.pf_model.specs.Meaning as model;
 ghost use Rattle.pf_request.specs.Request.{may_weigh};
 ghost use Rattle.pf_request.specs.View.{view_of_choices};
 ghost use Rattle.pf_sched.specs.Traces.{Makes};
@@ -24,4 +25,11 @@ pub(crate) fn open(alloc: Global, choices: &RunChoices) -> Result<Choices, NoMem
             Ok(Choices::schedule(Vec::from_slice(alloc, numbers.as_slice())?))
         }
     }
+}
+
+/// Those of a schedule.
+pub(crate) fn of_schedule(alloc: Global, numbers: &[u32]) -> Result<Choices, NoMemory>
+    ensures { IfOk result (λ q. Makes (model.schedule numbers.now) q) }
+{
+    Ok(Choices::schedule(Vec::from_slice(alloc, numbers)?))
 }

@@ -1,56 +1,55 @@
 //! Jobs whose runs are over.
 
 ghost use Rattle.std.specs.Prelude.{◌≡◌, ◌⊎◌, IfOk, MatchBool, MatchOption};
+ghost use Rattle.pf_terms.specs.Atoms.{name_of};
 ghost use Rattle.pf_model.specs.Shrinking.{IsResult};
-ghost use Rattle.pf_sched.specs.Views.{view_of_finished, result_of, without_memory};
+ghost use Rattle.pf_sched.specs.Views.{IsWritten, view_of_finished, result_of, without_memory};
 
-use crate::job::Job;
+use crate::job::{Job, needs_send};
 use crate::result::JobResult;
+use crate::result_block::Whole;
 use pf_terms::NoMemory;
 use std::alloc::Global;
 use std::marker::Model;
 use std::sync::Arc;
 
-/// What a job came to: its whole result, which many may hold, or that memory ran out.
+/// How a job ended: its result is whole, or memory ran out for it.
 #[derive(Drop)]
-pub(crate) enum Ending {
-    Whole(Arc<JobResult>),
-    Memory,
+pub enum Ending {
+    Whole(Whole),
+    Memory(Arc<Job>),
 }
 
 /// A job whose runs are over, and what it comes to; or the result is that memory ran out. Many may hold both.
 #[derive(Drop)]
 pub struct Finished {
-    job: Arc<Job>,
     ending: Ending,
 }
 
 impl Model for Finished {
     ghost use Rattle.pf_sched.specs.Views.{FinishedView, coded_finished_view};
-    ghost use Rattle.pf_sched.specs.InFinished.{IsSound, finished_in};
+    ghost use Rattle.pf_sched.specs.InFinished.{finished_in};
 
     ghost Value = { FinishedView };
 
     ghost coded = { coded_finished_view };
 
     ghost view = { finished_in };
-
-    ghost invariant = { IsSound };
 }
 
 impl Finished {
-    /// The end of a job with what it comes to, in a block of its own; if there is none, memory ran out.
+    ghost use Rattle.pf_sched.specs.InFinished.{ended_as};
+
+    /// The end of a job with what it comes to, in a block with the job; if there is none, memory ran out.
     pub(crate) fn whole(alloc: Global, job: Arc<Job>, came: JobResult) -> Finished
-        requires { IsResult job.value.asked (result_of came) }
+        requires result { IsResult job.value.asked (result_of came) }
+        requires written { IsWritten (name_of job.value.asked.code.atoms) came }
         ensures job { result.job ≡ job.value }
         ensures result { (result.result ≡ result_of came) ⊎ (result.result ≡ without_memory) }
     {
-        match Arc::new(alloc, came) {
-            Ok(came) => Finished {
-                job,
-                ending: Ending::Whole(came),
-            },
-            Err(_) => Finished::without_memory(job),
+        match Whole::new(alloc, job, came) {
+            Ok(whole) => Finished::from_ending(Ending::Whole(whole)),
+            Err(job) => Finished::without_memory(job),
         }
     }
 
@@ -58,17 +57,31 @@ impl Finished {
     pub(crate) fn without_memory(job: Arc<Job>) -> Finished
         ensures { result ≡ view_of_finished job.value without_memory }
     {
-        Finished {
-            job,
-            ending: Ending::Memory,
-        }
+        Finished::from_ending(Ending::Memory(job))
+    }
+
+    /// The job that ended so.
+    pub fn from_ending(ending: Ending) -> Finished
+        ensures { result ≡ ended_as ending }
+    {
+        Finished { ending }
+    }
+
+    /// How it ended.
+    pub fn into_ending(self) -> Ending
+        ensures { ended_as result ≡ self }
+    {
+        self.ending
     }
 
     /// The job.
     pub fn job(&self) -> &Arc<Job>
         ensures { result.now.value ≡ self.now.job }
     {
-        &self.job
+        match &self.ending {
+            Ending::Whole(whole) => whole.job(),
+            Ending::Memory(job) => job,
+        }
     }
 
     /// Whether the result is what the job comes to; else memory ran out.
@@ -77,18 +90,19 @@ impl Finished {
             (IsResult self.now.job.asked self.now.result)
             (self.now.result ≡ without_memory) }
     {
-        matches!(&self.ending, Ending::Whole(_))
+        self.result().is_some()
     }
 
     /// What the job comes to; none if memory ran out.
     pub fn result(&self) -> Option<&JobResult>
         ensures { MatchOption result
             (self.now.result ≡ without_memory)
-            (λ r. (result_of r.now ≡ self.now.result) × IsResult self.now.job.asked self.now.result) }
+            (λ r. (result_of r.now ≡ self.now.result) × IsResult self.now.job.asked self.now.result
+            × IsWritten (name_of self.now.job.asked.code.atoms) r.now) }
     {
         match &self.ending {
-            Ending::Whole(result) => Some(result),
-            Ending::Memory => None,
+            Ending::Whole(whole) => Some(whole.result()),
+            Ending::Memory(_) => None,
         }
     }
 
@@ -96,12 +110,16 @@ impl Finished {
     pub fn share(&self) -> Result<Finished, NoMemory>
         ensures { IfOk result (λ f. f ≡ self.now) }
     {
-        Ok(Finished {
-            job: Arc::try_clone(&self.job)?,
-            ending: match &self.ending {
-                Ending::Whole(result) => Ending::Whole(Arc::try_clone(result)?),
-                Ending::Memory => Ending::Memory,
-            },
-        })
+        let ending = match &self.ending {
+            Ending::Whole(whole) => Ending::Whole(whole.share()?),
+            Ending::Memory(job) => Ending::Memory(Arc::try_clone(job)?),
+        };
+        Ok(Finished::from_ending(ending))
     }
+}
+
+/// A finished job may go to another thread, and be shared.
+fn crosses_threads(finished: &Finished, shared: &Arc<Finished>) {
+    needs_send(finished);
+    needs_send(shared);
 }

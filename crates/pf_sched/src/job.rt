@@ -27,7 +27,7 @@ use std::sync::Arc;
 /// is read as; the limit, the schedule, the weights and the runs of a shrinking are within their bounds.
 #[derive(Drop)]
 pub struct Job {
-    module: ReadModule,
+    pub(crate) module: ReadModule,
     pub(crate) root: FunctionId,
     pub(crate) property: Property,
     pub(crate) kind: Kind,
@@ -160,4 +160,4 @@ fn crosses_threads(job: &Job, shared: &Arc<Job>) {
     needs_send(shared);
 }
 
-fn needs_send<T: Send>(_value: &T) {}
+pub(crate) fn needs_send<T: Send>(_value: &T) {}

@@ -2,22 +2,29 @@
 #![tactic(auto)]
 
 mod choices;
+mod execution;
 mod finished;
 mod job;
 mod parked;
 mod progress;
 mod refusal;
 mod result;
+mod result_block;
 mod run;
+mod same;
 mod scratch;
 mod shrinking;
 mod slice;
+mod trace;
+mod whole;
 
-pub use finished::Finished;
+pub use finished::{Ending, Finished};
 pub use job::Job;
 pub use parked::{Parked, start};
 pub use progress::{Observer, Progress, Silent};
 pub use refusal::JobRefusal;
 pub use result::{JobResult, memory_report};
+pub use result_block::Whole;
 pub use scratch::Scratch;
-pub use slice::{Slice, report_of_run, run_slice, run_to_end};
+pub use slice::{Slice, run_slice, run_to_end};
+pub use whole::{Judged, judged_run, report_by_schedule, report_of_run};

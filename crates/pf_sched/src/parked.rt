@@ -6,9 +6,10 @@ ghost use Rattle.pf_sched.specs.InParked.{IsWorkOf, at_of};
 ghost use Rattle.pf_sched.specs.Views.{view_of_parked};
 
 use crate::choices::open;
-use crate::job::Job;
+use crate::job::{Job, needs_send};
 use crate::progress::Progress;
 use crate::run::Run;
+use crate::scratch::Scratch;
 use crate::shrinking::Shrinking;
 use pf_request::Kind;
 use pf_terms::NoMemory;
@@ -54,7 +55,7 @@ impl Parked {
 }
 
 /// What a job begins with.
-pub(crate) fn first_work(alloc: Global, job: &Job) -> Result<Work, NoMemory>
+fn first_work(alloc: Global, job: &Job) -> Result<Work, NoMemory>
     ensures work { IfOk result (λ w. IsWorkOf job.now w) }
     ensures first { IfOk result (λ w. at_of w ≡ 0) }
     ensures valid { OnOk result (IsValid job.now) }
@@ -77,4 +78,10 @@ pub fn start(alloc: Global, job: Arc<Job>) -> Result<Parked, NoMemory>
 {
     let work = first_work(alloc, &job)?;
     Ok(Parked { job, work })
+}
+
+/// A parked job may go to another thread, and so may what a worker keeps.
+fn crosses_threads(parked: &Parked, scratch: &Scratch) {
+    needs_send(parked);
+    needs_send(scratch);
 }

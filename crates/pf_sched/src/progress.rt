@@ -2,8 +2,8 @@
 
 ghost use Rattle.std.specs.Prelude.{◌≡◌};
 
-use pf_model::report::Report;
 use pf_shrink::Hunt;
+use pf_trace::WrittenReport;
 
 /// The progress of a shrinking: how many runs are over, and how many numbers the schedule has that it stands at.
 #[derive(Clone, Copy, PartialEq, Eq, Debug)]
@@ -21,7 +21,7 @@ impl Progress {
     }
 
     /// That after one run more, the one of the hunt's next schedule.
-    pub(crate) fn further(self, hunt: &Hunt, ended: &Report) -> Progress {
+    pub(crate) fn further(self, hunt: &Hunt, ended: &WrittenReport) -> Progress {
         let length = match hunt.next() {
             Some(next) if ended.verdict == Some(false) => next.len(),
             _ => self.length,

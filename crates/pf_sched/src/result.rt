@@ -1,33 +1,36 @@
 //! What jobs come to.
 
-ghost use Rattle.std.specs.Prelude.{◌≡◌};
-ghost use Rattle.pf_model.specs.Reports.{report_of};
+ghost use Rattle.std.specs.Prelude.{◌≡◌, ℕ, List};
 ghost use Rattle.pf_request.specs.Job as job;
+ghost use Rattle.pf_trace.specs.Written.{AreWritten, report_in};
 
-use pf_model::report::{Outcome, Report};
+use pf_model::report::Outcome;
+use pf_trace::{EventLines, WrittenReport};
 use std::alloc::Global;
 
 /// What a job comes to.
 #[derive(Drop)]
 pub enum JobResult {
     /// The report of its run.
-    Report(Report),
-    /// The schedule that its shrinking found, whether no candidate of it fails, and the report of its run.
+    Report(WrittenReport),
+    /// Whether no candidate of the schedule that its shrinking found fails, the schedule, and the report of its run. The schedule's own words
+    /// stand in a block, so that no other result is larger for them.
     Shrunk {
-        schedule: Vec<u32>,
         complete: bool,
-        report: Report,
+        schedule: Box<Vec<u32>>,
+        report: WrittenReport,
     },
     /// The schedule that was to be shrunk doesn't fail.
     NothingFails,
 }
 
 /// What is told of a job for which memory ran out: no event, no step and no verdict. It takes no memory.
-pub fn memory_report(alloc: Global) -> Report
-    ensures { report_of result ≡ job.memory_report }
+pub fn memory_report(alloc: Global) -> WrittenReport
+    ensures report { report_in result ≡ job.memory_report }
+    ensures lines { (name : ℕ → List ℕ) → AreWritten name result.lines }
 {
-    Report {
-        events: Vec::new(alloc),
+    WrittenReport {
+        lines: EventLines::new(alloc),
         outcome: Outcome::Memory,
         steps: 0,
         verdict: None,

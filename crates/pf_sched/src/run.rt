@@ -1,95 +1,29 @@
-//! A run as far as it came, transition by transition.
+//! A run as far as it came, with what is written of its events.
 
-ghost use Rattle.std.specs.Prelude.{◌≡◌, ◌<◌, ◌-◌, IfOk, Some, length, MatchBool};
-ghost use Rattle.rand_pcg.specs.Pcg.{pcg32};
-ghost use Rattle.pf_choice.specs.Choices.{Chooses};
-ghost use Rattle.pf_model.specs.Configuration.{Configuration};
+ghost use Rattle.std.specs.Prelude.{◌≡◌, IfOk, OnOk, length};
 ghost use Rattle.pf_model.specs.Meaning as model;
-ghost use Rattle.pf_model.specs.Meaning.{Means};
-ghost use Rattle.pf_model.specs.Reports.{actor_of, label_of, report_of};
-ghost use Rattle.pf_model.specs.Runs.{Stops};
-ghost use Rattle.pf_system.specs.Steps.{IsNoteOf, MayGo, PassesTo, noted};
-ghost use Rattle.pf_sched.specs.Parts.{IsRunBy};
-ghost use Rattle.pf_sched.specs.Slices.{IsOver, RunAdvances};
-ghost use Rattle.pf_sched.specs.Traces.{Makes, MayHaveGone, heads_in, ready_in};
+ghost use Rattle.pf_trace.specs.Written.{events_of};
+ghost use Rattle.pf_sched.specs.Asked.{IsValid};
+ghost use Rattle.pf_sched.specs.Parts.{IsRunBy, events_in};
+ghost use Rattle.pf_sched.specs.Slices.{IsOver, IsReportBy, RunAdvances};
+ghost use Rattle.pf_sched.specs.Traces.{Makes};
 
+use crate::execution::Execution;
 use crate::job::Job;
 use crate::scratch::Scratch;
+use crate::trace::{Writer, Written};
 use pf_choice::Choices;
-use pf_model::report::{Actor, Event, Label, Report};
-use pf_system::{Enabled, System};
+use pf_system::Spare;
 use pf_terms::NoMemory;
+use pf_trace::WrittenReport;
 use std::alloc::Global;
+use std::mem;
 
-/// A run as far as it came: its processes and signals, its next choices, and its events so far.
+/// A run as far as it came, with what is written of its events so far.
 #[derive(Drop)]
 pub(crate) struct Run {
-    pub system: System,
-    pub choices: Choices,
-    pub events: Vec<Event>,
-}
-
-/// What an actor does that may go, within the limit of steps: what it shows, and how many steps it used.
-fn pass(
-    alloc: Global,
-    system: &mut System,
-    actor: Actor,
-    limit: u32,
-) -> Result<(Label, u32), NoMemory>
-    requires enabled { MayGo (actor_of actor) system.old.standing }
-    requires left { system.old.steps < limit }
-    ensures { IfOk result (λ r.
-        PassesTo (limit - system.old.steps) system.old (actor_of actor) (label_of r.0) r.1 system.new) }
-{
-    match actor {
-        Actor::Process(pid) => system.turn(alloc, pid, limit),
-        Actor::Channel { from, to } => Ok((system.deliver(alloc, from, to, limit)?, 1)),
-    }
-}
-
-/// Which of the actors that may go the next word chooses, from 0 on. A word is drawn if there is but one, too.
-fn choose(choices: &mut Choices, enabled: &Enabled<'_>) -> usize
-    requires { 0 < length (noted enabled.now) }
-    ensures chooses { (c : Configuration) → IsNoteOf enabled.now c
-        → Chooses pcg32 choices.old (ready_in c) (heads_in c) result choices.new }
-    ensures one { result < length (noted enabled.now) }
-{
-    choices.next_of(enabled.processes(), enabled.channels())
-}
-
-/// The transition of the actor that the next word chooses, within the limit of steps; none if nobody may go.
-fn go(
-    alloc: Global,
-    system: &mut System,
-    choices: &mut Choices,
-    limit: u32,
-) -> Result<Option<Event>, NoMemory>
-    requires { system.old.steps < limit }
-    ensures { IfOk result (λ o. (c : Configuration) → system.old.standing ≡ Some c
-        → MayHaveGone (limit - system.old.steps) c system.old choices.old o system.new choices.new) }
-{
-    let enabled = system.enabled();
-    let among = enabled.len();
-    if among == 0 {
-        return Ok(None);
-    }
-    let index = choose(choices, &enabled);
-    let actor = enabled.actor(index);
-    let (label, _) = pass(alloc, system, actor, limit)?;
-    Ok(Some(Event {
-        choice: index as u32,
-        count: among as u32,
-        actor,
-        label,
-    }))
-}
-
-/// Whether a run is over where its system stands: nobody may go, or no step is left.
-fn is_over(system: &System, limit: u32) -> bool
-    ensures { (c : Configuration) → system.now.standing ≡ Some c
-        → MatchBool result (Stops (limit - system.now.steps) c) (Stops (limit - system.now.steps) c → ⊥) }
-{
-    system.steps() >= limit || system.enabled().len() == 0
+    pub execution: Execution,
+    pub written: Written,
 }
 
 impl Run {
@@ -97,61 +31,53 @@ impl Run {
     pub fn new(alloc: Global, job: &Job, choices: Choices) -> Result<Run, NoMemory>
         ensures run { (cs : model.Choices) → Makes cs choices
             → IfOk result (λ r. IsRunBy job.now cs r) }
-        ensures first { IfOk result (λ r. length r.events.items ≡ 0) }
+        ensures first { IfOk result (λ r. length (events_in r) ≡ 0) }
     {
-        Ok(Run {
-            system: System::new(alloc, job.module(), job.root, job.edition())?,
-            choices,
-            events: Vec::new(alloc),
-        })
+        let execution = Execution::new(alloc, job, choices, Spare::new(alloc))?;
+        let written = Written::new(alloc);
+        Ok(Run { execution, written })
     }
 
-    /// Goes on by n events, or fewer if the run is over before; whether it is over then.
-    fn advance(&mut self, alloc: Global, limit: u32, turns: u32) -> Result<bool, NoMemory>
-        ensures { IfOk result (RunAdvances limit self.old self.new turns) }
+    /// How many events it has so far.
+    pub fn len(&self) -> usize
+        ensures { result ≡ length (events_in self.now) }
     {
-        for _ in 0..turns {
-            if self.system.steps() >= limit {
-                return Ok(true);
-            }
-            match go(alloc, &mut self.system, &mut self.choices, limit)? {
-                None => return Ok(true),
-                Some(event) => self.events.push(event)?,
-            }
-        }
-        Ok(is_over(&self.system, limit))
+        self.written.lines.len()
     }
 
-    /// The same with the spare nodes of a scratch, which come back to it.
+    /// Goes on by n events, or fewer if the run is over before; whether it is over then. What the scratch keeps is used,
+    /// and what is spare then comes back to it.
     pub fn go_on(
         &mut self,
         alloc: Global,
-        limit: u32,
+        job: &Job,
         scratch: &mut Scratch,
         turns: u32,
     ) -> Result<bool, NoMemory>
-        ensures { IfOk result (RunAdvances limit self.old self.new turns) }
+        ensures run { IfOk result (RunAdvances job.now self.old self.new turns) }
+        ensures valid { OnOk result (IsValid job.now) }
     {
-        self.system.put_pool(scratch.take_pool(alloc));
-        let went = self.advance(alloc, limit, turns);
-        scratch.put_pool(self.system.take_pool(alloc));
+        let written = mem::replace(&mut self.written, Written::new(alloc));
+        let mut writer = Writer::new(job, written);
+        let went = self
+            .execution
+            .go_on(alloc, job.limit(), scratch, turns, &mut writer);
+        self.written = writer.written;
         went
     }
 
     /// The report of a run that is over.
-    pub fn report(self, alloc: Global, job: &Job) -> Result<Report, NoMemory>
+    pub fn report(self, alloc: Global, job: &Job) -> Result<WrittenReport, NoMemory>
         ensures { IfOk result (λ r. (cs : model.Choices) → IsRunBy job.now cs self
-            → IsOver job.now.asked.limit self
-            → Means (record job.now.asked { choices = cs }) (report_of r)
-            × (length r.events.items ≡ length self.events.items)) }
+            → IsOver job.now.asked.limit self.execution
+            → IsReportBy job.now cs r × (events_of r.lines ≡ events_in self)) }
     {
-        let outcome = self.system.outcome(alloc)?;
-        let steps = self.system.steps();
-        let mut events = self.events;
-        events.shrink_to_fit();
-        let verdict = job.property.verdict(events.as_slice(), &outcome);
-        Ok(Report {
-            events,
+        let Run { execution, written } = self;
+        let outcome = execution.system.outcome(alloc)?;
+        let steps = execution.system.steps();
+        let verdict = job.property.judge(written.ruled_out, &outcome);
+        Ok(WrittenReport {
+            lines: written.lines.finish(),
             outcome,
             steps,
             verdict,

@@ -1,31 +1,30 @@
 //! What a worker keeps between its runs.
 
-use pf_nodes::Pool;
-use pf_terms::Term;
+use pf_system::Spare;
 use std::alloc::Global;
 use std::mem;
 
-/// The spare nodes that runs leave behind for the mailboxes of the next. What a run means depends on none of them.
+/// What runs leave behind for the next, emptied: what a run means depends on none of it.
 #[derive(Drop)]
 pub struct Scratch {
-    pool: Pool<Term>,
+    spare: Spare,
 }
 
 impl Scratch {
-    /// No spare node.
+    /// Nothing.
     pub fn new(alloc: Global) -> Scratch {
         Scratch {
-            pool: Pool::new(alloc),
+            spare: Spare::new(alloc),
         }
     }
 
-    /// Gives its spare nodes away.
-    pub(crate) fn take_pool(&mut self, alloc: Global) -> Pool<Term> {
-        mem::replace(&mut self.pool, Pool::new(alloc))
+    /// Gives away what it keeps.
+    pub(crate) fn take_spare(&mut self, alloc: Global) -> Spare {
+        mem::replace(&mut self.spare, Spare::new(alloc))
     }
 
-    /// Takes spare nodes, in place of those that it had.
-    pub(crate) fn put_pool(&mut self, pool: Pool<Term>) {
-        self.pool = pool;
+    /// Keeps this in place of what it had.
+    pub(crate) fn put_spare(&mut self, spare: Spare) {
+        self.spare = spare;
     }
 }

@@ -1,6 +1,7 @@
 //! Shrinkings as far as they came, run by run.
 
-ghost use Rattle.std.specs.Prelude.{◌≡◌, ◌+◌, ◌-◌, ◌<◌, IfOk, IsNone, IsSome, if◌then◌else◌};
+ghost use Rattle.std.specs.Prelude.{◌≡◌, ◌+◌, ◌-◌, ◌<◌, IfOk, IsNone, IsSome, OnOk, if◌then◌else◌};
+ghost use Rattle.pf_terms.specs.Atoms.{name_of};
 ghost use Rattle.pf_model.specs.Meaning as model;
 ghost use Rattle.pf_model.specs.Shrinking.{is_failure};
 ghost use Rattle.pf_shrink.specs.Hunts.{found_of, next_of, told_of};
@@ -8,7 +9,7 @@ ghost use Rattle.pf_request.specs.Job as request;
 ghost use Rattle.pf_sched.specs.Asked.{IsValid};
 ghost use Rattle.pf_sched.specs.Parts.{IsHuntOf, IsShrinkingOf, KeepsReport, events_so_far, stands_at};
 ghost use Rattle.pf_sched.specs.Slices.{Follows, GoesOn, IsOver, OpensNext, RunAdvances, TellsFound, runs_left};
-ghost use Rattle.pf_sched.specs.Views.{result_of};
+ghost use Rattle.pf_sched.specs.Views.{IsWritten, result_of};
 
 use crate::job::Job;
 use crate::progress::Progress;
@@ -16,9 +17,9 @@ use crate::result::JobResult;
 use crate::run::Run;
 use crate::scratch::Scratch;
 use pf_choice::Choices;
-use pf_model::report::Report;
 use pf_shrink::Hunt;
 use pf_terms::NoMemory;
+use pf_trace::WrittenReport;
 use std::alloc::Global;
 
 /// A shrinking as far as it came: its hunt, the run of the hunt's next schedule, the report of the schedule that the hunt stands at, which is
@@ -27,7 +28,7 @@ use std::alloc::Global;
 pub(crate) struct Shrinking {
     pub hunt: Hunt,
     pub run: Run,
-    pub report: Option<Report>,
+    pub report: Option<WrittenReport>,
     pub before: u64,
     pub progress: Progress,
 }
@@ -52,24 +53,26 @@ fn next_choices(alloc: Global, hunt: &Hunt) -> Result<Option<Choices>, NoMemory>
 }
 
 /// What a hunt found, with the report of its schedule.
-fn found(alloc: Global, hunt: &Hunt, report: Option<Report>) -> Result<JobResult, NoMemory>
+fn found(alloc: Global, hunt: &Hunt, report: Option<WrittenReport>) -> Result<JobResult, NoMemory>
     requires ended { IsNone (next_of hunt.now) }
     requires report { IsSome (found_of hunt.now) → IsSome report }
-    ensures { IfOk result (λ r. (j : request.Job) → KeepsReport j.asked (stands_at hunt.now) report
+    ensures told { IfOk result (λ r. (j : request.Job) → KeepsReport j.asked (stands_at hunt.now) report
         → TellsFound j.asked (found_of hunt.now) (result_of r)) }
+    ensures written { IfOk result (λ r. (j : request.Job) → KeepsReport j.asked (stands_at hunt.now) report
+        → IsWritten (name_of j.asked.code.atoms) r) }
 {
     let Some((schedule, complete)) = hunt.found() else {
         return Ok(JobResult::NothingFails);
     };
     Ok(JobResult::Shrunk {
-        schedule: Vec::from_slice(alloc, schedule)?,
         complete,
+        schedule: Box::new(alloc, Vec::from_slice(alloc, schedule)?)?,
         report: report.unwrap(),
     })
 }
 
 /// Tells a hunt whether its next schedule fails, by the report of its run; the report of the schedule that the hunt stands at then.
-fn tell(hunt: &mut Hunt, kept: Option<Report>, ended: Report) -> Option<Report>
+fn tell(hunt: &mut Hunt, kept: Option<WrittenReport>, ended: WrittenReport) -> Option<WrittenReport>
     requires { IsSome (next_of hunt.old) }
     ensures told { hunt.new ≡ told_of (is_failure ended.verdict) hunt.old }
     ensures kept { result ≡ (if is_failure ended.verdict then Some ended else kept) }
@@ -84,7 +87,7 @@ fn begin(
     alloc: Global,
     job: &Job,
     hunt: Hunt,
-    report: Option<Report>,
+    report: Option<WrittenReport>,
     before: u64,
     progress: Progress,
 ) -> Result<Advance, NoMemory>
@@ -127,21 +130,22 @@ impl Shrinking {
     fn go(
         &mut self,
         alloc: Global,
-        limit: u32,
+        job: &Job,
         scratch: &mut Scratch,
         turns: u32,
     ) -> Result<bool, NoMemory>
-        ensures run { IfOk result (RunAdvances limit self.old.run self.new.run turns) }
+        ensures run { IfOk result (RunAdvances job.now self.old.run self.new.run turns) }
         ensures rest { self.new ≡ record self.old { run = self.new.run } }
+        ensures valid { OnOk result (IsValid job.now) }
     {
-        self.run.go_on(alloc, limit, scratch, turns)
+        self.run.go_on(alloc, job, scratch, turns)
     }
 
     /// What follows a run that is over: the hunt is told whether it failed, and the report of one that did is kept.
     fn follow(self, alloc: Global, job: &Job) -> Result<Advance, NoMemory>
         requires valid { IsValid job.now }
         requires shrinking { IsShrinkingOf job.now self }
-        requires over { IsOver job.now.asked.limit self.run }
+        requires over { IsOver job.now.asked.limit self.run.execution }
         ensures { IfOk result (λ p. Follows job.now (events_so_far self) (runs_left self.hunt - 1) p) }
     {
         let Shrinking {
@@ -151,7 +155,7 @@ impl Shrinking {
             before,
             progress,
         } = self;
-        let after = before + run.events.len() as u64;
+        let after = before + run.len() as u64;
         let ended = run.report(alloc, job)?;
         let further = progress.further(&hunt, &ended);
         let kept = tell(&mut hunt, report, ended);
@@ -170,15 +174,14 @@ impl Shrinking {
         requires { IsShrinkingOf job.now self }
         ensures { IfOk result (λ p. GoesOn job.now (events_so_far self + turns) p) }
     {
-        let limit = job.limit();
         let mut shrinking = self;
         let mut left = turns;
         loop {
-            let had = shrinking.run.events.len();
-            if !shrinking.go(alloc, limit, scratch, left)? {
+            let had = shrinking.run.len();
+            if !shrinking.go(alloc, job, scratch, left)? {
                 return Ok(Advance::More(shrinking));
             }
-            left -= (shrinking.run.events.len() - had) as u32;
+            left -= (shrinking.run.len() - had) as u32;
             match shrinking.follow(alloc, job)? {
                 Advance::More(next) => shrinking = next,
                 Advance::Over(result) => return Ok(Advance::Over(result)),

@@ -1,21 +1,18 @@
 //! Jobs slice by slice.
 
-ghost use Rattle.std.specs.Prelude.{◌≡◌, ◌⊎◌, ◌<◌, IfOk, length, zero};
-ghost use Rattle.pf_model.specs.Meaning.{Means};
-ghost use Rattle.pf_model.specs.Reports.{report_of};
-ghost use Rattle.pf_sched.specs.Parts.{IsRunOf, IsShrinkingOf, events_so_far};
+ghost use Rattle.std.specs.Prelude.{◌≡◌, ◌⊎◌, ◌<◌, IfOk, length};
+ghost use Rattle.pf_sched.specs.Parts.{IsRunOf, IsShrinkingOf, events_in, events_so_far};
 ghost use Rattle.pf_sched.specs.Slices.{EndsBy, IsOver, Sliced};
 ghost use Rattle.pf_sched.specs.Views.{view_of_parked, without_memory};
 
 use crate::finished::Finished;
 use crate::job::Job;
-use crate::parked::{Parked, Work, first_work, start};
+use crate::parked::{Parked, Work, start};
 use crate::progress::Observer;
 use crate::result::JobResult;
 use crate::run::Run;
 use crate::scratch::Scratch;
 use crate::shrinking::{Advance, Shrinking};
-use pf_model::report::Report;
 use pf_terms::NoMemory;
 use std::alloc::Global;
 use std::sync::Arc;
@@ -35,9 +32,9 @@ const TURNS: u32 = 256;
 /// The end of a run that is over.
 fn finish(alloc: Global, job: Arc<Job>, run: Run) -> Finished
     requires run { IsRunOf job.value run }
-    requires over { IsOver job.value.asked.limit run }
+    requires over { IsOver job.value.asked.limit run.execution }
     ensures job { result.job ≡ job.value }
-    ensures result { EndsBy job.value (length run.events.items) result.result
+    ensures result { EndsBy job.value (length (events_in run)) result.result
         ⊎ (result.result ≡ without_memory) }
 {
     match run.report(alloc, &job) {
@@ -55,9 +52,9 @@ fn slice_of_run(
     turns: u32,
 ) -> Slice
     requires { IsRunOf job.value run }
-    ensures { Sliced (view_of_parked job.value (length run.events.items)) turns result }
+    ensures { Sliced (view_of_parked job.value (length (events_in run))) turns result }
 {
-    match run.go_on(alloc, job.limit(), scratch, turns) {
+    match run.go_on(alloc, &job, scratch, turns) {
         Ok(false) => Slice::More(Parked {
             job,
             work: Work::Run(run),
@@ -126,19 +123,4 @@ pub fn run_to_end(
             Slice::Done(finished) => return Ok(finished),
         }
     }
-}
-
-/// The report of a job that is one run, which is made to its end: each of its events is a step at least, so it is over after as many events as
-/// its limit has steps. What stands in the scratch makes no difference.
-pub fn report_of_run(alloc: Global, job: &Job, scratch: &mut Scratch) -> Result<Report, NoMemory>
-    requires { job.now.asked.runs ≡ zero }
-    ensures { IfOk result (λ r. Means job.now.asked (report_of r)) }
-{
-    let Work::Run(mut run) = first_work(alloc, job)? else {
-        unreachable!();
-    };
-    if !run.go_on(alloc, job.limit(), scratch, job.limit())? {
-        unreachable!();
-    }
-    run.report(alloc, job)
 }

@@ -1,8 +1,11 @@
 -- What a hunt comes to may go to another thread: a lemma a type, each from those of its parts.
 use denote.Param.Send.{IsSend, recorded_send, sendable}
 use Rattle.std.proofs.Crossing as heap
+use Rattle.std.proofs.MapsCrossing as maps
 use Rattle.pf_model.proofs.Crossing as model
 use Rattle.pf_seeds.specs.contracts.failure.Failure as Failure
+use Rattle.pf_seeds.specs.contracts.places.Place as Place
+use Rattle.pf_seeds.specs.contracts.places.Places as Places
 use Rattle.pf_seeds.specs.contracts.row.Row as Row
 use Rattle.pf_seeds.specs.contracts.tally.Tally as Tally
 
@@ -18,8 +21,17 @@ row_field_send = search (model.sends, sendable) depth 30
 row_send : IsSend Row.the_row
 row_send = recorded_send (Row.the_field).row _ _ (Row.the_type).to_one row_field_send
 
+place_field_send : IsSend (Place.the_field).row
+place_field_send = search sendable depth 30
+
+place_send : IsSend Place.the_row
+place_send = recorded_send (Place.the_field).row _ _ (Place.the_type).to_one place_field_send
+
+places_field_send : IsSend (Places.the_field).row
+places_field_send = search (place_send, maps.crosses, heap.crosses, sendable) depth 30
+
 pub tally_field_send : IsSend (Tally.the_field).row
-tally_field_send = search (row_send, heap.crosses, sendable) depth 30
+tally_field_send = search (row_send, places_field_send, heap.crosses, sendable) depth 30
 
 pub tally_send : IsSend Tally.the_row
 tally_send = recorded_send (Tally.the_field).row _ _ (Tally.the_type).to_one tally_field_send

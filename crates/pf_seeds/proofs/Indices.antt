@@ -2,6 +2,8 @@
 use Rattle.std.proofs.Common.{◌≡◌, inl, inr, ◌+◌, ◌≤◌, ℕ, zero, suc, true, false, List, [], ◌∷◌, ◌++◌, Some, refl, sym, ap, ◌∙◌, arith, length}
 use Rattle.std.specs.Prelude.{slice_get, slice_set}
 use Rattle.std.proofs.lemmas.Bool.{cases_lt}
+use Rattle.std.proofs.lemmas.List.{map-append}
+use Rattle.pf_seeds.specs.RowHashes.{hashes_in, row_hash}
 use Rattle.pf_seeds.specs.Rows.{counted, is_like, more_often, with_row}
 use Rattle.pf_seeds.specs.Views.{row_of, rows_in, NoneBefore}
 use Rattle.pf_seeds.specs.declared.row.Row.{Row}
@@ -37,6 +39,15 @@ module _ (y : Row) where
   is_added (w ∷ xs) (suc i) x z h e l f =
       ap (λ zs. row_of w ∷ zs) (is_added xs i x z (behind w xs i h) e l f)
       ∙ sym (past_unlike (row_of w) (rows_in xs) (row_of y) (h 0 w (omega arith) refl))
+
+-- the hashes of the rows, once one counts more, and once there is one more behind them
+pub hashes_stay : (xs : List Row) (i : ℕ) (x z : Row) → slice_get xs i ≡ Some x → row_hash z ≡ row_hash x → hashes_in (slice_set xs i z) ≡ hashes_in xs
+hashes_stay [] i x z e h = absurd (cc)
+hashes_stay (w ∷ xs) zero x z e h = let q : w ≡ x = cc in ap (λ n. n ∷ hashes_in xs) (h ∙ ap row_hash (sym q))
+hashes_stay (w ∷ xs) (suc i) x z e h = ap (λ ns. row_hash w ∷ ns) (hashes_stay xs i x z e h)
+
+pub hashes_more : (xs : List Row) (y : Row) → hashes_in (xs ++ y ∷ []) ≡ hashes_in xs ++ row_hash y ∷ []
+hashes_more xs y = map-append row_hash xs (y ∷ [])
 
 -- no row counts more than all
 pub counts_within : (xs : List Row) (i : ℕ) (x : Row) → slice_get xs i ≡ Some x → x.count ≤ counted (rows_in xs)

@@ -1,4 +1,6 @@
 pub mod Firsts
 pub mod Counting
 pub mod Indices
+pub mod Placing
+pub mod Finding
 pub mod Crossing

@@ -1,5 +1,7 @@
 pub mod Hunts
 pub mod Rows
 pub mod Hashes
+pub mod RowHashes
+pub mod Places
 pub mod Views
 pub mod Laws

@@ -1,14 +1,13 @@
 //! The least seed whose run fails.
 
 ghost use Rattle.std.specs.Prelude.{◌≡◌, IfOk, option_map};
-ghost use Rattle.pf_model.specs.Reports.{report_of};
 ghost use Rattle.pf_model.specs.Shrinking.{is_failure};
 ghost use Rattle.pf_seeds.specs.Hunts.{FirstFailing};
 ghost use Rattle.pf_seeds.specs.Views.{failure_of};
 
-use crate::seeded::run_by_seed;
+use crate::seeded::{judged_by_seed, run_by_seed};
 use pf_model::report::Report;
-use pf_sched::{Job, Scratch};
+use pf_sched::{Job, Judged, Scratch};
 use pf_terms::NoMemory;
 use std::alloc::Global;
 
@@ -20,20 +19,21 @@ pub struct Failure {
 }
 
 /// Whether the property fails of a run.
-fn fails(report: &Report) -> bool
-    ensures { result ≡ is_failure (report_of report.now).verdict }
+fn fails(judged: &Judged) -> bool
+    ensures { result ≡ is_failure judged.now.verdict }
 {
-    matches!(report.verdict, Some(false))
+    matches!(judged.verdict, Some(false))
 }
 
-/// The least seed from a first to before an end whose run fails, with the report of that run.
+/// The least seed from a first to before an end whose run fails, with the report of that run, which is made once more for it.
 pub fn first_in(alloc: Global, job: &Job, from: u64, end: u64) -> Result<Option<Failure>, NoMemory>
     ensures { IfOk result (λ f. FirstFailing job.now.asked from end (option_map failure_of f)) }
 {
     let mut scratch = Scratch::new(alloc);
     for seed in from..end {
-        let report = run_by_seed(alloc, job, &mut scratch, seed)?;
-        if fails(&report) {
+        let judged = judged_by_seed(alloc, job, &mut scratch, seed)?;
+        if fails(&judged) {
+            let report = run_by_seed(alloc, job, &mut scratch, seed)?;
             return Ok(Some(Failure { seed, report }));
         }
     }

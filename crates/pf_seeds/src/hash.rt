@@ -4,7 +4,7 @@ ghost use Rattle.std.specs.Prelude.{◌≡◌};
 ghost use Rattle.pf_terms.specs.Term.{elements_of, value_of, values_of};
 ghost use Rattle.pf_model.specs.Reports.{outcome_of};
 ghost use Rattle.pf_seeds.specs.Hashes as hashes;
-ghost use Rattle.pf_seeds.specs.Hashes.{outcome_hash, value_hash, values_hash};
+ghost use Rattle.pf_seeds.specs.Hashes.{numbers_hash, outcome_hash, value_hash, values_hash};
 ghost use Rattle.pf_seeds.specs.Rows as rows;
 
 use pf_model::report::Outcome;
@@ -38,7 +38,8 @@ impl Model for HashedOutcome {
 fn mixed(hash: u64, number: u64) -> u64
     ensures { result ≡ hashes.mixed hash number }
 {
-    hash.wrapping_mul(31).wrapping_add(number)
+    hash.wrapping_mul(11_400_714_819_323_198_485)
+        .wrapping_add(number)
 }
 
 /// A hash with one value more.
@@ -47,7 +48,7 @@ fn with_term(hash: u64, term: &Term) -> u64
     ensures { result ≡ value_hash hash (value_of term.now) }
 {
     match term {
-        Term::Int(number) => mixed(hash, number.unsigned_abs()),
+        Term::Int(number) => mixed(hash, number.cast_unsigned()),
         Term::Atom(atom) => mixed(hash, u64::from(atom.0)),
         Term::Ref(reference) => mixed(hash, *reference),
         Term::Pid(pid) => mixed(hash, u64::from(*pid)),
@@ -82,6 +83,18 @@ fn with_list(mut hash: u64, list: &List) -> u64
     hash
 }
 
+/// A hash with more pids.
+fn with_pids(mut hash: u64, pids: &[u32]) -> u64
+    ensures { result ≡ numbers_hash hash pids.now }
+{
+    let mut rest = pids;
+    while let Some((first, behind)) = rest.split_first() {
+        hash = mixed(hash, u64::from(*first));
+        rest = behind;
+    }
+    hash
+}
+
 /// The hash of an outcome.
 pub(crate) fn hash_of(outcome: &Outcome) -> u64
     ensures { result ≡ outcome_hash (outcome_of outcome.now) }
@@ -89,7 +102,7 @@ pub(crate) fn hash_of(outcome: &Outcome) -> u64
     match outcome {
         Outcome::Finished(value) => with_term(1, value),
         Outcome::Ended(reason) => with_term(2, reason),
-        Outcome::Deadlock(pids) => mixed(3, pids.len() as u64),
+        Outcome::Deadlock(pids) => with_pids(3, pids.as_slice()),
         Outcome::Limit => 4,
         Outcome::Memory => 5,
     }
@@ -124,6 +137,13 @@ impl HashedOutcome {
         ensures { outcome_of result.now ≡ self.now }
     {
         &self.outcome
+    }
+
+    /// Its hash.
+    pub(crate) fn hash(&self) -> u64
+        ensures { result ≡ outcome_hash self.now }
+    {
+        self.hash
     }
 
     /// Whether it is this outcome.

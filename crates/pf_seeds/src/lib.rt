@@ -6,8 +6,10 @@ mod failure;
 mod hash;
 pub mod laws;
 mod observer;
+mod places;
 mod row;
 mod seeded;
+mod tallied;
 mod tally;
 mod workers;
 
@@ -17,5 +19,6 @@ pub use hash::HashedOutcome;
 pub use observer::HuntObserver;
 pub use row::Row;
 pub use seeded::run_by_seed;
-pub use tally::{Tally, tally_in};
+pub use tallied::tally_in;
+pub use tally::Tally;
 pub use workers::{first_of_block, tally_of_block};

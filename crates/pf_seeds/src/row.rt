@@ -1,13 +1,14 @@
 //! Outcomes that were met, and how often.
 
 ghost use Rattle.std.specs.Prelude.{◌≡◌};
-ghost use Rattle.pf_model.specs.Reports.{report_of};
+ghost use Rattle.pf_model.specs.Meaning.{Report};
+ghost use Rattle.pf_sched.specs.Judging.{IsJudged};
 ghost use Rattle.pf_seeds.specs.Rows as rows;
 ghost use Rattle.pf_seeds.specs.Rows.{met};
 ghost use Rattle.pf_seeds.specs.Views.{row_of};
 
 use crate::hash::HashedOutcome;
-use pf_model::report::Report;
+use pf_sched::Judged;
 
 /// An outcome with the verdict of the property, by how many seeds it was met, and the least of these.
 #[derive(Drop)]
@@ -31,12 +32,12 @@ fn same_verdict(a: Option<bool>, b: Option<bool>) -> bool
 
 impl Row {
     /// The row of the one run by a seed.
-    pub fn met(seed: u64, report: Report) -> Row
-        ensures { row_of result ≡ met seed (report_of report) }
+    pub fn met(seed: u64, judged: Judged) -> Row
+        ensures { (r : Report) → IsJudged r judged → row_of result ≡ met seed r }
     {
         Row {
-            verdict: report.verdict,
-            outcome: HashedOutcome::new(report.outcome),
+            verdict: judged.verdict,
+            outcome: HashedOutcome::new(judged.outcome),
             count: 1,
             least: seed,
         }

@@ -4,9 +4,10 @@ ghost use Rattle.std.specs.Prelude.{◌≡◌, IfOk};
 ghost use Rattle.pf_model.specs.Meaning.{Means};
 ghost use Rattle.pf_model.specs.Reports.{report_of};
 ghost use Rattle.pf_request.specs.Job.{asked_by_seed};
+ghost use Rattle.pf_sched.specs.Judging.{Judges};
 
 use pf_model::report::Report;
-use pf_sched::{Job, Scratch, report_of_run};
+use pf_sched::{Job, Judged, Scratch, judged_run, report_of_run};
 use pf_terms::NoMemory;
 use std::alloc::Global;
 
@@ -21,4 +22,16 @@ pub fn run_by_seed(
     ensures { IfOk result (λ r. Means (asked_by_seed job.now.asked seed) (report_of r)) }
 {
     report_of_run(alloc, &job.by_seed(seed)?, scratch)
+}
+
+/// The outcome and the verdict of that report. No event is kept.
+pub(crate) fn judged_by_seed(
+    alloc: Global,
+    job: &Job,
+    scratch: &mut Scratch,
+    seed: u64,
+) -> Result<Judged, NoMemory>
+    ensures { IfOk result (λ v. Judges (asked_by_seed job.now.asked seed) v) }
+{
+    judged_run(alloc, &job.by_seed(seed)?, scratch)
 }

@@ -1,42 +1,66 @@
 //! Each outcome that is met.
 
-ghost use Rattle.std.specs.Prelude.{◌≡◌, ◌+◌, ◌<◌, ◌^◌, IfOk, OnOk, [], MatchOption, length};
-ghost use Rattle.pf_seeds.specs.Hunts.{Tallies};
-ghost use Rattle.pf_seeds.specs.Rows.{counted, joined, with_row};
-ghost use Rattle.pf_seeds.specs.Views.{IsFirstLike, NoneBefore, row_of, rows_of};
+ghost use Rattle.std.specs.Prelude.{◌≡◌, Some, if◌then◌else◌};
+ghost use Rattle.pf_seeds.specs.RowHashes.{hashes_in};
 
+use crate::places::Places;
 use crate::row::Row;
-use crate::seeded::run_by_seed;
-use pf_sched::{Job, Scratch};
 use pf_terms::NoMemory;
 use std::alloc::Global;
 
-/// A row for each outcome that was met, in the order of the least seeds.
+/// A row for each outcome that was met, in the order of the least seeds, with where the rows of each hash stand.
 #[derive(Drop)]
 pub struct Tally {
     pub rows: Vec<Row>,
+    places: Places,
+    ghost placed: { places ≡ hashes_in rows.items },
 }
 
-/// The first row of the same outcome with the same verdict.
-fn index_of(rows: &[Row], row: &Row) -> Option<usize>
-    ensures { MatchOption result (NoneBefore rows.now row.now (length rows.now)) (IsFirstLike rows.now row.now) }
+/// This index if it is like, and else the one that was chosen before.
+fn chosen(is_like: bool, index: usize, before: Option<usize>) -> Option<usize>
+    ensures { result ≡ (if is_like then Some index else before) }
 {
-    for index in 0..rows.len() {
-        if rows[index].is_like(row) {
-            return Some(index);
-        }
-    }
-    None
+    if is_like { Some(index) } else { before }
 }
 
 impl Tally {
+    ghost use Rattle.std.specs.Prelude.{◌≡◌, ◌+◌, ◌<◌, ◌^◌, ◌++◌, ◌∷◌, OnOk, [], MatchOption, length};
+    ghost use Rattle.pf_seeds.specs.Rows.{counted, joined, with_row};
+    ghost use Rattle.pf_seeds.specs.Views.{IsFirstLike, NoneBefore, row_of, rows_of};
+
     /// No row.
     pub fn new(alloc: Global) -> Tally
         ensures { rows_of result ≡ [] }
     {
         Tally {
             rows: Vec::new(alloc),
+            places: Places::new(alloc),
         }
+    }
+
+    /// The first row of the same outcome with the same verdict, among those of its hash, which are gone through from the last to the first.
+    fn index_of(&self, row: &Row) -> Option<usize>
+        ensures { MatchOption result
+            (NoneBefore self.now.rows.items row.now (length self.now.rows.items))
+            (IsFirstLike self.now.rows.items row.now) }
+    {
+        let mut first = None;
+        let mut at = self.places.last(row.outcome.hash());
+        while let Some(index) = at {
+            first = chosen(self.rows[index].is_like(row), index, first);
+            at = self.places.before(index);
+        }
+        first
+    }
+
+    /// Puts a row behind the others.
+    fn push(&mut self, row: Row) -> Result<(), NoMemory>
+        ensures { OnOk result (self.new.rows.items ≡ self.old.rows.items ++ row ∷ []) }
+    {
+        self.rows.reserve(1)?;
+        self.places.push(row.outcome.hash())?;
+        self.rows.push(row)?;
+        Ok(())
     }
 
     /// Counts what one more row counts.
@@ -44,11 +68,13 @@ impl Tally {
         requires { counted (rows_of self.old) + row.count < 2 ^ 64 }
         ensures { OnOk result (rows_of self.new ≡ with_row (rows_of self.old) (row_of row)) }
     {
-        match index_of(&self.rows, &row) {
-            Some(index) => self.rows[index].count += row.count,
-            None => self.rows.push(row)?,
+        match self.index_of(&row) {
+            Some(index) => {
+                self.rows[index].count += row.count;
+                Ok(())
+            }
+            None => self.push(row),
         }
-        Ok(())
     }
 
     /// How many runs failed, for whoever watches.
@@ -72,17 +98,4 @@ impl Tally {
         }
         Ok(())
     }
-}
-
-/// The rows of the runs by the seeds from a first to before an end.
-pub fn tally_in(alloc: Global, job: &Job, from: u64, end: u64) -> Result<Tally, NoMemory>
-    ensures { IfOk result (λ t. Tallies job.now.asked from end (rows_of t)) }
-{
-    let mut scratch = Scratch::new(alloc);
-    let mut tally = Tally::new(alloc);
-    for seed in from..end {
-        let report = run_by_seed(alloc, job, &mut scratch, seed)?;
-        tally.add(Row::met(seed, report))?;
-    }
-    Ok(tally)
 }

@@ -6,7 +6,8 @@ ghost use Rattle.pf_seeds.specs.Hunts.{FirstFailing, Tallies};
 ghost use Rattle.pf_seeds.specs.Views.{failure_of, rows_of};
 
 use crate::failure::{Failure, first_in};
-use crate::tally::{Tally, tally_in};
+use crate::tallied::tally_in;
+use crate::tally::Tally;
 use pf_sched::Job;
 use pf_terms::NoMemory;
 use std::alloc::Global;

@@ -23,36 +23,36 @@ use std::alloc::Global;
 /// The first fault of a module: of those at the least offset the one whose code is the first in the table.
 pub fn first_fault(
     alloc: Global,
-    source: &SyntaxTree,
+    syntax: &SyntaxTree,
     atoms: &AtomTable,
 ) -> Result<Option<Refusal>, NoMemory>
-    ensures none { IfOk result (λ found. IfNone found (faults_of atoms.now (tree_of source.now) ≡ [])) }
-    ensures first { IfOk result (λ found. IfSome found (λ f. IsFirst (faults_of atoms.now (tree_of source.now)) f)) }
+    ensures none { IfOk result (λ found. IfNone found (faults_of atoms.now (tree_of syntax.now) ≡ [])) }
+    ensures first { IfOk result (λ found. IfSome found (λ f. IsFirst (faults_of atoms.now (tree_of syntax.now)) f)) }
 {
     let mut first = First::new();
-    let own = own_functions(alloc, source, atoms, &mut first)?;
-    note_exports(source, &own, &mut first);
-    note_unlike(source, &mut first);
+    let own = own_functions(alloc, syntax, atoms, &mut first)?;
+    note_exports(syntax, &own, &mut first);
+    note_unlike(syntax, &mut first);
     let mut walk = Walk {
         variables: VariableStates::new(alloc),
         first,
     };
-    walk.functions(source, atoms, &own)?;
+    walk.functions(syntax, atoms, &own)?;
     Ok(walk.first.found())
 }
 
 /// The functions of a module. It notes each whose name and number of arguments an earlier one or a built-in has.
 fn own_functions(
     alloc: Global,
-    source: &SyntaxTree,
+    syntax: &SyntaxTree,
     atoms: &AtomTable,
     first: &mut First,
 ) -> Result<Signatures, NoMemory>
-    ensures lists { IfOk result (λ own. Lists own source.now.functions) }
-    ensures found { OnOk result (kept first.new ≡ earliest (kept first.old) (defined_faults atoms.now [] source.now.functions)) }
+    ensures lists { IfOk result (λ own. Lists own syntax.now.functions) }
+    ensures found { OnOk result (kept first.new ≡ earliest (kept first.old) (defined_faults atoms.now [] syntax.now.functions)) }
 {
     let mut own = Signatures::new(alloc);
-    for function in source.functions() {
+    for function in syntax.functions() {
         define_function(&mut own, atoms, function, first)?;
     }
     Ok(own)
@@ -83,21 +83,21 @@ fn define_head(
     ensures { OnOk result ((b : NodeTable) (hs : List HeadTree) → Defines atoms.now (head_over b head.now ∷ hs) own.old own.new first.old first.new) }
 {
     let arity = head.parameters.len() as u64;
-    let fresh = own.add(head.word.name, arity)?;
-    if !fresh || is_builtin(atoms, head.word.name, arity) {
-        first.note(Code::DefinedTwice, head.word.offset);
+    let fresh = own.add(head.ident.name, arity)?;
+    if !fresh || is_builtin(atoms, head.ident.name, arity) {
+        first.note(Code::DefinedTwice, head.ident.offset);
     }
     Ok(())
 }
 
 /// Notes each export of no function.
-fn note_exports(source: &SyntaxTree, own: &Signatures, first: &mut First)
-    requires { Lists own.now source.now.functions }
-    ensures { kept first.new ≡ earliest (kept first.old) (flat_map (export_fault source.now.functions) source.now.exports) }
+fn note_exports(syntax: &SyntaxTree, own: &Signatures, first: &mut First)
+    requires { Lists own.now syntax.now.functions }
+    ensures { kept first.new ≡ earliest (kept first.old) (flat_map (export_fault syntax.now.functions) syntax.now.exports) }
 {
-    for export in source.exports() {
-        if !own.has(export.word.name, export.arity) {
-            first.note(Code::ExportOfNothing, export.word.offset);
+    for export in syntax.exports() {
+        if !own.has(export.ident.name, export.arity) {
+            first.note(Code::ExportOfNothing, export.ident.offset);
         }
     }
 }

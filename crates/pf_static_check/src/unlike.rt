@@ -11,10 +11,10 @@ use pf_fault::Code;
 use pf_syntax::{Head, SyntaxTree};
 
 /// Notes each clause whose name or number of arguments isn't that of its function's first.
-pub(crate) fn note_unlike(source: &SyntaxTree, first: &mut First)
-    ensures { kept first.new ≡ earliest (kept first.old) (flat_map unlike_faults source.now.functions) }
+pub(crate) fn note_unlike(syntax: &SyntaxTree, first: &mut First)
+    ensures { kept first.new ≡ earliest (kept first.old) (flat_map unlike_faults syntax.now.functions) }
 {
-    for function in source.functions() {
+    for function in syntax.functions() {
         note_unlike_heads(&function.heads, first);
     }
 }
@@ -36,7 +36,7 @@ fn note_unlike_to(head: &Head, others: &[Head], first: &mut First)
 {
     for other in others {
         if !is_alike(head, other) {
-            first.note(Code::HeadsDiffer, other.word.offset);
+            first.note(Code::HeadsDiffer, other.ident.offset);
         }
     }
 }
@@ -45,5 +45,5 @@ fn note_unlike_to(head: &Head, others: &[Head], first: &mut First)
 fn is_alike(head: &Head, other: &Head) -> bool
     ensures { (b : NodeTable) → result ≡ heads_are_alike (head_over b head.now) (head_over b other.now) }
 {
-    other.word.name == head.word.name && other.parameters.len() == head.parameters.len()
+    other.ident.name == head.ident.name && other.parameters.len() == head.parameters.len()
 }

@@ -1,7 +1,7 @@
 //! The walk over expressions: what is seen at each point of a function's clause, and the first fault up to there.
 
 ghost use Rattle.std.specs.Prelude.{OnOk};
-ghost use Rattle.pf_syntax.specs.Expr as written;
+ghost use Rattle.pf_syntax.specs.Expr as expr;
 ghost use Rattle.pf_syntax.specs.SyntaxTree.{expr_at, expr_pattern_at};
 ghost use Rattle.pf_syntax.specs.SyntaxTreeOver.{branches_over, condition_over, expr_over, exprs_at};
 ghost use Rattle.pf_rules.specs.Static.{names_of};
@@ -31,16 +31,16 @@ impl Walk {
     #[cycle(exprs)]
     fn expr(
         &mut self,
-        source: &SyntaxTree,
+        syntax: &SyntaxTree,
         atoms: &AtomTable,
         own: &Signatures,
         id: ExprId,
     ) -> Result<(), NoMemory>
-        requires { Lists own.now source.now.functions }
-        ensures { OnOk result (ExprWalked (names_of atoms.now source.now.functions) self.old self.new (expr_at source.now.node_table id.0)) }
+        requires { Lists own.now syntax.now.functions }
+        ensures { OnOk result (ExprWalked (names_of atoms.now syntax.now.functions) self.old self.new (expr_at syntax.now.node_table id.0)) }
     {
-        match source.expr(id) {
-            Some(node) => self.expr_node(source, atoms, own, node),
+        match syntax.expr(id) {
+            Some(node) => self.expr_node(syntax, atoms, own, node),
             None => Ok(()),
         }
     }
@@ -49,45 +49,45 @@ impl Walk {
     #[cycle(exprs)]
     fn expr_node(
         &mut self,
-        source: &SyntaxTree,
+        syntax: &SyntaxTree,
         atoms: &AtomTable,
         own: &Signatures,
         node: &ExprNode,
     ) -> Result<(), NoMemory>
-        requires { Lists own.now source.now.functions }
-        ensures { OnOk result (ExprWalked (names_of atoms.now source.now.functions) self.old self.new (expr_over source.now.node_table node.now)) }
+        requires { Lists own.now syntax.now.functions }
+        ensures { OnOk result (ExprWalked (names_of atoms.now syntax.now.functions) self.old self.new (expr_over syntax.now.node_table node.now)) }
     {
         match node {
-            ExprNode::Variable(word) => self.variable(*word),
+            ExprNode::Variable(ident) => self.variable(*ident),
             ExprNode::Anonymous(offset) => self.anonymous(*offset),
             ExprNode::Parentheses(part) | ExprNode::Negate(part) => {
-                self.expr(source, atoms, own, *part)?;
+                self.expr(syntax, atoms, own, *part)?;
             }
             ExprNode::Tuple(parts) | ExprNode::List(parts) => {
-                self.exprs(source, atoms, own, parts)?;
+                self.exprs(syntax, atoms, own, parts)?;
             }
             ExprNode::ListOn(parts, tail) => {
-                self.exprs(source, atoms, own, parts)?;
-                self.expr(source, atoms, own, *tail)?;
+                self.exprs(syntax, atoms, own, parts)?;
+                self.expr(syntax, atoms, own, *tail)?;
             }
-            ExprNode::Call(word, arguments) => {
-                self.call(atoms, own, *word, arguments.len());
-                self.exprs(source, atoms, own, arguments)?;
+            ExprNode::Call(ident, arguments) => {
+                self.call(atoms, own, *ident, arguments.len());
+                self.exprs(syntax, atoms, own, arguments)?;
             }
             ExprNode::Binary(_, left, right)
             | ExprNode::AndAlso(left, right)
             | ExprNode::OrElse(left, right)
-            | ExprNode::Send(left, right) => self.pair(source, atoms, own, *left, *right)?,
+            | ExprNode::Send(left, right) => self.pair(syntax, atoms, own, *left, *right)?,
             ExprNode::Match(expr_pattern, value) => self.matching(
-                source,
+                syntax,
                 atoms,
                 own,
                 *expr_pattern,
                 *value,
             )?,
-            ExprNode::Case(part, branches) => self.case(source, atoms, own, *part, branches)?,
+            ExprNode::Case(part, branches) => self.case(syntax, atoms, own, *part, branches)?,
             ExprNode::If(branches) | ExprNode::Receive(branches) => {
-                self.branches(source, atoms, own, branches)?;
+                self.branches(syntax, atoms, own, branches)?;
             }
             ExprNode::Integer(_) | ExprNode::Atom(_) | ExprNode::Text(_) => {}
         }
@@ -98,67 +98,67 @@ impl Walk {
     #[cycle(exprs)]
     fn pair(
         &mut self,
-        source: &SyntaxTree,
+        syntax: &SyntaxTree,
         atoms: &AtomTable,
         own: &Signatures,
         left: ExprId,
         right: ExprId,
     ) -> Result<(), NoMemory>
-        requires { Lists own.now source.now.functions }
-        ensures { OnOk result (PairWalked (names_of atoms.now source.now.functions) self.old self.new (expr_at source.now.node_table left.0) (expr_at source.now.node_table right.0)) }
+        requires { Lists own.now syntax.now.functions }
+        ensures { OnOk result (PairWalked (names_of atoms.now syntax.now.functions) self.old self.new (expr_at syntax.now.node_table left.0) (expr_at syntax.now.node_table right.0)) }
     {
-        self.expr(source, atoms, own, left)?;
-        self.expr(source, atoms, own, right)
+        self.expr(syntax, atoms, own, left)?;
+        self.expr(syntax, atoms, own, right)
     }
 
     /// Through a match: its right side, and then its pattern.
     #[cycle(exprs)]
     fn matching(
         &mut self,
-        source: &SyntaxTree,
+        syntax: &SyntaxTree,
         atoms: &AtomTable,
         own: &Signatures,
         expr_pattern: ExprPatternId,
         value: ExprId,
     ) -> Result<(), NoMemory>
-        requires { Lists own.now source.now.functions }
-        ensures { OnOk result (ExprWalked (names_of atoms.now source.now.functions) self.old self.new (written.match (expr_pattern_at source.now.node_table expr_pattern.0) (expr_at source.now.node_table value.0))) }
+        requires { Lists own.now syntax.now.functions }
+        ensures { OnOk result (ExprWalked (names_of atoms.now syntax.now.functions) self.old self.new (expr.match (expr_pattern_at syntax.now.node_table expr_pattern.0) (expr_at syntax.now.node_table value.0))) }
     {
-        self.expr(source, atoms, own, value)?;
-        self.expr_pattern(source, expr_pattern)
+        self.expr(syntax, atoms, own, value)?;
+        self.expr_pattern(syntax, expr_pattern)
     }
 
     /// Through a `case`: its expression, and then its clauses.
     #[cycle(exprs)]
     fn case(
         &mut self,
-        source: &SyntaxTree,
+        syntax: &SyntaxTree,
         atoms: &AtomTable,
         own: &Signatures,
         part: ExprId,
         branches: &[Branch],
     ) -> Result<(), NoMemory>
-        requires { Lists own.now source.now.functions }
-        ensures { OnOk result (ExprWalked (names_of atoms.now source.now.functions) self.old self.new (written.case (expr_at source.now.node_table part.0) (branches_over source.now.node_table branches.now))) }
+        requires { Lists own.now syntax.now.functions }
+        ensures { OnOk result (ExprWalked (names_of atoms.now syntax.now.functions) self.old self.new (expr.case (expr_at syntax.now.node_table part.0) (branches_over syntax.now.node_table branches.now))) }
     {
-        self.expr(source, atoms, own, part)?;
-        self.branches(source, atoms, own, branches)
+        self.expr(syntax, atoms, own, part)?;
+        self.branches(syntax, atoms, own, branches)
     }
 
     /// Through expressions, from left to right.
     #[cycle(exprs)]
     fn exprs(
         &mut self,
-        source: &SyntaxTree,
+        syntax: &SyntaxTree,
         atoms: &AtomTable,
         own: &Signatures,
         parts: &[ExprId],
     ) -> Result<(), NoMemory>
-        requires { Lists own.now source.now.functions }
-        ensures { OnOk result (ExprsWalked (names_of atoms.now source.now.functions) self.old self.new (exprs_at source.now.node_table parts.now)) }
+        requires { Lists own.now syntax.now.functions }
+        ensures { OnOk result (ExprsWalked (names_of atoms.now syntax.now.functions) self.old self.new (exprs_at syntax.now.node_table parts.now)) }
     {
         for part in parts {
-            self.expr(source, atoms, own, *part)?;
+            self.expr(syntax, atoms, own, *part)?;
         }
         Ok(())
     }
@@ -167,16 +167,16 @@ impl Walk {
     #[cycle(exprs)]
     fn condition(
         &mut self,
-        source: &SyntaxTree,
+        syntax: &SyntaxTree,
         atoms: &AtomTable,
         own: &Signatures,
         condition: &Condition,
     ) -> Result<(), NoMemory>
-        requires { Lists own.now source.now.functions }
-        ensures { OnOk result (ConditionWalked (names_of atoms.now source.now.functions) self.old self.new (condition_over source.now.node_table condition.now)) }
+        requires { Lists own.now syntax.now.functions }
+        ensures { OnOk result (ConditionWalked (names_of atoms.now syntax.now.functions) self.old self.new (condition_over syntax.now.node_table condition.now)) }
     {
         for alternative in &condition.alternatives {
-            self.tests(source, atoms, own, &alternative.tests)?;
+            self.tests(syntax, atoms, own, &alternative.tests)?;
         }
         Ok(())
     }
@@ -185,16 +185,16 @@ impl Walk {
     #[cycle(exprs)]
     fn tests(
         &mut self,
-        source: &SyntaxTree,
+        syntax: &SyntaxTree,
         atoms: &AtomTable,
         own: &Signatures,
         tests: &[ExprId],
     ) -> Result<(), NoMemory>
-        requires { Lists own.now source.now.functions }
-        ensures { OnOk result (TestsWalked (names_of atoms.now source.now.functions) self.old self.new (exprs_at source.now.node_table tests.now)) }
+        requires { Lists own.now syntax.now.functions }
+        ensures { OnOk result (TestsWalked (names_of atoms.now syntax.now.functions) self.old self.new (exprs_at syntax.now.node_table tests.now)) }
     {
         let start = self.variables.trail_len();
-        self.exprs(source, atoms, own, tests)?;
+        self.exprs(syntax, atoms, own, tests)?;
         self.variables.forget(start)?;
         Ok(())
     }
@@ -204,17 +204,17 @@ impl Walk {
     #[cycle(exprs)]
     fn branches(
         &mut self,
-        source: &SyntaxTree,
+        syntax: &SyntaxTree,
         atoms: &AtomTable,
         own: &Signatures,
         branches: &[Branch],
     ) -> Result<(), NoMemory>
-        requires { Lists own.now source.now.functions }
-        ensures { OnOk result (BranchesWalked (names_of atoms.now source.now.functions) self.old self.new (branches_over source.now.node_table branches.now)) }
+        requires { Lists own.now syntax.now.functions }
+        ensures { OnOk result (BranchesWalked (names_of atoms.now syntax.now.functions) self.old self.new (branches_over syntax.now.node_table branches.now)) }
     {
         let start = self.variables.trail_len();
         for branch in branches {
-            self.branch(source, atoms, own, branch)?;
+            self.branch(syntax, atoms, own, branch)?;
         }
         self.variables.set_since(start, Status::Unsafe)?;
         Ok(())
@@ -224,30 +224,30 @@ impl Walk {
     #[cycle(exprs)]
     fn branch(
         &mut self,
-        source: &SyntaxTree,
+        syntax: &SyntaxTree,
         atoms: &AtomTable,
         own: &Signatures,
         branch: &Branch,
     ) -> Result<(), NoMemory>
-        requires { Lists own.now source.now.functions }
-        ensures { OnOk result (BranchWalked (names_of atoms.now source.now.functions) self.old self.new (branch_of source.now.node_table branch.now)) }
+        requires { Lists own.now syntax.now.functions }
+        ensures { OnOk result (BranchWalked (names_of atoms.now syntax.now.functions) self.old self.new (branch_of syntax.now.node_table branch.now)) }
     {
         let start = self.variables.trail_len();
-        self.expr_pattern(source, branch.expr_pattern)?;
-        self.condition(source, atoms, own, &branch.condition)?;
-        self.exprs(source, atoms, own, &branch.body)?;
+        self.expr_pattern(syntax, branch.expr_pattern)?;
+        self.condition(syntax, atoms, own, &branch.condition)?;
+        self.exprs(syntax, atoms, own, &branch.body)?;
         self.variables.set_since(start, Status::New)?;
         Ok(())
     }
 
     /// A variable in an expression.
-    fn variable(&mut self, word: Ident)
-        ensures { VariableWalked self.old self.new word.name.0 word.offset }
+    fn variable(&mut self, ident: Ident)
+        ensures { VariableWalked self.old self.new ident.name.0 ident.offset }
     {
-        match self.variables.status(word.name) {
-            Status::New => self.first.note(Code::Unbound, word.offset),
+        match self.variables.status(ident.name) {
+            Status::New => self.first.note(Code::Unbound, ident.offset),
             Status::Bound => {}
-            Status::Unsafe => self.first.note(Code::Unsafe, word.offset),
+            Status::Unsafe => self.first.note(Code::Unsafe, ident.offset),
         }
     }
 
@@ -259,11 +259,11 @@ impl Walk {
     }
 
     /// The name of a call with this number of arguments.
-    fn call(&mut self, atoms: &AtomTable, own: &Signatures, word: Ident, arity: usize)
-        ensures { CallWalked atoms.now own.now self.old self.new word.name.0 word.offset arity }
+    fn call(&mut self, atoms: &AtomTable, own: &Signatures, ident: Ident, arity: usize)
+        ensures { CallWalked atoms.now own.now self.old self.new ident.name.0 ident.offset arity }
     {
-        if !is_defined(atoms, own, word.name, arity as u64) {
-            self.first.note(Code::Undefined, word.offset);
+        if !is_defined(atoms, own, ident.name, arity as u64) {
+            self.first.note(Code::Undefined, ident.offset);
         }
     }
 }

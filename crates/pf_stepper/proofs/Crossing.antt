@@ -1,4 +1,4 @@
--- A machine may go to another thread, and so may what it asks for and how it moved: a lemma a type, each from those of its parts.
+-- A machine may go to another thread, and so may what it asks for, how it moved and its room: a lemma a type, each from those of its parts.
 use denote.Param.Send.{IsSend, recorded_send, sendable}
 use Rattle.std.proofs.Crossing as heap
 use Rattle.pf_terms.proofs.Crossing as terms
@@ -11,6 +11,7 @@ use Rattle.pf_stepper.specs.contracts.frame.Focus as Focus
 use Rattle.pf_stepper.specs.contracts.machine.Machine as Machine
 use Rattle.pf_stepper.specs.contracts.machine.Move as Move
 use Rattle.pf_stepper.specs.contracts.machine.Standing as Standing
+use Rattle.pf_stepper.specs.contracts.room.Room as Room
 use Rattle.pf_stepper.specs.contracts.stack.Stack as Stack
 
 -- ---- a machine
@@ -27,6 +28,9 @@ standing_field_send = search (focus_field_send, sendable) depth 30
 pub machine_send : IsSend Machine.the_row
 machine_send = search (syntax.crosses, stack_field_send, standing_field_send, heap.crosses, sendable) depth 30
 
+pub room_send : IsSend Room.the_row
+room_send = search (terms.term_send, frame.the_send, heap.crosses, sendable) depth 30
+
 -- ---- what it did
 
 pub act_field_send : IsSend (Act.the_field).row
@@ -41,4 +45,4 @@ move_field_send = search (terms.crosses, act_field_send, sendable) depth 30
 pub move_send : IsSend Move.the_row
 move_send = recorded_send (Move.the_field).row _ _ (Move.the_type).to_one move_field_send
 
-pub ruleset crosses = (machine_send, act_field_send, act_send, move_field_send, move_send)
+pub ruleset crosses = (machine_send, room_send, act_field_send, act_send, move_field_send, move_send)

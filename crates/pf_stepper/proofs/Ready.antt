@@ -128,6 +128,7 @@ module _ (ready : Receive → Type 0) (m : Checked) (own : ℕ) where
     ran_ready (a.Changed y) k =
         let q = process_goes m.tables s.env.items s.operands.items s.base s.frames.items y in
         subst Before (sym q.1) (ready_later (module_of m) own ready left x q.0 (subst (Steps (module_of m) own left (goes_on x)) q.1 k.1) h)
+    ran_ready (a.Sends w) k = last (a.Sends w) k.0 k.1 k.4 k.5
     ran_ready (a.Asks act) k = last (a.Asks act) k.0 k.1 k.4 k.5
     ran_ready (a.Awaits n) k = last (a.Awaits n) k.0 k.1 k.4 k.5
     ran_ready (a.Returned v) k = last (a.Returned v) k.0 k.1 k.4 k.5
@@ -151,6 +152,9 @@ module _ (ready : Receive → Type 0) (m : Checked) (own : ℕ) where
 
     no_asking : (gs : List Frame) (act : Act) (x : State) → Contracts (module_of m) own (goes_on x) (asks gs act) → (fs : List Frame) (ks : Clauses) → Contracts (module_of m) own (goes_on x) (awaits fs ks) → ⊥
     no_asking gs act x c fs ks k = let d = one_next (module_of m) own (goes_on x) (asks gs act) (awaits fs ks) c k in absurd cc
+
+    pub ready_sending : (w : Term) → IsReadyToSettle ready m own s (a.Sends w) → IsReadyForAll ready
+    ready_sending w h = ready_elsewhere (module_of m) own ready h.0 (no_asking _ _ h.0 h.1.0) h.2
 
     pub ready_asking : (act : _) → IsReadyToSettle ready m own s (a.Asks act) → IsReadyForAll ready
     ready_asking act h = ready_elsewhere (module_of m) own ready h.0 (no_asking _ _ h.0 h.1.0) h.2

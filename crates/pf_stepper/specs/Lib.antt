@@ -12,5 +12,6 @@ pub mod Readiness
 pub mod Encoding
 pub mod Inner
 pub mod Moves
+pub mod Rooms
 pub mod Settled
 pub mod Turns

@@ -6,7 +6,7 @@ use Rattle.pf_syntax.specs.declared.node.Operand.TheVariants as part
 use Rattle.pf_model.specs.Module.{module_of}
 use Rattle.pf_model.specs.Context.{State, goes_on}
 use Rattle.pf_model.specs.Context.{Move as Next}
-use Rattle.pf_stepper.specs.Advanced.{AdvancedFrom, IsSound, IsHolding, stack_process}
+use Rattle.pf_stepper.specs.Advanced.{AdvancedFrom, IsSound, IsHolding, IsSending, stack_process}
 use Rattle.pf_stepper.specs.Inner.{standing_by, standing_in, SoundIn}
 use Rattle.pf_stepper.specs.MachineView.{MachineView}
 use Rattle.pf_stepper.specs.Moves.{Moved}
@@ -18,11 +18,11 @@ use Rattle.pf_stepper.specs.declared.advance.Advance.TheVariants as a
 use Rattle.pf_stepper.specs.declared.machine.Standing.{Standing}
 use Rattle.pf_stepper.specs.declared.machine.Move.{Move}
 use Rattle.pf_stepper.specs.declared.machine.Move.TheVariants as v
-use Rattle.pf_stepper.specs.declared.machine.Stop.{Stop}
 
 -- the stacks are sound for what they did
 abbrev pub AdvanceIsSound : Stack → Advance → Type 0
 AdvanceIsSound s (a.Changed y) = IsSound s y
+AdvanceIsSound s (a.Sends w) = IsSending s
 AdvanceIsSound s (a.Asks act) = IsHolding s
 AdvanceIsSound s (a.Awaits n) = IsSound s (f.Eval (part.Node n))
 AdvanceIsSound s (a.Returned v) = Unit {0}
@@ -54,12 +54,12 @@ EndsTurn v.Wait = Unit {0}
 EndsTurn (v.End r) = Unit {0}
 
 -- contractions leave the machine where they led, and the mailbox; else it made another move
-abbrev pub TurnGoesOn : Checked → Stack → Advance → List Value → Stack → Stop → List Value → Type 0
-TurnGoesOn m s (a.Changed y) mail s' stop mail' = (stop.did ≡ v.Pure) × (standing_in m s' stop.standing ≡ standing_by (stack_process m s y)) × (mail' ≡ mail)
-TurnGoesOn m s r mail s' stop mail' = EndsTurn stop.did
+abbrev pub TurnGoesOn : Checked → Stack → Advance → List Value → Stack → Standing → Move → List Value → Type 0
+TurnGoesOn m s (a.Changed y) mail s' x did mail' = (did ≡ v.Pure) × (standing_in m s' x ≡ standing_by (stack_process m s y)) × (mail' ≡ mail)
+TurnGoesOn m s r mail s' x did mail' = EndsTurn did
 
 -- whatever state led to what the stack did, from there the machine made this move, and it stands so
-pub record Settled (m : Checked) (own : ℕ) (s : Stack) (r : Advance) (mail : List Value) (s' : Stack) (stop : Stop) (mail' : List Value) : Type 0 where
-  pub sound : SoundIn s' stop.standing
-  pub moved : (x : State) → AdvancedFrom m own (goes_on x) s r → Moved (module_of m) own x mail stop.did (standing_in m s' stop.standing) mail'
-  pub turn : TurnGoesOn m s r mail s' stop mail'
+pub record Settled (m : Checked) (own : ℕ) (s : Stack) (r : Advance) (mail : List Value) (s' : Stack) (x : Standing) (did : Move) (mail' : List Value) : Type 0 where
+  pub sound : SoundIn s' x
+  pub moved : (y : State) → AdvancedFrom m own (goes_on y) s r → Moved (module_of m) own y mail did (standing_in m s' x) mail'
+  pub turn : TurnGoesOn m s r mail s' x did mail'

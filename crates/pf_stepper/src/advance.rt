@@ -6,17 +6,18 @@ ghost use Rattle.pf_stepper.specs.Advanced.{Advanced, IsSound, RanFrom, stack_pr
 
 use crate::act::Act;
 use crate::frame::{Focus, MicroStep};
-use crate::stack::Stack;
+use crate::stack::{Stack, put};
 use pf_ops::ending_reason;
 use pf_syntax::{Module, NodeId};
 use pf_terms::{NoMemory, Term};
 use std::alloc::Global;
 
-/// A contraction was made; or the process asks for an action, stands at the `receive` of a node, returned a value, or is
-/// about to end with a reason.
+/// A contraction was made; or the process sends a message to its last operand, asks for another action, stands at the
+/// `receive` of a node, returned a value, or is about to end with a reason.
 #[derive(Drop)]
 pub(crate) enum Advance {
     Changed(Focus),
+    Sends(Term),
     Asks(Box<Act>),
     Awaits(NodeId),
     Returned(Term),
@@ -62,6 +63,7 @@ impl Stack {
             match self.micro_step(alloc, code, own, focus)? {
                 MicroStep::Silent(next) => focus = next,
                 MicroStep::Contracted(next) => return Ok(Advance::Changed(next)),
+                MicroStep::Sends(message) => return Ok(Advance::Sends(message)),
                 MicroStep::Asks(act) => return Ok(Advance::Asks(act)),
                 MicroStep::Awaits(id) => return Ok(Advance::Awaits(id)),
                 MicroStep::Returned(value) => return Ok(Advance::Returned(value)),
@@ -73,7 +75,8 @@ impl Stack {
         }
     }
 
-    /// So many contractions, or those up to what stops the process; and the steps that it made with it.
+    /// Contractions up to this number, or to what stops the process: the steps that it made with it, and in `advance` where
+    /// it came to.
     #[inline(never)]
     pub(crate) fn run(
         &mut self,
@@ -82,10 +85,11 @@ impl Stack {
         own: u32,
         first: Focus,
         left: u32,
-    ) -> Result<(Advance, u32), NoMemory>
+        advance: &mut Advance,
+    ) -> Result<u32, NoMemory>
         requires { IsSound self.old first }
-        ensures { IfOk result (λ r.
-            RanFrom code.now own left (stack_process code.now self.old first) self.new r.0 r.1) }
+        ensures { IfOk result (λ used.
+            RanFrom code.now own left (stack_process code.now self.old first) self.new advance.new used) }
     {
         let mut focus = first;
         let mut used = 0;
@@ -93,9 +97,13 @@ impl Stack {
             used += 1;
             match self.advance(alloc, code, own, focus)? {
                 Advance::Changed(next) => focus = next,
-                stop => return Ok((stop, used)),
+                stop => {
+                    put(advance, stop);
+                    return Ok(used);
+                }
             }
         }
-        Ok((Advance::Changed(focus), used))
+        put(advance, Advance::Changed(focus));
+        Ok(used)
     }
 }

@@ -47,7 +47,7 @@ impl Stack {
         self.resume(frame);
         let (binary, right) = operation(code, id);
         match self.operand(code, right)? {
-            Some(other) => pair_up(alloc, code, binary, value, other),
+            Some(other) => pair_up(alloc, code, binary, value, other, &mut self.operands),
             None => {
                 self.operands.push(value)?;
                 self.wait(Kind::BinaryRight(binary))?;
@@ -71,7 +71,7 @@ impl Stack {
         ensures { IfOk result (λ t. Gave code.now own self.old frame value self.new t) }
     {
         match self.operands.pop() {
-            Some(left) => pair_up(alloc, code, binary, left, value),
+            Some(left) => pair_up(alloc, code, binary, left, value, &mut self.operands),
             None => Ok(MicroStep::Contracted(Focus::Raised(Term::Atom(AtomId::UNDEF)))),
         }
     }
@@ -93,7 +93,7 @@ impl Stack {
     {
         self.resume(frame);
         let left = self.slot_or_nil(index)?;
-        pair_up(alloc, code, binary, left, value)
+        pair_up(alloc, code, binary, left, value, &mut self.operands)
     }
 
     /// The operand of a minus.

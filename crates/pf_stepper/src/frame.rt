@@ -72,7 +72,9 @@ pub(crate) enum Focus {
 pub(crate) enum MicroStep {
     Silent(Focus),
     Contracted(Focus),
-    /// The process asks for this action, which stands in a box: so the others stay small.
+    /// The process sends this message. The receiver is the last operand, and no frame keeps it.
+    Sends(Term),
+    /// The process asks for another action, which stands in a box: so the others stay small.
     Asks(Box<Act>),
     /// The process stands at the `receive` of this node.
     Awaits(NodeId),

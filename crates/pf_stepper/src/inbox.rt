@@ -8,6 +8,7 @@ ghost use Rattle.pf_stepper.specs.Readiness.{IsReadyForAll, Receive, receive_in}
 ghost use Rattle.pf_stepper.specs.Selected.{TakesMessage, TakesNothing};
 
 use crate::clauses::choose;
+use pf_nodes::Pool;
 use pf_syntax::{Clause, Module, Operand};
 use pf_terms::{NoMemory, Term};
 use std::alloc::Global;
@@ -20,25 +21,27 @@ pub trait Inbox {
     ghost IsReady: { Self → Receive → Type 0 };
 
     /// Takes the oldest message that some clause fits with its guard, by the first such clause, in the process of
-    /// this pid: the body of that clause, whose bindings come onto the activation that begins at `base`, and the
-    /// message. The others stay in order. The inbox is ready for this `receive`, and stays so; where a message is
-    /// taken it is ready for whatever comes.
+    /// this pid: the body of that clause, whose bindings come onto the activation that begins at `base`. The message
+    /// is written to `taken`, and its node, where it has one, goes to the pool. The others stay in order. The inbox is
+    /// ready for this `receive`, and stays so; where a message is taken it is ready for whatever comes.
     fn select(
         &mut self,
         alloc: Global,
+        pool: &mut Pool<Term>,
         code: &Module,
         clauses: &[Clause],
         env: &mut Vec<Term>,
         base: usize,
         own: u32,
-    ) -> Result<Option<(Operand, Term)>, NoMemory>
+        taken: &mut Term,
+    ) -> Result<Option<Operand>, NoMemory>
         requires slots { base ≤ length env.old.items }
         requires ready { IsReady self.old (receive_in code.now own base env.old.items clauses.now) }
         ensures selected { IfOk result (λ o. MatchOption o
             (TakesNothing code.now own base env.old.items env.new.items
             (clauses_over code.now.tables clauses.now) (messages self.old) (messages self.new))
-            (λ t. TakesMessage code.now own base env.old.items env.new.items
-            (clauses_over code.now.tables clauses.now) (messages self.old) (messages self.new) t.0 t.1)) }
+            (λ body. TakesMessage code.now own base env.old.items env.new.items
+            (clauses_over code.now.tables clauses.now) (messages self.old) (messages self.new) body taken.new)) }
         ensures still { IsReady self.new (receive_in code.now own base env.old.items clauses.now) }
         ensures anew { IfOk result (λ o. IfSome o (λ _. IsReadyForAll (IsReady self.new))) }
         ensures refused { OnErr result (messages self.new ≡ messages self.old) };
@@ -58,16 +61,18 @@ impl Inbox for PlainInbox {
     fn select(
         &mut self,
         alloc: Global,
+        _pool: &mut Pool<Term>,
         code: &Module,
         clauses: &[Clause],
         env: &mut Vec<Term>,
         base: usize,
         own: u32,
-    ) -> Result<Option<(Operand, Term)>, NoMemory> {
+        taken: &mut Term,
+    ) -> Result<Option<Operand>, NoMemory> {
         for at in 0..self.messages.len() {
             if let Some(body) = choose(alloc, code, clauses, &self.messages[at], env, base, own)? {
-                let message = self.messages.remove(at);
-                return Ok(Some((body, message)));
+                *taken = self.messages.remove(at);
+                return Ok(Some(body));
             }
         }
         Ok(None)

@@ -1,6 +1,6 @@
 //! A machine: one process that runs the functions of a module.
 
-ghost use Rattle.std.specs.Prelude.{◌≡◌, IfOk, IsErr, OnErr};
+ghost use Rattle.std.specs.Prelude.{◌≡◌, IfOk, IsErr, OnErr, OnOk};
 ghost use Rattle.pf_terms.specs.Term.{values_of};
 ghost use Rattle.pf_model.specs.Module.{module_of};
 ghost use Rattle.pf_stepper.specs.MachineView.{at_call, spent, standing_so};
@@ -13,7 +13,9 @@ use crate::advance::Advance;
 use crate::frame::{Callee, Focus};
 use crate::inbox::Inbox;
 use crate::lookups::clauses;
-use crate::stack::Stack;
+use crate::room::Room;
+use crate::stack::{Stack, put};
+use pf_nodes::Pool;
 use pf_syntax::{FunctionId, Module, NodeId, Operand};
 use pf_terms::{NoMemory, Term};
 use smallvec::SmallVec;
@@ -21,9 +23,6 @@ use std::alloc::Global;
 use std::marker::Model;
 use std::mem;
 use std::sync::Arc;
-
-/// How many slots, operands and frames a machine has room for from the first.
-const ROOM: usize = 16;
 
 /// How a machine stands: its process goes on, waits for the answer to an action, or has ended; or memory ran out.
 #[derive(Drop)]
@@ -69,93 +68,131 @@ pub enum Move {
     End(Result<Term, Term>),
 }
 
-/// What a machine is left as, and the move that it made.
-#[derive(Drop)]
-pub(crate) struct Stop {
-    pub(crate) standing: Standing,
-    pub(crate) did: Move,
-}
-
-/// What a `receive` does with a mailbox.
+/// What a `receive` does with a mailbox: how the machine stands then, and its move, are written where they stay.
 fn receive<I: Inbox>(
     alloc: Global,
     inbox: &mut I,
+    pool: &mut Pool<Term>,
     code: &Module,
     own: u32,
     stack: &mut Stack,
     id: NodeId,
-) -> Result<Stop, NoMemory>
+    standing: &mut Standing,
+    did: &mut Move,
+) -> Result<(), NoMemory>
     requires sound { AdvanceIsSound stack.old (Advance.Awaits id) }
     requires ready { IsReadyToSettle (I.IsReady inbox.old) code.now own stack.old (Advance.Awaits id) }
-    ensures settled { IfOk result (λ s. Settled code.now own stack.old (Advance.Awaits id)
-        (I.messages inbox.old) stack.new s (I.messages inbox.new)) }
-    ensures ready { IfOk result (λ s. IsReadyAfter (I.IsReady inbox.new) code.now own stack.new s.standing) }
-    ensures refused { OnErr result (I.messages inbox.new ≡ I.messages inbox.old) }
+    ensures settled { OnOk result (Settled code.now own stack.old (Advance.Awaits id) (I.messages inbox.old)
+        stack.new standing.new did.new (I.messages inbox.new)) }
+    ensures ready { OnOk result (IsReadyAfter (I.IsReady inbox.new) code.now own stack.new standing.new) }
+    ensures refused { OnErr result ((standing.new ≡ standing.old)
+        × (I.messages inbox.new ≡ I.messages inbox.old)) }
 {
     let clauses = clauses(code, id);
-    match inbox.select(alloc, code, clauses, &mut stack.env, stack.base, own)? {
-        Some((body, message)) => Ok(Stop {
-            standing: Standing::Goes(Focus::Eval(body)),
-            did: Move::Take(message),
-        }),
-        None => Ok(Stop {
-            standing: Standing::Goes(Focus::Eval(Operand::Node(id))),
-            did: Move::Wait,
-        }),
+    let mut message = Term::Int(0);
+    let picked = inbox.select(
+        alloc,
+        pool,
+        code,
+        clauses,
+        &mut stack.env,
+        stack.base,
+        own,
+        &mut message,
+    )?;
+    match picked {
+        Some(body) => {
+            put(standing, Standing::Goes(Focus::Eval(body)));
+            put(did, Move::Take(message));
+        }
+        None => {
+            put(standing, Standing::Goes(Focus::Eval(Operand::Node(id))));
+            put(did, Move::Wait);
+        }
     }
+    Ok(())
 }
 
-/// What a machine is left as by what its stack did.
+/// How a machine stands after what its stack did, and its move, written where they stay.
 fn settle<I: Inbox>(
     alloc: Global,
     inbox: &mut I,
+    pool: &mut Pool<Term>,
     code: &Module,
     own: u32,
     stack: &mut Stack,
     advance: Advance,
-) -> Result<Stop, NoMemory>
+    standing: &mut Standing,
+    did: &mut Move,
+) -> Result<(), NoMemory>
     requires sound { AdvanceIsSound stack.old advance }
     requires ready { IsReadyToSettle (I.IsReady inbox.old) code.now own stack.old advance }
-    ensures settled { IfOk result (λ s. Settled code.now own stack.old advance
-        (I.messages inbox.old) stack.new s (I.messages inbox.new)) }
-    ensures ready { IfOk result (λ s. IsReadyAfter (I.IsReady inbox.new) code.now own stack.new s.standing) }
-    ensures refused { OnErr result (I.messages inbox.new ≡ I.messages inbox.old) }
+    ensures settled { OnOk result (Settled code.now own stack.old advance (I.messages inbox.old)
+        stack.new standing.new did.new (I.messages inbox.new)) }
+    ensures ready { OnOk result (IsReadyAfter (I.IsReady inbox.new) code.now own stack.new standing.new) }
+    ensures refused { OnErr result ((standing.new ≡ standing.old)
+        × (I.messages inbox.new ≡ I.messages inbox.old)) }
 {
-    let (standing, did) = match advance {
-        Advance::Changed(next) => (Standing::Goes(next), Move::Pure),
-        Advance::Asks(act) => (Standing::Asking, Move::Action(Box::into_inner(act))),
-        Advance::Awaits(id) => return receive(alloc, inbox, code, own, stack, id),
-        Advance::Returned(value) => (Standing::Over, Move::End(Ok(value))),
-        Advance::Ended(reason) => (Standing::Over, Move::End(Err(reason))),
-    };
-    Ok(Stop { standing, did })
+    match advance {
+        Advance::Changed(next) => {
+            put(standing, Standing::Goes(next));
+            put(did, Move::Pure);
+        }
+        Advance::Sends(message) => {
+            let to = stack.operands.pop().unwrap();
+            put(standing, Standing::Asking);
+            put(did, Move::Action(Act::Send { to, message }));
+        }
+        Advance::Asks(act) => {
+            put(standing, Standing::Asking);
+            put(did, Move::Action(Box::into_inner(act)));
+        }
+        Advance::Awaits(id) => {
+            return receive(alloc, inbox, pool, code, own, stack, id, standing, did);
+        }
+        Advance::Returned(value) => {
+            put(standing, Standing::Over);
+            put(did, Move::End(Ok(value)));
+        }
+        Advance::Ended(reason) => {
+            put(standing, Standing::Over);
+            put(did, Move::End(Err(reason)));
+        }
+    }
+    Ok(())
 }
 
 impl Machine {
-    /// A process of this pid, at the call of a function with these arguments.
+    /// A process of this pid, at the call of a function with these arguments. It is the same in whatever room it begins.
     pub fn new(
-        alloc: Global,
         own: u32,
         module: Arc<Module>,
         function: FunctionId,
         args: SmallVec<Term, 4>,
+        room: Room,
     ) -> Result<Machine, NoMemory>
         ensures { IfOk result (λ m.
             m ≡ at_call own (module_of «module».value) function.0 (values_of args.items)) }
     {
         let count = args.len();
-        let stack = Stack {
-            env: Vec::with_capacity(alloc, ROOM)?,
-            operands: args.into_vec()?,
-            frames: Vec::with_capacity(alloc, ROOM)?,
-            base: 0,
-        };
+        let stack = room.stacks(args)?;
         Ok(Machine {
             own,
             module,
             stack,
             standing: Standing::Goes(Focus::Enter(Callee::Function(function), count)),
         })
+    }
+
+    /// What the machine had of room, for another one that begins; none where it is more than is kept.
+    pub fn into_room(self) -> Option<Room> {
+        let Machine {
+            own: _,
+            module: _,
+            stack,
+            standing: _,
+        } = self;
+        Room::of(stack)
     }
 
     /// The pid of the process.
@@ -165,19 +202,22 @@ impl Machine {
         self.own
     }
 
-    /// All steps up to and with the next action, message, wait or end, but no more than `left`; and how many they were.
-    /// The inbox is ready for the `receive` at which the machine stands, and else for whatever comes; and it is so again
-    /// afterwards. Once memory ran out, each call answers so.
+    /// All steps up to and with the next action, message, wait or end, but no more than `left`: how many they were, and in
+    /// `did` the move that ended them. The inbox is ready for the `receive` at which the machine stands, and else for
+    /// whatever comes; and it is so again afterwards. The node of a message that is taken goes to the pool. Once memory ran
+    /// out, each call answers so.
     pub fn run<I: Inbox>(
         &mut self,
         alloc: Global,
         inbox: &mut I,
+        pool: &mut Pool<Term>,
         left: u32,
-    ) -> Result<(Move, u32), NoMemory>
+        did: &mut Move,
+    ) -> Result<u32, NoMemory>
         requires stands { CanMove self.old.standing }
         requires ready { IsReadyAhead (I.IsReady inbox.old) self.old }
-        ensures ran { IfOk result (λ r.
-            RunsTurn left self.old (I.messages inbox.old) r.0 self.new r.1 (I.messages inbox.new)) }
+        ensures ran { IfOk result (λ used.
+            RunsTurn left self.old (I.messages inbox.old) did.new self.new used (I.messages inbox.new)) }
         ensures spent { OnErr result ((self.new ≡ standing_so self.old spent)
             × (I.messages inbox.new ≡ I.messages inbox.old)) }
         ensures ready { IsReadyAhead (I.IsReady inbox.new) self.new }
@@ -187,22 +227,32 @@ impl Machine {
             Standing::Goes(focus) => focus,
             _ => return Err(NoMemory),
         };
-        let (advance, used) = self.stack.run(alloc, &self.module, self.own, focus, left)?;
-        let stop = settle(
+        let mut advance = Advance::Awaits(NodeId(0));
+        let used = self
+            .stack
+            .run(alloc, &self.module, self.own, focus, left, &mut advance)?;
+        settle(
             alloc,
             inbox,
+            pool,
             &self.module,
             self.own,
             &mut self.stack,
             advance,
+            &mut self.standing,
+            did,
         )?;
-        self.standing = stop.standing;
-        Ok((stop.did, used))
+        Ok(used)
     }
 
     /// One step: a contraction, an action that is asked for, a message that is taken, a wait, or the end. The inbox is
     /// ready as for `run`.
-    pub fn advance<I: Inbox>(&mut self, alloc: Global, inbox: &mut I) -> Result<Move, NoMemory>
+    pub fn advance<I: Inbox>(
+        &mut self,
+        alloc: Global,
+        inbox: &mut I,
+        pool: &mut Pool<Term>,
+    ) -> Result<Move, NoMemory>
         requires stands { CanMove self.old.standing }
         requires ready { IsReadyAhead (I.IsReady inbox.old) self.old }
         ensures moved { IfOk result (λ m.
@@ -212,7 +262,8 @@ impl Machine {
         ensures ready { IsReadyAhead (I.IsReady inbox.new) self.new }
         ensures refused { self.old.standing ≡ spent → IsErr result }
     {
-        let (did, _used) = self.run(alloc, inbox, 1)?;
+        let mut did = Move::Pure;
+        self.run(alloc, inbox, pool, 1, &mut did)?;
         Ok(did)
     }
 
@@ -228,11 +279,12 @@ impl Machine {
     }
 }
 
-/// What a scheduler will need: machines, and what they did, may go to another thread.
-fn crosses_threads(machine: &Machine, machines: &Vec<Machine>, moves: &Vec<(Move, u32)>) {
+/// What a scheduler will need: machines, what they did, and their rooms may go to another thread.
+fn crosses_threads(machine: &Machine, machines: &Vec<Machine>, did: &Vec<Move>, rooms: &Vec<Room>) {
     needs_send(machine);
     needs_send(machines);
-    needs_send(moves);
+    needs_send(did);
+    needs_send(rooms);
 }
 
 fn needs_send<T: Send>(_value: &T) {}

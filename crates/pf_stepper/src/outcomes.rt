@@ -9,9 +9,8 @@ ghost use Rattle.pf_ops.specs.Results.{answer_of, result_of};
 ghost use Rattle.pf_model.specs.Contraction.{worked_out};
 ghost use Rattle.pf_stepper.specs.Lookups.{pairing_of};
 ghost use Rattle.pf_stepper.specs.Pairs.{pair_change};
-ghost use Rattle.pf_stepper.specs.MicroSteps.{IsDone, IsOutcome};
+ghost use Rattle.pf_stepper.specs.MicroSteps.{IsOutcome, IsPairedUp};
 
-use crate::act::Act;
 use crate::frame::{Binary, Focus, MicroStep};
 use pf_ops::{apply, cons, on_integers};
 use pf_syntax::{Module, Operator};
@@ -55,7 +54,7 @@ fn operate(
     Ok(outcome(apply(alloc, operator, left, right, code.atoms())?))
 }
 
-/// What two operands come to.
+/// What two operands come to. The receiver of a message goes onto the operands that are there.
 #[inline(always)]
 pub(crate) fn pair_up(
     alloc: Global,
@@ -63,9 +62,10 @@ pub(crate) fn pair_up(
     binary: Binary,
     left: Term,
     right: Term,
+    operands: &mut Vec<Term>,
 ) -> Result<MicroStep, NoMemory>
-    ensures { IfOk result (λ r. IsDone (pair_change (name_of code.now.atoms) (pairing_of binary)
-        (value_of left) (value_of right)) r) }
+    ensures { IfOk result (λ r. IsPairedUp (pair_change (name_of code.now.atoms) (pairing_of binary)
+        (value_of left) (value_of right)) left operands.old.items operands.new.items r) }
 {
     match binary {
         Binary::Operator(operator) => {
@@ -77,11 +77,8 @@ pub(crate) fn pair_up(
         }
         Binary::Cons => Ok(MicroStep::Contracted(outcome(cons(alloc, left, right)?))),
         Binary::Send => {
-            let act = Act::Send {
-                to: left,
-                message: right,
-            };
-            Ok(MicroStep::Asks(Box::new(alloc, act)?))
+            operands.push(left)?;
+            Ok(MicroStep::Sends(right))
         }
     }
 }

@@ -24,6 +24,14 @@ pub(crate) struct Stack {
     pub(crate) base: usize,
 }
 
+/// Writes a value where another one stands, which is dropped.
+#[inline(always)]
+pub(crate) fn put<T: Drop>(place: &mut T, value: T)
+    ensures { place.new ≡ value }
+{
+    *place = value;
+}
+
 /// Takes off what comes after the first n.
 #[inline(always)]
 pub(crate) fn cut(values: &mut Vec<Term>, end: usize)

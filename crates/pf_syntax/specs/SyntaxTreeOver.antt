@@ -86,7 +86,7 @@ expr_over b (says.Receive cs) = p.receive (branches_over b cs.items)
 -- a clause of a function, over its parts
 abbrev pub head_over : NodeTable → HeadNode → Head
 head_over b h =
-    record { name = h.word.name.0; offset = h.word.offset; parameters = expr_patterns_at b h.parameters.items; condition = condition_over b h.condition; body = exprs_at b h.body.items }
+    record { name = h.ident.name.0; offset = h.ident.offset; parameters = expr_patterns_at b h.parameters.items; condition = condition_over b h.condition; body = exprs_at b h.body.items }
 
 -- a function, as its clauses
 abbrev pub heads_over : NodeTable → ExprFunction → List Head
@@ -94,7 +94,7 @@ heads_over b f = map (head_over b) f.heads.items
 
 -- an entry of an export list
 abbrev pub export_of : ExportNode → Export
-export_of e = record { name = e.word.name.0; arity = e.arity; offset = e.word.offset }
+export_of e = record { name = e.ident.name.0; arity = e.arity; offset = e.ident.offset }
 
 -- ---- one more
 

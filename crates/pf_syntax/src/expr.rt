@@ -95,7 +95,7 @@ pub struct Branch {
 /// A clause of a function of the surface syntax.
 #[derive(Drop)]
 pub struct Head {
-    pub word: Ident,
+    pub ident: Ident,
     pub parameters: Vec<ExprPatternId>,
     pub condition: Condition,
     pub body: Vec<ExprId>,
@@ -110,6 +110,6 @@ pub struct ExprFunction {
 /// An entry of an export list.
 #[derive(Clone, Copy, PartialEq, Eq, Debug)]
 pub struct Export {
-    pub word: Ident,
+    pub ident: Ident,
     pub arity: u64,
 }

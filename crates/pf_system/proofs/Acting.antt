@@ -21,8 +21,7 @@ use Rattle.pf_ties.specs.Laws as law
 use Rattle.pf_ties.specs.Laws.{ties_of}
 use Rattle.pf_ties.proofs.Followed.{follow_actions}
 use Rattle.pf_stepper.specs.Turns.{told_of}
-use Rattle.pf_system.specs.Acts.{Answers, CarriesOut, ActsAs}
-use Rattle.pf_system.specs.declared.shared.Answer.{Answer}
+use Rattle.pf_system.specs.Acts.{Answer, Answers, CarriesOut, ActsAs}
 use Rattle.pf_system.specs.declared.shared.Shared.{Shared}
 
 -- ---- operands of another kind

@@ -63,10 +63,6 @@ bodies_changed c a p = set_map process_body a c.processes p
 pub bodies_same : (c : Core) (a : ℕ) (p : Process) → process_body p ≡ process_body (of c a) → bodies_of (with_process c a p) ≡ bodies_of c
 bodies_same c a p e = bodies_changed c a p ∙ set_same process_body a c.processes (process_body p) e
 
-pub ties_same : (c : Core) (a : ℕ) (p : Process) → process_ties p ≡ process_ties (of c a) → ties_of (with_process c a p) ≡ ties_of c
-ties_same c a p e =
-    ap (λ ts. record (ties_of c) { processes = ts }) (set_map process_ties a c.processes p ∙ set_same process_ties a c.processes (process_ties p) e)
-
 pub length_of : (c : Core) → length c.processes ≡ length (bodies_of c)
 length_of c = sym (length-map c.processes process_body)
 

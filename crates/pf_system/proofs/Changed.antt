@@ -7,13 +7,14 @@ use Rattle.pf_model.specs.Configuration.{Process, Core, of, with_process, proces
 use Rattle.pf_model.specs.Runs.{can_go, numbers_of}
 use Rattle.pf_model.specs.declared.limits.TheConstants.{MOST_PROCESSES}
 use Rattle.pf_ties.specs.Laws.{process_ties}
+use Rattle.pf_ties.proofs.Followed.{none_changed}
 use Rattle.pf_stepper.specs.MachineView.{Standing}
 use Rattle.pf_system.specs.Bodies.{process_body, bodies_of}
 use Rattle.pf_system.specs.Slots.{slot_body, SlotIsSound, SlotsAreSound, SlotIsLeft}
 use Rattle.pf_system.specs.Processes.{Represents, RepresentsBut, IsLeftAt, module_in, bodies_in, core_of}
 use Rattle.pf_system.specs.declared.slot.Slot.{Slot}
 use Rattle.pf_system.specs.declared.processes.Processes.{Processes}
-use Rattle.pf_system.proofs.Bodies.{set_map, set_length, set_twice, core_again, bodies_changed, ties_same, length_of, ties_length}
+use Rattle.pf_system.proofs.Bodies.{set_map, set_length, set_twice, core_again, bodies_changed, length_of, ties_length}
 use Rattle.pf_system.proofs.Ready.{numbers_in, by_bodies, gone_in, woken_in}
 use Rattle.std.proofs.lemmas.List.{length-map}
 
@@ -107,7 +108,7 @@ module _ (w w' : Processes) (c : Core) (a : ℕ) (s' : Slot) where
       record {
         bodies = bodies_changed c a p ∙ ap (slice_set (bodies_of c) a) y ∙ h.bodies (slot_body s')
             ∙ sym (ap (map slot_body) e ∙ set_map slot_body a w.slots.items s');
-        ties = ties_same c a p t ∙ h.ties ∙ ap (λ z. z.ties) (sym b);
+        ties = none_changed c a p t ∙ h.ties ∙ ap (λ z. z.ties) (sym b);
         ready = r;
         slots = subst (λ ss. SlotsAreSound (module_in w') zero ss) (sym e)
             (subst (λ z. SlotsAreSound (module_of z.module.value) zero (slice_set w.slots.items a s')) (sym m) (h.slots s' k));

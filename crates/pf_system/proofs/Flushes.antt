@@ -12,15 +12,15 @@ use Rattle.pf_model.specs.Flush.{flushes, flushed}
 use Rattle.pf_model.specs.Runs.{can_go}
 use Rattle.pf_model.specs.declared.limits.TheConstants.{MOST_PROCESSES}
 use Rattle.pf_ties.specs.Laws.{ties_of}
+use Rattle.pf_ties.proofs.Followed.{none_changed}
 use Rattle.pf_system.specs.Bodies.{process_body, bodies_of}
 use Rattle.pf_system.specs.Slots.{slot_body, SlotIsSound, SlotsAreSound}
 use Rattle.pf_system.specs.Processes.{RepresentsBut, module_in, bodies_in}
-use Rattle.pf_system.specs.Acts.{Answers, CarriesOut, ActedIn, ActsIn, KeepsSlot, FlushesIn}
-use Rattle.pf_system.specs.declared.shared.Answer.{Answer}
+use Rattle.pf_system.specs.Acts.{Answer, Answers, CarriesOut, ActedIn, ActsIn, KeepsSlot, FlushesIn}
 use Rattle.pf_system.specs.declared.slot.Slot.{Slot}
 use Rattle.pf_system.specs.declared.processes.Processes.{Processes}
 use Rattle.pf_system.proofs.Acting.{given_none}
-use Rattle.pf_system.proofs.Bodies.{set_map, set_length, set_twice, bodies_changed, ties_same}
+use Rattle.pf_system.proofs.Bodies.{set_map, set_length, set_twice, bodies_changed}
 use Rattle.pf_system.proofs.Delivering.{at_set}
 use Rattle.pf_system.proofs.Ready.{numbers_kept}
 use Rattle.pf_system.proofs.Rows.{posted_length}
@@ -37,7 +37,7 @@ flush_stands n k d w w' s' e b r m h =
       there = let j = ap length e ∙ set_length n w.slots.items s' in let t = h.there in omega arith;
       bodies = λ x. ap (λ bs. slice_set bs n x) (bodies_changed d n p) ∙ set_twice n (bodies_of d) (process_body p) x ∙ h.bodies x
           ∙ sym (ap (λ ss. slice_set (map slot_body ss) n x) e ∙ ap (λ bs. slice_set bs n x) (set_map slot_body n w.slots.items s') ∙ set_twice n (bodies_in w) (slot_body s') x);
-      ties = ties_same d n p refl ∙ h.ties ∙ ap (λ z. z.ties) (sym b);
+      ties = none_changed d n p refl ∙ h.ties ∙ ap (λ z. z.ties) (sym b);
       ready = r ∙ h.ready ∙ sym (numbers_kept can_go zero d.processes n p refl);
       slots = λ t z.
           let q : slice_set w'.slots.items n t ≡ slice_set w.slots.items n t = ap (λ ss. slice_set ss n t) e ∙ set_twice n w.slots.items s' t in
@@ -91,7 +91,7 @@ module _ (n k : ℕ) (w w1 w' : Processes) (r : Answer) (c : Core) (slots : w1.s
     pub was_flushed : CarriesOut (demonitored_so c n k true) n w.shared r w1.shared → ActedIn c (demonitored_so c n k true) n w r w'
     was_flushed g =
         let x : Acted = demonitored_so c n k true in
-        let t : ties_of middle ≡ w1.shared.ties = sym (ties_same middle n asker refl) ∙ g.ties in
+        let t : ties_of middle ≡ w1.shared.ties = sym (none_changed middle n asker refl) ∙ g.ties in
         let o = posted_length n x.left.sent w.shared.channels in
         let l = ap length g.channels in
         let i = same_size c middle kept in

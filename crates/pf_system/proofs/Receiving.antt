@@ -17,7 +17,7 @@ use Rattle.pf_model.specs.declared.signal.Signal.TheVariants as code
 use Rattle.pf_ties.specs.Ties.{AllTies}
 use Rattle.pf_ties.specs.Laws.{ties_of}
 use Rattle.pf_system.specs.Bodies.{process_body}
-use Rattle.pf_system.specs.Placed.{Places}
+use Rattle.pf_system.specs.Placed.{Places, SuffixShown}
 use Rattle.pf_system.specs.Processes.{Represents, Shown}
 use Rattle.pf_system.specs.declared.processes.Processes.{Processes}
 use Rattle.pf_system.proofs.Delivering.{dropped_there, replied, with_mail, tied_so}
@@ -58,28 +58,22 @@ module _ (w w' : Processes) (c : Core) (a b : ℕ) (s reply : Program) (h : Repr
 -- ---- at one that lives
 
 module _ (w : Processes) (c : Core) (a b : ℕ) (s : Program) (h : Represents w c) where
-  -- the row of a signal, at processes that are equal
-  taking : (x : Program) (w' w1 : Processes) → s ≡ x → w' ≡ w1 → Shown b (at_living c a b (signal_of x)) w.shared.channels w (shows.Delivers x suffix.TookEffect) w1
+  pub message_taken : (t : Term) (v : Value) (w' : Processes) → s ≡ code.Message t → v ≡ value_of t → is_alive (of c b).state ≡ true → Places b v w w'
       → Shown b (at_living c a b (signal_of s)) w.shared.channels w (shows.Delivers s suffix.TookEffect) w'
-  taking x w' w1 e f k =
+  message_taken t v w' e q alive indices =
       subst (λ z. Shown b (at_living c a b (signal_of z)) w.shared.channels w (shows.Delivers z suffix.TookEffect) w') (sym e)
-      (subst (λ z. Shown b (at_living c a b (signal_of x)) w.shared.channels w (shows.Delivers x suffix.TookEffect) z) (sym f) k)
-
-  pub message_taken : (t : Term) (v : Value) (w' w1 : Processes) → s ≡ code.Message t → w' ≡ w1 → v ≡ value_of t → is_alive (of c b).state ≡ true → Places b v w w1
-      → Shown b (at_living c a b (signal_of s)) w.shared.channels w (shows.Delivers s suffix.TookEffect) w'
-  message_taken t v w' w1 e f q alive indices =
-      taking (code.Message t) w' w1 e f
       (record {
-        done = with_mail w w w1 c b (value_of t) (subst (λ z. Places b z w w1) q indices c h alive) h.room.rows refl refl;
+        done = with_mail w w w' c b (value_of t) (subst (λ z. Places b z w w') q indices c h alive) h.room.rows refl refl;
         label = refl;
       })
 
   -- nothing but its ties are changed
   pub ties_changed : (x : Program) (p : Process) (w' : Processes) (t : AllTies) → s ≡ x → w' ≡ record w { shared = record w.shared { ties = t } }
       → at_living c a b (signal_of x) ≡ changes c b p (signal_of x) label.took_effect → process_body p ≡ process_body (of c b) → ties_of (with_process c b p) ≡ t
-      → Shown b (at_living c a b (signal_of s)) w.shared.channels w (shows.Delivers s suffix.TookEffect) w'
+      → SuffixShown b (signal_of s) (at_living c a b (signal_of s)) w suffix.TookEffect w'
   ties_changed x p w' t e f row y k =
       let w1 : Processes = record w { shared = record w.shared { ties = t } } in
-      taking x w' w1 e f
-      (subst (λ d. Shown b d w.shared.channels w (shows.Delivers x suffix.TookEffect) w1) (sym row)
-      (record { done = tied_so w w1 c b p h y refl refl refl k refl; label = refl }))
+      subst (λ z. SuffixShown b (signal_of z) (at_living c a b (signal_of z)) w suffix.TookEffect w') (sym e)
+      (subst (λ z. SuffixShown b (signal_of x) (at_living c a b (signal_of x)) w suffix.TookEffect z) (sym f)
+      (subst (λ d. SuffixShown b (signal_of x) d w suffix.TookEffect w1) (sym row)
+      (record { done = tied_so w w1 c b p h y refl refl refl k refl; label = refl })))

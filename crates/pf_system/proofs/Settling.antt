@@ -8,6 +8,7 @@ use Rattle.pf_ops.specs.Guards.{truth_of}
 use Rattle.pf_syntax.specs.Tree.{Tree}
 use Rattle.pf_model.specs.Maps.{put, without, has, with_number, without_number}
 use Rattle.pf_model.specs.Module.{Module, module_of}
+use Rattle.pf_model.specs.Contraction as asked
 use Rattle.pf_model.specs.Contraction.{Act}
 use Rattle.pf_model.specs.Channels.{Signal, Channels, with_senders}
 use Rattle.pf_model.specs.Configuration.{Process, Core, of, with_process, with_state, process_at, posted, is_alive}
@@ -25,9 +26,8 @@ use Rattle.pf_stepper.specs.declared.act.Act.TheVariants as a
 use Rattle.pf_system.specs.Bodies.{Body, body, process_body, bodies_of}
 use Rattle.pf_system.specs.Slots.{slot_body, SlotIsSound, SlotsAreSound, AnswersIn, PutsIn, LifeIsLeft, SlotIsLeft}
 use Rattle.pf_system.specs.Processes.{Represents, RepresentsBut, module_in, bodies_in}
-use Rattle.pf_system.specs.Acts.{Answers, CarriesOut, ActsAs, ActedIn, ActsIn, IsBetween, KeepsLife, KeepsSlot, ShowsAct}
+use Rattle.pf_system.specs.Acts.{Answer, Answers, CarriesOut, ActsAs, ActedIn, ActsIn, IsBetween, KeepsLife, KeepsSlot, ShowsAct}
 use Rattle.pf_system.specs.Settled.{WaitsIn}
-use Rattle.pf_system.specs.declared.shared.Answer.{Answer}
 use Rattle.pf_system.specs.declared.slot.Life.{Life}
 use Rattle.pf_system.specs.declared.slot.Life.TheVariants as life
 use Rattle.pf_system.specs.declared.slot.Slot.{Slot}
@@ -76,8 +76,11 @@ module _ (m : Module) (c : Core) (n : ℕ) where
   flag_keeps : (b : Bool) → Keeps c (flag_set c n b).left.core
   flag_keeps b = (bodies_same c n (record (of c n) { traps_exits = b }) refl, refl)
 
+  send_keeps : (v u : Value) → Keeps c (acted m c n (asked.send v u)).left.core
+  send_keeps v u = given_keeps c (receiver c v) _ (λ p. (refl, refl))
+
   acted_keeps : (x : Asked) → IsBetween x → Keeps c (acted m c n (act_of x)).left.core
-  acted_keeps (a.Send to v) h = given_keeps c (receiver c (value_of to)) _ (λ p. (refl, refl))
+  acted_keeps (a.Send to v) h = absurd h
   acted_keeps (a.Spawn b w f vs) h = absurd h
   acted_keeps (a.Link p) h = given_keeps c (as_pid (value_of p)) (linked_to c n) link_keeps
   acted_keeps (a.Unlink p) h = given_keeps c (as_pid (value_of p)) (unlinked_from c n) unlink_keeps
@@ -169,6 +172,11 @@ pub acts_between : (n : ℕ) (x : Asked) (w w' : Processes) (r : Answer) → IsB
     → w'.slots ≡ w.slots → w'.ready ≡ w.ready → w'.basis ≡ w.basis → ActsIn n (act_of x) w r w'
 acts_between n x w w' r b h s q f c k =
     acted_in n c (acted (module_in w) c n (act_of x)) w w' r (acted_keeps (module_in w) c n x b) (h (module_in w) c k.ties) s q f k
+
+pub sends_in : (n : ℕ) (v u : Value) (w w' : Processes) (r : Answer) → ActsAs n (asked.send v u) w.shared r w'.shared
+    → w'.slots ≡ w.slots → w'.ready ≡ w.ready → w'.basis ≡ w.basis → ActsIn n (asked.send v u) w r w'
+sends_in n v u w w' r h s q f c k =
+    acted_in n c (acted (module_in w) c n (asked.send v u)) w w' r (send_keeps (module_in w) c n v u) (h (module_in w) c k.ties) s q f k
 
 -- what raises leaves all as it was
 pub raised_in : (n : ℕ) (w : Processes) (r : Answer) (c : Core) (e : Value) → Answers r (raising c e) → RepresentsBut w c n → ActedIn c (raising c e) n w r w

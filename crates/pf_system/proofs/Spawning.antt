@@ -23,10 +23,10 @@ use Rattle.pf_stepper.specs.Turns.{told_of}
 use Rattle.pf_system.specs.Bodies.{Body, body, process_body, bodies_of}
 use Rattle.pf_system.specs.Slots.{slot_body, SlotIsSound, SlotsAreSound}
 use Rattle.pf_system.specs.Processes.{RepresentsBut, module_in, bodies_in}
-use Rattle.pf_system.specs.Acts.{Answers, ActedIn, ActsIn, KeepsSlot, LifeBegins, Opens, OpensProcess, Tells, opened_by}
-use Rattle.pf_system.specs.declared.shared.Answer.{Answer}
+use Rattle.pf_system.specs.Acts.{Answer, Answers, ActedIn, ActsIn, KeepsSlot, LifeBegins, Opens, OpensProcess, Tells, opened_by}
 use Rattle.pf_system.specs.declared.slot.Life.{Life}
 use Rattle.pf_system.specs.declared.slot.Slot.{Slot}
+use Rattle.pf_system.specs.declared.spare.Spare.{Spare}
 use Rattle.pf_system.specs.declared.processes.Processes.{Processes}
 use Rattle.pf_system.proofs.Bodies.{map_more, set_length, set_front, more_length, bodies_same, length_of}
 use Rattle.pf_system.proofs.Acting.{given_none}
@@ -181,6 +181,14 @@ tells_it false p k r x y = record { value = x; label = y }
 -- where the ties are changed first
 pub opens_tied : (w w' : Processes) (l : Life) (t u : AllTies) → u ≡ t → Opens u (record w { shared = record w.shared { ties = u } }) l w' → Opens t w l w'
 opens_tied w w' l t u e o = record { tied = o.tied ∙ e; channels = o.channels; slots = o.slots; ready = o.ready; basis = o.basis }
+
+-- what is spare is no part of it
+pub opens_alike : (b : Bond) (n : ℕ) (w w' : Processes) (s : Spare) (l : Life) (r : Answer) → OpensProcess b n (record w { spare = s }) l r w' → OpensProcess b n w l r w'
+opens_alike b n w w' s l r o =
+    record {
+      opens = record { tied = o.opens.tied; channels = o.opens.channels; slots = o.opens.slots; ready = o.opens.ready; basis = o.opens.basis };
+      tells = o.tells;
+    }
 
 -- the slots of the others stay
 pub keeps_opened : (n : ℕ) (b : Bond) (w w' : Processes) (l : Life) (r : Answer) → n < length w.slots.items → OpensProcess b n w l r w' → KeepsSlot n w w'

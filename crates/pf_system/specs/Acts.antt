@@ -1,5 +1,6 @@
 -- What the actions of a process do.
-use Rattle.std.specs.Prelude.{◌≡◌, ◌<◌, ◌≤◌, ℕ, ◌+◌, true, List, [], ◌∷◌, ◌++◌, Option, Some, None, Ok, length, slice_get, if◌then◌else◌, ◌==◌}
+use Rattle.std.specs.Prelude.{◌≡◌, ◌<◌, ◌≤◌, ℕ, ◌+◌, true, List, [], ◌∷◌, ◌++◌, Option, Some, None, Result, Ok, length, slice_get, if◌then◌else◌, ◌==◌}
+use Rattle.pf_terms.specs.declared.term.Term.{Term}
 use Rattle.pf_model.specs.Maps.{with_number}
 use Rattle.pf_model.specs.Context.{Frame, State}
 use Rattle.pf_model.specs.Runs.{can_go}
@@ -24,7 +25,6 @@ use Rattle.pf_system.specs.Slots.{LifeAsks, LifeIsReady, LifeIsOf, state_of}
 use Rattle.pf_system.specs.Processes.{RepresentsBut, IsLeftAt, Shown, module_in}
 use Rattle.pf_system.specs.declared.slot.Life.{Life}
 use Rattle.pf_system.specs.declared.slot.Slot.{Slot}
-use Rattle.pf_system.specs.declared.shared.Answer.{Answer}
 use Rattle.pf_system.specs.declared.shared.Shared.{Shared}
 use Rattle.pf_system.specs.declared.processes.Processes.{Processes}
 
@@ -32,6 +32,14 @@ use Rattle.pf_system.specs.declared.processes.Processes.{Processes}
 pub record IsMember (a : ℕ) (b : Shared) : Type 0 where
   pub there : a < length b.ties.processes
   pub rows : length b.ties.processes ≤ length b.channels
+
+-- the answer to an action, a value or the reason that it raises, and what the action shows
+pub record Answer : Type 0 where
+  pub value : Result Term Term
+  pub label : Label
+
+abbrev pub answer : Result Term Term → Label → Answer
+answer v l = record { value = v; label = l }
 
 -- an answer and its label are those of what an action leaves
 pub record Answers (r : Answer) (x : Acted) : Type 0 where
@@ -48,9 +56,9 @@ pub record CarriesOut (x : Acted) (a : ℕ) (b : Shared) (r : Answer) (b' : Shar
 abbrev pub ActsAs : ℕ → Act → Shared → Answer → Shared → Type 0
 ActsAs a act b r b' = (m : Module) (c : Core) → ties_of c ≡ b.ties → CarriesOut (acted m c a act) a b r b'
 
--- all actions but those that make a process, or may take a message out
+-- all actions but a send, those that make a process, and the one that may take a message out
 abbrev pub IsBetween : Asked → Type 0
-IsBetween (asked.Send to message) = Unit {0}
+IsBetween (asked.Send to message) = ⊥
 IsBetween (asked.Spawn bond home function arguments) = ⊥
 IsBetween (asked.Link other) = Unit {0}
 IsBetween (asked.Unlink other) = Unit {0}

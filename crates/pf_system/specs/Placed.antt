@@ -1,7 +1,6 @@
 -- What deliveries do, by the rows of the definition.
-use Rattle.std.specs.Prelude.{◌≡◌, ℕ, Bool, true}
+use Rattle.std.specs.Prelude.{◌≡◌, ℕ, true}
 use Rattle.pf_terms.specs.Value.{Value}
-use Rattle.pf_model.specs.Channels as signal
 use Rattle.pf_model.specs.Channels.{Signal}
 use Rattle.pf_model.specs.Configuration.{Core, of, with_process, is_alive}
 use Rattle.pf_model.specs.Deliveries.{Deed, with_message, at_living, at_ended}
@@ -34,10 +33,6 @@ abbrev pub ShowsAtLiving : (from to : ℕ) → Signal → Processes → Label �
 ShowsAtLiving a b s w l w' =
     (c : Core) → Represents w c → is_alive (of c b).state ≡ true → Shown b (at_living c a b s) w.shared.channels w l w'
 
-abbrev pub ShowsDown : (from to : ℕ) → (reference : ℕ) → Value → Processes → Suffix → Processes → Type 0
-ShowsDown a b r v w x w' =
-    (c : Core) → Represents w c → is_alive (of c b).state ≡ true → SuffixShown b (signal.down r v) (at_living c a b (signal.down r v)) w x w'
-
-abbrev pub ShowsExit : (from to : ℕ) → (by_link : Bool) → Value → Processes → Suffix → Processes → Type 0
-ShowsExit a b by_link v w x w' =
-    (c : Core) → Represents w c → is_alive (of c b).state ≡ true → SuffixShown b (signal.exit by_link v) (at_living c a b (signal.exit by_link v)) w x w'
+abbrev pub ShowsSuffix : (from to : ℕ) → Signal → Processes → Suffix → Processes → Type 0
+ShowsSuffix a b s w x w' =
+    (c : Core) → Represents w c → is_alive (of c b).state ≡ true → SuffixShown b s (at_living c a b s) w x w'

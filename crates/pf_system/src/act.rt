@@ -1,81 +1,130 @@
 //! The actions of a process.
 
 ghost use Rattle.std.specs.Prelude.{IfOk, OnOk};
+ghost use Rattle.pf_terms.specs.Term.{value_of};
+ghost use Rattle.pf_model.specs.Contraction.{send};
 ghost use Rattle.pf_stepper.specs.Acts.{act_of};
 ghost use Rattle.pf_system.specs.Acts.{ActsAs, ActsIn, IsAsking, IsBetween, IsMember, KeepsSlot, ShowsAct};
+ghost use Rattle.pf_system.specs.Acts.{answer};
 ghost use Rattle.pf_system.specs.Processes.{IsShaped};
 
 use crate::processes::Processes;
-use crate::shared::{Answer, Shared};
+use crate::shared::Shared;
 use pf_model::report::Label;
 use pf_stepper::Act;
-use pf_terms::NoMemory;
+use pf_terms::{NoMemory, Term};
 use std::alloc::Global;
 
 impl Shared {
-    /// An action that makes no process, and takes no message out.
-    pub(crate) fn act(&mut self, alloc: Global, pid: u32, act: Act) -> Result<Answer, NoMemory>
+    /// An action that isn't a send, makes no process, and takes no message out.
+    pub(crate) fn act(
+        &mut self,
+        alloc: Global,
+        pid: u32,
+        act: Act,
+        shown: &mut Label,
+    ) -> Result<Result<Term, Term>, NoMemory>
         requires between { IsBetween act }
         requires member { IsMember pid self.old }
-        ensures { IfOk result (λ r. ActsAs pid (act_of act) self.old r self.new) }
+        ensures { IfOk result
+            (λ v. ActsAs pid (act_of act) self.old (answer v shown.new) self.new) }
     {
         match act {
-            Act::Send { to, message } => self.send(alloc, pid, to, message),
+            Act::Send { .. } => unreachable!(),
             Act::Spawn { .. } => unreachable!(),
-            Act::Link(other) => self.link(alloc, pid, other),
-            Act::Unlink(other) => self.unlink(alloc, pid, other),
-            Act::Monitor { kind, other } => self.monitor(alloc, pid, kind, other),
+            Act::Link(other) => self.link(alloc, pid, other, shown),
+            Act::Unlink(other) => self.unlink(alloc, pid, other, shown),
+            Act::Monitor { kind, other } => self.monitor(alloc, pid, kind, other, shown),
             Act::Demonitor { .. } => unreachable!(),
-            Act::ExitOther { other, reason } => self.exit_other(alloc, pid, other, reason),
-            Act::SetFlag { flag, setting } => Ok(self.set_flag(pid, flag, setting)),
-            Act::Register { name, other } => self.register(alloc, pid, name, other),
-            Act::Unregister(name) => Ok(self.unregister(pid, name)),
-            Act::Whereis(name) => Ok(self.whereis(pid, name)),
-            Act::MakeRef => self.make_reference(pid),
+            Act::ExitOther { other, reason } => self.exit_other(alloc, pid, other, reason, shown),
+            Act::SetFlag { flag, setting } => Ok(self.set_flag(pid, flag, setting, shown)),
+            Act::Register { name, other } => self.register(alloc, pid, name, other, shown),
+            Act::Unregister(name) => Ok(self.unregister(pid, name, shown)),
+            Act::Whereis(name) => Ok(self.whereis(pid, name, shown)),
+            Act::MakeRef => self.make_reference(pid, shown),
         }
     }
 }
 
 impl Processes {
-    /// An action that makes no process, and takes no message out, leaves the slots as they are.
-    fn act_between(&mut self, alloc: Global, pid: u32, act: Act) -> Result<Answer, NoMemory>
-        requires between { IsBetween act }
-        requires shaped { IsShaped pid self.old }
-        ensures acts { IfOk result (λ r. ActsIn pid (act_of act) self.old r self.new) }
+    /// A send leaves the slots as they are.
+    fn send(
+        &mut self,
+        alloc: Global,
+        pid: u32,
+        to: Term,
+        message: Term,
+        shown: &mut Label,
+    ) -> Result<Result<Term, Term>, NoMemory>
+        requires { IsShaped pid self.old }
+        ensures acts { IfOk result (λ v. ActsIn pid (send (value_of to) (value_of message))
+            self.old (answer v shown.new) self.new) }
         ensures keeps { OnOk result (KeepsSlot pid self.old self.new) }
     {
-        self.shared.act(alloc, pid, act)
+        self.shared.send(alloc, pid, to, message, shown)
+    }
+
+    /// So does each other action that makes no process, and takes no message out.
+    #[inline(never)]
+    fn act_between(
+        &mut self,
+        alloc: Global,
+        pid: u32,
+        act: Act,
+        shown: &mut Label,
+    ) -> Result<Result<Term, Term>, NoMemory>
+        requires between { IsBetween act }
+        requires shaped { IsShaped pid self.old }
+        ensures acts { IfOk result
+            (λ v. ActsIn pid (act_of act) self.old (answer v shown.new) self.new) }
+        ensures keeps { OnOk result (KeepsSlot pid self.old self.new) }
+    {
+        self.shared.act(alloc, pid, act, shown)
     }
 
     /// An action.
-    fn do_act(&mut self, alloc: Global, pid: u32, act: Act) -> Result<Answer, NoMemory>
+    fn do_act(
+        &mut self,
+        alloc: Global,
+        pid: u32,
+        act: Act,
+        shown: &mut Label,
+    ) -> Result<Result<Term, Term>, NoMemory>
         requires { IsShaped pid self.old }
-        ensures acts { IfOk result (λ r. ActsIn pid (act_of act) self.old r self.new) }
+        ensures acts { IfOk result
+            (λ v. ActsIn pid (act_of act) self.old (answer v shown.new) self.new) }
         ensures keeps { OnOk result (KeepsSlot pid self.old self.new) }
     {
         match act {
+            Act::Send { to, message } => self.send(alloc, pid, to, message, shown),
             Act::Spawn {
                 bond,
                 home,
                 function,
                 arguments,
-            } => self.spawn(alloc, pid, bond, home, function, arguments),
+            } => self.spawn(alloc, pid, bond, home, function, arguments, shown),
             Act::Demonitor { reference, options } => {
-                self.demonitor(alloc, pid, reference, options)
+                self.demonitor(alloc, pid, reference, options, shown)
             }
-            other => self.act_between(alloc, pid, other),
+            other => self.act_between(alloc, pid, other, shown),
         }
     }
 
     /// The action that a process asked for, and its answer.
-    pub(crate) fn act(&mut self, alloc: Global, pid: u32, act: Act) -> Result<Label, NoMemory>
+    pub(crate) fn act(
+        &mut self,
+        alloc: Global,
+        pid: u32,
+        act: Act,
+        shown: &mut Label,
+    ) -> Result<(), NoMemory>
         requires shaped { IsShaped pid self.old }
         requires asks { IsAsking pid self.old }
-        ensures { IfOk result (λ l. ShowsAct pid (act_of act) self.old l self.new) }
+        ensures { OnOk result (ShowsAct pid (act_of act) self.old shown.new self.new) }
     {
-        let answer = self.do_act(alloc, pid, act)?;
+        let value = self.do_act(alloc, pid, act, shown)?;
         let slot = &mut self.slots[pid as usize];
-        slot.answer(answer.value);
-        Ok(answer.label)
+        slot.answer(value);
+        Ok(())
     }
 }

@@ -2,9 +2,9 @@
 
 ghost use Rattle.std.specs.Prelude.{◌≡◌, ◌<◌, length, true, is_some, IfOk, OnOk};
 ghost use Rattle.pf_terms.specs.Term.{value_of};
-ghost use Rattle.pf_model.specs.Channels.{taken};
+ghost use Rattle.pf_model.specs.Channels.{down, exit, taken};
 ghost use Rattle.pf_model.specs.Signals.{signal_of};
-ghost use Rattle.pf_system.specs.Placed.{Places, ShowsAtEnded, ShowsAtLiving, ShowsDown, ShowsExit};
+ghost use Rattle.pf_system.specs.Placed.{Places, ShowsAtEnded, ShowsAtLiving, ShowsSuffix};
 ghost use Rattle.pf_system.specs.Processes.{Delivered, IsShaped, Represents, core_of};
 
 use crate::messages::{down_message, exit_message};
@@ -16,32 +16,40 @@ use pf_ties::Fate;
 use std::alloc::Global;
 
 impl Processes {
-    /// Delivers the oldest signal from one process to another.
-    pub(crate) fn deliver(&mut self, alloc: Global, from: u32, to: u32) -> Result<Label, NoMemory>
+    /// Delivers the oldest signal from one process to another. What it shows is written to `shown`.
+    pub(crate) fn deliver(
+        &mut self,
+        alloc: Global,
+        from: u32,
+        to: u32,
+        shown: &mut Label,
+    ) -> Result<(), NoMemory>
         requires sound { Represents self.old (core_of self.old) }
         requires there { is_some (taken from to self.old.shared.channels) ≡ true }
-        ensures { IfOk result (λ l. Delivered (core_of self.old) from to self.old l self.new) }
+        ensures { OnOk result (Delivered (core_of self.old) from to self.old shown.new self.new) }
     {
         let Some(signal) = self.shared.channels.deliver(from, to) else {
             unreachable!();
         };
         if self.shared.ties.lives(to) {
-            self.at_living(alloc, from, to, signal)
+            self.at_living(alloc, from, to, signal, shown)
         } else {
-            self.at_ended(alloc, from, to, signal)
+            self.at_ended(alloc, from, to, signal, shown)
         }
     }
 
     /// A signal at a receiver that has ended: a link is answered by an exit signal, a monitor by a down signal, and all else is
     /// dropped.
+    #[inline(never)]
     fn at_ended(
         &mut self,
         alloc: Global,
         from: u32,
         to: u32,
         signal: Signal,
-    ) -> Result<Label, NoMemory>
-        ensures { IfOk result (λ l. ShowsAtEnded from to (signal_of signal) self.old l self.new) }
+        shown: &mut Label,
+    ) -> Result<(), NoMemory>
+        ensures { OnOk result (ShowsAtEnded from to (signal_of signal) self.old shown.new self.new) }
     {
         let reply = match &signal {
             Signal::Link => Signal::Exit {
@@ -49,10 +57,14 @@ impl Processes {
                 reason: Term::Atom(AtomId::NOPROC),
             },
             Signal::Monitor(reference) => Signal::Down(*reference, Term::Atom(AtomId::NOPROC)),
-            _ => return Ok(Label::Delivers(signal, Suffix::Dropped)),
+            _ => {
+                *shown = Label::Delivers(signal, Suffix::Dropped);
+                return Ok(());
+            }
         };
         self.shared.reply(alloc, to, from, reply)?;
-        Ok(Label::Delivers(signal, Suffix::NoProcess))
+        *shown = Label::Delivers(signal, Suffix::NoProcess);
+        Ok(())
     }
 
     /// A message comes to a process that lives, which goes on where it waited.
@@ -61,7 +73,7 @@ impl Processes {
         ensures { OnOk result (Places to (value_of message) self.old self.new) }
     {
         let slot = &mut self.slots[to as usize];
-        if slot.index(&mut self.pool, message)? {
+        if slot.index(&mut self.spare.pool, message)? {
             self.ready.insert(to)?;
         }
         Ok(())
@@ -74,15 +86,37 @@ impl Processes {
         from: u32,
         to: u32,
         signal: Signal,
-    ) -> Result<Label, NoMemory>
+        shown: &mut Label,
+    ) -> Result<(), NoMemory>
         requires { IsShaped to self.old }
-        ensures { IfOk result (λ l. ShowsAtLiving from to (signal_of signal) self.old l self.new) }
+        ensures { OnOk result (ShowsAtLiving from to (signal_of signal) self.old shown.new self.new) }
     {
-        match &signal {
-            Signal::Message(message) => {
-                let message = copy(message)?;
-                self.index(to, message)?;
-            }
+        if let Signal::Message(message) = &signal {
+            let message = copy(message)?;
+            self.index(to, message)?;
+            *shown = Label::Delivers(signal, Suffix::TookEffect);
+            return Ok(());
+        }
+        let suffix = self.take(alloc, from, to, &signal)?;
+        *shown = Label::Delivers(signal, suffix);
+        Ok(())
+    }
+
+    /// What comes of a signal other than a message at a receiver that lives.
+    #[inline(never)]
+    fn take(
+        &mut self,
+        alloc: Global,
+        from: u32,
+        to: u32,
+        signal: &Signal,
+    ) -> Result<Suffix, NoMemory>
+        requires shaped { IsShaped to self.old }
+        requires other { (t : _) → signal.now ≡ Signal.Message t → ⊥ }
+        ensures { IfOk result (λ x. ShowsSuffix from to (signal_of signal.now) self.old x self.new) }
+    {
+        match signal {
+            Signal::Message(_) => unreachable!(),
             Signal::Link => self.shared.ties.on_link(alloc, from, to)?,
             Signal::Unlink => self.shared.ties.on_unlink(from, to),
             Signal::Monitor(reference) => {
@@ -90,15 +124,13 @@ impl Processes {
             }
             Signal::Demonitor(reference) => self.shared.ties.on_demonitor(to, *reference),
             Signal::Down(reference, reason) => {
-                let suffix = self.down(alloc, from, to, *reference, reason)?;
-                return Ok(Label::Delivers(signal, suffix));
+                return self.down(alloc, from, to, *reference, reason);
             }
             Signal::Exit { by_link, reason } => {
-                let suffix = self.exit(alloc, from, to, *by_link, reason)?;
-                return Ok(Label::Delivers(signal, suffix));
+                return self.exit(alloc, from, to, *by_link, reason);
             }
         }
-        Ok(Label::Delivers(signal, Suffix::TookEffect))
+        Ok(Suffix::TookEffect)
     }
 
     /// A down signal, which becomes a message where its reference is active.
@@ -111,7 +143,8 @@ impl Processes {
         reason: &Term,
     ) -> Result<Suffix, NoMemory>
         requires { IsShaped to self.old }
-        ensures { IfOk result (λ x. ShowsDown from to reference (value_of reason.now) self.old x self.new) }
+        ensures { IfOk result
+            (λ x. ShowsSuffix from to (down reference (value_of reason.now)) self.old x self.new) }
     {
         if !self.shared.ties.on_down(to, reference) {
             return Ok(Suffix::Dropped);
@@ -131,7 +164,8 @@ impl Processes {
         reason: &Term,
     ) -> Result<Suffix, NoMemory>
         requires { IsShaped to self.old }
-        ensures { IfOk result (λ x. ShowsExit from to by_link (value_of reason.now) self.old x self.new) }
+        ensures { IfOk result
+            (λ x. ShowsSuffix from to (exit by_link (value_of reason.now)) self.old x self.new) }
     {
         let given = copy(reason)?;
         match self.shared.ties.on_exit_signal(from, to, by_link, given) {

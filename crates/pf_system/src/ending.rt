@@ -8,6 +8,7 @@ use crate::slot::{Life, Slot};
 use pf_mailbox::Mailbox;
 use pf_terms::{AtomId, NoMemory, Term};
 use std::alloc::Global;
+use std::mem;
 
 impl Processes {
     /// A process ends, with the value that it returned or with a reason: its name is lost, and its last signals go out.
@@ -27,10 +28,12 @@ impl Processes {
                 .ended(alloc, pid, &Term::Atom(AtomId::NORMAL))?,
             Err(reason) => self.shared.ties.ended(alloc, pid, reason)?,
         };
-        self.slots[pid as usize] = Slot {
+        let slot = Slot {
             life: Life::Ended(end),
             mailbox: Mailbox::new(alloc),
         };
+        let before = mem::replace(&mut self.slots[pid as usize], slot);
+        self.spare.keep(before);
         self.ready.remove(pid);
         self.shared.post(alloc, pid, signals)
     }

@@ -4,12 +4,13 @@ ghost use Rattle.std.specs.Prelude.{◌≡◌, IfOk, OnOk};
 ghost use Rattle.pf_terms.specs.Term.{elements_of, value_of};
 ghost use Rattle.pf_model.specs.Contraction.{demonitor};
 ghost use Rattle.pf_model.specs.Flush.{are_flush, flushes};
-ghost use Rattle.pf_system.specs.Acts.{ActsIn, FlushesIn, KeepsSlot};
+ghost use Rattle.pf_system.specs.Acts.{ActsIn, FlushesIn, KeepsSlot, answer};
 ghost use Rattle.pf_system.specs.Processes.{IsShaped};
 
 use crate::processes::Processes;
-use crate::shared::{Answer, raising};
+use crate::shared::raising;
 use crate::slot::Slot;
+use pf_model::report::Label;
 use pf_nodes::Pool;
 use pf_terms::{AtomId, List, NoMemory, Term, equal};
 use std::alloc::Global;
@@ -53,30 +54,34 @@ impl Slot {
 
 impl Processes {
     /// `demonitor/1` and `demonitor/2`.
+    #[inline(never)]
     pub(crate) fn demonitor(
         &mut self,
         alloc: Global,
         pid: u32,
         reference: Term,
         options: Term,
-    ) -> Result<Answer, NoMemory>
+        shown: &mut Label,
+    ) -> Result<Result<Term, Term>, NoMemory>
         requires { IsShaped pid self.old }
-        ensures acts { IfOk result (λ r. ActsIn pid
-            (demonitor (value_of reference) (value_of options)) self.old r self.new) }
+        ensures acts { IfOk result (λ v. ActsIn pid (demonitor (value_of reference) (value_of options))
+            self.old (answer v shown.new) self.new) }
         ensures keeps { OnOk result (KeepsSlot pid self.old self.new) }
     {
         let Term::Ref(reference) = reference else {
-            return Ok(raising(AtomId::BADARG));
+            return Ok(raising(AtomId::BADARG, shown));
         };
         let Some(flushes) = flushes(&options) else {
-            return Ok(raising(AtomId::BADARG));
+            return Ok(raising(AtomId::BADARG, shown));
         };
-        let answer = self.shared.demonitor(alloc, pid, reference, flushes)?;
+        let value = self
+            .shared
+            .demonitor(alloc, pid, reference, flushes, shown)?;
         if !flushes {
-            return Ok(answer);
+            return Ok(value);
         }
         let slot = &mut self.slots[pid as usize];
-        slot.flush(&mut self.pool, reference);
-        Ok(answer)
+        slot.flush(&mut self.spare.pool, reference);
+        Ok(value)
     }
 }

@@ -15,9 +15,11 @@ mod outcome;
 mod processes;
 mod shared;
 mod slot;
+mod spare;
 mod spawn;
 mod system;
 mod turn;
 
 pub use enabled::Enabled;
+pub use spare::Spare;
 pub use system::System;

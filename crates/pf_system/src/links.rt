@@ -5,9 +5,9 @@ ghost use Rattle.pf_terms.specs.Term.{value_of};
 ghost use Rattle.pf_model.specs.Actions.{receiver};
 ghost use Rattle.pf_model.specs.Contraction.{link, send, unlink};
 ghost use Rattle.pf_ties.specs.Laws.{ties_of};
-ghost use Rattle.pf_system.specs.Acts.{ActsAs, IsMember};
+ghost use Rattle.pf_system.specs.Acts.{ActsAs, IsMember, answer};
 
-use crate::shared::{Answer, Shared, giving_true, raising};
+use crate::shared::{Shared, giving_true, raising};
 use pf_model::Signal;
 use pf_model::report::Label;
 use pf_terms::{AtomId, NoMemory, Term, copy};
@@ -32,35 +32,43 @@ impl Shared {
         pid: u32,
         to: Term,
         message: Term,
-    ) -> Result<Answer, NoMemory>
+        shown: &mut Label,
+    ) -> Result<Result<Term, Term>, NoMemory>
         requires { IsMember pid self.old }
-        ensures { IfOk result
-            (λ r. ActsAs pid (send (value_of to) (value_of message)) self.old r self.new) }
+        ensures { IfOk result (λ v. ActsAs pid (send (value_of to) (value_of message))
+            self.old (answer v shown.new) self.new) }
     {
         let Some(to) = self.receiver(&to) else {
-            return Ok(raising(AtomId::BADARG));
+            return Ok(raising(AtomId::BADARG, shown));
         };
-        let shown = copy(&message)?;
         let signal = Signal::Message(copy(&message)?);
         self.channels.send(alloc, pid, to, signal)?;
-        Ok(Answer {
-            value: Ok(message),
-            label: Label::Sends { to, message: shown },
-        })
+        *shown = Label::Sends {
+            to,
+            message: copy(&message)?,
+        };
+        Ok(Ok(message))
     }
 
     /// `link/1`. A signal goes out where the link is new and not to oneself.
-    pub(crate) fn link(&mut self, alloc: Global, pid: u32, other: Term) -> Result<Answer, NoMemory>
+    pub(crate) fn link(
+        &mut self,
+        alloc: Global,
+        pid: u32,
+        other: Term,
+        shown: &mut Label,
+    ) -> Result<Result<Term, Term>, NoMemory>
         requires { IsMember pid self.old }
-        ensures { IfOk result (λ r. ActsAs pid (link (value_of other)) self.old r self.new) }
+        ensures { IfOk result
+            (λ v. ActsAs pid (link (value_of other)) self.old (answer v shown.new) self.new) }
     {
         let Term::Pid(other) = other else {
-            return Ok(raising(AtomId::BADARG));
+            return Ok(raising(AtomId::BADARG, shown));
         };
         if self.ties.link(alloc, pid, other)? {
             self.channels.send(alloc, pid, other, Signal::Link)?;
         }
-        Ok(giving_true(Label::Links(other)))
+        Ok(giving_true(Label::Links(other), shown))
     }
 
     /// `unlink/1`. A signal goes out where there was a link.
@@ -69,16 +77,18 @@ impl Shared {
         alloc: Global,
         pid: u32,
         other: Term,
-    ) -> Result<Answer, NoMemory>
+        shown: &mut Label,
+    ) -> Result<Result<Term, Term>, NoMemory>
         requires { IsMember pid self.old }
-        ensures { IfOk result (λ r. ActsAs pid (unlink (value_of other)) self.old r self.new) }
+        ensures { IfOk result
+            (λ v. ActsAs pid (unlink (value_of other)) self.old (answer v shown.new) self.new) }
     {
         let Term::Pid(other) = other else {
-            return Ok(raising(AtomId::BADARG));
+            return Ok(raising(AtomId::BADARG, shown));
         };
         if self.ties.unlink(pid, other) {
             self.channels.send(alloc, pid, other, Signal::Unlink)?;
         }
-        Ok(giving_true(Label::Unlinks(other)))
+        Ok(giving_true(Label::Unlinks(other), shown))
     }
 }

@@ -5,9 +5,9 @@ ghost use Rattle.pf_terms.specs.Term.{value_of};
 ghost use Rattle.pf_model.specs.Contraction.{make_ref, monitor};
 ghost use Rattle.pf_model.specs.Actions.{demonitored_so, monitored};
 ghost use Rattle.pf_ties.specs.Laws.{ties_of};
-ghost use Rattle.pf_system.specs.Acts.{CarriesOut, ActsAs, IsMember};
+ghost use Rattle.pf_system.specs.Acts.{CarriesOut, ActsAs, IsMember, answer};
 
-use crate::shared::{Answer, Shared, giving_true, raising};
+use crate::shared::{Shared, giving_true, raising};
 use pf_model::Signal;
 use pf_model::report::Label;
 use pf_terms::{AtomId, NoMemory, Term, equal};
@@ -21,25 +21,32 @@ impl Shared {
         pid: u32,
         kind: Term,
         other: Term,
-    ) -> Result<Answer, NoMemory>
+        shown: &mut Label,
+    ) -> Result<Result<Term, Term>, NoMemory>
         requires { IsMember pid self.old }
-        ensures { IfOk result
-            (λ r. ActsAs pid (monitor (value_of kind) (value_of other)) self.old r self.new) }
+        ensures { IfOk result (λ v. ActsAs pid (monitor (value_of kind) (value_of other))
+            self.old (answer v shown.new) self.new) }
     {
         let Term::Pid(other) = other else {
-            return Ok(raising(AtomId::BADARG));
+            return Ok(raising(AtomId::BADARG, shown));
         };
         if !equal(&kind, &Term::Atom(AtomId::PROCESS)) {
-            return Ok(raising(AtomId::BADARG));
+            return Ok(raising(AtomId::BADARG, shown));
         }
-        self.watch(alloc, pid, other)
+        self.watch(alloc, pid, other, shown)
     }
 
     /// A new reference watches a process.
-    fn watch(&mut self, alloc: Global, pid: u32, other: u32) -> Result<Answer, NoMemory>
+    fn watch(
+        &mut self,
+        alloc: Global,
+        pid: u32,
+        other: u32,
+        shown: &mut Label,
+    ) -> Result<Result<Term, Term>, NoMemory>
         requires { IsMember pid self.old }
-        ensures { IfOk result (λ r. (c : _) → ties_of c ≡ self.old.ties
-            → CarriesOut (monitored c pid other) pid self.old r self.new) }
+        ensures { IfOk result (λ v. (c : _) → ties_of c ≡ self.old.ties
+            → CarriesOut (monitored c pid other) pid self.old (answer v shown.new) self.new) }
     {
         if self.ties.next_reference() == u64::MAX {
             return Err(NoMemory);
@@ -47,13 +54,11 @@ impl Shared {
         let reference = self.ties.monitor(alloc, pid, other)?;
         self.channels
             .send(alloc, pid, other, Signal::Monitor(reference))?;
-        Ok(Answer {
-            value: Ok(Term::Ref(reference)),
-            label: Label::Monitors {
-                reference,
-                pid: other,
-            },
-        })
+        *shown = Label::Monitors {
+            reference,
+            pid: other,
+        };
+        Ok(Ok(Term::Ref(reference)))
     }
 
     /// A reference watches no more. A signal goes out where it was active.
@@ -63,29 +68,34 @@ impl Shared {
         pid: u32,
         reference: u64,
         flushes: bool,
-    ) -> Result<Answer, NoMemory>
+        shown: &mut Label,
+    ) -> Result<Result<Term, Term>, NoMemory>
         requires { IsMember pid self.old }
-        ensures { IfOk result (λ r. (c : _) → ties_of c ≡ self.old.ties
-            → CarriesOut (demonitored_so c pid reference flushes) pid self.old r self.new) }
+        ensures { IfOk result (λ v. (c : _) → ties_of c ≡ self.old.ties
+            → CarriesOut (demonitored_so c pid reference flushes) pid
+            self.old (answer v shown.new) self.new) }
     {
         if let Some(other) = self.ties.demonitor(pid, reference) {
             self.channels
                 .send(alloc, pid, other, Signal::Demonitor(reference))?;
         }
-        Ok(giving_true(Label::Demonitors { flushes, reference }))
+        let label = Label::Demonitors { flushes, reference };
+        Ok(giving_true(label, shown))
     }
 
     /// `make_ref/0`.
-    pub(crate) fn make_reference(&mut self, pid: u32) -> Result<Answer, NoMemory>
-        ensures { IfOk result (λ r. ActsAs pid make_ref self.old r self.new) }
+    pub(crate) fn make_reference(
+        &mut self,
+        pid: u32,
+        shown: &mut Label,
+    ) -> Result<Result<Term, Term>, NoMemory>
+        ensures { IfOk result (λ v. ActsAs pid make_ref self.old (answer v shown.new) self.new) }
     {
         if self.ties.next_reference() == u64::MAX {
             return Err(NoMemory);
         }
         let reference = self.ties.make_reference();
-        Ok(Answer {
-            value: Ok(Term::Ref(reference)),
-            label: Label::MakesReference(reference),
-        })
+        *shown = Label::MakesReference(reference);
+        Ok(Ok(Term::Ref(reference)))
     }
 }

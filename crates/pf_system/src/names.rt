@@ -3,9 +3,9 @@
 ghost use Rattle.std.specs.Prelude.{IfOk};
 ghost use Rattle.pf_terms.specs.Term.{value_of};
 ghost use Rattle.pf_model.specs.Contraction.{register, unregister, whereis};
-ghost use Rattle.pf_system.specs.Acts.{ActsAs};
+ghost use Rattle.pf_system.specs.Acts.{ActsAs, answer};
 
-use crate::shared::{Answer, Shared, giving_true, raising};
+use crate::shared::{Shared, giving_true, raising};
 use pf_fault::OrNoMemory;
 use pf_model::report::Label;
 use pf_terms::{AtomId, NoMemory, Term};
@@ -20,50 +20,54 @@ impl Shared {
         pid: u32,
         name: Term,
         other: Term,
-    ) -> Result<Answer, NoMemory>
-        ensures { IfOk result
-            (λ r. ActsAs pid (register (value_of name) (value_of other)) self.old r self.new) }
+        shown: &mut Label,
+    ) -> Result<Result<Term, Term>, NoMemory>
+        ensures { IfOk result (λ v. ActsAs pid (register (value_of name) (value_of other))
+            self.old (answer v shown.new) self.new) }
     {
         let Term::Atom(name) = name else {
-            return Ok(raising(AtomId::BADARG));
+            return Ok(raising(AtomId::BADARG, shown));
         };
         let Term::Pid(other) = other else {
-            return Ok(raising(AtomId::BADARG));
+            return Ok(raising(AtomId::BADARG, shown));
         };
         match self.ties.register(alloc, name, other) {
-            Ok(()) => Ok(giving_true(Label::Registers { name, pid: other })),
-            Err(OrNoMemory::Fault(BadArgument)) => Ok(raising(AtomId::BADARG)),
+            Ok(()) => Ok(giving_true(Label::Registers { name, pid: other }, shown)),
+            Err(OrNoMemory::Fault(BadArgument)) => Ok(raising(AtomId::BADARG, shown)),
             Err(OrNoMemory::NoMemory) => Err(NoMemory),
         }
     }
 
     /// `unregister/1`.
-    pub(crate) fn unregister(&mut self, pid: u32, name: Term) -> Answer
-        ensures { ActsAs pid (unregister (value_of name)) self.old result self.new }
+    pub(crate) fn unregister(
+        &mut self,
+        pid: u32,
+        name: Term,
+        shown: &mut Label,
+    ) -> Result<Term, Term>
+        ensures { ActsAs pid (unregister (value_of name)) self.old (answer result shown.new) self.new }
     {
         let Term::Atom(name) = name else {
-            return raising(AtomId::BADARG);
+            return raising(AtomId::BADARG, shown);
         };
         match self.ties.unregister(name) {
-            Ok(()) => giving_true(Label::Unregisters(name)),
-            Err(BadArgument) => raising(AtomId::BADARG),
+            Ok(()) => giving_true(Label::Unregisters(name), shown),
+            Err(BadArgument) => raising(AtomId::BADARG, shown),
         }
     }
 
     /// `whereis/1`.
-    pub(crate) fn whereis(&mut self, pid: u32, name: Term) -> Answer
-        ensures { ActsAs pid (whereis (value_of name)) self.old result self.new }
+    pub(crate) fn whereis(&mut self, pid: u32, name: Term, shown: &mut Label) -> Result<Term, Term>
+        ensures { ActsAs pid (whereis (value_of name)) self.old (answer result shown.new) self.new }
     {
         let Term::Atom(name) = name else {
-            return raising(AtomId::BADARG);
+            return raising(AtomId::BADARG, shown);
         };
+        *shown = Label::LooksUp(name);
         let value = match self.ties.whereis(name) {
             Some(other) => Term::Pid(other),
             None => Term::Atom(AtomId::UNDEFINED),
         };
-        Answer {
-            value: Ok(value),
-            label: Label::LooksUp(name),
-        }
+        Ok(value)
     }
 }

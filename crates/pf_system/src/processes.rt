@@ -2,10 +2,9 @@
 
 use crate::shared::Shared;
 use crate::slot::Slot;
-use pf_nodes::Pool;
+use crate::spare::Spare;
 use pf_sorted::SortedSet;
 use pf_syntax::Module;
-use pf_terms::Term;
 use std::sync::Arc;
 
 /// What a run stands on: the module that its processes run, and how many of them there may be.
@@ -15,13 +14,12 @@ pub(crate) struct Basis {
     pub(crate) most: u32,
 }
 
-/// Module and limit, the slot of each process by its pid, ties and signals, the processes that can go by rising pid, and the spare nodes
-/// of all mailboxes.
+/// Module and limit, the slot of each process by its pid, ties and signals, the processes that can go by rising pid, and what is spare.
 #[derive(Drop)]
 pub(crate) struct Processes {
     pub(crate) basis: Basis,
     pub(crate) slots: Vec<Slot>,
     pub(crate) shared: Shared,
     pub(crate) ready: SortedSet,
-    pub(crate) pool: Pool<Term>,
+    pub(crate) spare: Spare,
 }

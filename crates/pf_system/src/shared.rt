@@ -9,7 +9,7 @@ ghost use Rattle.pf_model.specs.Configuration.{posted};
 ghost use Rattle.pf_model.specs.Reports.{label_of};
 ghost use Rattle.pf_model.specs.Signals.{signal_of};
 ghost use Rattle.pf_ties.specs.Fates.{sent_of};
-ghost use Rattle.pf_system.specs.Acts.{Answers};
+ghost use Rattle.pf_system.specs.Acts.{Answers, answer};
 
 use pf_channels::Channels;
 use pf_model::Signal;
@@ -26,31 +26,21 @@ pub(crate) struct Shared {
     pub(crate) channels: Channels,
 }
 
-/// The answer to an action, a value or the reason that it raises, and what the action shows.
-#[derive(Drop)]
-pub(crate) struct Answer {
-    pub(crate) value: Result<Term, Term>,
-    pub(crate) label: Label,
+/// The answer to an action that raises this reason, which it shows.
+pub(crate) fn raising(reason: AtomId, shown: &mut Label) -> Result<Term, Term>
+    ensures { (c : _) → Answers (answer result shown.new) (raising c (atom reason.0)) }
+{
+    *shown = Label::Raises(Term::Atom(reason));
+    Err(Term::Atom(reason))
 }
 
-/// An action that raises this reason.
-pub(crate) fn raising(reason: AtomId) -> Answer
-    ensures { (c : _) → Answers result (raising c (atom reason.0)) }
+/// The answer to an action that gives `true` and shows this label.
+pub(crate) fn giving_true(label: Label, shown: &mut Label) -> Result<Term, Term>
+    ensures { (c : _) (ss : _) → Answers (answer result shown.new)
+        (gives c ss true_atom (label_of label)) }
 {
-    Answer {
-        value: Err(Term::Atom(reason)),
-        label: Label::Raises(Term::Atom(reason)),
-    }
-}
-
-/// An action that gives `true`.
-pub(crate) fn giving_true(label: Label) -> Answer
-    ensures { (c : _) (ss : _) → Answers result (gives c ss true_atom (label_of label)) }
-{
-    Answer {
-        value: Ok(Term::Atom(AtomId::TRUE)),
-        label,
-    }
+    *shown = label;
+    Ok(Term::Atom(AtomId::TRUE))
 }
 
 impl Shared {

@@ -5,13 +5,12 @@ ghost use Rattle.pf_terms.specs.Term.{value_of};
 ghost use Rattle.pf_model.specs.Context.{running, waiting};
 ghost use Rattle.pf_model.specs.Runs.{can_go, is_waiting};
 ghost use Rattle.pf_stepper.specs.MachineView.{asking, goes};
-ghost use Rattle.pf_stepper.specs.Turns.{CanMove, RunsTurn, told_of};
-ghost use Rattle.pf_mailbox.specs.Tests.{IsAheadOf};
+ghost use Rattle.pf_stepper.specs.Turns.{told_of};
 ghost use Rattle.pf_system.specs.Bodies.{body, with_one};
 ghost use Rattle.pf_system.specs.Slots.{AnswersIn, LifeAsks, LifeIsReady, PutsIn, RanInSlot, SlotIsLeft};
 ghost use Rattle.pf_system.specs.Slots.{SlotIsSound, slot_body, state_of};
 
-use pf_mailbox::{Mailbox, Opened};
+use pf_mailbox::Mailbox;
 use pf_nodes::Pool;
 use pf_stepper::{Machine, Move};
 use pf_terms::{NoMemory, Term, copy};
@@ -34,54 +33,30 @@ pub(crate) struct Slot {
     pub(crate) mailbox: Mailbox,
 }
 
-/// All steps of a machine over its mailbox, as `Machine::run` has them.
-fn run_machine(
-    alloc: Global,
-    machine: &mut Machine,
-    mailbox: &mut Mailbox,
-    pool: &mut Pool<Term>,
-    left: u32,
-) -> Result<(Move, u32), NoMemory>
-    requires stands { CanMove machine.old.standing }
-    requires ready { IsAheadOf machine.old mailbox.old }
-    ensures ran { IfOk result (λ r. RunsTurn left machine.old mailbox.old.messages
-        r.0 machine.new r.1 mailbox.new.messages) }
-    ensures ready { IsAheadOf machine.new mailbox.new }
-{
-    let mut opened = Opened {
-        mailbox: mem::replace(mailbox, Mailbox::new(alloc)),
-        pool: mem::replace(pool, Pool::new(alloc)),
-    };
-    let ran = machine.run(alloc, &mut opened, left);
-    let Opened {
-        mailbox: messages,
-        pool: nodes,
-    } = opened;
-    *mailbox = messages;
-    *pool = nodes;
-    ran
-}
-
 impl Slot {
-    /// All steps of the process up to and with its next action, message, wait or end, but no more than `left`; and how many they
-    /// were.
+    /// All steps of the process up to and with its next action, message, wait or end, but no more than `left`: how many they
+    /// were, and in `did` the move that ended them.
     pub(crate) fn run(
         &mut self,
         alloc: Global,
         pool: &mut Pool<Term>,
         left: u32,
-    ) -> Result<(Move, u32), NoMemory>
+        did: &mut Move,
+    ) -> Result<u32, NoMemory>
         requires ready { LifeIsReady self.old.life self.old.mailbox }
         requires can { can_go (state_of self.old.life) ≡ true }
         requires left { 0 < left }
-        ensures { IfOk result (λ r. (m : _) (own : _) → SlotIsSound m own self.old
-            → RanInSlot m own left self.old r.0 r.1 self.new) }
+        ensures { IfOk result (λ used. (m : _) (own : _) → SlotIsSound m own self.old
+            → RanInSlot m own left self.old did.new used self.new) }
     {
         match &mut self.life {
             Life::Lives { machine, waits: _ } => {
-                run_machine(alloc, machine, &mut self.mailbox, pool, left)
+                machine.run(alloc, &mut self.mailbox, pool, left, did)
             }
-            Life::Ends(reason) => Ok((Move::End(Err(copy(reason)?)), 1)),
+            Life::Ends(reason) => {
+                *did = Move::End(Err(copy(reason)?));
+                Ok(1)
+            }
             Life::Ended(_) => unreachable!(),
         }
     }

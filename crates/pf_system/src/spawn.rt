@@ -9,12 +9,14 @@ ghost use Rattle.pf_model.specs.Contraction.{linking, spawn, unbound, watching};
 ghost use Rattle.pf_model.specs.declared.limits.TheConstants.{MOST_PROCESSES};
 ghost use Rattle.pf_ties.specs.Ties.{opened};
 ghost use Rattle.pf_stepper.specs.Acts.{bond_of};
-ghost use Rattle.pf_system.specs.Acts.{ActsIn, KeepsSlot, LifeBegins, Opens, OpensProcess, Tells, home_function};
+ghost use Rattle.pf_system.specs.Acts.{ActsIn, KeepsSlot, LifeBegins, Opens, OpensProcess, Tells, answer};
+ghost use Rattle.pf_system.specs.Acts.{home_function};
 ghost use Rattle.pf_system.specs.Processes.{IsShaped, IsShapedFor};
 
 use crate::processes::Processes;
-use crate::shared::{Answer, raising};
+use crate::shared::raising;
 use crate::slot::{Life, Slot};
+use crate::spare::Spare;
 use pf_fault::OrNoMemory;
 use pf_mailbox::Mailbox;
 use pf_model::report::Label;
@@ -58,9 +60,11 @@ fn exported(code: &Module, home: AtomId, name: AtomId, arity: u32) -> Option<Fun
 }
 
 /// How a process of this pid begins: at the call of its function, or about to end where there is no such function.
+#[inline(always)]
 fn begun(
     alloc: Global,
     module: &Arc<Module>,
+    spare: &mut Spare,
     pid: u32,
     home: AtomId,
     name: AtomId,
@@ -72,7 +76,13 @@ fn begun(
     let items = elements(alloc, arguments)?;
     match exported(module, home, name, items.len() as u32) {
         Some(function) => Ok(Life::Lives {
-            machine: Machine::new(alloc, pid, Arc::try_clone(module)?, function, items)?,
+            machine: Machine::new(
+                pid,
+                Arc::try_clone(module)?,
+                function,
+                items,
+                spare.room(alloc),
+            )?,
             waits: false,
         }),
         None => Ok(Life::Ends(ending_reason(alloc, &Term::Atom(AtomId::UNDEF))?)),
@@ -80,25 +90,27 @@ fn begun(
 }
 
 /// What a process that isn't watched gives and shows.
-fn told(linked: bool, pid: u32) -> Answer
-    ensures { (reference : _) → Tells (if linked then linking else unbound) pid reference result }
+fn told(linked: bool, pid: u32, shown: &mut Label) -> Result<Term, Term>
+    ensures { (reference : _) → Tells (if linked then linking else unbound) pid reference
+        (answer result shown.new) }
 {
-    Answer {
-        value: Ok(Term::Pid(pid)),
-        label: Label::Spawns { linked, pid },
-    }
+    *shown = Label::Spawns { linked, pid };
+    Ok(Term::Pid(pid))
 }
 
 /// What a process that is watched gives and shows.
-fn told_watched(alloc: Global, pid: u32, reference: u64) -> Result<Answer, NoMemory>
-    ensures { IfOk result (Tells watching pid reference) }
+fn told_watched(
+    alloc: Global,
+    pid: u32,
+    reference: u64,
+    shown: &mut Label,
+) -> Result<Result<Term, Term>, NoMemory>
+    ensures { IfOk result (λ v. Tells watching pid reference (answer v shown.new)) }
 {
+    *shown = Label::SpawnsWatched { pid, reference };
     let items = vec![in alloc; Term::Pid(pid), Term::Ref(reference)]?;
     match tuple_of(alloc, items) {
-        Ok(pair) => Ok(Answer {
-            value: Ok(pair),
-            label: Label::SpawnsWatched { pid, reference },
-        }),
+        Ok(pair) => Ok(Ok(pair)),
         Err(OrNoMemory::NoMemory) => Err(NoMemory),
         Err(OrNoMemory::Fault(TooLarge)) => unreachable!(),
     }
@@ -106,6 +118,7 @@ fn told_watched(alloc: Global, pid: u32, reference: u64) -> Result<Answer, NoMem
 
 impl Processes {
     /// The slot of a process whose ties are there, and a row for its signals.
+    #[inline(always)]
     fn enter(&mut self, alloc: Global, pid: u32, life: Life) -> Result<(), NoMemory>
         requires pid { pid ≡ length self.old.slots.items }
         requires room { length self.old.slots.items < MOST_PROCESSES }
@@ -120,6 +133,7 @@ impl Processes {
     }
 
     /// One process more, which may be linked to another.
+    #[inline(always)]
     pub(crate) fn open(
         &mut self,
         alloc: Global,
@@ -135,46 +149,57 @@ impl Processes {
     }
 
     /// One process more, which another watches from its begin; it gives its pid and the reference.
-    fn open_watched(&mut self, alloc: Global, watcher: u32, life: Life) -> Result<Answer, NoMemory>
+    fn open_watched(
+        &mut self,
+        alloc: Global,
+        watcher: u32,
+        life: Life,
+        shown: &mut Label,
+    ) -> Result<Result<Term, Term>, NoMemory>
         requires shaped { IsShaped watcher self.old }
         requires room { length self.old.slots.items < MOST_PROCESSES }
-        ensures { IfOk result (λ r. OpensProcess watching watcher self.old life r self.new) }
+        ensures { IfOk result
+            (λ v. OpensProcess watching watcher self.old life (answer v shown.new) self.new) }
     {
         if self.shared.ties.next_reference() == u64::MAX {
             return Err(NoMemory);
         }
         let (pid, reference) = self.shared.ties.open_watched(alloc, watcher)?;
         self.enter(alloc, pid, life)?;
-        told_watched(alloc, pid, reference)
+        told_watched(alloc, pid, reference, shown)
     }
 
     /// One process more, by its bond to another, and what it gives and shows.
+    #[inline(always)]
     fn open_by(
         &mut self,
         alloc: Global,
         other: u32,
         bond: Bond,
         life: Life,
-    ) -> Result<Answer, NoMemory>
+        shown: &mut Label,
+    ) -> Result<Result<Term, Term>, NoMemory>
         requires shaped { IsShaped other self.old }
         requires room { length self.old.slots.items < MOST_PROCESSES }
-        ensures { IfOk result (λ r. OpensProcess (bond_of bond) other self.old life r self.new) }
+        ensures { IfOk result
+            (λ v. OpensProcess (bond_of bond) other self.old life (answer v shown.new) self.new) }
     {
         let pid = self.slots.len() as u32;
         match bond {
             Bond::Unbound => {
                 self.open(alloc, None, life)?;
-                Ok(told(false, pid))
+                Ok(told(false, pid, shown))
             }
             Bond::Linking => {
                 self.open(alloc, Some(other), life)?;
-                Ok(told(true, pid))
+                Ok(told(true, pid, shown))
             }
-            Bond::Watching => self.open_watched(alloc, other, life),
+            Bond::Watching => self.open_watched(alloc, other, life, shown),
         }
     }
 
     /// `spawn/3`, `spawn_link/3` and `spawn_monitor/3`.
+    #[inline(never)]
     pub(crate) fn spawn(
         &mut self,
         alloc: Global,
@@ -183,26 +208,36 @@ impl Processes {
         home: Term,
         function: Term,
         arguments: Term,
-    ) -> Result<Answer, NoMemory>
+        shown: &mut Label,
+    ) -> Result<Result<Term, Term>, NoMemory>
         requires { IsShaped pid self.old }
-        ensures acts { IfOk result (λ r. ActsIn pid (spawn (bond_of bond) (value_of home)
-            (value_of function) (value_of arguments)) self.old r self.new) }
+        ensures acts { IfOk result (λ v. ActsIn pid (spawn (bond_of bond) (value_of home)
+            (value_of function) (value_of arguments)) self.old (answer v shown.new) self.new) }
         ensures keeps { OnOk result (KeepsSlot pid self.old self.new) }
     {
         let Term::Atom(home) = home else {
-            return Ok(raising(AtomId::BADARG));
+            return Ok(raising(AtomId::BADARG, shown));
         };
         let Term::Atom(name) = function else {
-            return Ok(raising(AtomId::BADARG));
+            return Ok(raising(AtomId::BADARG, shown));
         };
         let Term::List(arguments) = arguments else {
-            return Ok(raising(AtomId::BADARG));
+            return Ok(raising(AtomId::BADARG, shown));
         };
         if self.slots.len() >= self.basis.most as usize {
-            return Ok(raising(AtomId::SYSTEM_LIMIT));
+            return Ok(raising(AtomId::SYSTEM_LIMIT, shown));
         }
         let new = self.slots.len() as u32;
-        let life = begun(alloc, &self.basis.module, new, home, name, &arguments)?;
-        self.open_by(alloc, pid, bond, life)
+        let spare = &mut self.spare;
+        let life = begun(
+            alloc,
+            &self.basis.module,
+            spare,
+            new,
+            home,
+            name,
+            &arguments,
+        )?;
+        self.open_by(alloc, pid, bond, life, shown)
     }
 }

@@ -1,6 +1,6 @@
 //! The system of processes of one run.
 
-ghost use Rattle.std.specs.Prelude.{◌≡◌, ◌-◌, ◌<◌, ◌≤◌, length, Some, None, IfOk, IsErr, OnErr};
+ghost use Rattle.std.specs.Prelude.{◌≡◌, ◌-◌, ◌<◌, ◌≤◌, length, Some, None, IfOk, IsErr, OnErr, OnOk};
 ghost use Rattle.pf_model.specs.Module.{module_of};
 ghost use Rattle.pf_model.specs.Limits.{IsEdition};
 ghost use Rattle.pf_model.specs.Meaning.{outcome_of as outcome_where};
@@ -14,14 +14,13 @@ use crate::enabled::Enabled;
 use crate::processes::{Basis, Processes};
 use crate::shared::Shared;
 use crate::slot::Life;
+use crate::spare::Spare;
 use pf_channels::Channels;
 use pf_model::limits::most_processes;
 use pf_model::report::{Label, Outcome};
-use pf_nodes::Pool;
-use pf_sorted::SortedSet;
 use pf_stepper::Machine;
 use pf_syntax::{FunctionId, Module};
-use pf_terms::{NoMemory, Term};
+use pf_terms::NoMemory;
 use pf_ties::Ties;
 use smallvec::SmallVec;
 use std::alloc::Global;
@@ -66,20 +65,36 @@ impl System {
         ensures { IfOk result (λ s.
             s ≡ view_of_system (module_of «module».now.value) 0 (Some (start root.0 edition))) }
     {
+        System::new_in(alloc, module, root, edition, Spare::new(alloc))
+    }
+
+    /// The same, in what runs before left behind.
+    pub fn new_in(
+        alloc: Global,
+        module: &Arc<Module>,
+        root: FunctionId,
+        edition: u32,
+        mut spare: Spare,
+    ) -> Result<System, NoMemory>
+        requires { IsEdition edition }
+        ensures { IfOk result (λ s.
+            s ≡ view_of_system (module_of «module».now.value) 0 (Some (start root.0 edition))) }
+    {
         let shared = Arc::try_clone(module)?;
-        let machine = Machine::new(alloc, 0, shared, root, SmallVec::new(alloc))?;
+        let room = spare.room(alloc);
+        let machine = Machine::new(0, shared, root, SmallVec::new(alloc), room)?;
         let mut processes = Processes {
             basis: Basis {
                 module: Arc::try_clone(module)?,
                 most: most_processes(edition),
             },
-            slots: Vec::new(alloc),
+            slots: spare.take_slots(alloc),
             shared: Shared {
                 ties: Ties::new(alloc),
                 channels: Channels::new(alloc),
             },
-            ready: SortedSet::new(alloc),
-            pool: Pool::new(alloc),
+            ready: spare.take_ready(alloc),
+            spare,
         };
         processes.open(
             alloc,
@@ -132,12 +147,18 @@ impl System {
     }
 
     /// The turn of a process that may go: all its steps up to and with its next action, message, wait or end, but none past the
-    /// limit of steps; what it shows, and how many they were.
-    pub fn turn(&mut self, alloc: Global, pid: u32, limit: u32) -> Result<(Label, u32), NoMemory>
+    /// limit of steps; and how many they were. What it shows is written to `shown`.
+    pub fn turn(
+        &mut self,
+        alloc: Global,
+        pid: u32,
+        limit: u32,
+        shown: &mut Label,
+    ) -> Result<u32, NoMemory>
         requires enabled { MayGo (process pid) self.old.standing }
         requires left { self.old.steps < limit }
-        ensures passed { IfOk result (λ r.
-            PassesTo (limit - self.old.steps) self.old (process pid) (label_of r.0) r.1 self.new) }
+        ensures passed { IfOk result (λ used. PassesTo (limit - self.old.steps)
+            self.old (process pid) (label_of shown.new) used self.new) }
         ensures spent { OnErr result (self.new ≡ view_of_system self.old.code self.old.steps None) }
         ensures refused { self.old.standing ≡ None → IsErr result }
     {
@@ -145,24 +166,26 @@ impl System {
             return Err(NoMemory);
         }
         self.spent = true;
-        let (label, used) = self.processes.turn(alloc, pid, limit - self.steps)?;
+        let used = self.processes.turn(alloc, pid, limit - self.steps, shown)?;
         self.steps += used;
         self.spent = false;
-        Ok((label, used))
+        Ok(used)
     }
 
-    /// The delivery of the oldest signal from one process to another, which is a step within the limit, and what it shows.
+    /// The delivery of the oldest signal from one process to another, which is a step within the limit. What it shows is written to
+    /// `shown`.
     pub fn deliver(
         &mut self,
         alloc: Global,
         from: u32,
         to: u32,
         limit: u32,
-    ) -> Result<Label, NoMemory>
+        shown: &mut Label,
+    ) -> Result<(), NoMemory>
         requires enabled { MayGo (channel from to) self.old.standing }
         requires left { self.old.steps < limit }
-        ensures passed { IfOk result (λ l.
-            PassesTo 1 self.old (channel from to) (label_of l) 1 self.new) }
+        ensures passed { OnOk result
+            (PassesTo 1 self.old (channel from to) (label_of shown.new) 1 self.new) }
         ensures spent { OnErr result (self.new ≡ view_of_system self.old.code self.old.steps None) }
         ensures refused { self.old.standing ≡ None → IsErr result }
     {
@@ -170,23 +193,42 @@ impl System {
             return Err(NoMemory);
         }
         self.spent = true;
-        let label = self.processes.deliver(alloc, from, to)?;
+        self.processes.deliver(alloc, from, to, shown)?;
         self.steps += 1;
         self.spent = false;
-        Ok(label)
+        Ok(())
     }
 
-    /// Takes spare nodes for its mailboxes, in place of those that it had.
-    pub fn put_pool(&mut self, pool: Pool<Term>)
+    /// Takes what runs before left behind, in place of what it had.
+    pub fn put_spare(&mut self, spare: Spare)
         ensures { self.new ≡ self.old }
     {
-        self.processes.pool = pool;
+        self.processes.spare = spare;
     }
 
-    /// Gives its spare nodes away.
-    pub fn take_pool(&mut self, alloc: Global) -> Pool<Term>
+    /// Gives away what is spare.
+    pub fn take_spare(&mut self, alloc: Global) -> Spare
         ensures { self.new ≡ self.old }
     {
-        mem::replace(&mut self.processes.pool, Pool::new(alloc))
+        mem::replace(&mut self.processes.spare, Spare::new(alloc))
+    }
+
+    /// What the run leaves behind for the next.
+    pub fn into_spare(self) -> Spare {
+        let System {
+            module: _,
+            processes,
+            steps: _,
+            spent: _,
+        } = self;
+        let Processes {
+            basis: _,
+            slots,
+            shared: _,
+            ready,
+            mut spare,
+        } = processes;
+        spare.keep_all(slots, ready);
+        spare
     }
 }

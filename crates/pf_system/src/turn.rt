@@ -1,6 +1,6 @@
 //! The turn of a process.
 
-ghost use Rattle.std.specs.Prelude.{◌≡◌, ◌<◌, true, IfOk};
+ghost use Rattle.std.specs.Prelude.{◌≡◌, ◌<◌, true, IfOk, OnOk};
 ghost use Rattle.pf_model.specs.Configuration.{of};
 ghost use Rattle.pf_model.specs.Ends.{reason_of};
 ghost use Rattle.pf_model.specs.Labels.{ends};
@@ -27,45 +27,73 @@ fn ending(end: &Result<Term, Term>) -> Result<Label, NoMemory>
 }
 
 impl Processes {
-    /// All steps of a process up to and with its next action, message, wait or end, but no more than `left`; what it shows, and how many
-    /// they were.
+    /// All steps of a process up to and with its next action, message, wait or end, but no more than `left`, and how many they were. What
+    /// it shows is written to `shown`.
     pub(crate) fn turn(
         &mut self,
         alloc: Global,
         pid: u32,
         left: u32,
-    ) -> Result<(Label, u32), NoMemory>
+        shown: &mut Label,
+    ) -> Result<u32, NoMemory>
         requires sound { Represents self.old (core_of self.old) }
         requires enabled { can_go (of (core_of self.old) pid).state ≡ true }
         requires left { 0 < left }
-        ensures { IfOk result (λ r. Turned (core_of self.old) pid left self.old r.0 r.1 self.new) }
+        ensures { IfOk result
+            (λ used. Turned (core_of self.old) pid left self.old shown.new used self.new) }
     {
+        let mut did = Move::Pure;
         let slot = &mut self.slots[pid as usize];
-        let (stop, used) = slot.run(alloc, &mut self.pool, left)?;
-        let label = self.settle(alloc, pid, stop)?;
-        Ok((label, used))
+        let used = slot.run(alloc, &mut self.spare.pool, left, &mut did)?;
+        self.settle(alloc, pid, did, shown)?;
+        Ok(used)
     }
 
     /// What ends a turn: the limit, an action, a message that is taken or waited for, or the end.
-    fn settle(&mut self, alloc: Global, pid: u32, stop: Move) -> Result<Label, NoMemory>
+    fn settle(
+        &mut self,
+        alloc: Global,
+        pid: u32,
+        did: Move,
+        shown: &mut Label,
+    ) -> Result<(), NoMemory>
         requires shaped { IsShaped pid self.old }
-        requires can { CanSettle pid stop self.old }
-        ensures { IfOk result (λ l. SettlesAs pid stop self.old l self.new) }
+        requires can { CanSettle pid did self.old }
+        ensures { OnOk result (SettlesAs pid did self.old shown.new self.new) }
     {
-        match stop {
-            Move::Pure => Ok(Label::Cut),
-            Move::Action(act) => self.act(alloc, pid, act),
-            Move::Take(message) => Ok(Label::Takes(message)),
+        match did {
+            Move::Pure => {
+                *shown = Label::Cut;
+                Ok(())
+            }
+            Move::Action(act) => self.act(alloc, pid, act, shown),
+            Move::Take(message) => {
+                *shown = Label::Takes(message);
+                Ok(())
+            }
             Move::Wait => {
                 self.wait(pid);
-                Ok(Label::Waits)
+                *shown = Label::Waits;
+                Ok(())
             }
-            Move::End(end) => {
-                let label = ending(&end)?;
-                self.end(alloc, pid, end)?;
-                Ok(label)
-            }
+            Move::End(end) => self.finish(alloc, pid, end, shown),
         }
+    }
+
+    /// A process comes to its end.
+    #[inline(never)]
+    fn finish(
+        &mut self,
+        alloc: Global,
+        pid: u32,
+        end: Result<Term, Term>,
+        shown: &mut Label,
+    ) -> Result<(), NoMemory>
+        requires { IsShaped pid self.old }
+        ensures { OnOk result (SettlesAs pid (Move.End end) self.old shown.new self.new) }
+    {
+        *shown = ending(&end)?;
+        self.end(alloc, pid, end)
     }
 
     /// A process waits at a `receive`.

@@ -1,10 +1,9 @@
 //! Three projects at the book, project 0 among them: each is told what it is told alone.
 
-use crate::told::{SUM_BYTES, described, order_of, submitted, used};
+use crate::told::{SUM_BYTES, described, order_of, submitted, used, worked};
 use pf_book::Book;
 use pf_request::{Kind, RunChoices, Source};
 use pf_sched::Scratch;
-use pf_terms::NoMemory;
 use std::alloc::Global;
 use std::hash::RandomState;
 use std::test::Fail;
@@ -18,17 +17,6 @@ fn ordered(alloc: Global, book: &mut Book, project: u32, module: u64) -> Result<
 
 fn fetched(alloc: Global, book: &mut Book, project: u32, ticket: u64) -> Result<String, Fail> {
     described(alloc, book.fetch(alloc, project, ticket)?)
-}
-
-/// Whether a worker ran the trial.
-fn worked(
-    alloc: Global,
-    book: &mut Book,
-    scratch: &mut Scratch,
-    project: u32,
-    ticket: u64,
-) -> Result<bool, NoMemory> {
-    book.once(alloc, scratch, project, ticket)
 }
 
 /// What a project is told that submits and orders for the first time.

@@ -1,4 +1,5 @@
-//! Tests of desks and of the store: what projects are told, the limits of a desk, and who shares a module.
+//! Tests of desks and of the store: what projects are told, the limits of a desk, who shares a module, and what workers
+//! claim.
 #![tactic(auto)]
 
 #[cfg(test)]
@@ -9,3 +10,5 @@ mod limits;
 mod sharing;
 #[cfg(test)]
 mod told;
+#[cfg(test)]
+mod workers;

@@ -2,7 +2,8 @@
 
 use pf_book::{Book, Reply, Stage};
 use pf_request::{Kind, Order, Request, ShortBytes, Source};
-use pf_sched::JobResult;
+use pf_sched::{JobResult, Scratch, Silent, run_to_end};
+use pf_terms::NoMemory;
 use std::alloc::Global;
 use std::test::Fail;
 
@@ -83,4 +84,21 @@ pub(crate) fn submitted(
 
 pub(crate) fn used(alloc: Global, book: &mut Book, project: u32) -> Result<String, Fail> {
     described(alloc, book.usage(alloc, project)?)
+}
+
+/// A worker claims the trial of a ticket, runs it whole and files what came of it; false if it isn't queued.
+pub(crate) fn worked(
+    alloc: Global,
+    book: &mut Book,
+    scratch: &mut Scratch,
+    project: u32,
+    ticket: u64,
+) -> Result<bool, NoMemory> {
+    match book.claim_at(project, ticket)? {
+        None => Ok(false),
+        Some(job) => {
+            let finished = run_to_end(alloc, job, scratch, &mut Silent)?;
+            Ok(book.file(project, ticket, finished))
+        }
+    }
 }

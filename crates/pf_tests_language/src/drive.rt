@@ -1,9 +1,11 @@
 //! A machine driven by a test: each call expects one kind of move, and fails on any other.
 
-ghost use Rattle.std.specs.Prelude.{IfOk, OnOk};
-ghost use Rattle.pf_stepper.specs.Turns.{CanAnswer, CanMove};
+ghost use Rattle.std.specs.Prelude.{IfOk, OnOk, map};
+ghost use Rattle.pf_terms.specs.Term.{value_of};
+ghost use Rattle.pf_stepper.specs.Turns.{CanAnswer, CanMove, RunsTurn};
 
-use pf_stepper::{Act, Machine, Move, PlainInbox};
+use pf_nodes::Pool;
+use pf_stepper::{Act, Machine, Move, PlainInbox, Room};
 use pf_syntax::{FunctionId, Module};
 use pf_terms::{NoMemory, Term};
 use smallvec::SmallVec;
@@ -29,7 +31,29 @@ pub(crate) fn started(alloc: Global, module: Module) -> Result<Machine, NoMemory
     ensures { IfOk result (λ m. CanMove m.standing) }
 {
     let shared = Arc::new(alloc, module)?;
-    Machine::new(alloc, OWN, shared, FunctionId(0), SmallVec::new(alloc))
+    Machine::new(
+        OWN,
+        shared,
+        FunctionId(0),
+        SmallVec::new(alloc),
+        Room::new(alloc),
+    )
+}
+
+/// Its next move within these steps, and how many they were.
+pub(crate) fn moved(
+    alloc: Global,
+    machine: &mut Machine,
+    inbox: &mut PlainInbox,
+    steps: u32,
+) -> Result<(Move, u32), NoMemory>
+    requires { CanMove machine.old.standing }
+    ensures { IfOk result (λ r. RunsTurn steps machine.old (map value_of inbox.old.messages.items)
+        r.0 machine.new r.1 (map value_of inbox.new.messages.items)) }
+{
+    let mut did = Move::Pure;
+    let used = machine.run(alloc, inbox, &mut Pool::new(alloc), steps, &mut did)?;
+    Ok((did, used))
 }
 
 /// It goes on by itself for n steps.
@@ -42,7 +66,7 @@ pub(crate) fn goes_on(
     requires { CanMove machine.old.standing }
     ensures { OnOk result (CanMove machine.new.standing) }
 {
-    let (did, _used) = machine.run(alloc, inbox, steps)?;
+    let (did, _used) = moved(alloc, machine, inbox, steps)?;
     match did {
         Move::Pure => {}
         _ => return Err(Fail::from("the process doesn't go on by itself")),
@@ -59,7 +83,7 @@ pub(crate) fn asked(
     requires { CanMove machine.old.standing }
     ensures { OnOk result (CanAnswer machine.new.standing) }
 {
-    let (did, used) = machine.run(alloc, inbox, ENOUGH)?;
+    let (did, used) = moved(alloc, machine, inbox, ENOUGH)?;
     match did {
         Move::Action(act) => Ok((act, used)),
         _ => Err(Fail::from("the process asks for no action")),
@@ -83,7 +107,7 @@ pub(crate) fn taken(
     requires { CanMove machine.old.standing }
     ensures { OnOk result (CanMove machine.new.standing) }
 {
-    let (did, _used) = machine.run(alloc, inbox, ENOUGH)?;
+    let (did, _used) = moved(alloc, machine, inbox, ENOUGH)?;
     match did {
         Move::Take(message) => Ok(message),
         _ => Err(Fail::from("the process takes no message")),
@@ -99,7 +123,7 @@ pub(crate) fn waits(
     requires { CanMove machine.old.standing }
     ensures { OnOk result (CanMove machine.new.standing) }
 {
-    let (did, _used) = machine.run(alloc, inbox, ENOUGH)?;
+    let (did, _used) = moved(alloc, machine, inbox, ENOUGH)?;
     match did {
         Move::Wait => {}
         _ => return Err(Fail::from("the process doesn't wait")),
@@ -115,7 +139,7 @@ pub(crate) fn ended(
 ) -> Result<(Result<Term, Term>, u32), Fail>
     requires { CanMove machine.old.standing }
 {
-    let (did, used) = machine.run(alloc, inbox, ENOUGH)?;
+    let (did, used) = moved(alloc, machine, inbox, ENOUGH)?;
     match did {
         Move::End(end) => Ok((end, used)),
         _ => Err(Fail::from("the process doesn't end")),

@@ -8,13 +8,13 @@ use std::fmt::Write;
 use std::test::Fail;
 
 /// How many exports and functions there are, and how many nodes each element of a body has.
-fn describe(out: &mut String, source: &SyntaxTree) -> Result<(), Fail> {
-    write!(out, "{} exports", source.exports().len())?;
-    for function in source.functions() {
+fn describe(out: &mut String, syntax: &SyntaxTree) -> Result<(), Fail> {
+    write!(out, "{} exports", syntax.exports().len())?;
+    for function in syntax.functions() {
         out.push_str("; function")?;
         for head in &function.heads {
             for element in &head.body {
-                write!(out, " {}", source.size(*element))?;
+                write!(out, " {}", syntax.size(*element))?;
             }
         }
     }
@@ -25,7 +25,7 @@ fn read(alloc: Global, text: &str) -> Result<String, Fail> {
     let mut out = String::new(alloc);
     let found = tokens(alloc, text.as_bytes())?;
     let read = read_tree(alloc, &found, text.len())?;
-    describe(&mut out, &read.source)?;
+    describe(&mut out, &read.syntax)?;
     Ok(out)
 }
 

@@ -18,13 +18,13 @@ fn read(alloc: Global, text: &[u8]) -> Result<Result<ReadPattern, OrNoMemory<Cod
 }
 
 /// Writes a node: its atoms and variables by number, variables with their offsets, and how many parts it has.
-fn describe(out: &mut String, source: &SyntaxTree, id: ExprPatternId) -> Result<(), Fail> {
-    match source.expr_pattern(id) {
+fn describe(out: &mut String, syntax: &SyntaxTree, id: ExprPatternId) -> Result<(), Fail> {
+    match syntax.expr_pattern(id) {
         Some(ExprPatternNode::Integer(n)) => write!(out, " {n}")?,
         Some(ExprPatternNode::Atom(a)) => write!(out, " atom {}", a.0)?,
         Some(ExprPatternNode::Text(text)) => write!(out, " text of {}", text.len())?,
-        Some(ExprPatternNode::Variable(word)) => {
-            write!(out, " variable {} at {}", word.name.0, word.offset)?;
+        Some(ExprPatternNode::Variable(ident)) => {
+            write!(out, " variable {} at {}", ident.name.0, ident.offset)?;
         }
         Some(ExprPatternNode::Anything) => write!(out, " _")?,
         Some(ExprPatternNode::Tuple(parts)) => write!(out, " tuple of {}", parts.len())?,
@@ -38,11 +38,11 @@ fn describe(out: &mut String, source: &SyntaxTree, id: ExprPatternId) -> Result<
 /// The parts of a node, its tail last.
 fn parts(
     alloc: Global,
-    source: &SyntaxTree,
+    syntax: &SyntaxTree,
     id: ExprPatternId,
 ) -> Result<Vec<ExprPatternId>, Fail> {
     let mut found = Vec::new(alloc);
-    match source.expr_pattern(id) {
+    match syntax.expr_pattern(id) {
         Some(ExprPatternNode::Tuple(parts) | ExprPatternNode::List(parts)) => {
             found.extend_from_slice(parts)?;
         }
@@ -60,9 +60,9 @@ fn told(alloc: Global, text: &str) -> Result<String, Fail> {
     let mut out = String::new(alloc);
     match read(alloc, text.as_bytes())? {
         Ok(read) => {
-            describe(&mut out, &read.source, read.pattern)?;
-            for part in &parts(alloc, &read.source, read.pattern)? {
-                describe(&mut out, &read.source, *part)?;
+            describe(&mut out, &read.syntax, read.pattern)?;
+            for part in &parts(alloc, &read.syntax, read.pattern)? {
+                describe(&mut out, &read.syntax, *part)?;
             }
         }
         Err(refused) => write!(out, "{refused}")?,

@@ -1,8 +1,9 @@
 //! The machine over modules that were read: its steps counted by hand, to a limit and to the end.
 
-use crate::drive::{ended, goes_on, no_mail};
+use crate::drive::{ended, goes_on, moved, no_mail};
 use pf_check::read;
-use pf_stepper::{Machine, Move};
+use pf_nodes::Pool;
+use pf_stepper::{Machine, Move, Room};
 use pf_syntax::{FunctionId, Module};
 use pf_terms::{NoMemory, Term};
 use smallvec::SmallVec;
@@ -20,27 +21,37 @@ fn root_of(module: &Module) -> Option<FunctionId> {
     module.root(b"main")
 }
 
-/// The integer that a run came to, where it came to one, and its steps.
+/// The integer that a run came to, where it came to one, and its steps; and the room that it leaves.
 fn ran(
     alloc: Global,
     module: &Arc<Module>,
-    root: FunctionId,
     limit: u32,
-) -> Result<(Option<i64>, u32), NoMemory> {
+    room: Room,
+) -> Result<((Option<i64>, u32), Option<Room>), Fail> {
     let shared = Arc::try_clone(module)?;
-    let mut machine = Machine::new(alloc, 0, shared, root, SmallVec::new(alloc))?;
-    let (did, used) = machine.run(alloc, &mut no_mail(alloc), limit)?;
-    match did {
-        Move::End(Ok(Term::Int(n))) => Ok((Some(n), used)),
-        _ => Ok((None, used)),
-    }
+    let root = root_of(module).ok_or("no root")?;
+    let mut machine = Machine::new(0, shared, root, SmallVec::new(alloc), room)?;
+    let (did, used) = moved(alloc, &mut machine, &mut no_mail(alloc), limit)?;
+    let value = match did {
+        Move::End(Ok(Term::Int(n))) => Some(n),
+        _ => None,
+    };
+    Ok(((value, used), machine.into_room()))
 }
 
 /// What a run within this limit comes to.
 fn ran_within(alloc: Global, limit: u32) -> Result<(Option<i64>, u32), Fail> {
     let module = module_of(alloc, SUMS)?;
-    let root = root_of(&module).ok_or("no root")?;
-    Ok(ran(alloc, &module, root, limit)?)
+    let (came, _room) = ran(alloc, &module, limit, Room::new(alloc))?;
+    Ok(came)
+}
+
+/// What a run comes to in the room of one that was cut off.
+fn ran_in_kept_room(alloc: Global) -> Result<(Option<i64>, u32), Fail> {
+    let module = module_of(alloc, SUMS)?;
+    let (_cut, room) = ran(alloc, &module, 2, Room::new(alloc))?;
+    let (came, _room) = ran(alloc, &module, 5, room.ok_or("no room is kept")?)?;
+    Ok(came)
 }
 
 #[test]
@@ -50,12 +61,18 @@ fn counts_each_contraction_and_the_end(rt: HostRuntime) -> Result<(), Fail> {
     Ok(())
 }
 
+#[test]
+fn runs_alike_in_kept_room(rt: HostRuntime) -> Result<(), Fail> {
+    assert_eq!(rt; ran_in_kept_room(rt.alloc())?, (Some(3), 5));
+    Ok(())
+}
+
 /// The pid of a process at `f(5)`, whether it comes to 9, and the steps of its end, behind one step and two more.
 fn resumed(alloc: Global) -> Result<(u32, bool, u32), Fail> {
     let module = module_of(alloc, SUMS)?;
     let mut args: SmallVec<Term, 4> = SmallVec::new(alloc);
     args.push(Term::Int(5))?;
-    let mut machine = Machine::new(alloc, 4, module, FunctionId(1), args)?;
+    let mut machine = Machine::new(4, module, FunctionId(1), args, Room::new(alloc))?;
     let mut inbox = no_mail(alloc);
     goes_on(alloc, &mut machine, &mut inbox, 1)?;
     goes_on(alloc, &mut machine, &mut inbox, 2)?;
@@ -72,8 +89,9 @@ fn goes_on_from_where_it_stopped(rt: HostRuntime) -> Result<(), Fail> {
 
 /// The move of one step.
 fn step(alloc: Global, module: Arc<Module>) -> Result<Move, NoMemory> {
-    let mut machine = Machine::new(alloc, 0, module, FunctionId(0), SmallVec::new(alloc))?;
-    machine.advance(alloc, &mut no_mail(alloc))
+    let args = SmallVec::new(alloc);
+    let mut machine = Machine::new(0, module, FunctionId(0), args, Room::new(alloc))?;
+    machine.advance(alloc, &mut no_mail(alloc), &mut Pool::new(alloc))
 }
 
 #[test]

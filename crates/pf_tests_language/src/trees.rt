@@ -70,15 +70,15 @@ fn a_module_is_read_back(rt: HostRuntime) -> Result<(), Fail> {
 
 /// The nodes and the depth of `1`, `-1`, `(-1)`, `1 + (-1)` and `-5 = 1 + (-1)`.
 fn sizes(alloc: Global) -> Result<[(u32, u32); 5], NoMemory> {
-    let mut source = SyntaxTree::new(alloc, AtomId::EXIT);
-    let one = source.add_expr(ExprNode::Integer(1))?;
-    let minus = source.add_expr(ExprNode::Negate(one))?;
-    let round = source.add_expr(ExprNode::Parentheses(minus))?;
+    let mut syntax = SyntaxTree::new(alloc, AtomId::EXIT);
+    let one = syntax.add_expr(ExprNode::Integer(1))?;
+    let minus = syntax.add_expr(ExprNode::Negate(one))?;
+    let round = syntax.add_expr(ExprNode::Parentheses(minus))?;
     let sum = ExprNode::Binary(Operator::Plus, one, round);
-    let sum = source.add_expr(sum)?;
-    let five = source.add_expr_pattern(ExprPatternNode::Integer(-5))?;
-    let bound = source.add_expr(ExprNode::Match(five, sum))?;
-    Ok([one, minus, round, sum, bound].map(|it| (source.size(it), source.depth(it))))
+    let sum = syntax.add_expr(sum)?;
+    let five = syntax.add_expr_pattern(ExprPatternNode::Integer(-5))?;
+    let bound = syntax.add_expr(ExprNode::Match(five, sum))?;
+    Ok([one, minus, round, sum, bound].map(|it| (syntax.size(it), syntax.depth(it))))
 }
 
 #[test]
@@ -92,21 +92,21 @@ fn depths_go_by_the_rules(rt: HostRuntime) -> Result<(), Fail> {
 
 /// The nodes and the depth of `[1, f(1, 1), 1]`, and how many exports there are with one that was added.
 fn several(alloc: Global) -> Result<(u32, u32, usize), NoMemory> {
-    let mut source = SyntaxTree::new(alloc, AtomId::EXIT);
-    let one = source.add_expr(ExprNode::Integer(1))?;
-    let word = Ident {
+    let mut syntax = SyntaxTree::new(alloc, AtomId::EXIT);
+    let one = syntax.add_expr(ExprNode::Integer(1))?;
+    let ident = Ident {
         name: AtomId::DOWN,
         offset: 8,
     };
-    let call = ExprNode::Call(word, vec![in alloc; one, one]?);
-    let two = source.add_expr(call)?;
+    let call = ExprNode::Call(ident, vec![in alloc; one, one]?);
+    let two = syntax.add_expr(call)?;
     let list = ExprNode::List(vec![in alloc; one, two, one]?);
-    let list = source.add_expr(list)?;
-    source.add_export(Export { word, arity: 2 })?;
+    let list = syntax.add_expr(list)?;
+    syntax.add_export(Export { ident, arity: 2 })?;
     Ok((
-        source.size(list),
-        source.depth(list),
-        source.exports().len(),
+        syntax.size(list),
+        syntax.depth(list),
+        syntax.exports().len(),
     ))
 }
 
@@ -158,10 +158,10 @@ fn a_function_is_found_by_name_and_arity(rt: HostRuntime) -> Result<(), Fail> {
 }
 
 /// An expression of `len` unary minus over 1.
-fn chain(source: &mut SyntaxTree, len: usize) -> Result<ExprId, NoMemory> {
-    let mut top = source.add_expr(ExprNode::Integer(1))?;
+fn chain(syntax: &mut SyntaxTree, len: usize) -> Result<ExprId, NoMemory> {
+    let mut top = syntax.add_expr(ExprNode::Integer(1))?;
     for _ in 0..len {
-        top = source.add_expr(ExprNode::Negate(top))?;
+        top = syntax.add_expr(ExprNode::Negate(top))?;
     }
     Ok(top)
 }
@@ -177,11 +177,11 @@ fn long_pattern(module: &mut Module, len: usize) -> Result<PatternId, NoMemory> 
 
 /// The depth of an expression of 60,000 unary minus; a pattern of 10,000 elements is made and dropped beside it.
 fn long_and_deep(alloc: Global) -> Result<u32, NoMemory> {
-    let mut source = SyntaxTree::new(alloc, AtomId::EXIT);
-    let top = chain(&mut source, 60000)?;
+    let mut syntax = SyntaxTree::new(alloc, AtomId::EXIT);
+    let top = chain(&mut syntax, 60000)?;
     let mut module = Module::new(alloc, AtomId::EXIT, AtomTable::new(alloc)?);
     long_pattern(&mut module, 10000)?;
-    Ok(source.depth(top))
+    Ok(syntax.depth(top))
 }
 
 #[test]

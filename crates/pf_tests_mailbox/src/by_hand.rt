@@ -1,8 +1,8 @@
 //! Mailboxes by hand: which messages `receive`s take, and how many they test.
 
 ghost use Rattle.std.specs.Prelude.{[]};
-ghost use Rattle.pf_model.specs.Module.{module_of};
-ghost use Rattle.pf_mailbox.specs.Tests.{FitsNoneBefore, awaited};
+ghost use Rattle.pf_stepper.specs.Readiness.{receive_in};
+ghost use Rattle.pf_mailbox.specs.Tests.{FitsNoneBefore, IsReadyFor};
 
 use crate::receives::{A, B, C, D, Receive, Taken, of_atoms, of_large, try_once};
 use pf_mailbox::Mailbox;
@@ -33,10 +33,8 @@ fn takes_now(
     pool: &mut Pool<Term>,
     wanted: &Receive,
 ) -> Result<bool, Fail>
-    requires { FitsNoneBefore (module_of wanted.now.«module») 0
-        (awaited wanted.now.«module» 0 [] wanted.now.clauses.items) mailbox.old }
-    ensures { FitsNoneBefore (module_of wanted.now.«module») 0
-        (awaited wanted.now.«module» 0 [] wanted.now.clauses.items) mailbox.new }
+    requires { IsReadyFor (receive_in wanted.now.«module» 0 0 [] wanted.now.clauses.items) mailbox.old }
+    ensures { IsReadyFor (receive_in wanted.now.«module» 0 0 [] wanted.now.clauses.items) mailbox.new }
 {
     Ok(try_once(alloc, mailbox, pool, wanted)?.is_some())
 }

@@ -1,4 +1,4 @@
-//! A machine that takes messages from an opened mailbox.
+//! A machine that takes messages from a mailbox.
 
 ghost use Rattle.std.specs.Prelude.{◌≡◌, ◌≤◌, IfOk, length, OnOk};
 ghost use Rattle.pf_syntax.specs.Within.{OperandRepresents};
@@ -6,9 +6,9 @@ ghost use Rattle.pf_stepper.specs.Turns.{CanMove};
 ghost use Rattle.pf_mailbox.specs.Tests.{IsAheadOf};
 
 use crate::receives::{A, C, empty, no_guard};
-use pf_mailbox::{Mailbox, Opened};
+use pf_mailbox::Mailbox;
 use pf_nodes::Pool;
-use pf_stepper::{Machine, Move};
+use pf_stepper::{Machine, Move, Room};
 use pf_syntax::{Clause, Function, FunctionClause, FunctionId, Module, Node, Operand, PatternNode};
 use pf_terms::{AtomId, NoMemory, Term};
 use smallvec::SmallVec;
@@ -48,23 +48,28 @@ fn receiver(alloc: Global) -> Result<Machine, NoMemory>
     let top = module.add_node(Node::Receive(vec![in alloc; clause]?))?;
     add_main(alloc, &mut module, Operand::Node(top))?;
     let shared = Arc::new(alloc, module)?;
-    Machine::new(alloc, 0, shared, FunctionId(0), SmallVec::new(alloc))
+    Machine::new(
+        0,
+        shared,
+        FunctionId(0),
+        SmallVec::new(alloc),
+        Room::new(alloc),
+    )
 }
 
 /// What a process that waits for a does first with this message, and how many messages are left.
 fn does(alloc: Global, message: AtomId) -> Result<(Move, usize), Fail> {
-    let mut inbox = Opened {
-        mailbox: Mailbox::new(alloc),
-        pool: Pool::new(alloc),
-    };
-    inbox.mailbox.deliver(&mut inbox.pool, Term::Atom(message))?;
+    let mut pool = Pool::new(alloc);
+    let mut mailbox = Mailbox::new(alloc);
+    mailbox.deliver(&mut pool, Term::Atom(message))?;
     let mut machine = receiver(alloc)?;
-    let (did, _used) = machine.run(alloc, &mut inbox, 100)?;
-    Ok((did, inbox.mailbox.len()))
+    let mut did = Move::Pure;
+    machine.run(alloc, &mut mailbox, &mut pool, 100, &mut did)?;
+    Ok((did, mailbox.len()))
 }
 
 #[test]
-fn a_machine_takes_from_an_opened_mailbox(rt: HostRuntime) -> Result<(), Fail> {
+fn a_machine_takes_from_a_mailbox(rt: HostRuntime) -> Result<(), Fail> {
     let (did, left) = does(rt.alloc(), A)?;
     assert!(rt; matches!(did, Move::Take(Term::Atom(A))));
     assert_eq!(rt; left, 0);
@@ -78,28 +83,35 @@ fn a_machine_takes_from_an_opened_mailbox(rt: HostRuntime) -> Result<(), Fail> {
 fn woken(
     alloc: Global,
     machine: &mut Machine,
-    inbox: &mut Opened,
+    mailbox: &mut Mailbox,
+    pool: &mut Pool<Term>,
     message: AtomId,
 ) -> Result<Move, Fail>
     requires stands { CanMove machine.old.standing }
-    requires ready { IsAheadOf machine.old inbox.old.mailbox }
+    requires ready { IsAheadOf machine.old mailbox.old }
     ensures waits { IfOk result (λ did. did ≡ Move.Wait → CanMove machine.new.standing) }
-    ensures ready { IsAheadOf machine.new inbox.new.mailbox }
+    ensures ready { IsAheadOf machine.new mailbox.new }
 {
-    inbox.mailbox.deliver(&mut inbox.pool, Term::Atom(message))?;
-    let (did, _used) = machine.run(alloc, inbox, 100)?;
+    mailbox.deliver(pool, Term::Atom(message))?;
+    let mut did = Move::Pure;
+    machine.run(alloc, mailbox, pool, 100, &mut did)?;
     Ok(did)
 }
 
 /// The process is woken by c, for which it doesn't wait: how many tests there were in all.
-fn waits_on(alloc: Global, machine: &mut Machine, inbox: &mut Opened) -> Result<u64, Fail>
+fn waits_on(
+    alloc: Global,
+    machine: &mut Machine,
+    mailbox: &mut Mailbox,
+    pool: &mut Pool<Term>,
+) -> Result<u64, Fail>
     requires stands { CanMove machine.old.standing }
-    requires ready { IsAheadOf machine.old inbox.old.mailbox }
+    requires ready { IsAheadOf machine.old mailbox.old }
     ensures stands { OnOk result (CanMove machine.new.standing) }
-    ensures ready { IsAheadOf machine.new inbox.new.mailbox }
+    ensures ready { IsAheadOf machine.new mailbox.new }
 {
-    match woken(alloc, machine, inbox, C)? {
-        Move::Wait => Ok(inbox.mailbox.tests()),
+    match woken(alloc, machine, mailbox, pool, C)? {
+        Move::Wait => Ok(mailbox.tests()),
         _ => Err(Fail::from("the process doesn't wait")),
     }
 }
@@ -107,18 +119,16 @@ fn waits_on(alloc: Global, machine: &mut Machine, inbox: &mut Opened) -> Result<
 #[test]
 fn a_woken_machine_tests_what_is_new(rt: HostRuntime) -> Result<(), Fail> {
     let alloc = rt.alloc();
-    let mut inbox = Opened {
-        mailbox: Mailbox::new(alloc),
-        pool: Pool::new(alloc),
-    };
+    let mut pool = Pool::new(alloc);
+    let mut mailbox = Mailbox::new(alloc);
     let mut machine = receiver(alloc)?;
-    let first = waits_on(alloc, &mut machine, &mut inbox)?;
-    let second = waits_on(alloc, &mut machine, &mut inbox)?;
-    let third = waits_on(alloc, &mut machine, &mut inbox)?;
+    let first = waits_on(alloc, &mut machine, &mut mailbox, &mut pool)?;
+    let second = waits_on(alloc, &mut machine, &mut mailbox, &mut pool)?;
+    let third = waits_on(alloc, &mut machine, &mut mailbox, &mut pool)?;
     assert_eq!(rt; (first, second, third), (1, 2, 3));
-    let did = woken(alloc, &mut machine, &mut inbox, A)?;
+    let did = woken(alloc, &mut machine, &mut mailbox, &mut pool, A)?;
     assert!(rt; matches!(did, Move::Take(Term::Atom(A))));
-    assert_eq!(rt; inbox.mailbox.tests(), 4);
-    assert_eq!(rt; inbox.mailbox.len(), 3);
+    assert_eq!(rt; mailbox.tests(), 4);
+    assert_eq!(rt; mailbox.len(), 3);
     Ok(())
 }

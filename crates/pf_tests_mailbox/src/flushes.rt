@@ -1,9 +1,5 @@
 //! Messages that a flush takes out of a mailbox.
 
-ghost use Rattle.std.specs.Prelude.{[]};
-ghost use Rattle.pf_model.specs.Module.{module_of};
-ghost use Rattle.pf_mailbox.specs.Tests.{FitsNoneBefore, awaited};
-
 use crate::receives::{Receive, of_all, try_once};
 use pf_mailbox::Mailbox;
 use pf_nodes::Pool;

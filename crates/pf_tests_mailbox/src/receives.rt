@@ -1,11 +1,8 @@
 //! Clauses of a few `receive`s, made by hand, and one `receive` of such clauses.
 
 ghost use Rattle.std.specs.Prelude.{◌≡◌, [], IfOk};
-ghost use Rattle.pf_model.specs.Module.{module_of};
 ghost use Rattle.pf_stepper.specs.Readiness.{receive_in};
-ghost use Rattle.pf_mailbox.specs.Tests.{FitsNoneBefore, awaited};
 
-use pf_mailbox::Mailbox;
 use pf_nodes::Pool;
 use pf_stepper::Inbox;
 use pf_syntax::{
@@ -113,44 +110,22 @@ pub(crate) struct Taken {
     pub(crate) bound: Vec<Term>,
 }
 
-/// One try of a `receive` that knows no variable, at a mailbox.
-pub(crate) fn try_once(
-    alloc: Global,
-    mailbox: &mut Mailbox,
-    pool: &mut Pool<Term>,
-    receive: &Receive,
-) -> Result<Option<Taken>, NoMemory>
-    requires { FitsNoneBefore (module_of receive.now.«module») 0
-        (awaited receive.now.«module» 0 [] receive.now.clauses.items) mailbox.old }
-    ensures { FitsNoneBefore (module_of receive.now.«module») 0
-        (awaited receive.now.«module» 0 [] receive.now.clauses.items) mailbox.new }
-{
-    let mut bound = Vec::new(alloc);
-    let Receive { module, clauses } = receive;
-    let taken = mailbox.select(pool, alloc, module, clauses.as_slice(), &mut bound, 0, 0)?;
-    match taken {
-        Some((body, message)) => Ok(Some(Taken {
-            body,
-            message,
-            bound,
-        })),
-        None => Ok(None),
-    }
-}
-
-/// The same at any inbox.
-pub(crate) fn try_inbox<I: Inbox>(
+/// One try of a `receive` that knows no variable, at any inbox.
+pub(crate) fn try_once<I: Inbox>(
     alloc: Global,
     inbox: &mut I,
+    pool: &mut Pool<Term>,
     receive: &Receive,
 ) -> Result<Option<Taken>, NoMemory>
     requires { I.IsReady inbox.old (receive_in receive.now.«module» 0 0 [] receive.now.clauses.items) }
     ensures { I.IsReady inbox.new (receive_in receive.now.«module» 0 0 [] receive.now.clauses.items) }
 {
     let mut bound = Vec::new(alloc);
+    let mut message = Term::Int(0);
     let Receive { module, clauses } = receive;
-    match inbox.select(alloc, module, clauses.as_slice(), &mut bound, 0, 0)? {
-        Some((body, message)) => Ok(Some(Taken {
+    let clauses = clauses.as_slice();
+    match inbox.select(alloc, pool, module, clauses, &mut bound, 0, 0, &mut message)? {
+        Some(body) => Ok(Some(Taken {
             body,
             message,
             bound,

@@ -1,4 +1,4 @@
-//! An opened mailbox beside messages in a plain vector, along generated scripts: both answer alike, and the mailbox tests each
+//! A mailbox beside messages in a plain vector, along generated scripts: both answer alike, and the mailbox tests each
 //! message once within one `receive`.
 
 ghost use Rattle.std.specs.Prelude.{◌≡◌, []};
@@ -6,11 +6,9 @@ ghost use Rattle.pf_stepper.specs.Readiness.{receive_in};
 ghost use Rattle.pf_mailbox.specs.MailView.{unmarked};
 ghost use Rattle.pf_mailbox.specs.Tests.{FitsNoneBefore, IsReadyFor};
 
-use crate::receives::{
-    A, B, C, D, Receive, Taken, of_all, of_atoms, of_large, of_pairs, try_inbox,
-};
+use crate::receives::{A, B, C, D, Receive, Taken, of_all, of_atoms, of_large, of_pairs, try_once};
 use pf_choice::Choices;
-use pf_mailbox::{Mailbox, Opened};
+use pf_mailbox::Mailbox;
 use pf_nodes::Pool;
 use pf_stepper::PlainInbox;
 use pf_terms::{NoMemory, Term, copy, equal, tuple_of};
@@ -22,7 +20,8 @@ use std::test::Fail;
 /// waits has seen, and how many tests are due in all, of each message once within one `receive`.
 #[derive(Drop)]
 struct Both {
-    opened: Opened,
+    mailbox: Mailbox,
+    pool: Pool<Term>,
     plain: PlainInbox,
     seen: usize,
     tests: u64,
@@ -31,10 +30,8 @@ struct Both {
 impl Both {
     fn new(alloc: Global) -> Both {
         Both {
-            opened: Opened {
-                mailbox: Mailbox::new(alloc),
-                pool: Pool::new(alloc),
-            },
+            mailbox: Mailbox::new(alloc),
+            pool: Pool::new(alloc),
             plain: PlainInbox {
                 messages: Vec::new(alloc),
             },
@@ -71,12 +68,12 @@ fn some_receive(alloc: Global, number: usize) -> Result<Receive, NoMemory> {
 
 /// Places the same message in both.
 fn deliver(alloc: Global, both: &mut Both, number: usize) -> Result<(), Fail>
-    ensures { (m : _) (own : _) (ks : _) → FitsNoneBefore m own ks both.old.opened.mailbox
-        → FitsNoneBefore m own ks both.new.opened.mailbox }
+    ensures { (m : _) (own : _) (ks : _) → FitsNoneBefore m own ks both.old.mailbox
+        → FitsNoneBefore m own ks both.new.mailbox }
 {
     let first = message(alloc, number)?;
     let second = message(alloc, number)?;
-    both.opened.mailbox.deliver(&mut both.opened.pool, first)?;
+    both.mailbox.deliver(&mut both.pool, first)?;
     both.plain.messages.push(second)?;
     Ok(())
 }
@@ -123,21 +120,19 @@ fn are_alike(first: &Option<Taken>, second: &Option<Taken>) -> bool {
 
 /// One try of both: whether they took a message.
 fn try_both(alloc: Global, both: &mut Both, wanted: &Receive) -> Result<bool, Fail>
-    requires { IsReadyFor (receive_in wanted.now.«module» 0 0 [] wanted.now.clauses.items)
-        both.old.opened.mailbox }
-    ensures { IsReadyFor (receive_in wanted.now.«module» 0 0 [] wanted.now.clauses.items)
-        both.new.opened.mailbox }
+    requires { IsReadyFor (receive_in wanted.now.«module» 0 0 [] wanted.now.clauses.items) both.old.mailbox }
+    ensures { IsReadyFor (receive_in wanted.now.«module» 0 0 [] wanted.now.clauses.items) both.new.mailbox }
 {
     let messages = copies(alloc, &both.plain)?;
-    let real = try_inbox(alloc, &mut both.opened, wanted)?;
-    let fake = try_inbox(alloc, &mut both.plain, wanted)?;
+    let real = try_once(alloc, &mut both.mailbox, &mut both.pool, wanted)?;
+    let fake = try_once(alloc, &mut both.plain, &mut both.pool, wanted)?;
     let more = due(messages.as_slice(), &fake, both.seen);
     both.tests = both.tests.wrapping_add(more as u64);
     both.seen = messages.len();
-    if !are_alike(&real, &fake) || both.opened.mailbox.len() != both.plain.messages.len() {
+    if !are_alike(&real, &fake) || both.mailbox.len() != both.plain.messages.len() {
         return Err(Fail::from("the mailbox and its fake differ"));
     }
-    if both.opened.mailbox.tests() != both.tests {
+    if both.mailbox.tests() != both.tests {
         return Err(Fail::from("a message is tested twice, or not at all"));
     }
     Ok(real.is_some())
@@ -145,9 +140,9 @@ fn try_both(alloc: Global, both: &mut Both, wanted: &Receive) -> Result<bool, Fa
 
 /// The process comes to another `receive`.
 fn comes_to_another(both: &mut Both)
-    ensures { both.new.opened.mailbox ≡ unmarked both.old.opened.mailbox }
+    ensures { both.new.mailbox ≡ unmarked both.old.mailbox }
 {
-    both.opened.mailbox.reset_mark();
+    both.mailbox.reset_mark();
     both.seen = 0;
 }
 
@@ -171,16 +166,17 @@ fn receive_woken(
 /// Packs the mailbox and unpacks it.
 fn pack_and_unpack(alloc: Global, both: Both) -> Result<Both, Fail> {
     let Both {
-        opened,
+        mailbox,
+        mut pool,
         plain,
         seen,
         tests,
     } = both;
-    let Opened { mailbox, mut pool } = opened;
     let packed = mailbox.pack(&mut pool, alloc)?;
     let mailbox = Mailbox::unpack(&mut pool, alloc, packed)?;
     Ok(Both {
-        opened: Opened { mailbox, pool },
+        mailbox,
+        pool,
         plain,
         seen,
         tests,
@@ -202,14 +198,14 @@ fn follow(alloc: Global, seed: u64) -> Result<u64, Fail> {
         }
     }
     let all = of_all(alloc)?;
-    for _ in 0..both.opened.mailbox.len() {
+    for _ in 0..both.mailbox.len() {
         comes_to_another(&mut both);
         try_both(alloc, &mut both, &all)?;
     }
-    if !both.opened.mailbox.is_empty() {
+    if !both.mailbox.is_empty() {
         return Err(Fail::from("the mailbox is not emptied"));
     }
-    Ok(both.opened.mailbox.tests())
+    Ok(both.mailbox.tests())
 }
 
 #[test]

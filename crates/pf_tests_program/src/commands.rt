@@ -9,12 +9,12 @@ use std::test::Fail;
 const TWO: &str = "submit 1 52\n-module(m).\n-export([main/0]).\nmain() -> 1 + 2 * 3.\n\n\
 submit 2 52\n-module(m).\n-export([main/0]).\nmain() -> 1 + 2 * 3.\n\n\
 order 1 1 main returns none 100\norder 2 1 main returns 5,9 100\nusage 1\nusage 2\n\
-once 1 1\nonce 1 1\nfetch 1 1\nfetch 2 1\nfetch 2 2\nonce 3 1\n";
+claim 0 1 1\nclaim 0 2 1\nslice 0 1 1 9\nfile 0 1 1\nfetch 1 1\nfetch 2 1\nfetch 2 2\nclaim 4 2 1\n";
 
 const TWO_TEXT: &str = "p1 module 1\np2 module 1\np1 ticket 1\np2 ticket 1\n\
-p1 usage 1 52 1 100 2\np2 usage 1 52 1 100 2\nw0 done\nw0 not now N2\n\
+p1 usage 1 52 1 100 2\np2 usage 1 52 1 100 2\nw0 done\nw0 not now N2\nw0 done\nw0 done\n\
 p1 report 4\n0/1 <0> end normal\nfinished 7\nsteps 4\nproperty holds\n\
-p2 refused B5\np2 refused B3\nw0 not now N2\n";
+p2 refused B5\np2 refused B3\nw4 not now N2\n";
 
 /// How many calls of the reader fail in turn before none does and the text is whole. If the first fails nothing goes out; else all.
 fn failed_reads(alloc: Global, keys: RandomState) -> Option<u64> {

@@ -106,7 +106,7 @@ fn tell(alloc: Global, keys: RandomState, input: &[u8], size: usize, failing: u6
 }
 
 /// Commands and what each is answered, the last of which has no line end.
-const TURNS: [(&str, &str); 12] = [
+const TURNS: [(&str, &str); 14] = [
     ("usage 1\n", "p1 usage 0 0 0 0 0\n"),
     (
         "submit 1 52\n-module(m).\n-export([main/0]).\nmain() -> 1 + 2 * 3.\n\n",
@@ -117,8 +117,10 @@ const TURNS: [(&str, &str); 12] = [
     ("submit 2 0\n\n", "p2 refused E4\n"),
     ("submit 2 1\n\n\n", "p2 refused E4\n"),
     ("order 1 1 main returns 5,9 100\n", "p1 ticket 2\n"),
-    ("once 1 1\n", "w0 done\n"),
-    ("once 1 1\n", "w0 not now N2\n"),
+    ("claim 2 1 1\n", "w2 done\n"),
+    ("slice 2 1 1 9\n", "w2 done\n"),
+    ("file 2 1 1\n", "w2 done\n"),
+    ("file 2 1 1\n", "w2 not now N2\n"),
     (
         "fetch 1 1\n",
         "p1 report 4\n0/1 <0> end normal\nfinished 7\nsteps 4\nproperty holds\n",
@@ -185,7 +187,7 @@ fn idle(alloc: Global, lines: usize) -> Result<(Vec<u8>, Vec<u8>), AllocError> {
     let mut input = Vec::new(alloc);
     let mut text = Vec::new(alloc);
     for _ in 0..lines {
-        input.extend_from_slice(b"once 7 1\n")?;
+        input.extend_from_slice(b"claim 0 7 1\n")?;
         text.extend_from_slice(b"w0 not now N2\n")?;
     }
     Ok((input, text))

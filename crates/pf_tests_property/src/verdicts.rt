@@ -148,3 +148,56 @@ fn no_deadlock_counts_a_deadlock(rt: HostRuntime) -> Result<(), Fail> {
     assert_eq!(rt; all(rt.alloc(), &deadlock)?.as_str(), "--+-++");
     Ok(())
 }
+
+/// Whether a label rules a property out (`x`), and the verdict of a run that shows it alone: judged by that, and from its events.
+fn judged(alloc: Global, text: &str, label: Label, outcome: &Outcome) -> Result<[char; 3], Fail> {
+    let property = property(alloc, text)?;
+    let ruled_out = property.rules_out(&label);
+    let judged = mark(property.judge(ruled_out, outcome));
+    let events = vec![in alloc; shown(label)]?;
+    let verdict = mark(property.verdict(&events, outcome));
+    Ok([if ruled_out { 'x' } else { 'o' }, judged, verdict])
+}
+
+/// The same where `ready` is sent.
+fn judged_where_sent(alloc: Global, text: &str, outcome: &Outcome) -> Result<[char; 3], Fail> {
+    let message = Term::Atom(READY);
+    judged(alloc, text, Label::Sends { to: 1, message }, outcome)
+}
+
+#[test]
+fn a_property_is_judged_by_what_rules_it_out(rt: HostRuntime) -> Result<(), Fail> {
+    let alloc = rt.alloc();
+    let rows = [
+        ("never:ready", ['x', '-', '-']),
+        ("never:normal", ['o', '+', '+']),
+        ("nocrash", ['o', '+', '+']),
+        ("returns", ['o', '-', '-']),
+        ("nodeadlock", ['o', '+', '+']),
+    ];
+    for (text, wanted) in rows {
+        assert_eq!(rt;
+            judged_where_sent(alloc, text, &Outcome::Limit)?,
+            wanted,
+            "{text}"
+        );
+    }
+    Ok(())
+}
+
+#[test]
+fn a_crash_rules_its_property_out_and_memory_leaves_no_verdict(
+    rt: HostRuntime,
+) -> Result<(), Fail> {
+    let alloc = rt.alloc();
+    let killed = Label::Ends(Term::Atom(AtomId::KILLED));
+    assert_eq!(rt;
+        judged(alloc, "nocrash", killed, &Outcome::Limit)?,
+        ['x', '-', '-']
+    );
+    assert_eq!(rt;
+        judged_where_sent(alloc, "never:ready", &Outcome::Memory)?,
+        ['x', '.', '.']
+    );
+    Ok(())
+}

@@ -5,7 +5,7 @@ use pf_request::{Kind, Request, RunChoices, ShortBytes, Source};
 use pf_sched::{
     Finished, Job, JobResult, Scratch, Silent, Slice, report_of_run, run_slice, run_to_end, start,
 };
-use pf_trace::{Report, put_found, put_report};
+use pf_trace::{Report, WrittenReport, put_found, put_report, put_written};
 use std::alloc::Global;
 use std::sync::Arc;
 use std::test::Fail;
@@ -67,8 +67,8 @@ pub(crate) fn job_of_kind(
     Ok(Arc::new(alloc, job)?)
 }
 
-/// The report of a run that is over.
-pub(crate) fn report_of(finished: &Finished) -> Result<&Report, Fail> {
+/// The report of a run that is over, as it is written.
+pub(crate) fn report_of(finished: &Finished) -> Result<&WrittenReport, Fail> {
     match finished.result() {
         Some(JobResult::Report(report)) => Ok(report),
         _ => Err(Fail::from("a run comes to a report")),
@@ -90,14 +90,14 @@ pub(crate) fn text_of(alloc: Global, finished: &Finished) -> Result<String, Fail
     let mut text = Vec::new(alloc);
     let atoms = finished.job().module().atoms();
     match result {
-        JobResult::Report(report) => put_report(&mut text, atoms, report)?,
+        JobResult::Report(report) => put_written(&mut text, atoms, report)?,
         JobResult::Shrunk {
             schedule,
             complete,
             report,
         } => {
             put_found(&mut text, schedule, *complete)?;
-            put_report(&mut text, atoms, report)?;
+            put_written(&mut text, atoms, report)?;
         }
         JobResult::NothingFails => text.extend_from_slice(b"nothing fails\n")?,
     }
@@ -110,15 +110,28 @@ pub(crate) fn run_whole(alloc: Global, job: &Arc<Job>) -> Result<Finished, Fail>
     Ok(run_to_end(alloc, Arc::try_clone(job)?, &mut scratch, &mut Silent)?)
 }
 
-/// The text of the report of a job that is one run.
-pub(crate) fn text_of_run(alloc: Global, job: &Job) -> Result<String, Fail> {
+/// The report of a job that is one run, with its events.
+pub(crate) fn run_of(alloc: Global, job: &Job) -> Result<Report, Fail> {
     if job.runs() > 0 {
         return Err(Fail::from("the job is a shrinking"));
     }
-    let report = report_of_run(alloc, job, &mut Scratch::new(alloc))?;
+    Ok(report_of_run(alloc, job, &mut Scratch::new(alloc))?)
+}
+
+/// The text of a report of a job, by its events.
+pub(crate) fn text_by_events(alloc: Global, job: &Job, report: &Report) -> Result<String, Fail> {
     let mut text = Vec::new(alloc);
-    put_report(&mut text, job.module().atoms(), &report)?;
+    put_report(&mut text, job.module().atoms(), report)?;
     string_of(text)
+}
+
+/// The choices of a run, event by event.
+pub(crate) fn choices_of(alloc: Global, report: &Report) -> Result<Vec<u32>, Fail> {
+    let mut numbers = Vec::new(alloc);
+    for event in &report.events {
+        numbers.push(event.choice)?;
+    }
+    Ok(numbers)
 }
 
 /// The end of a run by slices of n turns, which share their spare nodes.

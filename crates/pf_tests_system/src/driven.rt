@@ -1,9 +1,9 @@
 //! A run of a source in which the test says who goes.
 
 use pf_check::read;
-use pf_model::report::{Actor, Event, Report};
+use pf_model::report::{Actor, Event, Label, Report};
 use pf_syntax::{FunctionId, Module};
-use pf_system::System;
+use pf_system::{Spare, System};
 use pf_trace::put_report;
 use std::alloc::Global;
 use std::sync::Arc;
@@ -49,6 +49,16 @@ impl Driven {
         })
     }
 
+    /// The same in what runs before left behind.
+    pub(crate) fn started_in(alloc: Global, source: &str, spare: Spare) -> Result<Driven, Fail> {
+        let (module, root) = read_main(alloc, source)?;
+        Ok(Driven {
+            system: System::new_in(alloc, &module, root, 1, spare)?,
+            module,
+            events: Vec::new(alloc),
+        })
+    }
+
     /// Of those that may go number `index` goes, counted from 0.
     pub(crate) fn go(&mut self, alloc: Global, index: usize) -> Result<(), Fail> {
         let enabled = self.system.enabled();
@@ -60,10 +70,15 @@ impl Driven {
         if self.system.steps() >= ENOUGH {
             return Err(Fail::from("the run has too many steps"));
         }
-        let label = match actor {
-            Actor::Process(pid) => self.system.turn(alloc, pid, ENOUGH)?.0,
-            Actor::Channel { from, to } => self.system.deliver(alloc, from, to, ENOUGH)?,
-        };
+        let mut label = Label::Cut;
+        match actor {
+            Actor::Process(pid) => {
+                let _used = self.system.turn(alloc, pid, ENOUGH, &mut label)?;
+            }
+            Actor::Channel { from, to } => {
+                self.system.deliver(alloc, from, to, ENOUGH, &mut label)?;
+            }
+        }
         self.events.push(Event {
             choice: u32::try_from(index)?,
             count: u32::try_from(among)?,
@@ -75,6 +90,12 @@ impl Driven {
 
     /// The report of a run that stops here, as it prints.
     pub(crate) fn printed(self, alloc: Global) -> Result<String, Fail> {
+        let (text, _left) = self.over(alloc)?;
+        Ok(text)
+    }
+
+    /// The same with what the run leaves behind.
+    pub(crate) fn over(self, alloc: Global) -> Result<(String, Spare), Fail> {
         let Driven {
             module,
             system,
@@ -86,6 +107,7 @@ impl Driven {
             steps: system.steps(),
             verdict: None,
         };
-        text_of(alloc, &module, &report)
+        let text = text_of(alloc, &module, &report)?;
+        Ok((text, system.into_spare()))
     }
 }

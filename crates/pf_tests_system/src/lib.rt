@@ -13,3 +13,5 @@ mod shrinkings;
 mod slices;
 #[cfg(test)]
 mod turns;
+#[cfg(test)]
+mod written;

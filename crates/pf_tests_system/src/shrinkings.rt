@@ -1,8 +1,8 @@
 //! Shrinkings, whole and slice by slice.
 
-use crate::asked::{job_of_kind, module_of, run_sliced, run_whole, text_of};
+use crate::asked::{job_of_kind, module_of, run_sliced, run_whole, text_by_events, text_of};
 use pf_request::Kind;
-use pf_sched::Job;
+use pf_sched::{Job, Scratch, report_by_schedule};
 use std::alloc::Global;
 use std::sync::Arc;
 use std::test::Fail;
@@ -54,6 +54,24 @@ fn a_race_is_shrunk_within_nineteen_runs_and_known_to_be_least_by_twenty(
         let job = race(rt.alloc(), "true", runs)?;
         assert!(rt; comes_to(rt.alloc(), &job, first, LAST)?, "{runs} runs");
     }
+    Ok(())
+}
+
+/// What is told of the shrinking within twenty runs, and these two lines with the text of the run by the schedule that they tell.
+fn told_and_made(alloc: Global) -> Result<(String, String), Fail> {
+    let job = race(alloc, "true", 20)?;
+    let schedule = [0, 0, 0, 0, 0, 0, 0, 1];
+    let told = text_of(alloc, &run_whole(alloc, &job)?)?;
+    let report = report_by_schedule(alloc, &job, &schedule, &mut Scratch::new(alloc))?;
+    let made = text_by_events(alloc, &job, &report)?;
+    let wanted = format!(in alloc; "schedule 0,0,0,0,0,0,0,1\ncomplete\n{made}")?;
+    Ok((told, wanted))
+}
+
+#[test]
+fn the_report_of_a_shrinking_is_that_of_the_schedule_found(rt: HostRuntime) -> Result<(), Fail> {
+    let (told, wanted) = told_and_made(rt.alloc())?;
+    assert_eq!(rt; told.as_str(), wanted.as_str());
     Ok(())
 }
 

@@ -1,11 +1,16 @@
 //! Runs slice by slice.
 
 use crate::asked::{
-    job_of, module_of, report_of, run_sliced, run_whole, scheduled, text_of, text_of_run,
+    choices_of, job_of, module_of, report_of, run_of, run_sliced, run_whole, scheduled,
+    text_by_events, text_of,
 };
+use pf_model::report::Outcome;
 use pf_request::RunChoices;
-use pf_sched::{Finished, Parked, Scratch, Slice, run_slice, start};
+use pf_sched::{
+    Finished, Job, Parked, Scratch, Slice, judged_run, report_of_run, run_slice, start,
+};
 use std::alloc::Global;
+use std::sync::Arc;
 use std::test::Fail;
 
 /// A child takes its two messages in the other order. With no number on its schedule the run has 15 events.
@@ -17,9 +22,9 @@ kid(P) -> receive b -> receive a -> P ! done end end.\n";
 fn slices_agree(alloc: Global, choices: &RunChoices) -> Result<(String, Vec<u32>), Fail> {
     let module = module_of(alloc, SWAPPED)?;
     let job = job_of(alloc, &module, "true", choices.share()?, 1000)?;
-    let whole = run_whole(alloc, &job)?.share()?;
-    let text = text_of(alloc, &whole)?;
-    if text_of_run(alloc, &job)?.as_str() != text.as_str() {
+    let text = text_of(alloc, &run_whole(alloc, &job)?.share()?)?;
+    let run = run_of(alloc, &job)?;
+    if text_by_events(alloc, &job, &run)?.as_str() != text.as_str() {
         return Err(Fail::from("the run without slices comes to another report"));
     }
     for turns in [1, 3] {
@@ -28,11 +33,7 @@ fn slices_agree(alloc: Global, choices: &RunChoices) -> Result<(String, Vec<u32>
             return Err(Fail::from("slices come to another report"));
         }
     }
-    let mut numbers = Vec::new(alloc);
-    for event in &report_of(&whole)?.events {
-        numbers.push(event.choice)?;
-    }
-    Ok((text, numbers))
+    Ok((text, choices_of(alloc, &run)?))
 }
 
 #[test]
@@ -114,9 +115,17 @@ fn gone(alloc: Global, parked: Parked, scratch: &mut Scratch, turns: u32) -> Res
     }
 }
 
-/// The end of the run, where one event more is its last.
-fn ended(alloc: Global, parked: Parked, scratch: &mut Scratch) -> Result<Finished, Fail> {
-    match run_slice(alloc, parked, scratch, 1) {
+/// The end of the run, whose last event is among those of this slice.
+fn ended(
+    alloc: Global,
+    parked: Parked,
+    scratch: &mut Scratch,
+    turns: u32,
+) -> Result<Finished, Fail> {
+    if turns == 0 {
+        return Err(Fail::from("a slice has a turn at least"));
+    }
+    match run_slice(alloc, parked, scratch, turns) {
         Slice::More(_) => Err(Fail::from("the run goes on behind its last event")),
         Slice::Done(finished) => Ok(finished),
     }
@@ -128,13 +137,107 @@ fn over(alloc: Global) -> Result<(usize, Option<bool>), Fail> {
     let job = job_of(alloc, &module, "returns", scheduled(alloc, &[])?, 1000)?;
     let mut scratch = Scratch::new(alloc);
     let parked = gone(alloc, start(alloc, job)?, &mut scratch, 14)?;
-    let finished = ended(alloc, parked, &mut scratch)?;
+    let finished = ended(alloc, parked, &mut scratch, 1)?;
     let report = report_of(&finished)?;
-    Ok((report.events.len(), report.verdict))
+    Ok((report.lines.len(), report.verdict))
 }
 
 #[test]
 fn a_run_is_over_behind_its_last_event(rt: HostRuntime) -> Result<(), Fail> {
     assert_eq!(rt; over(rt.alloc())?, (15, Some(true)));
+    Ok(())
+}
+
+/// How a run came out, and whether its property holds.
+fn said(outcome: &Outcome, verdict: Option<bool>) -> (&'static str, Option<bool>) {
+    let kind = match outcome {
+        Outcome::Finished(_) => "finished",
+        Outcome::Ended(_) => "ended",
+        Outcome::Deadlock(_) => "deadlock",
+        Outcome::Limit => "limit",
+        Outcome::Memory => "memory",
+    };
+    (kind, verdict)
+}
+
+/// What is said of the run of a job without its events, where its report says the same; both in one scratch.
+fn said_twice(alloc: Global, job: &Job) -> Result<(&'static str, Option<bool>), Fail> {
+    if job.runs() > 0 {
+        return Err(Fail::from("the job is a shrinking"));
+    }
+    let mut scratch = Scratch::new(alloc);
+    let judged = judged_run(alloc, job, &mut scratch)?;
+    let report = report_of_run(alloc, job, &mut scratch)?;
+    let told = said(&judged.outcome, judged.verdict);
+    if said(&report.outcome, report.verdict) != told {
+        return Err(Fail::from("a run without its events comes to something else"));
+    }
+    Ok(told)
+}
+
+/// What is said of the run by no number within a limit.
+fn said_of(
+    alloc: Global,
+    property: &str,
+    limit: u32,
+) -> Result<(&'static str, Option<bool>), Fail> {
+    let module = module_of(alloc, SWAPPED)?;
+    let job = job_of(alloc, &module, property, scheduled(alloc, &[])?, limit)?;
+    said_twice(alloc, &job)
+}
+
+#[test]
+fn a_run_without_its_events_comes_to_the_same(rt: HostRuntime) -> Result<(), Fail> {
+    let rows = [
+        ("true", 1000, ("finished", Some(true))),
+        ("never:a", 1000, ("finished", Some(false))),
+        ("never:gone", 1000, ("finished", Some(true))),
+        ("nocrash", 1000, ("finished", Some(true))),
+        ("returns", 3, ("limit", Some(false))),
+        ("never:b", 3, ("limit", Some(true))),
+    ];
+    for (property, limit, wanted) in rows {
+        assert_eq!(rt; said_of(rt.alloc(), property, limit)?, wanted, "{property}");
+    }
+    Ok(())
+}
+
+/// The run of 15 events, by slices that end behind each of its first 14 events whose bit is set.
+fn cut_by(
+    alloc: Global,
+    job: &Arc<Job>,
+    scratch: &mut Scratch,
+    bits: u32,
+) -> Result<Finished, Fail> {
+    let mut parked = start(alloc, Arc::try_clone(job)?)?;
+    let mut turns = 1u32;
+    for event in 0..14u32 {
+        if (bits >> event) & 1 == 1 {
+            parked = gone(alloc, parked, scratch, turns)?;
+            turns = 0;
+        }
+        turns = turns.saturating_add(1);
+    }
+    ended(alloc, parked, scratch, turns)
+}
+
+/// The first cut of the run into slices, of all that there are, by which it comes to another text. What earlier runs left in the scratch stands there.
+fn other_cut(alloc: Global) -> Result<Option<u32>, Fail> {
+    let module = module_of(alloc, SWAPPED)?;
+    let job = job_of(alloc, &module, "returns", scheduled(alloc, &[])?, 1000)?;
+    let text = text_of(alloc, &run_whole(alloc, &job)?)?;
+    let mut scratch = Scratch::new(alloc);
+    for bits in 0..16_384 {
+        let finished = cut_by(alloc, &job, &mut scratch, bits)?;
+        if text_of(alloc, &finished)?.as_str() != text.as_str() {
+            return Ok(Some(bits));
+        }
+    }
+    Ok(None)
+}
+
+#[test]
+fn every_cut_of_a_run_files_the_same_text(rt: HostRuntime) -> Result<(), Fail> {
+    assert_eq!(rt; other_cut(rt.alloc())?, None);
     Ok(())
 }

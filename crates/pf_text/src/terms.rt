@@ -15,6 +15,9 @@ use pf_terms::{AtomTable, Elements, List, NoMemory, Term};
 pub fn put_pid(out: &mut Vec<u8>, pid: u32) -> Result<(), NoMemory>
     ensures { OnOk result (out.new.items ≡ out.old.items ++ pid_text pid) }
 {
+    if pid < 10 {
+        return put(out, &[b'<', b'0' + pid as u8, b'>']);
+    }
     put(out, b"<")?;
     put_number(out, u64::from(pid))?;
     put(out, b">")

@@ -1,6 +1,7 @@
 //! The reserved words, and the value of digits.
-ghost use Rattle.std.specs.Prelude.{◌≡◌, option_map};
-ghost use Rattle.std.specs.List.{AllPass};
+ghost use Rattle.std.specs.Prelude.{◌≡◌, ◌∷◌, List, ℕ, option_map};
+ghost use Rattle.std.specs.List.{AllPass, find};
+ghost use Rattle.std.specs.Str.{bytes_eq};
 ghost use Rattle.pf_tokens.specs.Bytes.{is_digit};
 ghost use Rattle.pf_tokens.specs.TokenKinds.{reserved_text, reserved_of, decimal, checked};
 
@@ -37,36 +38,6 @@ pub enum Reserved {
     When,
     Xor,
 }
-
-const RESERVED: [Reserved; 27] = [
-    Reserved::After,
-    Reserved::And,
-    Reserved::Andalso,
-    Reserved::Band,
-    Reserved::Begin,
-    Reserved::Bnot,
-    Reserved::Bor,
-    Reserved::Bsl,
-    Reserved::Bsr,
-    Reserved::Bxor,
-    Reserved::Case,
-    Reserved::Catch,
-    Reserved::Cond,
-    Reserved::Div,
-    Reserved::End,
-    Reserved::Fun,
-    Reserved::If,
-    Reserved::Let,
-    Reserved::Not,
-    Reserved::Of,
-    Reserved::Or,
-    Reserved::Orelse,
-    Reserved::Receive,
-    Reserved::Rem,
-    Reserved::Try,
-    Reserved::When,
-    Reserved::Xor,
-];
 
 impl Reserved {
     /// How the word is written.
@@ -105,11 +76,46 @@ impl Reserved {
     }
 }
 
+/// The reserved words that begin with a byte.
+fn beginning_with(first: u8) -> &'static [Reserved]
+    ensures { (others : List ℕ) → find (λ r. bytes_eq (reserved_text r) (first ∷ others)) result.now
+        ≡ reserved_of (first ∷ others) }
+{
+    match first {
+        b'a' => &[Reserved::After, Reserved::And, Reserved::Andalso],
+        b'b' => &[
+            Reserved::Band,
+            Reserved::Begin,
+            Reserved::Bnot,
+            Reserved::Bor,
+            Reserved::Bsl,
+            Reserved::Bsr,
+            Reserved::Bxor,
+        ],
+        b'c' => &[Reserved::Case, Reserved::Catch, Reserved::Cond],
+        b'd' => &[Reserved::Div],
+        b'e' => &[Reserved::End],
+        b'f' => &[Reserved::Fun],
+        b'i' => &[Reserved::If],
+        b'l' => &[Reserved::Let],
+        b'n' => &[Reserved::Not],
+        b'o' => &[Reserved::Of, Reserved::Or, Reserved::Orelse],
+        b'r' => &[Reserved::Receive, Reserved::Rem],
+        b't' => &[Reserved::Try],
+        b'w' => &[Reserved::When],
+        b'x' => &[Reserved::Xor],
+        _ => &[],
+    }
+}
+
 /// The reserved word that the bytes write, if they write one.
 pub fn reserved_of(word: &[u8]) -> Option<Reserved>
     ensures { result ≡ reserved_of word.now }
 {
-    RESERVED
+    let [first, _, ..] = word else {
+        return None;
+    };
+    beginning_with(*first)
         .iter()
         .copied()
         .find(|reserved| reserved.text() == word)

@@ -12,6 +12,20 @@ use pf_model::report::{Actor, Event, Outcome, Report};
 use pf_terms::{AtomTable, NoMemory};
 use pf_text::{put, put_byte, put_number, put_pid, put_term};
 
+/// Puts which of how many choices was taken, and a blank.
+fn put_choice(out: &mut Vec<u8>, choice: u32, count: u32) -> Result<(), NoMemory>
+    ensures { OnOk result (out.new.items ≡ out.old.items
+        ++ (decimal choice ++ codes "/" ++ decimal count ++ codes " ")) }
+{
+    if choice < 10 && count < 10 {
+        return put(out, &[b'0' + choice as u8, b'/', b'0' + count as u8, b' ']);
+    }
+    put_number(out, u64::from(choice))?;
+    put(out, b"/")?;
+    put_number(out, u64::from(count))?;
+    put(out, b" ")
+}
+
 fn put_actor(out: &mut Vec<u8>, actor: Actor) -> Result<(), NoMemory>
     ensures { OnOk result (out.new.items ≡ out.old.items ++ actor_text (actor_of actor)) }
 {
@@ -26,14 +40,11 @@ fn put_actor(out: &mut Vec<u8>, actor: Actor) -> Result<(), NoMemory>
 }
 
 /// Puts the line of an event: CHOICE/N, who acts, what it did.
-fn put_event(out: &mut Vec<u8>, atoms: &AtomTable, event: &Event) -> Result<(), NoMemory>
+pub(crate) fn put_event(out: &mut Vec<u8>, atoms: &AtomTable, event: &Event) -> Result<(), NoMemory>
     ensures { OnOk result (out.new.items ≡ out.old.items
         ++ line (event_text (name_of atoms.now) (event_of event.now))) }
 {
-    put_number(out, u64::from(event.choice))?;
-    put(out, b"/")?;
-    put_number(out, u64::from(event.count))?;
-    put(out, b" ")?;
+    put_choice(out, event.choice, event.count)?;
     put_actor(out, event.actor)?;
     put(out, b" ")?;
     put_label(out, atoms, &event.label)?;
@@ -86,7 +97,7 @@ pub fn put_outcome(out: &mut Vec<u8>, atoms: &AtomTable, outcome: &Outcome) -> R
     put_byte(out, b'\n')
 }
 
-fn put_verdict(out: &mut Vec<u8>, verdict: Option<bool>) -> Result<(), NoMemory>
+pub(crate) fn put_verdict(out: &mut Vec<u8>, verdict: Option<bool>) -> Result<(), NoMemory>
     ensures { OnOk result (out.new.items ≡ out.old.items ++ line (verdict_text verdict)) }
 {
     match verdict {
@@ -96,7 +107,7 @@ fn put_verdict(out: &mut Vec<u8>, verdict: Option<bool>) -> Result<(), NoMemory>
     }
 }
 
-fn put_steps(out: &mut Vec<u8>, steps: u32) -> Result<(), NoMemory>
+pub(crate) fn put_steps(out: &mut Vec<u8>, steps: u32) -> Result<(), NoMemory>
     ensures { OnOk result (out.new.items ≡ out.old.items ++ line (codes "steps " ++ decimal steps)) }
 {
     put(out, b"steps ")?;

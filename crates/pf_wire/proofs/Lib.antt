@@ -1,3 +1,3 @@
-pub mod Happens
 pub mod Progress
 pub mod Leaving
+pub mod Adding

@@ -1,3 +1,4 @@
 pub mod Outcomes
 pub mod Steps
 pub mod Turns
+pub mod Whole

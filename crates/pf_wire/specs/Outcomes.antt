@@ -1,20 +1,18 @@
--- What came of a command, and who is told.
-use Rattle.std.specs.Prelude.{Option, Some, None}
-use Rattle.pf_desks.specs.World.{Step, client, worker, Answer, replied, work_done, not_now}
-use Rattle.pf_book.specs.View.{view_of_reply}
+-- Who did a step, and so is told what came of it.
+use Rattle.std.specs.Prelude.{ℕ, zero}
+use Rattle.pf_worlds.specs.Steps.{WorkshopStep, client_calls, worker_does}
 use Rattle.pf_wire.specs.declared.outcome.Requester.{Requester}
 use Rattle.pf_wire.specs.declared.outcome.Requester.TheVariants.{Client, Worker}
-use Rattle.pf_wire.specs.declared.outcome.Outcome.{Outcome}
-use Rattle.pf_wire.specs.declared.outcome.Outcome.TheVariants.{Replied, Done, NotNow, Memory}
 
--- who made a step
-abbrev pub requester_of : Step → Requester
-requester_of (client project c) = Client project
-requester_of (worker project k) = Worker project
+abbrev pub requester_of : WorkshopStep → Requester
+requester_of (client_calls q c) = Client q
+requester_of (worker_does w q t k) = Worker w q
 
--- the answer that an outcome is, if no growth was refused
-abbrev pub view_of_outcome : Outcome → Option Answer
-view_of_outcome (Replied r) = Some (replied (view_of_reply r))
-view_of_outcome Done = Some work_done
-view_of_outcome NotNow = Some not_now
-view_of_outcome Memory = None
+-- the project that it names, and the worker; a client's names none
+abbrev pub project_in : Requester → ℕ
+project_in (Client q) = q
+project_in (Worker w q) = q
+
+abbrev pub worker_in : Requester → ℕ
+worker_in (Client q) = zero
+worker_in (Worker w q) = w

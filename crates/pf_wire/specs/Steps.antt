@@ -10,13 +10,16 @@ use Rattle.pf_terms.specs.declared.stream.StreamFault.{StreamFault}
 use Rattle.pf_terms.specs.declared.stream.StreamFault.TheVariants.{Read, Write}
 use Rattle.pf_terms.specs.Streams.{AppendsFront}
 use Rattle.pf_model.specs.TermText.{line}
-use Rattle.pf_desks.specs.World.{World, Step, Answer, told, alone, AnswersStep, AnswersInTurn}
-use Rattle.pf_desks.specs.Told.{outcome_text, outcomes_text}
-use Rattle.pf_desks.specs.Desk.{Profile}
-use Rattle.pf_book.specs.Profile.{ForRight}
+use Rattle.pf_worlds.specs.Workshop.{RunProfile, Workshop, new_workshop}
+use Rattle.pf_worlds.specs.Chores.{Response}
+use Rattle.pf_worlds.specs.Steps.{WorkshopStep}
+use Rattle.pf_worlds.specs.Memory.{RespondsTo, RespondsInTurn}
+use Rattle.pf_worlds.specs.Alone.{heard, heard_alone}
+use Rattle.pf_worlds.specs.Told.{outcome_text, outcomes_text}
+use Rattle.pf_workshop.specs.Profile.{ForRight}
 use Rattle.pf_lines.specs.Commands.{Commands, command_at}
 use Rattle.pf_lines.specs.Complete.{CompleteCommands}
-use Rattle.pf_wire.specs.declared.steps.TheConstants.{MOST_BYTES}
+use Rattle.pf_wire.specs.declared.steps.TheConstants.{MOST_BYTES, WORKERS}
 
 -- command number k, counted from 1, is none
 abbrev pub last_text : Bool → ℕ → List ℕ
@@ -25,30 +28,31 @@ last_text good k = if good then [] else line (codes "command " ++ decimal k ++ c
 abbrev pub steps_status : Bool → ℕ
 steps_status good = if good then 0 else 2
 
--- the text that the command in front, number k, is answered with in a world, where these bytes follow it and that world; nothing
+-- the text that the command in front, number k, is answered with in a workshop, where these bytes follow it and that workshop; nothing
 -- follows if it is no command
-abbrev pub AnswersOne : List ℕ → ℕ → World → List ℕ → Option (List ℕ) → World → Type 0
+abbrev pub AnswersOne : List ℕ → ℕ → Workshop → List ℕ → Option (List ℕ) → Workshop → Type 0
 AnswersOne bytes k w text (Some rest) w' =
-    (s : Step) × (x : Option Answer) × (command_at bytes ≡ Some (s, rest)) × (text ≡ outcome_text s x) × ForRight (λ p. AnswersStep p w s x w')
+    (s : WorkshopStep) × (a : Option Response) × (command_at bytes ≡ Some (s, rest)) × (text ≡ outcome_text s a) × ForRight (λ p. RespondsTo p w s a w')
 AnswersOne bytes k w text None w' = (command_at bytes ≡ None) × (text ≡ last_text false k)
 
 -- the text and the status that some bytes are answered with: what came of the steps of their commands, and if a line is no command
--- that it is none. Up to the first step in which a growth was refused, each project is told what it is told alone
-pub record StepsText (p : Profile) (bytes text : List ℕ) (status : ℕ) : Type 0 where
-  pub steps : List Step
+-- that it is none. Up to the first step in which a growth was refused, each project hears what it hears alone
+pub record StepsText (p : RunProfile) (bytes text : List ℕ) (status : ℕ) : Type 0 where
+  pub steps : List WorkshopStep
   pub good : Bool
   pub commands : Commands bytes steps good
-  pub outcomes : List (Option Answer)
-  pub in_turn : AnswersInTurn p [] steps outcomes
+  pub outcomes : List (Option Response)
+  pub last : Workshop
+  pub in_turn : RespondsInTurn p (new_workshop WORKERS) steps outcomes last
   pub writes : text ≡ outcomes_text steps outcomes ++ last_text good (length steps + 1)
   pub ends : status ≡ steps_status good
-  pub isolated : (answers : List Answer) (others : List (Option Answer)) → outcomes ≡ map Some answers ++ others
-      → (q : ℕ) → told q (take (length answers) steps) answers ≡ alone p q (take (length answers) steps)
+  pub isolated : (answers : List Response) (others : List (Option Response)) → outcomes ≡ map Some answers ++ others
+      → (q : ℕ) → heard q (take (length answers) steps) answers ≡ heard_alone p WORKERS q (take (length answers) steps)
 
 -- ---- what `steps` leaves
 
 -- a beginning of the text of the answer to some bytes went out
-abbrev pub AnswersInPart : Profile → List ℕ → (written_old written_new : Option (List ℕ)) → Type 0
+abbrev pub AnswersInPart : RunProfile → List ℕ → (written_old written_new : Option (List ℕ)) → Type 0
 AnswersInPart p bytes w0 w1 = (text : List ℕ) × (status : ℕ) × StepsText p bytes text status × AppendsFront w0 w1 text
 
 -- the bytes that are read are the first 67,108,864, if it is known what there is
@@ -56,20 +60,21 @@ abbrev pub AreRead : Option (List ℕ) → List ℕ → Type 0
 AreRead r0 bytes = IfSome r0 (λ input. bytes ≡ take MOST_BYTES input)
 
 -- what was read is answered with the text that went out and the status
-abbrev pub StepsAnswered : Profile → (read_old written_old written_new : Option (List ℕ)) → ℕ → Type 0
+abbrev pub StepsAnswered : RunProfile → (read_old written_old written_new : Option (List ℕ)) → ℕ → Type 0
 StepsAnswered p r0 w0 w1 status = (bytes : List ℕ) × (text : List ℕ) × AreRead r0 bytes × StepsText p bytes text status × Appends w0 w1 text
 
 -- a beginning of the answer to what was to be read went out
-abbrev pub StepsAnsweredInPart : Profile → (read_old written_old written_new : Option (List ℕ)) → Type 0
+abbrev pub StepsAnsweredInPart : RunProfile → (read_old written_old written_new : Option (List ℕ)) → Type 0
 StepsAnsweredInPart p r0 w0 w1 = (bytes : List ℕ) × AreRead r0 bytes × AnswersInPart p bytes w0 w1
 
 -- the complete commands in what was read are answered, each with its whole text
-abbrev pub WholeAnswered : Profile → (read_old read_new written_old written_new : Option (List ℕ)) → Type 0
-WholeAnswered p r0 r1 w0 w1 = (bytes : List ℕ) × (steps : List Step) × (outcomes : List (Option Answer)) × Consumes r0 r1 bytes
-    × CompleteCommands bytes steps × AnswersInTurn p [] steps outcomes × Appends w0 w1 (outcomes_text steps outcomes)
+abbrev pub WholeAnswered : RunProfile → (read_old read_new written_old written_new : Option (List ℕ)) → Type 0
+WholeAnswered p r0 r1 w0 w1 = (bytes : List ℕ) × (steps : List WorkshopStep) × (outcomes : List (Option Response)) × (last : Workshop)
+    × Consumes r0 r1 bytes × CompleteCommands bytes steps × RespondsInTurn p (new_workshop WORKERS) steps outcomes last
+    × Appends w0 w1 (outcomes_text steps outcomes)
 
 -- what a fault leaves: which stream failed once more, and what went out
-abbrev pub StepsLeaves : Profile → OrNoMemory StreamFault → (read_old read_new written_old written_new : Option (List ℕ)) → (reads_old reads_new writes_old writes_new : ℕ) → Type 0
+abbrev pub StepsLeaves : RunProfile → OrNoMemory StreamFault → (read_old read_new written_old written_new : Option (List ℕ)) → (reads_old reads_new writes_old writes_new : ℕ) → Type 0
 StepsLeaves p NoMemory r0 r1 w0 w1 m0 m1 n0 n1 = (m1 ≡ m0) × (n1 ≡ n0) × StepsAnsweredInPart p r0 w0 w1
 StepsLeaves p (Fault (Read e)) r0 r1 w0 w1 m0 m1 n0 n1 = (m1 ≡ m0 + 1) × (n1 ≡ n0) × StepsAnsweredInPart p r0 w0 w1 × WholeAnswered p r0 r1 w0 w1
 StepsLeaves p (Fault (Write e)) r0 r1 w0 w1 m0 m1 n0 n1 = (m1 ≡ m0) × (n1 ≡ n0 + 1) × StepsAnsweredInPart p r0 w0 w1

@@ -5,6 +5,8 @@ mod outcome;
 mod reply;
 mod steps;
 mod stream;
+mod told;
 
-pub use outcome::{Outcome, Requester, perform, put_outcome};
-pub use steps::{MOST_BYTES, run_steps};
+pub use outcome::{Requester, put_outcome};
+pub use steps::{MOST_BYTES, WORKERS, run_steps};
+pub use told::{Told, ToldReport};

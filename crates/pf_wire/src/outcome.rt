@@ -1,134 +1,158 @@
-//! What comes of a command, and its text.
+//! The text of what comes of a step.
 
-ghost use Rattle.std.specs.Prelude.{◌≡◌, ◌++◌, OnOk, codes};
-ghost use Rattle.pf_fault.specs.Codes.{code_text};
-ghost use Rattle.pf_fault.specs.declared.code.Code.TheVariants.{NotNow};
-ghost use Rattle.pf_desks.specs.World.{Step, AnswersStep};
-ghost use Rattle.pf_model.specs.TermText.{line};
-ghost use Rattle.pf_desks.specs.Told.{memory_text, outcome_text};
-ghost use Rattle.pf_lines.specs.View.{view_of_command};
-ghost use Rattle.pf_book.specs.Answers.{Answers};
-ghost use Rattle.pf_book.specs.Profile.{ForRight};
-ghost use Rattle.pf_request.specs.View.{view_of_call};
-ghost use Rattle.pf_wire.specs.Outcomes.{requester_of, view_of_outcome};
+ghost use Rattle.std.specs.Prelude.{◌≡◌, ◌++◌, None, OnOk, codes};
+ghost use Rattle.std.specs.Fmt.{decimal};
+ghost use Rattle.pf_fault.specs.Codes.{code_text, no_memory_text};
+ghost use Rattle.pf_fault.specs.declared.code.Code.TheVariants as code;
+ghost use Rattle.pf_desks.specs.Told.{to_project};
+ghost use Rattle.pf_worlds.specs.Steps.{WorkshopStep};
+ghost use Rattle.pf_worlds.specs.Told.{memory_text, outcome_text, to_worker};
+ghost use Rattle.pf_worlds.specs.View.{view_of_step};
+ghost use Rattle.pf_workshop.specs.Responses.{response_in};
+ghost use Rattle.pf_wire.specs.Outcomes.{project_in, requester_of, worker_in};
+ghost use Rattle.pf_wire.specs.Whole.{whole_text};
 
 use crate::reply::{put_code, put_project, put_reply};
-use pf_book::{Book, Reply};
+use crate::told::Told;
 use pf_fault::Code;
-use pf_lines::Command;
-use pf_request::Call;
-use pf_sched::Scratch;
+use pf_request::Step;
 use pf_terms::NoMemory;
-use pf_text::{put, put_byte};
+use pf_text::{put, put_byte, put_number};
+use pf_workshop::Response;
 use std::alloc::Global;
 
-/// Who made a command: a client of a project, or a worker for it.
+/// Who did a step, and so is told what came of it: a client of a project, or a worker about a trial of a project.
 #[derive(Clone, Copy, Debug, PartialEq, Eq)]
 pub enum Requester {
-    Client(u32),
-    Worker(u32),
-}
-
-/// What comes of a command.
-#[derive(Drop)]
-pub enum Outcome {
-    /// A client is told this.
-    Replied(Reply),
-    /// A worker filed what came of a trial.
-    Done,
-    /// The trial wasn't queued.
-    NotNow,
-    /// A growth was refused, which left all as it was.
-    Memory,
+    Client { project: u32 },
+    Worker { worker: u32, project: u32 },
 }
 
 impl Requester {
-    /// Who made a command.
-    pub fn of(command: &Command) -> Requester
-        ensures { result ≡ requester_of (view_of_command command.now) }
+    /// Who does a step.
+    pub fn of(step: &Step) -> Requester
+        ensures { result ≡ requester_of (view_of_step step.now) }
     {
-        match command {
-            Command::Client(project, _) => Requester::Client(*project),
-            Command::Once(project, _) => Requester::Worker(*project),
+        match step {
+            Step::Call { project, .. } => Requester::Client { project: *project },
+            Step::Chore {
+                worker,
+                project,
+                ..
+            } => Requester::Worker {
+                worker: *worker,
+                project: *project,
+            },
+        }
+    }
+
+    /// The project that the step names.
+    fn project(self) -> u32
+        ensures { result ≡ project_in self }
+    {
+        match self {
+            Requester::Client { project } | Requester::Worker { project, .. } => project,
+        }
+    }
+
+    /// The worker that the step names; 0 of a client's, which names none.
+    fn worker(self) -> u32
+        ensures { result ≡ worker_in self }
+    {
+        match self {
+            Requester::Client { .. } => 0,
+            Requester::Worker { worker, .. } => worker,
         }
     }
 }
 
-/// Makes a call of a client.
-fn make_call(alloc: Global, book: &mut Book, project: u32, call: Call) -> Result<Reply, NoMemory>
-    ensures { Answers book.old project (view_of_call call) result book.new }
+/// Puts that a line is for a worker.
+fn put_worker(out: &mut Vec<u8>, worker: u32) -> Result<(), NoMemory>
+    ensures { OnOk result (out.new.items ≡ out.old.items ++ (codes "w" ++ decimal worker ++ codes " ")) }
 {
-    match call {
-        Call::Submit(source) => book.submit(alloc, project, source),
-        Call::Order(order) => book.order(alloc, project, order),
-        Call::Fetch(ticket) => book.fetch(alloc, project, ticket),
-        Call::Status(ticket) => book.status(alloc, project, ticket),
-        Call::DropTrial(ticket) => book.drop_trial(alloc, project, ticket),
-        Call::Withdraw(module) => book.withdraw(alloc, project, module),
-        Call::Usage => book.usage(alloc, project),
-        Call::Log => book.log(alloc, project),
-        Call::Edition(edition) => book.edition(alloc, project, edition),
-    }
+    put(out, b"w")?;
+    put_number(out, u64::from(worker))?;
+    put(out, b" ")
 }
 
-/// Does what a command asks for. What stands in the scratch makes no difference.
-pub fn perform(alloc: Global, book: &mut Book, scratch: &mut Scratch, command: Command) -> Outcome
-    ensures { ForRight (λ p. AnswersStep p book.old (view_of_command command) (view_of_outcome result) book.new) }
+/// Puts that a chore is done.
+fn put_done(out: &mut Vec<u8>, worker: u32) -> Result<(), NoMemory>
+    ensures { OnOk result (out.new.items ≡ out.old.items ++ to_worker worker (codes "done")) }
 {
-    match command {
-        Command::Client(project, call) => match make_call(alloc, book, project, call) {
-            Ok(reply) => Outcome::Replied(reply),
-            Err(NoMemory) => Outcome::Memory,
-        },
-        Command::Once(project, ticket) => match book.once(alloc, scratch, project, ticket) {
-            Ok(true) => Outcome::Done,
-            Ok(false) => Outcome::NotNow,
-            Err(NoMemory) => Outcome::Memory,
-        },
-    }
+    put_worker(out, worker)?;
+    put(out, b"done")?;
+    put_byte(out, b'\n')
 }
 
-/// Puts that a worker can't do this now.
-fn put_not_now(alloc: Global, out: &mut Vec<u8>) -> Result<(), NoMemory>
-    ensures { OnOk result (out.new.items ≡ out.old.items ++ line (codes "w0 not now " ++ code_text NotNow)) }
+/// Puts that a file or a hand-back is stray.
+fn put_stray(alloc: Global, out: &mut Vec<u8>, worker: u32) -> Result<(), NoMemory>
+    ensures { OnOk result (out.new.items ≡ out.old.items
+        ++ to_worker worker (codes "stray " ++ code_text code.Stray)) }
 {
-    put(out, b"w0 not now ")?;
+    put_worker(out, worker)?;
+    put(out, b"stray ")?;
+    put_code(alloc, out, Code::Stray)?;
+    put_byte(out, b'\n')
+}
+
+/// Puts that a chore can't be done now.
+fn put_not_now(alloc: Global, out: &mut Vec<u8>, worker: u32) -> Result<(), NoMemory>
+    ensures { OnOk result (out.new.items ≡ out.old.items
+        ++ to_worker worker (codes "not now " ++ code_text code.NotNow)) }
+{
+    put_worker(out, worker)?;
+    put(out, b"not now ")?;
     put_code(alloc, out, Code::NotNow)?;
+    put_byte(out, b'\n')
+}
+
+/// Puts that a growth was refused in a client's call.
+fn put_call_memory(out: &mut Vec<u8>, project: u32) -> Result<(), NoMemory>
+    ensures { OnOk result (out.new.items ≡ out.old.items
+        ++ to_project project (codes "refused " ++ no_memory_text)) }
+{
+    put_project(out, project)?;
+    put(out, b"refused ")?;
+    put(out, b"NoMemory")?;
+    put_byte(out, b'\n')
+}
+
+/// Puts that a growth was refused in a worker's chore.
+fn put_chore_memory(out: &mut Vec<u8>, worker: u32) -> Result<(), NoMemory>
+    ensures { OnOk result (out.new.items ≡ out.old.items ++ to_worker worker (codes "no memory")) }
+{
+    put_worker(out, worker)?;
+    put(out, b"no memory")?;
     put_byte(out, b'\n')
 }
 
 /// Puts that a growth was refused.
 fn put_memory(out: &mut Vec<u8>, requester: Requester) -> Result<(), NoMemory>
-    ensures { (s : Step) → requester ≡ requester_of s
+    ensures { (s : WorkshopStep) → requester ≡ requester_of s
         → OnOk result (out.new.items ≡ out.old.items ++ memory_text s) }
 {
     match requester {
-        Requester::Client(project) => {
-            put_project(out, project)?;
-            put(out, b"refused NoMemory\n")
-        }
-        Requester::Worker(_) => put(out, b"w0 no memory\n"),
+        Requester::Client { project } => put_call_memory(out, project),
+        Requester::Worker { worker, .. } => put_chore_memory(out, worker),
     }
 }
 
-/// Puts the text of what came of a command.
+/// Puts the text of what came of a step. The lines of a report's events stay where they were written.
 pub fn put_outcome(
     alloc: Global,
-    out: &mut Vec<u8>,
+    told: &mut Told,
     requester: Requester,
-    outcome: &Outcome,
+    outcome: Result<Response, NoMemory>,
 ) -> Result<(), NoMemory>
-    ensures { (s : Step) → requester ≡ requester_of s
-        → OnOk result (out.new.items ≡ out.old.items ++ outcome_text s (view_of_outcome outcome.now)) }
+    requires { told.old.report ≡ None }
+    ensures { (s : WorkshopStep) → requester ≡ requester_of s
+        → OnOk result (whole_text told.new ≡ told.old.text.items ++ outcome_text s (response_in outcome)) }
 {
     match outcome {
-        Outcome::Replied(reply) => match requester {
-            Requester::Client(project) | Requester::Worker(project) => {
-                put_reply(alloc, out, project, reply)
-            }
-        },
-        Outcome::Done => put(out, b"w0 done\n"),
-        Outcome::NotNow => put_not_now(alloc, out),
-        Outcome::Memory => put_memory(out, requester),
+        Ok(Response::Reply(reply)) => put_reply(alloc, told, requester.project(), reply),
+        Ok(Response::Done) => put_done(&mut told.text, requester.worker()),
+        Ok(Response::Stray) => put_stray(alloc, &mut told.text, requester.worker()),
+        Ok(Response::NotNow) => put_not_now(alloc, &mut told.text, requester.worker()),
+        Err(NoMemory) => put_memory(&mut told.text, requester),
     }
 }

@@ -1,21 +1,22 @@
 //! The text of a reply.
 
-ghost use Rattle.std.specs.Prelude.{◌≡◌, ◌++◌, OnOk, codes};
+ghost use Rattle.std.specs.Prelude.{◌≡◌, ◌++◌, None, OnOk, codes};
 ghost use Rattle.std.specs.Fmt.{decimal};
 ghost use Rattle.pf_fault.specs.Codes.{code_text};
-ghost use Rattle.pf_model.specs.Reports.{report_of};
 ghost use Rattle.pf_model.specs.Text.{complete_text};
-ghost use Rattle.pf_desks.specs.Told.{lines_of, reply_head, reply_rest, reply_text, result_head, result_rest, stage_text, usage_text};
+ghost use Rattle.pf_desks.specs.Told.{lines_of, reply_head, reply_rest, reply_text, result_head, stage_text, to_project, usage_text};
+ghost use Rattle.pf_trace.specs.Written.{report_in};
 ghost use Rattle.pf_book.specs.View.{view_of_reply, view_of_stage};
+ghost use Rattle.pf_wire.specs.Whole.{whole_text};
 
+use crate::told::Told;
 use pf_book::{Reply, Stage};
 use pf_fault::Code;
-use pf_model::report::Report;
 use pf_quota::Usage;
 use pf_sched::{Finished, JobResult, memory_report};
 use pf_terms::NoMemory;
 use pf_text::{put, put_byte, put_number, put_schedule};
-use pf_trace::put_report;
+use pf_trace::WrittenReport;
 use std::alloc::Global;
 
 /// Puts whom a line is for.
@@ -51,10 +52,10 @@ pub(crate) fn put_code(alloc: Global, out: &mut Vec<u8>, code: Code) -> Result<(
 }
 
 /// Puts how many lines a report has.
-fn put_lines(out: &mut Vec<u8>, report: &Report) -> Result<(), NoMemory>
-    ensures { OnOk result (out.new.items ≡ out.old.items ++ decimal (lines_of (report_of report.now))) }
+fn put_lines(out: &mut Vec<u8>, report: &WrittenReport) -> Result<(), NoMemory>
+    ensures { OnOk result (out.new.items ≡ out.old.items ++ decimal (lines_of (report_in report.now))) }
 {
-    put_number(out, report.events.len() as u64 + 3)
+    put_number(out, report.lines.len() as u64 + 3)
 }
 
 /// Puts whether no candidate of a schedule fails.
@@ -102,21 +103,6 @@ fn put_result_head(alloc: Global, out: &mut Vec<u8>, finished: &Finished) -> Res
     }
 }
 
-/// Puts the lines of what a job came to that follow the first: those of its report.
-fn put_result_rest(alloc: Global, out: &mut Vec<u8>, finished: &Finished) -> Result<(), NoMemory>
-    ensures { OnOk result (out.new.items ≡ out.old.items
-        ++ result_rest finished.now.job.asked.code.atoms finished.now.result) }
-{
-    let atoms = finished.job().module().atoms();
-    match finished.result() {
-        Some(JobResult::Report(report) | JobResult::Shrunk { report, .. }) => {
-            put_report(out, atoms, report)
-        }
-        Some(JobResult::NothingFails) => Ok(()),
-        None => put_report(out, atoms, &memory_report(alloc)),
-    }
-}
-
 /// Puts how far a trial is.
 fn put_stage(out: &mut Vec<u8>, stage: Stage) -> Result<(), NoMemory>
     ensures { OnOk result (out.new.items ≡ out.old.items ++ stage_text (view_of_stage stage)) }
@@ -159,12 +145,23 @@ fn put_head(alloc: Global, out: &mut Vec<u8>, reply: &Reply) -> Result<(), NoMem
     }
 }
 
+/// Puts the first line of a reply to a project.
+fn put_first(alloc: Global, out: &mut Vec<u8>, project: u32, reply: &Reply) -> Result<(), NoMemory>
+    ensures { OnOk result (out.new.items ≡ out.old.items
+        ++ to_project project (reply_head (view_of_reply reply.now))) }
+{
+    put_project(out, project)?;
+    put_head(alloc, out, reply)?;
+    put_byte(out, b'\n')
+}
+
 /// Puts the lines of a reply that follow its first.
-fn put_rest(alloc: Global, out: &mut Vec<u8>, reply: &Reply) -> Result<(), NoMemory>
-    ensures { OnOk result (out.new.items ≡ out.old.items ++ reply_rest (view_of_reply reply.now)) }
+fn put_rest(alloc: Global, told: &mut Told, reply: Reply) -> Result<(), NoMemory>
+    requires { told.old.report ≡ None }
+    ensures { OnOk result (whole_text told.new ≡ told.old.text.items ++ reply_rest (view_of_reply reply)) }
 {
     match reply {
-        Reply::Result(finished) => put_result_rest(alloc, out, finished),
+        Reply::Result(finished) => told.put_report(alloc, finished),
         _ => Ok(()),
     }
 }
@@ -172,14 +169,14 @@ fn put_rest(alloc: Global, out: &mut Vec<u8>, reply: &Reply) -> Result<(), NoMem
 /// Puts the text of a reply to a project.
 pub(crate) fn put_reply(
     alloc: Global,
-    out: &mut Vec<u8>,
+    told: &mut Told,
     project: u32,
-    reply: &Reply,
+    reply: Reply,
 ) -> Result<(), NoMemory>
-    ensures { OnOk result (out.new.items ≡ out.old.items ++ reply_text project (view_of_reply reply.now)) }
+    requires { told.old.report ≡ None }
+    ensures { OnOk result (whole_text told.new ≡ told.old.text.items
+        ++ reply_text project (view_of_reply reply)) }
 {
-    put_project(out, project)?;
-    put_head(alloc, out, reply)?;
-    put_byte(out, b'\n')?;
-    put_rest(alloc, out, reply)
+    put_first(alloc, &mut told.text, project, &reply)?;
+    put_rest(alloc, told, reply)
 }

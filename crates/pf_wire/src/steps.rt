@@ -1,25 +1,28 @@
 //! The work of `steps` between a reader and a writer.
 
-ghost use Rattle.std.specs.Prelude.{◌≡◌, ◌≤◌, ◌<◌, ◌+◌, ◌^◌, ℕ, List, Option, false, length, IfOk, IfErr, MatchOption, OnOk};
+ghost use Rattle.std.specs.Prelude.{◌≡◌, ◌≤◌, ◌<◌, ◌+◌, ◌^◌, ◌++◌, [], ℕ, List, Option, None, false, length, vec_capacity, IfOk, IfErr, MatchOption, OnOk};
 ghost use Rattle.std.specs.Option.{option_copied};
 ghost use Rattle.std.specs.Io.KnownBytes.{Consumes};
-ghost use Rattle.pf_desks.specs.World.{Answer, AnswersStep};
-ghost use Rattle.pf_desks.specs.Told.{outcome_text};
-ghost use Rattle.pf_book.specs.Profile.{ForRight};
-ghost use Rattle.pf_lines.specs.View.{view_of_command};
+ghost use Rattle.pf_worlds.specs.Chores as chores;
+ghost use Rattle.pf_worlds.specs.Memory.{RespondsTo};
+ghost use Rattle.pf_worlds.specs.Told.{outcome_text};
+ghost use Rattle.pf_worlds.specs.View.{view_of_step};
+ghost use Rattle.pf_workshop.specs.Profile.{ForRight};
 ghost use Rattle.pf_wire.specs.Steps.{last_text, AnswersOne, StepsAnswered, StepsLeaves};
 ghost use Rattle.pf_wire.specs.Turns.{TellsAll, TellsUpTo, TurnsLeave};
+ghost use Rattle.pf_wire.specs.Whole.{whole_text};
 ghost use Rattle.pf_lines.specs.Complete.{is_due};
 
-use crate::outcome::{Requester, perform, put_outcome};
+use crate::outcome::{Requester, put_outcome};
 use crate::reply::put_code;
 use crate::stream::{Gathered, Input, ROOM};
-use pf_book::Book;
+use crate::told::Told;
 use pf_fault::{Code, NoMemory, OrNoMemory};
-use pf_lines::{Command, NoCommand, is_due, read_command};
-use pf_sched::Scratch;
+use pf_lines::{NoCommand, is_due, read_command};
+use pf_request::Step;
 use pf_terms::{Counted, StreamFault};
 use pf_text::{put, put_byte, put_number};
+use pf_workshop::Workshop;
 use std::alloc::Global;
 use std::hash::RandomState;
 use std::io::{Read, Write};
@@ -28,63 +31,73 @@ use std::sync::ledger::Ledger;
 /// The most bytes that are read: 64 MiB.
 pub const MOST_BYTES: usize = 67_108_864;
 
-/// Does what a command asks for, and gives the text of what came of it.
+/// How many workers the workshop of `steps` has.
+pub const WORKERS: u32 = 4;
+
+/// Empties a text, and gives its block back where it is larger than what is gathered may be.
+fn empty(alloc: Global, text: &mut Vec<u8>)
+    ensures items { text.new.items ≡ [] }
+    ensures room { vec_capacity text.new ≤ ROOM }
+{
+    if text.capacity() > ROOM {
+        *text = Vec::new(alloc);
+    } else {
+        text.clear();
+    }
+}
+
+/// Does a step, and puts the text of what came of it.
 fn answer(
     alloc: Global,
-    book: &mut Book,
-    scratch: &mut Scratch,
-    command: Command,
-) -> Result<Vec<u8>, NoMemory>
-    ensures { IfOk result (λ text. (x : Option Answer) × (text.items ≡ outcome_text (view_of_command command) x)
-        × ForRight (λ p. AnswersStep p book.old (view_of_command command) x book.new)) }
+    workshop: &mut Workshop,
+    step: Step,
+    told: &mut Told,
+) -> Result<(), NoMemory>
+    requires { told.old.report ≡ None }
+    ensures { OnOk result ((a : Option chores.Response)
+        × (whole_text told.new ≡ told.old.text.items ++ outcome_text (view_of_step step) a)
+        × ForRight (λ p. RespondsTo p workshop.old (view_of_step step) a workshop.new)) }
 {
-    let requester = Requester::of(&command);
-    let outcome = perform(alloc, book, scratch, command);
-    let mut text = Vec::new(alloc);
-    put_outcome(alloc, &mut text, requester, &outcome)?;
-    Ok(text)
+    let requester = Requester::of(&step);
+    let outcome = workshop.step(alloc, step);
+    put_outcome(alloc, told, requester, outcome)?;
+    Ok(())
 }
 
-/// The line that says that the command of this number, counted from 1, is none.
-fn refuse(alloc: Global, number: u64) -> Result<Vec<u8>, NoMemory>
-    ensures { IfOk result (λ text. text.items ≡ last_text false number) }
+/// Puts the line that says that the command of this number, counted from 1, is none.
+fn put_no_command(alloc: Global, out: &mut Vec<u8>, number: u64) -> Result<(), NoMemory>
+    ensures { OnOk result (out.new.items ≡ out.old.items ++ last_text false number) }
 {
-    let mut text = Vec::new(alloc);
-    put(&mut text, b"command ")?;
-    put_number(&mut text, number)?;
-    put(&mut text, b" refused ")?;
-    put_code(alloc, &mut text, Code::NoCommand)?;
-    put_byte(&mut text, b'\n')?;
-    Ok(text)
+    put(out, b"command ")?;
+    put_number(out, number)?;
+    put(out, b" refused ")?;
+    put_code(alloc, out, Code::NoCommand)?;
+    put_byte(out, b'\n')
 }
 
-/// The text that a command is answered with, and what follows the command; nothing does if the line is none.
-#[derive(Drop)]
-struct Answered<'a> {
-    text: Vec<u8>,
-    rest: Option<&'a [u8]>,
-}
-
-/// Answers the command of this number, which stands in front.
+/// Answers the command of this number, which stands in front: what it is answered with takes the place of what was told.
+/// What follows the command; nothing does if the line is none.
 fn answer_front<'a>(
     alloc: Global,
-    book: &mut Book,
-    scratch: &mut Scratch,
+    workshop: &mut Workshop,
     bytes: &'a [u8],
     number: u64,
-) -> Result<Answered<'a>, NoMemory>
-    ensures { IfOk result (λ a.
-        AnswersOne bytes.now number book.old a.text.items (option_copied a.rest) book.new) }
+    told: &mut Told,
+) -> Result<Option<&'a [u8]>, NoMemory>
+    ensures { IfOk result (λ rest.
+        AnswersOne bytes.now number workshop.old (whole_text told.new) (option_copied rest) workshop.new) }
 {
+    told.report = None;
+    empty(alloc, &mut told.text);
     match read_command(alloc, bytes) {
-        Ok((command, rest)) => Ok(Answered {
-            text: answer(alloc, book, scratch, command)?,
-            rest: Some(rest),
-        }),
-        Err(OrNoMemory::Fault(NoCommand)) => Ok(Answered {
-            text: refuse(alloc, number)?,
-            rest: None,
-        }),
+        Ok((step, rest)) => {
+            answer(alloc, workshop, step, told)?;
+            Ok(Some(rest))
+        }
+        Err(OrNoMemory::Fault(NoCommand)) => {
+            put_no_command(alloc, &mut told.text, number)?;
+            Ok(None)
+        }
         Err(OrNoMemory::NoMemory) => Err(NoMemory),
     }
 }
@@ -100,8 +113,7 @@ struct Left<'a> {
 /// nothing left.
 fn answer_due<'a, W: Write, M: Ledger>(
     alloc: Global,
-    book: &mut Book,
-    scratch: &mut Scratch,
+    workshop: &mut Workshop,
     first: u64,
     input: &'a [u8],
     is_over: bool,
@@ -109,31 +121,35 @@ fn answer_due<'a, W: Write, M: Ledger>(
 ) -> Result<Option<Left<'a>>, OrNoMemory<StreamFault>>
     requires { first + length input.now < 2 ^ 63 }
     ensures answered { IfOk result (λ left. MatchOption left
-        (ForRight (λ p. TellsAll p is_over input.now book.old first
+        (ForRight (λ p. TellsAll p is_over input.now workshop.old first
         (W.contents writer.old.inner) (W.contents writer.new.inner)))
-        (λ l. ForRight (λ p. TellsUpTo p is_over input.now book.old first l.rest.now book.new l.number
+        (λ l. ForRight (λ p. TellsUpTo p is_over input.now workshop.old first l.rest.now workshop.new l.number
         (W.contents writer.old.inner) (W.contents writer.new.inner))
         × (is_due is_over l.rest.now ≡ false) × (l.number + length l.rest.now ≤ first + length input.now))) }
     ensures kept { OnOk result (writer.new.failures.total ≡ writer.old.failures.total) }
-    ensures fault { IfErr result (λ e. ForRight (λ p. TurnsLeave p e is_over input.now book.old first
+    ensures fault { IfErr result (λ e. ForRight (λ p. TurnsLeave p e is_over input.now workshop.old first
         (W.contents writer.old.inner) (W.contents writer.new.inner)
         writer.old.failures.total writer.new.failures.total)) }
 {
     let mut gathered = Gathered {
         text: Vec::new(alloc),
     };
+    let mut told = Told {
+        text: Vec::new(alloc),
+        report: None,
+    };
     let mut rest = input;
     let mut number = first;
     while is_due(rest, is_over) {
-        let answered = match answer_front(alloc, book, scratch, rest, number) {
-            Ok(answered) => answered,
+        let follows = match answer_front(alloc, workshop, rest, number, &mut told) {
+            Ok(follows) => follows,
             Err(NoMemory) => {
                 gathered.send(writer)?;
                 return Err(OrNoMemory::NoMemory);
             }
         };
-        gathered.add(writer, &answered.text)?;
-        let Some(after) = answered.rest else {
+        gathered.add_told(writer, &told)?;
+        let Some(after) = follows else {
             gathered.send(writer)?;
             return Ok(None);
         };
@@ -145,7 +161,8 @@ fn answer_due<'a, W: Write, M: Ledger>(
 }
 
 /// Reads at most 64 MiB, piece by piece, answers each command before it waits for more, and gives the status: 2 if a
-/// line is no command, after which nothing is done, and else 0. The book hashes with these keys, which no answer depends on.
+/// line is no command, after which nothing is done, and else 0. The workshop of four workers hashes with these
+/// keys, which no answer depends on.
 pub fn run_steps<R: Read, W: Write, L: Ledger, M: Ledger>(
     alloc: Global,
     keys: RandomState,
@@ -167,8 +184,7 @@ pub fn run_steps<R: Read, W: Write, L: Ledger, M: Ledger>(
     let mut room = vec![in alloc; 0u8; ROOM]?;
     let piece = room.as_mut_slice();
     let mut input = Input::new(alloc);
-    let mut book = Book::new(alloc, keys);
-    let mut scratch = Scratch::new(alloc);
+    let mut workshop = Workshop::new(alloc, keys, WORKERS)?;
     let mut number: u64 = 1;
     let mut is_over = false;
     while !is_over {
@@ -176,8 +192,7 @@ pub fn run_steps<R: Read, W: Write, L: Ledger, M: Ledger>(
         if input.is_due(is_over) {
             let Some(left) = answer_due(
                 alloc,
-                &mut book,
-                &mut scratch,
+                &mut workshop,
                 number,
                 &input.bytes,
                 is_over,

@@ -5,9 +5,11 @@ ghost use Rattle.std.specs.Io.KnownBytes.{Appends, Consumes};
 ghost use Rattle.pf_terms.specs.Streams.{AppendsFront, CountsWrite};
 ghost use Rattle.pf_lines.specs.Commands.{first_line};
 ghost use Rattle.pf_wire.specs.Turns.{TakesPiece, PieceLeaves};
+ghost use Rattle.pf_wire.specs.Whole.{report_lines, whole_text};
 ghost use Rattle.pf_lines.specs.Complete.{is_due};
 
 use crate::steps::MOST_BYTES;
+use crate::told::{Told, ToldReport};
 use pf_fault::OrNoMemory;
 use pf_lines::{first_line, is_due};
 use pf_terms::{Counted, StreamFault};
@@ -137,7 +139,7 @@ impl Gathered {
     }
 
     /// Adds a text, and writes all if there is no room for it.
-    pub fn add<W: Write, M: Ledger>(
+    fn add<W: Write, M: Ledger>(
         &mut self,
         writer: &mut Counted<W, M>,
         text: &[u8],
@@ -157,6 +159,47 @@ impl Gathered {
         match self.text.extend_from_slice(text) {
             Ok(()) => Ok(()),
             Err(_) => self.send_with(writer, text),
+        }
+    }
+
+    /// Adds the lines of a report. Those of its events are written from where they stand if there is no room for them.
+    fn add_report<W: Write, M: Ledger>(
+        &mut self,
+        writer: &mut Counted<W, M>,
+        report: &ToldReport,
+    ) -> Result<(), StreamFault>
+        ensures added { OnOk result ((out : List ℕ)
+            × Appends (W.contents writer.old.inner) (W.contents writer.new.inner) out
+            × (out ++ self.new.text.items ≡ self.old.text.items ++ report_lines report.now)) }
+        ensures front { OnErr result (AppendsFront (W.contents writer.old.inner) (W.contents writer.new.inner)
+            (self.old.text.items ++ report_lines report.now)) }
+        ensures kept { OnOk result (writer.new.failures.total ≡ writer.old.failures.total) }
+        ensures counted { IfErr result (λ e.
+            CountsWrite e writer.old.failures.total writer.new.failures.total) }
+    {
+        self.add(writer, report.events())?;
+        self.add(writer, report.end())
+    }
+
+    /// Adds what a command is answered with.
+    pub fn add_told<W: Write, M: Ledger>(
+        &mut self,
+        writer: &mut Counted<W, M>,
+        told: &Told,
+    ) -> Result<(), StreamFault>
+        ensures added { OnOk result ((out : List ℕ)
+            × Appends (W.contents writer.old.inner) (W.contents writer.new.inner) out
+            × (out ++ self.new.text.items ≡ self.old.text.items ++ whole_text told.now)) }
+        ensures front { OnErr result (AppendsFront (W.contents writer.old.inner) (W.contents writer.new.inner)
+            (self.old.text.items ++ whole_text told.now)) }
+        ensures kept { OnOk result (writer.new.failures.total ≡ writer.old.failures.total) }
+        ensures counted { IfErr result (λ e.
+            CountsWrite e writer.old.failures.total writer.new.failures.total) }
+    {
+        self.add(writer, &told.text)?;
+        match &told.report {
+            Some(report) => self.add_report(writer, report),
+            None => Ok(()),
         }
     }
 }

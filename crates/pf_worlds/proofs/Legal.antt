@@ -17,7 +17,7 @@ use Rattle.pf_worlds.proofs.Effects.{from_some, where_so, where_claimed, where_f
 module _ (p : RunProfile) where
   -- ---- an effect leaves a desk to which a worker's work at a desk leads, or changes none
 
-  abbrev IsWork : Desk → Option Desk → Type 0
+  abbrev pub IsWork : Desk → Option Desk → Type 0
   IsWork d None = Unit {0}
   IsWork d (Some d') = (k : Work) × (worker_step p.profile d k ≡ Some d')
 
@@ -50,7 +50,7 @@ module _ (p : RunProfile) where
   busy_work t taking_up d r rs e h = absurd (cc)
   busy_work t (stealing v) d r rs e h = absurd (cc)
 
-  chore_work : (q t : ℕ) (k : Chore) (d : Desk) (hand : Hand) (rs : Deque) (e : Effect) → chore_effect p q t k d hand rs ≡ Some e → IsWorkEffect d e
+  pub chore_work : (q t : ℕ) (k : Chore) (d : Desk) (hand : Hand) (rs : Deque) (e : Effect) → chore_effect p q t k d hand rs ≡ Some e → IsWorkEffect d e
   chore_work q t k d None rs e h = free_work q t k d rs e h
   chore_work q t k d (Some r) rs e h = by (is_run_of q t r) h
     where

@@ -8,3 +8,4 @@ pub mod Seen
 pub mod Deleted
 pub mod Legal
 pub mod InTurn
+pub mod OfTrials

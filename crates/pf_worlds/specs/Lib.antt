@@ -4,4 +4,8 @@ pub mod Steps
 pub mod Memory
 pub mod Alone
 pub mod Laws
+pub mod Jobs
+pub mod Encoding
 pub mod Worked
+pub mod View
+pub mod Told

@@ -1,4 +1,4 @@
--- Worked lists of steps, each with what is answered to it, at four workers.
+-- Worked lists of steps, each with what is answered to it, at four workers, and worked texts of what is answered.
 use Rattle.std.specs.Prelude.{◌≡◌, ℕ, List, [], ◌∷◌, ◌++◌, map, Option, Some, None, IsSome, replicate, codes}
 use Rattle.pf_fault.specs.declared.code.Code.TheVariants as code
 use Rattle.pf_model.specs.Meaning as model
@@ -16,6 +16,7 @@ use Rattle.pf_worlds.specs.Workshop.{RunProfile, ClaimedRun, Workshop, new_works
 use Rattle.pf_worlds.specs.Chores.{claiming, slicing, parking, taking_up, stealing, filing, giving_back, Response, answer, stray, new_run, busy_effect}
 use Rattle.pf_worlds.specs.Steps.{WorkshopStep, client_calls, worker_does, all_responses}
 use Rattle.pf_worlds.specs.Memory.{RespondsInTurn}
+use Rattle.pf_worlds.specs.Told.{outcome_text}
 
 -- a profile by which each source is one module, and each job has this many events and means what this says
 abbrev pub simple : (events : ℕ) → (model.Job → Result) → RunProfile
@@ -173,3 +174,19 @@ WorkedSteps =
     × AreAnswered (simple 1 means) (one_by_one means)
     × ((s : Workshop) × RespondsInTurn (simple 1 means) (new_workshop 4) (map (λ x. x.0) growths_refused) (map (λ x. x.1) growths_refused) s)
     × ((d : Desk) (j : Job) → HasItsRoom (simple 1 means) d (new_run 1 1 j))
+
+-- ---- texts
+
+-- this is written when a step came to this
+abbrev pub IsTold : WorkshopStep → Option Response → List ℕ → Type 0
+IsTold x a text = outcome_text x a ≡ text
+
+-- a worker is told by its own number, and not by the project's, the ticket's or that of the worker from whom it steals
+abbrev pub WorkedTexts : Type 0
+WorkedTexts =
+    IsTold (worker_does 3 7 1 (slicing 2)) (Some is_done) (codes "w3 done\n")
+    × IsTold (worker_does 5 7 1 (stealing 3)) (Some not_yet) (codes "w5 not now N2\n")
+    × IsTold (worker_does 0 7 1 filing) (Some stray) (codes "w0 stray N1\n")
+    × IsTold (worker_does 1 7 2 claiming) None (codes "w1 no memory\n")
+    × IsTold (client_calls 7 a_submit) (Some (hears (number 1))) (codes "p7 module 1\n")
+    × IsTold (client_calls 7 usage) None (codes "p7 refused NoMemory\n")

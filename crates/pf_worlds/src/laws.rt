@@ -2,7 +2,8 @@
 //! trial is ever claimed or run to its end.
 
 ghost use Rattle.pf_worlds.specs.Laws.{AnsweredInTurn, DeletionOfOthers, IsolationAmongWorkers, LegalityAmongWorkers, SettledReplies};
-ghost use Rattle.pf_worlds.specs.Worked.{WorkedSteps};
+ghost use Rattle.pf_worlds.specs.Jobs.{JobsAmongWorkers};
+ghost use Rattle.pf_worlds.specs.Worked.{WorkedSteps, WorkedTexts};
 
 /// Isolation: for every list of steps, of any length, in any order and of any number of workers and projects, a
 /// project hears what it hears alone, along its own steps. It speaks of lists in which no growth is refused. A step
@@ -33,6 +34,12 @@ pub fn legality()
     ensures { LegalityAmongWorkers }
 {}
 
+/// Jobs: for every list of steps, wherever growths are refused, each run that a worker holds or has parked is of the job
+/// of its trial: its ticket was given for that job, and the trial, if it wasn't dropped, is of it.
+pub fn jobs()
+    ensures { JobsAmongWorkers }
+{}
+
 /// In turn: if no growth is refused, the steps of a list are answered in one way alone, and that is the way of which
 /// the laws of isolation, deletion and settled replies speak.
 pub fn in_turn()
@@ -42,4 +49,9 @@ pub fn in_turn()
 /// Worked lists of steps are answered as they are to be answered, whatever jobs mean.
 pub fn worked_steps()
     ensures { WorkedSteps }
+{}
+
+/// What steps come to is told in the words in which it is to be told.
+pub fn worked_texts()
+    ensures { WorkedTexts }
 {}

@@ -9,7 +9,7 @@ ghost use Rattle.pf_store.specs.Sources.{holders, HeldOnceLess};
 ghost use Rattle.pf_request.specs.View.{view_of_order};
 ghost use Rattle.pf_book.specs.View.{code_of};
 ghost use Rattle.pf_book.specs.Kept.{Counts};
-ghost use Rattle.pf_book.specs.Orders.{Asked};
+ghost use Rattle.pf_book.specs.Orders.{Asked, IsRefusal};
 ghost use Rattle.pf_book.specs.Plans.{IsPlan, IsCharged, CanChange, KeepsModules, FollowsPlan};
 
 use crate::desk::Desk;
@@ -76,7 +76,7 @@ impl Desk {
         ensures can { IfOk result (λ p. CanChange self.now p.change) }
         ensures modules { IfOk result (λ p. KeepsModules p.change) }
     {
-        let order = Arc::new(alloc, order)?;
+        let order = Box::new(alloc, order)?;
         match job_of(alloc, self.edition(), &self.modules, &order) {
             Ok(job) => Ok(self.ordered(order, job, usage)),
             Err(OrNoMemory::NoMemory) => Err(NoMemory),
@@ -88,7 +88,7 @@ impl Desk {
     }
 
     /// A job that was ordered, of a module that is held: one ticket more, if the project passes no limit with it.
-    fn ordered(&self, order: Arc<Order>, job: Arc<Job>, usage: Usage) -> Plan
+    fn ordered(&self, order: Box<Order>, job: Arc<Job>, usage: Usage) -> Plan
         requires charged { IsCharged self.now usage }
         requires asked { Asked self.now.edition self.now.modules order.value (Ok job.value) }
         requires held { IsSome (held_at self.now.modules order.value.module) }
@@ -119,10 +119,11 @@ impl Desk {
     {
         match filed_result(&self.trials, ticket) {
             Ok(finished) => {
-                let noted = Entry::Fetched(ticket, finished.share()?);
-                Ok(Plan::reply_alone(noted, Reply::Result(finished.share()?), usage))
+                let noted = Entry::fetched(ticket, finished.share()?);
+                Ok(Plan::reply_alone(noted, Reply::Result(finished), usage))
             }
-            Err(refusal) => {
+            Err(OrNoMemory::NoMemory) => Err(NoMemory),
+            Err(OrNoMemory::Fault(refusal)) => {
                 let noted = Entry::FetchRefused(ticket, refusal);
                 Ok(Plan::reply_alone(noted, Reply::Refused(refusal), usage))
             }
@@ -235,12 +236,15 @@ impl Desk {
 }
 
 /// What came of the trial of a ticket, if it is filed.
-fn filed_result(trials: &[Option<Trial>], ticket: u64) -> Result<&Finished, Refusal>
+fn filed_result(trials: &[Option<Trial>], ticket: u64) -> Result<Finished, OrNoMemory<Refusal>>
     ensures { MatchResult result
-        (λ f. fetched (held_at trials.now ticket) ≡ desk.result f.now.job.asked.code.atoms f.now.result)
-        (λ e. fetched (held_at trials.now ticket) ≡ desk.refused (code_of e)) }
+        (λ f. fetched (held_at trials.now ticket) ≡ desk.result f.job.asked.code.atoms f.result)
+        (IsRefusal (λ e. fetched (held_at trials.now ticket) ≡ desk.refused (code_of e))) }
 {
-    numbered(trials, ticket).ok_or(Refusal::NoTrial)?.filed()
+    match numbered(trials, ticket) {
+        Some(trial) => trial.filed(),
+        None => Err(OrNoMemory::Fault(Refusal::NoTrial)),
+    }
 }
 
 /// A source that is refused.

@@ -15,15 +15,15 @@ impl Walk {
     /// Through the functions of a module.
     pub(crate) fn functions(
         &mut self,
-        source: &SyntaxTree,
+        syntax: &SyntaxTree,
         atoms: &AtomTable,
         own: &Signatures,
     ) -> Result<(), NoMemory>
-        requires { Lists own.now source.now.functions }
-        ensures { OnOk result (BeginsAnew self.old self.new (flat_map (flat_map (head_faults (names_of atoms.now source.now.functions))) source.now.functions)) }
+        requires { Lists own.now syntax.now.functions }
+        ensures { OnOk result (BeginsAnew self.old self.new (flat_map (flat_map (head_faults (names_of atoms.now syntax.now.functions))) syntax.now.functions)) }
     {
-        for function in source.functions() {
-            self.heads(source, atoms, own, &function.heads)?;
+        for function in syntax.functions() {
+            self.heads(syntax, atoms, own, &function.heads)?;
         }
         Ok(())
     }
@@ -31,16 +31,16 @@ impl Walk {
     /// Through the clauses of a function.
     fn heads(
         &mut self,
-        source: &SyntaxTree,
+        syntax: &SyntaxTree,
         atoms: &AtomTable,
         own: &Signatures,
         heads: &[Head],
     ) -> Result<(), NoMemory>
-        requires { Lists own.now source.now.functions }
-        ensures { OnOk result (BeginsAnew self.old self.new (flat_map (head_faults (names_of atoms.now source.now.functions)) (map (head_over source.now.node_table) heads.now))) }
+        requires { Lists own.now syntax.now.functions }
+        ensures { OnOk result (BeginsAnew self.old self.new (flat_map (head_faults (names_of atoms.now syntax.now.functions)) (map (head_over syntax.now.node_table) heads.now))) }
     {
         for head in heads {
-            self.head(source, atoms, own, head)?;
+            self.head(syntax, atoms, own, head)?;
         }
         Ok(())
     }
@@ -48,18 +48,18 @@ impl Walk {
     /// Through a clause, behind which no variable is known again.
     fn head(
         &mut self,
-        source: &SyntaxTree,
+        syntax: &SyntaxTree,
         atoms: &AtomTable,
         own: &Signatures,
         head: &Head,
     ) -> Result<(), NoMemory>
-        requires { Lists own.now source.now.functions }
-        ensures { OnOk result (BeginsAnew self.old self.new (head_faults (names_of atoms.now source.now.functions) (head_over source.now.node_table head.now))) }
+        requires { Lists own.now syntax.now.functions }
+        ensures { OnOk result (BeginsAnew self.old self.new (head_faults (names_of atoms.now syntax.now.functions) (head_over syntax.now.node_table head.now))) }
     {
         let start = self.variables.trail_len();
-        self.expr_patterns(source, &head.parameters)?;
-        self.condition(source, atoms, own, &head.condition)?;
-        self.exprs(source, atoms, own, &head.body)?;
+        self.expr_patterns(syntax, &head.parameters)?;
+        self.condition(syntax, atoms, own, &head.condition)?;
+        self.exprs(syntax, atoms, own, &head.body)?;
         self.variables.forget(start)?;
         Ok(())
     }

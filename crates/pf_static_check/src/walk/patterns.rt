@@ -17,13 +17,13 @@ impl Walk {
     #[cycle(expr_patterns)]
     pub(super) fn expr_pattern(
         &mut self,
-        source: &SyntaxTree,
+        syntax: &SyntaxTree,
         id: ExprPatternId,
     ) -> Result<(), NoMemory>
-        ensures { OnOk result (ExprPatternWalked self.old self.new (expr_pattern_at source.now.node_table id.0)) }
+        ensures { OnOk result (ExprPatternWalked self.old self.new (expr_pattern_at syntax.now.node_table id.0)) }
     {
-        match source.expr_pattern(id) {
-            Some(node) => self.expr_pattern_node(source, node),
+        match syntax.expr_pattern(id) {
+            Some(node) => self.expr_pattern_node(syntax, node),
             None => Ok(()),
         }
     }
@@ -32,19 +32,19 @@ impl Walk {
     #[cycle(expr_patterns)]
     fn expr_pattern_node(
         &mut self,
-        source: &SyntaxTree,
+        syntax: &SyntaxTree,
         node: &ExprPatternNode,
     ) -> Result<(), NoMemory>
-        ensures { OnOk result (ExprPatternWalked self.old self.new (expr_pattern_over source.now.node_table node.now)) }
+        ensures { OnOk result (ExprPatternWalked self.old self.new (expr_pattern_over syntax.now.node_table node.now)) }
     {
         match node {
-            ExprPatternNode::Variable(word) => self.expr_pattern_variable(*word),
+            ExprPatternNode::Variable(ident) => self.expr_pattern_variable(*ident),
             ExprPatternNode::Tuple(parts) | ExprPatternNode::List(parts) => self.expr_patterns(
-                source, parts,
+                syntax, parts,
             ),
             ExprPatternNode::ListOn(parts, tail) => {
-                self.expr_patterns(source, parts)?;
-                self.expr_pattern(source, *tail)
+                self.expr_patterns(syntax, parts)?;
+                self.expr_pattern(syntax, *tail)
             }
             ExprPatternNode::Integer(_)
             | ExprPatternNode::Atom(_)
@@ -57,32 +57,32 @@ impl Walk {
     #[cycle(expr_patterns)]
     pub(super) fn expr_patterns(
         &mut self,
-        source: &SyntaxTree,
+        syntax: &SyntaxTree,
         parts: &[ExprPatternId],
     ) -> Result<(), NoMemory>
-        ensures { OnOk result (ExprPatternsWalked self.old self.new (expr_patterns_at source.now.node_table parts.now)) }
+        ensures { OnOk result (ExprPatternsWalked self.old self.new (expr_patterns_at syntax.now.node_table parts.now)) }
     {
         for part in parts {
-            self.expr_pattern(source, *part)?;
+            self.expr_pattern(syntax, *part)?;
         }
         Ok(())
     }
 
     /// A variable in a pattern, which becomes bound where it is new.
-    fn expr_pattern_variable(&mut self, word: Ident) -> Result<(), NoMemory>
-        ensures { OnOk result (ExprPatternWalked self.old self.new (variable word.name.0 word.offset)) }
+    fn expr_pattern_variable(&mut self, ident: Ident) -> Result<(), NoMemory>
+        ensures { OnOk result (ExprPatternWalked self.old self.new (variable ident.name.0 ident.offset)) }
     {
-        self.safe(word);
-        self.variables.bind(word.name)?;
+        self.safe(ident);
+        self.variables.bind(ident.name)?;
         Ok(())
     }
 
     /// Notes a variable that is unsafe.
-    fn safe(&mut self, word: Ident)
-        ensures { SafeWalked self.old self.new word.name.0 word.offset }
+    fn safe(&mut self, ident: Ident)
+        ensures { SafeWalked self.old self.new ident.name.0 ident.offset }
     {
-        if self.variables.status(word.name) == Status::Unsafe {
-            self.first.note(Code::Unsafe, word.offset);
+        if self.variables.status(ident.name) == Status::Unsafe {
+            self.first.note(Code::Unsafe, ident.offset);
         }
     }
 }

@@ -1,13 +1,21 @@
-use Rattle.std.proofs.Common.{◌≡◌, ◌∙◌, zero, ap, subst}
+use Rattle.std.proofs.Common.{◌≡◌, ◌∙◌, zero, ap, subst, sym}
 use Rattle.std.proofs.lemmas.Result.{IfOk-weaker}
+use Rattle.pf_terms.specs.Atoms.{name_of}
 use Rattle.pf_syntax.specs.Module.{Checked}
 use Rattle.pf_model.specs.Module.{Module}
 use Rattle.pf_model.specs.Shrinking.{report}
 use Rattle.pf_request.specs.Job.{Job, memory_report}
-use Rattle.pf_sched.specs.Views.{result_of}
+use Rattle.pf_sched.specs.Views.{IsWritten, result_of}
 use Rattle.pf_command.specs.Answers.{Tells, TellsResult}
 use Rattle.pf_command.proofs.Rows.{tells_result, tells_no_memory}
 use Rattle.pf_command.proofs.run.write_finished.Goals as goal
+
+pub write_result-requires : goal.write_result-requires
+write_result-requires c =
+    let job : c.deref.result.now ≡ c.args.finished.now.job = c.deref.ensures ∙ c.job-job.ensures in
+    let atoms : c.atoms-atoms.result.now ≡ c.args.finished.now.job.asked.code.atoms = c.atoms-atoms.ensures ∙ ap (λ (m : Checked). m.atoms) c.deref-2.ensures
+    ∙ ap (λ (k : Module). k.atoms) c.module.ensures ∙ ap (λ (k : Job). k.asked.code.atoms) job in
+    subst (λ l. IsWritten (name_of l) c.in-Some.result.now) (sym atoms) c.in-Some.ensures.2
 
 pub returns-in-Some : goal.returns-in-Some
 returns-in-Some c =

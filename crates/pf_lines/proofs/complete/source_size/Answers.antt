@@ -1,36 +1,64 @@
 use Rattle.std.proofs.Common.{◌≡◌, ◌∷◌, ℕ, List, [], Bool, true, false, Option, Some, None, refl, sym, ap, ◌∙◌}
-use Rattle.std.specs.Prelude.{codes, ◌&&◌, not, if◌then◌else◌}
+use Rattle.std.specs.Prelude.{codes, ◌&&◌, nat_lt, not, if◌then◌else◌}
 use Rattle.std.specs.Option.{option_map}
 use Rattle.std.specs.Str.{bytes_eq}
 use Rattle.pf_text.specs.Numbers.{number_of, schedule_of}
 use Rattle.pf_request.specs.Calls.{Call, fetch, status, drop_trial, withdraw, usage, log, edition}
 use Rattle.pf_request.specs.Request.{Kind, run}
-use Rattle.pf_desks.specs.Work.{once}
-use Rattle.pf_desks.specs.World.{Step, client, worker}
-use Rattle.pf_lines.specs.Commands.{Asked, choices_at, made, with_one, with_two, with_order, with_runs, of_call, of_one, of_order, of_project, of_shrink, of_two, asked_by, words_of, is_word}
+use Rattle.pf_worlds.specs.Chores.{Chore, claiming, slicing, parking, taking_up, filing, giving_back}
+use Rattle.pf_worlds.specs.Steps.{WorkshopStep, client_calls, worker_does}
+use Rattle.pf_lines.specs.Commands.{Asked, choices_at, made, with_one, with_two, with_three, with_four, with_order, with_runs, of_call, of_chore, of_one, of_order, of_project, of_shrink, of_two, of_three, of_four, slice_of, theft_of, work_asked, asked_by, words_of, is_word}
 use Rattle.pf_lines.specs.Complete.{size_in}
 use Rattle.pf_lines.proofs.complete.source_size.Goals as goal
 
 -- what is made wants no source
-with_one_made : (f : ℕ → Step) (a : Option ℕ) → size_in (with_one (λ m. made (f m)) a) ≡ None
+with_one_made : (f : ℕ → WorkshopStep) (a : Option ℕ) → size_in (with_one (λ m. made (f m)) a) ≡ None
 with_one_made f None = refl
 with_one_made f (Some m) = refl
 
-with_two_made : (f : ℕ → ℕ → Step) (a b : Option ℕ) → size_in (with_two (λ m n. made (f m n)) a b) ≡ None
+with_two_made : (f : ℕ → ℕ → WorkshopStep) (a b : Option ℕ) → size_in (with_two (λ m n. made (f m n)) a b) ≡ None
 with_two_made f None b = refl
 with_two_made f (Some m) None = refl
 with_two_made f (Some m) (Some n) = refl
 
-one_made : (f : ℕ → Step) (ws : List (List ℕ)) → size_in (of_one (λ m. made (f m)) ws) ≡ None
+one_made : (f : ℕ → WorkshopStep) (ws : List (List ℕ)) → size_in (of_one (λ m. made (f m)) ws) ≡ None
 one_made f [] = refl
 one_made f (a ∷ []) = with_one_made f (number_of a)
 one_made f (a ∷ b ∷ ws) = refl
 
-two_made : (f : ℕ → ℕ → Step) (ws : List (List ℕ)) → size_in (of_two (λ m n. made (f m n)) ws) ≡ None
+two_made : (f : ℕ → ℕ → WorkshopStep) (ws : List (List ℕ)) → size_in (of_two (λ m n. made (f m n)) ws) ≡ None
 two_made f [] = refl
 two_made f (a ∷ []) = refl
 two_made f (a ∷ b ∷ []) = with_two_made f (number_of a) (number_of b)
 two_made f (a ∷ b ∷ c ∷ ws) = refl
+
+with_three_made : (f : ℕ → ℕ → ℕ → WorkshopStep) (a b c : Option ℕ) → size_in (with_three (λ l m n. made (f l m n)) a b c) ≡ None
+with_three_made f None b c = refl
+with_three_made f (Some l) None c = refl
+with_three_made f (Some l) (Some m) None = refl
+with_three_made f (Some l) (Some m) (Some n) = refl
+
+three_made : (f : ℕ → ℕ → ℕ → WorkshopStep) (ws : List (List ℕ)) → size_in (of_three (λ l m n. made (f l m n)) ws) ≡ None
+three_made f [] = refl
+three_made f (a ∷ []) = refl
+three_made f (a ∷ b ∷ []) = refl
+three_made f (a ∷ b ∷ c ∷ []) = with_three_made f (number_of a) (number_of b) (number_of c)
+three_made f (a ∷ b ∷ c ∷ d ∷ ws) = refl
+
+with_four_made : (f : ℕ → ℕ → ℕ → ℕ → Option Asked) → ((k l m n : ℕ) → size_in (f k l m n) ≡ None) → (a b c d : Option ℕ) → size_in (with_four f a b c d) ≡ None
+with_four_made f h None b c d = refl
+with_four_made f h (Some k) None c d = refl
+with_four_made f h (Some k) (Some l) None d = refl
+with_four_made f h (Some k) (Some l) (Some m) None = refl
+with_four_made f h (Some k) (Some l) (Some m) (Some n) = h k l m n
+
+four_made : (f : ℕ → ℕ → ℕ → ℕ → Option Asked) → ((k l m n : ℕ) → size_in (f k l m n) ≡ None) → (ws : List (List ℕ)) → size_in (of_four f ws) ≡ None
+four_made f h [] = refl
+four_made f h (a ∷ []) = refl
+four_made f h (a ∷ b ∷ []) = refl
+four_made f h (a ∷ b ∷ c ∷ []) = refl
+four_made f h (a ∷ b ∷ c ∷ d ∷ []) = with_four_made f h (number_of a) (number_of b) (number_of c) (number_of d)
+four_made f h (a ∷ b ∷ c ∷ d ∷ e ∷ ws) = refl
 
 with_order_made : (root property : List ℕ) (p n : Option ℕ) (k : Option Kind) (l : Option ℕ) → size_in (with_order root property p n k l) ≡ None
 with_order_made root property None n k l = refl
@@ -77,17 +105,32 @@ not_true false h = refl
 
 -- a line that is a call asks for no source
 project_made : (c : Call) (ws : List (List ℕ)) → size_in (of_project c ws) ≡ None
-project_made c ws = one_made (λ p. client p c) ws
+project_made c ws = one_made (λ p. client_calls p c) ws
 
 call_made : (f : ℕ → Call) (ws : List (List ℕ)) → size_in (of_call f ws) ≡ None
-call_made f ws = two_made (λ p n. client p (f n)) ws
+call_made f ws = two_made (λ p n. client_calls p (f n)) ws
+
+-- nor does one that is a chore
+chore_made : (k : Chore) (ws : List (List ℕ)) → size_in (of_chore k ws) ≡ None
+chore_made k ws = three_made (λ w p t. worker_does w p t k) ws
+
+slice_made : (w p t turns : ℕ) → size_in (slice_of w p t turns) ≡ None
+slice_made w p t turns = pick_none (nat_lt 0 turns) (Some (made (worker_does w p t (slicing turns)))) None refl refl
+
+work_made : (w : List ℕ) (ws : List (List ℕ)) → size_in (work_asked w ws) ≡ None
+work_made w ws =
+    let from_back = pick_none (bytes_eq w (codes "back")) (of_chore giving_back ws) None (chore_made giving_back ws) refl in
+    let from_file = pick_none (bytes_eq w (codes "file")) (of_chore filing ws) _ (chore_made filing ws) from_back in
+    let from_steal = pick_none (bytes_eq w (codes "steal")) (of_four theft_of ws) _ (four_made theft_of (λ k l m n. refl) ws) from_file in
+    let from_take = pick_none (bytes_eq w (codes "take")) (of_chore taking_up ws) _ (chore_made taking_up ws) from_steal in
+    let from_park = pick_none (bytes_eq w (codes "park")) (of_chore parking ws) _ (chore_made parking ws) from_take in
+    let from_slice = pick_none (bytes_eq w (codes "slice")) (of_four slice_of ws) _ (four_made slice_of slice_made ws) from_park in
+    pick_none (bytes_eq w (codes "claim")) (of_chore claiming ws) _ (chore_made claiming ws) from_slice
 
 -- only a submission wants a source
 others_want_none : (w : List ℕ) (ws : List (List ℕ)) → bytes_eq w (codes "submit") ≡ false → size_in (asked_by (w ∷ ws)) ≡ None
 others_want_none w ws h =
-    let worked = of_two (λ p t. made (worker p (once t))) ws in
-    let last = pick_none (bytes_eq w (codes "once")) worked None (two_made (λ p t. worker p (once t)) ws) refl in
-    let from_edition = pick_none (bytes_eq w (codes "edition")) (of_call edition ws) _ (call_made edition ws) last in
+    let from_edition = pick_none (bytes_eq w (codes "edition")) (of_call edition ws) _ (call_made edition ws) (work_made w ws) in
     let from_log = pick_none (bytes_eq w (codes "log")) (of_project log ws) _ (project_made log ws) from_edition in
     let from_usage = pick_none (bytes_eq w (codes "usage")) (of_project usage ws) _ (project_made usage ws) from_log in
     let from_withdraw = pick_none (bytes_eq w (codes "withdraw")) (of_call withdraw ws) _ (call_made withdraw ws) from_usage in

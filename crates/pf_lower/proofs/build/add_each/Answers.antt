@@ -10,36 +10,36 @@ use Rattle.pf_lower.proofs.Knows_more.{next_function, length_mapped}
 use Rattle.pf_lower.proofs.Heads_mean.{EachFunction, one_function_more, functions_are}
 use Rattle.pf_lower.proofs.build.add_each.Goals as goal
 
-pub loop-written-preserved : goal.loop-written-preserved
-loop-written-preserved c =
-    let i = c.loop-written.invariant in
-    let b = c.args.source.now.node_table in
-    let fs = c.args.source.now.functions in
-    let es = c.args.source.now.exports in
+pub loop-read-preserved : goal.loop-read-preserved
+loop-read-preserved c =
+    let i = c.loop-read.invariant in
+    let b = c.args.syntax.now.node_table in
+    let fs = c.args.syntax.now.functions in
+    let es = c.args.syntax.now.exports in
     let n = names_of c.args.module.now.atoms fs in
     let d = c.in_ok-one.ensures in
     let added = c.in_ok-add_function.ensures.added in
-    let k = c.loop-written.written-index in
+    let k = c.loop-read.read-index in
     let made = function_over c.function.new.module.tables c.in_ok-one.one in
-    let hs = heads_over b c.written-item.result in
+    let hs = heads_over b c.read-item.result in
     let means = subst (λ (a : List (List ℕ)). FunctionFormed hs → flat_map (head_faults (names_of a fs)) hs ≡ [] → FunctionIs (names_of a fs) es hs made) (d.grown.atoms ∙ i.atoms) d.answer.means in
-    let longer = one_function_more n es (take k fs) c.loop-written.module.functions hs made i.functions means in
+    let longer = one_function_more n es (take k fs) c.loop-read.module.functions hs made i.functions means in
     record {
       name = ap (λ m. m.name) added ∙ d.grown.name ∙ i.name;
       atoms = ap (λ m. m.atoms) added ∙ d.grown.atoms ∙ i.atoms;
       unbound = d.bound_is;
       functions =
           subst (EachFunction n es (take (k + 1) fs)) (sym (ap (λ m. m.functions) added ∙ ap (λ l. l ++ made ∷ []) d.grown.functions))
-          (subst (λ l. EachFunction n es l (c.loop-written.module.functions ++ made ∷ [])) (sym (next_function b c.functions-written-items.result.now fs k c.written-item.result c.functions-written-items.ensures (omega arith) c.written-item.is)) longer);
+          (subst (λ l. EachFunction n es l (c.loop-read.module.functions ++ made ∷ [])) (sym (next_function b c.functions-read-items.result.now fs k c.read-item.result c.functions-read-items.ensures (omega arith) c.read-item.is)) longer);
     }
 
 pub returns : goal.returns
 returns c =
-    let i = c.loop-written.invariant in
-    let b = c.args.source.now.node_table in
-    let fs = c.args.source.now.functions in
-    let es = c.args.source.now.exports in
+    let i = c.loop-read.invariant in
+    let b = c.args.syntax.now.node_table in
+    let fs = c.args.syntax.now.functions in
+    let es = c.args.syntax.now.exports in
     let n = names_of c.args.module.now.atoms fs in
-    let long : length fs ≤ c.loop-written.written-index = omega (arith, ap length c.functions-written-items.ensures, length_mapped (heads_over b) c.functions-written-items.result.now) in
-    let each : EachFunction n es fs c.loop-written.module.functions = subst (λ l. EachFunction n es l c.loop-written.module.functions) (take_all c.loop-written.written-index fs long) i.functions in
-    record { name = i.name; atoms = i.atoms; means = functions_are n es fs c.loop-written.module.functions each }
+    let long : length fs ≤ c.loop-read.read-index = omega (arith, ap length c.functions-read-items.ensures, length_mapped (heads_over b) c.functions-read-items.result.now) in
+    let each : EachFunction n es fs c.loop-read.module.functions = subst (λ l. EachFunction n es l c.loop-read.module.functions) (take_all c.loop-read.read-index fs long) i.functions in
+    record { name = i.name; atoms = i.atoms; means = functions_are n es fs c.loop-read.module.functions each }

@@ -3,10 +3,10 @@ use Rattle.pf_rules.specs.Static.{names_of}
 use Rattle.pf_lower.proofs.Heads_mean.{EachFunction}
 use Rattle.pf_lower.proofs.build.add_each.Given as goal
 
-abbrev pub invariant-loop-written : goal.invariant-loop-written
-invariant-loop-written l = record {
+abbrev pub invariant-loop-read : goal.invariant-loop-read
+invariant-loop-read l = record {
   name : l.module.name ≡ l.initial.module.name;
   atoms : l.module.atoms ≡ l.initial.module.atoms;
   unbound : l.slots ≡ [];
-  functions : EachFunction (names_of l.initial.module.atoms l.source.functions) l.source.exports (take l.written-index l.source.functions) l.module.functions;
+  functions : EachFunction (names_of l.initial.module.atoms l.syntax.functions) l.syntax.exports (take l.read-index l.syntax.functions) l.module.functions;
 }

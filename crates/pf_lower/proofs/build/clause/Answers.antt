@@ -7,8 +7,8 @@ use Rattle.pf_lower.proofs.build.clause.Goals as goal
 
 pub returns : goal.returns
 returns c =
-    let fs = c.args.source.now.functions in
-    let b = c.args.source.now.node_table in
+    let fs = c.args.syntax.now.functions in
+    let b = c.args.syntax.now.node_table in
     let m = c.args.module.now in
     let names = c.args.slots.now in
     clause_done fs b m c.patterns.new.module c.guard.new.module c.body.new.module c.patterns.new.slots c.guard.new.slots c.body.new.slots c.truncate.new.self names c.args.head.now

@@ -16,14 +16,14 @@ use Rattle.pf_lower.proofs.expressions.call.Goals as goal
 pub returns-in-Some : goal.returns-in-Some
 returns-in-Some c =
     let m = c.args.module.now in
-    let fs = c.args.source.now.functions in
+    let fs = c.args.syntax.now.functions in
     let n = names_of m.atoms fs in
-    let es = exprs_at c.args.source.now.node_table c.args.ids.now in
-    let f = c.args.word.name.0 in
-    let at = c.args.word.offset in
+    let es = exprs_at c.args.syntax.now.node_table c.args.ids.now in
+    let f = c.args.ident.name.0 in
+    let at = c.args.ident.offset in
     by_ok _ _ _ c.put_node.ensures
     (λ x h. expr_put fs m m _ _ c.args.slots.now _ (p.call f at es) _ x refl refl (grown_itself m)
-    (λ g e i k. w.own g f at c.in-Some.function.0 es _ (ap (own_in fs f) (arity_length c.args.source.now.node_table c.args.ids.now) ∙ c.in-Some.ensures)
+    (λ g e i k. w.own g f at c.in-Some.function.0 es _ (ap (own_in fs f) (arity_length c.args.syntax.now.node_table c.args.ids.now) ∙ c.in-Some.ensures)
     (c.requires.parts_are.means g e i (call_clean n g f at es k))) h)
 
 -- what was found by a name and a number is found by others that are the same
@@ -33,13 +33,13 @@ found_by B name there k count x e d h = ap (B there) d ∙ ap (λ (l : List ℕ)
 pub returns-in-Some-builtin_named : goal.returns-in-Some-builtin_named
 returns-in-Some-builtin_named c =
     let m = c.args.module.now in
-    let fs = c.args.source.now.functions in
+    let fs = c.args.syntax.now.functions in
     let n = names_of m.atoms fs in
-    let es = exprs_at c.args.source.now.node_table c.args.ids.now in
-    let f = c.args.word.name.0 in
-    let at = c.args.word.offset in
+    let es = exprs_at c.args.syntax.now.node_table c.args.ids.now in
+    let f = c.args.ident.name.0 in
+    let at = c.args.ident.offset in
     let named = c.name.ensures ∙ ap (λ (a : List (List ℕ)). name_of a f) c.atoms.ensures in
-    let found = found_by builtin_named c.name.result.now (name_of m.atoms f) (arity_of es) (length c.args.ids.now) (Some (builtin_of c.in-Some-builtin_named.builtin)) named (arity_length c.args.source.now.node_table c.args.ids.now) c.in-Some-builtin_named.ensures in
+    let found = found_by builtin_named c.name.result.now (name_of m.atoms f) (arity_of es) (length c.args.ids.now) (Some (builtin_of c.in-Some-builtin_named.builtin)) named (arity_length c.args.syntax.now.node_table c.args.ids.now) c.in-Some-builtin_named.ensures in
     by_ok _ _ _ c.put_node-in-Some-builtin_named.ensures
     (λ x h. expr_put fs m m _ _ c.args.slots.now _ (p.call f at es) _ x refl refl (grown_itself m)
     (λ g e i k. w.builtin g f at (builtin_of c.in-Some-builtin_named.builtin) es _ found (c.requires.parts_are.means g e i (call_clean n g f at es k))) h)
@@ -47,12 +47,12 @@ returns-in-Some-builtin_named c =
 pub returns-in-None : goal.returns-in-None
 returns-in-None c =
     let m = c.args.module.now in
-    let fs = c.args.source.now.functions in
+    let fs = c.args.syntax.now.functions in
     let n = names_of m.atoms fs in
-    let es = exprs_at c.args.source.now.node_table c.args.ids.now in
-    let f = c.args.word.name.0 in
-    let at = c.args.word.offset in
-    let count = arity_length c.args.source.now.node_table c.args.ids.now in
+    let es = exprs_at c.args.syntax.now.node_table c.args.ids.now in
+    let f = c.args.ident.name.0 in
+    let at = c.args.ident.offset in
+    let count = arity_length c.args.syntax.now.node_table c.args.ids.now in
     let named = c.name.ensures ∙ ap (λ (a : List (List ℕ)). name_of a f) c.atoms.ensures in
     let found = found_by builtin_named c.name.result.now (name_of m.atoms f) (arity_of es) (length c.args.ids.now) None named count c.in-None.ensures in
     expr_here fs m c.args.slots.now _ (p.call f at es) part.Nil refl tt

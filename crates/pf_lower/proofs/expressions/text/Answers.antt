@@ -10,7 +10,7 @@ use Rattle.pf_lower.proofs.expressions.text.Goals as goal
 pub returns-in-Some : goal.returns-in-Some
 returns-in-Some c =
     let m = c.args.module.now in
-    let fs = c.args.source.now.functions in
+    let fs = c.args.syntax.now.functions in
     let is = rw c.in-Some.is at c.in_ok-made.ensures in
     by_ok _ _ _ c.put_literal.ensures
     (λ x h. expr_put fs m m _ _ c.args.slots.now _ (p.text c.args.codes.now) _ x refl refl (grown_itself m)

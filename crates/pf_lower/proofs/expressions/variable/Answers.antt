@@ -6,8 +6,8 @@ use Rattle.pf_lower.proofs.expressions.variable.Goals as goal
 
 pub returns-in-Some : goal.returns-in-Some
 returns-in-Some c =
-    let fs = c.args.source.now.functions in
-    let x = c.args.word.name.0 in
-    let at = c.args.word.offset in
+    let fs = c.args.syntax.now.functions in
+    let x = c.args.ident.name.0 in
+    let at = c.args.ident.offset in
     expr_here fs c.args.module.now c.args.slots.now _ (p.variable x at) (part.Slot c.in-Some.slot) refl tt
     (λ g e f k. variable_means _ g c.args.slots.now x at c.in-Some.slot e c.in-Some.ensures)

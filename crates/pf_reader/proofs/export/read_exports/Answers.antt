@@ -32,8 +32,8 @@ loop-preserved c =
     let turn : n - c.loop.counter ≡ suc (n - (c.loop.counter + 1)) = omega (arith, length-map c.args.tokens.list.now numbered_token_of) in
     let form : after (mark Minus) (tokens_in c.loop.rest) ≡ Some (tokens_in c.in-Some.form) = search rules in
     let whole = exports_go (names_of c.args.context) _ _ _ _ c.loop.invariant.given _ _ _ _ turn form c.in_ok-entries.ensures in
-    let added : c.add_exports.new.source.exports ≡ c.loop.source.exports ++ map export_of c.in_ok-entries.entries.items =
-    c.in_ok-add_exports.ensures.added ∙ ap (λ es. c.loop.source.exports ++ map export_of es) c.deref.ensures.value in
+    let added : c.add_exports.new.syntax.exports ≡ c.loop.syntax.exports ++ map export_of c.in_ok-entries.entries.items =
+    c.in_ok-add_exports.ensures.added ∙ ap (λ es. c.loop.syntax.exports ++ map export_of es) c.deref.ensures.value in
     record {
       given = whole ∙ ap (λ es. with_front es (exports (names_of c.args.context) (n - (c.loop.counter + 1)) (tokens_in c.in_ok-entries.after))) (sym added);
       name = c.in_ok-add_exports.ensures.name ∙ c.loop.invariant.name;

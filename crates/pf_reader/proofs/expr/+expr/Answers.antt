@@ -32,8 +32,8 @@ read_items-returns-in_err-part-clause-given t c =
 pub read_items-returns-in_default-clause-given : goal.read_items-returns-in_default-clause-given
 read_items-returns-in_default-clause-given t c =
     let n = length (tokens_in c.args.tokens) in
-    let b = c.loop.source.node_table in
-    let d = c.read_item.new.source.node_table in
+    let b = c.loop.syntax.node_table in
+    let d = c.read_item.new.syntax.node_table in
     let on = c.in_ok-part.ensures.grown.node_table in
     let turn : n - c.loop.counter ≡ suc (n - (c.loop.counter + 1)) = omega (arith, length-map c.args.tokens.list.now numbered_token_of) in
     let none : after (mark Comma) (tokens_in c.in_ok-part.part.rest) ≡ None = search rules in
@@ -43,8 +43,8 @@ read_items-returns-in_default-clause-given t c =
 
 pub read_items-returns-in_default-clause-stands : goal.read_items-returns-in_default-clause-stands
 read_items-returns-in_default-clause-stands t c =
-    let b = c.loop.source.node_table in
-    let d = c.read_item.new.source.node_table in
+    let b = c.loop.syntax.node_table in
+    let d = c.read_item.new.syntax.node_table in
     let on = c.in_ok-part.ensures.grown.node_table in
     let pushed : c.push.new.self.items ≡ c.loop.found.items ++ c.in_ok-part.part.expr ∷ [] = search rules in
     let kept = all_exprs_stand b d on c.loop.found.items c.loop.invariant.stands in
@@ -53,8 +53,8 @@ read_items-returns-in_default-clause-stands t c =
 pub read_items-loop-preserved : goal.read_items-loop-preserved
 read_items-loop-preserved t c =
     let n = length (tokens_in c.args.tokens) in
-    let b = c.loop.source.node_table in
-    let d = c.read_item.new.source.node_table in
+    let b = c.loop.syntax.node_table in
+    let d = c.read_item.new.syntax.node_table in
     let on = c.in_ok-part.ensures.grown.node_table in
     let turn : n - c.loop.counter ≡ suc (n - (c.loop.counter + 1)) = omega (arith, length-map c.args.tokens.list.now numbered_token_of) in
     let next : after (mark Comma) (tokens_in c.in_ok-part.part.rest) ≡ Some (tokens_in c.in-Some.after) = search rules in
@@ -85,8 +85,8 @@ read_guard-returns-in_err-tests-clause-given t c =
 pub read_guard-returns-in_default-clause-given : goal.read_guard-returns-in_default-clause-given
 read_guard-returns-in_default-clause-given t c =
     let n = length (tokens_in c.args.tokens) in
-    let b = c.loop.source.node_table in
-    let d = c.read_items.new.source.node_table in
+    let b = c.loop.syntax.node_table in
+    let d = c.read_items.new.syntax.node_table in
     let on = c.in_ok-tests.ensures.grown.node_table in
     let turn : n - c.loop.counter ≡ suc (n - (c.loop.counter + 1)) = omega (arith, length-map c.args.tokens.list.now numbered_token_of) in
     let none : after (mark Semicolon) (tokens_in c.in_ok-tests.behind_it) ≡ None = search rules in
@@ -97,8 +97,8 @@ read_guard-returns-in_default-clause-given t c =
 
 pub read_guard-returns-in_default-clause-stands : goal.read_guard-returns-in_default-clause-stands
 read_guard-returns-in_default-clause-stands t c =
-    let b = c.loop.source.node_table in
-    let d = c.read_items.new.source.node_table in
+    let b = c.loop.syntax.node_table in
+    let d = c.read_items.new.syntax.node_table in
     let on = c.in_ok-tests.ensures.grown.node_table in
     let pushed : c.push.new.self.items ≡ c.loop.alternatives.items ++ record { tests = c.in_ok-tests.tests } ∷ [] = search rules in
     let kept = all_tests_stand b d on c.loop.alternatives.items c.loop.invariant.stands in
@@ -107,8 +107,8 @@ read_guard-returns-in_default-clause-stands t c =
 pub read_guard-loop-preserved : goal.read_guard-loop-preserved
 read_guard-loop-preserved t c =
     let n = length (tokens_in c.args.tokens) in
-    let b = c.loop.source.node_table in
-    let d = c.read_items.new.source.node_table in
+    let b = c.loop.syntax.node_table in
+    let d = c.read_items.new.syntax.node_table in
     let on = c.in_ok-tests.ensures.grown.node_table in
     let turn : n - c.loop.counter ≡ suc (n - (c.loop.counter + 1)) = omega (arith, length-map c.args.tokens.list.now numbered_token_of) in
     let next : after (mark Semicolon) (tokens_in c.in_ok-tests.behind_it) ≡ Some (tokens_in c.in-Some.after) = search rules in
@@ -139,8 +139,8 @@ read_clauses-returns-in_err-branch-clause-given t c =
 pub read_clauses-returns-in_default-clause-given : goal.read_clauses-returns-in_default-clause-given
 read_clauses-returns-in_default-clause-given t c =
     let n = length (tokens_in c.args.tokens) in
-    let b = c.loop.source.node_table in
-    let d = c.read_clause.new.source.node_table in
+    let b = c.loop.syntax.node_table in
+    let d = c.read_clause.new.syntax.node_table in
     let on = c.in_ok-branch.ensures.grown.node_table in
     let turn : n - c.loop.counter ≡ suc (n - (c.loop.counter + 1)) = omega (arith, length-map c.args.tokens.list.now numbered_token_of) in
     let none : after (mark Semicolon) (tokens_in c.in_ok-branch.behind_it) ≡ None = search rules in
@@ -150,8 +150,8 @@ read_clauses-returns-in_default-clause-given t c =
 
 pub read_clauses-returns-in_default-clause-stands : goal.read_clauses-returns-in_default-clause-stands
 read_clauses-returns-in_default-clause-stands t c =
-    let b = c.loop.source.node_table in
-    let d = c.read_clause.new.source.node_table in
+    let b = c.loop.syntax.node_table in
+    let d = c.read_clause.new.syntax.node_table in
     let on = c.in_ok-branch.ensures.grown.node_table in
     let pushed : c.push.new.self.items ≡ c.loop.found.items ++ c.in_ok-branch.branch ∷ [] = search rules in
     let kept = branches_stand b d on c.loop.found.items c.loop.invariant.stands in
@@ -160,8 +160,8 @@ read_clauses-returns-in_default-clause-stands t c =
 pub read_clauses-loop-preserved : goal.read_clauses-loop-preserved
 read_clauses-loop-preserved t c =
     let n = length (tokens_in c.args.tokens) in
-    let b = c.loop.source.node_table in
-    let d = c.read_clause.new.source.node_table in
+    let b = c.loop.syntax.node_table in
+    let d = c.read_clause.new.syntax.node_table in
     let on = c.in_ok-branch.ensures.grown.node_table in
     let turn : n - c.loop.counter ≡ suc (n - (c.loop.counter + 1)) = omega (arith, length-map c.args.tokens.list.now numbered_token_of) in
     let next : after (mark Semicolon) (tokens_in c.in_ok-branch.behind_it) ≡ Some (tokens_in c.in-Some.after) = search rules in
@@ -213,7 +213,7 @@ pub read_level-returns-in_err-right-clause-given : goal.read_level-returns-in_er
 read_level-returns-in_err-right-clause-given t c =
     let deeper = parse_expr (names_of c.args.context) c.args.guard (c.args.limit - 1) in
     let turn : length c.in_ok-left.left.rest.list.now - c.loop.counter ≡ suc (length c.in_ok-left.left.rest.list.now - (c.loop.counter + 1)) = omega arith in
-    let left = expr_at c.loop.source.node_table c.loop.left.expr.0 in
+    let left = expr_at c.loop.syntax.node_table c.loop.left.expr.0 in
     let ahead : infix_ahead c.args.guard c.loop.floor c.args.level (tokens_in c.loop.left.rest) ≡ Some (view_of_infix c.in-Some.infix, tokens_in c.in-Some.after) = search rules in
     let p = err_from_is_err_and c.from_residual-in_err-right.result c.from_residual-in_err-right.ensures.1 in
     rw (p.1, p.2) (fails_as _ _ _ (λ f. c.loop.invariant.given ∙ more_fails deeper c.args.guard c.args.limit c.args.level _ _ _ _ left left left _ _ _ refl turn ahead c.right_level-above.ensures f) c.in_err-right.ensures.given)
@@ -224,7 +224,7 @@ read_level-returns-in_err-left-2-clause-given t c =
     let turn : length c.in_ok-left.left.rest.list.now - c.loop.counter ≡ suc (length c.in_ok-left.left.rest.list.now - (c.loop.counter + 1)) = omega arith in
     let ahead : infix_ahead c.args.guard c.loop.floor c.args.level (tokens_in c.loop.left.rest) ≡ Some (view_of_infix c.in-Some.infix, tokens_in c.in-Some.after) = search rules in
     let same = c.in_ok-right.ensures.grown.node_table.exprs c.loop.left.expr.0 c.loop.invariant.stands in
-    let meaning = c.joined-node.ensures.meaning c.read_level.new.source.node_table in
+    let meaning = c.joined-node.ensures.meaning c.read_level.new.syntax.node_table in
     let p = err_from_is_err_and c.from_residual-in_err-left-2.result c.from_residual-in_err-left-2.ensures.1 in
     rw (p.1, p.2) (fails_as _ _ _ (λ f. c.loop.invariant.given ∙ more_deep deeper c.args.guard c.args.limit c.args.level _ _ _ _ _ _ _ _ _ _ same turn ahead c.right_level-above.ensures _ _ c.in_ok-right.ensures.given meaning f) c.in_err-left-2.ensures.given)
 
@@ -234,7 +234,7 @@ read_level-loop-preserved t c =
     let turn : length c.in_ok-left.left.rest.list.now - c.loop.counter ≡ suc (length c.in_ok-left.left.rest.list.now - (c.loop.counter + 1)) = omega arith in
     let ahead : infix_ahead c.args.guard c.loop.floor c.args.level (tokens_in c.loop.left.rest) ≡ Some (view_of_infix c.in-Some.infix, tokens_in c.in-Some.after) = search rules in
     let same = c.in_ok-right.ensures.grown.node_table.exprs c.loop.left.expr.0 c.loop.invariant.stands in
-    let meaning = c.joined-node.ensures.meaning c.read_level.new.source.node_table in
+    let meaning = c.joined-node.ensures.meaning c.read_level.new.syntax.node_table in
     record {
       grown = again _ _ _ c.loop.invariant.grown (again _ _ _ c.in_ok-right.ensures.grown c.in_ok-left-2.ensures.grown);
       stands = c.in_ok-left-2.ensures.stands;
@@ -256,14 +256,14 @@ pub read_element-returns-in_err-part-in-Some-clause-given : goal.read_element-re
 read_element-returns-in_err-part-in-Some-clause-given t c =
     let n = names_of c.args.context in
     let p = err_from_is_err_and c.from_residual-in_err-part-in-Some.result c.from_residual-in_err-part-in-Some.ensures.1 in
-    let ahead : match_ahead (pattern n (c.args.limit - 1)) (tokens_in c.args.tokens) ≡ Some (seen_expr_pattern c.read_match_ahead.new.source.node_table c.in-Some.ahead) = search rules in
+    let ahead : match_ahead (pattern n (c.args.limit - 1)) (tokens_in c.args.tokens) ≡ Some (seen_expr_pattern c.read_match_ahead.new.syntax.node_table c.in-Some.ahead) = search rules in
     rw (p.1, p.2) (fails_as _ _ _ (element_fails n c.args.limit (tokens_in c.args.tokens) _ _ (omega arith) ahead) c.in_err-part-in-Some.ensures.given)
 
 pub read_element-returns-in_ok-part-in-Some-clause-given : goal.read_element-returns-in_ok-part-in-Some-clause-given
 read_element-returns-in_ok-part-in-Some-clause-given t c =
     let n = names_of c.args.context in
-    let ahead : match_ahead (pattern n (c.args.limit - 1)) (tokens_in c.args.tokens) ≡ Some (seen_expr_pattern c.read_match_ahead.new.source.node_table c.in-Some.ahead) = search rules in
-    let stands : ExprPatternRepresents c.read_match_ahead.new.source.node_table c.in-Some.ahead.expr_pattern = search rules in
+    let ahead : match_ahead (pattern n (c.args.limit - 1)) (tokens_in c.args.tokens) ≡ Some (seen_expr_pattern c.read_match_ahead.new.syntax.node_table c.in-Some.ahead) = search rules in
+    let stands : ExprPatternRepresents c.read_match_ahead.new.syntax.node_table c.in-Some.ahead.expr_pattern = search rules in
     let same = c.in_ok-part-in-Some.ensures.grown.node_table.expr_patterns c.in-Some.ahead.expr_pattern.0 stands in
     rw (element_match n c.args.limit (tokens_in c.args.tokens) _ _ _ _ _ same (omega arith) ahead c.in_ok-part-in-Some.ensures.given) c.put_within.ensures.given
 
@@ -271,13 +271,13 @@ read_element-returns-in_ok-part-in-Some-clause-given t c =
 
 pub read_marked-returns-in_ok-parts-in-OpenBrace-clause-given : goal.read_marked-returns-in_ok-parts-in-OpenBrace-clause-given
 read_marked-returns-in_ok-parts-in-OpenBrace-clause-given t c =
-    let row = exprs_in_row c.read_until.new.source.node_table c.in_ok-parts-in-OpenBrace.parts.items in
+    let row = exprs_in_row c.read_until.new.syntax.node_table c.in_ok-parts-in-OpenBrace.parts.items in
     rw (tuple_is (parse_expr (names_of c.args.context) c.args.guard c.args.limit top) c.args.first (tokens_in c.args.tokens) _ _ _ c.in-OpenBrace.is row c.in_ok-parts-in-OpenBrace.ensures.given) c.put-in-OpenBrace.ensures.given
 
 pub read_list-returns-in_ok-rest-in-None-clause-given : goal.read_list-returns-in_ok-rest-in-None-clause-given
 read_list-returns-in_ok-rest-in-None-clause-given t c =
     let ts = tokens_in c.args.tokens in
-    let row = exprs_in_row c.read_items.new.source.node_table c.in_ok-parts.parts.items in
+    let row = exprs_in_row c.read_items.new.syntax.node_table c.in_ok-parts.parts.items in
     let none : after (mark CloseBracket) ts ≡ None = search rules in
     let bar : after (mark Bar) (tokens_in c.in_ok-parts.rest) ≡ None = search rules in
     rw (list_plain (parse_expr (names_of c.args.context) c.args.guard c.args.limit top) ts _ _ _ _ row none c.in_ok-parts.ensures.given bar c.in_ok-rest-in-None.ensures) c.put-in-None.ensures.given
@@ -285,8 +285,8 @@ read_list-returns-in_ok-rest-in-None-clause-given t c =
 pub read_list-returns-in_ok-rest-in-Some-skip-clause-given : goal.read_list-returns-in_ok-rest-in-Some-skip-clause-given
 read_list-returns-in_ok-rest-in-Some-skip-clause-given t c =
     let ts = tokens_in c.args.tokens in
-    let b = c.read_items.new.source.node_table in
-    let d = c.read_level.new.source.node_table in
+    let b = c.read_items.new.syntax.node_table in
+    let d = c.read_level.new.syntax.node_table in
     let es = c.in_ok-parts.parts.items in
     let row = exprs_kept b d c.in_ok-tail-in-Some-skip.ensures.grown.node_table es c.in_ok-parts.ensures.stands ∙ exprs_in_row b es in
     let none : after (mark CloseBracket) ts ≡ None = search rules in
@@ -299,32 +299,32 @@ read_list-returns-in_ok-rest-in-Some-skip-clause-given t c =
 pub read_named-returns-clause-given : goal.read_named-returns-clause-given
 read_named-returns-clause-given t c =
     let es = c.in_ok-arguments.arguments.items in
-    let d = c.read_until.new.source.node_table in
+    let d = c.read_until.new.syntax.node_table in
     let opens : after (mark OpenParenthesis) (tokens_in c.args.tokens) ≡ Some (tokens_in c.in-Some.rest) = search rules in
-    let stands : call_stands (names_of c.args.context) c.args.guard c.args.word.name.0 (length es) ≡ true = search rules in
-    rw (call_is (names_of c.args.context) c.args.guard (parse_expr (names_of c.args.context) c.args.guard c.args.limit top) c.args.word.name.0 c.args.word.offset (length es) (tokens_in c.args.tokens) _ _ _ opens c.in_ok-arguments.ensures.given (length-map es (expr_of d)) _ (exprs_in_row d es) stands)
+    let stands : call_stands (names_of c.args.context) c.args.guard c.args.ident.name.0 (length es) ≡ true = search rules in
+    rw (call_is (names_of c.args.context) c.args.guard (parse_expr (names_of c.args.context) c.args.guard c.args.limit top) c.args.ident.name.0 c.args.ident.offset (length es) (tokens_in c.args.tokens) _ _ _ opens c.in_ok-arguments.ensures.given (length-map es (expr_of d)) _ (exprs_in_row d es) stands)
     c.put-2.ensures.given
 
 -- ---- clauses
 
 pub read_clause-returns-clause-given : goal.read_clause-returns-clause-given
 read_clause-returns-clause-given t c =
-    let b = c.read_front.new.source.node_table in
-    let d = c.read_items.new.source.node_table in
+    let b = c.read_front.new.syntax.node_table in
+    let d = c.read_items.new.syntax.node_table in
     let same = front_alike b d c.in_ok-body.ensures.grown.node_table c.in_ok-front.front c.in_ok-front.ensures.stands in
     clause_is (readers (names_of c.args.context) c.args.limit) c.args.choice (tokens_in c.args.tokens) _ _ _ _ _ _ same c.in_ok-front.ensures.given c.in_ok-rest.ensures c.in_ok-body.ensures.given
 
 pub read_clause-returns-clause-stands : goal.read_clause-returns-clause-stands
 read_clause-returns-clause-stands t c =
-    let b = c.read_front.new.source.node_table in
-    let d = c.read_items.new.source.node_table in
+    let b = c.read_front.new.syntax.node_table in
+    let d = c.read_items.new.syntax.node_table in
     let on = c.in_ok-body.ensures.grown.node_table in
     let front = c.in_ok-front.ensures.stands in
     (expr_pattern_stands b d on c.in_ok-front.front.expr_pattern front.0, condition_stands b d on c.in_ok-front.front.condition front.1, c.in_ok-body.ensures.stands)
 
 pub read_branches-returns-clause-given : goal.read_branches-returns-clause-given
 read_branches-returns-clause-given t c =
-    branches_is (readers (names_of c.args.context) c.args.limit) c.args.choice (tokens_in c.args.tokens) _ _ _ _ (clauses_in_row c.read_clauses.new.source.node_table c.in_ok-found.found.items) c.in_ok-found.ensures.given c.in_ok-rest.ensures
+    branches_is (readers (names_of c.args.context) c.args.limit) c.args.choice (tokens_in c.args.tokens) _ _ _ _ (clauses_in_row c.read_clauses.new.syntax.node_table c.in_ok-found.found.items) c.in_ok-found.ensures.given c.in_ok-rest.ensures
 
 pub read_case-returns-clause-given : goal.read_case-returns-clause-given
 read_case-returns-clause-given t c =

@@ -25,8 +25,8 @@ read_expr_pattern_items-returns-in_err-part-clause-given t c =
 pub read_expr_pattern_items-returns-in_default-clause-given : goal.read_expr_pattern_items-returns-in_default-clause-given
 read_expr_pattern_items-returns-in_default-clause-given t c =
     let n = length (tokens_in c.args.tokens) in
-    let b = c.loop.source.node_table in
-    let d = c.read_expr_pattern.new.source.node_table in
+    let b = c.loop.syntax.node_table in
+    let d = c.read_expr_pattern.new.syntax.node_table in
     let turn : n - c.loop.counter ≡ suc (n - (c.loop.counter + 1)) = omega (arith, length-map c.args.tokens.list.now numbered_token_of) in
     let none : after (mark Comma) (tokens_in c.in_ok-part.part.rest) ≡ None = search rules in
     let pushed : c.push.new.self.items ≡ c.loop.found.items ++ c.in_ok-part.part.expr_pattern ∷ [] = search rules in
@@ -36,8 +36,8 @@ read_expr_pattern_items-returns-in_default-clause-given t c =
 pub read_expr_pattern_items-loop-preserved : goal.read_expr_pattern_items-loop-preserved
 read_expr_pattern_items-loop-preserved t c =
     let n = length (tokens_in c.args.tokens) in
-    let b = c.loop.source.node_table in
-    let d = c.read_expr_pattern.new.source.node_table in
+    let b = c.loop.syntax.node_table in
+    let d = c.read_expr_pattern.new.syntax.node_table in
     let on = c.in_ok-part.ensures.grown.node_table in
     let turn : n - c.loop.counter ≡ suc (n - (c.loop.counter + 1)) = omega (arith, length-map c.args.tokens.list.now numbered_token_of) in
     let next : after (mark Comma) (tokens_in c.in_ok-part.part.rest) ≡ Some (tokens_in c.in-Some.after) = search rules in
@@ -69,7 +69,7 @@ read_expr_pattern-returns-clause-given t c = rw (pattern_is (names_of c.args.con
 pub read_list-returns-in_ok-rest-in-None-clause-given : goal.read_list-returns-in_ok-rest-in-None-clause-given
 read_list-returns-in_ok-rest-in-None-clause-given t c =
     let ts = tokens_in c.args.tokens in
-    let row = expr_patterns_in_row c.read_expr_pattern_items.new.source.node_table c.in_ok-parts.parts.items in
+    let row = expr_patterns_in_row c.read_expr_pattern_items.new.syntax.node_table c.in_ok-parts.parts.items in
     let none : after (mark CloseBracket) ts ≡ None = search rules in
     let bar : after (mark Bar) (tokens_in c.in_ok-parts.rest) ≡ None = search rules in
     rw (pattern_list (pattern (names_of c.args.context) c.args.limit) ts _ _ _ _ row none c.in_ok-parts.ensures.given bar c.in_ok-rest-in-None.ensures) c.put_expr_pattern-in-None.ensures.given
@@ -77,8 +77,8 @@ read_list-returns-in_ok-rest-in-None-clause-given t c =
 pub read_list-returns-in_ok-rest-in-Some-skip-clause-given : goal.read_list-returns-in_ok-rest-in-Some-skip-clause-given
 read_list-returns-in_ok-rest-in-Some-skip-clause-given t c =
     let ts = tokens_in c.args.tokens in
-    let b = c.read_expr_pattern_items.new.source.node_table in
-    let d = c.read_expr_pattern.new.source.node_table in
+    let b = c.read_expr_pattern_items.new.syntax.node_table in
+    let d = c.read_expr_pattern.new.syntax.node_table in
     let qs = c.in_ok-parts.parts.items in
     let row = expr_patterns_kept b d c.in_ok-tail-in-Some-skip.ensures.grown.node_table qs c.in_ok-parts.ensures.stands ∙ expr_patterns_in_row b qs in
     let none : after (mark CloseBracket) ts ≡ None = search rules in
@@ -88,5 +88,5 @@ read_list-returns-in_ok-rest-in-Some-skip-clause-given t c =
 
 pub read_marked-returns-in_ok-parts-in-OpenBrace-clause-given : goal.read_marked-returns-in_ok-parts-in-OpenBrace-clause-given
 read_marked-returns-in_ok-parts-in-OpenBrace-clause-given t c =
-    let row = expr_patterns_in_row c.read_expr_patterns.new.source.node_table c.in_ok-parts-in-OpenBrace.parts.items in
+    let row = expr_patterns_in_row c.read_expr_patterns.new.syntax.node_table c.in_ok-parts-in-OpenBrace.parts.items in
     rw (pattern_tuple (pattern (names_of c.args.context) c.args.limit) c.args.first (tokens_in c.args.tokens) _ _ _ c.in-OpenBrace.is row c.in_ok-parts-in-OpenBrace.ensures.given) c.put_expr_pattern.ensures.given

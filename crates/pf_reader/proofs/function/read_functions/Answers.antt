@@ -27,11 +27,11 @@ pub loop-preserved : goal.loop-preserved
 loop-preserved c =
     let n = length (tokens_in c.args.tokens) in
     let f = c.in_ok-function.function in
-    let b = c.read_function.new.source.node_table in
+    let b = c.read_function.new.syntax.node_table in
     let turn : n - c.loop.counter ≡ suc (n - (c.loop.counter + 1)) = omega (arith, length-map c.args.tokens.list.now numbered_token_of) in
     let some : 0 < length c.loop.rest.list.now = search rules in
     let whole = functions_go (names_of c.args.context) _ _ _ _ c.loop.invariant.given _ _ _ turn (omega (arith, length-map c.loop.rest.list.now numbered_token_of)) c.in_ok-function.ensures.given in
-    let added : c.add_function.new.self.functions ≡ c.loop.source.functions ++ heads_over b f ∷ [] =
+    let added : c.add_function.new.self.functions ≡ c.loop.syntax.functions ++ heads_over b f ∷ [] =
     ap (λ m. m.functions) c.in_ok-add_function.ensures.added ∙ ap (λ fs. fs ++ heads_over b f ∷ []) c.in_ok-function.ensures.grown.functions in
     record {
       given = whole ∙ ap (λ fs. with_first fs (functions (names_of c.args.context) (n - (c.loop.counter + 1)) (tokens_in c.in_ok-function.after))) (sym added);

@@ -8,21 +8,21 @@ use Rattle.pf_reader.proofs.function.read_head.Goals as goal
 
 pub returns-clause-given : goal.returns-clause-given
 returns-clause-given c =
-    let b = c.read_expr_patterns.new.source.node_table in
-    let d = c.read_body.new.source.node_table in
+    let b = c.read_expr_patterns.new.syntax.node_table in
+    let d = c.read_body.new.syntax.node_table in
     let qs = c.in_ok-parameters.parameters.items in
     let on = again _ _ _ c.in_ok-condition.ensures.grown c.in_ok-body.ensures.grown in
     let patterns = expr_patterns_kept b d on.node_table qs c.in_ok-parameters.ensures.stands ∙ expr_patterns_in_row b qs in
-    let guard = condition_kept c.read_when.new.source.node_table d c.in_ok-body.ensures.grown.node_table c.in_ok-condition.condition c.in_ok-condition.ensures.stands in
+    let guard = condition_kept c.read_when.new.syntax.node_table d c.in_ok-body.ensures.grown.node_table c.in_ok-condition.condition c.in_ok-condition.ensures.stands in
     head_is (names_of c.args.context) (tokens_in c.args.tokens) _ _ _ _ _ _ _ _ _ _ _ _ _ _ patterns guard (exprs_in_row d c.in_ok-body.body.items)
-    c.in_ok-word.ensures c.in_ok-rest.ensures c.in_ok-parameters.ensures.given c.in_ok-condition.ensures.given c.in_ok-rest-2.ensures c.in_ok-body.ensures.given
+    c.in_ok-ident.ensures c.in_ok-rest.ensures c.in_ok-parameters.ensures.given c.in_ok-condition.ensures.given c.in_ok-rest-2.ensures c.in_ok-body.ensures.given
 
 pub returns-clause-stands : goal.returns-clause-stands
 returns-clause-stands c =
-    let b = c.read_expr_patterns.new.source.node_table in
-    let d = c.read_body.new.source.node_table in
+    let b = c.read_expr_patterns.new.syntax.node_table in
+    let d = c.read_body.new.syntax.node_table in
     let on = again _ _ _ c.in_ok-condition.ensures.grown c.in_ok-body.ensures.grown in (
       all_expr_patterns_stand b d on.node_table c.in_ok-parameters.parameters.items c.in_ok-parameters.ensures.stands,
-      condition_stands c.read_when.new.source.node_table d c.in_ok-body.ensures.grown.node_table c.in_ok-condition.condition c.in_ok-condition.ensures.stands,
+      condition_stands c.read_when.new.syntax.node_table d c.in_ok-body.ensures.grown.node_table c.in_ok-condition.condition c.in_ok-condition.ensures.stands,
       c.in_ok-body.ensures.stands,
     )

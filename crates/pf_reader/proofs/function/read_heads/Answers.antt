@@ -22,8 +22,8 @@ returns-in_err-head-clause-given c =
 pub returns-in_default-clause-given : goal.returns-in_default-clause-given
 returns-in_default-clause-given c =
     let n = length (tokens_in c.args.tokens) in
-    let b = c.loop.source.node_table in
-    let d = c.read_head.new.source.node_table in
+    let b = c.loop.syntax.node_table in
+    let d = c.read_head.new.syntax.node_table in
     let on = c.in_ok-head.ensures.grown.node_table in
     let turn : n - c.loop.counter ≡ suc (n - (c.loop.counter + 1)) = omega (arith, length-map c.args.tokens.list.now numbered_token_of) in
     let none : after (mark Semicolon) (tokens_in c.in_ok-head.behind_it) ≡ None = search rules in
@@ -33,8 +33,8 @@ returns-in_default-clause-given c =
 
 pub returns-in_default-clause-stands : goal.returns-in_default-clause-stands
 returns-in_default-clause-stands c =
-    let b = c.loop.source.node_table in
-    let d = c.read_head.new.source.node_table in
+    let b = c.loop.syntax.node_table in
+    let d = c.read_head.new.syntax.node_table in
     let on = c.in_ok-head.ensures.grown.node_table in
     let pushed : c.push.new.self.items ≡ c.loop.found.items ++ c.in_ok-head.head ∷ [] = search rules in
     let kept = all_heads_stand b d on c.loop.found.items c.loop.invariant.stands in
@@ -43,8 +43,8 @@ returns-in_default-clause-stands c =
 pub loop-preserved : goal.loop-preserved
 loop-preserved c =
     let n = length (tokens_in c.args.tokens) in
-    let b = c.loop.source.node_table in
-    let d = c.read_head.new.source.node_table in
+    let b = c.loop.syntax.node_table in
+    let d = c.read_head.new.syntax.node_table in
     let on = c.in_ok-head.ensures.grown.node_table in
     let turn : n - c.loop.counter ≡ suc (n - (c.loop.counter + 1)) = omega (arith, length-map c.args.tokens.list.now numbered_token_of) in
     let next : after (mark Semicolon) (tokens_in c.in_ok-head.behind_it) ≡ Some (tokens_in c.in-Some.after) = search rules in

@@ -12,8 +12,8 @@ use Rattle.pf_reader.proofs.function.read_heads.Given as goal
 -- the clauses so far, and what is left, give what the whole gives
 abbrev pub invariant-loop : goal.invariant-loop
 invariant-loop l = record {
-  grown : Grown l.fn.source l.source;
-  stands : All (HeadRepresents l.source.node_table) l.found.items;
+  grown : Grown l.fn.syntax l.syntax;
+  stands : All (HeadRepresents l.syntax.node_table) l.found.items;
   given : items (mark Semicolon) (head (names_of l.fn.context)) (length (tokens_in l.tokens)) (tokens_in l.tokens)
-      ≡ with_front (map (head_over l.source.node_table) l.found.items) (items (mark Semicolon) (head (names_of l.fn.context)) (length (tokens_in l.tokens) - l.counter) (tokens_in l.rest));
+      ≡ with_front (map (head_over l.syntax.node_table) l.found.items) (items (mark Semicolon) (head (names_of l.fn.context)) (length (tokens_in l.tokens) - l.counter) (tokens_in l.rest));
 }

@@ -12,13 +12,13 @@ use Rattle.pf_reader.proofs.read.read_tree.Goals as goal
 pub returns-in-Ok-clause-found : goal.returns-in-Ok-clause-found
 returns-in-Ok-clause-found c =
     let ts = map placed_of c.args.tokens.now in
-    let read : tree (atoms_of ts) (numbered ts) ≡ Some (tree_of c.in-Ok.source) = search rules in
-    tree_sound (atoms_of ts) (numbered ts) (tree_of c.in-Ok.source) read
+    let read : tree (atoms_of ts) (numbered ts) ≡ Some (tree_of c.in-Ok.syntax) = search rules in
+    tree_sound (atoms_of ts) (numbered ts) (tree_of c.in-Ok.syntax) read
 
 pub returns-in-Ok-clause-only : goal.returns-in-Ok-clause-only
 returns-in-Ok-clause-only c = λ m d.
     let ts = map placed_of c.args.tokens.now in
-    let read : tree (atoms_of ts) (numbered ts) ≡ Some (tree_of c.in-Ok.source) = search rules in
+    let read : tree (atoms_of ts) (numbered ts) ≡ Some (tree_of c.in-Ok.syntax) = search rules in
     let whole = tree_complete (atoms_of ts) (numbered ts) m d in
     cc
 

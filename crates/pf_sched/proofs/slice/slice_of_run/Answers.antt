@@ -1,4 +1,7 @@
-use Rattle.std.proofs.Common.{◌≡◌, ◌+◌, length, sym, ap, ◌∙◌}
+use Rattle.std.proofs.Common.{◌+◌, length, refl, ap, subst}
+use Rattle.pf_sched.specs.Asked.{IsValid}
+use Rattle.pf_sched.specs.Parts.{events_in}
+use Rattle.pf_sched.specs.Slices.{RunAdvances}
 use Rattle.pf_sched.specs.Views.{view_of_parked}
 use Rattle.pf_sched.proofs.Sliced.{ends_sooner, goes_on, is_over}
 use Rattle.pf_sched.proofs.slice.slice_of_run.Goals as goal
@@ -7,28 +10,33 @@ pub returns-in-Ok-false : goal.returns-in-Ok-false
 returns-in-Ok-false c =
     let j = c.args.job.value in
     let old = c.args.run in
-    let job : c.deref.result.now ≡ j = cc in
-    let limit : c.limit.result ≡ j.asked.limit = c.limit.ensures.limit ∙ ap (λ k. k.asked.limit) job in
-    let went = c.in-Ok-false.ensures j j.asked.choices (sym limit) c.requires.1 in
-    let g = goes_on j (length old.events.items) c.args.turns c.limit.result c.go_on.new.self limit c.requires.0 c.in-Ok-false.field-0 c.in-Ok-false.field-0-test went in
+    let made = c.go_on.new.self in
+    let went = (subst (λ k. RunAdvances k old made c.args.turns c.in-Ok-false.field-0) c.deref.ensures c.in-Ok-false.ensures.run) j.asked.choices c.requires.1 in
+    let valid : IsValid j = subst IsValid c.deref.ensures c.in-Ok-false.ensures.valid in
+    let g = goes_on j valid (length (events_in old)) c.args.turns made c.requires.0 went.0 c.in-Ok-false.field-0 c.in-Ok-false.field-0-test went.1 in
     (ap (view_of_parked j) g.0, g.1)
+
+pub finish-requires-clause-run : goal.finish-requires-clause-run
+finish-requires-clause-run c =
+    let j = c.args.job.value in
+    let old = c.args.run in
+    let made = c.go_on.new.self in
+    let went = (subst (λ k. RunAdvances k old made c.args.turns c.in-Ok-true.field-0) c.deref.ensures c.in-Ok-true.ensures.run) j.asked.choices c.requires.1 in
+    (c.requires.0, went.0)
 
 pub finish-requires-clause-over : goal.finish-requires-clause-over
 finish-requires-clause-over c =
     let j = c.args.job.value in
     let old = c.args.run in
-    let job : c.deref.result.now ≡ j = cc in
-    let limit : c.limit.result ≡ j.asked.limit = c.limit.ensures.limit ∙ ap (λ k. k.asked.limit) job in
-    let went = c.in-Ok-true.ensures j j.asked.choices (sym limit) c.requires.1 in
-    (is_over j (length old.events.items) c.args.turns c.limit.result c.go_on.new.self limit c.in-Ok-true.field-0 c.in-Ok-true.field-0-test went).0
+    let made = c.go_on.new.self in
+    let went = (subst (λ k. RunAdvances k old made c.args.turns c.in-Ok-true.field-0) c.deref.ensures c.in-Ok-true.ensures.run) j.asked.choices c.requires.1 in
+    (is_over j (length (events_in old)) (length (events_in made)) c.args.turns j.asked.limit made.execution refl c.in-Ok-true.field-0 c.in-Ok-true.field-0-test went.1).0
 
 pub returns-in-Ok-true : goal.returns-in-Ok-true
 returns-in-Ok-true c =
     let j = c.args.job.value in
     let old = c.args.run in
     let made = c.go_on.new.self in
-    let job : c.deref.result.now ≡ j = cc in
-    let limit : c.limit.result ≡ j.asked.limit = c.limit.ensures.limit ∙ ap (λ k. k.asked.limit) job in
-    let went = c.in-Ok-true.ensures j j.asked.choices (sym limit) c.requires.1 in
-    let end = is_over j (length old.events.items) c.args.turns c.limit.result made limit c.in-Ok-true.field-0 c.in-Ok-true.field-0-test went in
-    (c.finish.ensures.job, ends_sooner j (length made.events.items) (length old.events.items + c.args.turns) c.finish.result.result end.1 c.finish.ensures.result)
+    let went = (subst (λ k. RunAdvances k old made c.args.turns c.in-Ok-true.field-0) c.deref.ensures c.in-Ok-true.ensures.run) j.asked.choices c.requires.1 in
+    let end = is_over j (length (events_in old)) (length (events_in made)) c.args.turns j.asked.limit made.execution refl c.in-Ok-true.field-0 c.in-Ok-true.field-0-test went.1 in
+    (c.finish.ensures.job, ends_sooner j (length (events_in made)) (length (events_in old) + c.args.turns) c.finish.result.result end.1 c.finish.ensures.result)

@@ -11,7 +11,7 @@ use Rattle.pf_static_check.proofs.faults.define_head.Goals.{then-not-fresh-via-t
 pub returns-then-not-fresh : goal.returns-then-not-fresh
 returns-then-not-fresh c = λ b hs.
     let head = c.args.head.now in
-    let name = head.word.name.0 in
+    let name = head.ident.name.0 in
     let k = c.len-arity.result in
     let known = lists c.args.own.now name k in
     let built = is_builtin c.args.atoms.now name k in
@@ -22,16 +22,16 @@ returns-then-not-fresh c = λ b hs.
       | then-not-fresh-via-else-not-fresh+then-is_builtin w ↦ listed_builtin known built w.is_builtin.result w.is_builtin.ensures w.if-is_builtin.true
     ] in
     defines c.args.atoms.now (head_over b head) hs k c.args.own.now c.add.new.self c.args.first.now c.note.new.self c.in_ok-fresh.ensures.added (len ∙ sym (parameters_length b head.parameters.items))
-    (noted_fault (known || built) c.args.first.now c.note.new.self head.word.offset taken c.note.ensures)
+    (noted_fault (known || built) c.args.first.now c.note.new.self head.ident.offset taken c.note.ensures)
 
 pub returns-else-is_builtin : goal.returns-else-is_builtin
 returns-else-is_builtin c = λ b hs.
     let head = c.args.head.now in
-    let name = head.word.name.0 in
+    let name = head.ident.name.0 in
     let k = c.len-arity.result in
     let known = lists c.args.own.now name k in
     let built = is_builtin c.args.atoms.now name k in
     let len : k ≡ length head.parameters.items = omega (arith, head.parameters.ok.0) in
     let free : (known || built) ≡ false = listed_nowhere c.in_ok-fresh.fresh known built c.is_builtin.result c.in_ok-fresh.ensures.fresh c.if-not-fresh.false c.is_builtin.ensures c.if-is_builtin.false in
     defines c.args.atoms.now (head_over b head) hs k c.args.own.now c.add.new.self c.args.first.now c.args.first.now c.in_ok-fresh.ensures.added (len ∙ sym (parameters_length b head.parameters.items))
-    (noted_nothing (known || built) c.args.first.now head.word.offset free)
+    (noted_nothing (known || built) c.args.first.now head.ident.offset free)

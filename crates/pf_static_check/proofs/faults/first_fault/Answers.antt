@@ -10,7 +10,7 @@ use Rattle.pf_static_check.proofs.faults.first_fault.Goals as goal
 
 pub returns : goal.returns
 returns c =
-    let m = c.args.source.now in
+    let m = c.args.syntax.now in
     let all = faults_of c.args.atoms.now (tree_of m) in
     let nothing : Stands c.new.result no_scope = record { bound = λ x. sym (ap is_bound (c.new.ensures.new x)); unsafe = λ x. sym (ap is_marked_unsafe (c.new.ensures.new x)) } in
     let least = first_of_all (defined_faults c.args.atoms.now [] m.functions) (flat_map (export_fault m.functions) m.exports) (flat_map unlike_faults m.functions) (flat_map (flat_map (head_faults (names_of c.args.atoms.now m.functions))) m.functions)

@@ -11,3 +11,6 @@ needs_send-requires-2-send-T c κs = search (crosses, heap.crosses, sendable) de
 
 pub needs_send-requires-3-send-T : goal.needs_send-requires-3-send-T
 needs_send-requires-3-send-T c κs = search (crosses, heap.crosses, sendable) depth 30
+
+pub needs_send-requires-4-send-T : goal.needs_send-requires-4-send-T
+needs_send-requires-4-send-T c κs = search (crosses, heap.crosses, sendable) depth 30

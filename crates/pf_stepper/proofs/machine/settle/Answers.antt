@@ -1,27 +1,50 @@
-use Rattle.pf_stepper.proofs.Outer.{settles_change, settles_ask, settles_return, settles_end}
-use Rattle.pf_stepper.proofs.Ready.{ready_anyhow, ready_asking, ready_returned, ready_ended}
-use Rattle.pf_stepper.proofs.machine.settle.Goals.{in-Changed, in-Asks, in-Returned, in-Ended}
+use Rattle.pf_stepper.proofs.Outer.{settles_change, settles_send, settles_ask, settles_return, settles_end}
+use Rattle.pf_stepper.proofs.Ready.{ready_anyhow, ready_sending, ready_asking, ready_returned, ready_ended}
 use Rattle.pf_stepper.proofs.machine.settle.Goals as goal
 
-pub returns-clause-settled : goal.returns-clause-settled
-returns-clause-settled g c =
-    let code = c.args.code.now in
-    let stack = c.args.stack.now in
-    elim c.match-advance.branch [
-      | in-Changed w ↦ rw (w.in-Changed.is, w.standing-is) (settles_change code c.args.own stack _ _ (rw w.in-Changed.is at c.requires.sound))
-      | in-Asks w ↦ rw (w.in-Asks.is, w.standing-is) (settles_ask code c.args.own stack _ _ _ w.into_inner.ensures (rw w.in-Asks.is at c.requires.sound))
-      | in-Returned w ↦ rw (w.in-Returned.is, w.standing-is) (settles_return code c.args.own stack _ _)
-      | in-Ended w ↦ rw (w.in-Ended.is, w.standing-is) (settles_end code c.args.own stack _ _)
-    ]
+pub returns-in-Changed-clause-settled : goal.returns-in-Changed-clause-settled
+returns-in-Changed-clause-settled g c =
+    rw (c.in-Changed.is, c.put.ensures, c.put-in-Changed.ensures)
+    (settles_change c.args.code.now c.args.own c.args.stack.now _ _ (rw c.in-Changed.is at c.requires.sound))
 
-pub returns-clause-ready : goal.returns-clause-ready
-returns-clause-ready g c =
+pub returns-in-Sends-clause-settled : goal.returns-in-Sends-clause-settled
+returns-in-Sends-clause-settled g c =
+    rw (c.in-Sends.is, c.put-in-Sends.ensures, c.put-in-Sends-2.ensures)
+    (settles_send c.args.code.now c.args.own c.args.stack.now _ c.in-Sends.message c.unwrap-to.result c.pop.new.self (rw c.unwrap-to.ensures at c.pop.ensures.items) (rw c.in-Sends.is at c.requires.sound))
+
+pub returns-in-Sends-clause-ready : goal.returns-in-Sends-clause-ready
+returns-in-Sends-clause-ready g c =
     let ready = g.I.Inbox.IsReady c.args.inbox.now in
-    let code = c.args.code.now in
-    let stack = c.args.stack.now in
-    elim c.match-advance.branch [
-      | in-Changed w ↦ rw w.standing-is (rw w.in-Changed.is at c.requires.ready)
-      | in-Asks w ↦ rw w.standing-is (ready_anyhow ready _ (ready_asking ready code c.args.own stack w.in-Asks.act (rw w.in-Asks.is at c.requires.ready)))
-      | in-Returned w ↦ rw w.standing-is (ready_anyhow ready _ (ready_returned ready code c.args.own stack w.in-Returned.value (rw w.in-Returned.is at c.requires.ready)))
-      | in-Ended w ↦ rw w.standing-is (ready_anyhow ready _ (ready_ended ready code c.args.own stack w.in-Ended.reason (rw w.in-Ended.is at c.requires.ready)))
-    ]
+    rw c.put-in-Sends.ensures
+    (ready_anyhow ready _ (ready_sending ready c.args.code.now c.args.own c.args.stack.now c.in-Sends.message (rw c.in-Sends.is at c.requires.ready)))
+
+pub returns-in-Asks-clause-settled : goal.returns-in-Asks-clause-settled
+returns-in-Asks-clause-settled g c =
+    rw (c.in-Asks.is, c.put-in-Asks.ensures, c.put-in-Asks-2.ensures)
+    (settles_ask c.args.code.now c.args.own c.args.stack.now _ _ _ c.into_inner.ensures (rw c.in-Asks.is at c.requires.sound))
+
+pub returns-in-Asks-clause-ready : goal.returns-in-Asks-clause-ready
+returns-in-Asks-clause-ready g c =
+    let ready = g.I.Inbox.IsReady c.args.inbox.now in
+    rw c.put-in-Asks.ensures
+    (ready_anyhow ready _ (ready_asking ready c.args.code.now c.args.own c.args.stack.now c.in-Asks.act (rw c.in-Asks.is at c.requires.ready)))
+
+pub returns-in-Returned-clause-settled : goal.returns-in-Returned-clause-settled
+returns-in-Returned-clause-settled g c =
+    rw (c.in-Returned.is, c.put-in-Returned.ensures, c.put-in-Returned-2.ensures) (settles_return c.args.code.now c.args.own c.args.stack.now _ _)
+
+pub returns-in-Returned-clause-ready : goal.returns-in-Returned-clause-ready
+returns-in-Returned-clause-ready g c =
+    let ready = g.I.Inbox.IsReady c.args.inbox.now in
+    rw c.put-in-Returned.ensures
+    (ready_anyhow ready _ (ready_returned ready c.args.code.now c.args.own c.args.stack.now c.in-Returned.value (rw c.in-Returned.is at c.requires.ready)))
+
+pub returns-in-Ended-clause-settled : goal.returns-in-Ended-clause-settled
+returns-in-Ended-clause-settled g c =
+    rw (c.in-Ended.is, c.put-in-Ended.ensures, c.put-in-Ended-2.ensures) (settles_end c.args.code.now c.args.own c.args.stack.now _ _)
+
+pub returns-in-Ended-clause-ready : goal.returns-in-Ended-clause-ready
+returns-in-Ended-clause-ready g c =
+    let ready = g.I.Inbox.IsReady c.args.inbox.now in
+    rw c.put-in-Ended.ensures
+    (ready_anyhow ready _ (ready_ended ready c.args.code.now c.args.own c.args.stack.now c.in-Ended.reason (rw c.in-Ended.is at c.requires.ready)))

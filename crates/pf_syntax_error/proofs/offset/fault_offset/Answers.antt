@@ -1,7 +1,7 @@
 use Rattle.std.proofs.Common.{length, inr, refl, sym}
 use Rattle.std.proofs.lemmas.Bool.{ltb-true}
 use Rattle.std.proofs.lemmas.Option.{slice_get_read}
-use Rattle.pf_syntax_error.proofs.Places.{stands_there}
+use Rattle.pf_syntax_error.proofs.Offsets.{stands_there}
 use Rattle.pf_syntax_error.proofs.offset.fault_offset.Goals as goal
 
 pub returns-in-Some-get : goal.returns-in-Some-get

@@ -3,4 +3,4 @@ use Rattle.pf_tests_language.proofs.trees.chain.Given as goal
 
 -- the top stands
 abbrev pub invariant-loop : goal.invariant-loop
-invariant-loop l = l.top.0 < length l.source.node_table.exprs
+invariant-loop l = l.top.0 < length l.syntax.node_table.exprs

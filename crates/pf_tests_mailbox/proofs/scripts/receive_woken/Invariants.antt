@@ -4,4 +4,4 @@ use Rattle.pf_mailbox.specs.Tests.{IsReadyFor}
 use Rattle.pf_tests_mailbox.proofs.scripts.receive_woken.Given as goal
 
 abbrev pub invariant-loop : goal.invariant-loop
-invariant-loop l = IsReadyFor (receive_in l.wanted.«module» 0 0 [] l.wanted.clauses.items) l.both.opened.mailbox
+invariant-loop l = IsReadyFor (receive_in l.wanted.«module» 0 0 [] l.wanted.clauses.items) l.both.mailbox

@@ -1,5 +1,5 @@
 use Rattle.std.proofs.Common.{◌≡◌, ◌≤◌, ◌+◌, length}
-use Rattle.pf_book.specs.Profile.{ForRight}
+use Rattle.pf_workshop.specs.Profile.{ForRight}
 use Rattle.pf_wire.proofs.Leaving.{AtHand}
 use Rattle.pf_wire.proofs.steps.answer_due.Given as goal
 
@@ -8,7 +8,7 @@ abbrev pub invariant-loop-alloc : goal.invariant-loop-alloc
 invariant-loop-alloc g l =
     let contents = g.W.Write.contents in
     record {
-      so_far : ForRight (λ p. AtHand p l.is_over l.input l.fn.book l.first l.gathered.text.items l.rest l.book l.number
+      so_far : ForRight (λ p. AtHand p l.is_over l.input l.fn.workshop l.first l.gathered.text.items l.rest l.workshop l.number
           (contents l.fn.writer.inner) (contents l.writer.inner));
       same : l.writer.failures.total ≡ l.fn.writer.failures.total;
       within : l.number + length l.rest ≤ l.first + length l.input;

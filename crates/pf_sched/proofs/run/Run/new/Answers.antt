@@ -1,16 +1,18 @@
-use Rattle.std.proofs.Common.{◌≡◌, Some, ap, ◌∙◌}
-use Rattle.pf_model.specs.Meaning.{profile_of, words_of}
-use Rattle.pf_model.specs.Runs.{start}
-use Rattle.pf_sched.proofs.Traces.{begins}
+use Rattle.std.proofs.Common.{◌≡◌, [], sym, ap, ◌∙◌, subst}
+use Rattle.pf_terms.specs.Atoms.{name_of}
+use Rattle.pf_model.specs.Properties.{some_label}
+use Rattle.pf_property.specs.Judging.{rules_out}
+use Rattle.pf_property.specs.Views.{labels_in}
+use Rattle.pf_trace.specs.Written.{told_so_far}
+use Rattle.pf_sched.specs.Parts.{Executes}
 use Rattle.pf_sched.proofs.run.Run.new.Goals as goal
 
 pub returns-clause-run : goal.returns-clause-run
-returns-clause-run c cs first =
+returns-clause-run c cs makes =
     let j = c.args.job.now in
-    let s = c.in_ok-new.field-0 in
-    let stands : s.standing ≡ Some (start j.asked.root j.asked.edition) =
-    ap (λ z. z.standing) c.in_ok-new.ensures ∙ ap (λ k. Some (start k.asked.root c.edition.result)) c.job.view_is
-    ∙ ap (λ e. Some (start j.asked.root e)) c.edition.ensures.edition in
-    rw c.new-2.ensures.items
-    (begins j.asked.code (profile_of cs) (words_of cs) j.asked.limit (start j.asked.root j.asked.edition) s c.args.choices (ap (λ z. z.code) c.in_ok-new.ensures ∙ c.module.ensures) stands
-    (ap (λ z. z.steps) c.in_ok-new.ensures) first.at first.profile)
+    let none : told_so_far c.new-written.result.lines ≡ [] = c.new-written.ensures.none in
+    record {
+      run = subst (λ es. Executes j cs es c.in_ok-execution.execution) (sym none) (c.in_ok-execution.ensures cs makes);
+      written = c.new-written.ensures.written (name_of j.asked.code.atoms);
+      ruled_out = c.new-written.ensures.clear ∙ ap (λ es. some_label (rules_out j.asked.property) (labels_in es)) (sym none);
+    }

@@ -2,7 +2,7 @@ use Rattle.std.proofs.Common.{◌≡◌, ◌+◌, ◌-◌, ◌≤◌, length, sy
 use Rattle.std.proofs.lemmas.Result.{IfOk-weaker}
 use Rattle.pf_model.specs.Meaning.{schedule}
 use Rattle.pf_model.specs.Shrinking.{is_failure}
-use Rattle.pf_sched.specs.Parts.{events_so_far}
+use Rattle.pf_sched.specs.Parts.{events_in, events_so_far}
 use Rattle.pf_sched.specs.Slices.{runs_left}
 use Rattle.pf_sched.proofs.Asking.{within_bounds}
 use Rattle.pf_sched.proofs.Hunted.{few_before}
@@ -17,29 +17,29 @@ overflow_add-after c =
     let x = c.requires.shrinking in
     let bounds = within_bounds j c.requires.valid in
     let made = few_before j c.requires.valid s.hunt s.before x.hunt in
-    let events = few_so_far j (schedule x.next) s.run x.run in
-    omega (arith, made, events, bounds.0, c.len.ensures, s.run.events.ok.0)
+    let events = few_so_far j (schedule x.next) (events_in s.run) s.run.execution x.run.run in
+    omega (arith, made, events, bounds.0, c.len.ensures)
 
 pub begin-requires-clause-hunt : goal.begin-requires-clause-hunt
 begin-requires-clause-hunt c =
     let s = c.args.self in
     let x = c.requires.shrinking in
     let told = c.in_ok-ended.ensures (schedule x.next) x.run c.requires.over in
-    let count : s.before + c.len.result ≡ s.before + length s.run.events.items = omega (arith, c.len.ensures, s.run.events.ok.0) in
-    hunt_goes_on c.args.job.now s x c.in_ok-ended.ended told.0 told.1 c.tell-kept.new.hunt c.tell-kept.ensures.told (s.before + c.len.result) count
+    let count : s.before + c.len.result ≡ s.before + length (events_in s.run) = omega (arith, c.len.ensures) in
+    hunt_goes_on c.args.job.now s x c.in_ok-ended.ended told.0.0 told.1 c.tell-kept.new.hunt c.tell-kept.ensures.told (s.before + c.len.result) count
 
 pub begin-requires-clause-report : goal.begin-requires-clause-report
 begin-requires-clause-report c =
     let s = c.args.self in
     let x = c.requires.shrinking in
     let told = c.in_ok-ended.ensures (schedule x.next) x.run c.requires.over in
-    report_goes_on c.args.job.now s x c.in_ok-ended.ended told.0 c.tell-kept.new.hunt c.tell-kept.ensures.told c.tell-kept.result c.tell-kept.ensures.kept
+    report_goes_on c.args.job.now s x c.in_ok-ended.ended told.0.0 told.0.1 c.tell-kept.new.hunt c.tell-kept.ensures.told c.tell-kept.result c.tell-kept.ensures.kept
 
 pub returns : goal.returns
 returns c =
     let s = c.args.self in
     let x = c.requires.shrinking in
-    let count : s.before + c.len.result ≡ s.before + length s.run.events.items = omega (arith, c.len.ensures, s.run.events.ok.0) in
+    let count : s.before + c.len.result ≡ s.before + length (events_in s.run) = omega (arith, c.len.ensures) in
     let fewer = fewer_runs s.hunt x.next x.is_next (is_failure c.in_ok-ended.ended.verdict) in
     let left : runs_left c.tell-kept.new.hunt ≤ runs_left s.hunt - 1 = subst (λ h. runs_left h ≤ runs_left s.hunt - 1) (sym c.tell-kept.ensures.told) fewer in
     IfOk-weaker _ _ _ (follows_so c.args.job.now (s.before + c.len.result) (events_so_far s) (runs_left c.tell-kept.new.hunt) (runs_left s.hunt - 1) count left) c.begin.ensures

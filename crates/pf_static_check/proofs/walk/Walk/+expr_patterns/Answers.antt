@@ -12,7 +12,7 @@ expr_patterns-loop-part-init t c = record { underway = underway_first c.args.sel
 
 pub expr_patterns-loop-part-preserved : goal.expr_patterns-loop-part-preserved
 expr_patterns-loop-part-preserved t c =
-    let node_table = c.args.source.now.node_table in
+    let node_table = c.args.syntax.now.node_table in
     let parts = c.args.parts.now in
     let i = c.loop-part.part-index in
     let d : ExprPatternId = record { 0 = 0 } in
@@ -24,7 +24,7 @@ expr_patterns-loop-part-preserved t c =
 
 pub expr_patterns-returns : goal.expr_patterns-returns
 expr_patterns-returns t c =
-    let node_table = c.args.source.now.node_table in
+    let node_table = c.args.syntax.now.node_table in
     let parts = c.args.parts.now in
     expr_patterns_all c.args.self.now c.loop-part.self (expr_patterns_at node_table parts) (expr_patterns_at node_table (drop c.loop-part.part-index parts))
     (at_drop_all (λ qs. expr_patterns_at node_table qs) parts c.loop-part.part-index c.loop-part-test.false) c.loop-part.invariant.underway

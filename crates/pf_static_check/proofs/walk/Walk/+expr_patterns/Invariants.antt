@@ -6,17 +6,17 @@ use Rattle.pf_static_check.proofs.Passing.{ExprPatternsUnderway}
 use Rattle.pf_static_check.proofs.walk.Walk.+expr_patterns.Given as goal
 
 abbrev pub decreases-expr_pattern : goal.decreases-expr_pattern
-decreases-expr_pattern l = 3 * expr_pattern_depth (expr_pattern_at l.source.now.node_table l.id.0) + 1
+decreases-expr_pattern l = 3 * expr_pattern_depth (expr_pattern_at l.syntax.now.node_table l.id.0) + 1
 
 abbrev pub decreases-expr_pattern_node : goal.decreases-expr_pattern_node
-decreases-expr_pattern_node l = 3 * expr_pattern_depth (expr_pattern_over l.source.now.node_table l.node.now)
+decreases-expr_pattern_node l = 3 * expr_pattern_depth (expr_pattern_over l.syntax.now.node_table l.node.now)
 
 abbrev pub decreases-expr_patterns : goal.decreases-expr_patterns
-decreases-expr_patterns l = 3 * expr_patterns_depth (expr_patterns_at l.source.now.node_table l.parts.now) + 2
+decreases-expr_patterns l = 3 * expr_patterns_depth (expr_patterns_at l.syntax.now.node_table l.parts.now) + 2
 
 -- what was walked and what is left are the whole
 abbrev pub invariant-expr_patterns-loop-part : goal.invariant-expr_patterns-loop-part
 invariant-expr_patterns-loop-part l = record {
-  underway : ExprPatternsUnderway l.fn.self l.self (expr_patterns_at l.source.node_table l.parts) (expr_patterns_at l.source.node_table (drop l.part-index l.parts));
-  shallow : expr_patterns_depth (expr_patterns_at l.source.node_table (drop l.part-index l.parts)) ≤ expr_patterns_depth (expr_patterns_at l.source.node_table l.parts);
+  underway : ExprPatternsUnderway l.fn.self l.self (expr_patterns_at l.syntax.node_table l.parts) (expr_patterns_at l.syntax.node_table (drop l.part-index l.parts));
+  shallow : expr_patterns_depth (expr_patterns_at l.syntax.node_table (drop l.part-index l.parts)) ≤ expr_patterns_depth (expr_patterns_at l.syntax.node_table l.parts);
 }

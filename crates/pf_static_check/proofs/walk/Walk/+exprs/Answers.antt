@@ -23,8 +23,8 @@ condition-loop-alternative-init t c = record { underway = underway_first c.args.
 
 pub exprs-loop-part-preserved : goal.exprs-loop-part-preserved
 exprs-loop-part-preserved t c =
-    let n = names_of c.args.atoms.now c.args.source.now.functions in
-    let node_table = c.args.source.now.node_table in
+    let n = names_of c.args.atoms.now c.args.syntax.now.functions in
+    let node_table = c.args.syntax.now.node_table in
     let parts = c.args.parts.now in
     let i = c.loop-part.part-index in
     let d : ExprId = record { 0 = 0 } in
@@ -36,15 +36,15 @@ exprs-loop-part-preserved t c =
 
 pub exprs-returns : goal.exprs-returns
 exprs-returns t c =
-    let node_table = c.args.source.now.node_table in
+    let node_table = c.args.syntax.now.node_table in
     let parts = c.args.parts.now in
-    exprs_all (names_of c.args.atoms.now c.args.source.now.functions) c.args.self.now c.loop-part.self (exprs_at node_table parts) (exprs_at node_table (drop c.loop-part.part-index parts))
+    exprs_all (names_of c.args.atoms.now c.args.syntax.now.functions) c.args.self.now c.loop-part.self (exprs_at node_table parts) (exprs_at node_table (drop c.loop-part.part-index parts))
     (at_drop_all (λ qs. exprs_at node_table qs) parts c.loop-part.part-index c.loop-part-test.false) c.loop-part.invariant.underway
 
 pub condition-returns : goal.condition-returns
 condition-returns t c =
-    let n = names_of c.args.atoms.now c.args.source.now.functions in
-    let node_table = c.args.source.now.node_table in
+    let n = names_of c.args.atoms.now c.args.syntax.now.functions in
+    let node_table = c.args.syntax.now.node_table in
     let parts = c.deref-alternative-items.result.now in
     let i = c.loop-alternative.alternative-index in
     subst (λ (ts : List Tests). ConditionWalked n c.args.self.now c.loop-alternative.self (alternatives_at node_table ts)) c.deref-alternative-items.ensures.value
@@ -53,8 +53,8 @@ condition-returns t c =
 
 pub condition-loop-alternative-preserved : goal.condition-loop-alternative-preserved
 condition-loop-alternative-preserved t c =
-    let n = names_of c.args.atoms.now c.args.source.now.functions in
-    let node_table = c.args.source.now.node_table in
+    let n = names_of c.args.atoms.now c.args.syntax.now.functions in
+    let node_table = c.args.syntax.now.node_table in
     let parts = c.deref-alternative-items.result.now in
     let i = c.loop-alternative.alternative-index in
     let x = c.alternative-item.result in
@@ -68,8 +68,8 @@ condition-loop-alternative-preserved t c =
 
 pub branches-loop-branch-preserved : goal.branches-loop-branch-preserved
 branches-loop-branch-preserved t c =
-    let n = names_of c.args.atoms.now c.args.source.now.functions in
-    let node_table = c.args.source.now.node_table in
+    let n = names_of c.args.atoms.now c.args.syntax.now.functions in
+    let node_table = c.args.syntax.now.node_table in
     let parts = c.args.branches.now in
     let i = c.loop-branch.branch-index in
     let x = c.branch-item.result in
@@ -82,19 +82,19 @@ branches-loop-branch-preserved t c =
 
 pub branches-returns : goal.branches-returns
 branches-returns t c =
-    let node_table = c.args.source.now.node_table in
+    let node_table = c.args.syntax.now.node_table in
     let parts = c.args.branches.now in
     let i = c.loop-branch.branch-index in
     let now = c.loop-branch.self in
-    branches_all (names_of c.args.atoms.now c.args.source.now.functions) c.args.self.now now _ (branches_over node_table parts) (branches_over node_table (drop i parts))
+    branches_all (names_of c.args.atoms.now c.args.syntax.now.functions) c.args.self.now now _ (branches_over node_table parts) (branches_over node_table (drop i parts))
     (at_drop_all (λ qs. branches_over node_table qs) parts i c.loop-branch-test.false) c.loop-branch.invariant.underway refl
     (λ x. c.in_ok-set_since.ensures.set x ∙ ap (λ (k : ℕ). if has (drop k (trail_of now.variables)) x then Unsafe else status_of now.variables x) c.trail_len-start.ensures)
     c.in_ok-set_since.ensures.trail
 
 pub branch-returns : goal.branch-returns
 branch-returns t c =
-    let n = names_of c.args.atoms.now c.args.source.now.functions in
-    let node_table = c.args.source.now.node_table in
+    let n = names_of c.args.atoms.now c.args.syntax.now.functions in
+    let node_table = c.args.syntax.now.node_table in
     let now = c.exprs.new.self in
     let body = subst (λ (ids : List ExprId). ExprsWalked n c.condition.new.self now (exprs_at node_table ids)) c.deref.ensures.value c.in_ok-exprs.ensures in
     let b = c.args.branch.now in
@@ -104,8 +104,8 @@ branch-returns t c =
 
 pub tests-returns : goal.tests-returns
 tests-returns t c =
-    let n = names_of c.args.atoms.now c.args.source.now.functions in
-    let es = exprs_at c.args.source.now.node_table c.args.tests.now in
+    let n = names_of c.args.atoms.now c.args.syntax.now.functions in
+    let es = exprs_at c.args.syntax.now.node_table c.args.tests.now in
     let now = c.exprs.new.self in
     walks_back c.args.self.now now _ (λ g. after_all g es) (λ g. exprs_faults n g es) c.in_ok-exprs.ensures refl
     (λ x. c.in_ok-forget.ensures.set x ∙ ap (λ (k : ℕ). if has (drop k (trail_of now.variables)) x then New else status_of now.variables x) c.trail_len-start.ensures)
@@ -114,11 +114,11 @@ tests-returns t c =
 pub expr_node-returns-in_ok-exprs-in-Call : goal.expr_node-returns-in_ok-exprs-in-Call
 expr_node-returns-in_ok-exprs-in-Call t c =
     let atoms = c.args.atoms.now in
-    let fs = c.args.source.now.functions in
-    let node_table = c.args.source.now.node_table in
+    let fs = c.args.syntax.now.functions in
+    let node_table = c.args.syntax.now.node_table in
     let old = c.args.self.now in
     let new = c.exprs-in-Call.new.self in
-    let w = c.in-Call.word in
+    let w = c.in-Call.ident in
     let ids = c.in-Call.arguments in
     subst (λ (m : ExprNode). ExprWalked (names_of atoms fs) old new (expr_over node_table m)) (sym c.in-Call.is)
     (called atoms fs c.args.own.now node_table old c.call.new.self new w.name.0 w.offset c.len.result ids.items c.deref-in-Call.result.now c.requires (omega (arith, ids.ok.0)) c.deref-in-Call.ensures.value c.call.ensures

@@ -13,8 +13,8 @@ use Rattle.pf_static_check.proofs.walk.Walk.head.Goals as goal
 
 pub returns : goal.returns
 returns c =
-    let n = names_of c.args.atoms.now c.args.source.now.functions in
-    let node_table = c.args.source.now.node_table in
+    let n = names_of c.args.atoms.now c.args.syntax.now.functions in
+    let node_table = c.args.syntax.now.node_table in
     let now = c.exprs.new.self in
     let front = subst (λ (ids : List ExprPatternId). ExprPatternsWalked c.args.self.now c.expr_patterns.new.self (expr_patterns_at node_table ids)) c.deref.ensures.value c.in_ok-expr_patterns.ensures in
     let body = subst (λ (ids : List ExprId). ExprsWalked n c.condition.new.self now (exprs_at node_table ids)) c.deref-2.ensures.value c.in_ok-exprs.ensures in

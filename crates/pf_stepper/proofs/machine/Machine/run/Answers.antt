@@ -14,9 +14,9 @@ returns-clause-ran g c =
     let i = c.self.inside in
     let before : Standing → MachineView = λ x. record { own = i.own; code = module_of i.module.value; standing = standing_in i.module.value i.stack x } in
     let stood_so : before (stood.Goes c.in-Goes.focus) ≡ c.args.self.now = ap before c.in-Goes.ensures.value ∙ c.self.view_is in
-    let ran = rw c.deref.ensures at c.in_ok-advance.ensures in
-    let settled = rw c.deref-2.ensures at c.in_ok-stop.ensures.settled in
-    rw (← stood_so) (ran_so i.module.value i.own c.args.left _ _ c.in_ok-advance.used i.stack c.run.new.self c.settle.new.stack c.in-Goes.focus c.in_ok-advance.advance c.in_ok-stop.stop ran settled)
+    let ran = rw c.deref.ensures at c.in_ok-used.ensures in
+    let settled = rw c.deref-2.ensures at c.in_ok-settle.ensures.settled in
+    rw (← stood_so) (ran_so i.module.value i.own c.args.left _ _ c.in_ok-used.used i.stack c.run.new.self c.settle.new.stack c.in-Goes.focus c.run.new.advance c.settle.new.standing c.settle.new.did ran settled)
 
 pub settle-requires-clause-ready : goal.settle-requires-clause-ready
 settle-requires-clause-ready g c =
@@ -25,5 +25,5 @@ settle-requires-clause-ready g c =
     let before : Standing → MachineView = λ x. record { own = i.own; code = module_of i.module.value; standing = standing_in i.module.value i.stack x } in
     let stood_so : before (stood.Goes c.in-Goes.focus) ≡ c.args.self.now = ap before c.in-Goes.ensures.value ∙ c.self.view_is in
     let ahead = subst (IsReadyAhead ready) (sym stood_so) c.requires.ready in
-    let ran = rw c.deref.ensures at c.in_ok-advance.ensures in
-    rw c.deref-2.ensures (ready_to_settle ready i.module.value i.own c.args.left _ i.stack c.run.new.self c.in-Goes.focus c.in_ok-advance.advance ahead ran)
+    let ran = rw c.deref.ensures at c.in_ok-used.ensures in
+    rw c.deref-2.ensures (ready_to_settle ready i.module.value i.own c.args.left _ i.stack c.run.new.self c.in-Goes.focus c.run.new.advance ahead ran)

@@ -1,10 +1,9 @@
 use Rattle.std.proofs.Common.{◌≡◌, Bool, true, false, refl, sym, ap, ◌∙◌, subst, arith, length}
-use Rattle.std.proofs.lemmas.Result.{IfOk-weaker}
+use Rattle.std.proofs.lemmas.Result.{on_ok_weaker}
 use Rattle.pf_model.specs.Configuration.{Core, of, is_alive}
 use Rattle.pf_model.specs.Signals.{signal_of}
 use Rattle.pf_ties.specs.Ties as ties
-use Rattle.pf_system.specs.Placed.{ShowsAtEnded, ShowsAtLiving}
-use Rattle.pf_system.specs.Processes.{Delivered, Represents, Shown, core_of}
+use Rattle.pf_system.specs.Processes.{Represents, Shown, core_of}
 use Rattle.pf_system.specs.declared.processes.Processes.{Processes}
 use Rattle.pf_system.proofs.Shown.{rows_more}
 use Rattle.pf_system.proofs.Delivering.{shaped, ties_here, delivered_so, by_life}
@@ -32,13 +31,14 @@ returns-then-lives c =
     let w : Processes = c.args.self.now in
     let w1 : Processes = record w { shared = record w.shared { channels = c.deliver.new.self } } in
     let w2 : Processes = c.at_living.new.self in
+    let l = c.at_living.new.shown in
     let a = c.args.from in
     let b = c.args.to in
     let s = signal_of c.in-Some.signal in
     let k = core_of w in
     let t = alive_by w k b true c.requires.sound c.if-lives.ensures in
-    IfOk-weaker c.at_living.result (λ l. ShowsAtLiving a b s w1 l w2) (λ l. Delivered k a b w l w2)
-    (λ l h. delivered_so w w1 w2 k a b s l c.in-Some.ensures.delivered refl
+    on_ok_weaker c.at_living.result
+    (λ h. delivered_so w w1 w2 k a b s l c.in-Some.ensures.delivered refl
     (subst (λ d. Shown b d w1.shared.channels w1 l w2) (sym (by_life k a b s true t))
     (h k (taken_so w w1 k refl c.deliver.ensures.senders c.requires.sound) (sym t))))
     c.at_living.ensures
@@ -48,13 +48,14 @@ returns-else-lives c =
     let w : Processes = c.args.self.now in
     let w1 : Processes = record w { shared = record w.shared { channels = c.deliver.new.self } } in
     let w2 : Processes = c.at_ended.new.self in
+    let l = c.at_ended.new.shown in
     let a = c.args.from in
     let b = c.args.to in
     let s = signal_of c.in-Some.signal in
     let k = core_of w in
     let t = alive_by w k b false c.requires.sound c.if-lives.ensures in
-    IfOk-weaker c.at_ended.result (λ l. ShowsAtEnded a b s w1 l w2) (λ l. Delivered k a b w l w2)
-    (λ l h. delivered_so w w1 w2 k a b s l c.in-Some.ensures.delivered refl
+    on_ok_weaker c.at_ended.result
+    (λ h. delivered_so w w1 w2 k a b s l c.in-Some.ensures.delivered refl
     (subst (λ d. Shown b d w1.shared.channels w1 l w2) (sym (by_life k a b s false t))
     (h k (taken_so w w1 k refl c.deliver.ensures.senders c.requires.sound))))
     c.at_ended.ensures

@@ -1,5 +1,6 @@
 use Rattle.std.proofs.Common.{◌≡◌, ℕ, refl, sym, ap, ◌∙◌, List, map, length, slice_set}
 use Rattle.std.specs.Prelude.{Result, OnOk}
+use Rattle.std.specs.Vec.{with_item}
 use Rattle.std.proofs.lemmas.Result.{on_ok_weaker}
 use Rattle.pf_terms.specs.declared.term.Term.{Term}
 use Rattle.pf_model.specs.Channels.{Signal}
@@ -61,5 +62,8 @@ ended_so r w w1 w' a e m ss u none slots t k code even =
 
 pub returns : goal.returns
 returns c =
-    ended_so c.post.result c.args.self.now c.match-end.self _ c.args.pid c.args.end c.new.result (map sent_of c.match-end.signals.items) (untied c)
-    c.new.ensures.empty refl c.post.ensures.ties c.remove.ensures.removed refl (sym c.requires.ties) c.post.ensures.posted
+    let w1 = c.match-end.self in
+    let w' : Processes =
+    record w1 { slots = with_item w1.slots c.args.pid c.replace-before.new.dest; shared = c.post.new.self; ready = c.remove.new.self; spare = c.keep.new.self } in
+    ended_so c.post.result c.args.self.now w1 w' c.args.pid c.args.end c.new.result (map sent_of c.match-end.signals.items) (untied c)
+    c.new.ensures.empty (ap (slice_set w1.slots.items c.args.pid) c.replace-before.ensures.after) c.post.ensures.ties c.remove.ensures.removed refl (sym c.requires.ties) c.post.ensures.posted

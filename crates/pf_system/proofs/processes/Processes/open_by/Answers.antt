@@ -1,7 +1,7 @@
 use Rattle.std.proofs.Common.{◌≡◌, sym, subst, arith, length, IfOk}
 use Rattle.pf_model.specs.Contraction.{linking, unbound}
 use Rattle.pf_stepper.specs.Acts.{bond_of}
-use Rattle.pf_system.specs.Acts.{OpensProcess, Tells}
+use Rattle.pf_system.specs.Acts.{OpensProcess, Tells, answer}
 use Rattle.pf_system.proofs.processes.Processes.open_by.Goals as goal
 
 pub returns-in_ok-open-in-Unbound : goal.returns-in_ok-open-in-Unbound
@@ -9,18 +9,21 @@ returns-in_ok-open-in-Unbound c =
     let w = c.args.self.now in
     let r = w.shared.ties.next_reference in
     let n : c.len-pid.result ≡ length w.slots.items = omega (arith, c.len-pid.ensures) in
-    subst (λ b. OpensProcess (bond_of b) c.args.other w c.args.life c.told.result c.open.new.self) (sym c.in-Unbound.is)
-    (record { opens = c.in_ok-open-in-Unbound.ensures; tells = subst (λ z. Tells unbound z r c.told.result) n (c.told.ensures r) })
+    let told = answer c.told.result c.told.new.shown in
+    subst (λ b. OpensProcess (bond_of b) c.args.other w c.args.life told c.open.new.self) (sym c.in-Unbound.is)
+    (record { opens = c.in_ok-open-in-Unbound.ensures; tells = subst (λ z. Tells unbound z r told) n (c.told.ensures r) })
 
 pub returns-in_ok-open-in-Linking : goal.returns-in_ok-open-in-Linking
 returns-in_ok-open-in-Linking c =
     let w = c.args.self.now in
     let r = w.shared.ties.next_reference in
     let n : c.len-pid.result ≡ length w.slots.items = omega (arith, c.len-pid.ensures) in
-    subst (λ b. OpensProcess (bond_of b) c.args.other w c.args.life c.told-in-Linking.result c.open-in-Linking.new.self) (sym c.in-Linking.is)
-    (record { opens = c.in_ok-open-in-Linking.ensures; tells = subst (λ z. Tells linking z r c.told-in-Linking.result) n (c.told-in-Linking.ensures r) })
+    let told = answer c.told-in-Linking.result c.told-in-Linking.new.shown in
+    subst (λ b. OpensProcess (bond_of b) c.args.other w c.args.life told c.open-in-Linking.new.self) (sym c.in-Linking.is)
+    (record { opens = c.in_ok-open-in-Linking.ensures; tells = subst (λ z. Tells linking z r told) n (c.told-in-Linking.ensures r) })
 
 pub returns-in-Watching : goal.returns-in-Watching
 returns-in-Watching c =
     let w = c.args.self.now in
-    subst (λ b. IfOk c.open_watched.result (λ r. OpensProcess (bond_of b) c.args.other w c.args.life r c.open_watched.new.self)) (sym c.in-Watching.is) c.open_watched.ensures
+    subst (λ b. IfOk c.open_watched.result (λ v. OpensProcess (bond_of b) c.args.other w c.args.life (answer v c.open_watched.new.shown) c.open_watched.new.self))
+    (sym c.in-Watching.is) c.open_watched.ensures

@@ -1,11 +1,8 @@
-use Rattle.std.proofs.Common.{refl, sym, subst, IfOk}
-use Rattle.std.proofs.lemmas.Result.{IfOk-weaker}
+use Rattle.std.proofs.Common.{refl, sym, subst, OnOk}
+use Rattle.std.proofs.lemmas.Result.{on_ok_weaker}
 use Rattle.pf_model.specs.declared.report.Label.TheVariants as shown
-use Rattle.pf_stepper.specs.Acts.{act_of}
-use Rattle.pf_stepper.specs.declared.machine.Move.TheVariants as v
-use Rattle.pf_system.specs.Acts.{ShowsAct}
 use Rattle.pf_system.specs.Settled.{SettlesAs}
-use Rattle.pf_system.proofs.Lasts.{settles_cut, settles_take, settles_act, settles_wait, settles_end}
+use Rattle.pf_system.proofs.Lasts.{settles_cut, settles_take, settles_act, settles_wait}
 use Rattle.pf_system.proofs.processes.Processes.settle.Goals as goal
 
 pub returns-in-Pure : goal.returns-in-Pure
@@ -15,8 +12,9 @@ pub returns-in-Action : goal.returns-in-Action
 returns-in-Action c =
     let w = c.args.self.now in
     let w1 = c.act.new.self in
-    subst (λ x. IfOk c.act.result (λ l. SettlesAs c.args.pid x w l w1)) (sym c.in-Action.is)
-    (IfOk-weaker c.act.result (λ l. ShowsAct c.args.pid (act_of c.in-Action.act) w l w1) (λ l. SettlesAs c.args.pid (v.Action c.in-Action.act) w l w1) (λ l h. settles_act c.args.pid c.in-Action.act w w1 l h) c.act.ensures)
+    let l = c.act.new.shown in
+    subst (λ x. OnOk c.act.result (SettlesAs c.args.pid x w l w1)) (sym c.in-Action.is)
+    (on_ok_weaker c.act.result (λ h. settles_act c.args.pid c.in-Action.act w w1 l h) c.act.ensures)
 
 pub returns-in-Take : goal.returns-in-Take
 returns-in-Take c =
@@ -28,9 +26,7 @@ returns-in-Wait c =
     let w = c.args.self.now in
     subst (λ x. SettlesAs c.args.pid x w shown.Waits c.wait.new.self) (sym c.in-Wait.is) (settles_wait c.args.pid w c.wait.new.self shown.Waits refl c.wait.ensures)
 
-pub returns-in_ok-end-in-End : goal.returns-in_ok-end-in-End
-returns-in_ok-end-in-End c =
+pub returns-in-End : goal.returns-in-End
+returns-in-End c =
     let w = c.args.self.now in
-    let w1 = c.end.new.self in
-    subst (λ x. SettlesAs c.args.pid x w c.in_ok-label-in-End.label w1) (sym c.in-End.is)
-    (settles_end c.args.pid c.in-End.end w w1 c.in_ok-label-in-End.label c.in_ok-label-in-End.ensures c.in_ok-end-in-End.ensures)
+    subst (λ x. OnOk c.finish.result (SettlesAs c.args.pid x w c.finish.new.shown c.finish.new.self)) (sym c.in-End.is) c.finish.ensures

@@ -32,7 +32,7 @@ settle-requires-clause-shaped c =
     let w = c.args.self.now in
     let s = c.index_mut-slot.result.now in
     let l = slot_there w (core_of w) c.args.pid c.requires.sound c.requires.enabled in
-    let w1 : Processes = record w { slots = with_item w.slots c.args.pid c.run.new.self; pool = c.run.new.pool } in
+    let w1 : Processes = record w { slots = with_item w.slots c.args.pid c.run.new.self; spare = record w.spare { pool = c.run.new.pool } } in
     still_shaped w (core_of w) c.args.pid s c.requires.sound (slice_get_read w.slots.items _ c.args.pid s refl l c.index_mut-slot.ensures.value)
     w1 c.run.new.self refl refl refl
 
@@ -43,11 +43,11 @@ settle-requires-clause-can c =
     let s = c.index_mut-slot.result.now in
     let l = slot_there w (core_of w) a c.requires.sound c.requires.enabled in
     let at = slice_get_read w.slots.items _ a s refl l c.index_mut-slot.ensures.value in
-    let r = c.in_ok-stop.ensures (module_in w) a (slot_sound w (core_of w) a s c.requires.sound at) in
+    let r = c.in_ok-used.ensures (module_in w) a (slot_sound w (core_of w) a s c.requires.sound at) in
     record {
       slot = c.run.new.self;
       at = get_set a w.slots.items c.run.new.self l;
-      asks = asks_for (module_in w) a c.args.left c.in_ok-stop.used s c.run.new.self c.in_ok-stop.stop r;
+      asks = asks_for (module_in w) a c.args.left c.in_ok-used.used s c.run.new.self c.run.new.did r;
     }
 
 pub returns : goal.returns
@@ -58,7 +58,7 @@ returns c =
     let s1 = c.run.new.self in
     let l = slot_there w (core_of w) a c.requires.sound c.requires.enabled in
     let at = slice_get_read w.slots.items _ a s refl l c.index_mut-slot.ensures.value in
-    let r = c.in_ok-stop.ensures (module_in w) a (slot_sound w (core_of w) a s c.requires.sound at) in
-    let w1 : Processes = record w { slots = with_item w.slots a s1; pool = c.run.new.pool } in
-    turned w w1 c.settle.new.self (core_of w) a c.args.left c.in_ok-stop.used s s1 c.in_ok-stop.stop c.in_ok-label.label c.requires.sound c.requires.enabled
-    at r refl refl refl refl c.in_ok-label.ensures
+    let r = c.in_ok-used.ensures (module_in w) a (slot_sound w (core_of w) a s c.requires.sound at) in
+    let w1 : Processes = record w { slots = with_item w.slots a s1; spare = record w.spare { pool = c.run.new.pool } } in
+    turned w w1 c.settle.new.self (core_of w) a c.args.left c.in_ok-used.used s s1 c.run.new.did c.settle.new.shown c.requires.sound c.requires.enabled
+    at r refl refl refl refl c.in_ok-settle.ensures

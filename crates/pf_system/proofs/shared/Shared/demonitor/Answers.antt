@@ -1,4 +1,5 @@
 use Rattle.std.proofs.Common.{ap, ◌∙◌}
+use Rattle.pf_system.specs.Acts.{answer}
 use Rattle.pf_system.proofs.Acting.{demonitors_so, sent_to, sent_to_none}
 use Rattle.pf_system.proofs.shared.Shared.demonitor.Goals as goal
 use Rattle.pf_system.proofs.shared.Shared.demonitor.Goals.{in-Some+in_ok-send, in_default}
@@ -10,7 +11,7 @@ returns c =
     let h = c.demonitor.ensures in
     let o = c.demonitor.result in
     let b' = c.match-demonitor.self in
-    let done = demonitors_so c.args.pid b b' c.giving_true.result k c.args.flushes o h.was in
+    let done = demonitors_so c.args.pid b b' (answer c.giving_true.result c.giving_true.new.shown) k c.args.flushes o h.was in
     elim c.match-demonitor.branch [
       | in-Some+in_ok-send w ↦
           done (ap (λ z. z.ties) w.self-is ∙ h.demonitored)

@@ -6,13 +6,13 @@ use Rattle.pf_system.proofs.shared.Shared.set_flag.Goals as goal
 pub returns-in_default : goal.returns-in_default
 returns-in_default c =
     let b = c.args.self.now in
-    setting_refused c.args.pid b b c.raising.result (value_of c.args.flag) (value_of c.args.setting) (sym c.truth_of.ensures ∙ c.in_default.is)
+    setting_refused c.args.pid b b _ (value_of c.args.flag) (value_of c.args.setting) (sym c.truth_of.ensures ∙ c.in_default.is)
     c.raising.ensures refl
 
 pub returns-then-not-equal : goal.returns-then-not-equal
 returns-then-not-equal c =
     let b = c.args.self.now in
-    flag_refused c.args.pid b b c.raising-then-not-equal.result (value_of c.args.flag) (value_of c.args.setting) c.in-Some.traps
+    flag_refused c.args.pid b b _ (value_of c.args.flag) (value_of c.args.setting) c.in-Some.traps
     (sym c.truth_of.ensures ∙ c.in-Some.is) (sym c.equal.ensures ∙ c.if-not-equal.true) c.raising-then-not-equal.ensures refl
 
 pub returns : goal.returns

@@ -1,4 +1,4 @@
-use Rattle.std.proofs.Common.{◌≡◌, ◌+◌, Some, sym, subst, arith}
+use Rattle.std.proofs.Common.{◌+◌, Some, sym, subst, arith}
 use Rattle.pf_model.specs.Module.{module_of}
 use Rattle.pf_model.specs.Runs.{channel}
 use Rattle.pf_model.specs.Reports.{label_of}
@@ -23,8 +23,8 @@ overflow_add-self c =
 
 pub invariant_of-self-2 : goal.invariant_of-self-2
 invariant_of-self-2 c e =
-    still_kept (module_of c.self.inside.module.value) c.self.inside.processes c.deliver.new.self c.args.from c.args.to c.in_ok-label.label
-    (c.self.invariant c.if-self.false) c.in_ok-label.ensures
+    still_kept (module_of c.self.inside.module.value) c.self.inside.processes c.deliver.new.self c.args.from c.args.to c.deliver.new.shown
+    (c.self.invariant c.if-self.false) c.in_ok-deliver.ensures
 
 pub returns-clause-passed : goal.returns-clause-passed
 returns-clause-passed c =
@@ -33,7 +33,7 @@ returns-clause-passed c =
     let d = configuration_of f.processes in
     let e = configuration_of c.deliver.new.self in
     let x = channel c.args.from c.args.to in
-    let l = label_of c.in_ok-label.label in
+    let l = label_of c.deliver.new.shown in
     subst (λ s. PassesTo 1 s x l 1 (view_of_system m (f.steps + 1) (Some e)))
     (sym (unspent c.args.self.now m f.steps f.spent d c.self.view_is c.if-self.false))
-    (delivery_passes m f.processes c.deliver.new.self f.steps c.args.from c.args.to c.in_ok-label.label c.in_ok-label.ensures)
+    (delivery_passes m f.processes c.deliver.new.self f.steps c.args.from c.args.to c.deliver.new.shown c.in_ok-deliver.ensures)

@@ -26,12 +26,12 @@ turn-requires-clause-left c = let h = rw (← c.self.view_is) at c.requires.left
 pub overflow_add-self : goal.overflow_add-self
 overflow_add-self c =
     let h = rw (← c.self.view_is) at c.requires.left in
-    omega (arith, h, c.in_ok-label.ensures.within, c.ranges.limit.fits)
+    omega (arith, h, c.in_ok-used.ensures.within, c.ranges.limit.fits)
 
 pub invariant_of-self-2 : goal.invariant_of-self-2
 invariant_of-self-2 c e =
     turn_kept (module_of c.self.inside.module.value) c.self.inside.processes c.turn.new.self (core_of c.self.inside.processes) c.args.pid
-    (c.args.limit - c.self.inside.steps) c.in_ok-label.used c.in_ok-label.label (c.self.invariant c.if-self.false) c.in_ok-label.ensures
+    (c.args.limit - c.self.inside.steps) c.in_ok-used.used c.turn.new.shown (c.self.invariant c.if-self.false) c.in_ok-used.ensures
 
 pub returns-clause-passed : goal.returns-clause-passed
 returns-clause-passed c =
@@ -40,10 +40,10 @@ returns-clause-passed c =
     let w' : Processes = c.turn.new.self in
     let k = c.self.inside.steps in
     let x = process c.args.pid in
-    let u = c.in_ok-label.used in
+    let u = c.in_ok-used.used in
     let n = c.args.limit in
-    let l = label_of c.in_ok-label.label in
+    let l = label_of c.turn.new.shown in
     let v : c.args.self.now ≡ view_of_system m k (Some (configuration_of w)) =
     sym c.self.view_is ∙ ap (λ t. view_of_system m k (unless_spent t (configuration_of w))) c.if-self.false in
     subst (λ s. PassesTo (n - s.steps) s x l u (view_of_system m (k + u) (Some (configuration_of w')))) (sym v)
-    (turn_passes m w w' k c.args.pid (n - k) u c.in_ok-label.label (c.self.invariant c.if-self.false) c.in_ok-label.ensures)
+    (turn_passes m w w' k c.args.pid (n - k) u c.turn.new.shown (c.self.invariant c.if-self.false) c.in_ok-used.ensures)

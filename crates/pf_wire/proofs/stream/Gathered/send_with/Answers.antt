@@ -1,17 +1,8 @@
-use Rattle.std.proofs.Common.{Result, Ok, Err}
-use Rattle.std.specs.Prelude.{OnErr}
-use Rattle.std.proofs.lemmas.Result.{on_ok_weaker}
+use Rattle.std.proofs.lemmas.Result.{on_err_weaker, on_ok_weaker}
 use Rattle.pf_terms.proofs.Writes.{appends_both}
+use Rattle.pf_wire.proofs.Adding.{at_err}
 use Rattle.pf_wire.proofs.Leaving.{front_of_both, front_of_more}
 use Rattle.pf_wire.proofs.stream.Gathered.send_with.Goals as goal
-
-at_err : {T E P : Type 0} (r : Result T E) → P → OnErr r P
-at_err (Ok x) h = tt
-at_err (Err e) h = h
-
-at_err_weaker : {T E P Q : Type 0} (r : Result T E) → (P → Q) → OnErr r P → OnErr r Q
-at_err_weaker (Ok x) f h = tt
-at_err_weaker (Err e) f h = f h
 
 pub returns-in_err-send-clause-front : goal.returns-in_err-send-clause-front
 returns-in_err-send-clause-front g c = at_err c.from_residual.result (front_of_more _ _ c.args.self.now.text.items c.args.text.now c.in_err-send.ensures.front)
@@ -24,4 +15,4 @@ returns-clause-sent g c =
 pub returns-clause-front : goal.returns-clause-front
 returns-clause-front g c =
     let first = c.in_ok-send.ensures.sent in
-    at_err_weaker c.put.result (λ h. front_of_both _ _ _ c.args.self.now.text.items c.args.text.now first.0 h) c.put.ensures.front
+    on_err_weaker c.put.result (λ h. front_of_both _ _ _ c.args.self.now.text.items c.args.text.now first.0 h) c.put.ensures.front

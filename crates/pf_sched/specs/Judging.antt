@@ -1,0 +1,13 @@
+-- What a job that is one run comes to, but for its events.
+use Rattle.std.specs.Prelude.{◌≡◌}
+use Rattle.pf_model.specs.Meaning.{Job, Means, Report}
+use Rattle.pf_model.specs.Reports.{outcome_of}
+use Rattle.pf_sched.specs.declared.whole.Judged.{Judged}
+
+-- a report has this outcome and this verdict
+abbrev pub IsJudged : Report → Judged → Type 0
+IsJudged r v = (r.outcome ≡ outcome_of v.outcome) × (r.verdict ≡ v.verdict)
+
+-- they are those of the report that a job means
+abbrev pub Judges : Job → Judged → Type 0
+Judges j v = (r : Report) × Means j r × IsJudged r v

@@ -1,0 +1,36 @@
+-- Traces: what is told of a run as it happens.
+use Rattle.std.specs.Prelude.{◌≡◌, ℕ, Bool, List, [], ◌∷◌, ◌++◌, map}
+use Rattle.std.specs.Global.{Vec}
+use Rattle.pf_terms.specs.Atoms.{name_of}
+use Rattle.pf_model.specs.Labels.{Label}
+use Rattle.pf_model.specs.Meaning as meaning
+use Rattle.pf_model.specs.Meaning.{Job}
+use Rattle.pf_model.specs.Properties.{Property, some_label}
+use Rattle.pf_model.specs.Reports.{event_of}
+use Rattle.pf_model.specs.Runs.{Actor}
+use Rattle.pf_model.specs.declared.report.Event.{Event}
+use Rattle.pf_property.specs.Judging.{rules_out}
+use Rattle.pf_property.specs.Views.{labels_in, property_of}
+use Rattle.pf_trace.specs.Written.{AreWrittenSoFar, told_so_far}
+use Rattle.pf_sched.specs.declared.trace.Writer.{Writer}
+
+abbrev pub event : (choice count : ℕ) → Actor → Label → meaning.Event
+event i n x l = record { choice = i; count = n; actor = x; label = l }
+
+-- a trace was told one event more of a job's run, behind all that it was told before
+abbrev pub Hears : {T : Type 0} (Told : T → Job → List meaning.Event → Type 0) → T → meaning.Event → T → Type 0
+Hears Told t e u = (j : Job) (es : List meaning.Event) → Told t j es → Told u j (es ++ e ∷ [])
+
+-- a list has all events
+abbrev pub Lists : Vec Event → Job → List meaning.Event → Type 0
+Lists es j told = map event_of es.items ≡ told
+
+-- of a property, which is that of the job, it is known whether the label of an event rules it out
+abbrev pub Decides : (of : Property) → Bool → Job → List meaning.Event → Type 0
+Decides p b j told = (p ≡ j.property) × (b ≡ some_label (rules_out j.property) (labels_in told))
+
+-- all events are written, a line each, by the names of the job's module, and it is known whether the label of one rules the property out
+abbrev pub Writes : Writer → Job → List meaning.Event → Type 0
+Writes w j told =
+    Decides (property_of w.property.now) w.written.ruled_out j told × (w.atoms.now ≡ j.code.atoms)
+    × (told_so_far w.written.lines ≡ told) × AreWrittenSoFar (name_of w.atoms.now) w.written.lines

@@ -1,0 +1,170 @@
+//! A run as far as it came, transition by transition, without its trace.
+
+ghost use Rattle.std.specs.Prelude.{◌≡◌, ◌<◌, ◌-◌, [], length, IfOk, MatchBool, OnOk, Some};
+ghost use Rattle.rand_pcg.specs.Pcg.{pcg32};
+ghost use Rattle.pf_choice.specs.Choices.{Chooses};
+ghost use Rattle.pf_model.specs.Configuration.{Configuration};
+ghost use Rattle.pf_model.specs.Meaning as model;
+ghost use Rattle.pf_model.specs.Reports.{actor_of, label_of};
+ghost use Rattle.pf_model.specs.Runs.{Stops};
+ghost use Rattle.pf_system.specs.Steps.{IsNoteOf, MayGo, PassesTo, noted};
+ghost use Rattle.pf_sched.specs.Parts.{Executes};
+ghost use Rattle.pf_sched.specs.Slices.{Continues, IsComplete};
+ghost use Rattle.pf_sched.specs.Traces.{Makes, MayHaveGone, heads_in, ready_in};
+
+use crate::job::Job;
+use crate::scratch::Scratch;
+use crate::trace::Trace;
+use pf_choice::Choices;
+use pf_model::report::{Actor, Label};
+use pf_system::{Enabled, Spare, System};
+use pf_terms::NoMemory;
+use std::alloc::Global;
+
+/// A run as far as it came: its processes and signals, and its next choices. Its events are told to a trace.
+#[derive(Drop)]
+pub(crate) struct Execution {
+    pub system: System,
+    pub choices: Choices,
+}
+
+/// What an actor does that may go, within the limit of steps: how many steps it used; what it shows is written.
+fn pass(
+    alloc: Global,
+    system: &mut System,
+    actor: Actor,
+    limit: u32,
+    shown: &mut Label,
+) -> Result<u32, NoMemory>
+    requires enabled { MayGo (actor_of actor) system.old.standing }
+    requires left { system.old.steps < limit }
+    ensures { IfOk result (λ used.
+        PassesTo (limit - system.old.steps) system.old (actor_of actor) (label_of shown.new) used system.new) }
+{
+    match actor {
+        Actor::Process(pid) => system.turn(alloc, pid, limit, shown),
+        Actor::Channel { from, to } => {
+            system.deliver(alloc, from, to, limit, shown)?;
+            Ok(1)
+        }
+    }
+}
+
+/// Which of the actors that may go the next word chooses, from 0 on. A word is drawn if there is but one, too.
+fn choose(choices: &mut Choices, enabled: &Enabled<'_>) -> usize
+    requires { 0 < length (noted enabled.now) }
+    ensures chooses { (c : Configuration) → IsNoteOf enabled.now c
+        → Chooses pcg32 choices.old (ready_in c) (heads_in c) result choices.new }
+    ensures one { result < length (noted enabled.now) }
+{
+    choices.next_of(enabled.processes(), enabled.channels())
+}
+
+/// Whether a run is over where its system stands: nobody may go, or no step is left.
+fn is_over(system: &System, limit: u32) -> bool
+    ensures { (c : Configuration) → system.now.standing ≡ Some c
+        → MatchBool result (Stops (limit - system.now.steps) c) (Stops (limit - system.now.steps) c → ⊥) }
+{
+    system.steps() >= limit || system.enabled().len() == 0
+}
+
+impl Execution {
+    /// The run of a job by these choices, before its first event, in what others left behind.
+    pub fn new(
+        alloc: Global,
+        job: &Job,
+        choices: Choices,
+        spare: Spare,
+    ) -> Result<Execution, NoMemory>
+        ensures { (cs : model.Choices) → Makes cs choices
+            → IfOk result (λ x. Executes job.now cs [] x) }
+    {
+        Ok(Execution {
+            system: System::new_in(alloc, job.module(), job.root, job.edition(), spare)?,
+            choices,
+        })
+    }
+
+    /// The transition of the actor that the next word chooses, within the limit of steps, of which the trace is told; whether there was
+    /// one, since nobody may go else. `shown` is room for what it shows.
+    fn go<T: Trace>(
+        &mut self,
+        alloc: Global,
+        limit: u32,
+        shown: &mut Label,
+        trace: &mut T,
+    ) -> Result<bool, NoMemory>
+        requires { self.old.system.steps < limit }
+        ensures { IfOk result (λ went. (c : Configuration) → self.old.system.standing ≡ Some c
+            → MayHaveGone T.Told (limit - self.old.system.steps) c self.old trace.old went self.new trace.new) }
+    {
+        let enabled = self.system.enabled();
+        let among = enabled.len();
+        if among == 0 {
+            return Ok(false);
+        }
+        let index = choose(&mut self.choices, &enabled);
+        let actor = enabled.actor(index);
+        pass(alloc, &mut self.system, actor, limit, shown)?;
+        trace.tell(index as u32, among as u32, actor, shown)?;
+        Ok(true)
+    }
+
+    /// Goes on by n events, or fewer if the run is over before; whether it is over then.
+    fn advance<T: Trace>(
+        &mut self,
+        alloc: Global,
+        limit: u32,
+        turns: u32,
+        trace: &mut T,
+    ) -> Result<bool, NoMemory>
+        ensures { IfOk result (Continues T.Told limit self.old trace.old self.new trace.new turns) }
+    {
+        let mut shown = Label::Waits;
+        for _ in 0..turns {
+            if self.system.steps() >= limit {
+                return Ok(true);
+            }
+            if !self.go(alloc, limit, &mut shown, trace)? {
+                return Ok(true);
+            }
+        }
+        Ok(is_over(&self.system, limit))
+    }
+
+    /// The same with what a scratch keeps, of which what is spare then comes back to it.
+    pub fn go_on<T: Trace>(
+        &mut self,
+        alloc: Global,
+        limit: u32,
+        scratch: &mut Scratch,
+        turns: u32,
+        trace: &mut T,
+    ) -> Result<bool, NoMemory>
+        ensures { IfOk result (Continues T.Told limit self.old trace.old self.new trace.new turns) }
+    {
+        self.system.put_spare(scratch.take_spare(alloc));
+        let went = self.advance(alloc, limit, turns, trace);
+        scratch.put_spare(self.system.take_spare(alloc));
+        went
+    }
+
+    /// Goes on with a run of a job from its first event to its end, by whichever choices: each of its events is a step at least, so it is
+    /// over after as many events as the limit has steps.
+    pub fn complete<T: Trace>(
+        &mut self,
+        alloc: Global,
+        job: &Job,
+        trace: &mut T,
+    ) -> Result<(), NoMemory>
+        requires first { (cs : model.Choices) × Executes job.now cs [] self.old }
+        requires told { T.Told trace.old job.now.asked [] }
+        ensures { OnOk result ((cs : model.Choices) → Executes job.now cs [] self.old
+            → IsComplete T.Told job.now cs self.new trace.new) }
+    {
+        if !self.advance(alloc, job.limit(), job.limit(), trace)? {
+            unreachable!();
+        }
+        Ok(())
+    }
+}

@@ -1,0 +1,174 @@
+//! Who is told of a run as it happens.
+
+ghost use Rattle.std.specs.Prelude.{◌≡◌, ◌||◌, ℕ, List, [], false, OnOk};
+ghost use Rattle.pf_model.specs.Meaning as model;
+ghost use Rattle.pf_model.specs.Reports.{actor_of, event_of, label_of};
+ghost use Rattle.pf_property.specs.Judging.{rules_out};
+ghost use Rattle.pf_property.specs.Views.{property_of};
+ghost use Rattle.pf_trace.specs.Written.{AreWrittenSoFar, told_so_far};
+ghost use Rattle.pf_sched.specs.Told.{Decides, Hears, Lists, Writes, event};
+
+use crate::job::Job;
+use pf_model::report::{Actor, Event, Label};
+use pf_property::Property;
+use pf_terms::{AtomTable, NoMemory};
+use pf_trace::LinesSoFar;
+use std::alloc::Global;
+use std::mem;
+
+/// Is told the events of a run as they happen.
+pub(crate) trait Trace {
+    /// It was told these events, in their order, and knows of them what it has to for a run of this job.
+    ghost Told: { Self → model.Job → List model.Event → Type 0 };
+
+    /// Is told one event more: of `count` actors that might go number `choice` went, and showed this. It may take the label.
+    fn tell(
+        &mut self,
+        choice: u32,
+        count: u32,
+        actor: Actor,
+        shown: &mut Label,
+    ) -> Result<(), NoMemory>
+        ensures { OnOk result
+            (Hears Told self.old (event choice count (actor_of actor) (label_of shown.old)) self.new) };
+}
+
+/// The events themselves.
+impl Trace for Vec<Event> {
+    ghost Told = { Lists };
+
+    fn tell(
+        &mut self,
+        choice: u32,
+        count: u32,
+        actor: Actor,
+        shown: &mut Label,
+    ) -> Result<(), NoMemory> {
+        let label = mem::replace(shown, Label::Waits);
+        self.push(Event {
+            choice,
+            count,
+            actor,
+            label,
+        })?;
+        Ok(())
+    }
+}
+
+/// What a verdict needs of the events, of which none is kept: whether the label of one rules the property out.
+#[derive(Drop)]
+pub(crate) struct Seen<'a> {
+    property: &'a Property,
+    pub ruled_out: bool,
+}
+
+impl<'a> Seen<'a> {
+    /// No event.
+    pub fn new(property: &'a Property) -> Seen<'a>
+        ensures property { result.property.now ≡ property.now }
+        ensures none { result.ruled_out ≡ false }
+    {
+        Seen {
+            property,
+            ruled_out: false,
+        }
+    }
+}
+
+impl Trace for Seen<'_> {
+    ghost Told = { λ s. Decides (property_of s.property.now) s.ruled_out };
+
+    fn tell(
+        &mut self,
+        _choice: u32,
+        _count: u32,
+        _actor: Actor,
+        shown: &mut Label,
+    ) -> Result<(), NoMemory> {
+        self.ruled_out = self.ruled_out || self.property.rules_out(shown);
+        Ok(())
+    }
+}
+
+/// What is written of the events of a run, of which none is kept: their lines, and whether the label of one rules the property out.
+#[derive(Drop)]
+pub(crate) struct Written {
+    pub lines: LinesSoFar,
+    pub ruled_out: bool,
+}
+
+impl Written {
+    /// No event.
+    pub fn new(alloc: Global) -> Written
+        ensures none { told_so_far result.lines ≡ [] }
+        ensures written { (name : ℕ → List ℕ) → AreWrittenSoFar name result.lines }
+        ensures clear { result.ruled_out ≡ false }
+    {
+        Written {
+            lines: LinesSoFar::new(alloc),
+            ruled_out: false,
+        }
+    }
+
+    /// Keeps whether a label rules a property out, if none before did.
+    fn see(&mut self, property: &Property, label: &Label)
+        ensures { self.new ≡ record self.old {
+          ruled_out = self.old.ruled_out || rules_out (property_of property.now) (label_of label.now);
+        } }
+    {
+        self.ruled_out = self.ruled_out || property.rules_out(label);
+    }
+}
+
+/// Writes the events of a job's run.
+#[derive(Drop)]
+pub(crate) struct Writer<'a> {
+    property: &'a Property,
+    atoms: &'a AtomTable,
+    pub written: Written,
+}
+
+impl<'a> Writer<'a> {
+    /// Goes on with what is written so far.
+    pub fn new(job: &'a Job, written: Written) -> Writer<'a>
+        ensures property { property_of result.property.now ≡ job.now.asked.property }
+        ensures atoms { result.atoms.now ≡ job.now.asked.code.atoms }
+        ensures written { result.written ≡ written }
+    {
+        Writer {
+            property: &job.property,
+            atoms: job.module().atoms(),
+            written,
+        }
+    }
+
+    /// Writes the line of an event, and keeps whether its label rules the property out.
+    fn add(&mut self, told: &Event) -> Result<(), NoMemory>
+        ensures { OnOk result (Hears Writes self.old (event_of told.now) self.new) }
+    {
+        self.written.lines.add(self.atoms, told)?;
+        self.written.see(self.property, &told.label);
+        Ok(())
+    }
+}
+
+impl Trace for Writer<'_> {
+    ghost Told = { Writes };
+
+    fn tell(
+        &mut self,
+        choice: u32,
+        count: u32,
+        actor: Actor,
+        shown: &mut Label,
+    ) -> Result<(), NoMemory> {
+        let label = mem::replace(shown, Label::Waits);
+        let told = Event {
+            choice,
+            count,
+            actor,
+            label,
+        };
+        self.add(&told)
+    }
+}

@@ -1,0 +1,22 @@
+-- Runs are of the jobs of their trials.
+use Rattle.std.specs.Prelude.{ℕ, List, Option, All, IfSome}
+use Rattle.pf_desks.specs.Jobs.{IsTicketOf}
+use Rattle.pf_desks.specs.World.{World, desk_at}
+use Rattle.pf_worlds.specs.Workshop.{RunProfile, ClaimedRun, Workshop, new_workshop}
+use Rattle.pf_worlds.specs.Chores.{Response}
+use Rattle.pf_worlds.specs.Steps.{WorkshopStep}
+use Rattle.pf_worlds.specs.Memory.{RespondsInTurn}
+
+-- the ticket of a run was given for the run's job: its trial, if it is held yet, is of that job
+abbrev pub IsOfTrial : World → ClaimedRun → Type 0
+IsOfTrial w r = IsTicketOf (desk_at r.project w) r.ticket r.job
+
+-- each run that a worker holds or has parked is of the job of its trial
+abbrev pub RunsAreOfTrials : Workshop → Type 0
+RunsAreOfTrials s = All (λ h. IfSome h (IsOfTrial s.desks)) s.hands × All (All (IsOfTrial s.desks)) s.deques
+
+-- whatever steps there are, and wherever growths are refused, the runs are of the jobs of their trials
+abbrev pub JobsAmongWorkers : Type 0
+JobsAmongWorkers =
+    (p : RunProfile) (n : ℕ) (xs : List WorkshopStep) (ans : List (Option Response)) (s : Workshop)
+    → RespondsInTurn p (new_workshop n) xs ans s → RunsAreOfTrials s
