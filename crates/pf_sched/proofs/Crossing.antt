@@ -73,7 +73,7 @@ shrinking_field_send : IsSend (Shrinking.the_field).row
 shrinking_field_send = search (hunt_send, run_field_send, written_report_send, sendable) depth 30
 
 work_field_send : IsSend (Work.the_field).row
-work_field_send = search (run_field_send, shrinking_field_send, sendable) depth 30
+work_field_send = search (run_field_send, shrinking_field_send, heap.crosses, sendable) depth 30
 
 pub parked_send : IsSend Parked.the_row
 parked_send = search (job_send, job_sync, work_field_send, heap.crosses, sendable) depth 30

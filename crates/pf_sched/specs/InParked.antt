@@ -9,16 +9,16 @@ use Rattle.pf_sched.specs.Parts.{IsRunOf, IsShrinkingOf, events_in, events_so_fa
 
 -- the events so far
 abbrev pub at_of : Work → ℕ
-at_of (work.Run run) = length (events_in run)
-at_of (work.Shrinking shrinking) = events_so_far shrinking
+at_of (work.Run run) = length (events_in run.value)
+at_of (work.Shrinking shrinking) = events_so_far shrinking.value
 
 abbrev pub parked_in : parked.Inside → ParkedView
 parked_in p = view_of_parked p.job.value (at_of p.work)
 
 -- it is the run of the job, or its shrinking
 abbrev pub IsWorkOf : Job → Work → Type 0
-IsWorkOf j (work.Run run) = IsRunOf j run
-IsWorkOf j (work.Shrinking shrinking) = IsShrinkingOf j shrinking
+IsWorkOf j (work.Run run) = IsRunOf j run.value
+IsWorkOf j (work.Shrinking shrinking) = IsShrinkingOf j shrinking.value
 
 abbrev pub IsAtWork : parked.Inside → Type 0
 IsAtWork p = IsWorkOf p.job.value p.work

@@ -17,11 +17,11 @@ use std::alloc::Global;
 use std::marker::Model;
 use std::sync::Arc;
 
-/// What a job goes on with: its run, or its shrinking.
+/// What a job goes on with: its run, or its shrinking. Each stands in a block of its own, so a parked job is moved at the cost of a few words.
 #[derive(Drop)]
 pub(crate) enum Work {
-    Run(Run),
-    Shrinking(Shrinking),
+    Run(Box<Run>),
+    Shrinking(Box<Shrinking>),
 }
 
 /// A job, as far as it came. Contracts see the job and how many events it had so far: those of its run, or of all runs of its shrinking.
@@ -61,13 +61,14 @@ fn first_work(alloc: Global, job: &Job) -> Result<Work, NoMemory>
     ensures valid { OnOk result (IsValid job.now) }
 {
     match &job.kind {
-        Kind::Run(choices) => Ok(Work::Run(Run::new(alloc, job, open(alloc, choices)?)?)),
-        Kind::Shrink { schedule, runs } => Ok(Work::Shrinking(Shrinking::new(
-            alloc,
-            job,
-            schedule.as_slice(),
-            *runs,
-        )?)),
+        Kind::Run(choices) => {
+            let run = Run::new(alloc, job, open(alloc, choices)?)?;
+            Ok(Work::Run(Box::new(alloc, run)?))
+        }
+        Kind::Shrink { schedule, runs } => {
+            let shrinking = Shrinking::new(alloc, job, schedule.as_slice(), *runs)?;
+            Ok(Work::Shrinking(Box::new(alloc, shrinking)?))
+        }
     }
 }
 

@@ -47,19 +47,19 @@ fn finish(alloc: Global, job: Arc<Job>, run: Run) -> Finished
 fn slice_of_run(
     alloc: Global,
     job: Arc<Job>,
-    mut run: Run,
+    mut run: Box<Run>,
     scratch: &mut Scratch,
     turns: u32,
 ) -> Slice
-    requires { IsRunOf job.value run }
-    ensures { Sliced (view_of_parked job.value (length (events_in run))) turns result }
+    requires { IsRunOf job.value run.value }
+    ensures { Sliced (view_of_parked job.value (length (events_in run.value))) turns result }
 {
     match run.go_on(alloc, &job, scratch, turns) {
         Ok(false) => Slice::More(Parked {
             job,
             work: Work::Run(run),
         }),
-        Ok(true) => Slice::Done(finish(alloc, job, run)),
+        Ok(true) => Slice::Done(finish(alloc, job, Box::into_inner(run))),
         Err(NoMemory) => Slice::Done(Finished::without_memory(job)),
     }
 }
@@ -68,18 +68,21 @@ fn slice_of_run(
 fn slice_of_shrinking(
     alloc: Global,
     job: Arc<Job>,
-    shrinking: Shrinking,
+    shrinking: Box<Shrinking>,
     scratch: &mut Scratch,
     turns: u32,
 ) -> Slice
-    requires { IsShrinkingOf job.value shrinking }
-    ensures { Sliced (view_of_parked job.value (events_so_far shrinking)) turns result }
+    requires { IsShrinkingOf job.value shrinking.value }
+    ensures { Sliced (view_of_parked job.value (events_so_far shrinking.value)) turns result }
 {
-    match shrinking.advance(alloc, &job, scratch, turns) {
-        Ok(Advance::More(shrinking)) => Slice::More(Parked {
-            job,
-            work: Work::Shrinking(shrinking),
-        }),
+    match Box::into_inner(shrinking).advance(alloc, &job, scratch, turns) {
+        Ok(Advance::More(shrinking)) => match Box::new(alloc, shrinking) {
+            Ok(shrinking) => Slice::More(Parked {
+                job,
+                work: Work::Shrinking(shrinking),
+            }),
+            Err(_) => Slice::Done(Finished::without_memory(job)),
+        },
         Ok(Advance::Over(result)) => Slice::Done(Finished::whole(alloc, job, result)),
         Err(NoMemory) => Slice::Done(Finished::without_memory(job)),
     }

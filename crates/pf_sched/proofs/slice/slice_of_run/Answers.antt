@@ -9,7 +9,7 @@ use Rattle.pf_sched.proofs.slice.slice_of_run.Goals as goal
 pub returns-in-Ok-false : goal.returns-in-Ok-false
 returns-in-Ok-false c =
     let j = c.args.job.value in
-    let old = c.args.run in
+    let old = c.args.run.value in
     let made = c.go_on.new.self in
     let went = (subst (λ k. RunAdvances k old made c.args.turns c.in-Ok-false.field-0) c.deref.ensures c.in-Ok-false.ensures.run) j.asked.choices c.requires.1 in
     let valid : IsValid j = subst IsValid c.deref.ensures c.in-Ok-false.ensures.valid in
@@ -19,7 +19,7 @@ returns-in-Ok-false c =
 pub finish-requires-clause-run : goal.finish-requires-clause-run
 finish-requires-clause-run c =
     let j = c.args.job.value in
-    let old = c.args.run in
+    let old = c.args.run.value in
     let made = c.go_on.new.self in
     let went = (subst (λ k. RunAdvances k old made c.args.turns c.in-Ok-true.field-0) c.deref.ensures c.in-Ok-true.ensures.run) j.asked.choices c.requires.1 in
     (c.requires.0, went.0)
@@ -27,7 +27,7 @@ finish-requires-clause-run c =
 pub finish-requires-clause-over : goal.finish-requires-clause-over
 finish-requires-clause-over c =
     let j = c.args.job.value in
-    let old = c.args.run in
+    let old = c.args.run.value in
     let made = c.go_on.new.self in
     let went = (subst (λ k. RunAdvances k old made c.args.turns c.in-Ok-true.field-0) c.deref.ensures c.in-Ok-true.ensures.run) j.asked.choices c.requires.1 in
     (is_over j (length (events_in old)) (length (events_in made)) c.args.turns j.asked.limit made.execution refl c.in-Ok-true.field-0 c.in-Ok-true.field-0-test went.1).0
@@ -35,7 +35,7 @@ finish-requires-clause-over c =
 pub returns-in-Ok-true : goal.returns-in-Ok-true
 returns-in-Ok-true c =
     let j = c.args.job.value in
-    let old = c.args.run in
+    let old = c.args.run.value in
     let made = c.go_on.new.self in
     let went = (subst (λ k. RunAdvances k old made c.args.turns c.in-Ok-true.field-0) c.deref.ensures c.in-Ok-true.ensures.run) j.asked.choices c.requires.1 in
     let end = is_over j (length (events_in old)) (length (events_in made)) c.args.turns j.asked.limit made.execution refl c.in-Ok-true.field-0 c.in-Ok-true.field-0-test went.1 in
