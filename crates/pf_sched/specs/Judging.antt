@@ -1,7 +1,8 @@
 -- What a job that is one run comes to, but for its events.
-use Rattle.std.specs.Prelude.{◌≡◌}
+use Rattle.std.specs.Prelude.{◌≡◌, ℕ}
 use Rattle.pf_model.specs.Meaning.{Job, Means, Report}
 use Rattle.pf_model.specs.Reports.{outcome_of}
+use Rattle.pf_strategy.specs.Runs.{MeansByPriorities}
 use Rattle.pf_sched.specs.declared.whole.Judged.{Judged}
 
 -- a report has this outcome and this verdict
@@ -11,3 +12,7 @@ IsJudged r v = (r.outcome ≡ outcome_of v.outcome) × (r.verdict ≡ v.verdict)
 -- they are those of the report that a job means
 abbrev pub Judges : Job → Judged → Type 0
 Judges j v = (r : Report) × Means j r × IsJudged r v
+
+-- they are those of the report that a job means by the priorities of a seed
+abbrev pub JudgesByPriorities : Job → (seed : ℕ) → Judged → Type 0
+JudgesByPriorities j s v = (r : Report) × MeansByPriorities j s r × IsJudged r v

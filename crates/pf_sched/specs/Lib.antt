@@ -10,3 +10,5 @@ pub mod InWhole
 pub mod InFinished
 pub mod Slices
 pub mod Judging
+pub mod Guided
+pub mod Closing

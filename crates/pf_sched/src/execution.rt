@@ -29,7 +29,7 @@ pub(crate) struct Execution {
 }
 
 /// What an actor does that may go, within the limit of steps: how many steps it used; what it shows is written.
-fn pass(
+pub(crate) fn pass(
     alloc: Global,
     system: &mut System,
     actor: Actor,

@@ -4,6 +4,7 @@
 mod choices;
 mod execution;
 mod finished;
+mod guided;
 mod job;
 mod parked;
 mod progress;
@@ -27,4 +28,6 @@ pub use result::{JobResult, memory_report};
 pub use result_block::Whole;
 pub use scratch::Scratch;
 pub use slice::{Slice, run_slice, run_to_end};
-pub use whole::{Judged, judged_run, report_by_schedule, report_of_run};
+pub use whole::{
+    Judged, judged_by_priorities, judged_run, report_by_priorities, report_by_schedule, report_of_run,
+};

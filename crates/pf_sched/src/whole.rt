@@ -1,23 +1,25 @@
 //! Runs made to their end at once: with their events, or without.
 
-ghost use Rattle.std.specs.Prelude.{◌≡◌, [], zero, IfOk};
+ghost use Rattle.std.specs.Prelude.{◌≡◌, [], zero, IfOk, List, map};
 ghost use Rattle.pf_model.specs.Meaning as model;
 ghost use Rattle.pf_model.specs.Meaning.{Means};
-ghost use Rattle.pf_model.specs.Reports.{report_of};
+ghost use Rattle.pf_model.specs.Reports.{event_of, report_of};
 ghost use Rattle.pf_model.specs.Shrinking.{by_schedule};
-ghost use Rattle.pf_sched.specs.Judging.{Judges};
+ghost use Rattle.pf_strategy.specs.Runs.{MeansByPriorities};
+ghost use Rattle.pf_sched.specs.Closing.{Closes};
+ghost use Rattle.pf_sched.specs.Judging.{IsJudged, Judges, JudgesByPriorities};
 ghost use Rattle.pf_sched.specs.Parts.{Executes};
-ghost use Rattle.pf_sched.specs.Slices.{IsComplete};
-ghost use Rattle.pf_sched.specs.Told.{Lists};
+ghost use Rattle.pf_sched.specs.Told.{Decides};
 
 use crate::choices::{of_schedule, open};
 use crate::execution::Execution;
+use crate::guided::Guided;
 use crate::job::Job;
 use crate::scratch::Scratch;
 use crate::trace::Seen;
 use pf_model::report::{Event, Outcome, Report};
 use pf_request::Kind;
-use pf_system::Spare;
+use pf_system::{Spare, System};
 use pf_terms::NoMemory;
 use std::alloc::Global;
 
@@ -43,14 +45,13 @@ fn first_execution(alloc: Global, job: &Job, spare: Spare) -> Result<Execution, 
 fn report_of_events(
     alloc: Global,
     job: &Job,
-    execution: &Execution,
+    system: &System,
     mut events: Vec<Event>,
 ) -> Result<Report, NoMemory>
-    ensures { IfOk result (λ r. (cs : model.Choices) → IsComplete Lists job.now cs execution.now events
-        → Means (record job.now.asked { choices = cs }) (report_of r)) }
+    ensures { IfOk result (λ r. Closes job.now (map event_of events.items) system.now (report_of r)) }
 {
-    let outcome = execution.system.outcome(alloc)?;
-    let steps = execution.system.steps();
+    let outcome = system.outcome(alloc)?;
+    let steps = system.steps();
     events.shrink_to_fit();
     let verdict = job.property.verdict(events.as_slice(), &outcome);
     Ok(Report {
@@ -59,6 +60,16 @@ fn report_of_events(
         steps,
         verdict,
     })
+}
+
+/// How a run that is over came out, where it is known of its events whether one rules the property out.
+fn judge(alloc: Global, job: &Job, system: &System, ruled_out: bool) -> Result<Judged, NoMemory>
+    ensures { IfOk result (λ v. (es : List model.Event) → Decides job.now.asked.property ruled_out job.now.asked es
+        → (r : model.Report) × Closes job.now es system.now r × IsJudged r v) }
+{
+    let outcome = system.outcome(alloc)?;
+    let verdict = job.property.judge(ruled_out, &outcome);
+    Ok(Judged { outcome, verdict })
 }
 
 /// The report of a run, from its first event on, by whichever choices.
@@ -74,7 +85,7 @@ fn report_to_end(
 {
     let mut events = Vec::new(alloc);
     execution.complete(alloc, job, &mut events)?;
-    let report = report_of_events(alloc, job, &execution, events)?;
+    let report = report_of_events(alloc, job, &execution.system, events)?;
     scratch.put_spare(execution.system.into_spare());
     Ok(report)
 }
@@ -110,8 +121,41 @@ pub fn judged_run(alloc: Global, job: &Job, scratch: &mut Scratch) -> Result<Jud
     let mut execution = first_execution(alloc, job, scratch.take_spare(alloc))?;
     let mut seen = Seen::new(&job.property);
     execution.complete(alloc, job, &mut seen)?;
-    let outcome = execution.system.outcome(alloc)?;
-    let verdict = job.property.judge(seen.ruled_out, &outcome);
+    let judged = judge(alloc, job, &execution.system, seen.ruled_out)?;
     scratch.put_spare(execution.system.into_spare());
-    Ok(Judged { outcome, verdict })
+    Ok(judged)
+}
+
+/// The report that a job means by the priorities of a seed, in place of its own choices. What stands in the scratch makes no difference.
+pub fn report_by_priorities(
+    alloc: Global,
+    job: &Job,
+    seed: u64,
+    scratch: &mut Scratch,
+) -> Result<Report, NoMemory>
+    ensures { IfOk result (λ r. MeansByPriorities job.now.asked seed (report_of r)) }
+{
+    let mut guided = Guided::new(alloc, job, seed, scratch.take_spare(alloc))?;
+    let mut events = Vec::new(alloc);
+    guided.complete(alloc, job, &mut events)?;
+    let report = report_of_events(alloc, job, &guided.system, events)?;
+    scratch.put_spare(guided.system.into_spare());
+    Ok(report)
+}
+
+/// What that report tells but for its events, of which none is kept. What stands in the scratch makes no difference.
+pub fn judged_by_priorities(
+    alloc: Global,
+    job: &Job,
+    seed: u64,
+    scratch: &mut Scratch,
+) -> Result<Judged, NoMemory>
+    ensures { IfOk result (λ v. JudgesByPriorities job.now.asked seed v) }
+{
+    let mut guided = Guided::new(alloc, job, seed, scratch.take_spare(alloc))?;
+    let mut seen = Seen::new(&job.property);
+    guided.complete(alloc, job, &mut seen)?;
+    let judged = judge(alloc, job, &guided.system, seen.ruled_out)?;
+    scratch.put_spare(guided.system.into_spare());
+    Ok(judged)
 }

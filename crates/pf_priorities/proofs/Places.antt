@@ -1,0 +1,110 @@
+-- Those that are held, before an index and behind it: one key more is gone through.
+use Rattle.std.proofs.Common.{◌≡◌, ℕ, suc, ◌+◌, ◌<◌, ◌≤◌, Bool, true, false, List, [], ◌∷◌, ◌++◌, length, refl, sym, ap, ◌∙◌, subst, arith, get_or, append_assoc}
+use Rattle.std.specs.Prelude.{drop, take, nat_lt, if◌then◌else◌}
+use Rattle.std.proofs.Math.Seq.{drop-append-add, drop-cons, take-append-add}
+use Rattle.std.proofs.lemmas.Bool.Decides.{nat_tests}
+use Rattle.std.proofs.lemmas.List.{length-append, length-take-le}
+use Rattle.pf_priorities.specs.declared.priorities.Held.{Held}
+use Rattle.pf_priorities.specs.Priorities.{State, Given, all_given, before, given, held, highest_from}
+
+is_below : (a b : ℕ) → a < b → nat_lt a b ≡ true
+is_below a b h = by (nat_lt a b) refl
+  where
+    by : (e : Bool) → nat_lt a b ≡ e → e ≡ true
+    by true e = refl
+    by false e = absurd (grind (arith, nat_tests))
+
+isnt_below : (a b : ℕ) → b ≤ a → nat_lt a b ≡ false
+isnt_below a b h = by (nat_lt a b) refl
+  where
+    by : (e : Bool) → nat_lt a b ≡ e → e ≡ false
+    by true e = absurd (grind (arith, nat_tests))
+    by false e = refl
+
+-- some stand before others
+abbrev pub behind : {G : Type 0} → List Held → State G → State G
+behind xs s = record { generator = s.generator; held = xs ++ s.held }
+
+-- one more
+one_behind : {G : Type 0} (xs : List Held) (h : Held) (s : State G) → behind xs (before h s) ≡ behind (xs ++ h ∷ []) s
+one_behind xs h s = ap (λ l. record { generator = s.generator; held = l }) (sym (append_assoc xs (h ∷ []) s.held))
+
+module _ {G : Type 0} (step : G → ℕ × G) (keys : List ℕ) (g g' : G) (hs ns : List Held) (i k p : ℕ) where
+  abbrev one : Given G
+  one = given step k g (drop i hs)
+
+  abbrev rest : State G
+  rest = all_given step (drop (i + 1) keys) g' (drop (i + 1) ns)
+
+  -- what the call leaves
+  pub record Gave : Type 0 where
+    pub within : i ≤ length hs
+    pub key : i < length keys
+    pub is_key : k ≡ get_or keys i 0
+    pub priority : p ≡ one.priority
+    pub generator : g' ≡ one.generator
+    pub holders : ns ≡ take i hs ++ held k p ∷ one.rest
+
+  front : Gave → length (take i hs) ≡ i
+  front w = length-take-le i hs w.within
+
+  taken : Gave → take (i + 1) ns ≡ take i hs ++ held k p ∷ []
+  taken w =
+      ap (take (i + 1)) w.holders
+      ∙ ap (λ n. take (n + 1) (take i hs ++ held k p ∷ one.rest)) (sym (front w))
+      ∙ take-append-add (take i hs) (held k p ∷ one.rest) 1
+
+  dropped : Gave → drop (i + 1) ns ≡ one.rest
+  dropped w =
+      ap (drop (i + 1)) w.holders
+      ∙ ap (λ n. drop (n + 1) (take i hs ++ held k p ∷ one.rest)) (sym (front w))
+      ∙ drop-append-add (take i hs) (held k p ∷ one.rest) 1
+
+  -- those of the keys that are left begin with this one
+  begins : Gave → all_given step (drop i keys) g (drop i hs) ≡ before (held k p) rest
+  begins w =
+      let after : suc i ≡ i + 1 = omega arith in
+      let ks : drop i keys ≡ k ∷ drop (i + 1) keys =
+      drop-cons keys i 0 w.key ∙ ap (λ n. n ∷ drop (suc i) keys) (sym w.is_key) ∙ ap (λ n. k ∷ drop n keys) after in
+      ap (λ l. all_given step l g (drop i hs)) ks
+      ∙ ap (λ q. before (held k q) (all_given step (drop (i + 1) keys) one.generator one.rest)) (sym w.priority)
+      ∙ ap (λ z. before (held k p) (all_given step (drop (i + 1) keys) z one.rest)) (sym w.generator)
+      ∙ ap (λ l. before (held k p) (all_given step (drop (i + 1) keys) g' l)) (sym (dropped w))
+
+  pub one_given : Gave → behind (take i hs) (all_given step (drop i keys) g (drop i hs)) ≡ behind (take (i + 1) ns) rest
+  one_given w =
+      ap (behind (take i hs)) (begins w) ∙ one_behind (take i hs) (held k p) rest ∙ ap (λ l. behind l rest) (sym (taken w))
+
+  -- the highest so far
+  highest_is : Gave → (best most : ℕ) → (e : Bool) → nat_lt most p ≡ e
+      → highest_from i best most (all_given step (drop i keys) g (drop i hs)).held
+      ≡ (if e then highest_from (i + 1) i p rest.held else highest_from (i + 1) best most rest.held)
+  highest_is w best most e test =
+      let after : suc i ≡ i + 1 = omega arith in
+      ap (λ s. highest_from i best most s.held) (begins w)
+      ∙ ap (λ n. if nat_lt most p then highest_from n i p rest.held else highest_from n best most rest.held) after
+      ∙ ap (λ t. if t then highest_from (i + 1) i p rest.held else highest_from (i + 1) best most rest.held) test
+
+  pub higher : Gave → (best most best' most' : ℕ) → most < p → best' ≡ i → most' ≡ p
+      → highest_from i best most (all_given step (drop i keys) g (drop i hs)).held ≡ highest_from (i + 1) best' most' rest.held
+  higher w best most best' most' more a b =
+      highest_is w best most true (is_below most p more)
+      ∙ ap (λ x. highest_from (i + 1) x p rest.held) (sym a) ∙ ap (λ x. highest_from (i + 1) best' x rest.held) (sym b)
+
+  pub no_higher : Gave → (best most best' most' : ℕ) → p ≤ most → best' ≡ best → most' ≡ most
+      → highest_from i best most (all_given step (drop i keys) g (drop i hs)).held ≡ highest_from (i + 1) best' most' rest.held
+  no_higher w best most best' most' few a b =
+      highest_is w best most false (isnt_below most p few)
+      ∙ ap (λ x. highest_from (i + 1) x most rest.held) (sym a) ∙ ap (λ x. highest_from (i + 1) best' x rest.held) (sym b)
+
+  -- one stands before the index more
+  pub long : Gave → i + 1 ≤ length ns
+  long w =
+      let all = ap length w.holders in
+      let sum = length-append (take i hs) (held k p ∷ one.rest) in
+      let n = front w in
+      omega arith
+
+  -- the same list as before
+  pub same_list : Gave → take i hs ++ (all_given step (drop i keys) g (drop i hs)).held ≡ take (i + 1) ns ++ rest.held
+  same_list w = ap (λ s. s.held) (one_given w)

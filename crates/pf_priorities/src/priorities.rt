@@ -1,0 +1,93 @@
+//! [`Priorities`]: who waits with which priority, and the generator of the next.
+
+ghost use Rattle.std.specs.Prelude.{◌≡◌, ◌<◌, ◌≤◌, ◌++◌, ◌∷◌, IfOk, OnOk, drop, length, take};
+ghost use Rattle.rand_pcg.specs.Pcg.{pcg32};
+ghost use Rattle.pf_priorities.specs.Priorities.{choice, first, from_key, given, held, highest_from, state_of};
+
+use pf_fault::NoMemory;
+use rand_core::SeedableRng;
+use rand_core::utils::NextWord;
+use rand_pcg::Lcg64Xsh32;
+use std::alloc::Global;
+
+/// Someone who may go, by the key, with the priority.
+#[derive(Drop)]
+struct Held {
+    key: u64,
+    priority: u32,
+}
+
+/// The priorities of those who may go, by rising key, and the generator of the next: PCG-XSH-RR 64/32 of a seed.
+#[derive(Drop)]
+pub struct Priorities {
+    generator: Lcg64Xsh32,
+    held: Vec<Held>,
+}
+
+/// Drops those that are held below a key, from an index on.
+fn drop_below(holders: &mut Vec<Held>, at: usize, key: u64)
+    requires { at ≤ length holders.old.items }
+    ensures { holders.new.items ≡ take at holders.old.items ++ from_key key (drop at holders.old.items) }
+{
+    while at < holders.len() && holders[at].key < key {
+        holders.remove(at);
+    }
+}
+
+/// The priority of a key, which stands at an index then: the one that it holds, or else the generator's next word.
+fn give(
+    generator: &mut Lcg64Xsh32,
+    holders: &mut Vec<Held>,
+    at: usize,
+    key: u64,
+) -> Result<u32, NoMemory>
+    requires { at ≤ length holders.old.items }
+    ensures priority { IfOk result (λ p. p ≡ (given pcg32 key generator.old (drop at holders.old.items)).priority) }
+    ensures generator { OnOk result
+        (generator.new ≡ (given pcg32 key generator.old (drop at holders.old.items)).generator) }
+    ensures holders { IfOk result (λ p. holders.new.items
+        ≡ take at holders.old.items ++ held key p ∷ (given pcg32 key generator.old (drop at holders.old.items)).rest) }
+{
+    drop_below(holders, at, key);
+    if at < holders.len() && holders[at].key == key {
+        return Ok(holders[at].priority);
+    }
+    let priority = generator.next_word();
+    holders.insert(at, Held { key, priority })?;
+    Ok(priority)
+}
+
+impl Priorities {
+    /// Those of a seed, before the first choice.
+    pub fn seed(alloc: Global, seed: u64) -> Priorities
+        ensures { state_of result ≡ first seed }
+    {
+        Priorities {
+            generator: Lcg64Xsh32::seed_from_u64(seed),
+            held: Vec::new(alloc),
+        }
+    }
+
+    /// The next choice among those of these keys, as an index from 0 on: the first of those with the highest priority. Room for their priorities
+    /// may be refused.
+    pub fn choose(&mut self, keys: &[u64]) -> Result<usize, NoMemory>
+        requires { 0 < length keys.now }
+        ensures choice { IfOk result (λ i. choice pcg32 (state_of self.old) keys.now ≡ (i, state_of self.new)) }
+        ensures one { IfOk result (λ i. i < length keys.now) }
+    {
+        let mut best = 0;
+        let mut highest = 0;
+        let mut at = 0;
+        for key in keys {
+            let priority = give(&mut self.generator, &mut self.held, at, *key)?;
+            if priority > highest {
+                best = at;
+                highest = priority;
+            }
+            at += 1;
+        }
+        self.held.truncate(at);
+        self.held.remove(best);
+        Ok(best)
+    }
+}

@@ -1,0 +1,98 @@
+//! A run by the priorities of a seed as far as it came, without its trace.
+
+ghost use Rattle.std.specs.Prelude.{◌≡◌, ◌<◌, ◌-◌, [], ℕ, IfOk, OnOk, Some};
+ghost use Rattle.pf_model.specs.Configuration.{Configuration};
+ghost use Rattle.pf_strategy.specs.Keys.{keys_of};
+ghost use Rattle.pf_system.specs.Steps.{noted};
+ghost use Rattle.pf_sched.specs.Guided.{GoingBy, IsCompleteBy, MayHaveGoneBy};
+
+use crate::execution::pass;
+use crate::job::Job;
+use crate::trace::Trace;
+use pf_model::report::Label;
+use pf_priorities::Priorities;
+use pf_strategy::key_of;
+use pf_system::{Enabled, Spare, System};
+use pf_terms::NoMemory;
+use std::alloc::Global;
+
+/// A run as far as it came: its processes and signals, and the priorities by which its next actor is chosen. Its events are told to a trace.
+#[derive(Drop)]
+pub(crate) struct Guided {
+    pub system: System,
+    priorities: Priorities,
+    keys: Vec<u64>,
+}
+
+/// Puts the keys of those who may go in place of others.
+fn put_keys(keys: &mut Vec<u64>, enabled: &Enabled<'_>) -> Result<(), NoMemory>
+    ensures { OnOk result (keys.new.items ≡ keys_of (noted enabled.now)) }
+{
+    keys.clear();
+    for index in 0..enabled.len() {
+        keys.push(key_of(enabled.actor(index)))?;
+    }
+    Ok(())
+}
+
+impl Guided {
+    /// The run of a job by the priorities of a seed, before its first event, in what others left behind.
+    pub fn new(alloc: Global, job: &Job, seed: u64, spare: Spare) -> Result<Guided, NoMemory>
+        ensures { IfOk result (λ x. GoingBy job.now seed [] x) }
+    {
+        Ok(Guided {
+            system: System::new_in(alloc, job.module(), job.root, job.edition(), spare)?,
+            priorities: Priorities::seed(alloc, seed),
+            keys: Vec::new(alloc),
+        })
+    }
+
+    /// The transition of the actor that the priorities choose, within the limit of steps, of which the trace is told; whether there was one,
+    /// since nobody may go else. `shown` is room for what it shows. Room for one more priority may be refused.
+    fn go<T: Trace>(
+        &mut self,
+        alloc: Global,
+        limit: u32,
+        shown: &mut Label,
+        trace: &mut T,
+    ) -> Result<bool, NoMemory>
+        requires { self.old.system.steps < limit }
+        ensures { IfOk result (λ went. (c : Configuration) → self.old.system.standing ≡ Some c
+            → MayHaveGoneBy T.Told (limit - self.old.system.steps) c self.old trace.old went self.new trace.new) }
+    {
+        let enabled = self.system.enabled();
+        let among = enabled.len();
+        if among == 0 {
+            return Ok(false);
+        }
+        put_keys(&mut self.keys, &enabled)?;
+        let index = self.priorities.choose(self.keys.as_slice())?;
+        let actor = enabled.actor(index);
+        pass(alloc, &mut self.system, actor, limit, shown)?;
+        trace.tell(index as u32, among as u32, actor, shown)?;
+        Ok(true)
+    }
+
+    /// Goes on from the first event to the end: each event is a step at least, so it is over after as many as the limit has steps.
+    pub fn complete<T: Trace>(
+        &mut self,
+        alloc: Global,
+        job: &Job,
+        trace: &mut T,
+    ) -> Result<(), NoMemory>
+        ensures { OnOk result ((seed : ℕ) → GoingBy job.now seed [] self.old → T.Told trace.old job.now.asked []
+            → IsCompleteBy T.Told job.now seed self.new trace.new) }
+    {
+        let limit = job.limit();
+        let mut shown = Label::Waits;
+        for _ in 0..limit {
+            if self.system.steps() >= limit {
+                return Ok(());
+            }
+            if !self.go(alloc, limit, &mut shown, trace)? {
+                return Ok(());
+            }
+        }
+        Ok(())
+    }
+}

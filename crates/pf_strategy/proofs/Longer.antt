@@ -1,0 +1,28 @@
+-- A run by priorities that goes on by one transition more.
+use Rattle.std.proofs.Common.{◌≡◌, ℕ, zero, suc, ◌+◌, ◌-◌, List, [], ◌∷◌, ◌++◌, Some, subst, arith}
+use Rattle.std.specs.Prelude.{slice_get}
+use Rattle.rand_pcg.specs.Lcg.{Lcg}
+use Rattle.pf_model.specs.Module.{Module}
+use Rattle.pf_model.specs.Configuration.{Configuration}
+use Rattle.pf_model.specs.Runs.{Actor, Passed, Passes, Transition, transition, enabled}
+use Rattle.pf_priorities.specs.Priorities.{State}
+use Rattle.pf_strategy.specs.Runs.{GoesBy, stays, more, picked, later}
+
+-- the transition of the actor that the priorities choose where the run stands
+pub goes_on : (m : Module) (s : State Lcg) (n : ℕ) (c : Configuration) (ts : List Transition) (d : Configuration) (k : ℕ) (s' : State Lcg) → GoesBy m s n c ts d k s'
+    → (l : ℕ) (x : Actor) (p : Passed) → slice_get (enabled d) (picked s' d) ≡ Some x → n ≡ suc l + k → Passes m (suc l) d x p
+    → GoesBy m s n c (ts ++ transition (picked s' d) (enabled d) x p ∷ []) p.after (k + p.used) (later s' d)
+goes_on m s n c _ _ _ _ (stays _ _ _) l x p e h pass =
+    let one = more s l c x p [] p.after zero (later s c) e pass (stays (later s c) (suc l - p.used) p.after) in
+    let steps : p.used + zero ≡ zero + p.used = omega arith in
+    let left : suc l ≡ n = omega arith in
+    let t = transition (picked s c) (enabled c) x p in
+    subst (λ z. GoesBy m s z c (t ∷ []) p.after (zero + p.used) (later s c)) left
+    (subst (λ z. GoesBy m s (suc l) c (t ∷ []) p.after z (later s c)) steps one)
+goes_on m s _ c _ d _ s' (more _ n _ y q ts _ k _ e0 pass0 rest) l x p e h pass =
+    let left : suc n - q.used ≡ suc l + k = omega arith in
+    let inner = goes_on m (later s c) (suc n - q.used) q.after ts d k s' rest l x p e left pass in
+    let t = transition (picked s' d) (enabled d) x p in
+    let all = more s n c y q (ts ++ t ∷ []) p.after (k + p.used) (later s' d) e0 pass0 inner in
+    let steps : q.used + (k + p.used) ≡ (q.used + k) + p.used = omega arith in
+    subst (λ z. GoesBy m s (suc n) c (transition (picked s c) (enabled c) y q ∷ (ts ++ t ∷ [])) p.after z (later s' d)) steps all

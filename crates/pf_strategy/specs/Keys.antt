@@ -1,0 +1,12 @@
+-- Keys: actors as numbers, which rise in the order in which those who may go are listed.
+use Rattle.std.specs.Prelude.{ℕ, suc, ◌+◌, ◌*◌, ◌^◌, List, map}
+use Rattle.pf_model.specs.Configuration.{Configuration}
+use Rattle.pf_model.specs.Runs.{Actor, process, channel, enabled}
+
+-- a process by its pid; behind all processes a channel, by its sender and then by its receiver
+abbrev pub key_of : Actor → ℕ
+key_of (process n) = n
+key_of (channel a b) = suc a * 2 ^ 32 + b
+
+abbrev pub keys_of : List Actor → List ℕ
+keys_of xs = map key_of xs

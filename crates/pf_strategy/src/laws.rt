@@ -1,0 +1,18 @@
+//! Laws of the definitions: functions with empty bodies, whose contracts are the laws.
+
+ghost use Rattle.pf_strategy.specs.Laws.{OneReport, ReplayOfPriorities, ReplayOfSeeds};
+
+/// The choices of a report by priorities, given back as a schedule, mean that report.
+pub fn replay_of_priorities()
+    ensures { ReplayOfPriorities }
+{}
+
+/// The choices of a report by a seed, given back as a schedule, mean that report, whichever strategy chose.
+pub fn replay_of_seeds()
+    ensures { ReplayOfSeeds }
+{}
+
+/// A job means one report only by a seed and a strategy.
+pub fn one_report()
+    ensures { OneReport }
+{}
