@@ -1,6 +1,6 @@
 -- Priorities: of those who may go the one with the highest goes. Each keeps its priority while it may go, and draws a new one behind each time
 -- that it went. Whoever may go is known by a key, and all stand in the order of their keys.
-use Rattle.std.specs.Prelude.{◌≡◌, ℕ, zero, suc, nat_eq, nat_lt, if◌then◌else◌, List, [], ◌∷◌, map}
+use Rattle.std.specs.Prelude.{ℕ, suc, nat_eq, nat_lt, if◌then◌else◌, List, [], ◌∷◌}
 use Rattle.std.specs.List.{remove}
 use Rattle.rand_core.specs.Pcg32Seed.{pcg32_seed}
 use Rattle.rand_pcg.specs.Pcg.{pcg32_of_seed}

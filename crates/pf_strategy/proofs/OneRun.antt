@@ -6,13 +6,13 @@ use Rattle.rand_pcg.specs.Lcg.{Lcg}
 use Rattle.pf_model.specs.Module.{Module}
 use Rattle.pf_model.specs.Configuration.{Configuration}
 use Rattle.pf_model.specs.Evaluation.{Ran, ran, pass_of}
-use Rattle.pf_model.specs.Meaning.{Job, Report, Means, report_of}
+use Rattle.pf_model.specs.Meaning.{Job, Report, report_of}
 use Rattle.pf_model.specs.Runs.{Actor, Passed, Passes, Transition, transition, Stops, enabled, start}
 use Rattle.pf_model.proofs.Meanings.{only_evaluated}
 use Rattle.pf_model.proofs.Turned.{pass_only}
 use Rattle.pf_request.specs.Job.{asked_by_seed}
 use Rattle.pf_priorities.specs.Priorities.{State, first}
-use Rattle.pf_strategy.specs.Runs.{GoesBy, stays, more, picked, later, MeansByPriorities}
+use Rattle.pf_strategy.specs.Runs.{GoesBy, stays, more, picked, later}
 use Rattle.pf_strategy.specs.Laws.{OneReport}
 use Rattle.pf_strategy.specs.declared.strategy.Strategy.TheVariants.{Uniform, Priorities}
 
@@ -76,7 +76,7 @@ module _ (m : Module) where
 
       by : Stops (suc n) c ⊎ First s (suc n) c us e l
           → ((vs : List Transition) (f : Configuration) (i : ℕ) (v : State Lcg) → GoesBy m (later s c) (suc n - p.used) p.after vs f i v → Stops (suc n - p.used - i) f
-              → ran vs f i ≡ ran ts d k)
+          → ran vs f i ≡ ran ts d k)
           → ran us e l ≡ ran (transition (picked s c) (enabled c) x p ∷ ts) d (p.used + k)
       by (inl there) further = absurd (never there)
       by (inr one) further =

@@ -1,5 +1,5 @@
 -- A run by priorities is the run by the schedule of its choices.
-use Rattle.std.proofs.Common.{◌≡◌, ℕ, zero, suc, ◌+◌, ◌-◌, List, [], ◌∷◌, Some, sym, ap, ◌∙◌, subst, arith, map}
+use Rattle.std.proofs.Common.{◌≡◌, ℕ, suc, ◌+◌, ◌-◌, List, [], ◌∷◌, Some, sym, ap, ◌∙◌, subst, arith, map}
 use Rattle.std.specs.Prelude.{slice_get}
 use Rattle.std.proofs.Math.Nat.{mod-eq_of_lt}
 use Rattle.std.proofs.lemmas.Option.{slice_get_within}
@@ -8,15 +8,14 @@ use Rattle.pf_choice.specs.Words.{schedule_word}
 use Rattle.pf_choice.specs.Chosen.{alike}
 use Rattle.pf_model.specs.Module.{Module}
 use Rattle.pf_model.specs.Configuration.{Configuration}
-use Rattle.pf_model.specs.Meaning.{Job, Report, Means, event_of, picks}
-use Rattle.pf_model.specs.Shrinking.{by_schedule}
+use Rattle.pf_model.specs.Meaning.{event_of, picks}
 use Rattle.pf_model.specs.Runs as runs
 use Rattle.pf_model.specs.Runs.{Actor, Picks, Transition, transition, Goes, first_pick, enabled, start}
 use Rattle.pf_model.proofs.Meanings as meanings
 use Rattle.pf_model.proofs.Meanings.{enabled_count}
+use Rattle.pf_request.specs.Job.{asked_by_seed}
 use Rattle.pf_priorities.specs.Priorities.{State, first}
-use Rattle.pf_strategy.specs.Runs.{GoesBy, stays, more, picked, later, MeansByPriorities}
-use Rattle.pf_strategy.specs.Strategies.{MeansBySeed}
+use Rattle.pf_strategy.specs.Runs.{GoesBy, stays, more, picked, later}
 use Rattle.pf_strategy.specs.Laws.{ReplayOfPriorities, ReplayOfSeeds}
 use Rattle.pf_strategy.specs.declared.strategy.Strategy.TheVariants.{Uniform, Priorities}
 
@@ -57,5 +56,7 @@ replay_of_priorities j s r h =
     }
 
 pub replay_of_seeds : ReplayOfSeeds
-replay_of_seeds Uniform j s r h = meanings.replay _ r h
+replay_of_seeds Uniform j s r h =
+    let m = meanings.replay (asked_by_seed j s) r h in
+    record { transitions = m.transitions; last = m.last; run = m.run; report = m.report }
 replay_of_seeds Priorities j s r h = replay_of_priorities j s r h

@@ -12,6 +12,8 @@ pub fn key_of(actor: Actor) -> u64
 {
     match actor {
         Actor::Process(pid) => u64::from(pid),
-        Actor::Channel { from, to } => (u64::from(from) + 1) * (1 << 32) + u64::from(to),
+        Actor::Channel { from, to } => (u64::from(from) + 1)
+            .wrapping_mul(1 << 32)
+            .wrapping_add(u64::from(to)),
     }
 }

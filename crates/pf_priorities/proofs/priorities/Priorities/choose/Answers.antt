@@ -1,4 +1,4 @@
-use Rattle.std.proofs.Common.{◌≡◌, ◌+◌, ◌-◌, ◌<◌, ◌≤◌, sym, ap, ◌∙◌, arith, length, get_or}
+use Rattle.std.proofs.Common.{◌≡◌, ◌+◌, ◌-◌, ◌≤◌, sym, ap, ◌∙◌, arith, get_or}
 use Rattle.std.specs.Prelude.{drop}
 use Rattle.rand_pcg.specs.Pcg.{pcg32}
 use Rattle.pf_priorities.specs.Priorities.{all_given, highest_from}

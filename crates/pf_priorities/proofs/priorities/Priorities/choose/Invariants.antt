@@ -1,7 +1,7 @@
 use Rattle.std.proofs.Common.{◌≡◌, ◌≤◌, ◌-◌, ◌++◌, length}
 use Rattle.std.specs.Prelude.{drop, take}
 use Rattle.rand_pcg.specs.Pcg.{pcg32}
-use Rattle.pf_priorities.specs.Priorities.{all_given, highest, highest_from}
+use Rattle.pf_priorities.specs.Priorities.{all_given, highest_from}
 use Rattle.pf_priorities.proofs.Places.{behind}
 use Rattle.pf_priorities.proofs.priorities.Priorities.choose.Given as goal
 
