@@ -1,5 +1,6 @@
 pub mod Asking
 pub mod Longer
+pub mod GuidedRuns
 pub mod Past
 pub mod Traces
 pub mod Reported

@@ -29,5 +29,6 @@ pub use result_block::Whole;
 pub use scratch::Scratch;
 pub use slice::{Slice, run_slice, run_to_end};
 pub use whole::{
-    Judged, judged_by_priorities, judged_run, report_by_priorities, report_by_schedule, report_of_run,
+    Judged, judged_by_priorities, judged_run, report_by_priorities, report_by_schedule,
+    report_of_run,
 };

@@ -1,4 +1,14 @@
+use Rattle.std.proofs.Common.{map, sym, subst}
+use Rattle.pf_model.specs.Reports.{event_of, report_of}
+use Rattle.pf_sched.specs.Parts.{Executes}
+use Rattle.pf_sched.proofs.Reported.{means}
 use Rattle.pf_sched.proofs.whole.report_to_end.Goals as goal
 
 pub returns : goal.returns
-returns c cs first = c.in_ok-report.ensures cs (c.in_ok-complete.ensures cs first)
+returns c cs first =
+    let j = c.args.job.now in
+    let x = c.complete.new.self in
+    let all = c.in_ok-complete.ensures cs first in
+    let told = c.in_ok-report.ensures in
+    let run = subst (λ es. Executes j cs es x) (sym all.2) all.1 in
+    means j cs (map event_of c.complete.new.trace.items) x run all.3 (report_of c.in_ok-report.report) told.events told.outcome told.steps told.verdict
