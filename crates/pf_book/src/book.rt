@@ -5,6 +5,7 @@ ghost use Rattle.std.specs.Bool.{OnTrue};
 ghost use Rattle.indexmap.specs.IndexMap.{index_map_len, index_of};
 ghost use Rattle.pf_request.specs.Calls as calls;
 ghost use Rattle.pf_desks.specs.Desk as desk;
+ghost use Rattle.pf_desks.specs.Calls.{calls_in};
 ghost use Rattle.pf_desks.specs.History.{IsLegalDesk};
 ghost use Rattle.pf_desks.specs.Jobs.{KeepsAllTickets};
 ghost use Rattle.pf_desks.specs.World.{desk_at};
@@ -80,6 +81,16 @@ impl Book {
     {
         match self.desks.get(&project) {
             Some(desk) => desk.note_count(),
+            None => 0,
+        }
+    }
+
+    /// How many calls the desk of a project logged.
+    pub fn call_count(&self, project: u32) -> u64
+        ensures { result ≡ calls_in (desk_at project self.now).history }
+    {
+        match index_of(&self.desks, self.last, project) {
+            Some(index) => self.desks[index].call_count(),
             None => 0,
         }
     }

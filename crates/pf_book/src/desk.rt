@@ -7,6 +7,7 @@ ghost use Rattle.std.specs.Vec.{vec_len, vec_capacity};
 ghost use Rattle.pf_model.specs.Limits.{IsEdition};
 ghost use Rattle.pf_desks.specs.Desk as desk;
 ghost use Rattle.pf_desks.specs.Desk.{no_desk, held_at};
+ghost use Rattle.pf_desks.specs.Calls.{calls_in};
 ghost use Rattle.pf_desks.specs.Work.{is_running, with_state};
 ghost use Rattle.pf_desks.specs.History.{IsLegalDesk};
 ghost use Rattle.pf_desks.specs.Jobs.{KeepsTickets};
@@ -91,6 +92,13 @@ impl Desk {
         ensures legal { ForRight (λ p. IsLegalDesk p self.now) }
     {
         self.history.len()
+    }
+
+    /// How many calls it logged.
+    pub fn call_count(&self) -> u64
+        ensures { result ≡ calls_in self.now.history }
+    {
+        self.usage.calls
     }
 
     /// The edition, 1 or 2, whose limits what is submitted and ordered has.
