@@ -5,13 +5,14 @@ use Rattle.std.specs.Cmp.Lexicographic.{bytes_decides}
 use Rattle.std.proofs.lemmas.Bool.{and_parts}
 use Rattle.std.proofs.lemmas.Bool.Decides.{eqb_tells}
 use Rattle.pf_terms.proofs.SameValues.{same_true, same_itself}
-use Rattle.pf_model.specs.Meaning.{Job, Report, Means}
+use Rattle.pf_model.specs.Meaning.{Job, Report}
 use Rattle.pf_model.specs.Properties.{Outcome, finished, ended, deadlock, limit, memory}
 use Rattle.pf_seeds.specs.Rows.{Row, met, same_verdict, same_outcome, is_like, more_often, with_row, joined, counted}
 use Rattle.pf_seeds.specs.Hashes.{outcome_hash}
-use Rattle.pf_request.specs.Job.{asked_by_seed}
+use Rattle.pf_strategy.specs.Strategies.{MeansBySeed}
+use Rattle.pf_strategy.specs.declared.strategy.Strategy.{Strategy}
+use Rattle.pf_strategy.proofs.OneRun.{one_report}
 use Rattle.pf_seeds.specs.Hunts.{Tallies, no_seed, and_seed}
-use Rattle.pf_seeds.proofs.Firsts.{one_report}
 
 -- ---- sameness
 
@@ -173,45 +174,45 @@ joined_more xs (y ∷ ys) r = elim (either (is_like y r)) [
   | inr e ↦ ap (joined xs) (past_unlike y ys r e) ∙ joined_more (with_row xs y) ys r
 ]
 
-module _ (j : Job) where
-  pub parts_are_the_whole : (a c b : ℕ) (xs ys : List Row) → a ≤ c → c ≤ b → Tallies j a c xs → Tallies j c b ys → Tallies j a b (joined xs ys)
-  parts_are_the_whole a c _ xs _ l k h (no_seed b m) = let e : c ≡ b = omega arith in subst (λ n. Tallies j a n xs) e h
+module _ (w : Strategy) (j : Job) where
+  pub parts_are_the_whole : (a c b : ℕ) (xs ys : List Row) → a ≤ c → c ≤ b → Tallies w j a c xs → Tallies w j c b ys → Tallies w j a b (joined xs ys)
+  parts_are_the_whole a c _ xs _ l k h (no_seed b m) = let e : c ≡ b = omega arith in subst (λ n. Tallies w j a n xs) e h
   parts_are_the_whole a c _ xs _ l k h (and_seed b ys r m t n) =
-      subst (Tallies j a (suc b)) (sym (joined_more xs ys (met b r)))
+      subst (Tallies w j a (suc b)) (sym (joined_more xs ys (met b r)))
       (and_seed b (joined xs ys) r (omega arith) (parts_are_the_whole a c b xs ys l m h t) n)
 
-  pub each_is_counted : (a b : ℕ) (rows : List Row) → Tallies j a b rows → counted rows ≡ b - a
+  pub each_is_counted : (a b : ℕ) (rows : List Row) → Tallies w j a b rows → counted rows ≡ b - a
   each_is_counted a _ _ (no_seed b l) = omega arith
   each_is_counted a _ _ (and_seed b rows r l t m) =
       let h = each_is_counted a b rows t in
       let e = counts_more rows (met b r) in
       omega arith
 
-  pub one_tally : (a b : ℕ) (xs ys : List Row) → Tallies j a b xs → Tallies j a b ys → xs ≡ ys
+  pub one_tally : (a b : ℕ) (xs ys : List Row) → Tallies w j a b xs → Tallies w j a b ys → xs ≡ ys
   one_tally a _ _ _ (no_seed b l) t = none_there b _ l t
     where
-      none_there : (b : ℕ) (ys : List Row) → b ≤ a → Tallies j a b ys → [] ≡ ys
+      none_there : (b : ℕ) (ys : List Row) → b ≤ a → Tallies w j a b ys → [] ≡ ys
       none_there _ _ l (no_seed b k) = refl
       none_there _ _ l (and_seed b rows r k t m) = absurd (omega arith)
   one_tally a _ _ _ (and_seed b rows r l t m) (no_seed _ k) = absurd (omega arith)
   one_tally a _ _ _ (and_seed b rows r l t m) (and_seed _ others q k u n) =
-      ap₂ (λ zs z. with_row zs (met b z)) (one_tally a b rows others t u) (one_report j b r q m n)
+      ap₂ (λ zs z. with_row zs (met b z)) (one_tally a b rows others t u) (one_report w j b r q m n)
 
   -- the rows to where the seeds end
-  pub ends_there : (a b s : ℕ) (rows : List Row) → Tallies j a s rows → (s ≡ a) ⊎ (s ≤ b) → b ≤ s → Tallies j a b rows
+  pub ends_there : (a b s : ℕ) (rows : List Row) → Tallies w j a s rows → (s ≡ a) ⊎ (s ≤ b) → b ≤ s → Tallies w j a b rows
   ends_there a b s rows t (inl e) l =
       let q = one_tally a s rows [] t (no_seed s (omega arith)) in
-      subst (Tallies j a b) (sym q) (no_seed b (omega arith))
-  ends_there a b s rows t (inr k) l = let e : s ≡ b = omega arith in subst (λ n. Tallies j a n rows) e t
+      subst (Tallies w j a b) (sym q) (no_seed b (omega arith))
+  ends_there a b s rows t (inr k) l = let e : s ≡ b = omega arith in subst (λ n. Tallies w j a n rows) e t
 
   -- one seed more
-  pub one_seed_more : (a s : ℕ) (rows : List Row) (r : Report) → a ≤ s → Tallies j a s rows → Means (asked_by_seed j s) r
-      → Tallies j a (s + 1) (with_row rows (met s r))
+  pub one_seed_more : (a s : ℕ) (rows : List Row) (r : Report) → a ≤ s → Tallies w j a s rows → MeansBySeed w j s r
+      → Tallies w j a (s + 1) (with_row rows (met s r))
   one_seed_more a s rows r l t m =
-      let e : suc s ≡ s + 1 = omega arith in subst (λ n. Tallies j a n (with_row rows (met s r))) e (and_seed s rows r l t m)
+      let e : suc s ≡ s + 1 = omega arith in subst (λ n. Tallies w j a n (with_row rows (met s r))) e (and_seed s rows r l t m)
 
   -- what two parts count, one behind the other, is within bounds
-  pub counted_both : (a c b : ℕ) (xs ys : List Row) → a ≤ c → c ≤ b → b < 2 ^ 64 → Tallies j a c xs → Tallies j c b ys
+  pub counted_both : (a c b : ℕ) (xs ys : List Row) → a ≤ c → c ≤ b → b < 2 ^ 64 → Tallies w j a c xs → Tallies w j c b ys
       → counted xs + counted ys < 2 ^ 64
   counted_both a c b xs ys l k fits t u =
       let first = each_is_counted a c xs t in

@@ -1,12 +1,15 @@
--- What a hunt comes to may go to another thread: a lemma a type, each from those of its parts.
-use denote.Param.Send.{IsSend, recorded_send, sendable}
+-- What a hunt comes to may go to another thread, and what is hunted may be shared: a lemma a type, each from those of its parts.
+use denote.Param.Send.{IsSend, IsSync, recorded_send, recorded_sync, sendable}
 use Rattle.std.proofs.Crossing as heap
 use Rattle.std.proofs.MapsCrossing as maps
 use Rattle.pf_model.proofs.Crossing as model
+use Rattle.pf_strategy.proofs.strategy.Strategy.TheSendSync as strategy
+use Rattle.pf_sched.proofs.Crossing as sched
 use Rattle.pf_seeds.specs.contracts.failure.Failure as Failure
 use Rattle.pf_seeds.specs.contracts.places.Place as Place
 use Rattle.pf_seeds.specs.contracts.places.Places as Places
 use Rattle.pf_seeds.specs.contracts.row.Row as Row
+use Rattle.pf_seeds.specs.contracts.seeded.Hunt as Hunt
 use Rattle.pf_seeds.specs.contracts.tally.Tally as Tally
 
 pub failure_field_send : IsSend (Failure.the_field).row
@@ -36,4 +39,13 @@ tally_field_send = search (row_send, places_field_send, heap.crosses, sendable) 
 pub tally_send : IsSend Tally.the_row
 tally_send = recorded_send (Tally.the_field).row _ _ (Tally.the_type).to_one tally_field_send
 
+-- what is hunted is shared
+pub hunt_field_sync : IsSync (Hunt.the_field).row
+hunt_field_sync = search (sched.crosses, strategy.the_field_sync, sendable) depth 30
+
+pub hunt_sync : IsSync Hunt.the_row
+hunt_sync = recorded_sync (Hunt.the_field).row _ _ (Hunt.the_type).to_one hunt_field_sync
+
 pub ruleset crosses = (failure_field_send, failure_send, tally_field_send, tally_send)
+
+pub ruleset shares = (hunt_field_sync, hunt_sync)

@@ -1,19 +1,20 @@
 -- The laws of hunts.
 use Rattle.std.specs.Prelude.{◌≡◌, ◌≤◌, ◌-◌, ◌↔◌, ℕ, List, Option, true}
 use Rattle.pf_model.specs.Meaning.{Job, Report}
+use Rattle.pf_strategy.specs.declared.strategy.Strategy.{Strategy}
 use Rattle.pf_seeds.specs.Hunts.{FirstFailing, Tallies}
 use Rattle.pf_seeds.specs.Rows.{Row, counted, is_like, joined}
 
 -- seeds come to one answer only
 abbrev pub OneFirst : Type 0
-OneFirst = (j : Job) (a b : ℕ) (x y : Option (ℕ × Report)) → FirstFailing j a b x → FirstFailing j a b y → x ≡ y
+OneFirst = (w : Strategy) (j : Job) (a b : ℕ) (x y : Option (ℕ × Report)) → FirstFailing w j a b x → FirstFailing w j a b y → x ≡ y
 
 abbrev pub OneTally : Type 0
-OneTally = (j : Job) (a b : ℕ) (xs ys : List Row) → Tallies j a b xs → Tallies j a b ys → xs ≡ ys
+OneTally = (w : Strategy) (j : Job) (a b : ℕ) (xs ys : List Row) → Tallies w j a b xs → Tallies w j a b ys → xs ≡ ys
 
 -- each seed is counted once
 abbrev pub EachIsCounted : Type 0
-EachIsCounted = (j : Job) (a b : ℕ) (rows : List Row) → Tallies j a b rows → counted rows ≡ b - a
+EachIsCounted = (w : Strategy) (j : Job) (a b : ℕ) (rows : List Row) → Tallies w j a b rows → counted rows ≡ b - a
 
 -- rows are joined if they are of one outcome with one verdict, and only then
 abbrev pub LikeIsSame : Type 0
@@ -22,4 +23,4 @@ LikeIsSame = (x y : Row) → (is_like x y ≡ true) ↔ ((x.verdict ≡ y.verdic
 -- the rows of two parts, one after the other, are those of the whole
 abbrev pub PartsAreTheWhole : Type 0
 PartsAreTheWhole =
-    (j : Job) (a c b : ℕ) (xs ys : List Row) → a ≤ c → c ≤ b → Tallies j a c xs → Tallies j c b ys → Tallies j a b (joined xs ys)
+    (w : Strategy) (j : Job) (a c b : ℕ) (xs ys : List Row) → a ≤ c → c ≤ b → Tallies w j a c xs → Tallies w j c b ys → Tallies w j a b (joined xs ys)

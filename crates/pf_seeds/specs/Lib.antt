@@ -1,4 +1,5 @@
 pub mod Hunts
+pub mod Judging
 pub mod Rows
 pub mod Hashes
 pub mod RowHashes

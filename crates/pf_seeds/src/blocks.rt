@@ -6,9 +6,9 @@ ghost use Rattle.pf_seeds.specs.Views.{failure_of, rows_of};
 
 use crate::failure::Failure;
 use crate::observer::HuntObserver;
+use crate::seeded::Hunt;
 use crate::tally::Tally;
 use crate::workers::{first_of_block, tally_of_block};
-use pf_sched::Job;
 use pf_terms::NoMemory;
 use std::alloc::Global;
 use std::thread::Threads;
@@ -34,19 +34,20 @@ fn grown(each: u64) -> u64 {
 pub fn first_failing<R: Threads + Sync>(
     rt: &R,
     alloc: Global,
-    job: &Job,
+    hunt: &Hunt,
     from: u64,
     end: u64,
     workers: u64,
     observer: &mut impl HuntObserver,
 ) -> Result<Option<Failure>, NoMemory>
-    ensures { IfOk result (λ f. FirstFailing job.now.asked from end (option_map failure_of f)) }
+    ensures { IfOk result (λ f.
+        FirstFailing hunt.now.strategy hunt.now.job.asked from end (option_map failure_of f)) }
 {
     let mut at = from;
     let mut each = 1;
     while at < end {
         let next = block_end(at, end, each, workers);
-        if let Some(failure) = first_of_block(rt, alloc, job, at, next, workers)? {
+        if let Some(failure) = first_of_block(rt, alloc, hunt, at, next, workers)? {
             observer.progress(next - from, 1);
             return Ok(Some(failure));
         }
@@ -61,20 +62,20 @@ pub fn first_failing<R: Threads + Sync>(
 pub fn tally_all<R: Threads + Sync>(
     rt: &R,
     alloc: Global,
-    job: &Job,
+    hunt: &Hunt,
     from: u64,
     end: u64,
     workers: u64,
     observer: &mut impl HuntObserver,
 ) -> Result<Tally, NoMemory>
-    ensures { IfOk result (λ t. Tallies job.now.asked from end (rows_of t)) }
+    ensures { IfOk result (λ t. Tallies hunt.now.strategy hunt.now.job.asked from end (rows_of t)) }
 {
     let mut tally = Tally::new(alloc);
     let mut at = from;
     let mut each = 1;
     while at < end {
         let next = block_end(at, end, each, workers);
-        tally.join(tally_of_block(rt, alloc, job, at, next, workers)?)?;
+        tally.join(tally_of_block(rt, alloc, hunt, at, next, workers)?)?;
         observer.progress(next - from, tally.failures());
         at = next;
         each = grown(each);

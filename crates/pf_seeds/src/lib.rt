@@ -18,7 +18,7 @@ pub use failure::{Failure, first_in};
 pub use hash::HashedOutcome;
 pub use observer::HuntObserver;
 pub use row::Row;
-pub use seeded::run_by_seed;
+pub use seeded::{Hunt, run_by_seed};
 pub use tallied::tally_in;
 pub use tally::Tally;
 pub use workers::{first_of_block, tally_of_block};

@@ -5,15 +5,27 @@ ghost use Rattle.pf_model.specs.Meaning.{Means};
 ghost use Rattle.pf_model.specs.Reports.{report_of};
 ghost use Rattle.pf_request.specs.Job.{asked_by_seed};
 ghost use Rattle.pf_sched.specs.Judging.{Judges};
+ghost use Rattle.pf_strategy.specs.Strategies.{MeansBySeed};
+ghost use Rattle.pf_seeds.specs.Judging.{JudgesBySeed};
 
 use pf_model::report::Report;
-use pf_sched::{Job, Judged, Scratch, judged_run, report_of_run};
+use pf_sched::{
+    Job, Judged, Scratch, judged_by_priorities, judged_run, report_by_priorities, report_of_run,
+};
+use pf_strategy::Strategy;
 use pf_terms::NoMemory;
 use std::alloc::Global;
 
-/// The report that the run of a job by a seed means, in place of the job's own choices and by their weights. What stands in the scratch makes
-/// no difference.
-pub fn run_by_seed(
+/// What is the same for all seeds of a hunt: the job in whose place their runs go, of whose own choices the weights alone play a part; and how a
+/// seed chooses.
+#[derive(Drop)]
+pub struct Hunt {
+    pub job: Job,
+    pub strategy: Strategy,
+}
+
+/// The report of the run by a seed in place of the job's own choices and by their weights.
+fn run_by_words(
     alloc: Global,
     job: &Job,
     scratch: &mut Scratch,
@@ -24,8 +36,8 @@ pub fn run_by_seed(
     report_of_run(alloc, &job.by_seed(seed)?, scratch)
 }
 
-/// The outcome and the verdict of that report. No event is kept.
-pub(crate) fn judged_by_seed(
+/// The outcome and the verdict of that report.
+fn judged_by_words(
     alloc: Global,
     job: &Job,
     scratch: &mut Scratch,
@@ -34,4 +46,34 @@ pub(crate) fn judged_by_seed(
     ensures { IfOk result (λ v. Judges (asked_by_seed job.now.asked seed) v) }
 {
     judged_run(alloc, &job.by_seed(seed)?, scratch)
+}
+
+/// The report that the job of a hunt means by a seed, in place of the job's own choices. What stands in the scratch makes no difference.
+pub fn run_by_seed(
+    alloc: Global,
+    hunt: &Hunt,
+    scratch: &mut Scratch,
+    seed: u64,
+) -> Result<Report, NoMemory>
+    ensures { IfOk result (λ r. MeansBySeed hunt.now.strategy hunt.now.job.asked seed (report_of r)) }
+{
+    match hunt.strategy {
+        Strategy::Uniform => run_by_words(alloc, &hunt.job, scratch, seed),
+        Strategy::Priorities => report_by_priorities(alloc, &hunt.job, seed, scratch),
+    }
+}
+
+/// The outcome and the verdict of that report. No event is kept.
+pub(crate) fn judged_by_seed(
+    alloc: Global,
+    hunt: &Hunt,
+    scratch: &mut Scratch,
+    seed: u64,
+) -> Result<Judged, NoMemory>
+    ensures { IfOk result (λ v. JudgesBySeed hunt.now.strategy hunt.now.job.asked seed v) }
+{
+    match hunt.strategy {
+        Strategy::Uniform => judged_by_words(alloc, &hunt.job, scratch, seed),
+        Strategy::Priorities => judged_by_priorities(alloc, &hunt.job, seed, scratch),
+    }
 }

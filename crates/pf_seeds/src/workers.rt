@@ -6,9 +6,9 @@ ghost use Rattle.pf_seeds.specs.Hunts.{FirstFailing, Tallies};
 ghost use Rattle.pf_seeds.specs.Views.{failure_of, rows_of};
 
 use crate::failure::{Failure, first_in};
+use crate::seeded::Hunt;
 use crate::tallied::tally_in;
 use crate::tally::Tally;
-use pf_sched::Job;
 use pf_terms::NoMemory;
 use std::alloc::Global;
 use std::thread::{Threads, join};
@@ -29,27 +29,32 @@ fn edge(from: u64, end: u64, first: u64, workers: u64) -> u64
 pub fn first_of_block<R: Threads + Sync>(
     rt: &R,
     alloc: Global,
-    job: &Job,
+    hunt: &Hunt,
     from: u64,
     end: u64,
     workers: u64,
 ) -> Result<Option<Failure>, NoMemory>
-    ensures { IfOk result (λ f. FirstFailing job.now.asked from end (option_map failure_of f)) }
+    ensures { IfOk result (λ f.
+        FirstFailing hunt.now.strategy hunt.now.job.asked from end (option_map failure_of f)) }
 {
     if workers < 2 || end <= from {
-        return first_in(alloc, job, from, end);
+        return first_in(alloc, hunt, from, end);
     }
     let low = workers / 2;
     let high = workers - low;
     let middle = edge(from, end, low, workers);
     let front_part = move || -> Result<Option<Failure>, NoMemory>
         requires { IsSync R.row }
-        ensures { IfOk result (λ f. FirstFailing job.entry.now.asked from middle (option_map failure_of f)) }
-    { first_of_block(rt, alloc, job, from, middle, low) };
+        ensures { IfOk result (λ f.
+            FirstFailing hunt.entry.now.strategy hunt.entry.now.job.asked from middle
+            (option_map failure_of f)) }
+    { first_of_block(rt, alloc, hunt, from, middle, low) };
     let back_part = move || -> Result<Option<Failure>, NoMemory>
         requires { IsSync R.row }
-        ensures { IfOk result (λ f. FirstFailing job.entry.now.asked middle end (option_map failure_of f)) }
-    { first_of_block(rt, alloc, job, middle, end, high) };
+        ensures { IfOk result (λ f.
+            FirstFailing hunt.entry.now.strategy hunt.entry.now.job.asked middle end
+            (option_map failure_of f)) }
+    { first_of_block(rt, alloc, hunt, middle, end, high) };
     let (front, back) = join(rt, front_part, back_part);
     match front? {
         Some(failure) => Ok(Some(failure)),
@@ -62,27 +67,29 @@ pub fn first_of_block<R: Threads + Sync>(
 pub fn tally_of_block<R: Threads + Sync>(
     rt: &R,
     alloc: Global,
-    job: &Job,
+    hunt: &Hunt,
     from: u64,
     end: u64,
     workers: u64,
 ) -> Result<Tally, NoMemory>
-    ensures { IfOk result (λ t. Tallies job.now.asked from end (rows_of t)) }
+    ensures { IfOk result (λ t. Tallies hunt.now.strategy hunt.now.job.asked from end (rows_of t)) }
 {
     if workers < 2 || end <= from {
-        return tally_in(alloc, job, from, end);
+        return tally_in(alloc, hunt, from, end);
     }
     let low = workers / 2;
     let high = workers - low;
     let middle = edge(from, end, low, workers);
     let front_part = move || -> Result<Tally, NoMemory>
         requires { IsSync R.row }
-        ensures { IfOk result (λ t. Tallies job.entry.now.asked from middle (rows_of t)) }
-    { tally_of_block(rt, alloc, job, from, middle, low) };
+        ensures { IfOk result (λ t.
+            Tallies hunt.entry.now.strategy hunt.entry.now.job.asked from middle (rows_of t)) }
+    { tally_of_block(rt, alloc, hunt, from, middle, low) };
     let back_part = move || -> Result<Tally, NoMemory>
         requires { IsSync R.row }
-        ensures { IfOk result (λ t. Tallies job.entry.now.asked middle end (rows_of t)) }
-    { tally_of_block(rt, alloc, job, middle, end, high) };
+        ensures { IfOk result (λ t.
+            Tallies hunt.entry.now.strategy hunt.entry.now.job.asked middle end (rows_of t)) }
+    { tally_of_block(rt, alloc, hunt, middle, end, high) };
     let (front, back) = join(rt, front_part, back_part);
     let mut tally = front?;
     tally.join(back?)?;

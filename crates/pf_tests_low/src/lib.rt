@@ -1,4 +1,4 @@
-//! Tests of the crates that know nothing of a module: channels, choices, mail, quotas, ties, tokens, values, atoms, searches
+//! Tests of the crates that know nothing of a module: channels, choices, priorities, mail, quotas, ties, tokens, values, atoms, searches
 //! for a small schedule, and streams that count and fail.
 #![tactic(auto)]
 
@@ -12,6 +12,8 @@ mod choices;
 mod cutting;
 #[cfg(test)]
 mod mail;
+#[cfg(test)]
+mod priorities;
 #[cfg(test)]
 mod quota;
 #[cfg(test)]

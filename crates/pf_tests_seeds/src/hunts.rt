@@ -1,9 +1,9 @@
 //! Hunts come to the same, by however many workers.
 
-use crate::jobs::{LOST_UPDATE, Told, job_by, job_of, rows_of, summary};
+use crate::jobs::{LOST_UPDATE, Told, by_priorities, job_by, job_of, rows_of, summary, uniform};
 use pf_request::RunChoices;
-use pf_sched::Job;
-use pf_seeds::{first_failing, first_in, tally_all, tally_in};
+use pf_sched::{Scratch, report_by_schedule};
+use pf_seeds::{Hunt, first_failing, first_in, tally_all, tally_in};
 use std::alloc::Global;
 use std::test::Fail;
 use std::thread::Threads;
@@ -12,13 +12,13 @@ use std::thread::Threads;
 fn first_of<R: Threads + Sync>(
     rt: &R,
     alloc: Global,
-    job: &Job,
+    hunt: &Hunt,
     from: u64,
     end: u64,
 ) -> Result<Option<(u64, usize)>, Fail> {
-    let alone = summary(&first_in(alloc, job, from, end)?);
+    let alone = summary(&first_in(alloc, hunt, from, end)?);
     for workers in [1, 2, 3] {
-        let hunted = first_failing(rt, alloc, job, from, end, workers, &mut Told::new())?;
+        let hunted = first_failing(rt, alloc, hunt, from, end, workers, &mut Told::new())?;
         if summary(&hunted) != alone {
             return Err(Fail::from("several workers come to another seed"));
         }
@@ -30,13 +30,13 @@ fn first_of<R: Threads + Sync>(
 fn tally_of<R: Threads + Sync>(
     rt: &R,
     alloc: Global,
-    job: &Job,
+    hunt: &Hunt,
     from: u64,
     end: u64,
 ) -> Result<String, Fail> {
-    let alone = rows_of(alloc, &tally_in(alloc, job, from, end)?)?;
+    let alone = rows_of(alloc, &tally_in(alloc, hunt, from, end)?)?;
     for workers in [1, 2, 3] {
-        let hunted = tally_all(rt, alloc, job, from, end, workers, &mut Told::new())?;
+        let hunted = tally_all(rt, alloc, hunt, from, end, workers, &mut Told::new())?;
         if rows_of(alloc, &hunted)?.as_str() != alone.as_str() {
             return Err(Fail::from("several workers come to other rows"));
         }
@@ -47,8 +47,8 @@ fn tally_of<R: Threads + Sync>(
 #[test]
 fn a_lost_update_is_found_at_seed_0(rt: HostRuntime) -> Result<(), Fail> {
     let alloc = rt.alloc();
-    let job = job_of(alloc, LOST_UPDATE, "true", 2000)?;
-    let first = first_of(&rt, alloc, &job, 0, 40)?;
+    let hunt = uniform(job_of(alloc, LOST_UPDATE, "true", 2000)?);
+    let first = first_of(&rt, alloc, &hunt, 0, 40)?;
     assert!(rt; matches!(first, Some((0, _))), "seed 0 fails");
     Ok(())
 }
@@ -56,32 +56,32 @@ fn a_lost_update_is_found_at_seed_0(rt: HostRuntime) -> Result<(), Fail> {
 #[test]
 fn a_hunt_begins_behind_the_seeds_that_fail(rt: HostRuntime) -> Result<(), Fail> {
     let alloc = rt.alloc();
-    let job = job_of(alloc, LOST_UPDATE, "true", 2000)?;
-    let Some((first, _)) = first_of(&rt, alloc, &job, 1, 60)? else {
+    let hunt = uniform(job_of(alloc, LOST_UPDATE, "true", 2000)?);
+    let Some((first, _)) = first_of(&rt, alloc, &hunt, 1, 60)? else {
         return Err(Fail::from("none of the seeds from 1 to 59 fails"));
     };
-    assert_eq!(rt; first_of(&rt, alloc, &job, 1, first)?, None);
+    assert_eq!(rt; first_of(&rt, alloc, &hunt, 1, first)?, None);
     Ok(())
 }
 
 #[test]
 fn where_none_fails_none_is_told(rt: HostRuntime) -> Result<(), Fail> {
     let alloc = rt.alloc();
-    let job = job_of(alloc, LOST_UPDATE, "nodeadlock", 2000)?;
-    assert_eq!(rt; first_of(&rt, alloc, &job, 0, 50)?, None);
-    assert_eq!(rt; first_of(&rt, alloc, &job, 9, 9)?, None);
-    assert_eq!(rt; first_of(&rt, alloc, &job, 9, 3)?, None);
+    let hunt = uniform(job_of(alloc, LOST_UPDATE, "nodeadlock", 2000)?);
+    assert_eq!(rt; first_of(&rt, alloc, &hunt, 0, 50)?, None);
+    assert_eq!(rt; first_of(&rt, alloc, &hunt, 9, 9)?, None);
+    assert_eq!(rt; first_of(&rt, alloc, &hunt, 9, 3)?, None);
     Ok(())
 }
 
 #[test]
 fn each_outcome_that_is_met_has_a_row(rt: HostRuntime) -> Result<(), Fail> {
     let alloc = rt.alloc();
-    let job = job_of(alloc, LOST_UPDATE, "true", 2000)?;
-    let rows = tally_of(&rt, alloc, &job, 0, 50)?;
+    let hunt = uniform(job_of(alloc, LOST_UPDATE, "true", 2000)?);
+    let rows = tally_of(&rt, alloc, &hunt, 0, 50)?;
     assert!(rt; rows.as_str().starts_with("fails finished "), "{rows}");
     assert!(rt; rows.as_str().contains("\nholds finished "), "{rows}");
-    assert_eq!(rt; tally_of(&rt, alloc, &job, 7, 7)?.as_str(), "");
+    assert_eq!(rt; tally_of(&rt, alloc, &hunt, 7, 7)?.as_str(), "");
     Ok(())
 }
 
@@ -89,9 +89,9 @@ fn each_outcome_that_is_met_has_a_row(rt: HostRuntime) -> Result<(), Fail> {
 fn one_outcome_has_one_row(rt: HostRuntime) -> Result<(), Fail> {
     let alloc = rt.alloc();
     let source = "-module(m).\n-export([main/0]).\nmain() -> {ok, [self(), 7]}.\n";
-    let job = job_of(alloc, source, "returns", 100)?;
+    let hunt = uniform(job_of(alloc, source, "returns", 100)?);
     assert_eq!(rt;
-        tally_of(&rt, alloc, &job, 5, 25)?.as_str(),
+        tally_of(&rt, alloc, &hunt, 5, 25)?.as_str(),
         "holds finished 20 5\n"
     );
     Ok(())
@@ -108,8 +108,8 @@ fn to_itself(alloc: Global, run: u32, deliver: u32) -> Result<String, Fail> {
         run,
         deliver,
     };
-    let job = job_by(alloc, TO_ITSELF, "withinlimit", choices, 7)?;
-    rows_of(alloc, &tally_in(alloc, &job, 0, 10)?)
+    let hunt = uniform(job_by(alloc, TO_ITSELF, "withinlimit", choices, 7)?);
+    rows_of(alloc, &tally_in(alloc, &hunt, 0, 10)?)
 }
 
 #[test]
@@ -119,11 +119,40 @@ fn a_hunt_keeps_the_weights(rt: HostRuntime) -> Result<(), Fail> {
 }
 
 #[test]
+fn priorities_find_a_lost_update(rt: HostRuntime) -> Result<(), Fail> {
+    let alloc = rt.alloc();
+    let hunt = by_priorities(job_of(alloc, LOST_UPDATE, "true", 2000)?);
+    let first = first_of(&rt, alloc, &hunt, 0, 40)?;
+    assert!(rt; first.is_some(), "none of 40 seeds fails");
+    let rows = tally_of(&rt, alloc, &hunt, 0, 50)?;
+    assert!(rt; rows.as_str().contains("holds finished "), "{rows}");
+    Ok(())
+}
+
+#[test]
+fn the_schedule_of_a_run_by_priorities_means_its_report(rt: HostRuntime) -> Result<(), Fail> {
+    let alloc = rt.alloc();
+    let hunt = by_priorities(job_of(alloc, LOST_UPDATE, "true", 2000)?);
+    let Some(found) = first_in(alloc, &hunt, 0, 40)? else {
+        return Err(Fail::from("none of 40 seeds fails"));
+    };
+    let mut schedule = Vec::new(alloc);
+    for event in &found.report.events {
+        schedule.push(event.choice)?;
+    }
+    let again = report_by_schedule(alloc, &hunt.job, &schedule, &mut Scratch::new(alloc))?;
+    assert_eq!(rt; again.events.len(), found.report.events.len());
+    assert_eq!(rt; again.steps, found.report.steps);
+    assert_eq!(rt; again.verdict, Some(false));
+    Ok(())
+}
+
+#[test]
 fn who_watches_is_told_of_all_seeds(rt: HostRuntime) -> Result<(), Fail> {
     let alloc = rt.alloc();
-    let job = job_of(alloc, LOST_UPDATE, "nodeadlock", 2000)?;
+    let hunt = uniform(job_of(alloc, LOST_UPDATE, "nodeadlock", 2000)?);
     let mut watch = Told::new();
-    let none = first_failing(&rt, alloc, &job, 10, 60, 2, &mut watch)?;
+    let none = first_failing(&rt, alloc, &hunt, 10, 60, 2, &mut watch)?;
     assert_eq!(rt; summary(&none), None);
     assert_eq!(rt; watch.done, 50);
     assert_eq!(rt; watch.failures, 0);

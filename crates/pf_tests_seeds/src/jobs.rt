@@ -4,7 +4,8 @@ use pf_model::report::Outcome;
 use pf_module::ReadModule;
 use pf_request::{Kind, Request, RunChoices, ShortBytes, Source};
 use pf_sched::Job;
-use pf_seeds::{Failure, HuntObserver, Tally};
+use pf_seeds::{Failure, Hunt, HuntObserver, Tally};
+use pf_strategy::Strategy;
 use std::alloc::Global;
 use std::test::Fail;
 
@@ -40,6 +41,22 @@ pub(crate) fn job_by(
         limit,
     };
     Ok(Job::new(alloc, module, &request, 1)?)
+}
+
+/// The hunt of a job by the words of the seeds.
+pub(crate) fn uniform(job: Job) -> Hunt {
+    Hunt {
+        job,
+        strategy: Strategy::Uniform,
+    }
+}
+
+/// The hunt of a job by priorities.
+pub(crate) fn by_priorities(job: Job) -> Hunt {
+    Hunt {
+        job,
+        strategy: Strategy::Priorities,
+    }
 }
 
 /// The seed of a failure, with how many events its report has.

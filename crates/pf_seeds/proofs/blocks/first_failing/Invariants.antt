@@ -6,7 +6,7 @@ use Rattle.pf_seeds.proofs.blocks.first_failing.Given as goal
 abbrev pub invariant-loop-at : goal.invariant-loop-at
 invariant-loop-at g l = record {
   behind : l.from ≤ l.at;
-  none : NoneFails l.job.asked l.from l.at;
+  none : NoneFails l.hunt.strategy l.hunt.job.asked l.from l.at;
 }
 
 abbrev pub decreases-loop-at : goal.decreases-loop-at

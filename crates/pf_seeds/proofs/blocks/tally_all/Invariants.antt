@@ -8,7 +8,7 @@ abbrev pub invariant-loop-at : goal.invariant-loop-at
 invariant-loop-at g l = record {
   behind : l.from ≤ l.at;
   within : (l.at ≡ l.from) ⊎ (l.at ≤ l.end);
-  rows : Tallies l.job.asked l.from l.at (rows_of l.tally);
+  rows : Tallies l.hunt.strategy l.hunt.job.asked l.from l.at (rows_of l.tally);
 }
 
 abbrev pub decreases-loop-at : goal.decreases-loop-at

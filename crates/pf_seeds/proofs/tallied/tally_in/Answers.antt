@@ -6,16 +6,16 @@ use Rattle.pf_seeds.proofs.tallied.tally_in.Goals as goal
 
 pub loop-seed-init : goal.loop-seed-init
 loop-seed-init c =
-    let j = c.args.job.now.asked in
+    let j = c.args.hunt.now.job.asked in
     record {
-      rows = subst (Tallies j c.args.from c.args.from) (sym c.new-tally.ensures) (no_seed c.args.from (omega arith));
+      rows = subst (Tallies c.args.hunt.now.strategy j c.args.from c.args.from) (sym c.new-tally.ensures) (no_seed c.args.from (omega arith));
       at = inl refl;
     }
 
 pub add-requires : goal.add-requires
 add-requires c =
     let at = c.loop-seed in
-    let counted = each_is_counted c.args.job.now.asked c.args.from at.seed (rows_of at.tally) at.invariant.rows in
+    let counted = each_is_counted c.args.hunt.now.strategy c.args.hunt.now.job.asked c.args.from at.seed (rows_of at.tally) at.invariant.rows in
     let judged = c.in_ok-judged.ensures in
     let one = ap (λ x. x.count) (c.met.ensures judged.0 judged.2) in
     let fits = c.ranges.end.fits in
@@ -25,16 +25,16 @@ add-requires c =
 pub loop-seed-preserved : goal.loop-seed-preserved
 loop-seed-preserved c =
     let at = c.loop-seed in
-    let j = c.args.job.now.asked in
+    let j = c.args.hunt.now.job.asked in
     let judged = c.in_ok-judged.ensures in
     record {
       rows =
           rw (c.in_ok-add.ensures, c.met.ensures judged.0 judged.2)
-          (one_seed_more j c.args.from at.seed (rows_of at.tally) judged.0 (omega (arith, at.auto.seed)) at.invariant.rows judged.1);
+          (one_seed_more c.args.hunt.now.strategy j c.args.from at.seed (rows_of at.tally) judged.0 (omega (arith, at.auto.seed)) at.invariant.rows judged.1);
       at = inr (omega (arith, c.loop-seed-test.true));
     }
 
 pub returns : goal.returns
 returns c =
     let at = c.loop-seed in
-    ends_there c.args.job.now.asked c.args.from c.args.end at.seed (rows_of at.tally) at.invariant.rows at.invariant.at (omega (arith, c.loop-seed-test.false))
+    ends_there c.args.hunt.now.strategy c.args.hunt.now.job.asked c.args.from c.args.end at.seed (rows_of at.tally) at.invariant.rows at.invariant.at (omega (arith, c.loop-seed-test.false))

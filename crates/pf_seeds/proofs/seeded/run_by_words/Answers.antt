@@ -2,7 +2,7 @@ use Rattle.std.proofs.Common.{ap, subst}
 use Rattle.std.specs.Prelude.{IfOk}
 use Rattle.pf_model.specs.Meaning.{Means}
 use Rattle.pf_model.specs.Reports.{report_of}
-use Rattle.pf_seeds.proofs.seeded.run_by_seed.Goals as goal
+use Rattle.pf_seeds.proofs.seeded.run_by_words.Goals as goal
 
 pub report_of_run-requires : goal.report_of_run-requires
 report_of_run-requires c = ap (λ j. j.asked.runs) c.in_ok-by_seed.ensures

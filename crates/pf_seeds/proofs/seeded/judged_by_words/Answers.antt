@@ -1,7 +1,7 @@
 use Rattle.std.proofs.Common.{ap, subst}
 use Rattle.std.specs.Prelude.{IfOk}
 use Rattle.pf_sched.specs.Judging.{Judges}
-use Rattle.pf_seeds.proofs.seeded.judged_by_seed.Goals as goal
+use Rattle.pf_seeds.proofs.seeded.judged_by_words.Goals as goal
 
 pub judged_run-requires : goal.judged_run-requires
 judged_run-requires c = ap (λ j. j.asked.runs) c.in_ok-by_seed.ensures
