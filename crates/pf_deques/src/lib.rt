@@ -1,0 +1,9 @@
+//! The deque of a worker: it puts in and takes out itself, first in, first out, and one other worker steals.
+#![tactic(auto)]
+
+mod ends;
+mod part;
+mod whole;
+
+pub use ends::{Owner, Thief, open};
+pub use whole::Whole;

@@ -1,0 +1,9 @@
+use Rattle.std.proofs.Common.{rules}
+use Rattle.pf_register.proofs.Moves.{borrows, hands_seen}
+use Rattle.pf_register.proofs.register.Register.show.Goals as goal
+
+pub absorb-requires-clause-rule : goal.absorb-requires-clause-rule
+absorb-requires-clause-rule g c = borrows _ _ _ _ (search rules) c.pass.invariant.1
+
+pub another-pass-requires : goal.another-pass-requires
+another-pass-requires g c = hands_seen _ _ (search rules)
