@@ -1,0 +1,4 @@
+pub mod Lists
+pub mod Trials
+pub mod Drops
+pub mod Tells

@@ -1,0 +1,5 @@
+pub mod Tally
+pub mod Notes
+pub mod Claims
+pub mod Gone
+pub mod Told
