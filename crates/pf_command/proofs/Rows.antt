@@ -11,7 +11,7 @@ use Rattle.pf_check.specs.Reads.{Reads, refused, accepted_as}
 use Rattle.pf_request.specs.Module.{ReadModule}
 use Rattle.pf_request.specs.Job.{Job, memory_report}
 use Rattle.pf_command.specs.Answers.{AnswersBy, IsModuleOf, Refuses, Tells, TellsResult, source_refused, job_refused, told, result, out_of_memory}
-use Rattle.pf_command.specs.Checks.{Checks, explained, is_module, is_refused}
+use Rattle.pf_command.specs.Checks.{Checks, Explains, is_module, is_refused}
 use Rattle.pf_command.specs.declared.answer.Answer.{Answer}
 
 module _ (asks : ReadModule → Result Job Code → Type 0) (tells : Job → List ℕ → ℕ → Type 0) where
@@ -45,6 +45,6 @@ pub row_module : (explain : Bool) (m : Checked) (bytes text : List ℕ) (status 
     → text ≡ line (codes "ok") → status ≡ 0 → Checks explain bytes text status
 row_module explain m bytes text status reads e s = rw (e, s) (is_module m.name m.atoms m.functions reads)
 
-pub row_check_refused : (explain : Bool) (bytes text : List ℕ) (status : ℕ) (code : Code) (offset : ℕ) → Reads bytes (refused code offset)
-    → text ≡ line (refusal_text code offset) ++ explained explain bytes code offset → status ≡ 2 → Checks explain bytes text status
-row_check_refused explain bytes text status code offset reads e s = rw (e, s) (is_refused code offset reads)
+pub row_check_refused : (explain : Bool) (bytes text more : List ℕ) (status : ℕ) (code : Code) (offset : ℕ) → Reads bytes (refused code offset)
+    → Explains bytes code offset explain more → text ≡ line (refusal_text code offset) ++ more → status ≡ 2 → Checks explain bytes text status
+row_check_refused explain bytes text more status code offset reads told e s = rw (e, s) (is_refused code offset more reads told)

@@ -3,11 +3,12 @@
 ghost use Rattle.std.specs.Prelude.{◌≡◌, ◌++◌, IfOk, codes};
 ghost use Rattle.pf_fault.specs.Codes.{refusal_text};
 ghost use Rattle.pf_model.specs.TermText.{line};
-ghost use Rattle.pf_command.specs.Checks.{Checks, explained};
+ghost use Rattle.pf_command.specs.Checks.{Checks, Explains, IsCheckRefused};
 
 use crate::answer::{Answer, refused_at};
 use crate::serving::Answering;
 use pf_check::read;
+use pf_cures::advise;
 use pf_explain::put_explanation;
 use pf_fault::{NoMemory, OrNoMemory, Refusal};
 use pf_text::put;
@@ -22,15 +23,39 @@ fn accepted(alloc: Global) -> Result<Answer, NoMemory>
     Ok(Answer { text, status: 0 })
 }
 
+/// The explanation of a refusal.
+fn explain_refusal(alloc: Global, source: &[u8], refusal: Refusal) -> Result<Vec<u8>, NoMemory>
+    ensures { IfOk result (λ t. Explains source.now refusal.code refusal.offset true t.items) }
+{
+    let advice = advise(alloc, source, refusal)?;
+    let mut text = Vec::new(alloc);
+    put_explanation(alloc, &mut text, source, advice)?;
+    Ok(text)
+}
+
+/// What follows the line of a refusal: its explanation, if that is asked for.
+fn more_of(
+    alloc: Global,
+    explain: bool,
+    source: &[u8],
+    refusal: Refusal,
+) -> Result<Vec<u8>, NoMemory>
+    ensures { IfOk result (λ t. Explains source.now refusal.code refusal.offset explain t.items) }
+{
+    if explain {
+        explain_refusal(alloc, source, refusal)
+    } else {
+        Ok(Vec::new(alloc))
+    }
+}
+
 /// The answer to a source that is refused, with its explanation if that is asked for.
 fn refuse(alloc: Global, explain: bool, source: &[u8], refusal: Refusal) -> Result<Answer, NoMemory>
-    ensures { IfOk result (λ a. (a.text.items ≡ line (refusal_text refusal.code refusal.offset)
-        ++ explained explain source.now refusal.code refusal.offset) × (a.status ≡ 2)) }
+    ensures { IfOk result (IsCheckRefused explain source.now refusal.code refusal.offset) }
 {
     let Answer { mut text, status } = refused_at(alloc, refusal)?;
-    if explain {
-        put_explanation(alloc, &mut text, source, refusal)?;
-    }
+    let more = more_of(alloc, explain, source, refusal)?;
+    text.extend_from_slice(&more)?;
     Ok(Answer { text, status })
 }
 

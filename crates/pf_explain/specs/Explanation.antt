@@ -1,10 +1,10 @@
 -- The text that explains a refusal.
-use Rattle.std.specs.Prelude.{ℕ, List, [], ◌∷◌, ◌++◌, take, drop, codes}
+use Rattle.std.specs.Prelude.{ℕ, List, [], ◌∷◌, ◌++◌, Option, None, Some, take, drop, codes}
 use Rattle.std.specs.Fmt.{decimal}
-use Rattle.pf_fault.specs.declared.code.Code.{Code}
 use Rattle.pf_explain.specs.Positions.{line_number, column}
 use Rattle.pf_explain.specs.Shown.{shown_line, caret_line}
-use Rattle.pf_explain.specs.Sentences.{sentence_of}
+use Rattle.pf_explain.specs.declared.advice.Advice.{Advice}
+use Rattle.pf_explain.specs.declared.advice.Rewrite.{Rewrite}
 
 -- words on a line of their own
 abbrev pub line : List ℕ → List ℕ
@@ -14,9 +14,15 @@ line words = words ++ 10 ∷ []
 abbrev pub position_text : (front : List ℕ) → List ℕ
 position_text front = codes "line " ++ decimal (line_number front) ++ codes ", column " ++ decimal (column front)
 
--- of a source and its refusal: the position, its line, a caret below the position, and the sentence of the code; a position past the end is the end
-abbrev pub explanation : (source : List ℕ) → Code → (position : ℕ) → List ℕ
-explanation source code position =
-    let front = take position source in
-    let behind = drop position source in
-    line (position_text front) ++ line (shown_line front behind) ++ line (caret_line front) ++ line (sentence_of code)
+-- what stands in the source, in an example, and what is written in its place
+abbrev pub rewrite_text : Option Rewrite → List ℕ
+rewrite_text None = []
+rewrite_text (Some r) = line (codes "  instead of  " ++ r.instead.now) ++ line (codes "  write       " ++ r.write.now)
+
+-- of a source and what is said of a position in it: the position, its line, a caret below the position, the sentence, and the example if there is
+-- one; a position past the end is the end
+abbrev pub explanation : (source : List ℕ) → Advice → List ℕ
+explanation source a =
+    let front = take a.position source in
+    let behind = drop a.position source in
+    line (position_text front) ++ line (shown_line front behind) ++ line (caret_line front) ++ line a.sentence.now ++ rewrite_text a.rewrite

@@ -1,14 +1,13 @@
 //! The text that explains a refusal.
 
-ghost use Rattle.std.specs.Prelude.{◌≡◌, ◌++◌, OnErr, OnOk};
+ghost use Rattle.std.specs.Prelude.{◌≡◌, ◌++◌, OnErr, OnOk, Some};
 ghost use Rattle.pf_explain.specs.Shown.{caret_line, shown_line};
-ghost use Rattle.pf_explain.specs.Sentences.{sentence_of};
-ghost use Rattle.pf_explain.specs.Explanation.{explanation, line, position_text};
+ghost use Rattle.pf_explain.specs.Explanation.{explanation, line, position_text, rewrite_text};
 
-use crate::position::{column, line_number, since_newline, up_to_newline};
-use crate::sentences::sentence;
+use crate::advice::{Advice, Rewrite};
+use crate::position::{column, columns, line_number, since_newline, up_to_newline};
 use crate::shown::{farthest, nearest, put_blanks, put_shown};
-use pf_fault::{Code, NoMemory, Refusal};
+use pf_fault::NoMemory;
 use std::alloc::Global;
 
 /// Puts the line and the column of a position, by the bytes in front of it.
@@ -36,52 +35,77 @@ fn put_line(out: &mut Vec<u8>, front: &[u8], behind: &[u8]) -> Result<(), NoMemo
 fn put_caret(out: &mut Vec<u8>, front: &[u8]) -> Result<(), NoMemory>
     ensures { OnOk result (out.new.items ≡ out.old.items ++ line (caret_line front.now)) }
 {
-    put_blanks(out, nearest(since_newline(front)).len())?;
+    put_blanks(out, columns(nearest(since_newline(front))))?;
     out.extend_from_slice(b"^\n")?;
     Ok(())
 }
 
-/// Puts the sentence of a code.
-fn put_sentence(out: &mut Vec<u8>, code: Code) -> Result<(), NoMemory>
-    ensures { OnOk result (out.new.items ≡ out.old.items ++ line (sentence_of code)) }
+/// Puts a sentence.
+fn put_sentence(out: &mut Vec<u8>, sentence: &str) -> Result<(), NoMemory>
+    ensures { OnOk result (out.new.items ≡ out.old.items ++ line sentence.now) }
 {
-    out.extend_from_slice(sentence(code).as_bytes())?;
+    out.extend_from_slice(sentence.as_bytes())?;
     out.push(b'\n')?;
     Ok(())
 }
 
-/// Puts the four lines of an explanation.
+/// Puts words on a line of their own, behind others.
+fn put_behind(out: &mut Vec<u8>, front: &[u8], words: &str) -> Result<(), NoMemory>
+    ensures { OnOk result (out.new.items ≡ out.old.items ++ line (front.now ++ words.now)) }
+{
+    out.extend_from_slice(front)?;
+    put_sentence(out, words)
+}
+
+/// Puts the two lines of an example.
+fn put_example(out: &mut Vec<u8>, rewrite: Rewrite) -> Result<(), NoMemory>
+    ensures { OnOk result (out.new.items ≡ out.old.items ++ rewrite_text (Some rewrite)) }
+{
+    put_behind(out, b"  instead of  ", rewrite.instead)?;
+    put_behind(out, b"  write       ", rewrite.write)
+}
+
+/// The same if there is one.
+fn put_rewrite(out: &mut Vec<u8>, rewrite: Option<Rewrite>) -> Result<(), NoMemory>
+    ensures { OnOk result (out.new.items ≡ out.old.items ++ rewrite_text rewrite) }
+{
+    match rewrite {
+        Some(rewrite) => put_example(out, rewrite),
+        None => Ok(()),
+    }
+}
+
+/// Puts the lines of an explanation.
 fn put_lines(
     alloc: Global,
     out: &mut Vec<u8>,
     source: &[u8],
-    refusal: Refusal,
+    advice: Advice,
 ) -> Result<(), NoMemory>
-    ensures { OnOk result (out.new.items
-        ≡ out.old.items ++ explanation source.now refusal.code refusal.offset) }
+    ensures { OnOk result (out.new.items ≡ out.old.items ++ explanation source.now advice) }
 {
-    let position = refusal.offset.min(source.len());
+    let position = advice.position.min(source.len());
     let (front, behind) = source.split_at(position);
     put_position(alloc, out, front)?;
     put_line(out, front, behind)?;
     put_caret(out, front)?;
-    put_sentence(out, refusal.code)
+    put_sentence(out, advice.sentence)?;
+    put_rewrite(out, advice.rewrite)
 }
 
-/// Puts what is wrong with a source that is refused: the line and the column of the position, the line around it, a caret below it,
-/// and a sentence. A position past the end counts as the end. Where memory runs out nothing is put.
+/// Puts what is said of a source that is refused: the line and the column of the position, the line around it, a caret below it, the
+/// sentence, and the example if there is one. A position past the end counts as the end. Where memory runs out nothing is put.
 pub fn put_explanation(
     alloc: Global,
     out: &mut Vec<u8>,
     source: &[u8],
-    refusal: Refusal,
+    advice: Advice,
 ) -> Result<(), NoMemory>
-    ensures put { OnOk result (out.new.items
-        ≡ out.old.items ++ explanation source.now refusal.code refusal.offset) }
+    ensures put { OnOk result (out.new.items ≡ out.old.items ++ explanation source.now advice) }
     ensures err { OnErr result (out.new.items ≡ out.old.items) }
 {
     let mut text = Vec::new(alloc);
-    put_lines(alloc, &mut text, source, refusal)?;
+    put_lines(alloc, &mut text, source, advice)?;
     out.extend_from_slice(&text)?;
     Ok(())
 }

@@ -1,11 +1,13 @@
 //! What is wrong with a source that is refused: where, in which line, and how to mend it.
 #![tactic(auto)]
 
+mod advice;
 mod explanation;
 mod position;
 mod sentences;
 mod shown;
 
+pub use advice::{Advice, Rewrite, plain};
 pub use explanation::put_explanation;
 pub use sentences::sentence;
 pub use shown::MOST_SHOWN;

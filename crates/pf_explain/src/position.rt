@@ -1,7 +1,28 @@
 //! Where a position stands: the line and the column, and the rest of its line.
 
 ghost use Rattle.std.specs.Prelude.{◌≡◌, ◌≤◌, length, count_by};
-ghost use Rattle.pf_explain.specs.Positions.{column, is_newline, line_number, since_newline, up_to_newline};
+ghost use Rattle.pf_explain.specs.Positions.{begins, column, columns, goes_on, is_newline, line_number, since_newline, up_to_newline};
+
+/// Whether a byte goes on with a character of UTF-8.
+pub(crate) fn goes_on(byte: u8) -> bool
+    ensures { result ≡ goes_on byte }
+{
+    matches!(byte, 128..=191)
+}
+
+/// How many columns these bytes take: one for each character.
+pub(crate) fn columns(bytes: &[u8]) -> usize
+    ensures count { result ≡ columns bytes.now }
+    ensures bound { result ≤ length bytes.now }
+{
+    let mut count = 0;
+    for byte in bytes {
+        if !goes_on(*byte) {
+            count += 1;
+        }
+    }
+    count
+}
 
 /// How many newlines stand there.
 fn newlines(bytes: &[u8]) -> usize
@@ -50,5 +71,5 @@ pub(crate) fn line_number(front: &[u8]) -> usize
 pub(crate) fn column(front: &[u8]) -> usize
     ensures { result ≡ column front.now }
 {
-    1 + since_newline(front).len()
+    1 + columns(since_newline(front))
 }

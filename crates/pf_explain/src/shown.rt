@@ -1,21 +1,58 @@
 //! The line of a position as it is shown, and the caret below the position.
 
-ghost use Rattle.std.specs.Prelude.{◌≡◌, ◌++◌, OnOk, map, replicate};
-ghost use Rattle.pf_explain.specs.Shown.{nearest, farthest, shown_byte};
+ghost use Rattle.std.specs.Prelude.{◌≡◌, ◌++◌, ◌∷◌, [], OnOk, get_or, replicate};
+ghost use Rattle.pf_explain.specs.Shown.{farthest, leads, nearest, shown, shown_behind, shown_byte, shown_first};
 
+use crate::position::goes_on;
 use pf_fault::NoMemory;
 
 /// The most bytes of a line that are shown in front of a position, and from the position on.
 pub const MOST_SHOWN: usize = 100;
 
-/// A byte as it is shown: a blank or a visible character as it is, and any other as `?`.
-fn shown_byte(byte: u8) -> u8
-    ensures { result ≡ shown_byte byte }
+/// Whether a byte is the first of the two of a letter in UTF-8, from À on. What stands before that could control a terminal.
+fn leads(byte: u8) -> bool
+    ensures { result ≡ leads byte }
+{
+    matches!(byte, 195..=223)
+}
+
+/// Puts a byte that goes on with a character, where that is such a letter.
+fn put_behind(out: &mut Vec<u8>, before: u8, byte: u8) -> Result<(), NoMemory>
+    ensures { OnOk result (out.new.items ≡ out.old.items ++ shown_behind before byte) }
+{
+    if leads(before) {
+        out.push(byte)?;
+    }
+    Ok(())
+}
+
+/// A byte with which a character begins: itself where it is a blank or a visible character, or begins such a letter, else `?`.
+fn shown_first(byte: u8, next: u8) -> u8
+    ensures { shown_first byte next ≡ result ∷ [] }
 {
     match byte {
         b' '..=b'~' => byte,
+        _ if leads(byte) && goes_on(next) => byte,
         _ => b'?',
     }
+}
+
+/// Puts a byte as it is shown, by those around it.
+fn put_byte(out: &mut Vec<u8>, before: u8, byte: u8, next: u8) -> Result<(), NoMemory>
+    ensures { OnOk result (out.new.items ≡ out.old.items ++ shown_byte before byte next) }
+{
+    if goes_on(byte) {
+        return put_behind(out, before, byte);
+    }
+    out.push(shown_first(byte, next))?;
+    Ok(())
+}
+
+/// The byte there; 0 where there is none.
+fn byte_at(bytes: &[u8], at: usize) -> u8
+    ensures { result ≡ get_or bytes.now at 0 }
+{
+    bytes.get(at).copied().unwrap_or(0)
 }
 
 /// The bytes in front of a position that are shown, the last ones.
@@ -36,10 +73,12 @@ pub(crate) fn farthest(behind: &[u8]) -> &[u8]
 
 /// Puts bytes as they are shown.
 pub(crate) fn put_shown(out: &mut Vec<u8>, bytes: &[u8]) -> Result<(), NoMemory>
-    ensures { OnOk result (out.new.items ≡ out.old.items ++ map shown_byte bytes.now) }
+    ensures { OnOk result (out.new.items ≡ out.old.items ++ shown bytes.now) }
 {
-    for byte in bytes {
-        out.push(shown_byte(*byte))?;
+    for at in 0..bytes.len() {
+        let before = byte_at(bytes, at.saturating_sub(1));
+        let next = byte_at(bytes, at + 1);
+        put_byte(out, before, byte_at(bytes, at), next)?;
     }
     Ok(())
 }

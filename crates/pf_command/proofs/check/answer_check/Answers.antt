@@ -1,9 +1,8 @@
-use Rattle.std.proofs.Common.{◌≡◌, ◌++◌}
+use Rattle.std.proofs.Common.{◌≡◌}
 use Rattle.std.specs.Prelude.{codes}
 use Rattle.std.proofs.lemmas.Result.{IfOk-weaker}
-use Rattle.pf_fault.specs.Codes.{refusal_text}
 use Rattle.pf_model.specs.TermText.{line}
-use Rattle.pf_command.specs.Checks.{Checks, explained}
+use Rattle.pf_command.specs.Checks.{Checks, IsCheckRefused}
 use Rattle.pf_command.proofs.Rows.{row_module, row_check_refused}
 use Rattle.pf_command.proofs.check.answer_check.Goals as goal
 
@@ -18,6 +17,6 @@ returns c =
     let refusal = c.in-Err-Fault.refusal in
     let bytes = c.args.source.now in
     let reads = rw c.in-Err-Fault.field-0-is at c.in-Err-Fault.ensures.fault in
-    IfOk-weaker c.refuse.result (λ a. (a.text.items ≡ line (refusal_text refusal.code refusal.offset) ++ explained c.args.explain bytes refusal.code refusal.offset) × (a.status ≡ 2))
+    IfOk-weaker c.refuse.result (IsCheckRefused c.args.explain bytes refusal.code refusal.offset)
     (λ a. Checks c.args.explain bytes a.text.items a.status)
-    (λ a is. row_check_refused c.args.explain bytes a.text.items a.status refusal.code refusal.offset reads is.0 is.1) c.refuse.ensures
+    (λ a is. row_check_refused c.args.explain bytes a.text.items is.0 a.status refusal.code refusal.offset reads is.1.0 is.1.1.0 is.1.1.1) c.refuse.ensures

@@ -1,7 +1,7 @@
-use Rattle.std.proofs.Common.{◌≡◌, ◌++◌, take, map}
-use Rattle.pf_explain.specs.Shown.{shown_byte}
+use Rattle.std.proofs.Common.{◌≡◌, ◌++◌}
+use Rattle.pf_explain.specs.Shown.{shown_up_to}
 use Rattle.pf_explain.proofs.shown.put_shown.Given as goal
 
 -- the bytes so far have gone out
-abbrev pub invariant-loop-byte : goal.invariant-loop-byte
-invariant-loop-byte l = l.out.items ≡ l.fn.out.items ++ map shown_byte (take l.byte-index l.bytes)
+abbrev pub invariant-loop-at : goal.invariant-loop-at
+invariant-loop-at l = l.out.items ≡ l.fn.out.items ++ shown_up_to l.bytes l.at

@@ -1,0 +1,43 @@
+//! What is said of a construct.
+
+/// A row of a table: the word that a construct is known by, what is said of it, and an example with how that is written here.
+#[derive(Clone, Copy)]
+pub(crate) struct Cure {
+    pub word: &'static str,
+    pub says: &'static str,
+    pub instead: &'static str,
+    pub write: &'static str,
+}
+
+/// The row of a word.
+pub(crate) fn find(table: &[Cure], word: &[u8]) -> Option<Cure> {
+    for cure in table {
+        if cure.word.as_bytes() == word {
+            return Some(*cure);
+        }
+    }
+    None
+}
+
+/// The row of a word, or else what is said of all others.
+pub(crate) fn find_or(table: &[Cure], word: &[u8], other: Cure) -> Cure {
+    match find(table, word) {
+        Some(cure) => cure,
+        None => other,
+    }
+}
+
+/// A cure, and where in the source its cause stands.
+#[derive(Clone, Copy)]
+pub(crate) struct Found {
+    pub position: usize,
+    pub cure: Cure,
+}
+
+/// The same for a place where there may be a cure.
+pub(crate) fn found_at(position: usize, cure: Option<Cure>) -> Option<Found> {
+    match cure {
+        Some(cure) => Some(Found { position, cure }),
+        None => None,
+    }
+}

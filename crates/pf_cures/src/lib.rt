@@ -1,0 +1,17 @@
+//! Which cure a refused source wants: the construct of Erlang that stands there and that the language lacks, with how it is written here.
+#![tactic(auto)]
+
+mod advice;
+mod around;
+mod bytes;
+mod cure;
+mod forms;
+mod guards;
+mod modules;
+mod pieces;
+mod place;
+mod tokens;
+mod undefined;
+mod words;
+
+pub use advice::advise;

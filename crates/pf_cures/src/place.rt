@@ -1,0 +1,149 @@
+//! A place in a source: the piece at an offset, and those around it.
+
+use crate::cure::{Cure, Found};
+use crate::pieces::{Kind, Piece, cut};
+use pf_fault::NoMemory;
+use std::alloc::Global;
+
+/// A source in pieces, and the piece at an offset by its number; behind the last where none stands there.
+#[derive(Drop)]
+pub(crate) struct Place<'a> {
+    pub source: &'a [u8],
+    pub offset: usize,
+    pub pieces: Vec<Piece>,
+    pub at: usize,
+    /// The first piece of the form, and that of the form in front of it.
+    pub form: usize,
+    pub last: usize,
+}
+
+/// The number of the first piece that ends behind an offset, that of the first of its form, and that of the first of the form in front.
+fn find_piece(pieces: &[Piece], offset: usize) -> (usize, usize, usize) {
+    let mut form = 0;
+    let mut last = 0;
+    for (index, piece) in pieces.iter().enumerate() {
+        if piece.end > offset {
+            return (index, form, last);
+        }
+        if piece.kind == Kind::Dot {
+            last = form;
+            form = index.saturating_add(1);
+        }
+    }
+    (pieces.len(), form, last)
+}
+
+impl<'a> Place<'a> {
+    /// The place of an offset.
+    pub(crate) fn new(
+        alloc: Global,
+        source: &'a [u8],
+        offset: usize,
+    ) -> Result<Place<'a>, NoMemory> {
+        let pieces = cut(alloc, source)?;
+        let (at, form, last) = find_piece(&pieces, offset);
+        Ok(Place {
+            source,
+            offset,
+            pieces,
+            at,
+            form,
+            last,
+        })
+    }
+
+    /// The byte there; 0 where there is none.
+    pub(crate) fn byte(&self, offset: usize) -> u8 {
+        self.source.get(offset).copied().unwrap_or(0)
+    }
+
+    /// The byte in front of the offset.
+    pub(crate) fn byte_before(&self) -> u8 {
+        match self.offset.checked_sub(1) {
+            Some(before) => self.byte(before),
+            None => 0,
+        }
+    }
+
+    /// The byte behind the offset.
+    pub(crate) fn byte_behind(&self) -> u8 {
+        self.byte(self.offset.saturating_add(1))
+    }
+
+    /// Whether this stands at the offset.
+    pub(crate) fn has(&self, text: &str) -> bool {
+        let behind = self.source.get(self.offset..).unwrap_or(&[]);
+        behind.starts_with(text.as_bytes())
+    }
+
+    /// The piece that stands so many in front of the one at the offset.
+    pub(crate) fn before(&self, count: usize) -> Option<Piece> {
+        let index = self.at.checked_sub(count)?;
+        self.pieces.get(index).copied()
+    }
+
+    /// The piece that stands so many behind the one at the offset.
+    pub(crate) fn piece(&self, count: usize) -> Option<Piece> {
+        self.pieces.get(self.at.saturating_add(count)).copied()
+    }
+
+    /// The bytes of a piece; none where there is none.
+    pub(crate) fn text(&self, piece: Option<Piece>) -> &'a [u8] {
+        match piece {
+            Some(piece) => self.source.get(piece.start..piece.end).unwrap_or(&[]),
+            None => &[],
+        }
+    }
+
+    /// What a piece is.
+    pub(crate) fn kind(&self, piece: Option<Piece>) -> Option<Kind> {
+        match piece {
+            Some(piece) => Some(piece.kind),
+            None => None,
+        }
+    }
+
+    /// Where a piece begins; the offset where there is none.
+    pub(crate) fn start(&self, piece: Option<Piece>) -> usize {
+        match piece {
+            Some(piece) => piece.start,
+            None => self.offset,
+        }
+    }
+
+    /// Where a piece ends; the offset where there is none.
+    pub(crate) fn end_of(&self, piece: Option<Piece>) -> usize {
+        match piece {
+            Some(piece) => piece.end,
+            None => self.offset,
+        }
+    }
+
+    /// The piece of the form that stands so many behind its first.
+    pub(crate) fn of_form(&self, count: usize) -> Option<Piece> {
+        self.pieces.get(self.form.saturating_add(count)).copied()
+    }
+
+    /// The first piece of the form in front.
+    pub(crate) fn of_last_form(&self) -> Option<Piece> {
+        self.pieces.get(self.last).copied()
+    }
+
+    /// The name of the module, by its first form.
+    pub(crate) fn own_name(&self) -> &'a [u8] {
+        self.text(self.pieces.get(3).copied())
+    }
+
+    /// A cure whose cause stands at the offset.
+    pub(crate) fn here(&self, cure: Cure) -> Found {
+        Found {
+            position: self.offset,
+            cure,
+        }
+    }
+
+    /// Whether the offset is at the beginning of a line.
+    pub(crate) fn begins_line(&self) -> bool {
+        self.offset == 0 || self.byte_before() == b'\n'
+    }
+}

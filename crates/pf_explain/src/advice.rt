@@ -1,0 +1,33 @@
+//! What is said of a refusal.
+
+ghost use Rattle.std.specs.Prelude.{◌≡◌};
+ghost use Rattle.pf_explain.specs.Sentences.{IsPlain};
+
+use crate::sentences::sentence;
+use pf_fault::Refusal;
+
+/// An example of what stands in a source, and of what is written in its place.
+#[derive(Drop, Clone, Copy)]
+pub struct Rewrite {
+    pub instead: &'static str,
+    pub write: &'static str,
+}
+
+/// What is said of a refusal: where its cause stands in the source, what is wrong and how it is mended.
+#[derive(Drop, Clone, Copy)]
+pub struct Advice {
+    pub position: usize,
+    pub sentence: &'static str,
+    pub rewrite: Option<Rewrite>,
+}
+
+/// What is said where no more is known than the code: its sentence, at the offset.
+pub fn plain(refusal: Refusal) -> Advice
+    ensures { IsPlain refusal.code refusal.offset result }
+{
+    Advice {
+        position: refusal.offset,
+        sentence: sentence(refusal.code),
+        rewrite: None,
+    }
+}

@@ -1,0 +1,4 @@
+-module(m).
+-export([main/0]).
+main() -> f("a", "b").
+f(X, Y) when X ++ Y =:= "ab" -> true.

@@ -1,0 +1,3 @@
+-module(m).
+-author("me").
+main() -> ok.

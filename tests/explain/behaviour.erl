@@ -1,0 +1,3 @@
+-module(m).
+-behaviour(gen_server).
+main() -> ok.

@@ -1,0 +1,4 @@
+-module(m).
+-export([main/0]).
+main() -> f(m).
+f(M) -> M:g().

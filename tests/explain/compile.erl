@@ -1,0 +1,3 @@
+-module(m).
+-compile(export_all).
+main() -> ok.

@@ -1,0 +1,4 @@
+-module(m).
+-export([main/0]).
+-define(LIMIT, 10).
+main() -> ok.

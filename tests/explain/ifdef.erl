@@ -1,0 +1,3 @@
+-module(m).
+-ifdef(TEST).
+main() -> ok.

@@ -1,0 +1,3 @@
+-module(m).
+-import(lists, [sum/1]).
+main() -> ok.

@@ -1,0 +1,4 @@
+-module(m).
+-include("limits.hrl").
+-export([main/0]).
+main() -> ok.

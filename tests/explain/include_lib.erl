@@ -1,0 +1,3 @@
+-module(m).
+-include_lib("eunit/include/eunit.hrl").
+main() -> ok.

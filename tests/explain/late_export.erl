@@ -1,0 +1,3 @@
+-module(m).
+main() -> ok.
+-export([main/0]).

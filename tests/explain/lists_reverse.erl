@@ -1,0 +1,3 @@
+-module(m).
+-export([main/0]).
+main() -> lists:reverse([1, 2]).

@@ -1,0 +1,6 @@
+-module(m).
+-export([main/0]).
+main() ->
+    receive hi -> ok
+
+f() -> ok.

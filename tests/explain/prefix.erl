@@ -1,0 +1,4 @@
+-module(m).
+-export([main/0]).
+main() -> f("abc").
+f("ab" ++ Rest) -> Rest.

@@ -1,0 +1,4 @@
+-module(m).
+-export([main/0]).
+-record(state, {count = 0}).
+main() -> ok.

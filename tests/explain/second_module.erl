@@ -1,0 +1,3 @@
+-module(m).
+-module(n).
+main() -> ok.

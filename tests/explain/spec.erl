@@ -1,0 +1,4 @@
+-module(m).
+-export([main/0]).
+-spec main() -> ok.
+main() -> ok.

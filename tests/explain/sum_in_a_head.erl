@@ -1,0 +1,4 @@
+-module(m).
+-export([main/0]).
+main() -> f(2).
+f(1 + 1) -> true.

@@ -1,0 +1,4 @@
+-module(m).
+-export([main/0]).
+-type id() :: integer().
+main() -> ok.
