@@ -5,7 +5,8 @@ ghost use Rattle.std.specs.Bool.{OnTrue};
 ghost use Rattle.indexmap.specs.IndexMap.{index_map_len, index_of};
 ghost use Rattle.pf_request.specs.Calls as calls;
 ghost use Rattle.pf_desks.specs.Desk as desk;
-ghost use Rattle.pf_desks.specs.Calls.{calls_in};
+ghost use Rattle.pf_desks.specs.Calls.{calls_in, stage_of};
+ghost use Rattle.pf_desks.specs.Desk.{held_at};
 ghost use Rattle.pf_desks.specs.History.{IsLegalDesk};
 ghost use Rattle.pf_desks.specs.Jobs.{KeepsAllTickets};
 ghost use Rattle.pf_desks.specs.World.{desk_at};
@@ -14,12 +15,13 @@ ghost use Rattle.pf_book.specs.Profile.{ForRight};
 ghost use Rattle.pf_book.specs.Queued.{job_at};
 ghost use Rattle.pf_book.specs.Queues.{FrontIsQueued, QueuesAll};
 ghost use Rattle.pf_book.specs.Trials.{JobAt};
+ghost use Rattle.pf_book.specs.View.{view_of_stage};
 ghost use Rattle.pf_request.specs.View.{view_of_call, view_of_order};
 
 use crate::claimed::Claimed;
 use crate::desk::Desk;
 use crate::queue::Queue;
-use crate::reply::Reply;
+use crate::reply::{Reply, Stage};
 use indexmap::IndexMap;
 use pf_request::{Call, Order, Source};
 use pf_sched::{Finished, Job};
@@ -92,6 +94,17 @@ impl Book {
         match index_of(&self.desks, self.last, project) {
             Some(index) => self.desks[index].call_count(),
             None => 0,
+        }
+    }
+
+    /// How far the trial of a project's ticket is, if it is held. Nothing is noted.
+    pub fn stage(&self, project: u32, ticket: u64) -> Option<Stage>
+        ensures { option_map view_of_stage result
+            ≡ option_map (λ t. stage_of t.state) (held_at (desk_at project self.now).trials ticket) }
+    {
+        match index_of(&self.desks, self.last, project) {
+            Some(index) => self.desks[index].stage(ticket),
+            None => None,
         }
     }
 

@@ -7,7 +7,7 @@ ghost use Rattle.std.specs.Vec.{vec_len, vec_capacity};
 ghost use Rattle.pf_model.specs.Limits.{IsEdition};
 ghost use Rattle.pf_desks.specs.Desk as desk;
 ghost use Rattle.pf_desks.specs.Desk.{no_desk, held_at};
-ghost use Rattle.pf_desks.specs.Calls.{calls_in};
+ghost use Rattle.pf_desks.specs.Calls.{calls_in, stage_of};
 ghost use Rattle.pf_desks.specs.Work.{is_running, with_state};
 ghost use Rattle.pf_desks.specs.History.{IsLegalDesk};
 ghost use Rattle.pf_desks.specs.Jobs.{KeepsTickets};
@@ -20,7 +20,7 @@ ghost use Rattle.pf_book.specs.Queued.{is_undone, job_at};
 ghost use Rattle.pf_book.specs.Queues.{ended_by, FollowsQueue, HoldsRoom};
 ghost use Rattle.pf_book.specs.Running.{running_in};
 ghost use Rattle.pf_book.specs.Trials.{JobAt, IsStray};
-ghost use Rattle.pf_book.specs.View.{state_running};
+ghost use Rattle.pf_book.specs.View.{state_running, view_of_stage};
 
 mod planning;
 
@@ -30,7 +30,7 @@ use crate::numbers::{make_room, numbered};
 use crate::plan::{Change, Plan};
 use crate::queue::Queue;
 use crate::refusal::Refusal;
-use crate::reply::Reply;
+use crate::reply::{Reply, Stage};
 use crate::trial::Trial;
 use pf_module::ReadModule;
 use pf_quota::{Charge, Usage};
@@ -99,6 +99,17 @@ impl Desk {
         ensures { result ≡ calls_in self.now.history }
     {
         self.usage.calls
+    }
+
+    /// How far the trial of a ticket is, if it is held.
+    pub fn stage(&self, ticket: u64) -> Option<Stage>
+        ensures { option_map view_of_stage result
+            ≡ option_map (λ t. stage_of t.state) (held_at self.now.trials ticket) }
+    {
+        match numbered(&self.trials, ticket) {
+            Some(trial) => Some(trial.stage()),
+            None => None,
+        }
     }
 
     /// The edition, 1 or 2, whose limits what is submitted and ordered has.
