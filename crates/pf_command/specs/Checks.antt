@@ -5,16 +5,16 @@ use Rattle.pf_fault.specs.declared.code.Code.{Code}
 use Rattle.pf_model.specs.TermText.{line}
 use Rattle.pf_syntax.specs.Tree.{Program}
 use Rattle.pf_check.specs.Reads.{Reads, accepted, refused}
-use Rattle.pf_explain.specs.Explanation.{explanation}
+use Rattle.pf_explain.specs.Explanation.{explanations}
 use Rattle.pf_explain.specs.declared.advice.Advice.{Advice}
-use Rattle.pf_cures.specs.Advised.{IsAdvice}
+use Rattle.pf_faults.specs.Faults.{Tells}
 use Rattle.pf_command.specs.declared.answer.Answer.{Answer}
 
--- Explains bytes code offset explain text: what follows the line of a refusal is this text: nothing, or where that is asked for the explanation
--- by what is said of it
+-- Explains bytes code offset explain text: what follows the line of a refusal is this text: nothing, or where that is asked for explanations, among them
+-- that of the refusal
 pub data Explains (bytes : List ℕ) (code : Code) (offset : ℕ) : (explain : Bool) → List ℕ → Type 0 where
   unasked : Explains bytes code offset false []
-  asked : (a : Advice) → IsAdvice code offset a → Explains bytes code offset true (explanation bytes a)
+  asked : (told : List Advice) → Tells code offset told → Explains bytes code offset true (explanations bytes told)
 
 -- Checks explain bytes text status: a source of these bytes is answered with this text and this status
 pub data Checks (explain : Bool) (bytes : List ℕ) : List ℕ → ℕ → Type 0 where

@@ -1,6 +1,6 @@
 //! What a source is answered with that is only checked.
 
-ghost use Rattle.std.specs.Prelude.{◌≡◌, ◌++◌, IfOk, codes};
+ghost use Rattle.std.specs.Prelude.{◌≡◌, ◌++◌, IfOk, codes, true};
 ghost use Rattle.pf_fault.specs.Codes.{refusal_text};
 ghost use Rattle.pf_model.specs.TermText.{line};
 ghost use Rattle.pf_command.specs.Checks.{Checks, Explains, IsCheckRefused};
@@ -8,9 +8,9 @@ ghost use Rattle.pf_command.specs.Checks.{Checks, Explains, IsCheckRefused};
 use crate::answer::{Answer, refused_at};
 use crate::serving::Answering;
 use pf_check::read;
-use pf_cures::advise;
-use pf_explain::put_explanation;
+use pf_explain::put_explanations;
 use pf_fault::{NoMemory, OrNoMemory, Refusal};
+use pf_faults::faults;
 use pf_text::put;
 use std::alloc::Global;
 
@@ -27,9 +27,9 @@ fn accepted(alloc: Global) -> Result<Answer, NoMemory>
 fn explain_refusal(alloc: Global, source: &[u8], refusal: Refusal) -> Result<Vec<u8>, NoMemory>
     ensures { IfOk result (λ t. Explains source.now refusal.code refusal.offset true t.items) }
 {
-    let advice = advise(alloc, source, refusal)?;
+    let told = faults(alloc, source, refusal)?;
     let mut text = Vec::new(alloc);
-    put_explanation(alloc, &mut text, source, advice)?;
+    put_explanations(alloc, &mut text, source, &told)?;
     Ok(text)
 }
 

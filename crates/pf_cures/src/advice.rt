@@ -25,7 +25,9 @@ const CLAUSE: Cure = Cure {
 /// The row of a form by its word, which may be one of several that are told alike.
 fn form_row(word: &[u8]) -> Cure {
     match word {
-        b"ifndef" | b"else" | b"endif" | b"undef" | b"elif" => find_or(&FORMS, b"ifdef", OTHER_FORM),
+        b"ifndef" | b"else" | b"endif" | b"undef" | b"elif" => find_or(
+            &FORMS, b"ifdef", OTHER_FORM,
+        ),
         _ => find_or(&FORMS, word, OTHER_FORM),
     }
 }

@@ -93,7 +93,11 @@ fn colon(place: &Place<'_>) -> Found {
             };
         }
         Some(Kind::Variable) => CALLED_MODULE,
-        Some(Kind::Word) if name == b"lists".as_slice() => find_or(&LISTS, function, OTHER_OF_LISTS),
+        Some(Kind::Word) if name == b"lists".as_slice() => find_or(
+            &LISTS,
+            function,
+            OTHER_OF_LISTS,
+        ),
         Some(Kind::Word) if name == b"erlang".as_slice() => {
             find_or(&ERLANG, function, OTHER_OF_ERLANG)
         }

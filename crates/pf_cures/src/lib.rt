@@ -7,6 +7,7 @@ mod bytes;
 mod cure;
 mod forms;
 mod guards;
+mod mending;
 mod modules;
 mod pieces;
 mod place;
@@ -15,3 +16,4 @@ mod undefined;
 mod words;
 
 pub use advice::advise;
+pub use mending::{form_ends, mend};

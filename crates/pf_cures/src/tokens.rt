@@ -196,7 +196,15 @@ fn ends_operand(place: &Place<'_>, piece: Option<Piece>) -> bool {
         Some(Kind::Mark) => matches!(place.text(piece), b")" | b"]" | b"}"),
         Some(Kind::Word) => !matches!(
             place.text(piece),
-            b"of" | b"when" | b"andalso" | b"orelse" | b"div" | b"rem" | b"case" | b"if" | b"receive"
+            b"of"
+                | b"when"
+                | b"andalso"
+                | b"orelse"
+                | b"div"
+                | b"rem"
+                | b"case"
+                | b"if"
+                | b"receive"
         ),
         _ => false,
     }

@@ -1,5 +1,5 @@
 -- The text that explains a refusal.
-use Rattle.std.specs.Prelude.{ℕ, List, [], ◌∷◌, ◌++◌, Option, None, Some, take, drop, codes}
+use Rattle.std.specs.Prelude.{ℕ, List, [], ◌∷◌, ◌++◌, Option, None, Some, take, drop, codes, flat_map}
 use Rattle.std.specs.Fmt.{decimal}
 use Rattle.pf_explain.specs.Positions.{line_number, column}
 use Rattle.pf_explain.specs.Shown.{shown_line, caret_line}
@@ -26,3 +26,8 @@ explanation source a =
     let front = take a.position source in
     let behind = drop a.position source in
     line (position_text front) ++ line (shown_line front behind) ++ line (caret_line front) ++ line a.sentence.now ++ rewrite_text a.rewrite
+
+-- of several things that are said of a source: the first, and each other one behind an empty line
+abbrev pub explanations : (source : List ℕ) → List Advice → List ℕ
+explanations source [] = []
+explanations source (a ∷ others) = explanation source a ++ flat_map (λ b. line [] ++ explanation source b) others

@@ -1,8 +1,8 @@
 //! The text that explains a refusal.
 
-ghost use Rattle.std.specs.Prelude.{◌≡◌, ◌++◌, OnErr, OnOk, Some};
+ghost use Rattle.std.specs.Prelude.{◌≡◌, ◌++◌, [], OnErr, OnOk, Some, flat_map};
 ghost use Rattle.pf_explain.specs.Shown.{caret_line, shown_line};
-ghost use Rattle.pf_explain.specs.Explanation.{explanation, line, position_text, rewrite_text};
+ghost use Rattle.pf_explain.specs.Explanation.{explanation, explanations, line, position_text, rewrite_text};
 
 use crate::advice::{Advice, Rewrite};
 use crate::position::{column, columns, line_number, since_newline, up_to_newline};
@@ -108,4 +108,37 @@ pub fn put_explanation(
     put_lines(alloc, &mut text, source, advice)?;
     out.extend_from_slice(&text)?;
     Ok(())
+}
+
+/// Puts what else is said of a source, each behind an empty line.
+fn put_others(
+    alloc: Global,
+    out: &mut Vec<u8>,
+    source: &[u8],
+    others: &[Advice],
+) -> Result<(), NoMemory>
+    ensures { OnOk result (out.new.items
+        ≡ out.old.items ++ flat_map (λ b. line [] ++ explanation source.now b) others.now) }
+{
+    for advice in others {
+        out.push(b'\n')?;
+        put_explanation(alloc, out, source, *advice)?;
+    }
+    Ok(())
+}
+
+/// Puts all that is said of a source that is refused, with an empty line between two explanations.
+pub fn put_explanations(
+    alloc: Global,
+    out: &mut Vec<u8>,
+    source: &[u8],
+    told: &[Advice],
+) -> Result<(), NoMemory>
+    ensures { OnOk result (out.new.items ≡ out.old.items ++ explanations source.now told.now) }
+{
+    let Some((first, others)) = told.split_first() else {
+        return Ok(());
+    };
+    put_explanation(alloc, out, source, *first)?;
+    put_others(alloc, out, source, others)
 }

@@ -8,6 +8,6 @@ mod sentences;
 mod shown;
 
 pub use advice::{Advice, Rewrite, plain};
-pub use explanation::put_explanation;
+pub use explanation::{put_explanation, put_explanations};
 pub use sentences::sentence;
 pub use shown::MOST_SHOWN;

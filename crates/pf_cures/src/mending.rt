@@ -1,0 +1,155 @@
+//! Forms of a source, and a source in which a function is mended.
+
+ghost use Rattle.std.specs.Prelude.{◌≡◌, vec_len};
+
+use crate::pieces::{Kind, Piece, cut};
+use crate::place::Place;
+use pf_fault::{Code, NoMemory, Refusal};
+use std::alloc::Global;
+
+/// Where each form of a source ends, behind its dot; the last end is that of the source.
+pub fn form_ends(alloc: Global, source: &[u8]) -> Result<Vec<usize>, NoMemory> {
+    let mut ends = Vec::new(alloc);
+    for piece in &cut(alloc, source)? {
+        if piece.kind == Kind::Dot {
+            ends.push(piece.end)?;
+        }
+    }
+    ends.push(source.len())?;
+    Ok(ends)
+}
+
+/// Writes a byte where there is one.
+fn put(source: &mut Vec<u8>, at: usize, byte: u8)
+    ensures { vec_len source.new ≡ vec_len source.old }
+{
+    if let Some(place) = source.get_mut(at) {
+        *place = byte;
+    }
+}
+
+/// Makes blanks of what stands from here to there; line ends stay.
+fn blank(source: &mut Vec<u8>, start: usize, end: usize)
+    ensures { vec_len source.new ≡ vec_len source.old }
+{
+    for at in start..end {
+        if source.get(at) != Some(&b'\n') {
+            put(source, at, b' ');
+        }
+    }
+}
+
+/// How far the head of a function was gone through: how deep its brackets are open, and whether a parameter is yet to come.
+#[derive(Drop)]
+struct Head {
+    depth: usize,
+    is_due: bool,
+}
+
+/// What stands in a head without its patterns, at a piece of it.
+fn bare_byte(head: &mut Head, byte: u8) -> Option<u8> {
+    match (byte, head.depth) {
+        (b'(' | b'[' | b'{', 0) => {
+            head.depth = 1;
+            head.is_due = true;
+            return Some(b'(');
+        }
+        (_, 0) => return None,
+        (b')' | b']' | b'}', 1) => {
+            head.depth = 0;
+            return Some(b')');
+        }
+        (b',', 1) => {
+            head.is_due = true;
+            return Some(b',');
+        }
+        (b'(' | b'[' | b'{', _) => head.depth = head.depth.saturating_add(1),
+        (b')' | b']' | b'}', _) => head.depth = head.depth.saturating_sub(1),
+        _ => {}
+    }
+    let is_due = head.is_due;
+    head.is_due = false;
+    if is_due { Some(b'_') } else { None }
+}
+
+/// Writes the head of a function without its patterns, and behind it a body of one integer; the pieces begin behind the function's name.
+fn put_head(source: &mut Vec<u8>, old: &[u8], pieces: &[Piece])
+    ensures { vec_len source.new ≡ vec_len source.old }
+{
+    let mut head = Head {
+        depth: 0,
+        is_due: false,
+    };
+    for piece in pieces {
+        let byte = old.get(piece.start).copied().unwrap_or(0);
+        let bare = bare_byte(&mut head, byte);
+        if let Some(byte) = bare {
+            put(source, piece.start, byte);
+        }
+        if bare == Some(b')') {
+            put(source, piece.end, b'-');
+            put(source, piece.end.saturating_add(1), b'>');
+            put(source, piece.end.saturating_add(2), b'0');
+            return;
+        }
+    }
+}
+
+/// The pieces of the form at a place, its dot the last; none where it has no dot.
+fn form_at<'p>(place: &'p Place<'_>) -> Option<&'p [Piece]> {
+    let form = place.pieces.get(place.form..)?;
+    let dot = form.iter().position(|piece| piece.kind == Kind::Dot)?;
+    form.get(..dot.saturating_add(1))
+}
+
+/// The pieces from the first parenthesis on.
+fn parameters<'p>(old: &[u8], form: &'p [Piece]) -> Option<&'p [Piece]> {
+    let opened = form
+        .iter()
+        .position(|piece| old.get(piece.start) == Some(&b'('))?;
+    form.get(opened..)
+}
+
+/// Gives a function a body of one integer, and no patterns.
+fn stub(source: &mut Vec<u8>, old: &[u8], form: &[Piece]) -> bool
+    ensures { vec_len source.new ≡ vec_len source.old }
+{
+    let Some(pieces) = parameters(old, form) else {
+        return false;
+    };
+    let (Some(first), Some(dot)) = (pieces.first(), pieces.last()) else {
+        return false;
+    };
+    blank(source, first.start, dot.start);
+    put_head(source, old, pieces);
+    true
+}
+
+/// Makes blanks of a form and of its dot.
+fn blank_form(source: &mut Vec<u8>, form: &[Piece]) -> bool
+    ensures { vec_len source.new ≡ vec_len source.old }
+{
+    let (Some(first), Some(dot)) = (form.first(), form.last()) else {
+        return false;
+    };
+    blank(source, first.start, dot.end);
+    true
+}
+
+/// Takes a fault of names or variables out of a source: the function in which it stands keeps its name and its number of arguments, and has
+/// a body of one integer; a function that is defined twice and an export form are blanked. Nothing is done, and `false` answered, in the first form and
+/// where no form stands. The source keeps its length.
+pub fn mend(alloc: Global, source: &mut Vec<u8>, refusal: Refusal) -> Result<bool, NoMemory>
+    ensures { vec_len source.new ≡ vec_len source.old }
+{
+    let old = Vec::from_slice(alloc, source)?;
+    let place = Place::new(alloc, &old, refusal.offset)?;
+    if place.form == 0 {
+        return Ok(false);
+    }
+    match (form_at(&place), refusal.code) {
+        (None, _) => Ok(false),
+        (Some(form), Code::DefinedTwice | Code::ExportOfNothing) => Ok(blank_form(source, form)),
+        (Some(form), _) => Ok(stub(source, &old, form)),
+    }
+}

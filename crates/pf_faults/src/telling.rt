@@ -1,0 +1,103 @@
+//! The faults of a source that are told, in the order of the text.
+
+ghost use Rattle.std.specs.Prelude.{IfOk};
+ghost use Rattle.pf_faults.specs.Faults.{Tells};
+
+use crate::alone::{first_refusal, is_syntax, refusal_of_form};
+use pf_cures::{advise, form_ends, mend};
+use pf_explain::Advice;
+use pf_fault::{NoMemory, Refusal};
+use std::alloc::Global;
+
+/// The most faults of a source that are told.
+pub const MOST_TOLD: usize = 20;
+
+/// What is told of each form between these ends that is refused by itself, of so many at most; the first begins at `start`.
+fn told_of_forms(
+    alloc: Global,
+    source: &[u8],
+    start: usize,
+    ends: &[usize],
+    most: usize,
+) -> Result<Vec<Advice>, NoMemory> {
+    let mut told = Vec::new(alloc);
+    let mut start = start;
+    for end in ends {
+        let found = refusal_of_form(alloc, source, start, *end)?;
+        start = *end;
+        match found {
+            Some(refusal) if told.len() < most => told.push(advise(alloc, source, refusal)?)?,
+            _ => {}
+        }
+    }
+    Ok(told)
+}
+
+/// What is told of the faults of names and variables that are left once each that is told was mended, behind the first.
+fn told_of_mended(alloc: Global, source: &[u8], first: Refusal) -> Result<Vec<Advice>, NoMemory> {
+    let mut told = Vec::new(alloc);
+    let mut mended = Vec::from_slice(alloc, source)?;
+    let mut refusal = first;
+    for _ in 1..MOST_TOLD {
+        if !mend(alloc, &mut mended, refusal)? {
+            break;
+        }
+        let Some(next) = first_refusal(alloc, &mended, false)? else {
+            break;
+        };
+        told.push(advise(alloc, source, next)?)?;
+        refusal = next;
+    }
+    Ok(told)
+}
+
+/// The number of the form in which an offset stands.
+fn form_of(ends: &[usize], offset: usize) -> usize {
+    let last = ends.len().saturating_sub(1);
+    ends.iter().position(|end| offset < *end).unwrap_or(last)
+}
+
+/// What is told in front of a refusal by tokens or grammar, which stands in the form of this number.
+fn front(
+    alloc: Global,
+    source: &[u8],
+    ends: &[usize],
+    form: usize,
+) -> Result<Vec<Advice>, NoMemory> {
+    let start = ends.first().copied().unwrap_or(0);
+    let forms = ends.get(1..form).unwrap_or(&[]);
+    told_of_forms(alloc, source, start, forms, MOST_TOLD - 1)
+}
+
+/// What is told behind a refusal, in front of which so many were told.
+fn behind(
+    alloc: Global,
+    source: &[u8],
+    ends: &[usize],
+    form: usize,
+    refusal: Refusal,
+    told: usize,
+) -> Result<Vec<Advice>, NoMemory> {
+    if form == 0 || !is_syntax(refusal.code) {
+        return told_of_mended(alloc, source, refusal);
+    }
+    let start = ends.get(form).copied().unwrap_or(0);
+    let forms = ends.get(form.saturating_add(1)..).unwrap_or(&[]);
+    told_of_forms(alloc, source, start, forms, MOST_TOLD.saturating_sub(told))
+}
+
+/// What is told of a source with this first refusal: of one by tokens or grammar, that and one of each other form that is refused by
+/// itself; of one by names or variables, that and the others of its kind, one of each form. All in the order of the text.
+pub fn faults(alloc: Global, source: &[u8], refusal: Refusal) -> Result<Vec<Advice>, NoMemory>
+    ensures { IfOk result (λ told. Tells refusal.code refusal.offset told.items) }
+{
+    let ends = form_ends(alloc, source)?;
+    let form = form_of(&ends, refusal.offset);
+    let forms = if is_syntax(refusal.code) { form } else { 0 };
+    let mut told = front(alloc, source, &ends, forms)?;
+    let advice = advise(alloc, source, refusal)?;
+    told.push(advice)?;
+    let others = behind(alloc, source, &ends, form, refusal, told.len())?;
+    told.extend_from_slice(&others)?;
+    Ok(told)
+}
