@@ -77,7 +77,8 @@ files() {
   cp m.erl -
   : > in
   run steps ./-
-  ended 'file that is named -' 2 'command 1 refused C1\n' ''
+  ended 'file that is named -' 2 'command 1 refused C1\n' \
+    'pulsefarm: a line is no command: those before it were answered, and nothing behind it was read\n'
 }
 
 missing='No such file or directory (os error 2)\n'
@@ -128,31 +129,31 @@ weights='two numbers R:D from 1 to 9, R of a process and D of a channel'
 words() {
   : > in
   run run --root main --limit 007 --schedule none
-  ended 'leading zeros of a limit' 2 '' "error: invalid value '007' for '--limit <N>': it wants $number$usage$more"
+  ended 'leading zeros of a limit' 2 '' "pulsefarm: invalid value '007' for '--limit <N>': it wants $number$usage$more"
   run run --root main --limit 5 --schedule 1,,2
-  ended 'empty number of a schedule' 2 '' "error: invalid value '1,,2' for '--schedule <L>': it wants $numbers$usage$more"
+  ended 'empty number of a schedule' 2 '' "pulsefarm: invalid value '1,,2' for '--schedule <L>': it wants $numbers$usage$more"
   run run --root main --limit -1 --schedule none
-  ended 'negative limit' 2 '' "error: unexpected argument '-1' found$usage$more"
+  ended 'negative limit' 2 '' "pulsefarm: -1 is out of range: no number here is below 0$usage$more"
   run run --root main --limit=-1 --schedule none
-  ended 'negative limit in one word' 2 '' "error: invalid value '-1' for '--limit <N>': it wants $number$usage$more"
+  ended 'negative limit in one word' 2 '' "pulsefarm: invalid value '-1' for '--limit <N>': it wants $number$usage$more"
   run run --root main --limit 5
-  ended 'neither a seed nor a schedule' 2 '' "error: one of '--seed <N>' and '--schedule <L>' is wanted$usage$more"
+  ended 'neither a seed nor a schedule' 2 '' "pulsefarm: one of '--seed <N>' and '--schedule <L>' is wanted$usage$more"
   run run --root main --limit 5 --seed 7 --schedule none
-  ended 'a seed and a schedule' 2 '' "error: the argument '--seed <N>' cannot be used with '--schedule <L>'$usage$more"
+  ended 'a seed and a schedule' 2 '' "pulsefarm: the argument '--seed <N>' cannot be used with '--schedule <L>'$usage$more"
   run run --root main --limit 5 --seed 007
-  ended 'leading zeros of a seed' 2 '' "error: invalid value '007' for '--seed <N>': it wants $seed$usage$more"
+  ended 'leading zeros of a seed' 2 '' "pulsefarm: invalid value '007' for '--seed <N>': it wants $seed$usage$more"
   run run --root main --limit 5 --seed 18446744073709551616
-  ended 'seed past 64 bits' 2 '' "error: invalid value '18446744073709551616' for '--seed <N>': it wants $seed$usage$more"
+  ended 'seed past 64 bits' 2 '' "pulsefarm: invalid value '18446744073709551616' for '--seed <N>': it wants $seed$usage$more"
   run run --root main --limit 5 --seed 7 --weights 0:1
-  ended 'weight of 0' 2 '' "error: invalid value '0:1' for '--weights <R:D>': it wants $weights$usage$more"
+  ended 'weight of 0' 2 '' "pulsefarm: invalid value '0:1' for '--weights <R:D>': it wants $weights$usage$more"
   run run --root main --limit 5 --schedule none --weights 3:1
-  ended 'weights of a schedule' 2 '' "error: the argument '--weights <R:D>' cannot be used with '--schedule <L>'$usage$more"
+  ended 'weights of a schedule' 2 '' "pulsefarm: the argument '--weights <R:D>' cannot be used with '--schedule <L>'$usage$more"
   run run --root main --limit 5 --seed 7 --edition 3
-  ended 'edition past 2' 2 '' "error: invalid value '3' for '--edition <E>': it wants 1 or 2$usage$more"
+  ended 'edition past 2' 2 '' "pulsefarm: invalid value '3' for '--edition <E>': it wants 1 or 2$usage$more"
   run run --root main --limit 5 --seed 7 --property true --property true
-  ended 'two properties' 2 '' "error: the argument '--property <P>' cannot be used multiple times$usage$more"
+  ended 'two properties' 2 '' "pulsefarm: the argument '--property <P>' cannot be used multiple times$usage$more"
   run run --root main --limit 5 --seed 7 --property
-  ended 'property without a value' 2 '' "error: a value is required for '--property <P>' but none was supplied\n$more"
+  ended 'property without a value' 2 '' "pulsefarm: a value is required for '--property <P>' but none was supplied\n$more"
   shrink='\n\nUsage: pulsefarm shrink [OPTIONS] --root <F> --limit <N> --schedule <L> --property <P> --runs <N> [FILE]\n'
   # Where words are missing, or one isn't known, the usage names those that are wanted alone.
   wanted='\n\nUsage: pulsefarm shrink --root <F> --limit <N> --schedule <L> --property <P> --runs <N> [FILE]\n'
@@ -161,13 +162,13 @@ words() {
   # shellcheck disable=SC2086
   {
     run $shrunk --schedule none --runs 4294967296
-    ended 'runs past 32 bits' 2 '' "error: invalid value '4294967296' for '--runs <N>': it wants $runs$shrink$more"
+    ended 'runs past 32 bits' 2 '' "pulsefarm: invalid value '4294967296' for '--runs <N>': it wants $runs$shrink$more"
     run $shrunk --schedule 1,,2 --runs 5
-    ended 'empty number of a schedule to shrink' 2 '' "error: invalid value '1,,2' for '--schedule <L>': it wants $numbers$shrink$more"
+    ended 'empty number of a schedule to shrink' 2 '' "pulsefarm: invalid value '1,,2' for '--schedule <L>': it wants $numbers$shrink$more"
     run $shrunk --runs 5
-    ended 'no schedule to shrink' 2 '' "error: the following required arguments were not provided:\n  --schedule <L>$wanted$more"
+    ended 'no schedule to shrink' 2 '' "pulsefarm: the following required arguments were not provided:\n  --schedule <L>$wanted$more"
     run $shrunk --schedule none --runs 5 --seed 7
-    ended 'a seed to shrink' 2 '' "error: unexpected argument '--seed' found\n\n  tip: a similar argument exists: '--schedule'$wanted$more"
+    ended 'a seed to shrink' 2 '' "pulsefarm: unexpected argument '--seed' found\n\n  tip: a similar argument exists: '--schedule'$wanted$more"
   }
   run steps "$(printf -- '--\033[1m\377')"
   check 'odd bytes in a word' test "$status" = 2
@@ -327,11 +328,15 @@ schedules_in_files() {
   check 'schedule that no command line can hold' test "$status" = 0
   printf ',1\n' >> schedule
   run $words --schedule @schedule
-  ended 'schedule of a number too many' 2 'B6\n' ''
+  ended 'schedule of a number too many' 2 'B6\n' 'pulsefarm: the schedule has 100001 numbers: it has at most 100,000\n'
   printf '0,1\n,1\n' > schedule
   run $words --schedule @schedule
   ended 'schedule with a line end within' 2 '' \
-    "error: invalid value '@schedule' for '--schedule <L>': it wants $numbers$usage$more"
+    'pulsefarm: the file schedule holds no schedule: its first line is `0,1`\n'
+  printf 'E5 at 41\n' > schedule
+  run $words --schedule @schedule
+  ended 'refusal in place of a schedule' 2 '' \
+    'pulsefarm: the file schedule holds no schedule: its first line is `E5 at 41`\n'
   run $words --schedule @missing
   ended 'missing file of a schedule' 2 '' "pulsefarm: missing: $missing"
   run run --help
@@ -347,6 +352,56 @@ schedules_in_files() {
   ended 'folder of a schedule' 2 '' 'pulsefarm: folder: Is a directory (os error 21)\n'
   run $words --schedule "$(printf '@\377')"
   ended 'schedule in a file whose name is no UTF-8' 2 '' "pulsefarm: \\\\xff: $no_text"
+}
+
+# Why a status is 2, on standard error, of each code.
+# shellcheck disable=SC2086
+reasons() {
+  : > in
+  printf -- "$module" > m.erl
+  source='pulsefarm: the source is refused at line'
+  roots='name one that it exports, `main`'
+  printf -- '-module(m).\n-export([main/0]).\nmain() -> fun() -> 1 end.\n' > fun.erl
+  fun='There are no funs here: write a function with a name, and give it what the fun takes from around it.'
+  run run fun.erl $asked
+  ended 'refused source' 2 'E5 at 41\n' "$source 3, column 11: $fun\n"
+  run check fun.erl
+  ended 'refused source of a check' 2 'E5 at 41\n' "$source 3, column 11: $fun\n"
+  run check --explain fun.erl
+  check 'refused source that is explained' test "$(cat err)" = 'pulsefarm: the source is refused'
+  run run m.erl --root mian --limit 5 --schedule none
+  ended 'unknown root' 2 'B2\n' "pulsefarm: the module exports no function \`mian\` without arguments: $roots\n"
+  printf -- '-module(m).\nmain() -> 1.\n' > hidden.erl
+  run hunt hidden.erl --root main --limit 5 --property true --seeds 0..9
+  ended 'root that is not exported' 2 'B2\n' \
+    "pulsefarm: the function \`main\` isn't exported: add it to the exports, as in \`-export([main/0]).\`\n"
+  run run hidden.erl --root other --limit 5 --schedule none
+  ended 'no root at all' 2 'B2\n' \
+    "pulsefarm: the module exports no function \`other\` without arguments, and no other: write one, and \`-export([main/0]).\` in front of the first function\n"
+  run chart m.erl $asked --property fine
+  ended 'unknown property' 2 'P1\n' \
+    "pulsefarm: there is no property \`fine\`: write \`returns\`, \`true\`, \`nocrash\`, \`nodeadlock\`, \`withinlimit\` or \`never:PATTERN\`\n"
+  run run m.erl --root main --limit 100001 --schedule none
+  ended 'limit out of range' 2 'B6\n' 'pulsefarm: the limit 100001 is out of range: it is from 1 to 100,000 steps\n'
+  run hunt m.erl --root main --limit 9 --property true --seeds 0..9 --shrink 1001
+  ended 'runs of a hunt out of range' 2 'B6\n' 'pulsefarm: the number of runs 1001 is out of range: it is from 1 to 1,000\n'
+  run shrink m.erl --root main --limit 9 --property returns --schedule none --runs 9
+  ended 'nothing to shrink' 2 'S1\n' \
+    "pulsefarm: the property doesn't fail by this schedule, so there is nothing to shrink: give a schedule by which it fails\n"
+  echo none > in
+  run run m.erl --root main --limit 1000 --schedule @-
+  ended 'schedule from the standard input' 0 "$report" ''
+  run run --root main --limit 1000 --schedule @-
+  ended 'source and schedule from the standard input' 2 '' \
+    "pulsefarm: the source and its schedule can't both be the standard input: name a file of one\n"
+  run help check
+  cp out first
+  run check --help
+  check 'help of a word' cmp -s out first
+  run help
+  cp out first
+  run --help
+  check 'help' cmp -s out first
 }
 
 # What bash offers for the word $2 behind the words before it; $1 is the offer.
@@ -495,6 +550,7 @@ client_that_waits
 progress
 progress_of_a_hunt
 schedules_in_files
+reasons
 completions
 cc -O2 -shared -fPIC -o lessen.so "$edges/lessen.c" -ldl || exit 1
 deep_sources

@@ -8,6 +8,7 @@ mod obey;
 mod progress;
 mod schedule;
 mod stack;
+mod why;
 mod work;
 
 ghost use Rattle.std.specs.Prelude.{◌≡◌, ◌<◌};
@@ -19,7 +20,7 @@ use crate::progress::{Clearing, Line};
 use crate::stack::{STACK_BYTES, first_thread_has_stack};
 use pf_fault::NoMemory;
 use pf_terms::Counted;
-use std::alloc::AllocGlobal;
+use std::alloc::{AllocGlobal, Global};
 use std::env::Env;
 use std::fs::Files;
 use std::io::{self, Read, Stderr, Write};
@@ -29,6 +30,23 @@ use std::random::RandomSource;
 use std::sync::ledger::{Blank, Ledger};
 use std::thread::{Builder, Threads};
 use std::time::Clock;
+
+/// The words as they are read: the program's name stands in front, and `help WORD` is `WORD --help`.
+fn words_of<'a>(alloc: Global, given: &'a [String]) -> Result<Vec<&'a str>, NoMemory> {
+    let mut words = Vec::new(alloc);
+    words.push("pulsefarm")?;
+    let (named, is_help) = match given {
+        [first, rest @ ..] if first.as_str() == "help" => (rest, true),
+        _ => (given, false),
+    };
+    for word in named {
+        words.push(word.as_str())?;
+    }
+    if is_help {
+        words.push("--help")?;
+    }
+    Ok(words)
+}
 
 /// Reads the words and does what they ask for, between the standard streams.
 fn try_all_by<R, I: Read + Drop, W: Write + Drop, L: Ledger, M: Ledger>(
@@ -48,13 +66,8 @@ where
     requires write_parts { writes.parts ≡ M.parts }
     requires some_writes { 0 < writes.parts }
 {
-    let alloc = rt.alloc();
     let given = given_words(rt)?;
-    let mut words = Vec::new(alloc);
-    words.push("pulsefarm")?;
-    for word in &given {
-        words.push(word.as_str())?;
-    }
+    let words = words_of(rt.alloc(), &given)?;
     let mut reader = Counted::<I, L>::new(stdin, reads);
     let mut writer = Counted::<W, M>::new(stdout, writes);
     obey(rt, &words, &mut reader, &mut writer, line)

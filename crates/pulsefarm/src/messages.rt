@@ -15,9 +15,19 @@ pub const REFUSED: u8 = 2;
 /// Exit status on a broken pipe: 128 + SIGPIPE.
 const BROKEN_PIPE: u8 = 128 + 13;
 
+/// Says this on standard error, with the name of the program in front.
+pub fn say(rt: &impl Eprint, text: &str) {
+    let shown = Shown {
+        text,
+        has_lines: false,
+    };
+    let _printed = eprintln!(rt; "pulsefarm: {shown}");
+}
+
 /// Says that memory ran out.
-pub fn no_memory(rt: &impl Print) -> u8 {
+pub fn no_memory(rt: &(impl Print + Eprint)) -> u8 {
     let _printed = println!(rt; "{NoMemory}");
+    say(rt, "memory ran out");
     REFUSED
 }
 
@@ -48,16 +58,42 @@ pub fn failed(rt: &(impl Print + Eprint), file: Option<&str>, fault: &StreamFaul
     REFUSED
 }
 
+/// The number below 0 that words were refused for, and what follows, if that is why.
+fn negative(text: &str) -> Option<(&str, &str)> {
+    let (number, rest) = text
+        .strip_prefix("unexpected argument '")?
+        .split_once("' found")?;
+    let digits = number.strip_prefix('-')?;
+    if digits.starts_with(|c: char| c.is_ascii_digit()) {
+        Some((number, rest))
+    } else {
+        None
+    }
+}
+
+/// Writes a text that may have line ends.
+fn write_lines(rt: &impl Eprint, text: &str) {
+    let shown = Shown {
+        text,
+        has_lines: true,
+    };
+    let _printed = eprint!(rt; "{shown}");
+}
+
 /// Says what is wrong with words.
 fn write_fault(rt: &impl Eprint, text: &str) {
     let (front, back) = without_tip(text);
-    for text in [front, back] {
-        let shown = Shown {
-            text,
-            has_lines: true,
-        };
-        let _printed = eprint!(rt; "{shown}");
+    let front = front.strip_prefix("error: ").unwrap_or(front);
+    write_lines(rt, "pulsefarm: ");
+    match negative(front) {
+        Some((number, rest)) => {
+            write_lines(rt, number);
+            write_lines(rt, " is out of range: no number here is below 0");
+            write_lines(rt, rest);
+        }
+        None => write_lines(rt, front),
     }
+    write_lines(rt, back);
 }
 
 /// Prints a text; its status, unless it can't be written.

@@ -5,9 +5,9 @@ ghost use Rattle.pf_cli.specs.Args.{reading_of, tells, view_of_reading};
 ghost use Rattle.pf_command.specs.Streams.{streams};
 ghost use Rattle.pulsefarm.specs.Unread.{LeavesUnread};
 
-use crate::messages::{failed, no_memory, tell};
+use crate::messages::{REFUSED, failed, no_memory, say, tell};
 use crate::progress::Line;
-use crate::schedule::{contents, schedule_in};
+use crate::schedule::{contents, contents_of_input, is_schedule, schedule_in};
 use crate::work::work;
 use pf_cli::{Reading, read};
 use pf_fault::NoMemory;
@@ -28,6 +28,36 @@ fn unread_file(rt: &(impl Print + Eprint), file: &str, error: io::Error) -> u8 {
     failed(rt, Some(file), &StreamFault::Read(error))
 }
 
+/// What stands in the file of a schedule; `-` names the standard input.
+fn schedule_contents<R, I: Read, L: Ledger>(
+    rt: &R,
+    file: &str,
+    stdin: &mut Counted<I, L>,
+) -> io::Result<String>
+where
+    R: Files + AllocGlobal,
+{
+    if file == "-" {
+        contents_of_input(rt.alloc(), stdin)
+    } else {
+        contents(rt, file)
+    }
+}
+
+/// Says that a file has no schedule, with its first line.
+fn no_schedule(
+    rt: &(impl Eprint + AllocGlobal),
+    file: &str,
+    contents: &str,
+) -> Result<u8, NoMemory> {
+    let first = contents.lines().next().unwrap_or("");
+    let text = format!(in rt.alloc();
+        "the file {file} holds no schedule: its first line is `{first}`"
+    )?;
+    say(rt, &text);
+    Ok(REFUSED)
+}
+
 /// Does what words ask for by the schedule in a file.
 fn obey_schedule<R, I: Read, W: Write, L: Ledger, M: Ledger>(
     rt: &R,
@@ -40,11 +70,22 @@ fn obey_schedule<R, I: Read, W: Write, L: Ledger, M: Ledger>(
 where
     R: Files + Print + Eprint + AllocGlobal + RandomSource + Clock + Threads + Sync,
 {
-    let contents = match contents(rt, file) {
+    let contents = match schedule_contents(rt, file, stdin) {
         Ok(contents) => contents,
         Err(error) => return Ok(unread_file(rt, file, error)),
     };
-    match read(rt.alloc(), words, Some(schedule_in(&contents)))? {
+    let schedule = schedule_in(&contents);
+    if !is_schedule(rt.alloc(), schedule)? {
+        return no_schedule(rt, file, &contents);
+    }
+    match read(rt.alloc(), words, Some(schedule))? {
+        Reading::Args(args) if file == "-" && args.file().is_none() => {
+            say(
+                rt,
+                "the source and its schedule can't both be the standard input: name a file of one",
+            );
+            Ok(REFUSED)
+        }
         Reading::Args(args) => Ok(work(rt, &args, stdin, writer, line)),
         Reading::Text {
             text,

@@ -3,10 +3,11 @@
 ghost use Rattle.std.specs.Prelude.{◌≡◌, ◌<◌};
 
 use crate::args::open;
-use crate::messages::{failed, no_memory, no_more_memory};
+use crate::messages::{REFUSED, failed, no_memory, no_more_memory, say};
 use crate::progress::{Line, Runs, Seeds};
+use crate::why::why;
 use pf_cli::{Args, HuntArgs, Sought};
-use pf_command::{Chart, Check, Run, Shrink, hunt_source, serve};
+use pf_command::{Chart, Check, MOST_BYTES, Run, Shrink, hunt_source, serve};
 use pf_fault::OrNoMemory;
 use pf_profile::run_steps;
 use pf_terms::{Counted, StreamFault};
@@ -79,8 +80,24 @@ fn answer_hunt<R: Read, W: Write, L: Ledger, M: Ledger>(
     )
 }
 
-/// Does what is asked for between a reader and a writer; the line tells how far a hunt or a shrinking came, and is empty at the end.
-fn answer<R: Read, W: Write, L: Ledger, M: Ledger>(
+/// Answers commands, and says on standard error if a line was refused.
+fn answer_all_steps<R: Read, W: Write, L: Ledger, M: Ledger>(
+    rt: &(impl Eprint + AllocGlobal + RandomSource),
+    reader: &mut Counted<R, L>,
+    writer: &mut Counted<W, M>,
+) -> Answered {
+    let status = answer_steps(rt, reader, writer)?;
+    if status == REFUSED {
+        say(
+            rt,
+            "a line is no command: those before it were answered, and nothing behind it was read",
+        );
+    }
+    Ok(status)
+}
+
+/// Answers a source; the line tells how far a hunt or a shrinking came.
+fn answer_source<R: Read, W: Write, L: Ledger, M: Ledger>(
     rt: &(impl AllocGlobal + RandomSource + Clock + Threads + Sync),
     asked: &Args,
     reader: &mut Counted<R, L>,
@@ -88,7 +105,7 @@ fn answer<R: Read, W: Write, L: Ledger, M: Ledger>(
     line: &Line,
 ) -> Answered {
     let alloc = rt.alloc();
-    let answered = match asked {
+    match asked {
         Args::Run(args) => serve(alloc, reader, Run { args }, writer),
         Args::Chart(args) => serve(alloc, reader, Chart { args }, writer),
         Args::Hunt(args) => answer_hunt(rt, args, reader, writer, line),
@@ -101,14 +118,46 @@ fn answer<R: Read, W: Write, L: Ledger, M: Ledger>(
             serve(alloc, reader, Check { explain }, writer)
         }
         Args::Steps(_) => answer_steps(rt, reader, writer),
-    };
+    }
+}
+
+/// The same with the bytes of a source. If it is refused, or what is asked for of it, standard error says why.
+fn answer_bytes<W: Write, M: Ledger>(
+    rt: &(impl Eprint + AllocGlobal + RandomSource + Clock + Threads + Sync),
+    asked: &Args,
+    source: Vec<u8>,
+    writer: &mut Counted<W, M>,
+    line: &Line,
+) -> Answered {
+    let mut reader = Counted::<&[u8], Brand>::new(source.as_slice(), Blank::new(1));
+    let answered = answer_source(rt, asked, &mut reader, writer, line);
     line.clear();
-    answered
+    let status = answered?;
+    if status == REFUSED {
+        let told = why(rt.alloc(), asked, &source)?;
+        say(rt, &told);
+    }
+    Ok(status)
+}
+
+/// Does what is asked for between a reader and a writer; the line tells how far a hunt or a shrinking came, and is empty at the end.
+fn answer<R: Read, W: Write, L: Ledger, M: Ledger>(
+    rt: &(impl Eprint + AllocGlobal + RandomSource + Clock + Threads + Sync),
+    asked: &Args,
+    reader: &mut Counted<R, L>,
+    writer: &mut Counted<W, M>,
+    line: &Line,
+) -> Answered {
+    if let Args::Steps(_) = asked {
+        return answer_all_steps(rt, reader, writer);
+    }
+    let source = reader.take_front(rt.alloc(), MOST_BYTES)?;
+    answer_bytes(rt, asked, source, writer, line)
 }
 
 /// The same with what a file holds.
 fn answer_file<R: Read + Drop, W: Write, L: Ledger, M: Ledger>(
-    rt: &(impl AllocGlobal + RandomSource + Clock + Threads + Sync),
+    rt: &(impl Eprint + AllocGlobal + RandomSource + Clock + Threads + Sync),
     asked: &Args,
     file: R,
     writer: &mut Counted<W, M>,

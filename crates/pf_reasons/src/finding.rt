@@ -1,0 +1,62 @@
+//! Why a command ended by a refusal.
+
+ghost use Rattle.std.specs.Prelude.{IfOk};
+ghost use Rattle.pf_reasons.specs.Reasons.{IsReason};
+
+use pf_fault::{NoMemory, OrNoMemory, Refusal};
+use pf_module::ReadModule;
+use pf_request::{Request, Source};
+use pf_sched::{Job, JobRefusal};
+use std::alloc::Global;
+
+/// What a command asks for of a source: a request in an edition.
+#[derive(Clone, Copy)]
+pub struct Asked<'a> {
+    pub request: &'a Request,
+    pub is_second_edition: bool,
+    /// Within how many runs a hunt shrinks what it finds.
+    pub shrinks: Option<u32>,
+}
+
+/// Why a command ended by a refusal.
+#[derive(Drop)]
+pub enum Reason {
+    /// The source is refused.
+    OfSource(Refusal),
+    /// What is asked for of this module is refused.
+    OfRequest(ReadModule, JobRefusal),
+    /// Neither is refused: it shows later, in what was run.
+    Later,
+}
+
+/// Why a request of a module is refused, if it is.
+fn reason_of_request(
+    alloc: Global,
+    module: ReadModule,
+    asked: Asked<'_>,
+) -> Result<Reason, NoMemory> {
+    let edition = if asked.is_second_edition { 2 } else { 1 };
+    let kept = module.share()?;
+    match Job::new(alloc, module, asked.request, edition) {
+        Ok(_) => Ok(Reason::Later),
+        Err(OrNoMemory::NoMemory) => Err(NoMemory),
+        Err(OrNoMemory::Fault(refusal)) => Ok(Reason::OfRequest(kept, refusal)),
+    }
+}
+
+/// Why a source of these bytes, or what is asked for of it, is refused; a check asks for nothing.
+pub fn find_reason(
+    alloc: Global,
+    bytes: Vec<u8>,
+    asked: Option<Asked<'_>>,
+) -> Result<Reason, NoMemory>
+    ensures { IfOk result (IsReason bytes.items) }
+{
+    let source = Source::new(alloc, bytes)?;
+    match (ReadModule::read(alloc, &source), asked) {
+        (Err(OrNoMemory::NoMemory), _) => Err(NoMemory),
+        (Err(OrNoMemory::Fault(refusal)), _) => Ok(Reason::OfSource(refusal)),
+        (Ok(_), None) => Ok(Reason::Later),
+        (Ok(module), Some(asked)) => reason_of_request(alloc, module, asked),
+    }
+}

@@ -1,0 +1,9 @@
+//! Why a source, or what is asked for of it, is refused: found once more, and told in one sentence.
+#![tactic(auto)]
+
+mod finding;
+mod position;
+mod wording;
+
+pub use finding::{Asked, Reason, find_reason};
+pub use wording::sentence;
