@@ -1,0 +1,189 @@
+-- Halls stay sound.
+use Rattle.std.proofs.Common.{◌≡◌, ◌⊎◌, ℕ, ◌==◌, ◌<◌, Bool, true, false, List, [], ◌∷◌, ◌++◌, length, Option, Some, None, refl, sym, ap, ◌∙◌, subst, ⊎_elim}
+use Rattle.std.specs.Prelude.{Result, Ok, Err, if◌then◌else◌, All, IfSome, slice_get, slice_set}
+use Rattle.std.specs.Bool.{OnFalse}
+use Rattle.std.specs.declared.alloc.Global.{Global}
+use Rattle.std.specs.declared.sync.Arc.{Arc}
+use Rattle.std.proofs.lemmas.List.Elements.{All-nil, All-push, All-set}
+use Rattle.std.proofs.lemmas.Option.{slice_get_within, get_or_from_slice_get}
+use Rattle.pf_fault.specs.declared.code.Code.TheVariants as code
+use Rattle.pf_fault.specs.declared.memory.NoMemory.{NoMemory}
+use Rattle.pf_model.specs.Shrinking.{nothing_fails}
+use Rattle.pf_request.specs.Calls.{Call}
+use Rattle.pf_request.specs.Job.{Job}
+use Rattle.pf_desks.specs.Desk.{Profile, faulty, Desk, State, queued, running, done, Trial, held_at}
+use Rattle.pf_desks.specs.Calls.{after_call}
+use Rattle.pf_desks.specs.Jobs.{IsTicketOf, KeepsTickets, KeepsAllTickets}
+use Rattle.pf_desks.specs.Work.{claim, hand_back, is_queued, is_running, after_claim, after_file, after_back, worker_step}
+use Rattle.pf_desks.specs.World.{World, Answer, work_done, not_now, desk_at, put_desk, worked}
+use Rattle.pf_desks.proofs.Isolated.{desk_placed}
+use Rattle.pf_desks.proofs.Jobs.{tickets_placed, tickets_worked, ticket_held}
+use Rattle.pf_ledger.specs.declared.row.Claim.{Claim}
+use Rattle.pf_ledger.specs.declared.row.Row.{Row}
+use Rattle.pf_ledger.specs.declared.row.End.{End}
+use Rattle.pf_ledger.specs.declared.row.End.TheVariants.{Filed, HandedBack, Stray}
+use Rattle.pf_ledger.specs.Rows.{claim_of, row_of}
+use Rattle.pf_sched.specs.Views.{FinishedView}
+use Rattle.pf_book.specs.declared.reply.Reply.{Reply}
+use Rattle.pf_book.specs.Answers.{Answers, ClaimsAt, Files, TakesBack}
+use Rattle.pf_book.specs.Profile.{IsRight, ForRight}
+use Rattle.pf_book.specs.Queued.{job_in_state, job_of_trial, job_at}
+use Rattle.pf_book.specs.Trials.{JobAt}
+use Rattle.pf_book.specs.View.{mark_of}
+use Rattle.pf_book.proofs.Claims.{claimed_world}
+use Rattle.pf_told.specs.Gone.{IsGone}
+use Rattle.pf_told.specs.Told.{IsToldAt, IsTold, AreOfTheirJobs}
+use Rattle.pf_told.proofs.Lists.{same_by, self_is}
+use Rattle.pf_told.proofs.Tells.{told_none, told_where, other_opened, other_ended, told_call, told_claim, told_filed, told_back, told_stray, open_gone}
+use Rattle.pf_hall.specs.Hall.{IsSound, end_or_stray}
+
+-- some profile: that tickets stay depends on none
+abbrev any_profile : Profile
+any_profile = record { reading = λ text. faulty code.NoModule; property = λ names text. None; meaning = λ j. nothing_fails }
+
+-- ---- worlds
+
+-- what is told of the desk that a step changed, and of all others, is told of the world
+placed : (q : ℕ) (rows : List (Row Job)) (w : World) (d : Desk) → IsToldAt q rows d → ((r : ℕ) → (q == r) ≡ false → IsToldAt r rows (desk_at r w)) → IsTold rows (put_desk q d w)
+placed q rows w d mine others r = subst (IsToldAt r rows) (sym (desk_placed r q d w)) (by (q == r) refl)
+  where
+    by : (b : Bool) → (q == r) ≡ b → IsToldAt r rows (if b then d else desk_at r w)
+    by true e = subst (λ n. IsToldAt n rows d) (same_by q r e) mine
+    by false e = others r e
+
+worked_done : (q : ℕ) (w w' : World) (b : Bool) (k : Desk) → ◌≡◌ {A = World × Answer} (worked q w (if b then Some k else None)) (w', work_done) → (b ≡ true) × (w' ≡ put_desk q k w)
+worked_done q w w' true k h = (refl, sym (ap (λ (x : World × Answer). x.0) h))
+worked_done q w w' false k h = let told : not_now ≡ work_done = ap (λ (x : World × Answer). x.1) h in absurd (cc)
+
+worked_not : (q : ℕ) (w w' : World) (b : Bool) (k : Desk) → ◌≡◌ {A = World × Answer} (worked q w (if b then Some k else None)) (w', not_now) → (b ≡ false) × (w' ≡ w)
+worked_not q w w' true k h = let told : work_done ≡ not_now = ap (λ (x : World × Answer). x.1) h in absurd (cc)
+worked_not q w w' false k h = (refl, sym (ap (λ (x : World × Answer). x.0) h))
+
+-- ---- jobs
+
+-- a row's claim is of the job of its ticket
+abbrev OfItsJob : World → Row Job → Type 0
+OfItsJob w r = IsTicketOf (desk_at r.claim.project w) r.claim.ticket r.claim.job.value
+
+jobs_kept : (rows : List (Row Job)) (w w' : World) → KeepsAllTickets w w' → AreOfTheirJobs rows w → AreOfTheirJobs rows w'
+jobs_kept rows w w' keeps all = λ k d less. keeps _ _ _ (all k d less)
+
+all_at : {X : Type 0} (P : X → Type 0) (xs : List X) (i : ℕ) (x : X) → slice_get xs i ≡ Some x → All P xs → P x
+all_at P xs i x h all = subst P (get_or_from_slice_get xs i x x h) (all i x (slice_get_within xs i x h))
+
+own_job : (rows : List (Row Job)) (w : World) (n : ℕ) (c : Claim Job) (e : Option End) → slice_get rows n ≡ Some (row_of c e) → AreOfTheirJobs rows w → IsTicketOf (desk_at c.project w) c.ticket c.job.value
+own_job rows w n c e at all = all_at (OfItsJob w) rows n (row_of c e) at all
+
+waiting_job : (x : Trial) (s : State) (j : Job) → job_in_state x.job s ≡ Some j → x.job ≡ j
+waiting_job x queued j h = cc
+waiting_job x running j h = absurd (cc)
+waiting_job x (done r) j h = absurd (cc)
+
+waiting_ticket : (d : Desk) (t : ℕ) (j : Job) (o : Option Trial) → held_at d.trials t ≡ o → job_of_trial o ≡ Some j → IsTicketOf d t j
+waiting_ticket d t j None e h = absurd (cc)
+waiting_ticket d t j (Some x) e h = subst (IsTicketOf d t) (waiting_job x x.state j h) (ticket_held d t x e)
+
+-- ---- calls
+
+pub sound_new : IsSound [] []
+sound_new = ((λ p right q. told_none q), All-nil _)
+
+pub sound_called : (rows : List (Row Job)) (w w' : World) (q : ℕ) (c : Call) (r : Result Reply NoMemory) → Answers w q c r w' → KeepsAllTickets w w' → IsSound rows w → IsSound rows w'
+sound_called rows w w' q c (Ok r) a keeps s = (
+  (λ p right. subst (IsTold rows) (ap (λ (x : World × Answer). x.0) (a p right)) (placed q rows w (after_call p (desk_at q w) c) (told_call p q rows (desk_at q w) c (s.0 p right q)) (λ n apart. s.0 p right n))),
+  jobs_kept rows w w' keeps s.1,
+)
+sound_called rows w w' q c (Err e) a keeps s = subst (IsSound rows) (sym a.1) s
+
+-- ---- claims
+
+pub sound_claimed : (rows : List (Row Job)) (w w' : World) (q t : ℕ) (j : Arc Job Global) → ClaimsAt w q t (Ok (Some j)) w' → IsSound rows w → IsSound (rows ++ row_of (claim_of q t j.value) None ∷ []) w'
+sound_claimed rows w w' q t j h s = (
+  (λ p right. subst (IsTold after) (sym x.1) (placed q after w (after_claim d t) (told_claim q rows d t j.value x.0 (s.0 p right q))
+    (λ r apart. told_where r rows after (desk_at r w) (other_opened r (claim_of q t j.value) apart rows None) (s.0 p right r)))),
+  All-push (OfItsJob w') rows (row_of (claim_of q t j.value) None) (jobs_kept rows w w' keeps s.1) (keeps q t j.value (waiting_ticket d t j.value (held_at d.trials t) refl h.0)),
+)
+  where
+    d : Desk
+    d = desk_at q w
+
+    after : List (Row Job)
+    after = rows ++ row_of (claim_of q t j.value) None ∷ []
+
+    x : (is_queued (held_at d.trials t) ≡ true) × (w' ≡ put_desk q (after_claim d t) w)
+    x = claimed_world q t w w' j h
+
+    done' : worker_step any_profile d (claim t) ≡ Some (after_claim d t)
+    done' = ap (λ (b : Bool). if b then Some (after_claim d t) else None) x.0
+
+    keeps : KeepsAllTickets w w'
+    keeps r = subst (λ (k : World). KeepsTickets (desk_at r w) (desk_at r k)) (sym x.1) (tickets_placed r q (after_claim d t) w (tickets_worked any_profile d (after_claim d t) (claim t) done'))
+
+-- ---- ends
+
+module _ (rows : List (Row Job)) (w : World) (n : ℕ) (c : Claim Job) (at : slice_get rows n ≡ Some (row_of c None)) (s : IsSound rows w) where
+  abbrev own : Desk
+  own = desk_at c.project w
+
+  -- the rows of other projects stay
+  others : (p : Profile) → IsRight p → (e : End) (r : ℕ) → (c.project == r) ≡ false → IsToldAt r (slice_set rows n (row_of c (Some e))) (desk_at r w)
+  others p right e r apart = told_where r rows (slice_set rows n (row_of c (Some e))) (desk_at r w) (other_ended r c apart rows n None (Some e) at) (s.0 p right r)
+
+  jobs_set : (w' : World) (e : End) → KeepsAllTickets w w' → AreOfTheirJobs (slice_set rows n (row_of c (Some e))) w'
+  jobs_set w' e keeps = All-set (OfItsJob w') rows n (row_of c (Some e)) (keeps c.project c.ticket c.job.value (own_job rows w n c None at s.1)) (jobs_kept rows w w' keeps s.1)
+
+  stray : is_running (held_at own.trials c.ticket) ≡ false → IsSound (slice_set rows n (row_of c (Some Stray))) w
+  stray idle = (
+    (λ p right r. by p right r (c.project == r) refl),
+    jobs_set w Stray (λ q t j k. k),
+  )
+    where
+      by : (p : Profile) → IsRight p → (r : ℕ) (b : Bool) → (c.project == r) ≡ b → IsToldAt r (slice_set rows n (row_of c (Some Stray))) (desk_at r w)
+      by p right r true e = subst (λ k. IsToldAt k (slice_set rows n (row_of c (Some Stray))) (desk_at k w)) (same_by c.project r e) (told_stray c.project rows own n c (self_is c.project) at (s.0 p right c.project) idle)
+      by p right r false e = others p right Stray r e
+
+  gone : is_running (held_at own.trials c.ticket) ≡ false → ForRight (λ p. IsGone own c.ticket)
+  gone idle p right = open_gone c.project rows own n c (self_is c.project) at (s.0 p right c.project) idle
+
+  -- what can't be filed isn't running, since the job is that of its ticket
+  stray_idle : (w' : World) (f : FinishedView) → c.job.value ≡ f.job → Files w c.project c.ticket f false w' → is_running (held_at own.trials c.ticket) ≡ false
+  stray_idle w' f job h =
+      let mine : JobAt own.trials c.ticket f.job = subst (JobAt own.trials c.ticket) job (own_job rows w n c None at s.1).1 in
+      ⊎_elim (λ (x : is_running (held_at own.trials c.ticket) ≡ false). x) (λ (other : JobAt own.trials c.ticket f.job → ⊥). absurd (other mine)) h.0
+
+  pub sound_filed : (w' : World) (f : FinishedView) (b : Bool) → c.job.value ≡ f.job → Files w c.project c.ticket f b w' → KeepsAllTickets w w' → IsSound (slice_set rows n (row_of c (Some (end_or_stray b Filed)))) w'
+  sound_filed w' f true job h keeps = (
+    (λ p right.
+        let x = worked_done c.project w w' (is_running (held_at own.trials c.ticket)) (after_file p own c.ticket (mark_of f.result)) (h p right) in
+        subst (IsTold (slice_set rows n (row_of c (Some Filed)))) (sym x.1) (placed c.project (slice_set rows n (row_of c (Some Filed))) w (after_file p own c.ticket (mark_of f.result))
+          (told_filed c.project rows own n c (self_is c.project) at (s.0 p right c.project) p (mark_of f.result)) (others p right Filed))),
+    jobs_set w' Filed keeps,
+  )
+  sound_filed w' f false job h keeps = subst (IsSound (slice_set rows n (row_of c (Some Stray)))) (sym h.1) (stray (stray_idle w' f job h))
+
+  pub filed_gone : (w' : World) (f : FinishedView) (b : Bool) → c.job.value ≡ f.job → Files w c.project c.ticket f b w' → OnFalse b (ForRight (λ p. IsGone own c.ticket))
+  filed_gone w' f true job h = tt
+  filed_gone w' f false job h = gone (stray_idle w' f job h)
+
+  pub sound_back : (w' : World) (b : Bool) → TakesBack w c.project c.ticket b w' → IsSound (slice_set rows n (row_of c (Some (end_or_stray b HandedBack)))) w'
+  sound_back w' true h = (
+    (λ p right. subst (IsTold (slice_set rows n (row_of c (Some HandedBack)))) (sym x.1) (placed c.project (slice_set rows n (row_of c (Some HandedBack))) w (after_back own c.ticket)
+      (told_back c.project rows own n c (self_is c.project) at (s.0 p right c.project)) (others p right HandedBack))),
+    jobs_set w' HandedBack keeps,
+  )
+    where
+      x : (is_running (held_at own.trials c.ticket) ≡ true) × (w' ≡ put_desk c.project (after_back own c.ticket) w)
+      x = worked_done c.project w w' (is_running (held_at own.trials c.ticket)) (after_back own c.ticket) h
+
+      done' : worker_step any_profile own (hand_back c.ticket) ≡ Some (after_back own c.ticket)
+      done' = ap (λ (b : Bool). if b then Some (after_back own c.ticket) else None) x.0
+
+      keeps : KeepsAllTickets w w'
+      keeps r = subst (λ (k : World). KeepsTickets (desk_at r w) (desk_at r k)) (sym x.1) (tickets_placed r c.project (after_back own c.ticket) w (tickets_worked any_profile own (after_back own c.ticket) (hand_back c.ticket) done'))
+  sound_back w' false h =
+      let x = worked_not c.project w w' (is_running (held_at own.trials c.ticket)) (after_back own c.ticket) h in
+      subst (IsSound (slice_set rows n (row_of c (Some Stray)))) (sym x.1) (stray x.0)
+
+  pub back_gone : (w' : World) (b : Bool) → TakesBack w c.project c.ticket b w' → OnFalse b (ForRight (λ p. IsGone own c.ticket))
+  back_gone w' true h = tt
+  back_gone w' false h = gone (worked_not c.project w w' (is_running (held_at own.trials c.ticket)) (after_back own c.ticket) h).0
