@@ -100,7 +100,7 @@ sound_called rows w w' q c (Err e) a keeps s = subst (IsSound rows) (sym a.1) s
 pub sound_claimed : (rows : List (Row Job)) (w w' : World) (q t : ℕ) (j : Arc Job Global) → ClaimsAt w q t (Ok (Some j)) w' → IsSound rows w → IsSound (rows ++ row_of (claim_of q t j.value) None ∷ []) w'
 sound_claimed rows w w' q t j h s = (
   (λ p right. subst (IsTold after) (sym x.1) (placed q after w (after_claim d t) (told_claim q rows d t j.value x.0 (s.0 p right q))
-    (λ r apart. told_where r rows after (desk_at r w) (other_opened r (claim_of q t j.value) apart rows None) (s.0 p right r)))),
+      (λ r apart. told_where r rows after (desk_at r w) (other_opened r (claim_of q t j.value) apart rows None) (s.0 p right r)))),
   All-push (OfItsJob w') rows (row_of (claim_of q t j.value) None) (jobs_kept rows w w' keeps s.1) (keeps q t j.value (waiting_ticket d t j.value (held_at d.trials t) refl h.0)),
 )
   where
@@ -156,7 +156,7 @@ module _ (rows : List (Row Job)) (w : World) (n : ℕ) (c : Claim Job) (at : sli
     (λ p right.
         let x = worked_done c.project w w' (is_running (held_at own.trials c.ticket)) (after_file p own c.ticket (mark_of f.result)) (h p right) in
         subst (IsTold (slice_set rows n (row_of c (Some Filed)))) (sym x.1) (placed c.project (slice_set rows n (row_of c (Some Filed))) w (after_file p own c.ticket (mark_of f.result))
-          (told_filed c.project rows own n c (self_is c.project) at (s.0 p right c.project) p (mark_of f.result)) (others p right Filed))),
+        (told_filed c.project rows own n c (self_is c.project) at (s.0 p right c.project) p (mark_of f.result)) (others p right Filed))),
     jobs_set w' Filed keeps,
   )
   sound_filed w' f false job h keeps = subst (IsSound (slice_set rows n (row_of c (Some Stray)))) (sym h.1) (stray (stray_idle w' f job h))
@@ -168,7 +168,7 @@ module _ (rows : List (Row Job)) (w : World) (n : ℕ) (c : Claim Job) (at : sli
   pub sound_back : (w' : World) (b : Bool) → TakesBack w c.project c.ticket b w' → IsSound (slice_set rows n (row_of c (Some (end_or_stray b HandedBack)))) w'
   sound_back w' true h = (
     (λ p right. subst (IsTold (slice_set rows n (row_of c (Some HandedBack)))) (sym x.1) (placed c.project (slice_set rows n (row_of c (Some HandedBack))) w (after_back own c.ticket)
-      (told_back c.project rows own n c (self_is c.project) at (s.0 p right c.project)) (others p right HandedBack))),
+        (told_back c.project rows own n c (self_is c.project) at (s.0 p right c.project)) (others p right HandedBack))),
     jobs_set w' HandedBack keeps,
   )
     where

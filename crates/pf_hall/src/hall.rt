@@ -98,11 +98,13 @@ impl<N: FarmNames> Hall<N> {
     {
         self.ledger.make_room()?;
         match self.book.claim()? {
-            Some(Claimed {
-                project,
-                ticket,
-                job,
-            }) => {
+            Some(
+                Claimed {
+                    project,
+                    ticket,
+                    job,
+                },
+            ) => {
                 let claim = self.ledger.open(share, project, ticket, &*job);
                 Ok(Some(ClaimedTrial { claim, job }))
             }
@@ -131,17 +133,14 @@ impl<N: FarmNames> Hall<N> {
         let project = claim.claim().project;
         let ticket = claim.claim().ticket;
         let filed = self.book.file(project, ticket, finished);
-        self.ledger.end(share, claim, end_or_stray(filed, End::Filed));
+        self.ledger
+            .end(share, claim, end_or_stray(filed, End::Filed));
         filed
     }
 
     /// Ends a claim by handing its trial back, which is queued again; says false if the trial was dropped: then the claim is stray, and no desk has changed.
     /// It takes no memory.
-    pub fn hand_back(
-        &mut self,
-        share: &mut Share<EndedLedger<N>>,
-        claim: OpenClaim<N, Job>,
-    ) -> bool
+    pub fn hand_back(&mut self, share: &mut Share<EndedLedger<N>>, claim: OpenClaim<N, Job>) -> bool
         requires { 0 < share.old.parts }
         ensures back { TakesBack self.old.desks claim.1.project claim.1.ticket result self.new.desks }
         ensures was { slice_get self.old.rows claim.0 ≡ Some (row_of claim.1 None) }
@@ -154,7 +153,8 @@ impl<N: FarmNames> Hall<N> {
         let project = claim.claim().project;
         let ticket = claim.claim().ticket;
         let taken = self.book.hand_back(project, ticket);
-        self.ledger.end(share, claim, end_or_stray(taken, End::HandedBack));
+        self.ledger
+            .end(share, claim, end_or_stray(taken, End::HandedBack));
         taken
     }
 

@@ -122,11 +122,11 @@ told_call p q rows d c h = by (passed_by d charge.Call) refl
         let now : after_call p d c ≡ (noted c x).0 = ap (λ (o : Option Code). (within_limits d o (noted c x)).0) room in
         let more : (noted c x).0.history ≡ es ++ called c x.1 ∷ [] = ap (λ (l : List Entry). l ++ called c x.1 ∷ []) (call_notes p d c) in
         subst (IsToldAt q rows) now
-          (told_lasts q rows d (after_call p d c) c (reply_to p d c) (turns_called p d c)
-            (ap (λ (k : Desk). claims_noted k.history) now ∙ ap claims_noted more ∙ noted_push es (called c x.1) ∙ append_nil (claims_noted es))
-            (λ t. ap (λ (k : Desk). tally (is_file t) k.history) now ∙ ap (tally (is_file t)) more ∙ omega (arith, tally_push (is_file t) es (called c x.1)))
-            (λ t. ap (λ (k : Desk). tally (is_hand_back t) k.history) now ∙ ap (tally (is_hand_back t)) more ∙ omega (arith, tally_push (is_hand_back t) es (called c x.1)))
-            h)
+        (told_lasts q rows d (after_call p d c) c (reply_to p d c) (turns_called p d c)
+        (ap (λ (k : Desk). claims_noted k.history) now ∙ ap claims_noted more ∙ noted_push es (called c x.1) ∙ append_nil (claims_noted es))
+        (λ t. ap (λ (k : Desk). tally (is_file t) k.history) now ∙ ap (tally (is_file t)) more ∙ omega (arith, tally_push (is_file t) es (called c x.1)))
+        (λ t. ap (λ (k : Desk). tally (is_hand_back t) k.history) now ∙ ap (tally (is_hand_back t)) more ∙ omega (arith, tally_push (is_hand_back t) es (called c x.1)))
+        h)
 
 -- ---- claims
 
@@ -198,7 +198,7 @@ module _ (q : ℕ) (rows : List (Row Job)) (d : Desk) (n : ℕ) (c : Claim Job) 
       → claims_that f q u (slice_set rows n (row_of c (Some e))) + one ((c.ticket == u) && f None) ≡ claims_that f q u rows + one ((c.ticket == u) && f (Some e))
   counted_set e f u =
       subst (λ b. claims_that f q u (slice_set rows n (row_of c (Some e))) + one ((b && (c.ticket == u)) && f None) ≡ claims_that f q u rows + one ((b && (c.ticket == u)) && f (Some e))) of
-        (tally_set (λ (x : Row Job). is_of q u x.claim && f x.end) rows n (row_of c None) (row_of c (Some e)) at)
+      (tally_set (λ (x : Row Job). is_of q u x.claim && f x.end) rows n (row_of c None) (row_of c (Some e)) at)
 
   no : (u : ℕ) → one ((c.ticket == u) && false) ≡ 0
   no u = ap one (and_false (c.ticket == u))
