@@ -5,7 +5,7 @@ use Rattle.std.specs.Str.{bytes_eq}
 use Rattle.clap.specs.Words.{Text, Row, fault_of, first_of, subcommand_of}
 use Rattle.pf_model.specs.Meaning.{Choices, schedule}
 use Rattle.pf_text.specs.Numbers.{schedule_of}
-use Rattle.pf_cli.specs.Args.{asked, bounds_in, choices_named, file_at, number_in, numbers_of, of_command, placed, property_named, pulsefarm, run_asked, run_of, schedule_file_of, shrink_of, shrinking_asked, unless_refused, wanted_by, run, chart, shrink}
+use Rattle.pf_cli.specs.Args.{asked, bounds_in, choices_named, file_at, guided_in, number_in, numbers_of, of_command, placed, property_named, pulsefarm, run_asked, run_of, schedule_file_of, shrink_of, shrinking_asked, unless_refused, wanted_by, run, chart, shrink}
 
 alone_word : (text word : Text) → file_at word ≡ None → numbers_of (Some text) word ≡ numbers_of None word
 alone_word text word e = ap (λ (f : Option Text). schedule_of (placed text word f)) e
@@ -24,7 +24,7 @@ alone_schedule text (Some word) e = alone_word text word e
 
 alone_run : (text : Text) (rows : List Row) → option_and_then file_at (first_of (codes "schedule") rows) ≡ None → run_of (Some text) rows ≡ run_of None rows
 alone_run text rows e =
-    ap (λ (cs : Option Choices). run_asked (first_of (codes "root") rows) (bounds_in rows) cs (property_named (first_of (codes "property") rows)))
+    ap (λ (cs : Option Choices). run_asked (first_of (codes "root") rows) (bounds_in rows) cs (guided_in cs rows) (property_named (first_of (codes "property") rows)))
     (alone_choices text (first_of (codes "seed") rows) (first_of (codes "weights") rows) (first_of (codes "schedule") rows) e)
 
 alone_shrink : (text : Text) (rows : List Row) → option_and_then file_at (first_of (codes "schedule") rows) ≡ None → shrink_of (Some text) rows ≡ shrink_of None rows

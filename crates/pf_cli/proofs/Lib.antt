@@ -3,3 +3,4 @@ pub mod Alike
 pub mod Alone
 pub mod Told
 pub mod Named
+pub mod Guided

@@ -11,6 +11,8 @@ use Rattle.pf_text.specs.Numbers.{number_of, long_number_of, schedule_of}
 use Rattle.pf_request.specs.Request as requests
 use Rattle.pf_request.specs.Request.{Request, Kind}
 use Rattle.pf_request.specs.View.{view_of_request}
+use Rattle.pf_strategy.specs.declared.strategy.Strategy.{Strategy}
+use Rattle.pf_strategy.specs.declared.strategy.Strategy.TheVariants.{Uniform, Priorities}
 use Rattle.pf_cli.specs.declared.args.Edition.{Edition}
 use Rattle.pf_cli.specs.declared.args.Edition.TheVariants.{First, Second}
 use Rattle.pf_cli.specs.declared.args.Weights.{Weights}
@@ -49,9 +51,10 @@ rooted_app name = with_rule (with_rule (new_app name) file_rule) (required_rule 
 abbrev pub bounded_app : Text → App
 bounded_app name = with_rule (with_rule (rooted_app name) (required_rule (codes "limit"))) (option_rule (codes "edition"))
 
--- a command of one run: after these [--seed N] [--weights R:D]
+-- a command of one run: after these [--seed N] [--weights R:D] [--strategy S]
 abbrev pub weighted_app : Text → App
-weighted_app name = with_rule (with_rule (bounded_app name) (option_rule (codes "seed"))) (option_rule (codes "weights"))
+weighted_app name =
+    with_rule (with_rule (with_rule (bounded_app name) (option_rule (codes "seed"))) (option_rule (codes "weights"))) (option_rule (codes "strategy"))
 
 -- and then [--schedule L] [--property P]
 abbrev pub one_run_app : Text → App
@@ -68,9 +71,10 @@ chart_app = one_run_app (codes "chart")
 abbrev pub seeded_app : App
 seeded_app = with_rule (with_rule (bounded_app (codes "hunt")) (required_rule (codes "property"))) (required_rule (codes "seeds"))
 
--- and how: after these [--weights R:D] [--workers N]
+-- and how: after these [--weights R:D] [--strategy S] [--workers N]
 abbrev pub working_app : App
-working_app = with_rule (with_rule seeded_app (option_rule (codes "weights"))) (option_rule (codes "workers"))
+working_app =
+    with_rule (with_rule (with_rule seeded_app (option_rule (codes "weights"))) (option_rule (codes "strategy"))) (option_rule (codes "workers"))
 
 -- and what is told: [--all] [--shrink N]
 abbrev pub hunt_app : App
@@ -111,21 +115,24 @@ pulsefarm = with_subcommand (with_subcommand runs_app check_app.top) steps_app.t
 
 -- ---- what is asked for
 
--- a run, a chart or a shrinking is asked for: a request of the module that a file holds, in an edition
+-- a run, a chart or a shrinking is asked for: a request of the module that a file holds, in an edition; and the seed by whose priorities the run
+-- goes in place of the request's choices, where that is asked for
 pub record RunArgs : Type 0 where
   pub request : Request
   pub edition : ℕ
+  pub priorities : Option ℕ
 
 -- what is sought among seeds: the least that fails, whose schedule is shrunk within n runs where that is asked for; or each outcome
 pub data Sought : Type 0 where
   failure : (runs : Option ℕ) → Sought
   outcomes : Sought
 
--- a hunt is asked for: the request is the run by the seed 0, in whose place the seeds from a first to before an end go; by n workers if
--- these are named
+-- a hunt is asked for: the request is the run by the seed 0, in whose place the seeds from a first to before an end go, by a strategy; by n
+-- workers if these are named
 pub record HuntArgs : Type 0 where
   pub request : Request
   pub edition : ℕ
+  pub strategy : Strategy
   pub seeds : ℕ × ℕ
   pub workers : Option ℕ
   pub sought : Sought
@@ -133,9 +140,10 @@ pub record HuntArgs : Type 0 where
 abbrev pub request_by : (root property : Text) → Kind → (limit : ℕ) → Request
 request_by root property kind limit = record { root = root; property = property; kind = kind; limit = limit }
 
--- a request and an edition, by the limit and the edition that are named
-abbrev pub args_by : (root property : Text) → Kind → (bounds : ℕ × ℕ) → RunArgs
-args_by root property kind bounds = record { request = request_by root property kind bounds.0; edition = bounds.1 }
+-- a request and an edition, by the limit and the edition that are named; and the seed of priorities, if any
+abbrev pub args_by : (root property : Text) → Kind → (bounds : ℕ × ℕ) → (priorities : Option ℕ) → RunArgs
+args_by root property kind bounds priorities =
+    record { request = request_by root property kind bounds.0; edition = bounds.1; priorities = priorities }
 
 -- the number that the value of an option is
 abbrev pub number_in : Text → List Row → Option ℕ
@@ -209,26 +217,51 @@ choices_named text (Some word) weights None = seeded_by (weights_named weights) 
 choices_named text None None (Some word) = option_map schedule (numbers_of text word)
 choices_named text _ _ _ = None
 
+-- a strategy is `pos`, by priorities, or `uniform`
+abbrev pub strategy_of : Text → Option Strategy
+strategy_of word =
+    if bytes_eq word (codes "pos") then Some Priorities else (if bytes_eq word (codes "uniform") then Some Uniform else None)
+
+-- where none is named it is this one
+abbrev pub strategy_named : Strategy → Option Text → Option Strategy
+strategy_named strategy None = Some strategy
+strategy_named strategy (Some word) = strategy_of word
+
+-- the seed by whose priorities a run goes, if any; a seed with weights has none, nor has a schedule
+abbrev pub guided_by : Option Strategy → Choices → Option (Option ℕ)
+guided_by (Some Uniform) cs = Some None
+guided_by (Some Priorities) (seed n) = Some (Some n)
+guided_by _ _ = None
+
+abbrev pub guided : Option Strategy → Option Choices → Option (Option ℕ)
+guided strategy None = None
+guided strategy (Some cs) = guided_by strategy cs
+
 -- the property that a word names; `returns` where there is none
 abbrev pub property_named : Option Text → Text
 property_named None = codes "returns"
 property_named (Some word) = word
 
-abbrev pub run_asked : (root : Option Text) → (bounds : Option (ℕ × ℕ)) → Option Choices → (property : Text) → Option RunArgs
-run_asked (Some root) (Some bounds) (Some choices) property = Some (args_by root property (requests.run choices) bounds)
-run_asked _ _ _ property = None
+abbrev pub run_asked : (root : Option Text) → (bounds : Option (ℕ × ℕ)) → Option Choices → (priorities : Option (Option ℕ)) → (property : Text) → Option RunArgs
+run_asked (Some root) (Some bounds) (Some choices) (Some priorities) property =
+    Some (args_by root property (requests.run choices) bounds priorities)
+run_asked _ _ _ _ property = None
 
 abbrev pub choices_in : (text : Option Text) → List Row → Option Choices
 choices_in text rows =
     choices_named text (first_of (codes "seed") rows) (first_of (codes "weights") rows) (first_of (codes "schedule") rows)
 
+abbrev pub guided_in : Option Choices → List Row → Option (Option ℕ)
+guided_in choices rows = guided (strategy_named Uniform (first_of (codes "strategy") rows)) choices
+
 abbrev pub run_of : (text : Option Text) → List Row → Option RunArgs
 run_of text rows =
-    run_asked (first_of (codes "root") rows) (bounds_in rows) (choices_in text rows) (property_named (first_of (codes "property") rows))
+    run_asked (first_of (codes "root") rows) (bounds_in rows) (choices_in text rows) (guided_in (choices_in text rows) rows)
+    (property_named (first_of (codes "property") rows))
 
 abbrev pub shrinking_asked : (root property : Option Text) → (bounds : Option (ℕ × ℕ)) → (runs : Option ℕ) → (schedule : Option (List ℕ)) → Option RunArgs
 shrinking_asked (Some root) (Some property) (Some bounds) (Some runs) (Some numbers) =
-    Some (args_by root property (requests.shrink numbers runs) bounds)
+    Some (args_by root property (requests.shrink numbers runs) bounds None)
 shrinking_asked _ _ _ _ _ = None
 
 -- the numbers that the schedule is
@@ -279,20 +312,30 @@ sought_named true (Some word) = None
 abbrev pub sought_in : List Row → Option Sought
 sought_in rows = sought_named (is_given (first_of (codes "all") rows)) (first_of (codes "shrink") rows)
 
-abbrev pub hunt_by : (root property : Text) → Choices → (bounds seeds : ℕ × ℕ) → (workers : Option ℕ) → Sought → HuntArgs
-hunt_by root property choices bounds seeds workers sought =
+-- without a word for it a hunt goes by priorities, or by the weights where there are any; with weights no other strategy goes
+abbrev pub unless_guided : Option Strategy → Option Strategy
+unless_guided (Some Uniform) = Some Uniform
+unless_guided _ = None
+
+abbrev pub hunt_strategy : (weights : Option (ℕ × ℕ)) → Option Text → Option Strategy
+hunt_strategy None word = strategy_named Priorities word
+hunt_strategy (Some weights) word = unless_guided (strategy_named Uniform word)
+
+abbrev pub hunt_by : (root property : Text) → Choices → Strategy → (bounds seeds : ℕ × ℕ) → (workers : Option ℕ) → Sought → HuntArgs
+hunt_by root property choices strategy bounds seeds workers sought =
     record {
       request = request_by root property (requests.run choices) bounds.0;
       edition = bounds.1;
+      strategy = strategy;
       seeds = seeds;
       workers = workers;
       sought = sought;
     }
 
-abbrev pub hunt_asked : Option Sought → (root property : Option Text) → (bounds seeds : Option (ℕ × ℕ)) → (weights : Option (Option (ℕ × ℕ))) → (workers : Option (Option ℕ)) → Option HuntArgs
-hunt_asked (Some sought) (Some root) (Some property) (Some bounds) (Some seeds) (Some weights) (Some workers) =
-    Some (hunt_by root property (seeded weights 0) bounds seeds workers sought)
-hunt_asked _ _ _ _ _ _ _ = None
+abbrev pub hunt_asked : Option Sought → (root property : Option Text) → (bounds seeds : Option (ℕ × ℕ)) → (weights : Option (Option (ℕ × ℕ))) → Option Strategy → (workers : Option (Option ℕ)) → Option HuntArgs
+hunt_asked (Some sought) (Some root) (Some property) (Some bounds) (Some seeds) (Some weights) (Some strategy) (Some workers) =
+    Some (hunt_by root property (seeded weights 0) strategy bounds seeds workers sought)
+hunt_asked _ _ _ _ _ _ _ _ = None
 
 abbrev pub seeds_in : List Row → Option (ℕ × ℕ)
 seeds_in rows = option_and_then seeds_of (first_of (codes "seeds") rows)
@@ -303,10 +346,14 @@ weights_in rows = weights_named (first_of (codes "weights") rows)
 abbrev pub workers_in : List Row → Option (Option ℕ)
 workers_in rows = workers_named (first_of (codes "workers") rows)
 
+-- with the weights that are named
+abbrev pub strategy_in : List Row → Option Strategy
+strategy_in rows = option_and_then (λ weights. hunt_strategy weights (first_of (codes "strategy") rows)) (weights_in rows)
+
 abbrev pub hunt_of : List Row → Option HuntArgs
 hunt_of rows =
     hunt_asked (sought_in rows) (first_of (codes "root") rows) (first_of (codes "property") rows) (bounds_in rows) (seeds_in rows)
-    (weights_in rows) (workers_in rows)
+    (weights_in rows) (strategy_in rows) (workers_in rows)
 
 -- whether a refusal is to be explained
 abbrev pub explain_of : List Row → Bool
@@ -381,13 +428,15 @@ sought_by (Failure runs) = failure runs
 sought_by Outcomes = outcomes
 
 abbrev pub view_of_run_args : run_code.RunArgs → RunArgs
-view_of_run_args a = record { request = view_of_request a.request; edition = edition_number a.edition }
+view_of_run_args a =
+    record { request = view_of_request a.request; edition = edition_number a.edition; priorities = a.priorities }
 
 abbrev pub view_of_hunt_args : hunt_code.HuntArgs → HuntArgs
 view_of_hunt_args a =
     record {
       request = view_of_request a.request;
       edition = edition_number a.edition;
+      strategy = a.strategy;
       seeds = (a.first, a.end);
       workers = a.workers;
       sought = sought_by a.sought;

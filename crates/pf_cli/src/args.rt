@@ -6,6 +6,7 @@ ghost use Rattle.pf_request.specs.Request.{choices_in, may_weigh};
 ghost use Rattle.pf_request.specs.View.{view_of_kind};
 
 use pf_request::{Request, RunChoices};
+use pf_strategy::Strategy;
 
 /// Which limits runs have.
 #[derive(Drop, Clone, Copy)]
@@ -65,6 +66,8 @@ pub struct RunArgs<'a> {
     pub request: Request,
     /// The edition of each run.
     pub edition: Edition,
+    /// The seed by whose priorities the run goes in place of the request's choices, where that is asked for.
+    pub priorities: Option<u64>,
     ghost weighs: { may_weigh (choices_in (view_of_kind request.kind)) ≡ true },
 }
 
@@ -86,6 +89,8 @@ pub struct HuntArgs<'a> {
     pub request: Request,
     /// The edition of each run.
     pub edition: Edition,
+    /// How a seed chooses.
+    pub strategy: Strategy,
     /// The first seed.
     pub first: u64,
     /// The seed before which the hunt ends; above the first.

@@ -20,6 +20,12 @@ const FAILING_HELP: &str =
 const JUDGING_HELP: &str =
     "Property that each run is judged by: `returns`, `true`, `nocrash`, `nodeadlock`, `withinlimit` or `never:PATTERN`";
 
+const RUN_STRATEGY: &str =
+    "How the seed chooses: `uniform`, or by priorities, `pos` [default: uniform]";
+
+const HUNT_STRATEGY: &str =
+    "How a seed chooses: by priorities, `pos`, which finds deep races, or `uniform` [default: pos; with weights uniform]";
+
 const RUN_USAGE: &str =
     "pulsefarm run [OPTIONS] --root <F> --limit <N> <--seed <N>|--schedule <L>> [FILE]";
 
@@ -105,6 +111,13 @@ fn weights<'a>(alloc: Global) -> Arg<'a>
     option(alloc, "weights", "R:D", help)
 }
 
+fn strategy<'a>(alloc: Global, help: &'a str) -> Arg<'a>
+    ensures rule { rule_of result ≡ option_rule (codes "strategy") }
+    ensures local { result.global ≡ false }
+{
+    option(alloc, "strategy", "S", help)
+}
+
 fn schedule<'a>(alloc: Global) -> Arg<'a>
     ensures rule { rule_of result ≡ option_rule (codes "schedule") }
     ensures local { result.global ≡ false }
@@ -164,7 +177,8 @@ fn weighted<'a>(
     let weighted = bounded(alloc, name, about)?
         .override_usage(usage)
         .arg(seed(alloc))?
-        .arg(weights(alloc))?;
+        .arg(weights(alloc))?
+        .arg(strategy(alloc, RUN_STRATEGY))?;
     Ok(weighted)
 }
 
@@ -222,6 +236,7 @@ fn working<'a>(alloc: Global, about: &'a str) -> Result<Command<'a>, AllocError>
     let workers = "Threads that run seeds, from 1 to 64 [default: the machine's processors]";
     let working = seeded(alloc, about)?
         .arg(weights(alloc))?
+        .arg(strategy(alloc, HUNT_STRATEGY))?
         .arg(option(alloc, "workers", "N", workers))?;
     Ok(working)
 }

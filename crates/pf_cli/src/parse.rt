@@ -10,8 +10,8 @@ use crate::args::{Args, CheckArgs, HuntArgs, RunArgs, StepsArgs, Weights};
 use crate::commands::command;
 use crate::refusals::{Valued, mistake};
 use crate::values::{
-    RUNS, bounds, choices, given_schedule, is_given, named_file, named_property, named_schedule,
-    number, seeds, sought, value, weights, workers,
+    RUNS, bounds, choices, given_schedule, guided, is_given, named_file, named_property,
+    named_schedule, number, seeds, sought, strategy, value, weights, workers,
 };
 use clap::error::ErrorKind;
 use clap::{ArgMatches, Error};
@@ -85,6 +85,10 @@ fn run_args<'a>(
         Ok(choices) => choices,
         Err(e) => return Err(e),
     };
+    let priorities = match guided(alloc, valued, rows, &choices) {
+        Ok(priorities) => priorities,
+        Err(e) => return Err(e),
+    };
     let Some(root) = value(rows, "root") else {
         return Err(mistake(alloc, "--root is missing"));
     };
@@ -98,6 +102,7 @@ fn run_args<'a>(
             file: named_file(rows),
             request,
             edition,
+            priorities,
         }),
         Err(e) => Err(e),
     }
@@ -134,6 +139,10 @@ fn hunt_args<'a>(alloc: Global, rows: &ArgMatches<'a>) -> Result<HuntArgs<'a>, E
         Ok(weights) => weights,
         Err(e) => return Err(e),
     };
+    let strategy = match strategy(alloc, rows, weights) {
+        Ok(strategy) => strategy,
+        Err(e) => return Err(e),
+    };
     let workers = match workers(alloc, rows) {
         Ok(workers) => workers,
         Err(e) => return Err(e),
@@ -144,6 +153,7 @@ fn hunt_args<'a>(alloc: Global, rows: &ArgMatches<'a>) -> Result<HuntArgs<'a>, E
             file: named_file(rows),
             request,
             edition,
+            strategy,
             first,
             end,
             workers,
@@ -197,6 +207,7 @@ fn shrink_args<'a>(
             file: named_file(rows),
             request,
             edition,
+            priorities: None,
         }),
         Err(e) => Err(e),
     }

@@ -2,6 +2,7 @@
 
 use crate::requests::{is_main, is_seeded};
 use pf_cli::{Args, Edition, HuntArgs, RunArgs, Sought, read_args, status_of_kind};
+use pf_strategy::Strategy;
 use std::alloc::Global;
 use std::test::Fail;
 
@@ -133,6 +134,33 @@ fn taken_value<'a>(
         }
     }
     Ok(None)
+}
+
+/// How the seeds of a hunt choose with this word; none where it is refused.
+fn strategy(alloc: Global, word: &str) -> Option<Strategy> {
+    let words = hunt_over("--seeds=0..10", word);
+    Some(hunt_of(alloc, &words)?.strategy)
+}
+
+#[test]
+fn strategies_of_a_hunt(rt: HostRuntime) {
+    for (word, wanted) in [
+        ("a.erl", Some(Strategy::Priorities)),
+        ("--strategy=pos", Some(Strategy::Priorities)),
+        ("--strategy=uniform", Some(Strategy::Uniform)),
+        ("--weights=9:1", Some(Strategy::Uniform)),
+    ] {
+        assert_eq!(rt; strategy(rt.alloc(), word), wanted, "{word}");
+    }
+}
+
+#[test]
+fn wrong_strategies_are_named(rt: HostRuntime) -> Result<(), Fail> {
+    let wants = "`pos` or `uniform`; `pos` beside a seed without weights alone";
+    let values = ["", "po", "Pos", "weights"];
+    let taken = taken_value(rt.alloc(), "--seeds=0..5", "--strategy", "<S>", &values, wants)?;
+    assert_eq!(rt; taken, None);
+    Ok(())
 }
 
 #[test]
