@@ -134,8 +134,10 @@ fn answer_bytes<W: Write, M: Ledger>(
     line.clear();
     let status = answered?;
     if status == REFUSED {
-        let told = why(rt.alloc(), asked, &source)?;
-        say(rt, &told);
+        // The answer went out: nothing more is said where memory runs out now.
+        if let Ok(told) = why(rt.alloc(), asked, &source) {
+            say(rt, &told);
+        }
     }
     Ok(status)
 }
