@@ -1,6 +1,6 @@
 //! Why a command ended by a refusal.
 
-ghost use Rattle.std.specs.Prelude.{IfOk};
+ghost use Rattle.std.specs.Prelude.{ℕ, List, IfOk};
 ghost use Rattle.pf_reasons.specs.Reasons.{IsReason};
 
 use pf_fault::{NoMemory, OrNoMemory, Refusal};
@@ -34,13 +34,29 @@ fn reason_of_request(
     alloc: Global,
     module: ReadModule,
     asked: Asked<'_>,
-) -> Result<Reason, NoMemory> {
+) -> Result<Reason, NoMemory>
+    ensures { IfOk result (λ r. (bytes : List ℕ) → IsReason bytes r) }
+{
     let edition = if asked.is_second_edition { 2 } else { 1 };
     let kept = module.share()?;
     match Job::new(alloc, module, asked.request, edition) {
         Ok(_) => Ok(Reason::Later),
         Err(OrNoMemory::NoMemory) => Err(NoMemory),
         Err(OrNoMemory::Fault(refusal)) => Ok(Reason::OfRequest(kept, refusal)),
+    }
+}
+
+/// Why a module is refused for what is asked for of it; a check asks for nothing.
+fn reason_of_module(
+    alloc: Global,
+    module: ReadModule,
+    asked: Option<Asked<'_>>,
+) -> Result<Reason, NoMemory>
+    ensures { IfOk result (λ r. (bytes : List ℕ) → IsReason bytes r) }
+{
+    match asked {
+        Some(asked) => reason_of_request(alloc, module, asked),
+        None => Ok(Reason::Later),
     }
 }
 
@@ -53,10 +69,10 @@ pub fn find_reason(
     ensures { IfOk result (IsReason bytes.items) }
 {
     let source = Source::new(alloc, bytes)?;
-    match (ReadModule::read(alloc, &source), asked) {
-        (Err(OrNoMemory::NoMemory), _) => Err(NoMemory),
-        (Err(OrNoMemory::Fault(refusal)), _) => Ok(Reason::OfSource(refusal)),
-        (Ok(_), None) => Ok(Reason::Later),
-        (Ok(module), Some(asked)) => reason_of_request(alloc, module, asked),
-    }
+    let refusal = match ReadModule::read(alloc, &source) {
+        Ok(module) => return reason_of_module(alloc, module, asked),
+        Err(OrNoMemory::NoMemory) => return Err(NoMemory),
+        Err(OrNoMemory::Fault(refusal)) => refusal,
+    };
+    Ok(Reason::OfSource(refusal))
 }
