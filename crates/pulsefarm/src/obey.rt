@@ -9,7 +9,7 @@ use crate::messages::{REFUSED, failed, no_memory, say, tell};
 use crate::progress::Line;
 use crate::schedule::{contents, contents_of_input, is_schedule, schedule_in};
 use crate::work::work;
-use pf_cli::{Reading, read};
+use pf_cli::{Args, Reading, read};
 use pf_fault::NoMemory;
 use pf_terms::{Counted, StreamFault};
 use std::alloc::AllocGlobal;
@@ -58,6 +58,25 @@ fn no_schedule(
     Ok(REFUSED)
 }
 
+/// Does what is asked for, by a schedule that a file has; its status. The standard input is not both the file and the source.
+fn work_by_schedule<R, I: Read, W: Write, L: Ledger, M: Ledger>(
+    rt: &R,
+    args: &Args,
+    file: &str,
+    stdin: &mut Counted<I, L>,
+    writer: &mut Counted<W, M>,
+    line: &Line,
+) -> u8
+where
+    R: Files + Print + Eprint + AllocGlobal + RandomSource + Clock + Threads + Sync,
+{
+    if file == "-" && args.file().is_none() {
+        say(rt, "the source and its schedule can't both be the standard input: name a file of one");
+        return REFUSED;
+    }
+    work(rt, args, stdin, writer, line)
+}
+
 /// Does what words ask for by the schedule in a file.
 fn obey_schedule<R, I: Read, W: Write, L: Ledger, M: Ledger>(
     rt: &R,
@@ -79,14 +98,7 @@ where
         return no_schedule(rt, file, &contents);
     }
     match read(rt.alloc(), words, Some(schedule))? {
-        Reading::Args(args) if file == "-" && args.file().is_none() => {
-            say(
-                rt,
-                "the source and its schedule can't both be the standard input: name a file of one",
-            );
-            Ok(REFUSED)
-        }
-        Reading::Args(args) => Ok(work(rt, &args, stdin, writer, line)),
+        Reading::Args(args) => Ok(work_by_schedule(rt, &args, file, stdin, writer, line)),
         Reading::Text {
             text,
             status,

@@ -122,14 +122,19 @@ fn answer_source<R: Read, W: Write, L: Ledger, M: Ledger>(
 }
 
 /// The same with the bytes of a source. If it is refused, or what is asked for of it, standard error says why.
-fn answer_bytes<W: Write, M: Ledger>(
+fn answer_bytes<W: Write, L: Ledger, M: Ledger>(
     rt: &(impl Eprint + AllocGlobal + RandomSource + Clock + Threads + Sync),
     asked: &Args,
     source: Vec<u8>,
     writer: &mut Counted<W, M>,
     line: &Line,
-) -> Answered {
-    let mut reader = Counted::<&[u8], Brand>::new(source.as_slice(), Blank::new(1));
+    reads: Blank,
+) -> Answered
+    requires reads { reads.name ≡ L.name }
+    requires read_parts { reads.parts ≡ L.parts }
+    requires some_reads { 0 < reads.parts }
+{
+    let mut reader = Counted::<&[u8], L>::new(source.as_slice(), reads);
     let answered = answer_source(rt, asked, &mut reader, writer, line);
     line.clear();
     let status = answered?;
@@ -154,7 +159,7 @@ fn answer<R: Read, W: Write, L: Ledger, M: Ledger>(
         return answer_all_steps(rt, reader, writer);
     }
     let source = reader.take_front(rt.alloc(), MOST_BYTES)?;
-    answer_bytes(rt, asked, source, writer, line)
+    answer_bytes::<W, Brand, M>(rt, asked, source, writer, line, Blank::new(1))
 }
 
 /// The same with what a file holds.
