@@ -1,0 +1,13 @@
+use Rattle.std.proofs.Common.{◌≡◌, ◌+◌, List, [], length, vec_len}
+use Rattle.pf_farm.specs.Seats.{IsChain, AllIdle}
+use Rattle.pf_farm.proofs.farm.ring_of_seats.Given as goal
+
+abbrev pub invariant-loop-i : goal.invariant-loop-i
+invariant-loop-i g l = record {
+  chain : IsChain l.initial.owner.0 l.seats.items l.owner.0;
+  empty : (l.owner.1 ≡ []) × (l.owner.2 ≡ []);
+  idle : AllIdle l.seats.items;
+  len : vec_len l.seats + 1 ≡ l.i;
+  opened : (l.opened.parts + l.i ≡ l.fn.opened.parts + 1) × (l.opened.amount ≡ l.fn.opened.amount);
+  ended : (l.ended.parts + l.i ≡ l.fn.ended.parts + 1) × (l.ended.amount ≡ l.fn.ended.amount);
+}

@@ -1,0 +1,260 @@
+//! A farm from its opening to its end.
+
+ghost use Rattle.std.specs.Prelude.{◌≡◌, ℕ, ◌+◌, ◌<◌, List, [], ◌++◌, Some, false, length, vec_len, IfOk};
+ghost use Rattle.pf_ledger.specs.Rows.{HaveEnded};
+ghost use Rattle.pf_deques.specs.Parts.{AreEven};
+ghost use Rattle.pf_book.specs.Profile.{ForRight};
+ghost use Rattle.pf_told.specs.Told.{IsTold};
+ghost use Rattle.pf_farm.specs.Seats.{IsRing, AllIdle, IsSpent, seat_at};
+
+use crate::floor::{Floor, Shared};
+use crate::held::HeldRun;
+use crate::seat::WorkSeat;
+use pf_deques::{Owner, Thief, Whole};
+use pf_farm_names::{EndedLedger, FarmNames, OpenedLedger};
+use pf_hall::{Closing, Hall};
+use pf_ledger::Claim;
+use pf_register::NewRegister;
+use pf_sched::Job;
+use pf_terms::NoMemory;
+use std::alloc::Global;
+use std::hash::RandomState;
+use std::marker::Model;
+use std::sync::ledger::{Blank, Share};
+use std::sync::{Condvar, Mutex};
+
+/// How many runs a deque has room for at first.
+const FIRST_ROOM: usize = 64;
+
+/// What a farm is opened with: unused ledgers and an unused register, by which its name is picked.
+#[derive(Drop)]
+pub struct Blanks {
+    pub opened: Blank,
+    pub ended: Blank,
+    pub claims: NewRegister<Claim<Job>>,
+}
+
+/// A farm. Contracts see how many workers it has.
+#[derive(Drop)]
+pub struct Farm<N: FarmNames> {
+    floor: Floor<N>,
+    opened: Share<OpenedLedger<N>>,
+    ended: Share<EndedLedger<N>>,
+    workers: usize,
+}
+
+impl<N: FarmNames> Model for Farm<N> {
+    ghost use Rattle.std.specs.Prelude.{◌≡◌, ◌+◌, ◌<◌, ℕ};
+
+    ghost Value = { ℕ };
+
+    ghost view = { λ f. f.workers };
+
+    ghost invariant = { λ f. (f.opened.parts + f.workers ≡ N.workers)
+        × (f.ended.parts + f.workers ≡ N.workers)
+        × (f.opened.amount ≡ 0)
+        × (f.ended.amount ≡ 0)
+        × (0 < f.ended.parts)
+        × (0 < f.workers) };
+}
+
+impl<N: FarmNames> Farm<N> {
+    /// A farm of so many workers, with a seat for each: each steals from the next one's deque, and the last from the first one's. It hashes with these keys.
+    pub fn open(
+        alloc: Global,
+        keys: RandomState,
+        blanks: Blanks,
+        workers: usize,
+    ) -> Result<(Farm<N>, Vec<WorkSeat<N>>), NoMemory>
+        requires opened { (blanks.opened.name ≡ N.opened) × (blanks.opened.parts ≡ N.workers) }
+        requires ended { (blanks.ended.name ≡ N.ended) × (blanks.ended.parts ≡ N.workers) }
+        requires claims { N.claims ≡ Some blanks.claims }
+        requires workers { (0 < workers) × (workers < N.workers) }
+        ensures workers { IfOk result (λ r. (r.0 ≡ workers) × (vec_len r.1 ≡ workers)) }
+        ensures ring { IfOk result (λ r. IsRing r.1.items) }
+        ensures idle { IfOk result (λ r. AllIdle r.1.items) }
+    {
+        let Blanks {
+            opened,
+            ended,
+            claims,
+        } = blanks;
+        let (all_opened, mut opened) = opened.open::<OpenedLedger<N>>();
+        let (all_ended, mut ended) = ended.open::<EndedLedger<N>>();
+        let seats = ring_of_seats(alloc, &mut opened, &mut ended, workers)?;
+        let shared = Shared {
+            hall: Hall::new(alloc, keys, all_opened, all_ended, claims),
+            moves: 0,
+            stopped: false,
+        };
+        let floor = Floor {
+            shared: Mutex::new(shared),
+            moved: Condvar::new(),
+        };
+        let farm = Farm {
+            floor,
+            opened,
+            ended,
+            workers,
+        };
+        Ok((farm, seats))
+    }
+
+    /// What all threads share.
+    pub fn floor(&self) -> &Floor<N> {
+        &self.floor
+    }
+
+    /// Closes the farm, with the seats of all its workers, each of which has returned. Runs that are parked still are handed back. No claim is open then, the ledger
+    /// tells what the histories tell, and what was pushed to a deque was popped or stolen, each as often.
+    pub fn close(self, seats: Vec<WorkSeat<N>>) -> Closing
+        requires all { vec_len seats ≡ self }
+        requires ring { IsRing seats.items }
+        requires idle { AllIdle seats.items }
+        ensures ended { HaveEnded result.rows.items }
+        ensures told { ForRight (λ p. IsTold result.rows.items result.book) }
+        ensures spent { IsSpent seats.items }
+    {
+        let Farm {
+            floor,
+            mut opened,
+            mut ended,
+            workers: _,
+        } = self;
+        let Floor { shared, moved: _ } = floor;
+        let Shared {
+            mut hall,
+            moves: _,
+            stopped: _,
+        } = shared.into_inner();
+        gather(&mut hall, &mut opened, &mut ended, seats);
+        hall.settle(&mut opened, &mut ended)
+    }
+}
+
+/// A ring of idle seats, each with a part of each ledger.
+fn ring_of_seats<N: FarmNames>(
+    alloc: Global,
+    opened: &mut Share<OpenedLedger<N>>,
+    ended: &mut Share<EndedLedger<N>>,
+    workers: usize,
+) -> Result<Vec<WorkSeat<N>>, NoMemory>
+    requires some { 0 < workers }
+    requires parts { (workers < opened.old.parts) × (workers < ended.old.parts) }
+    ensures len { IfOk result (λ v. vec_len v ≡ workers) }
+    ensures ring { IfOk result (λ v. IsRing v.items) }
+    ensures idle { IfOk result (λ v. AllIdle v.items) }
+    ensures opened { IfOk result (λ _. (opened.new.parts + workers ≡ opened.old.parts)
+        × (opened.new.amount ≡ opened.old.amount)) }
+    ensures ended { IfOk result (λ _. (ended.new.parts + workers ≡ ended.old.parts)
+        × (ended.new.amount ≡ ended.old.amount)) }
+{
+    let mut seats = Vec::new(alloc);
+    let (mut owner, first) = pf_deques::open(alloc, FIRST_ROOM)?;
+    for i in 1..workers {
+        let (own, next) = pf_deques::open(alloc, FIRST_ROOM)?;
+        seats.push(seat(opened, ended, owner, next))?;
+        owner = own;
+    }
+    seats.push(seat(opened, ended, owner, first))?;
+    Ok(seats)
+}
+
+/// An idle seat with these ends, through which nothing went yet.
+fn seat<N: FarmNames>(
+    opened: &mut Share<OpenedLedger<N>>,
+    ended: &mut Share<EndedLedger<N>>,
+    own: Owner<HeldRun<N>>,
+    next: Thief<HeldRun<N>>,
+) -> WorkSeat<N>
+    requires parts { (1 < opened.old.parts) × (1 < ended.old.parts) }
+    requires own { (own.1 ≡ []) × (own.2 ≡ []) }
+    requires next { next.1 ≡ [] }
+    ensures seat { result ≡ seat_at own next }
+    ensures opened { (opened.new.parts + 1 ≡ opened.old.parts) × (opened.new.amount ≡ opened.old.amount) }
+    ensures ended { (ended.new.parts + 1 ≡ ended.old.parts) × (ended.new.amount ≡ ended.old.amount) }
+{
+    WorkSeat {
+        own,
+        next,
+        opened: opened.split_off(1, 0),
+        ended: ended.split_off(1, 0),
+        busy: false,
+        ahead: 0,
+    }
+}
+
+/// Takes in all seats from the last to the first, and hands back all runs that are parked.
+fn gather<N: FarmNames>(
+    hall: &mut Hall<N>,
+    opened: &mut Share<OpenedLedger<N>>,
+    ended: &mut Share<EndedLedger<N>>,
+    seats: Vec<WorkSeat<N>>,
+)
+    requires some { 0 < vec_len seats }
+    requires ring { IsRing seats.items }
+    requires idle { AllIdle seats.items }
+    requires parts { 0 < ended.old.parts }
+    ensures opened { opened.new.parts ≡ opened.old.parts + vec_len seats }
+    ensures ended { ended.new.parts ≡ ended.old.parts + vec_len seats }
+    ensures even { opened.new.amount + ended.old.amount ≡ ended.new.amount + opened.old.amount }
+    ensures spent { IsSpent seats.items }
+{
+    let mut seats = seats;
+    if let Some(last) = seats.pop() {
+        let (mut owner, thief) = take_in(last, opened, ended);
+        'seats: while let Some(seat) = seats.pop() {
+            let (own, next) = take_in(seat, opened, ended);
+            clear(hall, ended, owner, next);
+            owner = own;
+        }
+        clear(hall, ended, owner, thief);
+    }
+}
+
+/// Takes in a seat's shares. Its two ends are left.
+fn take_in<N: FarmNames>(
+    seat: WorkSeat<N>,
+    opened: &mut Share<OpenedLedger<N>>,
+    ended: &mut Share<EndedLedger<N>>,
+) -> (Owner<HeldRun<N>>, Thief<HeldRun<N>>)
+    requires { seat.busy ≡ false }
+    ensures owner { result.0 ≡ (seat.own, seat.pushed, seat.popped) }
+    ensures thief { result.1 ≡ (seat.next, seat.stolen) }
+    ensures opened { opened.new.parts ≡ opened.old.parts + 1 }
+    ensures ended { ended.new.parts ≡ ended.old.parts + 1 }
+    ensures amounts { opened.new.amount + ended.old.amount + length seat.popped + length seat.stolen
+        ≡ ended.new.amount + opened.old.amount + length seat.pushed }
+{
+    let WorkSeat {
+        own,
+        next,
+        opened: more,
+        ended: less,
+        busy: _,
+        ahead: _,
+    } = seat;
+    opened.merge(more);
+    ended.merge(less);
+    (own, next)
+}
+
+/// Hands back all runs that are parked in a deque. What was pushed was popped or stolen then, each as often.
+fn clear<N: FarmNames>(
+    hall: &mut Hall<N>,
+    ended: &mut Share<EndedLedger<N>>,
+    owner: Owner<HeldRun<N>>,
+    thief: Thief<HeldRun<N>>,
+)
+    requires ends { owner.0 ≡ thief.0 }
+    requires parts { 0 < ended.old.parts }
+    ensures parts { ended.new.parts ≡ ended.old.parts }
+    ensures amount { ended.new.amount + length owner.2 + length thief.1 ≡ ended.old.amount + length owner.1 }
+    ensures even { (last : List ℕ) × AreEven owner.1 (owner.2 ++ last) thief.1 }
+{
+    let mut whole = Whole::of(owner, thief);
+    'clears: while let Some(run) = whole.pop() {
+        let (claim, _) = run.into_parts();
+        hall.hand_back(ended, claim);
+    }
+}

@@ -1,0 +1,183 @@
+//! The work of one worker.
+
+ghost use Rattle.std.specs.Prelude.{◌≡◌, true, false, is_some, IfOk, OnErr};
+ghost use Rattle.pf_farm.specs.Seats.{SameEnds};
+
+use crate::floor::Floor;
+use crate::gate::Gate;
+use crate::held::HeldRun;
+use crate::seat::WorkSeat;
+use pf_farm_names::FarmNames;
+use pf_hall::ClaimedTrial;
+use pf_sched::{Scratch, Slice, start};
+use pf_terms::NoMemory;
+use std::alloc::Global;
+use std::sync::Wait;
+
+/// How many events a slice has.
+const TURNS: u32 = 256;
+
+/// Works until the farm stops: takes up a run that it parked, else steals one, else claims a trial, else waits. Then it hands back what it holds and has parked. A
+/// worker whose claim was refused for memory tries again.
+pub fn work<N: FarmNames, G: Gate, R: Wait>(
+    alloc: Global,
+    rt: &R,
+    floor: &Floor<N>,
+    seat: &mut WorkSeat<N>,
+    gate: &G,
+)
+    requires { seat.old.busy ≡ false }
+    ensures ends { SameEnds seat.old seat.new }
+    ensures idle { seat.new.busy ≡ false }
+{
+    let mut scratch = Scratch::new(alloc);
+    'works: for _ in rt.forever() {
+        let (seen, stopped) = floor.now(rt);
+        if stopped {
+            break;
+        }
+        match next_run(alloc, rt, floor, seat) {
+            Ok(Some(run)) => run_on(alloc, rt, floor, seat, gate, &mut scratch, run),
+            Ok(None) => floor.wait_past(rt, seen),
+            Err(NoMemory) => {}
+        }
+    }
+    clear(rt, floor, seat);
+}
+
+/// Hands back all runs that are parked.
+fn clear<N: FarmNames, R: Wait>(rt: &R, floor: &Floor<N>, seat: &mut WorkSeat<N>)
+    requires { seat.old.busy ≡ false }
+    ensures ends { SameEnds seat.old seat.new }
+    ensures idle { seat.new.busy ≡ false }
+{
+    'clears: for _ in rt.forever() {
+        let Some(run) = seat.pop() else {
+            break;
+        };
+        let (claim, _) = run.into_parts();
+        floor.hand_back(rt, seat, claim);
+    }
+}
+
+/// The run of a free worker: one that it parked, else one that it steals, else that of a new claim.
+fn next_run<N: FarmNames, R: Wait>(
+    alloc: Global,
+    rt: &R,
+    floor: &Floor<N>,
+    seat: &mut WorkSeat<N>,
+) -> Result<Option<HeldRun<N>>, NoMemory>
+    requires { seat.old.busy ≡ false }
+    ensures ends { SameEnds seat.old seat.new }
+    ensures busy { IfOk result (λ o. seat.new.busy ≡ is_some o) }
+    ensures err { OnErr result (seat.new.busy ≡ false) }
+{
+    if let Some(run) = seat.pop() {
+        return Ok(Some(run));
+    }
+    if let Some(run) = seat.steal() {
+        return Ok(Some(run));
+    }
+    claimed_run(alloc, rt, floor, seat)
+}
+
+/// The run of a worker that parked one: that of a new claim, else one that it parked.
+fn other_run<N: FarmNames, R: Wait>(
+    alloc: Global,
+    rt: &R,
+    floor: &Floor<N>,
+    seat: &mut WorkSeat<N>,
+) -> Option<HeldRun<N>>
+    requires { seat.old.busy ≡ false }
+    ensures ends { SameEnds seat.old seat.new }
+    ensures busy { seat.new.busy ≡ is_some result }
+{
+    if let Ok(Some(run)) = claimed_run(alloc, rt, floor, seat) {
+        return Some(run);
+    }
+    seat.pop()
+}
+
+/// The run of a new claim, before its first event. A claim whose run can't begin for want of memory is handed back.
+fn claimed_run<N: FarmNames, R: Wait>(
+    alloc: Global,
+    rt: &R,
+    floor: &Floor<N>,
+    seat: &mut WorkSeat<N>,
+) -> Result<Option<HeldRun<N>>, NoMemory>
+    requires { seat.old.busy ≡ false }
+    ensures ends { SameEnds seat.old seat.new }
+    ensures busy { IfOk result (λ o. seat.new.busy ≡ is_some o) }
+    ensures err { OnErr result (seat.new.busy ≡ false) }
+{
+    let Some(ClaimedTrial { claim, job }) = floor.claim(rt, seat)? else {
+        return Ok(None);
+    };
+    match start(alloc, job) {
+        Ok(parked) => Ok(Some(HeldRun::new(claim, parked))),
+        Err(NoMemory) => {
+            floor.hand_back(rt, seat, claim);
+            Err(NoMemory)
+        }
+    }
+}
+
+/// Goes on with a run, and with those that come after it, slice by slice: what is over is filed, and what isn't is parked behind the others, where there is room.
+fn run_on<N: FarmNames, G: Gate, R: Wait>(
+    alloc: Global,
+    rt: &R,
+    floor: &Floor<N>,
+    seat: &mut WorkSeat<N>,
+    gate: &G,
+    scratch: &mut Scratch,
+    run: HeldRun<N>,
+)
+    requires { seat.old.busy ≡ true }
+    ensures ends { SameEnds seat.old seat.new }
+    ensures idle { seat.new.busy ≡ false }
+{
+    let mut run = run;
+    'goes: for _ in rt.forever() {
+        if floor.now(rt).1 {
+            break;
+        }
+        match sliced(alloc, rt, floor, seat, gate, scratch, run) {
+            Some(next) => run = next,
+            None => return,
+        }
+    }
+    let (claim, _) = run.into_parts();
+    floor.hand_back(rt, seat, claim);
+}
+
+/// A slice of a run, and the run with which the worker goes on: the same where it can't be parked, or else another one, if there is one.
+fn sliced<N: FarmNames, G: Gate, R: Wait>(
+    alloc: Global,
+    rt: &R,
+    floor: &Floor<N>,
+    seat: &mut WorkSeat<N>,
+    gate: &G,
+    scratch: &mut Scratch,
+    run: HeldRun<N>,
+) -> Option<HeldRun<N>>
+    requires { seat.old.busy ≡ true }
+    ensures ends { SameEnds seat.old seat.new }
+    ensures busy { seat.new.busy ≡ is_some result }
+{
+    let (claim, parked) = run.into_parts();
+    let project = claim.claim().project;
+    let ticket = claim.claim().ticket;
+    match gate.slice(alloc, rt, project, ticket, parked, scratch, TURNS) {
+        Slice::Done(finished) => {
+            floor.file(rt, seat, claim, finished);
+            None
+        }
+        Slice::More(parked) => match seat.park(HeldRun::new(claim, parked)) {
+            Ok(()) => {
+                floor.tell(rt);
+                other_run(alloc, rt, floor, seat)
+            }
+            Err(run) => Some(run),
+        },
+    }
+}
