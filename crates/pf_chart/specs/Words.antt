@@ -3,7 +3,7 @@ use Rattle.std.specs.Prelude.{ℕ, Bool, List, [], ◌∷◌, ◌++◌, codes}
 use Rattle.pf_svg.specs.Document.{Draws as DrawsIn}
 use Rattle.pf_svg.specs.Words.{is_word as is_word_of}
 use Rattle.pf_chart.specs.declared.marks.TheConstants.{LINKED, UNLINKED}
-use Rattle.pf_chart.specs.declared.style.TheConstants.{DEFINITIONS, LEGEND, LEGEND_OF_CHOICES, LEGEND_OF_SPAWNS, STYLE}
+use Rattle.pf_chart.specs.declared.style.TheConstants.{DEFINITIONS, LEGEND, LEGEND_OF_SPAWNS, STYLE}
 
 -- tags, or beginnings and ends of tags
 abbrev pub markup : List (List ℕ)
@@ -20,7 +20,7 @@ attributes = codes "data-pid" ∷ codes "data-event" ∷ codes "data-delivery" �
 abbrev pub classes : List (List ℕ)
 classes =
     codes "before" ∷ codes "life" ∷ codes "life waiting" ∷ codes "pid" ∷ codes "of" ∷ codes "foot"
-    ∷ codes "outcome" ∷ codes "legend" ∷ codes "number" ∷ codes "number chosen" ∷ codes "again" ∷ codes "process" ∷ codes "process deadlocked"
+    ∷ codes "outcome" ∷ codes "legend" ∷ codes "number" ∷ codes "process" ∷ codes "process deadlocked"
     ∷ codes "event " ∷ codes "send" ∷ codes "spawn" ∷ codes "watched" ∷ codes "link" ∷ codes "unlink"
     ∷ codes "monitor" ∷ codes "demonitor" ∷ codes "exit" ∷ codes "flag" ∷ codes "name" ∷ codes "reference"
     ∷ codes "receive" ∷ codes "wait" ∷ codes "raise" ∷ codes "end" ∷ codes "cut" ∷ codes "delivery"
@@ -44,7 +44,7 @@ abbrev pub phrases : List (List ℕ)
 phrases =
     codes ", from top to bottom. Processes: " ∷ codes ". Events: " ∷ codes ". Outcome: " ∷ codes "by "
     ∷ codes " spawned by " ∷ codes " in event " ∷ codes " from " ∷ codes " to " ∷ codes "waits"
-    ∷ codes ", never delivered" ∷ codes ", dropped" ∷ LEGEND.now ∷ LEGEND_OF_SPAWNS.now ∷ LEGEND_OF_CHOICES.now ∷ []
+    ∷ codes ", never delivered" ∷ codes ", dropped" ∷ LEGEND.now ∷ LEGEND_OF_SPAWNS.now ∷ []
 
 abbrev pub words : List (List ℕ)
 words = markup ++ attributes ++ classes ++ outlines ++ phrases ++ STYLE.now ∷ DEFINITIONS.now ∷ []

@@ -8,11 +8,11 @@ ghost use Rattle.pf_chart.specs.Chart.{IsChart, process_labels, twice};
 ghost use Rattle.pf_chart.specs.Words.{Draws, is_word};
 
 use crate::events::{put_events, put_numbers};
-use crate::heads::{put_columns, put_pids_again, put_spawns};
+use crate::heads::{put_columns, put_spawns};
 use crate::layout::{Layout, layout_of};
 use crate::sheet::{GUTTER, ROW, Sheet, TOP};
 use crate::strokes::put_arrows;
-use crate::style::{DEFINITIONS, LEGEND, LEGEND_OF_CHOICES, LEGEND_OF_SPAWNS, STYLE};
+use crate::style::{DEFINITIONS, LEGEND, LEGEND_OF_SPAWNS, STYLE};
 use crate::words::Svg;
 use pf_svg::Part::{Attribute, Label, Markup, Number, Short};
 use pf_terms::{AtomTable, NoMemory};
@@ -101,7 +101,6 @@ fn put_bottom(svg: &mut Svg, outcome: &[u8], sheet: Sheet) -> Result<(), NoMemor
     put_result(svg, outcome, y, sheet)?;
     put_legend(svg, LEGEND, y.saturating_add(22))?;
     put_legend(svg, LEGEND_OF_SPAWNS, y.saturating_add(37))?;
-    put_legend(svg, LEGEND_OF_CHOICES, y.saturating_add(52))?;
     svg.close()
 }
 
@@ -121,10 +120,9 @@ fn put_layout(
         svg.old svg.new) }
 {
     put_ground(svg, report.events.len(), sheet)?;
-    put_numbers(svg, &report.events, sheet)?;
+    put_numbers(svg, report.events.len(), sheet)?;
     put_columns(svg, &layout.columns, root, sheet)?;
     put_spawns(svg, &layout.columns, sheet)?;
-    put_pids_again(svg, &layout.columns, report.events.len(), sheet)?;
     put_arrows(svg, &layout.traffic.arrows, &layout.columns, sheet)?;
     put_events(alloc, svg, atoms, &report.events, &layout.columns, sheet)
 }

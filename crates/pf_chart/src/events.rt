@@ -20,24 +20,13 @@ use std::alloc::Global;
 /// How many bytes of a label are shown at least if it is longer.
 const MOST_OF_LABEL: usize = 32;
 
-/// The class of the number of an event: one that took another choice than the first is told apart.
-fn class_of_number(event: &Event) -> &'static str
-    ensures { IsTrue (is_word result.now) }
-{
-    if event.choice > 0 {
-        "number chosen"
-    } else {
-        "number"
-    }
-}
-
 /// Puts the numbers of all events, one in each row.
-pub(crate) fn put_numbers(svg: &mut Svg, events: &[Event], sheet: Sheet) -> Result<(), NoMemory>
+pub(crate) fn put_numbers(svg: &mut Svg, events: usize, sheet: Sheet) -> Result<(), NoMemory>
     ensures { OnOk result (Draws [] svg.old svg.new) }
 {
-    for (row, event) in events.iter().enumerate() {
+    for row in 0..events {
         let at = (GUTTER - 10, sheet.y(row).saturating_add(4));
-        svg.text(class_of_number(event), at, &[Number(event_number(row))])?;
+        svg.text("number", at, &[Number(event_number(row))])?;
         svg.end_line()?;
     }
     Ok(())

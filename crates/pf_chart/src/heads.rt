@@ -5,7 +5,7 @@ ghost use Rattle.pf_chart.specs.Chart.{origin_labels, process_labels};
 ghost use Rattle.pf_chart.specs.Words.{Draws, is_word};
 
 use crate::columns::{Column, column_of};
-use crate::sheet::{HALF_ROW, Sheet, event_number};
+use crate::sheet::{Sheet, event_number};
 use crate::words::Svg;
 use pf_svg::Part::{Attribute, Label, Markup, Number, Pid, Short};
 use pf_terms::NoMemory;
@@ -16,8 +16,6 @@ const HEAD_TOP: u64 = 12;
 const HEAD_HEIGHT: u64 = 40;
 /// How much of a name goes into the narrowest head.
 const LEAST_OF_NAME: usize = 6;
-/// After how many rows the pids stand once more.
-const ROWS_OF_A_PAGE: usize = 40;
 /// How far the second line of a foot stands below the first.
 const FOOT_LINE: u64 = 12;
 
@@ -200,55 +198,6 @@ pub(crate) fn put_spawns(svg: &mut Svg, columns: &[Column], sheet: Sheet) -> Res
 {
     for (index, column) in columns.iter().enumerate() {
         put_spawn(svg, columns, column, sheet.x(index), sheet)?;
-    }
-    Ok(())
-}
-
-/// Whether a lifeline goes through the upper edge of a row.
-fn is_alive(column: &Column, row: usize) -> bool {
-    let is_there = match column.spawned {
-        Some((_, spawned)) => spawned < row,
-        None => true,
-    };
-    match column.ended {
-        Some(ended) => is_there && row <= ended,
-        None => is_there,
-    }
-}
-
-/// Puts the pid of a process once more, at the upper edge of a row, if its lifeline goes through it.
-fn put_pid(svg: &mut Svg, column: &Column, x: u64, row: usize, sheet: Sheet) -> Result<(), NoMemory>
-    ensures { OnOk result (Draws [] svg.old svg.new) }
-{
-    if !is_alive(column, row) {
-        return Ok(());
-    }
-    let y = sheet.y(row).saturating_sub(HALF_ROW - 4);
-    svg.text("again", (x, y), &[Pid(column.pid)])
-}
-
-/// Puts the pids once more at the upper edge of a row.
-fn put_pids(svg: &mut Svg, columns: &[Column], row: usize, sheet: Sheet) -> Result<(), NoMemory>
-    ensures { OnOk result (Draws [] svg.old svg.new) }
-{
-    for (index, column) in columns.iter().enumerate() {
-        put_pid(svg, column, sheet.x(index), row, sheet)?;
-    }
-    Ok(())
-}
-
-/// Puts the pids of all processes once more after each page of rows.
-pub(crate) fn put_pids_again(
-    svg: &mut Svg,
-    columns: &[Column],
-    events: usize,
-    sheet: Sheet,
-) -> Result<(), NoMemory>
-    ensures { OnOk result (Draws [] svg.old svg.new) }
-{
-    for page in 0..events / ROWS_OF_A_PAGE {
-        let row = page.saturating_add(1).saturating_mul(ROWS_OF_A_PAGE);
-        put_pids(svg, columns, row, sheet)?;
     }
     Ok(())
 }

@@ -13,7 +13,7 @@ pub(crate) const GUTTER: u64 = 56;
 /// What stands right of the columns: labels of the last one.
 const MARGIN: u64 = 280;
 /// What stands below the rows: feet, the outcome, the legend.
-const BOTTOM: u64 = 114;
+const BOTTOM: u64 = 99;
 
 /// How wide the columns are together, if each of them may be.
 const WIDE: u64 = 1600;

@@ -6,8 +6,6 @@ text{font-family:Helvetica,Arial,sans-serif;font-size:11px;fill:#111;paint-order
 .sheet{fill:#fff}\n\
 .bands{fill:url(#pf-bands)}\n\
 .number{text-anchor:end;fill:#555}\n\
-.chosen{font-weight:bold;fill:#b91c1c}\n\
-.again{text-anchor:middle;font-weight:bold}\n\
 .outcome{font-size:14px;font-weight:bold}\n\
 .legend{fill:#444}\n\
 .process text{text-anchor:middle;stroke:none}\n\
@@ -43,10 +41,6 @@ pub(crate) const DEFINITIONS: &str = "<defs>\n\
 /// How to read the marks of spawns.
 pub(crate) const LEGEND_OF_SPAWNS: &str =
     "A plus in a square is a spawn, and one in an eye a spawn of a process that is watched from its begin.";
-
-/// How to read the numbers of events.
-pub(crate) const LEGEND_OF_CHOICES: &str =
-    "A red number is that of an event by a choice above 0: these are what a shrunk schedule is about.";
 
 /// How to read the ends of arrows.
 pub(crate) const LEGEND: &str =

@@ -3,5 +3,5 @@ use Rattle.std.proofs.Common.{[]}
 use Rattle.pf_chart.proofs.events.put_numbers.Given as goal
 
 -- what is drawn so far has no label
-abbrev pub invariant-loop-index : goal.invariant-loop-index
-invariant-loop-index l = Draws [] l.fn.svg l.svg
+abbrev pub invariant-loop-row : goal.invariant-loop-row
+invariant-loop-row l = Draws [] l.fn.svg l.svg
