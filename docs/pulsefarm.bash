@@ -5,8 +5,8 @@ _pulsefarm_properties='returns true nocrash nodeadlock withinlimit never:'
 # The options of the command $1.
 _pulsefarm_options() {
   case $1 in
-    run | chart) echo '--root --limit --edition --seed --weights --schedule --property --help' ;;
-    hunt) echo '--root --limit --edition --property --seeds --weights --workers --all --shrink --help' ;;
+    run | chart) echo '--root --limit --edition --seed --weights --strategy --schedule --property --help' ;;
+    hunt) echo '--root --limit --edition --property --seeds --weights --strategy --workers --all --shrink --help' ;;
     shrink) echo '--root --limit --edition --schedule --property --runs --help' ;;
     check) echo '--explain --help' ;;
     steps) echo '--help' ;;
@@ -39,6 +39,7 @@ _pulsefarm() {
         mapfile -t COMPREPLY < <(compgen -W 'none @' -- "$word")
       fi
       ;;
+    --strategy) mapfile -t COMPREPLY < <(compgen -W 'pos uniform' -- "$word") ;;
     --edition) mapfile -t COMPREPLY < <(compgen -W '1 2' -- "$word") ;;
     --limit | --seed | --seeds | --weights | --workers | --shrink | --runs) ;;
     *)

@@ -22,7 +22,7 @@ _pulsefarm_properties() {
 }
 
 _pulsefarm() {
-  local -a job weights schedule
+  local -a job weights strategy schedule
   job=(
     '--root[function that runs first]:function:_pulsefarm_roots'
     '--limit[most steps of a run]:steps: '
@@ -30,6 +30,7 @@ _pulsefarm() {
     '--property[what a run is judged by]:property:_pulsefarm_properties'
   )
   weights='--weights[weights of a process and of a channel]:R\:D: '
+  strategy='--strategy[how a seed chooses]:strategy:(pos uniform)'
   schedule="--schedule[scheduler's numbers]:schedule:_pulsefarm_schedules"
   if ((CURRENT == 2)); then
     compadd run hunt shrink chart check steps
@@ -41,9 +42,9 @@ _pulsefarm() {
   ((CURRENT--))
   local -a own
   case $command in
-    run | chart) own=($job '--seed[seed]:seed: ' $weights $schedule) ;;
+    run | chart) own=($job '--seed[seed]:seed: ' $weights $strategy $schedule) ;;
     hunt)
-      own=($job '--seeds[seeds A..B]:seeds: ' $weights '--workers[threads]:threads: ' '--all[tell each outcome]'
+      own=($job '--seeds[seeds A..B]:seeds: ' $weights $strategy '--workers[threads]:threads: ' '--all[tell each outcome]'
         '--shrink[shrink within N runs]:runs: ')
       ;;
     shrink) own=($job $schedule '--runs[most runs]:runs: ') ;;

@@ -12,6 +12,10 @@ def numbers(schedule):
     return [] if schedule == "none" else [int(it) for it in schedule.split(",")]
 
 
+def strategy(lines):
+    return "pos" if "strategy pos" in lines[:2] else "uniform"
+
+
 def failure(lines):
     """Returns the failure of a hunt: its seed, and the schedule that its report is of, which with --shrink is the one that was found."""
     schedules = [it.removeprefix("schedule ") for it in lines if it.startswith("schedule ")]
@@ -20,6 +24,7 @@ def failure(lines):
     return {
         "answer": "failure",
         "seed": int(lines[0].removeprefix("seed ")),
+        "strategy": strategy(lines),
         "schedule": numbers(schedules[-1]),
         **({"shrinking": search} if search else {}),
         "events": events,
@@ -30,12 +35,12 @@ def failure(lines):
 
 def read(lines):
     """Returns what an answer tells."""
-    rows = [ROW.fullmatch(it) for it in lines]
+    rows = [ROW.fullmatch(it) for it in lines if it != "strategy pos"]
     none = NONE.fullmatch(lines[0]) if lines else None
     if none:
         return {"answer": "none", "seeds": int(none[1])}
     if rows and all(rows):
-        return {"answer": "outcomes", "outcomes": [{"property": it[1], "seeds": int(it[2]), "least": int(it[3]), "outcome": it[4]} for it in rows]}
+        return {"answer": "outcomes", "strategy": strategy(lines), "outcomes": [{"property": it[1], "seeds": int(it[2]), "least": int(it[3]), "outcome": it[4]} for it in rows]}
     if len(lines) >= 5 and lines[0].startswith("seed ") and lines[-1] == "property fails":
         return failure(lines)
     return {"answer": "refused", "why": lines[0] if len(lines) == 1 else ""}

@@ -14,13 +14,14 @@ from shards import seeds_of, stop  # noqa: E402
 
 NAME = re.compile(r"(?:0|[1-9][0-9]*)\.\.(?:0|[1-9][0-9]*)")
 NONE = re.compile(rb"no failure in ([0-9]+) seeds\n")
-FOUND = re.compile(rb"seed ([0-9]+)\nschedule [^\n]*\n(?:.*\n)?property fails\n", re.S)
+POS = b"strategy pos"
+FOUND = re.compile(rb"seed ([0-9]+)\n(?:strategy pos\n)?schedule [^\n]*\n(?:.*\n)?property fails\n", re.S)
 ROW = re.compile(rb"(holds|fails) ([0-9]+) seeds, least ([0-9]+): ([^\n]*)")
 
 
 def rows_of(text, first, end):
     """Returns the rows (verdict, count, least seed, outcome) of a text that tells each outcome of these seeds, else none."""
-    *lines, rest = text.split(b"\n")
+    *lines, rest = text.removeprefix(POS + b"\n").split(b"\n")
     found = [ROW.fullmatch(it) for it in lines]
     if rest or not all(found):
         return []
@@ -91,7 +92,8 @@ def answer(whole, first, end, found):
         return found.text, 1
     if whole[0].kind == "none":
         return b"no failure in %d seeds\n" % (end - first), 0
-    text = sums(whole)
+    named = POS + b"\n" if whole[0].text.startswith(POS) else b""
+    text = named + sums(whole)
     return text, int(b"\nfails " in b"\n" + text)
 
 

@@ -320,7 +320,7 @@ schedules_in_files() {
   run hunt m.erl --root main --limit 1000 --property returns --seeds 0..1000
   check 'hunt' test "$status" = 1
   cp out schedule
-  tail -n +3 out > first
+  tail -n +4 out > first
   run $words --schedule @schedule
   check 'schedule of a hunt' cmp -s out first
   { printf '0,1'; repeated ,4294967295 99998; } > schedule

@@ -1,6 +1,7 @@
 #!/bin/sh
-# Hunts over each module of examples/, asked for its property: of a race the least seed that fails by the uniform choice has to be that which the table of
-# examples/README.md names, below 1,000, one by priorities has to be below 4, and the property has to hold by some seed; of a mended form it has to hold by each seed below 10,000.
+# Hunts over each module of examples/, asked for its property: of a race the least seed that fails by the strategy `uniform` has to be that
+# which the table of examples/README.md names, below 1,000, some seed has to fail by priorities too, and the property has to hold by some seed;
+# of a mended form it has to hold by each seed below 10,000, by both.
 #
 # Usage: run.sh [BINARY]; the program is that of the crate `pulsefarm` where none is named.
 set -u
@@ -29,15 +30,17 @@ count() {
 # A line of the table: the module, its property and the seed.
 sed -n 's/^| `\([a-z_]*\)` | `\([a-z]*\)` | \([0-9]*\) |.*/\1 \2 \3/p' "$top/examples/README.md" > "$room/table"
 while read -r race asked named; do
-  hunts "$race" "$asked" 0..4
-  count "$([ "$status" = 1 ] && echo yes)" "$race" "the property fails by none of four seeds by priorities"
   hunts "$race" "$asked" 0..1000 --strategy uniform
   found=$(sed -n '1s/^seed //p' "$room/out")
   count "$([ "$status" = 1 ] && [ "$found" = "$named" ] && echo yes)" "$race" "the property fails by seed ${found:-none} first, and not by $named"
+  hunts "$race" "$asked" 0..1000
+  count "$([ "$status" = 1 ] && echo yes)" "$race" "no seed fails by priorities"
   hunts "$race" "$asked" 0..1000 --all
   count "$(grep -q '^holds ' "$room/out" && echo yes)" "$race" "no seed lets the property hold"
-  hunts "${race}_mended" "$asked" 0..10000
-  count "$([ "$status" = 0 ] && echo yes)" "${race}_mended" "$(head -n 1 "$room/out")"
+  for strategy in uniform pos; do
+    hunts "${race}_mended" "$asked" 0..10000 --strategy "$strategy"
+    count "$([ "$status" = 0 ] && echo yes)" "${race}_mended" "$(head -n 1 "$room/out")"
+  done
 done < "$room/table"
-[ "$passed" = 40 ] || count no examples "there are not ten with their mended forms"
+[ "$passed" = 50 ] || count no examples "there are not ten with their mended forms"
 tell_counts

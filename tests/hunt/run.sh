@@ -1,6 +1,7 @@
 #!/bin/sh
 # Hunts over the modules of examples/ and holds what is told against `run` and `shrink` of the same seeds: the least seed that fails, its
-# choices and its report; each outcome with its seeds; and that the number of workers makes no difference.
+# choices and its report; each outcome with its seeds; and that the number of workers makes no difference. All of it by both strategies; the
+# schedule of each seed that is found runs so again.
 #
 # Usage: run.sh [BINARY]; the program is that of the crate `pulsefarm` where none is named.
 set -u
@@ -28,7 +29,7 @@ outcome_of() {
 least_by_runs() {
   seed=$3
   while [ "$seed" -lt "$4" ]; do
-    told "$room/report" run "$examples/$1.erl" --root main --limit 2000 --property "$2" --seed "$seed"
+    told "$room/report" run "$examples/$1.erl" --root main --limit 2000 --property "$2" --seed "$seed" --strategy "$strategy"
     if [ "$status" = 1 ]; then
       echo "$seed"
       return
@@ -39,8 +40,10 @@ least_by_runs() {
 
 # What a hunt tells of the seed $3, by which the property $2 of the module $1 fails; the report stays in `report`.
 failure() {
-  told "$room/report" run "$examples/$1.erl" --root main --limit 2000 --property "$2" --seed "$3"
-  printf 'seed %s\nschedule %s\n' "$3" "$(choices_of "$room/report")"
+  told "$room/report" run "$examples/$1.erl" --root main --limit 2000 --property "$2" --seed "$3" --strategy "$strategy"
+  printf 'seed %s\n' "$3"
+  [ "$strategy" = uniform ] || echo 'strategy pos'
+  printf 'schedule %s\n' "$(choices_of "$room/report")"
 }
 
 # The least seed that fails, from each of some seeds on, by one worker and by several.
@@ -48,16 +51,19 @@ first() {
   for start in 0 1 2 5; do
     least=$(least_by_runs "$1" "$2" "$start" 200)
     { failure "$1" "$2" "$least"; cat "$room/report"; } > "$room/wanted"
+    cp "$room/report" "$room/by_seed"
+    told "$room/again" run "$examples/$1.erl" --root main --limit 2000 --property "$2" --schedule "$(choices_of "$room/by_seed")"
+    if cmp -s "$room/by_seed" "$room/again"; then passed=$((passed + 1)); else failed=$((failed + 1)); echo "$1: the schedule of seed $least runs otherwise"; fi
     for workers in 1 2 3 4 64; do
       compare "$1 from $start by $workers" 1 /dev/null "$room/wanted" \
-        hunt "$examples/$1.erl" --root main --limit 2000 --property "$2" --seeds "$start..200" --workers "$workers"
+        hunt "$examples/$1.erl" --root main --limit 2000 --property "$2" --seeds "$start..200" --workers "$workers" --strategy "$strategy"
     done
     compare "$1 from $start to its seed" 1 /dev/null "$room/wanted" \
-      hunt "$examples/$1.erl" --root main --limit 2000 --property "$2" --seeds "$start..$((least + 1))"
+      hunt "$examples/$1.erl" --root main --limit 2000 --property "$2" --seeds "$start..$((least + 1))" --strategy "$strategy"
     if [ "$start" -lt "$least" ]; then
       echo "no failure in $((least - start)) seeds" > "$room/wanted"
       compare "$1 from $start to before its seed" 0 /dev/null "$room/wanted" \
-        hunt "$examples/$1.erl" --root main --limit 2000 --property "$2" --seeds "$start..$least"
+        hunt "$examples/$1.erl" --root main --limit 2000 --property "$2" --seeds "$start..$least" --strategy "$strategy"
     fi
   done
 }
@@ -70,7 +76,7 @@ shrunk() {
   told "$room/shrunk" shrink "$examples/$1.erl" --root main --limit 2000 --property "$2" --schedule "$schedule" --runs "$3"
   cat "$room/shrunk" >> "$room/wanted"
   compare "$1, shrunk within $3 runs" 1 /dev/null "$room/wanted" \
-    hunt "$examples/$1.erl" --root main --limit 2000 --property "$2" --seeds 0..200 --shrink "$3"
+    hunt "$examples/$1.erl" --root main --limit 2000 --property "$2" --seeds 0..200 --shrink "$3" --strategy "$strategy"
 }
 
 # Each outcome of the seeds from 3 to before 63, by one worker and by several, against the reports of these seeds.
@@ -78,7 +84,7 @@ outcomes() {
   seed=3
   : > "$room/outcomes"
   while [ "$seed" -lt 63 ]; do
-    told "$room/report" run "$examples/$1.erl" --root main --limit 2000 --property "$2" --seed "$seed"
+    told "$room/report" run "$examples/$1.erl" --root main --limit 2000 --property "$2" --seed "$seed" --strategy "$strategy"
     echo "$seed $(outcome_of "$room/report")" >> "$room/outcomes"
     seed=$((seed + 1))
   done
@@ -88,12 +94,13 @@ outcomes() {
     END { for (i = 1; i <= rows; i++) {
       split(order[i], part, SUBSEP)
       print part[1] " " count[order[i]] " seeds, least " least[order[i]] ": " part[2]
-    } }' "$room/outcomes" > "$room/wanted"
+    } }' "$room/outcomes" > "$room/rows"
+  { [ "$strategy" = uniform ] || echo 'strategy pos'; cat "$room/rows"; } > "$room/wanted"
   wanted_status=0
   ! grep -q '^fails' "$room/wanted" || wanted_status=1
   for workers in 1 2 3 4 64; do
     compare "outcomes of $1 by $workers" "$wanted_status" /dev/null "$room/wanted" \
-      hunt "$examples/$1.erl" --root main --limit 2000 --property "$2" --seeds 3..63 --all --workers "$workers"
+      hunt "$examples/$1.erl" --root main --limit 2000 --property "$2" --seeds 3..63 --all --workers "$workers" --strategy "$strategy"
   done
 }
 
@@ -123,10 +130,12 @@ refusals() {
 
 sed -n 's/^| `\([a-z_]*\)` | `\([a-z]*\)` |.*/\1 \2/p' "$examples/README.md" > "$room/table"
 while read -r module property; do
-  first "$module" "$property"
-  shrunk "$module" "$property" 1
-  shrunk "$module" "$property" 300
-  outcomes "$module" "$property"
+  for strategy in uniform pos; do
+    first "$module" "$property"
+    shrunk "$module" "$property" 1
+    shrunk "$module" "$property" 300
+    outcomes "$module" "$property"
+  done
 done < "$room/table"
 refusals
 tell_counts

@@ -75,8 +75,9 @@ Answers a = AnswersBy (AsksOf a) Tells
 
 -- ---- the code's own requests and answers
 
+-- a request by its own choices
 abbrev pub run_args : Request → Edition → RunArgs
-run_args r e = record { request = view_of_request r; edition = edition_number e }
+run_args r e = record { request = view_of_request r; edition = edition_number e; priorities = None }
 
 -- the answer is these words on a line of their own, with the status of what is refused
 abbrev pub Refuses : Answer → List ℕ → Type 0

@@ -11,6 +11,8 @@ use Rattle.pf_request.specs.Module.{ReadModule}
 use Rattle.pf_request.specs.Request.{shrink}
 use Rattle.pf_request.specs.Job.{Job, memory_report}
 use Rattle.pf_sched.specs.Asked.{Asks}
+use Rattle.pf_strategy.specs.declared.strategy.Strategy.{Strategy}
+use Rattle.pf_strategy.specs.declared.strategy.Strategy.TheVariants.{Uniform, Priorities}
 use Rattle.pf_seeds.specs.Hunts.{FirstFailing, Tallies}
 use Rattle.pf_seeds.specs.Rows.{Row}
 use Rattle.pf_cli.specs.Args.{HuntArgs, RunArgs, Sought, failure, outcomes}
@@ -21,7 +23,7 @@ use Rattle.pf_command.specs.Answers.{Answers, AnswersBy, AsksOf, names_of}
 
 -- the shrinking of a schedule that a hunt finds
 abbrev pub shrinking_of : HuntArgs → (numbers : List ℕ) → (runs : ℕ) → RunArgs
-shrinking_of h numbers runs = record { request = record h.request { kind = shrink numbers runs }; edition = h.edition }
+shrinking_of h numbers runs = record { request = record h.request { kind = shrink numbers runs }; edition = h.edition; priorities = None }
 
 -- if a schedule is to be shrunk, the shrinking of the empty one isn't refused
 abbrev pub MayShrink : HuntArgs → Sought → ReadModule → Type 0
@@ -46,9 +48,15 @@ choices_of r = map (λ e. e.choice) r.events
 abbrev pub none_text : (seeds : ℕ) → List ℕ
 none_text seeds = codes "no failure in " ++ decimal seeds ++ codes " seeds\n"
 
--- a seed and the choices of its run, each on a line
-abbrev pub seed_text : (seed : ℕ) → (choices : List ℕ) → List ℕ
-seed_text seed choices = codes "seed " ++ decimal seed ++ codes "\nschedule " ++ schedule_text choices ++ codes "\n"
+-- priorities are named, on a line of their own
+abbrev pub strategy_text : Strategy → List ℕ
+strategy_text Priorities = codes "strategy pos\n"
+strategy_text Uniform = []
+
+-- a seed, its strategy and the choices of its run, each on a line
+abbrev pub seed_text : (seed : ℕ) → Strategy → (choices : List ℕ) → List ℕ
+seed_text seed strategy choices =
+    codes "seed " ++ decimal seed ++ codes "\n" ++ strategy_text strategy ++ codes "schedule " ++ schedule_text choices ++ codes "\n"
 
 abbrev pub verdict_text : Option Bool → List ℕ
 verdict_text (Some true) = codes "holds "
@@ -67,21 +75,21 @@ rows_status rows = if list_any (λ x. is_failure x.verdict) rows then 1 else 0
 -- TellsSought h bytes j sought text status: what is told of the runs of a job by the seeds, by what is sought, if the source has these bytes
 pub data TellsSought (h : HuntArgs) (bytes : List ℕ) (j : Job) : Sought → List ℕ → ℕ → Type 0 where
   -- no run fails
-  none_fails : (runs : Option ℕ) → FirstFailing j.asked h.seeds.0 h.seeds.1 None
+  none_fails : (runs : Option ℕ) → FirstFailing h.strategy j.asked h.seeds.0 h.seeds.1 None
       → TellsSought h bytes j (failure runs) (none_text (h.seeds.1 - h.seeds.0)) 0
   -- the least seed whose run fails, the choices of that run, and its report
-  seed_fails : (s : ℕ) (r : Report) → FirstFailing j.asked h.seeds.0 h.seeds.1 (Some (s, r))
-      → TellsSought h bytes j (failure None) (seed_text s (choices_of r) ++ report_text (names_of j) r) 1
+  seed_fails : (s : ℕ) (r : Report) → FirstFailing h.strategy j.asked h.seeds.0 h.seeds.1 (Some (s, r))
+      → TellsSought h bytes j (failure None) (seed_text s h.strategy (choices_of r) ++ report_text (names_of j) r) 1
   -- or what the shrinking of these choices is answered with
-  seed_shrunk : (s : ℕ) (r : Report) (runs : ℕ) (text : List ℕ) (status : ℕ) → FirstFailing j.asked h.seeds.0 h.seeds.1 (Some (s, r))
+  seed_shrunk : (s : ℕ) (r : Report) (runs : ℕ) (text : List ℕ) (status : ℕ) → FirstFailing h.strategy j.asked h.seeds.0 h.seeds.1 (Some (s, r))
       → Answers (shrinking_of h (choices_of r) runs) bytes text status
-      → TellsSought h bytes j (failure (Some runs)) (seed_text s (choices_of r) ++ text) status
+      → TellsSought h bytes j (failure (Some runs)) (seed_text s h.strategy (choices_of r) ++ text) status
   -- or, if memory ran out within the shrinking, that it did
-  seed_alone : (s : ℕ) (r : Report) (runs : ℕ) → FirstFailing j.asked h.seeds.0 h.seeds.1 (Some (s, r))
-      → TellsSought h bytes j (failure (Some runs)) (seed_text s (choices_of r) ++ report_text (names_of j) memory_report) 2
-  -- each outcome that is met
-  tallied : (rows : List Row) → Tallies j.asked h.seeds.0 h.seeds.1 rows
-      → TellsSought h bytes j outcomes (flat_map (row_text (names_of j)) rows) (rows_status rows)
+  seed_alone : (s : ℕ) (r : Report) (runs : ℕ) → FirstFailing h.strategy j.asked h.seeds.0 h.seeds.1 (Some (s, r))
+      → TellsSought h bytes j (failure (Some runs)) (seed_text s h.strategy (choices_of r) ++ report_text (names_of j) memory_report) 2
+  -- the strategy, and each outcome that is met
+  tallied : (rows : List Row) → Tallies h.strategy j.asked h.seeds.0 h.seeds.1 rows
+      → TellsSought h bytes j outcomes (strategy_text h.strategy ++ flat_map (row_text (names_of j)) rows) (rows_status rows)
 
 -- a source of these bytes, of whose runs by many seeds this is sought, is answered with this text and this status
 abbrev pub SoughtAnswers : HuntArgs → Sought → (bytes text : List ℕ) → ℕ → Type 0
@@ -95,5 +103,5 @@ HuntAnswers h = SoughtAnswers h h.sought
 -- the answer tells a seed with the choices of its run, and then what the shrinking of these is answered with, or that memory ran out within it
 abbrev pub TellsShrunk : HuntArgs → (bytes : List ℕ) → Job → ℕ → Report → (runs : ℕ) → Answer → Type 0
 TellsShrunk h bytes j s r runs a =
-    ((text : List ℕ) × (a.text.items ≡ seed_text s (choices_of r) ++ text) × Answers (shrinking_of h (choices_of r) runs) bytes text a.status)
-    ⊎ ((a.text.items ≡ seed_text s (choices_of r) ++ report_text (names_of j) memory_report) × (a.status ≡ 2))
+    ((text : List ℕ) × (a.text.items ≡ seed_text s h.strategy (choices_of r) ++ text) × Answers (shrinking_of h (choices_of r) runs) bytes text a.status)
+    ⊎ ((a.text.items ≡ seed_text s h.strategy (choices_of r) ++ report_text (names_of j) memory_report) × (a.status ≡ 2))

@@ -1,5 +1,6 @@
 pub mod Answers
 pub mod Hunts
 pub mod Charts
+pub mod Guided
 pub mod Checks
 pub mod Streams

@@ -1,13 +1,16 @@
 //! What a source is answered with of which the chart of a run is asked for.
 
-ghost use Rattle.std.specs.Prelude.{◌≡◌, ◌<◌, List, ℕ, zero, IfOk};
+ghost use Rattle.std.specs.Prelude.{◌≡◌, ◌<◌, List, ℕ, zero, IfOk, Some};
 ghost use Rattle.pf_model.specs.Reports.{report_of};
 ghost use Rattle.pf_model.specs.Shrinking.{IsResult, by_schedule};
 ghost use Rattle.pf_sched.specs.Views.{result_of};
 ghost use Rattle.pf_command.specs.Answers.{IsModuleOf, run_args};
+ghost use Rattle.pf_cli.specs.Args.{view_of_run_args};
 ghost use Rattle.pf_command.specs.Charts.{ChartAnswers, Draws, DrawsMeaning, DrawsRun};
+ghost use Rattle.pf_command.specs.Guided.{DrawnAnswers};
 
 use crate::answer::{Answer, read_source, refused_at, refused_by_code, run_status};
+use crate::guided::scheduled;
 use crate::serving::Answering;
 use pf_chart::put_chart;
 use pf_cli::{Edition, RunArgs};
@@ -116,18 +119,44 @@ fn draw_module(
     }
 }
 
-/// The answer to a source of these bytes: the chart of its run, or why there is none.
-fn draw_source(
+/// The answer to a module of which the run by the priorities of a seed is asked for.
+fn draw_guided(
     alloc: Global,
-    request: &Request,
-    edition: Edition,
-    bytes: Vec<u8>,
+    args: &RunArgs,
+    seed: u64,
+    module: ReadModule,
 ) -> Result<Answer, NoMemory>
-    ensures { IfOk result (λ a. ChartAnswers (run_args request.now edition)
-        bytes.items a.text.items a.status) }
+    requires { args.now.priorities ≡ Some seed }
+    ensures { IfOk result (λ a. (bytes : List ℕ) → IsModuleOf bytes «module»
+        → DrawnAnswers (view_of_run_args args.now) bytes a.text.items a.status) }
+{
+    match Job::new(alloc, module.share()?, &args.request, args.edition.number()) {
+        Ok(job) => {
+            let request = scheduled(alloc, &args.request, &job, seed)?;
+            draw_module(alloc, &request, args.edition, module)
+        }
+        Err(OrNoMemory::Fault(refusal)) => refused_by_code(alloc, refusal.code()),
+        Err(OrNoMemory::NoMemory) => Err(NoMemory),
+    }
+}
+
+/// The answer to a module of which the chart of a run is asked for.
+fn draw_asked(alloc: Global, args: &RunArgs, module: ReadModule) -> Result<Answer, NoMemory>
+    ensures { IfOk result (λ a. (bytes : List ℕ) → IsModuleOf bytes «module»
+        → DrawnAnswers (view_of_run_args args.now) bytes a.text.items a.status) }
+{
+    match args.priorities {
+        Some(seed) => draw_guided(alloc, args, seed, module),
+        None => draw_module(alloc, &args.request, args.edition, module),
+    }
+}
+
+/// The answer to a source of these bytes: the chart of its run, or why there is none.
+fn draw_source(alloc: Global, args: &RunArgs, bytes: Vec<u8>) -> Result<Answer, NoMemory>
+    ensures { IfOk result (λ a. DrawnAnswers (view_of_run_args args.now) bytes.items a.text.items a.status) }
 {
     match read_source(alloc, bytes) {
-        Ok(module) => draw_module(alloc, request, edition, module),
+        Ok(module) => draw_asked(alloc, args, module),
         Err(OrNoMemory::Fault(refusal)) => refused_at(alloc, refusal),
         Err(OrNoMemory::NoMemory) => Err(NoMemory),
     }
@@ -141,11 +170,11 @@ pub struct Chart<'a> {
 
 impl Answering for Chart<'_> {
     ghost use Rattle.pf_cli.specs.Args.{view_of_run_args};
-    ghost use Rattle.pf_command.specs.Charts.{ChartAnswers};
+    ghost use Rattle.pf_command.specs.Guided.{DrawnAnswers};
 
-    ghost answers = { λ c. ChartAnswers (view_of_run_args c.args.now) };
+    ghost answers = { λ c. DrawnAnswers (view_of_run_args c.args.now) };
 
     fn answer(self, alloc: Global, bytes: Vec<u8>) -> Result<Answer, NoMemory> {
-        draw_source(alloc, &self.args.request, self.args.edition, bytes)
+        draw_source(alloc, self.args, bytes)
     }
 }

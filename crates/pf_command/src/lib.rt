@@ -4,6 +4,7 @@
 mod answer;
 mod chart;
 mod check;
+mod guided;
 mod hunt;
 mod run;
 mod seeds;

@@ -12,17 +12,18 @@ ghost use Rattle.pf_seeds.specs.Views.{failure_of, row_of};
 ghost use Rattle.pf_cli.specs.Args.{failure, outcomes, view_of_hunt_args};
 ghost use Rattle.pf_command.specs.Answers.{Answers, AsksOf, IsModuleOf, names_of, run_args};
 ghost use Rattle.pf_command.specs.Hunts.{AsksFor, HuntAnswers, MayShrink, SoughtAnswers, TellsShrunk, TellsSought};
-ghost use Rattle.pf_command.specs.Hunts.{choices_of, none_text, row_text, seed_text, shrinking_of};
+ghost use Rattle.pf_command.specs.Hunts.{choices_of, none_text, row_text, seed_text, shrinking_of, strategy_text};
 
 use crate::answer::{Answer, FAILED, REFUSED, refused_by_code};
 use crate::run::answer_module;
-use crate::seeds::{choices_of, put_none, put_rows, put_seed, rows_status};
+use crate::seeds::{choices_of, put_none, put_rows, put_seed, put_strategy, rows_status};
 use pf_cli::{HuntArgs, Sought};
 use pf_fault::{NoMemory, OrNoMemory};
 use pf_module::ReadModule;
 use pf_request::{Kind, Request, ShortBytes};
 use pf_sched::{Job, JobRefusal, Observer, memory_report};
-use pf_seeds::{Failure, Tally, first_failing, tally_all};
+use pf_seeds::{Failure, Hunt, Tally, first_failing, tally_all};
+use pf_strategy::Strategy;
 use pf_text::put;
 use pf_trace::{put_report, put_written};
 use std::alloc::Global;
@@ -133,23 +134,28 @@ struct Told {
 }
 
 /// Tells a seed whose run fails, and the choices of that run.
-fn write_seed(alloc: Global, failure: &Failure) -> Result<Told, NoMemory>
+fn write_seed(alloc: Global, strategy: Strategy, failure: &Failure) -> Result<Told, NoMemory>
     ensures { IfOk result (λ t. (t.choices.items ≡ choices_of (report_of failure.now.report))
-        × (t.text.items ≡ seed_text failure.now.seed (choices_of (report_of failure.now.report)))) }
+        × (t.text.items ≡ seed_text failure.now.seed strategy (choices_of (report_of failure.now.report)))) }
 {
     let choices = choices_of(alloc, &failure.report)?;
     let mut text = Vec::new(alloc);
-    put_seed(&mut text, failure.seed, &choices)?;
+    put_seed(&mut text, failure.seed, strategy, &choices)?;
     Ok(Told { choices, text })
 }
 
 /// The answer if a run fails: its seed, its choices and its report.
-fn write_failure(alloc: Global, job: &Job, failure: &Failure) -> Result<Answer, NoMemory>
+fn write_failure(
+    alloc: Global,
+    strategy: Strategy,
+    job: &Job,
+    failure: &Failure,
+) -> Result<Answer, NoMemory>
     ensures { IfOk result (λ a. (a.text.items
-        ≡ seed_text failure.now.seed (choices_of (report_of failure.now.report))
+        ≡ seed_text failure.now.seed strategy (choices_of (report_of failure.now.report))
         ++ report_text (names_of job.now) (report_of failure.now.report)) × (a.status ≡ 1)) }
 {
-    let Told { mut text, .. } = write_seed(alloc, failure)?;
+    let Told { mut text, .. } = write_seed(alloc, strategy, failure)?;
     put_report(&mut text, job.module().atoms(), &failure.report)?;
     Ok(Answer {
         text,
@@ -212,7 +218,7 @@ fn write_shrunk(
         → TellsShrunk (view_of_hunt_args args.now) bytes job.now
         failure.now.seed (report_of failure.now.report) runs a) }
 {
-    let seed = write_seed(alloc, failure)?;
+    let seed = write_seed(alloc, args.strategy, failure)?;
     match shrink(alloc, args, module, seed.choices, runs, observer) {
         Ok(shrunk) => with_answer(seed.text, &shrunk),
         Err(NoMemory) => with_no_memory(alloc, seed.text, job),
@@ -230,12 +236,12 @@ fn write_found(
     observer: &mut impl Observer,
 ) -> Result<Answer, NoMemory>
     ensures { IfOk result (λ a. (bytes : List ℕ) → IsModuleOf bytes «module»
-        → FirstFailing job.now.asked args.now.first args.now.end (Some (failure_of found.now))
+        → FirstFailing args.now.strategy job.now.asked args.now.first args.now.end (Some (failure_of found.now))
         → TellsSought (view_of_hunt_args args.now) bytes job.now (failure runs) a.text.items a.status) }
 {
     match runs {
         Some(runs) => write_shrunk(alloc, args, module, job, found, runs, observer),
-        None => write_failure(alloc, job, found),
+        None => write_failure(alloc, args.strategy, job, found),
     }
 }
 
@@ -245,17 +251,19 @@ fn seek_failure<T: Threads + Sync>(
     alloc: Global,
     args: &HuntArgs,
     module: ReadModule,
-    job: &Job,
+    job: Job,
     runs: Option<u32>,
     workers: u64,
     seeds: &mut impl pf_seeds::HuntObserver,
     observer: &mut impl Observer,
 ) -> Result<Answer, NoMemory>
     ensures { IfOk result (λ a. (bytes : List ℕ) → IsModuleOf bytes «module»
-        → TellsSought (view_of_hunt_args args.now) bytes job.now (failure runs) a.text.items a.status) }
+        → TellsSought (view_of_hunt_args args.now) bytes job (failure runs) a.text.items a.status) }
 {
-    match first_failing(rt, alloc, job, args.first, args.end, workers, seeds)? {
-        Some(failure) => write_found(alloc, args, module, job, &failure, runs, observer),
+    let strategy = args.strategy;
+    let hunt = Hunt { job, strategy };
+    match first_failing(rt, alloc, &hunt, args.first, args.end, workers, seeds)? {
+        Some(failure) => write_found(alloc, args, module, &hunt.job, &failure, runs, observer),
         None => write_none(alloc, args),
     }
 }
@@ -275,21 +283,25 @@ fn hunt_failure<T: Threads + Sync>(
         → SoughtAnswers (view_of_hunt_args args.now) (failure runs) bytes a.text.items a.status) }
 {
     match job_of(alloc, args, &module, runs) {
-        Ok(job) => seek_failure(
-            rt, alloc, args, module, &job, runs, workers, seeds, observer,
-        ),
+        Ok(job) => seek_failure(rt, alloc, args, module, job, runs, workers, seeds, observer),
         Err(OrNoMemory::Fault(refusal)) => refused_by_code(alloc, refusal.code()),
         Err(OrNoMemory::NoMemory) => Err(NoMemory),
     }
 }
 
-/// The answer of rows: each on a line, and 1 if the property of some run fails, else 0.
-fn write_rows(alloc: Global, job: &Job, tally: &Tally) -> Result<Answer, NoMemory>
+/// The answer of rows: the strategy and each row on a line, and 1 if the property of some run fails, else 0.
+fn write_rows(
+    alloc: Global,
+    strategy: Strategy,
+    job: &Job,
+    tally: &Tally,
+) -> Result<Answer, NoMemory>
     ensures { IfOk result (λ a. (a.text.items
-        ≡ flat_map (λ x. row_text (names_of job.now) (row_of x)) tally.now.rows.items)
+        ≡ strategy_text strategy ++ flat_map (λ x. row_text (names_of job.now) (row_of x)) tally.now.rows.items)
         × (a.status ≡ (if list_any (λ x. is_failure x.verdict) tally.now.rows.items then 1 else 0))) }
 {
     let mut text = Vec::new(alloc);
+    put_strategy(&mut text, strategy)?;
     put_rows(&mut text, job.module().atoms(), &tally.rows)?;
     let status = rows_status(&tally.rows);
     Ok(Answer { text, status })
@@ -300,15 +312,17 @@ fn seek_outcomes<T: Threads + Sync>(
     rt: &T,
     alloc: Global,
     args: &HuntArgs,
-    job: &Job,
+    job: Job,
     workers: u64,
     seeds: &mut impl pf_seeds::HuntObserver,
 ) -> Result<Answer, NoMemory>
     ensures { IfOk result (λ a. (bytes : List ℕ)
-        → TellsSought (view_of_hunt_args args.now) bytes job.now outcomes a.text.items a.status) }
+        → TellsSought (view_of_hunt_args args.now) bytes job outcomes a.text.items a.status) }
 {
-    let tally = tally_all(rt, alloc, job, args.first, args.end, workers, seeds)?;
-    write_rows(alloc, job, &tally)
+    let strategy = args.strategy;
+    let hunt = Hunt { job, strategy };
+    let tally = tally_all(rt, alloc, &hunt, args.first, args.end, workers, seeds)?;
+    write_rows(alloc, strategy, &hunt.job, &tally)
 }
 
 /// The answer to a module if each outcome is sought.
@@ -324,7 +338,7 @@ fn hunt_outcomes<T: Threads + Sync>(
         → SoughtAnswers (view_of_hunt_args args.now) outcomes bytes a.text.items a.status) }
 {
     match Job::new(alloc, module, &args.request, args.edition.number()) {
-        Ok(job) => seek_outcomes(rt, alloc, args, &job, workers, seeds),
+        Ok(job) => seek_outcomes(rt, alloc, args, job, workers, seeds),
         Err(OrNoMemory::Fault(refusal)) => refused_by_code(alloc, refusal.code()),
         Err(OrNoMemory::NoMemory) => Err(NoMemory),
     }

@@ -19,7 +19,7 @@ returns-in-Some g c =
     let s = c.args.found.now.seed in
     let r = report_of c.args.found.now.report in
     IfOk-weaker c.write_shrunk.result (λ a. (bytes : List ℕ) → IsModuleOf bytes m → TellsShrunk h bytes j s r c.in-Some.runs a)
-    (λ a. (bytes : List ℕ) → IsModuleOf bytes m → FirstFailing j.asked args.first args.end (Some (failure_of c.args.found.now))
+    (λ a. (bytes : List ℕ) → IsModuleOf bytes m → FirstFailing args.strategy j.asked args.first args.end (Some (failure_of c.args.found.now))
     → TellsSought h bytes j (failure c.args.runs) a.text.items a.status)
     (λ a told bytes of least.
     subst (λ o. TellsSought h bytes j (failure o) a.text.items a.status) (sym c.in-Some.is) (tells_shrunk h bytes j s r c.in-Some.runs a least (told bytes of)))
@@ -32,8 +32,8 @@ returns-in-None g c =
     let j = c.args.job.now in
     let s = c.args.found.now.seed in
     let r = report_of c.args.found.now.report in
-    IfOk-weaker c.write_failure.result (λ a. (a.text.items ≡ seed_text s (choices_of r) ++ report_text (names_of j) r) × (a.status ≡ 1))
-    (λ a. (bytes : List ℕ) → IsModuleOf bytes c.args.module → FirstFailing j.asked args.first args.end (Some (failure_of c.args.found.now))
+    IfOk-weaker c.write_failure.result (λ a. (a.text.items ≡ seed_text s args.strategy (choices_of r) ++ report_text (names_of j) r) × (a.status ≡ 1))
+    (λ a. (bytes : List ℕ) → IsModuleOf bytes c.args.module → FirstFailing args.strategy j.asked args.first args.end (Some (failure_of c.args.found.now))
     → TellsSought h bytes j (failure c.args.runs) a.text.items a.status)
     (λ a is bytes of least.
     subst (λ o. TellsSought h bytes j (failure o) a.text.items a.status) (sym c.in-None.is) (tells_failure h bytes j s r a least is))

@@ -1,0 +1,16 @@
+use Rattle.std.proofs.lemmas.Result.{IfOk-weaker}
+use Rattle.pf_fault.specs.Codes.{refusal_text}
+use Rattle.pf_cli.specs.Args.{view_of_run_args}
+use Rattle.pf_command.specs.Answers.{Refuses, Tells}
+use Rattle.pf_command.specs.Guided.{AsksOfRun, RunAnswers}
+use Rattle.pf_command.proofs.Rows.{row_refused}
+use Rattle.pf_command.proofs.run.answer_run_source.Goals as goal
+
+pub returns-in-Err-Fault : goal.returns-in-Err-Fault
+returns-in-Err-Fault c =
+    let refusal = c.in-Err-Fault.refusal in
+    let asked = view_of_run_args c.args.args.now in
+    let bytes = c.args.bytes.items in
+    let reads = rw c.in-Err-Fault.field-0-is at c.in-Err-Fault.ensures.fault in
+    IfOk-weaker c.refused_at.result (λ a. Refuses a (refusal_text refusal.code refusal.offset)) (λ a. RunAnswers asked bytes a.text.items a.status)
+    (λ a is. row_refused (AsksOfRun asked) Tells bytes a refusal.code refusal.offset reads is) (rw c.in-Err-Fault.field-0-is at c.refused_at.ensures)

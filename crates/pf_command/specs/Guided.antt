@@ -1,0 +1,34 @@
+-- What a source is answered with of which a run is asked for, by its own choices or by the priorities of a seed.
+use Rattle.std.specs.Prelude.{◌≡◌, ℕ, List, None, Some, Result, Ok, Err}
+use Rattle.pf_fault.specs.declared.code.Code.{Code}
+use Rattle.pf_model.specs.Meaning.{Report, schedule}
+use Rattle.pf_request.specs.Module.{ReadModule}
+use Rattle.pf_request.specs.Request.{Request, run}
+use Rattle.pf_request.specs.Job.{Job}
+use Rattle.pf_sched.specs.Asked.{Asks}
+use Rattle.pf_strategy.specs.Runs.{MeansByPriorities}
+use Rattle.pf_cli.specs.Args.{RunArgs}
+use Rattle.pf_command.specs.Answers.{AnswersBy, IsModuleOf, Tells}
+use Rattle.pf_command.specs.Charts.{Draws}
+use Rattle.pf_command.specs.Hunts.{choices_of}
+
+-- the run by this schedule in place of the request's own choices
+abbrev pub with_schedule : Request → (numbers : List ℕ) → Request
+with_schedule r numbers = record r { kind = run (schedule numbers) }
+
+-- AsksOfRun a m x: what is asked for of a module is this job, or refused for this: a run by its own choices; or one by the schedule of those
+-- that the priorities of a seed make of it
+pub data AsksOfRun (a : RunArgs) (m : ReadModule) : Result Job Code → Type 0 where
+  by_own : (x : Result Job Code) → a.priorities ≡ None → Asks m a.edition a.request x → AsksOfRun a m x
+  refused : (seed : ℕ) (code : Code) → a.priorities ≡ Some seed → Asks m a.edition a.request (Err code) → AsksOfRun a m (Err code)
+  by_priorities : (seed : ℕ) (k : ReadModule) (j : Job) (r : Report) (x : Result Job Code) → a.priorities ≡ Some seed → IsModuleOf m.source k
+      → Asks k a.edition a.request (Ok j) → MeansByPriorities j.asked seed r → Asks m a.edition (with_schedule a.request (choices_of r)) x
+      → AsksOfRun a m x
+
+-- a source of these bytes, of which a run is asked for, is answered with this text and this status
+abbrev pub RunAnswers : RunArgs → (bytes text : List ℕ) → ℕ → Type 0
+RunAnswers a = AnswersBy (AsksOfRun a) Tells
+
+-- and one of which the chart of a run is asked for with these
+abbrev pub DrawnAnswers : RunArgs → (bytes text : List ℕ) → ℕ → Type 0
+DrawnAnswers a = AnswersBy (AsksOfRun a) (Draws a.request.root)
