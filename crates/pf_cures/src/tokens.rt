@@ -251,6 +251,11 @@ fn parenthesis(place: &Place<'_>, level: Level) -> Option<Found> {
     }
 }
 
+/// Whether a minus stands behind another, or in front of one.
+fn is_second_minus(place: &Place<'_>) -> bool {
+    place.has("--") || place.text(place.before(1)) == b"-".as_slice()
+}
+
 /// What is said of signs that reckon.
 fn sign(place: &Place<'_>, level: Level) -> Option<Cure> {
     let has_left = ends_operand(place, place.before(1));
@@ -262,7 +267,7 @@ fn sign(place: &Place<'_>, level: Level) -> Option<Cure> {
         (Stage::Guard, true, _) => Some(APPEND_IN_GUARD),
         (Stage::Pattern, _, _) if has_left => Some(OPERATOR_IN_PATTERN),
         (_, _, b'+') if !has_left => Some(PLUS),
-        (_, _, b'-') if !has_left => Some(TWO_MINUSES),
+        (_, _, b'-') if !has_left && is_second_minus(place) => Some(TWO_MINUSES),
         _ => None,
     }
 }
