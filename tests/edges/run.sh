@@ -277,7 +277,7 @@ progress() {
   ended 'shrinking on a terminal' 1 "$told$(printf %s "$found" | sed 's/\\n/\\r\\n/g')" ''
   for words in "run m.erl $asked" "shrink m.erl $asked --property never --runs 5"; do
     script -qec "timeout 60 '$program' $words < in > out" /dev/null < in > err
-    check "$words tells nothing on a terminal" test ! -s err
+    check "$words tells no progress on a terminal" test -z "$(grep -v '^pulsefarm: ' err)"
   done
 }
 
@@ -442,6 +442,8 @@ nest() {
   } | head -c 65536 > in
 }
 
+no_rule="No rule of the grammar goes on like this: mend what is missing, too much or too deep here, or isn't in this language."
+
 # Runs the words from $2 on, on `in`, where the system gives $1 KiB of stack, and a thread gets a quarter of what is asked for.
 run_on() {
   (
@@ -463,7 +465,7 @@ deep_sources() {
     ended "255 cases on $kilobytes KiB" 0 '0/1 <0> end normal\nfinished 1\nsteps 257\nproperty holds\n' ''
     nest 256
     run_on "$kilobytes" run $asked
-    ended "256 cases on $kilobytes KiB" 2 'E5 at 41\n' ''
+    ended "256 cases on $kilobytes KiB" 2 'E5 at 41\n' "pulsefarm: the source is refused at line 3, column 11: $no_rule\n"
     nest 4000
     { printf 'submit 0 '; wc -c < in; cat in; } > commands
     mv commands in
@@ -489,7 +491,12 @@ deepest() {
       printf '%s.\n' "$6"
     } > in
     run_on 128 check
-    if [ $more = 0 ]; then ended "$2 times $1" 0 'ok\n' ''; else ended "$(($2 + 1)) times $1" 2 "E5 at $7\n" ''; fi
+    if [ $more = 0 ]; then
+      ended "$2 times $1" 0 'ok\n' ''
+    else
+      place="line 3, column $(($7 - 30))"
+      ended "$(($2 + 1)) times $1" 2 "E5 at $7\n" "pulsefarm: the source is refused at $place: $no_rule\n"
+    fi
   done
 }
 
