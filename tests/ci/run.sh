@@ -36,7 +36,7 @@ finds() {
   "$program" hunt "$top/examples/wrong_reply.erl" --root main --limit 2000 --property true --seeds 0..1000 --shrink 300 > "$room/wanted"
   cmp -s "$room/push/found/answer.txt" "$room/wanted"
   note "the answer of $1" $?
-  holds "$room/push/found/answer.json" 'it["answer"] == "failure" and it["seed"] == 4 and it["schedule"] == [0, 0, 0, 0, 0, 1, 1, 1, 1, 1, 2]'
+  holds "$room/push/found/answer.json" 'it["answer"] == "failure" and (it["seed"], it["strategy"]) == (2, "pos") and it["schedule"] == [0, 0, 2, 0, 2, 0, 2, 0, 1, 1, 2]'
   holds "$room/push/found/answer.json" 'it["shrinking"] == "complete" and it["outcome"] == "finished false" and it["steps"] == 50'
   holds "$room/push/found/answer.json" 'len(it["events"]) == 20 and it["events"][-1] == "0/1 <0> end normal"'
   grep -q '</svg>' "$room/push/found/chart.svg"
@@ -50,9 +50,9 @@ finds() {
 # Other answers as JSON.
 answers() {
   printf 'holds 658 seeds, least 0: finished true\nfails 342 seeds, least 4: finished false\n' | python3 "$top/examples/ci/answer.py" > "$room/json"
-  holds "$room/json" 'it["outcomes"][1] == {"property": "fails", "seeds": 342, "least": 4, "outcome": "finished false"} and len(it["outcomes"]) == 2'
+  holds "$room/json" 'it["strategy"] == "uniform" and it["outcomes"][1] == {"property": "fails", "seeds": 342, "least": 4, "outcome": "finished false"} and len(it["outcomes"]) == 2'
   "$program" hunt "$top/examples/wrong_reply.erl" --root main --limit 2000 --property true --seeds 0..9 | python3 "$top/examples/ci/answer.py" > "$room/json"
-  holds "$room/json" 'it["seed"] == 4 and "shrinking" not in it and len(it["schedule"]) == len(it["events"]) == 20'
+  holds "$room/json" 'it["seed"] == 2 and "shrinking" not in it and len(it["schedule"]) == len(it["events"]) == 20'
   echo 'E6 at 41' | python3 "$top/examples/ci/answer.py" > "$room/json"
   holds "$room/json" 'it == {"answer": "refused", "why": "E6 at 41"}'
   sh "$top/examples/ci/hunt.sh" "$room/found" "$top/examples/wrong_reply.erl" none 9 true 0..5 > "$room/out" 2> "$room/err"
