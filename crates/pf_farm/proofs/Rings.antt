@@ -1,7 +1,7 @@
 -- Seats that are taken in, one by one from the last.
-use Rattle.std.proofs.Common.{◌≡◌, ℕ, zero, suc, ◌+◌, ◌<◌, Bool, true, false, List, [], ◌∷◌, ◌++◌, length, refl, sym, ap, ◌∙◌, subst, arith, append_assoc, length-append}
+use Rattle.std.proofs.Common.{◌≡◌, ℕ, ◌+◌, false, List, [], ◌∷◌, ◌++◌, length, refl, sym, ◌∙◌, subst, arith}
 use Rattle.pf_deques.specs.Parts.{weigh, AreEven}
-use Rattle.pf_farm.specs.Seats.{Place, SeatView, IsChain, AllIdle, Spends, AllSpent}
+use Rattle.pf_farm.specs.Seats.{Place, SeatView, IsChain, AllIdle, Spends}
 
 pub chain_last : (from to : Place) (ss : List SeatView) (w : SeatView) → IsChain from (ss ++ w ∷ []) to → IsChain from ss w.own × (w.next ≡ to)
 chain_last from to [] w h = (sym h.0, h.1)

@@ -1,5 +1,5 @@
 -- What contracts see of workers' seats.
-use Rattle.std.specs.Prelude.{⊤, ℕ, ◌+◌, ◌≡◌, Bool, true, false, List, [], ◌∷◌, ◌++◌, length, if◌then◌else◌}
+use Rattle.std.specs.Prelude.{⊤, ℕ, ◌+◌, ◌≡◌, Bool, false, List, [], ◌∷◌, ◌++◌, length, if◌then◌else◌}
 use Rattle.std.specs.Global.{Global}
 use Rattle.pf_deques.specs.Parts.{AreEven}
 

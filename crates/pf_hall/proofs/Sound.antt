@@ -1,6 +1,6 @@
 -- Halls stay sound.
-use Rattle.std.proofs.Common.{◌≡◌, ◌⊎◌, ℕ, ◌==◌, ◌<◌, Bool, true, false, List, [], ◌∷◌, ◌++◌, length, Option, Some, None, refl, sym, ap, ◌∙◌, subst, ⊎_elim}
-use Rattle.std.specs.Prelude.{Result, Ok, Err, if◌then◌else◌, All, IfSome, slice_get, slice_set}
+use Rattle.std.proofs.Common.{◌≡◌, ℕ, ◌==◌, Bool, true, false, List, [], ◌∷◌, ◌++◌, Option, Some, None, refl, sym, ap, subst, ⊎_elim}
+use Rattle.std.specs.Prelude.{Result, Ok, Err, if◌then◌else◌, All, slice_get, slice_set}
 use Rattle.std.specs.Bool.{OnFalse}
 use Rattle.std.specs.declared.alloc.Global.{Global}
 use Rattle.std.specs.declared.sync.Arc.{Arc}
@@ -27,7 +27,7 @@ use Rattle.pf_sched.specs.Views.{FinishedView}
 use Rattle.pf_book.specs.declared.reply.Reply.{Reply}
 use Rattle.pf_book.specs.Answers.{Answers, ClaimsAt, Files, TakesBack}
 use Rattle.pf_book.specs.Profile.{IsRight, ForRight}
-use Rattle.pf_book.specs.Queued.{job_in_state, job_of_trial, job_at}
+use Rattle.pf_book.specs.Queued.{job_in_state, job_of_trial}
 use Rattle.pf_book.specs.Trials.{JobAt}
 use Rattle.pf_book.specs.View.{mark_of}
 use Rattle.pf_book.proofs.Claims.{claimed_world}

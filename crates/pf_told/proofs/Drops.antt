@@ -1,13 +1,13 @@
 -- A trial that is gone was dropped, and wasn't claimed after that.
-use Rattle.std.proofs.Common.{◌≡◌, ◌⊎◌, ℕ, ◌+◌, ◌==◌, Bool, true, false, true≢false, List, [], ◌∷◌, ◌++◌, Option, Some, None, refl, sym, ap, append_assoc, ⊎_elim, inl, inr, ◌∙◌, subst, arith}
+use Rattle.std.proofs.Common.{◌≡◌, ◌⊎◌, ℕ, ◌==◌, Bool, true, false, true≢false, List, [], ◌∷◌, ◌++◌, Some, None, refl, sym, ap, append_assoc, ⊎_elim, inl, inr, ◌∙◌, subst, arith}
 use Rattle.std.specs.Prelude.{if◌then◌else◌}
-use Rattle.pf_request.specs.Calls.{Call, drop_trial}
-use Rattle.pf_desks.specs.Desk.{Profile, Desk, no_desk, Entry, called, claimed, filed, handed_back, Reply, given_up, held_at}
+use Rattle.pf_request.specs.Calls.{drop_trial}
+use Rattle.pf_desks.specs.Desk.{Profile, Desk, no_desk, Entry, called, claimed, filed, handed_back, given_up, held_at}
 use Rattle.pf_desks.specs.Calls.{after_call, reply_to}
 use Rattle.pf_desks.specs.Work.{is_queued, is_running, after_claim, after_file, after_back}
 use Rattle.pf_desks.specs.History.{Follows, IsLegal}
 use Rattle.pf_desks.proofs.Always.{where_so}
-use Rattle.pf_told.specs.Tally.{one, tally}
+use Rattle.pf_told.specs.Tally.{one}
 use Rattle.pf_told.specs.Notes.{is_claim, IsDropped}
 use Rattle.pf_told.specs.Gone.{IsGone, DropsAreNoted}
 use Rattle.pf_told.proofs.Lists.{same_by, tally_append}

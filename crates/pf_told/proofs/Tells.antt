@@ -1,6 +1,6 @@
 -- What each step keeps of what the ledger tells.
-use Rattle.std.proofs.Common.{◌≡◌, ◌≢◌, ◌⊎◌, ℕ, zero, suc, ◌+◌, ◌≤◌, ◌<◌, ◌==◌, ◌&&◌, Bool, true, false, true≢false, List, [], ◌∷◌, ◌++◌, length, Option, Some, None, inl, inr, refl, sym, ap, ◌∙◌, subst, ⊎_elim, arith}
-use Rattle.std.specs.Prelude.{slice_get, slice_set, if◌then◌else◌}
+use Rattle.std.proofs.Common.{◌≡◌, ◌⊎◌, ℕ, zero, suc, ◌+◌, ◌≤◌, ◌<◌, ◌==◌, ◌&&◌, Bool, true, false, true≢false, List, [], ◌∷◌, ◌++◌, Option, Some, None, inl, inr, refl, sym, ap, ◌∙◌, subst, ⊎_elim, arith}
+use Rattle.std.specs.Prelude.{slice_get, slice_set}
 use Rattle.std.specs.Option.{option_map}
 use Rattle.pf_fault.specs.declared.code.Code.{Code}
 use Rattle.pf_quota.specs.declared.charges.Charge.TheVariants as charge
@@ -16,7 +16,7 @@ use Rattle.pf_ledger.specs.declared.row.End.{End}
 use Rattle.pf_ledger.specs.declared.row.End.TheVariants.{Filed, HandedBack, Stray}
 use Rattle.pf_ledger.specs.Rows.{row_of, claim_of}
 use Rattle.pf_told.specs.Tally.{one, tally, put_if}
-use Rattle.pf_told.specs.Notes.{is_claim, is_file, is_hand_back, claims_noted}
+use Rattle.pf_told.specs.Notes.{is_file, is_hand_back, claims_noted}
 use Rattle.pf_told.specs.Claims.{claims_opened, is_of, is_open, is_filed, is_handed_back, is_stray, claims_that}
 use Rattle.pf_told.specs.Gone.{IsGone}
 use Rattle.pf_told.specs.Told.{IsOut, IsToldAt}

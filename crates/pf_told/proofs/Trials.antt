@@ -1,5 +1,5 @@
 -- Trials that are running, and trials that are gone, whatever happens at their desk.
-use Rattle.std.proofs.Common.{◌≡◌, ◌≢◌, ◌⊎◌, ℕ, zero, suc, ◌+◌, ◌≤◌, ◌==◌, Bool, true, false, true≢false, List, [], ◌∷◌, ◌++◌, length, Option, Some, None, inl, inr, refl, sym, ap, ◌∙◌, subst, arith}
+use Rattle.std.proofs.Common.{◌≡◌, ◌≢◌, ◌⊎◌, ℕ, zero, suc, ◌≤◌, ◌==◌, Bool, true, false, true≢false, List, [], ◌∷◌, ◌++◌, length, Option, Some, None, inl, inr, refl, sym, ap, ◌∙◌, subst, arith}
 use Rattle.std.specs.Prelude.{Result, Ok, Err, if◌then◌else◌, slice_get}
 use Rattle.std.specs.Option.{option_flatten, option_map}
 use Rattle.pf_fault.specs.declared.code.Code.{Code}
@@ -8,9 +8,9 @@ use Rattle.pf_quota.specs.declared.charges.Charge.TheVariants as charge
 use Rattle.pf_request.specs.Calls.{Call, submit, order, fetch, status, drop_trial, withdraw, usage, log, edition}
 use Rattle.pf_request.specs.Job.{Job}
 use Rattle.pf_request.specs.Module.{ReadModule}
-use Rattle.pf_desks.specs.Desk.{Profile, Desk, State, queued, running, done, Trial, Reading, readable, faulty, Reply, given_up, has_edition, refused, job_ordered, held_at, with_held}
+use Rattle.pf_desks.specs.Desk.{Profile, Desk, State, queued, Trial, Reading, readable, faulty, Reply, given_up, has_edition, refused, job_ordered, held_at, with_held}
 use Rattle.pf_desks.specs.Calls.{within_limits, passed_by, submitted, with_job, ordered, dropped, users_of, withdrawn, in_edition, answered, noted, after_call, reply_to}
-use Rattle.pf_desks.specs.Work.{is_queued, is_running, in_state, with_state}
+use Rattle.pf_desks.specs.Work.{is_running, in_state, with_state}
 use Rattle.pf_told.proofs.Lists.{apart_by, same_by, held_other, held_same, length_held, length_more, held_before, held_last}
 
 -- as `IsGone`, of the trials of a desk

@@ -1,5 +1,5 @@
 -- What the history of a desk says of claims.
-use Rattle.std.specs.Prelude.{◌≡◌, ℕ, ◌==◌, Bool, true, false, List, [], ◌∷◌, ◌++◌}
+use Rattle.std.specs.Prelude.{◌≡◌, ℕ, ◌==◌, Bool, false, List, [], ◌∷◌, ◌++◌}
 use Rattle.pf_request.specs.Calls.{drop_trial}
 use Rattle.pf_desks.specs.Desk.{Entry, called, claimed, filed, handed_back, given_up}
 use Rattle.pf_told.specs.Tally.{tally}

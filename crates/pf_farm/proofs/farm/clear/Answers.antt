@@ -1,4 +1,4 @@
-use Rattle.std.proofs.Common.{rules, ◌≡◌, ◌+◌, [], ◌∷◌, ◌++◌, length, ap, append_assoc, length-append, ◌∙◌, arith}
+use Rattle.std.proofs.Common.{rules, ◌≡◌, [], ◌∷◌, ◌++◌, length, ap, append_assoc, length-append, ◌∙◌, arith}
 use Rattle.pf_farm.proofs.Rings.{as_many}
 use Rattle.pf_farm.proofs.farm.clear.Goals as goal
 

@@ -1,4 +1,4 @@
-use Rattle.std.proofs.Common.{rules, ◌≡◌, ℕ, ◌+◌, List, [], ◌∷◌, ◌++◌, length, vec_len, false, sym, ap, ◌∙◌, subst, arith, append_assoc}
+use Rattle.std.proofs.Common.{◌≡◌, ◌+◌, List, [], ◌∷◌, ◌++◌, length, vec_len, sym, ap, ◌∙◌, subst, arith, append_assoc}
 use Rattle.pf_farm.specs.Seats.{Place, SeatView, IsChain, AllIdle}
 use Rattle.pf_farm.proofs.Rings.{chain_last, idle_last, spends}
 use Rattle.pf_farm.proofs.farm.gather.Goals as goal

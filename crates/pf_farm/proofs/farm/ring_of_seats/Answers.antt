@@ -1,5 +1,5 @@
-use Rattle.std.proofs.Common.{rules, ◌≡◌, ℕ, ◌+◌, List, [], ◌∷◌, ◌++◌, length, vec_len, false, sym, ap, ◌∙◌, subst, arith}
-use Rattle.pf_farm.specs.Seats.{Place, SeatView, IsChain, AllIdle, IsRing}
+use Rattle.std.proofs.Common.{rules, ◌≡◌, List, [], ◌∷◌, ◌++◌, sym, ap, ◌∙◌, subst, arith}
+use Rattle.pf_farm.specs.Seats.{Place, SeatView, IsChain, AllIdle}
 use Rattle.pf_farm.proofs.Rings.{chain_push, idle_push}
 use Rattle.pf_farm.proofs.farm.ring_of_seats.Goals as goal
 

@@ -1,4 +1,4 @@
-use Rattle.std.proofs.Common.{◌≡◌, ◌+◌, List, [], length, vec_len}
+use Rattle.std.proofs.Common.{◌≡◌, ◌+◌, [], vec_len}
 use Rattle.pf_farm.specs.Seats.{IsChain, AllIdle}
 use Rattle.pf_farm.proofs.farm.ring_of_seats.Given as goal
 
