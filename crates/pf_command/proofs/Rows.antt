@@ -47,4 +47,4 @@ row_module explain m bytes text status reads e s = rw (e, s) (is_module m.name m
 
 pub row_check_refused : (explain : Bool) (bytes text more : List ℕ) (status : ℕ) (code : Code) (offset : ℕ) → Reads bytes (refused code offset)
     → Explains bytes code offset explain more → text ≡ line (refusal_text code offset) ++ more → status ≡ 2 → Checks explain bytes text status
-row_check_refused explain bytes text more status code offset reads told e s = rw (e, s) (is_refused code offset more reads told)
+row_check_refused explain bytes text more status code offset reads explains e s = rw (e, s) (is_refused code offset more reads explains)

@@ -19,4 +19,4 @@ returns c =
     let reads = rw c.in-Err-Fault.field-0-is at c.in-Err-Fault.ensures.fault in
     IfOk-weaker c.refuse.result (IsCheckRefused c.args.explain bytes refusal.code refusal.offset)
     (λ a. Checks c.args.explain bytes a.text.items a.status)
-    (λ a is. row_check_refused c.args.explain bytes a.text.items is.0 a.status refusal.code refusal.offset reads is.1.0 is.1.1.0 is.1.1.1) c.refuse.ensures
+    (λ a is. row_check_refused c.args.explain bytes a.text.items is.0 a.status refusal.code refusal.offset reads is.1 is.2 is.3) c.refuse.ensures
