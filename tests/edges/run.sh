@@ -417,7 +417,7 @@ offers() {
 completions() {
   printf -- "$module" > m.erl
   offers 'hunt' pulsefarm hu
-  offers '--seeds --shrink' pulsefarm hunt m.erl --s
+  offers '--seeds --strategy --shrink' pulsefarm hunt m.erl --s
   offers 'nocrash nodeadlock' pulsefarm run --property no
   offers '1 2' pulsefarm run m.erl --edition ''
   offers 'main' pulsefarm chart m.erl --root ''
