@@ -16,8 +16,8 @@ returns-in-Ok c =
     let asked = view_of_run_args c.args.args.now in
     let m = c.args.module in
     let j = c.in-Ok.job in
-    let q = c.in_ok-request.request in
-    let by = c.in_ok-request.ensures in
+    let q = c.in_ok-request-in-Ok.request in
+    let by = c.in_ok-request-in-Ok.ensures in
     let asks : Asks m asked.edition asked.request (Ok j) =
     asks_shared m c.in_ok-share.field-0 c.number.result asked.edition asked.request (Ok j) c.in_ok-share.ensures c.number.ensures.number c.in-Ok.ensures in
     IfOk-weaker c.answer_module.result
