@@ -15,4 +15,4 @@ returns-in-Err-Fault c =
     let reads = rw c.in-Err-Fault.field-0-is at c.in-Err-Fault.ensures.fault in
     IfOk-weaker c.refused_at.result (λ a. Refuses a (refusal_text refusal.code refusal.offset)) (λ a. DrawnAnswers asked bytes a.text.items a.status)
     (λ a is. row_refused (AsksOfRun asked) (Draws asked.request.root) bytes a refusal.code refusal.offset reads is)
-    (rw c.in-Err-Fault.field-0-is at c.refused_at.ensures)
+    c.refused_at.ensures

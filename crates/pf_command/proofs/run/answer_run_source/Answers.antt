@@ -13,4 +13,4 @@ returns-in-Err-Fault c =
     let bytes = c.args.bytes.items in
     let reads = rw c.in-Err-Fault.field-0-is at c.in-Err-Fault.ensures.fault in
     IfOk-weaker c.refused_at.result (λ a. Refuses a (refusal_text refusal.code refusal.offset)) (λ a. RunAnswers asked bytes a.text.items a.status)
-    (λ a is. row_refused (AsksOfRun asked) Tells bytes a refusal.code refusal.offset reads is) (rw c.in-Err-Fault.field-0-is at c.refused_at.ensures)
+    (λ a is. row_refused (AsksOfRun asked) Tells bytes a refusal.code refusal.offset reads is) c.refused_at.ensures
