@@ -158,7 +158,14 @@ fn strategies_of_a_hunt(rt: HostRuntime) {
 fn wrong_strategies_are_named(rt: HostRuntime) -> Result<(), Fail> {
     let wants = "`pos` or `uniform`; `pos` beside a seed without weights alone";
     let values = ["", "po", "Pos", "weights"];
-    let taken = taken_value(rt.alloc(), "--seeds=0..5", "--strategy", "<S>", &values, wants)?;
+    let taken = taken_value(
+        rt.alloc(),
+        "--seeds=0..5",
+        "--strategy",
+        "<S>",
+        &values,
+        wants,
+    )?;
     assert_eq!(rt; taken, None);
     Ok(())
 }
