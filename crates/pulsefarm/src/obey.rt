@@ -71,7 +71,10 @@ where
     R: Files + Print + Eprint + AllocGlobal + RandomSource + Clock + Threads + Sync,
 {
     if file == "-" && args.file().is_none() {
-        say(rt, "the source and its schedule can't both be the standard input: name a file of one");
+        say(
+            rt,
+            "the source and its schedule can't both be the standard input: name a file of one",
+        );
         return REFUSED;
     }
     work(rt, args, stdin, writer, line)
