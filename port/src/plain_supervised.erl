@@ -63,7 +63,8 @@ first_failing([], _, _) -> none.
 reports(Text, Seeds, Asked, #{roots := [Root | _]}) ->
     Numbered = lists:zip(lists:seq(1, length(Seeds)), Seeds),
     Order = fun({Ticket, Seed}) ->
-        io_lib:format("order 1 1 ~ts nocrash seed:~w ~ts~nonce 1 ~w~nfetch 1 ~w~ndrop 1 ~w~n", [plain_text:atom(Root), Seed, plain_words:limit(Asked), Ticket, Ticket, Ticket])
+        io_lib:format("order 1 1 ~ts nocrash seed:~w ~ts~n", [plain_text:atom(Root), Seed, plain_words:limit(Asked)])
+            ++ io_lib:format("claim 0 1 ~w~nslice 0 1 ~w 100000~nfile 0 1 ~w~nfetch 1 ~w~ndrop 1 ~w~n", lists:duplicate(5, Ticket))
     end,
     Commands = [io_lib:format("submit 1 ~w~n", [byte_size(Text)]), Text, "\n", [Order(Pair) || Pair <- Numbered]],
     case plain_farm:with_file(Commands, fun(File) -> plain_farm:call(["steps", File]) end) of

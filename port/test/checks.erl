@@ -75,7 +75,8 @@ translate(Files, Options) ->
 %% @doc All outcomes of a range of seeds: each `holds' or `fails', how many, and the outcome.
 -spec hunt(file:filename(), string(), string(), string()) -> [{holds | fails, pos_integer(), string()}].
 hunt(File, Root, Property, Seeds) ->
-    {Text, _} = plain_farm:call(["hunt", File, "--root", Root, "--limit", "100000", "--property", Property, "--seeds", Seeds, "--workers", "1", "--all"]),
+    {Text, _} = plain_farm:call(["hunt", File, "--root", Root, "--limit", "100000", "--property", Property, "--seeds", Seeds, "--strategy", "uniform",
+                               "--workers", "1", "--all"]),
     [outcome(binary_to_list(Line)) || Line <- binary:split(Text, <<"\n">>, [global, trim])].
 
 -spec outcome(string()) -> {holds | fails, pos_integer(), string()}.

@@ -121,6 +121,7 @@ pub fn asked<'a>(alloc: Global, property: &str, kind: Kind) -> Result<RunArgs<'a
             limit: 1_000,
         },
         edition: Edition::First,
+        priorities: None,
     })
 }
 
