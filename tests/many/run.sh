@@ -253,7 +253,9 @@ refusals() {
   echo 'holds 4 seeds, least 5: finished ok' > "$room/parts/5..9"
   refused "$merge" "merge.py: $room/parts has parts that tell each outcome and parts that tell the least seed that fails: they aren't of one hunt" 0..9 "$room/parts"
   rm -rf "$room/parts"
-  refused "$many/shard.sh" "shard.sh: the hunt of the seeds 0..5 ended with status 2: B2" \
+  no_root='pulsefarm: the module exports no function `none` without arguments: name one that it exports, `main`, `doubler`, `squarer`'
+  refused "$many/shard.sh" "$no_root
+shard.sh: the hunt of the seeds 0..5 ended with status 2: B2" \
     "$room/parts" 0..5 "$top/examples/wrong_reply.erl" --root none --limit 9 --property true
   [ ! -e "$room/parts/0..5" ]
   note "a hunt that is refused leaves no answer" $?
