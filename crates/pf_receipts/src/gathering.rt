@@ -2,7 +2,7 @@
 
 ghost use Rattle.std.specs.Prelude.{◌≡◌, ◌+◌, [], ◌++◌, length};
 ghost use Rattle.pf_register.specs.Places.{StartsWith};
-ghost use Rattle.pf_receipts.specs.Receipts.{AreNumbered, EachOnce, gathering_of};
+ghost use Rattle.pf_receipts.specs.Receipts.{AreNumbered, AreOf, AreRising, EachOnce, gathering_of};
 
 use crate::receipt::Receipt;
 use crate::seat::Seat;
@@ -16,7 +16,6 @@ use std::sync::ledger::{Book, Share};
 pub struct SeatReceipts<C, A> {
     pub project: u32,
     pub receipts: Vec<Receipt<C, A>>,
-    ghost use Rattle.pf_receipts.specs.Receipts.{AreOf, AreRising};
     ghost of: { AreOf project receipts.items },
     ghost rising: { AreRising 0 receipts.items },
 }
