@@ -1,65 +1,93 @@
 //! A farm from its opening to its end.
 
-ghost use Rattle.std.specs.Prelude.{◌≡◌, ℕ, ◌+◌, ◌<◌, List, [], ◌++◌, Some, false, length, vec_len, IfOk};
+ghost use Rattle.std.specs.Prelude.{◌≡◌, ℕ, ◌+◌, ◌<◌, ◌≤◌, List, [], ◌++◌, Some, false, length, map, vec_len, IfOk, IfErr};
 ghost use Rattle.pf_ledger.specs.Rows.{HaveEnded};
 ghost use Rattle.pf_deques.specs.Parts.{AreEven};
 ghost use Rattle.pf_book.specs.Profile.{ForRight};
 ghost use Rattle.pf_told.specs.Told.{IsTold};
+ghost use Rattle.pf_hall.specs.Clients.{all_receipts, closed_as, empty_client, AreFull, AreTheCalls};
+ghost use Rattle.pf_farm.specs.Farms.{farm_of, LacksSeat};
 ghost use Rattle.pf_farm.specs.Seats.{IsRing, AllIdle, IsSpent, seat_at};
 
-use crate::floor::{Floor, Shared};
+use crate::floor::Floor;
 use crate::held::HeldRun;
 use crate::seat::WorkSeat;
+use crate::tally::WorkTally;
+use pf_book::Reply;
 use pf_deques::{Owner, Thief, Whole};
-use pf_farm_names::{EndedLedger, FarmNames, OpenedLedger};
-use pf_hall::{Closing, Hall};
+use pf_farm_names::{CallLedger, EndedLedger, FarmNames, OpenedLedger};
+use pf_fault::OrNoMemory;
+use pf_hall::{ClientSeat, ClosedSeat, Closing, Hall};
 use pf_ledger::Claim;
+use pf_receipts::Receipt;
 use pf_register::NewRegister;
+use pf_request::Call;
 use pf_sched::Job;
 use pf_terms::NoMemory;
 use std::alloc::Global;
 use std::hash::RandomState;
 use std::marker::Model;
 use std::sync::ledger::{Blank, Share};
-use std::sync::{Condvar, Mutex};
 
 /// How many runs a deque has room for at first.
 const FIRST_ROOM: usize = 64;
 
-/// What a farm is opened with: unused ledgers and an unused register, by which its name is picked.
+/// The most seats for clients that a farm gives.
+pub const MOST_SEATS: usize = 4_096;
+
+/// What a farm is opened with: unused ledgers and unused registers, by which its name is picked.
 #[derive(Drop)]
 pub struct Blanks {
     pub opened: Blank,
     pub ended: Blank,
+    pub calls: Blank,
     pub claims: NewRegister<Claim<Job>>,
+    pub receipts: NewRegister<Receipt<Call, Reply>>,
 }
 
-/// A farm. Contracts see how many workers it has.
+/// A farm has given as many seats as it may: `F1`.
+#[derive(Clone, Copy, Debug, PartialEq, Eq)]
+pub struct NoSeat;
+
+/// A farm. Contracts see how many workers it has, and how many seats it gave to clients.
 #[derive(Drop)]
 pub struct Farm<N: FarmNames> {
     floor: Floor<N>,
     opened: Share<OpenedLedger<N>>,
     ended: Share<EndedLedger<N>>,
+    calls: Share<CallLedger<N>>,
     workers: usize,
+    given: usize,
+    /// Room for what is left of the clients' seats.
+    closed: Vec<ClosedSeat>,
 }
 
 impl<N: FarmNames> Model for Farm<N> {
-    ghost use Rattle.std.specs.Prelude.{◌≡◌, ◌+◌, ◌<◌, ℕ};
+    ghost use Rattle.std.specs.Prelude.{◌≡◌, ◌+◌, ◌<◌, ◌≤◌, []};
+    ghost use Rattle.std.specs.Vec.{vec_capacity};
+    ghost use Rattle.pf_farm.specs.Farms.{FarmView, farm_of};
 
-    ghost Value = { ℕ };
+    ghost Value = { FarmView };
 
-    ghost view = { λ f. f.workers };
+    ghost view = { λ f. farm_of f.workers f.given };
 
     ghost invariant = { λ f. (f.opened.parts + f.workers ≡ N.workers)
         × (f.ended.parts + f.workers ≡ N.workers)
+        × (f.calls.parts + f.given ≡ N.seats)
         × (f.opened.amount ≡ 0)
         × (f.ended.amount ≡ 0)
+        × (f.calls.amount ≡ 0)
         × (0 < f.ended.parts)
-        × (0 < f.workers) };
+        × (0 < f.workers)
+        × (f.given ≤ MOST_SEATS)
+        × (MOST_SEATS < N.seats)
+        × (f.closed.items ≡ [])
+        × (f.given ≤ vec_capacity f.closed) };
 }
 
 impl<N: FarmNames> Farm<N> {
-    /// A farm of so many workers, with a seat for each: each steals from the next one's deque, and the last from the first one's. It hashes with these keys.
+    /// A farm of so many workers, with a seat for each: each steals from the next one's deque, and the last from the first one's. It hashes with these keys, and has given
+    /// no seat to a client.
     pub fn open(
         alloc: Global,
         keys: RandomState,
@@ -68,36 +96,68 @@ impl<N: FarmNames> Farm<N> {
     ) -> Result<(Farm<N>, Vec<WorkSeat<N>>), NoMemory>
         requires opened { (blanks.opened.name ≡ N.opened) × (blanks.opened.parts ≡ N.workers) }
         requires ended { (blanks.ended.name ≡ N.ended) × (blanks.ended.parts ≡ N.workers) }
+        requires calls { (blanks.calls.name ≡ N.calls) × (blanks.calls.parts ≡ N.seats) }
         requires claims { N.claims ≡ Some blanks.claims }
+        requires receipts { N.receipts ≡ Some blanks.receipts }
         requires workers { (0 < workers) × (workers < N.workers) }
-        ensures workers { IfOk result (λ r. (r.0 ≡ workers) × (vec_len r.1 ≡ workers)) }
+        requires seats { MOST_SEATS < N.seats }
+        ensures workers { IfOk result (λ r. (r.0 ≡ farm_of workers 0) × (vec_len r.1 ≡ workers)) }
         ensures ring { IfOk result (λ r. IsRing r.1.items) }
         ensures idle { IfOk result (λ r. AllIdle r.1.items) }
     {
         let Blanks {
             opened,
             ended,
+            calls,
             claims,
+            receipts,
         } = blanks;
         let (all_opened, mut opened) = opened.open::<OpenedLedger<N>>();
         let (all_ended, mut ended) = ended.open::<EndedLedger<N>>();
+        let (logged, calls) = calls.open::<CallLedger<N>>();
         let seats = ring_of_seats(alloc, &mut opened, &mut ended, workers)?;
-        let shared = Shared {
-            hall: Hall::new(alloc, keys, all_opened, all_ended, claims),
-            moves: 0,
-            stopped: false,
-        };
-        let floor = Floor {
-            shared: Mutex::new(shared),
-            moved: Condvar::new(),
-        };
+        let hall = Hall::new(
+            alloc, keys, all_opened, all_ended, logged, claims, receipts,
+        );
         let farm = Farm {
-            floor,
+            floor: Floor::new(hall),
             opened,
             ended,
+            calls,
             workers,
+            given: 0,
+            closed: Vec::new(alloc),
         };
         Ok((farm, seats))
+    }
+
+    /// A seat for a client of a project, unless as many were given as may be. Several seats may have one project.
+    pub fn seat(
+        &mut self,
+        alloc: Global,
+        project: u32,
+    ) -> Result<ClientSeat<N>, OrNoMemory<NoSeat>>
+        ensures seat { IfOk result (λ s. (s ≡ empty_client project)
+            × (self.new ≡ farm_of self.old.workers (self.old.given + 1))) }
+        ensures err { IfErr result (λ e. LacksSeat e self.old × (self.new ≡ self.old)) }
+    {
+        if self.given >= MOST_SEATS {
+            return Err(OrNoMemory::Fault(NoSeat));
+        }
+        if self.closed.reserve(self.given + 1).is_err() {
+            return Err(OrNoMemory::NoMemory);
+        }
+        let share = self.calls.split_off(1, 0);
+        self.given += 1;
+        let shared = self.floor.shared.get_mut();
+        Ok(shared.hall.seat(alloc, share, project))
+    }
+
+    /// How many seats it gave to clients.
+    pub fn given(&self) -> usize
+        ensures { result ≡ self.now.given }
+    {
+        self.given
     }
 
     /// What all threads share.
@@ -105,12 +165,17 @@ impl<N: FarmNames> Farm<N> {
         &self.floor
     }
 
-    /// Closes the farm, with the seats of all its workers, each of which has returned. Runs that are parked still are handed back. No claim is open then, the ledger
-    /// tells what the histories tell, and what was pushed to a deque was popped or stolen, each as often.
-    pub fn close(self, seats: Vec<WorkSeat<N>>) -> Closing
-        requires all { vec_len seats ≡ self }
+    /// Closes the farm, with the seats of all its clients and of all its workers, each of which has returned. Runs that are parked still are handed back. No claim is open
+    /// then, the ledger tells what the histories tell, and what was pushed to a deque was popped or stolen, each as often. The receipts of the clients are those of all calls
+    /// that the histories note, each once.
+    pub fn close(self, clients: Vec<ClientSeat<N>>, seats: Vec<WorkSeat<N>>) -> Closing
+        requires clients { vec_len clients ≡ self.given }
+        requires all { vec_len seats ≡ self.workers }
         requires ring { IsRing seats.items }
         requires idle { AllIdle seats.items }
+        ensures seats { map closed_as result.seats.items ≡ clients.items }
+        ensures receipts { ForRight (λ p. AreTheCalls (all_receipts result.seats.items) result.book) }
+        ensures full { ForRight (λ p. AreFull result.seats.items result.book) }
         ensures ended { HaveEnded result.rows.items }
         ensures told { ForRight (λ p. IsTold result.rows.items result.book) }
         ensures spent { IsSpent seats.items }
@@ -119,16 +184,14 @@ impl<N: FarmNames> Farm<N> {
             floor,
             mut opened,
             mut ended,
+            calls,
             workers: _,
+            given: _,
+            closed,
         } = self;
-        let Floor { shared, moved: _ } = floor;
-        let Shared {
-            mut hall,
-            moves: _,
-            stopped: _,
-        } = shared.into_inner();
+        let mut hall = floor.into_hall();
         gather(&mut hall, &mut opened, &mut ended, seats);
-        hall.settle(&mut opened, &mut ended)
+        hall.settle(&mut opened, &mut ended, calls, clients, closed)
     }
 }
 
@@ -181,6 +244,7 @@ fn seat<N: FarmNames>(
         ended: ended.split_off(1, 0),
         busy: false,
         ahead: 0,
+        tally: WorkTally::default(),
     }
 }
 
@@ -233,6 +297,7 @@ fn take_in<N: FarmNames>(
         ended: less,
         busy: _,
         ahead: _,
+        tally: _,
     } = seat;
     opened.merge(more);
     ended.merge(less);

@@ -6,10 +6,12 @@ mod floor;
 mod gate;
 mod held;
 mod seat;
+mod tally;
 mod workers;
 
-pub use farm::{Blanks, Farm};
+pub use farm::{Blanks, Farm, MOST_SEATS, NoSeat};
 pub use floor::Floor;
 pub use gate::{Direct, Gate};
 pub use seat::WorkSeat;
-pub use workers::work;
+pub use tally::WorkTally;
+pub use workers::{work, work_all};

@@ -4,6 +4,7 @@ ghost use Rattle.std.specs.Prelude.{◌≡◌, ◌<◌, true, false, is_some, If
 ghost use Rattle.pf_farm.specs.Seats.{SameEnds};
 
 use crate::held::HeldRun;
+use crate::tally::WorkTally;
 use pf_deques::{Owner, Thief};
 use pf_farm_names::{EndedLedger, FarmNames, OpenedLedger};
 use pf_hall::{ClaimedTrial, Hall};
@@ -27,6 +28,7 @@ pub struct WorkSeat<N: FarmNames> {
     pub(crate) ended: Share<EndedLedger<N>>,
     pub(crate) busy: bool,
     pub(crate) ahead: u32,
+    pub(crate) tally: WorkTally,
 }
 
 impl<N: FarmNames> Model for WorkSeat<N> {
@@ -57,6 +59,11 @@ impl<N: FarmNames> Model for WorkSeat<N> {
 }
 
 impl<N: FarmNames> WorkSeat<N> {
+    /// What its worker did so far.
+    pub fn tally(&self) -> WorkTally {
+        self.tally
+    }
+
     /// The run in front of its own deque, if there is one.
     pub(crate) fn pop(&mut self) -> Option<HeldRun<N>>
         requires { self.old.busy ≡ false }
@@ -85,6 +92,7 @@ impl<N: FarmNames> WorkSeat<N> {
         match self.next.steal() {
             Some(run) => {
                 self.busy = true;
+                self.tally.steals = self.tally.steals.wrapping_add(1);
                 Some(run)
             }
             None => None,
@@ -104,6 +112,7 @@ impl<N: FarmNames> WorkSeat<N> {
         self.own.push(run)?;
         self.busy = false;
         self.ahead += 1;
+        self.tally.parks = self.tally.parks.wrapping_add(1);
         Ok(())
     }
 
@@ -117,6 +126,7 @@ impl<N: FarmNames> WorkSeat<N> {
         match hall.claim(&mut self.opened)? {
             Some(claimed) => {
                 self.busy = true;
+                self.tally.claims = self.tally.claims.wrapping_add(1);
                 Ok(Some(claimed))
             }
             None => Ok(None),
@@ -142,5 +152,6 @@ impl<N: FarmNames> WorkSeat<N> {
     {
         hall.hand_back(&mut self.ended, claim);
         self.busy = false;
+        self.tally.hand_backs = self.tally.hand_backs.wrapping_add(1);
     }
 }

@@ -1,7 +1,7 @@
 //! The work of one worker.
 
-ghost use Rattle.std.specs.Prelude.{◌≡◌, true, false, is_some, IfOk, OnErr};
-ghost use Rattle.pf_farm.specs.Seats.{SameEnds};
+ghost use Rattle.std.specs.Prelude.{◌≡◌, ◌<◌, true, false, length, is_some, IfOk, OnErr};
+ghost use Rattle.pf_farm.specs.Seats.{AllIdle, IsRing, SameEnds};
 
 use crate::floor::Floor;
 use crate::gate::Gate;
@@ -13,6 +13,7 @@ use pf_sched::{Scratch, Slice, start};
 use pf_terms::NoMemory;
 use std::alloc::Global;
 use std::sync::Wait;
+use std::thread::{Threads, for_each_mut};
 
 /// How many events a slice has.
 const TURNS: u32 = 256;
@@ -43,6 +44,25 @@ pub fn work<N: FarmNames, G: Gate, R: Wait>(
         }
     }
     clear(rt, floor, seat);
+}
+
+/// Has each worker work in a thread of its own until the farm stops. Where the system starts fewer threads, workers work one after another, and those behind the first
+/// begin once the farm stops.
+pub fn work_all<N: FarmNames + Sync + Send, G: Gate + Sync, R: Threads + Wait + Sync>(
+    alloc: Global,
+    rt: &R,
+    floor: &Floor<N>,
+    seats: &mut [WorkSeat<N>],
+    gate: &G,
+)
+    requires some { 0 < length seats.old }
+    requires idle { AllIdle seats.old }
+    ensures len { length seats.new ≡ length seats.old }
+    ensures ring { IsRing seats.old → IsRing seats.new }
+    ensures idle { AllIdle seats.new }
+{
+    let count = seats.len();
+    for_each_mut(rt, seats, count, &|_, seat| work(alloc, rt, floor, seat, gate));
 }
 
 /// Hands back all runs that are parked.

@@ -13,6 +13,7 @@ use Rattle.pf_ledger.specs.declared.row.End.TheVariants.{Filed, HandedBack, Stra
 use Rattle.pf_ledger.specs.Rows.{claim_of, row_of}
 use Rattle.pf_book.specs.Profile.{ForRight}
 use Rattle.pf_told.specs.Told.{IsTold, AreOfTheirJobs}
+use Rattle.pf_hall.specs.Clients.{Told, IsLogged}
 
 -- the rows of the ledger, and the desks by project
 pub record Hall : Type 0 where
@@ -22,9 +23,9 @@ pub record Hall : Type 0 where
 abbrev pub no_hall : Hall
 no_hall = record { rows = []; desks = [] }
 
--- what the ledger tells is what the histories of the desks tell, and each claim is of the job of its ticket
-abbrev pub IsSound : List (Row Job) → World → Type 0
-IsSound rows w = ForRight (λ p. IsTold rows w) × AreOfTheirJobs rows w
+-- what the ledger and the receipts tell is what the histories of the desks tell, and each claim is of the job of its ticket
+abbrev pub IsSound : List (Row Job) → List Told → World → Type 0
+IsSound rows log w = ForRight (λ p. IsTold rows w × IsLogged log w) × AreOfTheirJobs rows w
 
 -- no trial of any desk is queued
 abbrev pub NoneIsQueued : World → Type 0

@@ -1,20 +1,30 @@
-//! The book of all desks, and beside it the ledger of all claims.
+//! The book of all desks, and beside it the ledger of all claims and the log of all calls.
 
-ghost use Rattle.std.specs.Prelude.{◌≡◌, ◌+◌, ◌<◌, ◌++◌, [], ◌∷◌, length, slice_get, slice_set, Some, None, Ok, IfOk, IfSome, IfNone, OnErr};
+ghost use Rattle.std.specs.Prelude.{◌≡◌, ◌+◌, ◌<◌, ◌≤◌, ◌++◌, [], ◌∷◌, length, map, slice_get, slice_set, Some, None, Ok, IfOk, IfSome, IfNone, OnErr, option_map};
 ghost use Rattle.std.specs.Bool.{OnFalse};
 ghost use Rattle.pf_request.specs.View.{view_of_call};
+ghost use Rattle.pf_quota.specs.declared.refusals.TheConstants.{MOST_CALLS};
+ghost use Rattle.pf_desks.specs.Calls.{calls_in, stage_of};
+ghost use Rattle.pf_desks.specs.Desk.{held_at};
 ghost use Rattle.pf_desks.specs.World.{desk_at};
+ghost use Rattle.pf_book.specs.View.{view_of_stage};
 ghost use Rattle.pf_ledger.specs.Rows.{row_of, HaveEnded};
 ghost use Rattle.pf_book.specs.Answers.{Answers, ClaimsAt, Files, TakesBack};
 ghost use Rattle.pf_book.specs.Profile.{ForRight};
 ghost use Rattle.pf_told.specs.Gone.{IsGone};
 ghost use Rattle.pf_told.specs.Told.{IsTold};
+ghost use Rattle.std.specs.Vec.{vec_len, vec_capacity};
+ghost use Rattle.pf_hall.specs.Clients.{all_receipts, closed_as, empty_client, AreFull, AreTheCalls, GetsReceipt};
 ghost use Rattle.pf_hall.specs.Hall.{no_hall, end_or_stray, NoneIsQueued};
 
 use crate::claimed::ClaimedTrial;
-use pf_book::{Book, Claimed, Reply};
-use pf_farm_names::{EndedLedger, FarmNames, OpenedLedger};
-use pf_ledger::{Claim, End, Ledger, OpenClaim, Row};
+use crate::client::{ClientSeat, ClosedSeat};
+use crate::closing::{Closing, close};
+use pf_book::{Book, Claimed, Reply, Stage};
+use pf_farm_names::{CallLedger, EndedLedger, FarmNames, OpenedLedger};
+use pf_ledger::{Claim, End, Ledger, OpenClaim};
+use pf_quota::MOST_CALLS;
+use pf_receipts::{CallLog, Receipt};
 use pf_register::NewRegister;
 use pf_request::Call;
 use pf_sched::{Finished, Job};
@@ -22,15 +32,17 @@ use pf_terms::NoMemory;
 use std::alloc::Global;
 use std::hash::RandomState;
 use std::marker::Model;
+use std::snapshot::Snapshot;
 use std::sync::ledger;
 use std::sync::ledger::Share;
 
-/// The desks of all projects, and the claims of all workers with their ends. What the ledger tells of claims is what the histories of the desks tell, at each
-/// moment. Contracts see the rows of the ledger, and the desks by project.
+/// The desks of all projects, the claims of all workers with their ends, and which calls of all clients were logged. What the ledger tells of claims and what receipts
+/// tell of calls is what the histories of the desks tell, at each moment. Contracts see the rows of the ledger, and the desks by project.
 #[derive(Drop)]
 pub struct Hall<N: FarmNames> {
-    book: Book,
-    ledger: Ledger<N, Job>,
+    pub(crate) book: Book,
+    pub(crate) ledger: Ledger<N, Job>,
+    pub(crate) calls: CallLog<N, Call, Reply>,
 }
 
 impl<N: FarmNames> Model for Hall<N> {
@@ -42,14 +54,7 @@ impl<N: FarmNames> Model for Hall<N> {
 
     ghost view = { λ h. record { rows = h.ledger.0; desks = h.book } };
 
-    ghost invariant = { λ h. hall.IsSound h.ledger.0 h.book };
-}
-
-/// What is left of a hall that is closed: the rows of the ledger, and the book.
-#[derive(Drop)]
-pub struct Closing {
-    pub rows: Vec<Row<Job>>,
-    pub book: Book,
+    ghost invariant = { λ h. hall.IsSound h.ledger.0 h.calls h.book };
 }
 
 impl<N: FarmNames> Hall<N> {
@@ -59,24 +64,89 @@ impl<N: FarmNames> Hall<N> {
         keys: RandomState,
         opened: ledger::Book<OpenedLedger<N>>,
         ended: ledger::Book<EndedLedger<N>>,
-        register: NewRegister<Claim<Job>>,
+        logged: ledger::Book<CallLedger<N>>,
+        claims: NewRegister<Claim<Job>>,
+        receipts: NewRegister<Receipt<Call, Reply>>,
     ) -> Hall<N>
-        requires none { (opened.total ≡ 0) × (ended.total ≡ 0) }
-        requires name { N.claims ≡ Some register }
+        requires none { (opened.total ≡ 0) × (ended.total ≡ 0) × (logged.total ≡ 0) }
+        requires claims { N.claims ≡ Some claims }
+        requires receipts { N.receipts ≡ Some receipts }
         ensures { result ≡ no_hall }
     {
         Hall {
             book: Book::new(alloc, keys),
-            ledger: Ledger::new(alloc, opened, ended, register),
+            ledger: Ledger::new(alloc, opened, ended, claims),
+            calls: CallLog::new(logged, receipts),
         }
     }
 
-    /// Answers a client's call on the desk of its project, and notes it there with its reply. After running out of memory nothing has changed.
-    pub fn call(&mut self, alloc: Global, project: u32, call: Call) -> Result<Reply, NoMemory>
-        ensures answer { Answers self.old.desks project (view_of_call call) result self.new.desks }
-        ensures rows { self.new.rows ≡ self.old.rows }
+    /// A seat for a client of a project, with one part of the ledger of calls.
+    pub fn seat(
+        &mut self,
+        alloc: Global,
+        share: Share<CallLedger<N>>,
+        project: u32,
+    ) -> ClientSeat<N>
+        requires share { (share.parts ≡ 1) × (share.amount ≡ 0) }
+        ensures seat { result ≡ empty_client project }
+        ensures same { self.new ≡ self.old }
     {
-        self.book.call(alloc, project, call)
+        ClientSeat::new(self.calls.seat(alloc, share, project))
+    }
+
+    /// How far the trial of a project's ticket is, if it is held.
+    pub fn stage(&self, project: u32, ticket: u64) -> Option<Stage>
+        ensures { option_map view_of_stage result
+            ≡ option_map (λ t. stage_of t.state) (held_at (desk_at project self.now.desks).trials ticket) }
+    {
+        self.book.stage(project, ticket)
+    }
+
+    /// Answers a client's call on the desk of its seat's project, and notes it there with its reply, of which the seat has a receipt then. A call for which the log has no
+    /// room is refused and not noted, and the seat is full. After running out of memory nothing has changed.
+    pub fn call(
+        &mut self,
+        alloc: Global,
+        seat: &mut ClientSeat<N>,
+        call: Call,
+    ) -> Result<Reply, NoMemory>
+        ensures answer { Answers self.old.desks seat.old.project (view_of_call call) result self.new.desks }
+        ensures rows { self.new.rows ≡ self.old.rows }
+        ensures project { seat.new.project ≡ seat.old.project }
+        ensures receipt { IfOk result (λ r. GetsReceipt call r seat.old seat.new) }
+        ensures err { OnErr result (seat.new ≡ seat.old) }
+    {
+        let project = seat.project();
+        if self.book.call_count(project) >= MOST_CALLS {
+            return self.call_full(alloc, seat, call);
+        }
+        seat.seat.make_room()?;
+        let asked = Snapshot::of(&call);
+        let reply = self.book.call(alloc, project, call)?;
+        let number = self.book.call_count(project);
+        self.calls.log_call(&mut seat.seat, number, asked, &reply);
+        Ok(reply)
+    }
+
+    /// The same where the log of the project is full.
+    fn call_full(
+        &mut self,
+        alloc: Global,
+        seat: &mut ClientSeat<N>,
+        call: Call,
+    ) -> Result<Reply, NoMemory>
+        requires { MOST_CALLS ≤ calls_in (desk_at seat.old.project self.old.desks).history }
+        ensures answer { Answers self.old.desks seat.old.project (view_of_call call) result self.new.desks }
+        ensures rows { self.new.rows ≡ self.old.rows }
+        ensures project { seat.new.project ≡ seat.old.project }
+        ensures receipt { IfOk result (λ r. GetsReceipt call r seat.old seat.new) }
+        ensures err { OnErr result (seat.new ≡ seat.old) }
+    {
+        let project = seat.project();
+        let reply = self.book.call(alloc, project, call)?;
+        self.calls.show(&mut seat.seat);
+        seat.is_full = true;
+        Ok(reply)
     }
 
     /// Claims some trial that is queued, which is running then; none only if no trial of any desk is queued. After running out of memory nothing
@@ -158,21 +228,38 @@ impl<N: FarmNames> Hall<N> {
         taken
     }
 
-    /// The rows of the ledger and the book. Where as many claims have ended as were opened, each has ended.
+    /// The seats of all clients, the rows of the ledger, and the book. Where as many claims have ended as were opened, each has ended. Where all parts of the ledger of
+    /// calls are there, the receipts of the seats are those of all calls that the histories note, each once.
     pub fn settle(
         self,
         opened: &mut Share<OpenedLedger<N>>,
         ended: &mut Share<EndedLedger<N>>,
+        calls: Share<CallLedger<N>>,
+        clients: Vec<ClientSeat<N>>,
+        closed: Vec<ClosedSeat>,
     ) -> Closing
         requires whole { (opened.old.parts ≡ N.workers) × (ended.old.parts ≡ N.workers) }
         requires even { opened.old.amount ≡ ended.old.amount }
+        requires seats { (calls.amount ≡ 0) × (calls.parts + vec_len clients ≡ N.seats) }
+        requires room { (closed.items ≡ []) × (vec_len clients ≤ vec_capacity closed) }
         ensures rows { result.rows.items ≡ self.rows }
         ensures book { result.book ≡ self.desks }
+        ensures seats { map closed_as result.seats.items ≡ clients.items }
         ensures ended { HaveEnded result.rows.items }
         ensures told { ForRight (λ p. IsTold result.rows.items result.book) }
+        ensures receipts { ForRight (λ p. AreTheCalls (all_receipts result.seats.items) result.book) }
+        ensures full { ForRight (λ p. AreFull result.seats.items result.book) }
     {
-        let Hall { book, ledger } = self;
+        let Hall {
+            book,
+            ledger,
+            calls: log,
+        } = self;
+        let mut gathering = log.gather(calls);
+        let seats = close(&book, &mut gathering, clients, closed);
+        gathering.settle();
         Closing {
+            seats,
             rows: ledger.settle(opened, ended),
             book,
         }

@@ -2,7 +2,11 @@
 #![tactic(auto)]
 
 mod claimed;
+mod client;
+mod closing;
 mod hall;
 
 pub use claimed::ClaimedTrial;
-pub use hall::{Closing, Hall};
+pub use client::{ClientSeat, ClosedSeat};
+pub use closing::Closing;
+pub use hall::Hall;

@@ -1,0 +1,10 @@
+//! What a worker did, counted for whoever wants to see how work was shared. No contract speaks of it.
+
+/// How often a worker claimed a trial, stole a run, parked one, and handed a trial back. Counts begin again at 0 past 2^64.
+#[derive(Clone, Copy, Debug, Default, PartialEq, Eq)]
+pub struct WorkTally {
+    pub claims: u64,
+    pub steals: u64,
+    pub parks: u64,
+    pub hand_backs: u64,
+}

@@ -1,0 +1,67 @@
+-- What clients were told, and the histories of the desks.
+use Rattle.std.specs.Prelude.{◌≡◌, ◌⊎◌, ℕ, Bool, true, false, List, [], ◌∷◌, ◌++◌, length, map, All}
+use Rattle.pf_request.specs.declared.call.Call as call_code
+use Rattle.pf_request.specs.View.{view_of_call}
+use Rattle.pf_quota.specs.declared.refusals.TheConstants.{MOST_CALLS}
+use Rattle.pf_desks.specs.Calls.{calls_in}
+use Rattle.pf_desks.specs.Desk.{Entry, called, claimed, filed, handed_back}
+use Rattle.pf_desks.specs.World.{World, desk_at}
+use Rattle.pf_book.specs.declared.reply.Reply as reply_code
+use Rattle.pf_book.specs.View.{view_of_reply}
+use Rattle.pf_receipts.specs.declared.receipt.Receipt.{Receipt}
+use Rattle.pf_receipts.specs.Receipts.{receipt_of, of_project, AreNumbered, EachOnce}
+use Rattle.pf_hall.specs.declared.client.ClosedSeat.{ClosedSeat}
+
+-- a receipt of a client's call, and of its reply
+abbrev pub Told : Type 0
+Told = Receipt call_code.Call reply_code.Reply
+
+-- a client's seat: its project, its receipts, and whether the log of its project is full
+pub record ClientView : Type 0 where
+  pub project : ℕ
+  pub receipts : List Told
+  pub is_full : Bool
+
+abbrev pub empty_client : (project : ℕ) → ClientView
+empty_client q = record { project = q; receipts = []; is_full = false }
+
+-- what the history notes of a call that has this receipt
+abbrev pub noted_by : Told → Entry
+noted_by r = called (view_of_call r.call.value) (view_of_reply r.reply.value)
+
+-- the calls that a history notes, in order
+abbrev pub calls_noted : List Entry → List Entry
+calls_noted [] = []
+calls_noted (called c r ∷ es) = called c r ∷ calls_noted es
+calls_noted (claimed t ∷ es) = calls_noted es
+calls_noted (filed t m ∷ es) = calls_noted es
+calls_noted (handed_back t ∷ es) = calls_noted es
+
+-- the receipts are, project by project, those of the calls that its history notes, in order, and are counted from 1
+abbrev pub IsLogged : List Told → World → Type 0
+IsLogged log w = AreNumbered log × ((q : ℕ) → map noted_by (of_project q log) ≡ calls_noted (desk_at q w).history)
+
+-- these are the receipts of the calls that the histories note, each once
+abbrev pub AreTheCalls : List Told → World → Type 0
+AreTheCalls rs w = (log : List Told) × EachOnce rs log × IsLogged log w
+
+-- ---- one call
+
+-- the seat has one receipt more, of this call and its reply; or the log of its project is full, and the call wasn't logged
+abbrev pub GetsReceipt : (call : call_code.Call) → (reply : reply_code.Reply) → (was is : ClientView) → Type 0
+GetsReceipt c r s s' = ((n : ℕ) × (s'.receipts ≡ s.receipts ++ receipt_of s.project n c r ∷ [])) ⊎ ((s'.is_full ≡ true) × (s'.receipts ≡ s.receipts))
+
+-- ---- seats that are closed
+
+-- all receipts of these seats
+abbrev pub all_receipts : List ClosedSeat → List Told
+all_receipts [] = []
+all_receipts (s ∷ ss) = s.told.receipts.items ++ all_receipts ss
+
+-- what is left of each of these seats
+abbrev pub closed_as : ClosedSeat → ClientView
+closed_as s = record { project = s.told.project; receipts = s.told.receipts.items; is_full = s.is_full }
+
+-- the project of each seat that is full has as many calls as a log holds
+abbrev pub AreFull : List ClosedSeat → World → Type 0
+AreFull ss w = All (λ s. s.is_full ≡ true → calls_in (desk_at s.told.project w).history ≡ MOST_CALLS) ss
