@@ -15,3 +15,6 @@ pub use gate::{Direct, Gate};
 pub use seat::WorkSeat;
 pub use tally::WorkTally;
 pub use workers::{work, work_all};
+
+/// What a client has, and what is left when a farm is closed.
+pub use pf_hall::{ClientSeat, ClosedSeat, Closing};

@@ -9,4 +9,5 @@ mod told;
 
 pub use outcome::{Requester, put_outcome};
 pub use steps::{MOST_BYTES, WORKERS, run_steps};
+pub use stream::Gathered;
 pub use told::{Told, ToldReport};

@@ -97,11 +97,20 @@ impl Input {
 
 /// What is to go out, gathered so that one write hands on many replies.
 #[derive(Drop)]
-pub(crate) struct Gathered {
+pub struct Gathered {
     pub text: Vec<u8>,
 }
 
 impl Gathered {
+    /// Nothing was gathered yet.
+    pub fn new(alloc: Global) -> Gathered
+        ensures { result.text.items ≡ [] }
+    {
+        Gathered {
+            text: Vec::new(alloc),
+        }
+    }
+
     /// Writes what was gathered.
     pub fn send<W: Write, M: Ledger>(
         &mut self,

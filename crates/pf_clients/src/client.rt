@@ -1,0 +1,141 @@
+//! One client: the lines of its file are answered one after another.
+
+ghost use Rattle.std.specs.Prelude.{◌≡◌};
+
+use crate::watch::Watch;
+use pf_book::Reply;
+use pf_farm::{ClientSeat, Floor};
+use pf_farm_names::FarmNames;
+use pf_fault::OrNoMemory;
+use pf_lines::{ClientLine, NoCommand, is_due, read_client_line};
+use pf_request::Call;
+use pf_terms::{Counted, NoMemory, StreamFault};
+use pf_wire::{MOST_BYTES, Requester, Told, put_outcome};
+use pf_workshop::Response;
+use std::alloc::Global;
+use std::io::Read;
+use std::sync::Wait;
+use std::sync::ledger::Ledger;
+
+/// How the lines of a file ended.
+#[derive(Drop)]
+pub(crate) enum Ended {
+    /// All were answered.
+    Answered,
+    /// One was no command, and none behind it was read.
+    NoCommand,
+    /// The file can't be read any more, or memory ran out.
+    Stopped(OrNoMemory<StreamFault>),
+}
+
+/// A client: its seat, its file, and what it was told, reply by reply.
+#[derive(Drop)]
+pub(crate) struct Client<N: FarmNames, R, L: Ledger> {
+    pub seat: ClientSeat<N>,
+    pub file: Counted<R, L>,
+    pub told: Vec<Told>,
+    pub ended: Ended,
+}
+
+impl<N: FarmNames, R: Read, L: Ledger> Client<N, R, L> {
+    /// Answers the lines of its file, at most 64 MiB of it, up to one that is no command.
+    pub fn work<T: Wait, G: Watch>(
+        &mut self,
+        alloc: Global,
+        rt: &T,
+        floor: &Floor<N>,
+        watch: &G,
+    ) {
+        self.ended = match self.answer_all(alloc, rt, floor, watch) {
+            Ok(ended) => ended,
+            Err(stop) => Ended::Stopped(stop),
+        };
+    }
+
+    fn answer_all<T: Wait, G: Watch>(
+        &mut self,
+        alloc: Global,
+        rt: &T,
+        floor: &Floor<N>,
+        watch: &G,
+    ) -> Result<Ended, OrNoMemory<StreamFault>> {
+        let bytes = self.file.take_front(alloc, MOST_BYTES)?;
+        let mut rest = bytes.as_slice();
+        let mut number: u64 = 1;
+        'lines: for _ in rt.forever() {
+            if !is_due(rest, true) {
+                break;
+            }
+            match self.answer_one(alloc, rt, floor, watch, number, rest)? {
+                Some(after) => rest = after,
+                None => return Ok(Ended::NoCommand),
+            }
+            number = number.saturating_add(1);
+        }
+        Ok(Ended::Answered)
+    }
+
+    /// Answers the command of this number, which stands in front; what follows it, unless the line is none.
+    fn answer_one<'a, T: Wait, G: Watch>(
+        &mut self,
+        alloc: Global,
+        rt: &T,
+        floor: &Floor<N>,
+        watch: &G,
+        number: u64,
+        bytes: &'a [u8],
+    ) -> Result<Option<&'a [u8]>, NoMemory> {
+        match read_client_line(alloc, self.seat.project(), bytes) {
+            Ok((ClientLine::Call(call), rest)) => {
+                self.answer_call(alloc, rt, floor, watch, call)?;
+                Ok(Some(rest))
+            }
+            Ok((ClientLine::Await(ticket), rest)) => {
+                floor.wait_done(rt, &self.seat, ticket);
+                Ok(Some(rest))
+            }
+            Err(OrNoMemory::Fault(NoCommand)) => {
+                self.refuse(alloc, number)?;
+                Ok(None)
+            }
+            Err(OrNoMemory::NoMemory) => Err(NoMemory),
+        }
+    }
+
+    /// Makes a call, and puts what it is answered with.
+    fn answer_call<T: Wait, G: Watch>(
+        &mut self,
+        alloc: Global,
+        rt: &T,
+        floor: &Floor<N>,
+        watch: &G,
+        call: Call,
+    ) -> Result<(), NoMemory> {
+        let project = self.seat.project();
+        let outcome = floor.call(alloc, rt, &mut self.seat, call);
+        if let Ok(Reply::Ticket(_)) = &outcome {
+            watch.ordered(project);
+        }
+        let response = match outcome {
+            Ok(reply) => Ok(Response::Reply(reply)),
+            Err(NoMemory) => Err(NoMemory),
+        };
+        let mut told = Told {
+            text: Vec::new(alloc),
+            report: None,
+        };
+        put_outcome(alloc, &mut told, Requester::Client { project }, response)?;
+        self.told.push(told)?;
+        Ok(())
+    }
+
+    /// Puts that the line of this number is no command.
+    fn refuse(&mut self, alloc: Global, number: u64) -> Result<(), NoMemory> {
+        let line = format!(in alloc; "command {number} refused {NoCommand}\n")?;
+        self.told.push(Told {
+            text: line.into_bytes(),
+            report: None,
+        })?;
+        Ok(())
+    }
+}

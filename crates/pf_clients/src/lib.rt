@@ -1,0 +1,10 @@
+//! The clients of a running farm: what the lines of each one's file are answered.
+#![tactic(auto)]
+
+mod client;
+mod run;
+mod told;
+mod watch;
+
+pub use run::run_farm;
+pub use watch::Watch;

@@ -1,0 +1,184 @@
+//! A farm of workers and clients, from its opening to its end.
+
+ghost use Rattle.std.specs.Prelude.{◌≡◌, ◌<◌, ◌≤◌, [], IfOk, Some, length, vec_capacity, vec_len};
+ghost use Rattle.pf_farm.specs.Farms.{farm_of};
+ghost use Rattle.pf_farm.specs.Seats.{AllIdle, IsRing};
+
+use crate::client::{Client, Ended};
+use crate::told::{Answers, write_all};
+use crate::watch::Watch;
+use pf_farm::{Blanks, ClientSeat, Farm, Floor, Gate, MOST_SEATS, NoSeat, WorkSeat, work_all};
+use pf_farm_names::FarmNames;
+use pf_fault::OrNoMemory;
+use pf_terms::{Counted, NoMemory, StreamFault};
+use std::alloc::Global;
+use std::hash::RandomState;
+use std::io::{Read, Write};
+use std::sync::Wait;
+use std::sync::ledger::Ledger;
+use std::thread::{Threads, for_each_mut, join_mut};
+
+/// Has so many workers and a client for each file work on one farm, file k, counted from 1, being that of project k, each in a thread of its own; then writes what each
+/// client was told, file by file. Gives the status: 2 if a line was no command, after which that file isn't read any further, and else 0.
+pub fn run_farm<
+    N: FarmNames + Send + Sync,
+    R: Read + Send + Drop,
+    W: Write,
+    L: Ledger + Send + Sync,
+    M: Ledger,
+    T: Threads + Wait + Sync,
+    G: Gate + Watch + Sync,
+>(
+    alloc: Global,
+    rt: &T,
+    keys: RandomState,
+    blanks: Blanks,
+    workers: usize,
+    files: Vec<Counted<R, L>>,
+    gate: &G,
+    writer: &mut Counted<W, M>,
+) -> Result<u8, OrNoMemory<StreamFault>>
+    requires opened { (blanks.opened.name ≡ N.opened) × (blanks.opened.parts ≡ N.workers) }
+    requires ended { (blanks.ended.name ≡ N.ended) × (blanks.ended.parts ≡ N.workers) }
+    requires calls { (blanks.calls.name ≡ N.calls) × (blanks.calls.parts ≡ N.seats) }
+    requires claims { N.claims ≡ Some blanks.claims }
+    requires receipts { N.receipts ≡ Some blanks.receipts }
+    requires workers { (0 < workers) × (workers < N.workers) }
+    requires seats { MOST_SEATS < N.seats }
+    requires files { (0 < vec_len files) × (vec_len files ≤ MOST_SEATS) }
+{
+    let (mut farm, mut seats) = Farm::<N>::open(alloc, keys, blanks, workers)?;
+    let mut clients = seated(alloc, &mut farm, files)?;
+    let room = Room {
+        seats: Vec::with_capacity(alloc, clients.len())?,
+        answers: Vec::with_capacity(alloc, clients.len())?,
+    };
+    let floor = farm.floor();
+    serve(alloc, rt, floor, &mut clients, &mut seats, gate);
+    tell_work(&seats, gate);
+    let Room {
+        seats: told,
+        answers,
+    } = parted(clients, room);
+    let _closing = farm.close(told, seats);
+    write_all(alloc, answers, writer)
+}
+
+/// A client with a seat for each file.
+fn seated<N: FarmNames, R, L: Ledger>(
+    alloc: Global,
+    farm: &mut Farm<N>,
+    files: Vec<Counted<R, L>>,
+) -> Result<Vec<Client<N, R, L>>, NoMemory>
+    requires none { farm.old.given ≡ 0 }
+    requires files { vec_len files ≤ MOST_SEATS }
+    ensures clients { IfOk result (λ v. vec_len v ≡ vec_len files) }
+    ensures given { IfOk result (λ v. farm.new ≡ farm_of farm.old.workers (vec_len files)) }
+{
+    let mut clients = Vec::new(alloc);
+    let mut project = 0;
+    'files: for file in files {
+        project += 1;
+        let seat = match farm.seat(alloc, project) {
+            Ok(seat) => seat,
+            Err(OrNoMemory::Fault(NoSeat)) => unreachable!(),
+            Err(OrNoMemory::NoMemory) => return Err(NoMemory),
+        };
+        clients.push(Client {
+            seat,
+            file,
+            told: Vec::new(alloc),
+            ended: Ended::Answered,
+        })?;
+    }
+    Ok(clients)
+}
+
+/// Has all workers and all clients work side by side, until all clients are done.
+fn serve<
+    N: FarmNames + Send + Sync,
+    R: Read + Send,
+    L: Ledger + Send + Sync,
+    T: Threads + Wait + Sync,
+    G: Gate + Watch + Sync,
+>(
+    alloc: Global,
+    rt: &T,
+    floor: &Floor<N>,
+    clients: &mut [Client<N, R, L>],
+    seats: &mut [WorkSeat<N>],
+    gate: &G,
+)
+    requires some { (0 < length clients.old) × (0 < length seats.old) }
+    requires idle { AllIdle seats.old }
+    ensures clients { length clients.new ≡ length clients.old }
+    ensures seats { length seats.new ≡ length seats.old }
+    ensures ring { IsRing seats.old → IsRing seats.new }
+    ensures idle { AllIdle seats.new }
+{
+    join_mut(
+        rt,
+        &mut || work_all(alloc, rt, floor, seats, gate),
+        &mut || answer_all(alloc, rt, floor, clients, gate),
+    );
+}
+
+/// Has all clients work side by side. Then the farm stops.
+fn answer_all<
+    N: FarmNames + Send + Sync,
+    R: Read + Send,
+    L: Ledger + Send + Sync,
+    T: Threads + Wait + Sync,
+    G: Watch + Sync,
+>(
+    alloc: Global,
+    rt: &T,
+    floor: &Floor<N>,
+    clients: &mut [Client<N, R, L>],
+    watch: &G,
+)
+    requires { 0 < length clients.old }
+    ensures { length clients.new ≡ length clients.old }
+{
+    let count = clients.len();
+    for_each_mut(rt, clients, count, &|_, client| client.work(alloc, rt, floor, watch));
+    floor.stop(rt);
+}
+
+/// Tells what each worker did.
+fn tell_work<N: FarmNames, G: Watch>(seats: &[WorkSeat<N>], watch: &G) {
+    for (worker, seat) in seats.iter().enumerate() {
+        watch.worked(worker, seat.tally());
+    }
+}
+
+/// The seats of clients, and what these were told.
+#[derive(Drop)]
+struct Room<N: FarmNames> {
+    seats: Vec<ClientSeat<N>>,
+    answers: Vec<Answers>,
+}
+
+/// The clients' seats apart from what they were told, in room that was made before.
+fn parted<N: FarmNames, R: Drop, L: Ledger>(clients: Vec<Client<N, R, L>>, room: Room<N>) -> Room<N>
+    requires none { (room.seats.items ≡ []) × (room.answers.items ≡ []) }
+    requires seats { vec_len clients ≤ vec_capacity room.seats }
+    requires answers { vec_len clients ≤ vec_capacity room.answers }
+    ensures { vec_len result.seats ≡ vec_len clients }
+{
+    let Room {
+        mut seats,
+        mut answers,
+    } = room;
+    'clients: for client in clients {
+        let Client {
+            seat,
+            file: _,
+            told,
+            ended,
+        } = client;
+        seats.push_reserved(seat);
+        answers.push_reserved(Answers { told, ended });
+    }
+    Room { seats, answers }
+}
