@@ -1,6 +1,6 @@
 //! One client: the lines of its file are answered one after another.
 
-ghost use Rattle.std.specs.Prelude.{◌≡◌};
+ghost use Rattle.std.specs.Prelude.{◌≡◌, ◌<◌};
 
 use crate::watch::Watch;
 use pf_book::Reply;
@@ -14,8 +14,9 @@ use pf_wire::{MOST_BYTES, Requester, Told, put_outcome};
 use pf_workshop::Response;
 use std::alloc::Global;
 use std::io::Read;
+use std::marker::Brand;
 use std::sync::Wait;
-use std::sync::ledger::Ledger;
+use std::sync::ledger::{Blank, Ledger};
 
 /// How the lines of a file ended.
 #[derive(Drop)]
@@ -28,16 +29,30 @@ pub(crate) enum Ended {
     Stopped(OrNoMemory<StreamFault>),
 }
 
-/// A client: its seat, its file, and what it was told, reply by reply.
+/// A client: its seat, its file until that is read, and what it was told, reply by reply.
 #[derive(Drop)]
-pub(crate) struct Client<N: FarmNames, R, L: Ledger> {
+pub(crate) struct Client<N: FarmNames, R> {
     pub seat: ClientSeat<N>,
-    pub file: Counted<R, L>,
+    pub file: Option<R>,
     pub told: Vec<Told>,
     pub ended: Ended,
 }
 
-impl<N: FarmNames, R: Read, L: Ledger> Client<N, R, L> {
+/// What a file holds, up to 64 MiB.
+fn contents<R: Read + Drop, L: Ledger>(
+    alloc: Global,
+    file: R,
+    reads: Blank,
+) -> Result<Vec<u8>, OrNoMemory<StreamFault>>
+    requires reads { reads.name ≡ L.name }
+    requires read_parts { reads.parts ≡ L.parts }
+    requires some_reads { 0 < reads.parts }
+{
+    let mut reader = Counted::<R, L>::new(file, reads);
+    reader.take_front(alloc, MOST_BYTES)
+}
+
+impl<N: FarmNames, R: Read + Drop> Client<N, R> {
     /// Answers the lines of its file, at most 64 MiB of it, up to one that is no command.
     pub fn work<T: Wait, G: Watch>(
         &mut self,
@@ -59,7 +74,10 @@ impl<N: FarmNames, R: Read, L: Ledger> Client<N, R, L> {
         floor: &Floor<N>,
         watch: &G,
     ) -> Result<Ended, OrNoMemory<StreamFault>> {
-        let bytes = self.file.take_front(alloc, MOST_BYTES)?;
+        let Some(file) = self.file.take() else {
+            return Ok(Ended::Answered);
+        };
+        let bytes = contents::<R, Brand>(alloc, file, Blank::new(1))?;
         let mut rest = bytes.as_slice();
         let mut number: u64 = 1;
         'lines: for _ in rt.forever() {

@@ -24,7 +24,6 @@ pub fn run_farm<
     N: FarmNames + Send + Sync,
     R: Read + Send + Drop,
     W: Write,
-    L: Ledger + Send + Sync,
     M: Ledger,
     T: Threads + Wait + Sync,
     G: Gate + Watch + Sync,
@@ -34,7 +33,7 @@ pub fn run_farm<
     keys: RandomState,
     blanks: Blanks,
     workers: usize,
-    files: Vec<Counted<R, L>>,
+    files: Vec<R>,
     gate: &G,
     writer: &mut Counted<W, M>,
 ) -> Result<u8, OrNoMemory<StreamFault>>
@@ -65,11 +64,11 @@ pub fn run_farm<
 }
 
 /// A client with a seat for each file.
-fn seated<N: FarmNames, R, L: Ledger>(
+fn seated<N: FarmNames, R: Drop>(
     alloc: Global,
     farm: &mut Farm<N>,
-    files: Vec<Counted<R, L>>,
-) -> Result<Vec<Client<N, R, L>>, NoMemory>
+    files: Vec<R>,
+) -> Result<Vec<Client<N, R>>, NoMemory>
     requires none { farm.old.given ≡ 0 }
     requires files { vec_len files ≤ MOST_SEATS }
     ensures clients { IfOk result (λ v. vec_len v ≡ vec_len files) }
@@ -86,7 +85,7 @@ fn seated<N: FarmNames, R, L: Ledger>(
         };
         clients.push(Client {
             seat,
-            file,
+            file: Some(file),
             told: Vec::new(alloc),
             ended: Ended::Answered,
         })?;
@@ -97,15 +96,14 @@ fn seated<N: FarmNames, R, L: Ledger>(
 /// Has all workers and all clients work side by side, until all clients are done.
 fn serve<
     N: FarmNames + Send + Sync,
-    R: Read + Send,
-    L: Ledger + Send + Sync,
+    R: Read + Send + Drop,
     T: Threads + Wait + Sync,
     G: Gate + Watch + Sync,
 >(
     alloc: Global,
     rt: &T,
     floor: &Floor<N>,
-    clients: &mut [Client<N, R, L>],
+    clients: &mut [Client<N, R>],
     seats: &mut [WorkSeat<N>],
     gate: &G,
 )
@@ -126,15 +124,14 @@ fn serve<
 /// Has all clients work side by side. Then the farm stops.
 fn answer_all<
     N: FarmNames + Send + Sync,
-    R: Read + Send,
-    L: Ledger + Send + Sync,
+    R: Read + Send + Drop,
     T: Threads + Wait + Sync,
     G: Watch + Sync,
 >(
     alloc: Global,
     rt: &T,
     floor: &Floor<N>,
-    clients: &mut [Client<N, R, L>],
+    clients: &mut [Client<N, R>],
     watch: &G,
 )
     requires { 0 < length clients.old }
@@ -160,7 +157,7 @@ struct Room<N: FarmNames> {
 }
 
 /// The clients' seats apart from what they were told, in room that was made before.
-fn parted<N: FarmNames, R: Drop, L: Ledger>(clients: Vec<Client<N, R, L>>, room: Room<N>) -> Room<N>
+fn parted<N: FarmNames, R: Drop>(clients: Vec<Client<N, R>>, room: Room<N>) -> Room<N>
     requires none { (room.seats.items ≡ []) × (room.answers.items ≡ []) }
     requires seats { vec_len clients ≤ vec_capacity room.seats }
     requires answers { vec_len clients ≤ vec_capacity room.answers }

@@ -3,17 +3,20 @@
 
 mod args;
 mod escape;
+mod farm;
 mod messages;
 mod obey;
 mod progress;
 mod schedule;
 mod stack;
+mod watch;
 mod why;
 mod work;
 
 ghost use Rattle.std.specs.Prelude.{◌≡◌, ◌<◌};
 
 use crate::args::given_words;
+use crate::farm::{Farmer, Farming};
 use crate::messages::{REFUSED, no_memory};
 use crate::obey::obey;
 use crate::progress::{Clearing, Line};
@@ -54,6 +57,7 @@ fn try_all_by<R, I: Read + Drop, W: Write + Drop, L: Ledger, M: Ledger>(
     stdin: I,
     stdout: W,
     line: &Line,
+    farmer: &impl Farmer,
     reads: Blank,
     writes: Blank,
 ) -> Result<u8, NoMemory>
@@ -70,7 +74,7 @@ where
     let words = words_of(rt.alloc(), &given)?;
     let mut reader = Counted::<I, L>::new(stdin, reads);
     let mut writer = Counted::<W, M>::new(stdout, writes);
-    obey(rt, &words, &mut reader, &mut writer, line)
+    obey(rt, &words, &mut reader, &mut writer, line, farmer)
 }
 
 /// The same; before anything is written the line is emptied.
@@ -79,6 +83,7 @@ fn try_all<R, I: Read + Drop, W: Write + Drop>(
     stdin: I,
     stdout: W,
     line: &Line,
+    farmer: &impl Farmer,
 ) -> Result<u8, NoMemory>
 where
     R: Env + Files + Print + Eprint + AllocGlobal + RandomSource + Clock + Threads + Sync,
@@ -86,27 +91,32 @@ where
     let inner = stdout;
     let clearing = Clearing { line, inner };
     let (reads, writes) = (Blank::new(1), Blank::new(1));
-    try_all_by::<R, I, Clearing<'_, W>, Brand, Brand>(rt, stdin, clearing, line, reads, writes)
+    try_all_by::<R, I, Clearing<'_, W>, Brand, Brand>(rt, stdin, clearing, line, farmer, reads, writes)
 }
 
 /// Does all work; what it gives is the status.
-fn all<R, I: Read + Drop>(rt: &R, stdin: I, stderr: Stderr) -> u8
+fn all<R, I: Read + Drop>(rt: &R, stdin: I, stderr: Stderr, farmer: &impl Farmer) -> u8
 where
     R: Env + Files + Print + Eprint + AllocGlobal + RandomSource + Clock + Threads + Sync,
 {
-    match try_all(rt, stdin, io::writer(rt), &Line::new(stderr)) {
+    match try_all(rt, stdin, io::writer(rt), &Line::new(stderr), farmer) {
         Ok(status) => status,
         Err(NoMemory) => no_memory(rt),
     }
 }
 
 fn main(rt: HostRuntime) -> ExitCode {
+    let whole = |rt: &HostRuntime| -> u8 {
+        let stderr = rt.stderr();
+        let farmer = Farming { rt, stderr };
+        all(rt, rt.stdin(), stderr, &farmer)
+    };
     if first_thread_has_stack(&rt) {
-        return ExitCode::from(all(&rt, rt.stdin(), rt.stderr()));
+        return ExitCode::from(whole(&rt));
     }
     let worker = Builder::new()
         .stack_size(STACK_BYTES)
-        .spawn(&rt, move || all(&rt, rt.stdin(), rt.stderr()));
+        .spawn(&rt, move || whole(&rt));
     match worker {
         Ok(worker) => ExitCode::from(worker.join(&rt)),
         Err(error) => {

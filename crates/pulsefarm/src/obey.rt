@@ -5,6 +5,7 @@ ghost use Rattle.pf_cli.specs.Args.{reading_of, tells, view_of_reading};
 ghost use Rattle.pf_command.specs.Streams.{streams};
 ghost use Rattle.pulsefarm.specs.Unread.{LeavesUnread};
 
+use crate::farm::Farmer;
 use crate::messages::{REFUSED, failed, no_memory, say, tell};
 use crate::progress::Line;
 use crate::schedule::{contents, contents_of_input, is_schedule, schedule_in};
@@ -66,6 +67,7 @@ fn work_by_schedule<R, I: Read, W: Write, L: Ledger, M: Ledger>(
     stdin: &mut Counted<I, L>,
     writer: &mut Counted<W, M>,
     line: &Line,
+    farmer: &impl Farmer,
 ) -> u8
 where
     R: Files + Print + Eprint + AllocGlobal + RandomSource + Clock + Threads + Sync,
@@ -77,7 +79,7 @@ where
         );
         return REFUSED;
     }
-    work(rt, args, stdin, writer, line)
+    work(rt, args, stdin, writer, line, farmer)
 }
 
 /// Does what words ask for by the schedule in a file.
@@ -88,6 +90,7 @@ fn obey_schedule<R, I: Read, W: Write, L: Ledger, M: Ledger>(
     stdin: &mut Counted<I, L>,
     writer: &mut Counted<W, M>,
     line: &Line,
+    farmer: &impl Farmer,
 ) -> Result<u8, NoMemory>
 where
     R: Files + Print + Eprint + AllocGlobal + RandomSource + Clock + Threads + Sync,
@@ -101,7 +104,7 @@ where
         return no_schedule(rt, file, &contents);
     }
     match read(rt.alloc(), words, Some(schedule))? {
-        Reading::Args(args) => Ok(work_by_schedule(rt, &args, file, stdin, writer, line)),
+        Reading::Args(args) => Ok(work_by_schedule(rt, &args, file, stdin, writer, line, farmer)),
         Reading::Text {
             text,
             status,
@@ -119,6 +122,7 @@ pub fn obey<R, I: Read, W: Write, L: Ledger, M: Ledger>(
     stdin: &mut Counted<I, L>,
     writer: &mut Counted<W, M>,
     line: &Line,
+    farmer: &impl Farmer,
 ) -> Result<u8, NoMemory>
 where
     R: Files + Print + Eprint + AllocGlobal + RandomSource + Clock + Threads + Sync,
@@ -131,12 +135,12 @@ where
         stdin.new.failures.total writer.new.failures.total) }
 {
     match read(rt.alloc(), words, None)? {
-        Reading::Args(args) => Ok(work(rt, &args, stdin, writer, line)),
+        Reading::Args(args) => Ok(work(rt, &args, stdin, writer, line, farmer)),
         Reading::Text {
             text,
             status,
             is_fault,
         } => Ok(tell(rt, &text, status, is_fault, writer)),
-        Reading::ScheduleIn(file) => obey_schedule(rt, words, file, stdin, writer, line),
+        Reading::ScheduleIn(file) => obey_schedule(rt, words, file, stdin, writer, line, farmer),
     }
 }

@@ -3,6 +3,7 @@
 ghost use Rattle.std.specs.Prelude.{◌≡◌, ◌<◌};
 
 use crate::args::open;
+use crate::farm::Farmer;
 use crate::messages::{REFUSED, failed, no_memory, no_more_memory, say};
 use crate::progress::{Line, Runs, Seeds};
 use crate::why::why;
@@ -22,22 +23,28 @@ use std::thread::{Threads, available_parallelism};
 use std::time::Clock;
 
 /// What the work of a command ends with: a status, or what stopped it.
-type Answered = Result<u8, OrNoMemory<StreamFault>>;
+pub type Answered = Result<u8, OrNoMemory<StreamFault>>;
 
-/// Answers commands. The keys of its tables are random, so that no choice of projects or sources makes it slow.
-fn answer_steps<R: Read, W: Write, L: Ledger, M: Ledger>(
-    rt: &(impl AllocGlobal + RandomSource),
-    reader: &mut Counted<R, L>,
-    writer: &mut Counted<W, M>,
-) -> Answered {
+/// Keys for tables. They are random, so that no choice of projects or sources makes a table slow.
+pub fn random_keys(rt: &impl RandomSource) -> Result<RandomState, OrNoMemory<StreamFault>> {
     match RandomState::new(rt) {
-        Ok(keys) => run_steps(rt.alloc(), keys, reader, writer),
+        Ok(keys) => Ok(keys),
         Err(_) => {
             let reason = "the system gives no random numbers";
             let error = io::Error::new(io::ErrorKind::Other, reason);
             Err(OrNoMemory::Fault(StreamFault::Read(error)))
         }
     }
+}
+
+/// Answers commands.
+fn answer_steps<R: Read, W: Write, L: Ledger, M: Ledger>(
+    rt: &(impl AllocGlobal + RandomSource),
+    reader: &mut Counted<R, L>,
+    writer: &mut Counted<W, M>,
+) -> Answered {
+    let keys = random_keys(rt)?;
+    run_steps(rt.alloc(), keys, reader, writer)
 }
 
 /// How many threads run the seeds of a hunt: those that are named, or one for each of the machine's processors, at most 64.
@@ -103,6 +110,7 @@ fn answer_source<R: Read, W: Write, L: Ledger, M: Ledger>(
     reader: &mut Counted<R, L>,
     writer: &mut Counted<W, M>,
     line: &Line,
+    farmer: &impl Farmer,
 ) -> Answered {
     let alloc = rt.alloc();
     match asked {
@@ -118,6 +126,7 @@ fn answer_source<R: Read, W: Write, L: Ledger, M: Ledger>(
             serve(alloc, reader, Check { explain }, writer)
         }
         Args::Steps(_) => answer_steps(rt, reader, writer),
+        Args::Farm(args) => farmer.farm(args, writer),
     }
 }
 
@@ -128,6 +137,7 @@ fn answer_bytes<W: Write, L: Ledger, M: Ledger>(
     source: Vec<u8>,
     writer: &mut Counted<W, M>,
     line: &Line,
+    farmer: &impl Farmer,
     reads: Blank,
 ) -> Answered
     requires reads { reads.name ≡ L.name }
@@ -135,7 +145,7 @@ fn answer_bytes<W: Write, L: Ledger, M: Ledger>(
     requires some_reads { 0 < reads.parts }
 {
     let mut reader = Counted::<&[u8], L>::new(source.as_slice(), reads);
-    let answered = answer_source(rt, asked, &mut reader, writer, line);
+    let answered = answer_source(rt, asked, &mut reader, writer, line, farmer);
     line.clear();
     let status = answered?;
     if status == REFUSED {
@@ -154,12 +164,15 @@ fn answer<R: Read, W: Write, L: Ledger, M: Ledger>(
     reader: &mut Counted<R, L>,
     writer: &mut Counted<W, M>,
     line: &Line,
+    farmer: &impl Farmer,
 ) -> Answered {
-    if let Args::Steps(_) = asked {
-        return answer_all_steps(rt, reader, writer);
+    match asked {
+        Args::Steps(_) => return answer_all_steps(rt, reader, writer),
+        Args::Farm(args) => return farmer.farm(args, writer),
+        _ => {}
     }
     let source = reader.take_front(rt.alloc(), MOST_BYTES)?;
-    answer_bytes::<W, Brand, M>(rt, asked, source, writer, line, Blank::new(1))
+    answer_bytes::<W, Brand, M>(rt, asked, source, writer, line, farmer, Blank::new(1))
 }
 
 /// The same with what a file holds.
@@ -169,6 +182,7 @@ fn answer_file<R: Read + Drop, W: Write, L: Ledger, M: Ledger>(
     file: R,
     writer: &mut Counted<W, M>,
     line: &Line,
+    farmer: &impl Farmer,
     reads: Blank,
 ) -> Answered
     requires reads { reads.name ≡ L.name }
@@ -176,7 +190,7 @@ fn answer_file<R: Read + Drop, W: Write, L: Ledger, M: Ledger>(
     requires some_reads { 0 < reads.parts }
 {
     let mut reader = Counted::<R, L>::new(file, reads);
-    answer(rt, asked, &mut reader, writer, line)
+    answer(rt, asked, &mut reader, writer, line, farmer)
 }
 
 /// The status of a command, and what is said of its end.
@@ -187,7 +201,7 @@ fn end(rt: &(impl Print + Eprint), asked: &Args, file: Option<&str>, answered: A
             failed(rt, file, &fault)
         }
         Err(_) => match asked {
-            Args::Steps(_) => no_more_memory(rt),
+            Args::Steps(_) | Args::Farm(_) => no_more_memory(rt),
             _ => no_memory(rt),
         },
     }
@@ -200,17 +214,18 @@ pub fn work<R, I: Read, W: Write, L: Ledger, M: Ledger>(
     stdin: &mut Counted<I, L>,
     writer: &mut Counted<W, M>,
     line: &Line,
+    farmer: &impl Farmer,
 ) -> u8
 where
     R: Files + Print + Eprint + AllocGlobal + RandomSource + Clock + Threads + Sync,
 {
     let Some(name) = asked.file() else {
-        let answered = answer(rt, asked, stdin, writer, line);
+        let answered = answer(rt, asked, stdin, writer, line, farmer);
         return end(rt, asked, None, answered);
     };
     let answered = match open(rt, name) {
         Ok(file) => {
-            answer_file::<R::File, W, Brand, M>(rt, asked, file, writer, line, Blank::new(1))
+            answer_file::<R::File, W, Brand, M>(rt, asked, file, writer, line, farmer, Blank::new(1))
         }
         Err(error) => Err(OrNoMemory::Fault(StreamFault::Read(error))),
     };

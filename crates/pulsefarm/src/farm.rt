@@ -1,0 +1,131 @@
+//! `farm`: a client for each file, and workers, on one running farm.
+
+ghost use Rattle.std.specs.Prelude.{◌≡◌, ◌<◌, ◌≤◌, Some, vec_len};
+
+use crate::args::open;
+use crate::messages::{REFUSED, failed, say};
+use crate::watch::FarmWatch;
+use crate::work::{Answered, random_keys};
+use pf_cli::FarmArgs;
+use pf_clients::run_farm;
+use pf_farm::{Blanks, MOST_SEATS};
+use pf_farm_names::FarmNames;
+use pf_register::NewRegister;
+use pf_fault::OrNoMemory;
+use pf_terms::{Counted, StreamFault};
+use std::alloc::AllocGlobal;
+use std::fs::Files;
+use std::io::{self, Stderr, Write};
+use std::marker::Brand;
+use std::random::RandomSource;
+use std::sync::Wait;
+use std::sync::ledger::{Blank, Ledger};
+use std::thread::Threads;
+use std::time::Clock;
+
+/// The parts of the ledgers of claims: one for each of at most 64 workers, and one for the farm.
+const WORKER_PARTS: usize = 65;
+
+/// Who runs a farm. It stands apart, since a farm waits and no other command does.
+pub trait Farmer {
+    /// Does what `farm` asks for.
+    fn farm<W: Write, M: Ledger>(&self, args: &FarmArgs, writer: &mut Counted<W, M>) -> Answered;
+}
+
+/// Runs farms by a runtime that may wait.
+pub struct Farming<'a, R> {
+    pub rt: &'a R,
+    pub stderr: Stderr,
+}
+
+impl<R> Farmer for Farming<'_, R>
+where
+    R: Files + Print + Eprint + AllocGlobal + RandomSource + Clock + Threads + Wait + Sync,
+    R::File: Send + Drop,
+{
+    fn farm<W: Write, M: Ledger>(&self, args: &FarmArgs, writer: &mut Counted<W, M>) -> Answered {
+        let Some(files) = opened(self.rt, &args.files)? else {
+            return Ok(REFUSED);
+        };
+        let alloc = self.rt.alloc();
+        let blanks = Blanks {
+            opened: Blank::new(WORKER_PARTS),
+            ended: Blank::new(WORKER_PARTS),
+            calls: Blank::new(MOST_SEATS + 1),
+            claims: NewRegister::new(alloc)?,
+            receipts: NewRegister::new(alloc)?,
+        };
+        let watch = FarmWatch::new(self.rt, alloc, self.stderr, files.len(), args.summary)?;
+        let status = run_by::<Brand, R, W, M>(self.rt, args.workers, blanks, files, &watch, writer)?;
+        watch.end();
+        if status == REFUSED {
+            say(
+                self.rt,
+                "a line of a file is no command there: those before it were answered, and nothing behind it was read",
+            );
+        }
+        Ok(status)
+    }
+}
+
+/// Opens the files of all clients; none, if one can't be opened, which is said then. `-` names the standard input.
+fn opened<R>(rt: &R, names: &[&str]) -> Result<Option<Vec<R::File>>, OrNoMemory<StreamFault>>
+where
+    R: Files + Print + Eprint + AllocGlobal,
+{
+    let mut files = Vec::new(rt.alloc());
+    let mut is_read = false;
+    for name in names {
+        let is_input = *name == "-";
+        if is_input && is_read {
+            say(rt, "the standard input can be the file of one client only");
+            return Ok(None);
+        }
+        is_read |= is_input;
+        match open(rt, if is_input { "/dev/stdin" } else { name }) {
+            Ok(file) => files.push(file)?,
+            Err(error) if error.kind() == io::ErrorKind::OutOfMemory => {
+                return Err(OrNoMemory::NoMemory);
+            }
+            Err(error) => {
+                failed(rt, Some(name), &StreamFault::Read(error));
+                return Ok(None);
+            }
+        }
+    }
+    Ok(Some(files))
+}
+
+/// Runs a farm over these files.
+fn run_by<N: FarmNames + Send + Sync, R, W: Write, M: Ledger>(
+    rt: &R,
+    workers: u32,
+    blanks: Blanks,
+    files: Vec<R::File>,
+    watch: &FarmWatch<R>,
+    writer: &mut Counted<W, M>,
+) -> Answered
+where
+    R: Files + AllocGlobal + RandomSource + Clock + Threads + Wait + Sync,
+    R::File: Send + Drop,
+    requires opened { (blanks.opened.name ≡ N.opened) × (blanks.opened.parts ≡ N.workers) }
+    requires ended { (blanks.ended.name ≡ N.ended) × (blanks.ended.parts ≡ N.workers) }
+    requires calls { (blanks.calls.name ≡ N.calls) × (blanks.calls.parts ≡ N.seats) }
+    requires claims { N.claims ≡ Some blanks.claims }
+    requires receipts { N.receipts ≡ Some blanks.receipts }
+    requires workers { (0 < workers) × (workers < N.workers) }
+    requires seats { MOST_SEATS < N.seats }
+    requires files { (0 < vec_len files) × (vec_len files ≤ MOST_SEATS) }
+{
+    let keys = random_keys(rt)?;
+    run_farm::<N, R::File, W, M, R, FarmWatch<R>>(
+        rt.alloc(),
+        rt,
+        keys,
+        blanks,
+        workers as usize,
+        files,
+        watch,
+        writer,
+    )
+}
