@@ -30,6 +30,7 @@ use std::io::{self, Read, Stderr, Write};
 use std::marker::Brand;
 use std::process::ExitCode;
 use std::random::RandomSource;
+use std::sync::Wait;
 use std::sync::ledger::{Blank, Ledger};
 use std::thread::{Builder, Threads};
 use std::time::Clock;
@@ -105,18 +106,23 @@ where
     }
 }
 
+/// The same, where `farm` may wait.
+fn whole<R, I: Read + Drop>(rt: &R, stdin: I, stderr: Stderr) -> u8
+where
+    R: Env + Files + Print + Eprint + AllocGlobal + RandomSource + Clock + Threads + Wait + Sync,
+    R::File: Send + Drop,
+{
+    let farmer = Farming { rt, stderr };
+    all(rt, stdin, stderr, &farmer)
+}
+
 fn main(rt: HostRuntime) -> ExitCode {
-    let whole = |rt: &HostRuntime| -> u8 {
-        let stderr = rt.stderr();
-        let farmer = Farming { rt, stderr };
-        all(rt, rt.stdin(), stderr, &farmer)
-    };
     if first_thread_has_stack(&rt) {
-        return ExitCode::from(whole(&rt));
+        return ExitCode::from(whole(&rt, rt.stdin(), rt.stderr()));
     }
     let worker = Builder::new()
         .stack_size(STACK_BYTES)
-        .spawn(&rt, move || whole(&rt));
+        .spawn(&rt, move || whole(&rt, rt.stdin(), rt.stderr()));
     match worker {
         Ok(worker) => ExitCode::from(worker.join(&rt)),
         Err(error) => {
