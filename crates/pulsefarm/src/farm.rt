@@ -24,7 +24,10 @@ use std::thread::Threads;
 use std::time::Clock;
 
 /// The parts of the ledgers of claims: one for each of at most 64 workers, and one for the farm.
-const WORKER_PARTS: usize = 65;
+const WORKER_PARTS: u64 = 65;
+
+/// The parts of the ledger of calls: one for each seat that a farm may give, and one for the farm.
+const SEAT_PARTS: u64 = MOST_SEATS as u64 + 1;
 
 /// Who runs a farm. It stands apart, since a farm waits and no other command does.
 pub trait Farmer {
@@ -51,7 +54,7 @@ where
         let blanks = Blanks {
             opened: Blank::new(WORKER_PARTS),
             ended: Blank::new(WORKER_PARTS),
-            calls: Blank::new(MOST_SEATS + 1),
+            calls: Blank::new(SEAT_PARTS),
             claims: NewRegister::new(alloc)?,
             receipts: NewRegister::new(alloc)?,
         };

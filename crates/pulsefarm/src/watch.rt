@@ -20,12 +20,14 @@ const PAUSE: u64 = 100;
 const MOST_TOLD: usize = 6;
 
 /// How many trials of a project were ordered, and how many are done.
+#[derive(Drop)]
 struct Trials {
     ordered: AtomicU64,
     done: AtomicU64,
 }
 
 /// Who watches a farm.
+#[derive(Drop)]
 pub struct FarmWatch<'a, C> {
     clock: &'a C,
     stderr: Stderr,

@@ -32,7 +32,7 @@ fn asked_of<'a>(args: &'a Args) -> Option<Asked<'a>> {
     match args {
         Args::Run(args) | Args::Chart(args) | Args::Shrink(args) => Some(asked_of_run(args)),
         Args::Hunt(args) => Some(asked_of_hunt(args)),
-        Args::Check(_) | Args::Steps(_) => None,
+        Args::Check(_) | Args::Steps(_) | Args::Farm(_) => None,
     }
 }
 
