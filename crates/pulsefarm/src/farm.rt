@@ -36,6 +36,7 @@ pub trait Farmer {
 }
 
 /// Runs farms by a runtime that may wait.
+#[derive(Drop)]
 pub struct Farming<'a, R> {
     pub rt: &'a R,
     pub stderr: Stderr,

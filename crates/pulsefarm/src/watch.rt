@@ -42,6 +42,7 @@ pub struct FarmWatch<'a, C> {
 }
 
 /// How far the trials of all projects are.
+#[derive(Drop)]
 struct Shown<'a> {
     trials: &'a [Trials],
 }
