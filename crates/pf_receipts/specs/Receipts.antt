@@ -1,11 +1,25 @@
 -- Receipts of calls.
 use Rattle.std.specs.Prelude.{⊤, ℕ, suc, ◌≡◌, ◌+◌, ◌<◌, ◌≤◌, ◌==◌, if◌then◌else◌, Bool, true, false, List, [], ◌∷◌, ◌++◌, length, Option, Some, None, slice_get, All}
 use Rattle.std.specs.declared.snapshot.Snapshot.{Snapshot}
+use Rattle.std.specs.Coded.{×_prop, Unit-prop, le_prop}
 use Rattle.pf_register.specs.Places.{AreBelow}
 use Rattle.pf_receipts.specs.declared.receipt.Receipt.{Receipt}
 
 abbrev pub remembered : {T : Type 0} → T → Snapshot T
 remembered x = record { marker = record {}; value = x }
+
+-- what a seat shows: its project and receipts, all receipts that it has seen, and whether there is room for one more
+pub record SeatView (C A : Type 0) : Type 0 where
+  pub project : ℕ
+  pub receipts : List (Receipt C A)
+  pub seen : List (Receipt C A)
+  pub has_room : Bool
+
+-- all calls that were logged, the receipts of the seats that were gathered so far, and the parts of the ledger of calls that are there
+pub record GatheringView (C A : Type 0) : Type 0 where
+  pub log : List (Receipt C A)
+  pub receipts : List (Receipt C A)
+  pub parts : ℕ
 
 module _ {C A : Type 0} where
   -- the receipt of a project's call of this number, and of its reply
@@ -49,17 +63,14 @@ module _ {C A : Type 0} where
   AreRising k [] = ⊤
   AreRising k (r ∷ rs) = (k < r.number) × AreRising r.number rs
 
-  -- a seat's project and receipts, all receipts that it has seen, and whether there is room for one more
-  pub record SeatView : Type 0 where
-    pub project : ℕ
-    pub receipts : List (Receipt C A)
-    pub seen : List (Receipt C A)
-    pub has_room : Bool
+  pub AreRising-prop : (k : ℕ) (rs : List (Receipt C A)) → IsProp (AreRising k rs)
+  AreRising-prop k [] = Unit-prop
+  AreRising-prop k (r ∷ rs) = ×_prop le_prop (AreRising-prop r.number rs)
 
-  abbrev pub seat_of : (project : ℕ) → (receipts seen : List (Receipt C A)) → SeatView
+  abbrev pub seat_of : (project : ℕ) → (receipts seen : List (Receipt C A)) → SeatView C A
   seat_of q rs seen = record { project = q; receipts = rs; seen = seen; has_room = false }
 
-  abbrev pub empty_seat : (project : ℕ) → SeatView
+  abbrev pub empty_seat : (project : ℕ) → SeatView C A
   empty_seat q = seat_of q [] []
 
   -- ---- what is kept
@@ -82,11 +93,5 @@ module _ {C A : Type 0} where
     pub rising : AreRising 0 receipts
     pub counted : All (λ r. r.number ≤ length (of_project project seen)) receipts
 
-  -- all calls that were logged, the receipts of the seats that were gathered so far, and the parts of the ledger of calls that are there
-  pub record GatheringView : Type 0 where
-    pub log : List (Receipt C A)
-    pub receipts : List (Receipt C A)
-    pub parts : ℕ
-
-  abbrev pub gathering_of : (log receipts : List (Receipt C A)) → ℕ → GatheringView
+  abbrev pub gathering_of : (log receipts : List (Receipt C A)) → ℕ → GatheringView C A
   gathering_of log rs parts = record { log = log; receipts = rs; parts = parts }

@@ -2,7 +2,7 @@
 
 ghost use Rattle.std.specs.Prelude.{◌≡◌, ◌+◌, [], ◌++◌, length};
 ghost use Rattle.pf_register.specs.Places.{StartsWith};
-ghost use Rattle.pf_receipts.specs.Receipts.{AreNumbered, AreOf, AreRising, EachOnce, gathering_of};
+ghost use Rattle.pf_receipts.specs.Receipts.{AreNumbered, AreOf, AreRising, AreRising-prop, EachOnce, gathering_of};
 
 use crate::receipt::Receipt;
 use crate::seat::Seat;
@@ -17,7 +17,7 @@ pub struct SeatReceipts<C, A> {
     pub project: u32,
     pub receipts: Vec<Receipt<C, A>>,
     ghost of: { AreOf project receipts.items },
-    ghost rising: { AreRising 0 receipts.items },
+    ghost rising: { AreRising 0 receipts.items } by { AreRising-prop 0 receipts.items },
 }
 
 /// The seats that were gathered so far. Contracts see all calls that were logged, the receipts of these seats, and how many parts of the ledger of calls are there.

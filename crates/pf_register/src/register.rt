@@ -124,7 +124,7 @@ impl<T, R: RegisterName> Register<T, R> {
         ensures register { self.new ≡ (self.old.0 ++ entry.now ∷ [], self.old.1) }
         ensures token { token.new ≡ (token.old.0 ++ length self.old.0 ∷ [], self.new.0) }
         ensures below { AreBelow token.new.0 (length self.new.0) }
-        ensures seen { StartsWith self.new.0 token.old.1 }
+        ensures seen { StartsWith self.old.0 token.old.1 }
     {
         enter_as::<T, R, Brand>(self, token, entry);
     }
@@ -133,10 +133,12 @@ impl<T, R: RegisterName> Register<T, R> {
     pub fn show(&mut self, token: &mut Token<T, R>)
         ensures token { token.new ≡ (token.old.0, self.old.0) }
         ensures same { self.new ≡ self.old }
+        ensures seen { StartsWith self.old.0 token.old.1 }
     {
         let blank = self.token();
         let Token { pass, name: _ } = mem::replace(token, blank);
         self.deque.absorb::<Lent>(pass);
+        self.deque.len_as::<SeenSoFar>();
         let pass = self.deque.another::<AllSeen>();
         *token = Token {
             pass,
@@ -167,15 +169,15 @@ fn enter_as<T, R: RegisterName, E: Entered<T>>(
     ensures register { register.new ≡ (register.old.0 ++ entry.now ∷ [], register.old.1) }
     ensures token { token.new ≡ (token.old.0 ++ length register.old.0 ∷ [], register.new.0) }
     ensures below { AreBelow token.new.0 (length register.new.0) }
-    ensures seen { StartsWith register.new.0 token.old.1 }
+    ensures seen { StartsWith register.old.0 token.old.1 }
 {
     let _ = entry;
     let blank = register.token();
-    let _ = register.deque.another::<Entering<E>>();
     let Token { pass, name: _ } = mem::replace(token, blank);
     register.deque.absorb::<Lent>(pass);
-    register.deque.len_as::<OwnBorne>();
     register.deque.len_as::<SeenSoFar>();
+    let _ = register.deque.another::<Entering<E>>();
+    register.deque.len_as::<OwnBorne>();
     let pass = register.deque.another::<AllSeen>();
     *token = Token {
         pass,
