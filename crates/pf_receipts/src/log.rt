@@ -66,13 +66,7 @@ impl<N: FarmNames, C, A> CallLog<N, C, A> {
     }
 
     /// Logs a call of a seat, which has a receipt of it then. It takes no memory, but the room that was made for it.
-    pub fn log_call(
-        &mut self,
-        seat: &mut Seat<N, C, A>,
-        number: u64,
-        call: Snapshot<C>,
-        reply: &A,
-    )
+    pub fn log_call(&mut self, seat: &mut Seat<N, C, A>, number: u64, call: Snapshot<C>, reply: &A)
         requires room { seat.old.has_room ≡ true }
         requires number { number ≡ length (of_project seat.old.project self.old) + 1 }
         ensures log { self.new ≡ self.old ++ receipt_of seat.old.project number call.value reply.now ∷ [] }
