@@ -1,0 +1,59 @@
+//! Marks that one thread sets and another waits for, so long and no longer.
+
+use std::sync::atomic::{AtomicU64, Ordering};
+use std::test::Fail;
+use std::thread;
+
+/// How many turns a wait has at most.
+const MOST_TURNS: u64 = 100_000_000;
+
+/// A mark.
+#[derive(Drop)]
+pub(crate) struct Mark {
+    count: AtomicU64,
+}
+
+impl Mark {
+    pub(crate) fn new() -> Mark {
+        Mark {
+            count: AtomicU64::new(0),
+        }
+    }
+
+    /// Sets it once more; how often it was set before.
+    pub(crate) fn set(&self) -> u64 {
+        self.count.fetch_add(1, Ordering::SeqCst)
+    }
+
+    /// How often it was set.
+    pub(crate) fn count(&self) -> u64 {
+        self.count.load(Ordering::SeqCst)
+    }
+
+    /// Waits until it was set so often; whether it was.
+    pub(crate) fn wait(&self, times: u64) -> bool {
+        for _ in 0..MOST_TURNS {
+            if self.count() >= times {
+                return true;
+            }
+            thread::yield_now();
+        }
+        false
+    }
+
+    /// The same, where it has to be.
+    pub(crate) fn wait_for(&self, what: &'static str) -> Result<(), Fail> {
+        if self.wait(1) {
+            Ok(())
+        } else {
+            Err(Fail::from(what))
+        }
+    }
+}
+
+/// Lets other threads go on for so many turns.
+pub(crate) fn rest(turns: u32) {
+    for _ in 0..turns {
+        thread::yield_now();
+    }
+}
