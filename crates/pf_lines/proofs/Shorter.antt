@@ -1,9 +1,10 @@
 -- What follows a command is shorter than what began with it.
-use Rattle.std.proofs.Common.{◌≡◌, ◌≤◌, ◌==◌, ℕ, Bool, true, false, List, [], ◌∷◌, length, drop, Option, Some, None, sym, ap, arith, length-drop}
+use Rattle.std.proofs.Common.{◌≡◌, ◌≤◌, ◌==◌, ℕ, Bool, true, false, List, [], ◌∷◌, length, drop, Option, Some, None, refl, sym, ap, arith, length-drop}
 use Rattle.std.specs.Prelude.{◌&&◌, nat_le, take, if◌then◌else◌}
 use Rattle.pf_request.specs.Calls.{submit}
-use Rattle.pf_worlds.specs.Steps.{WorkshopStep, client_calls}
+use Rattle.pf_worlds.specs.Steps.{WorkshopStep, client_calls, worker_does}
 use Rattle.pf_lines.specs.Commands.{Line, with_byte, first_line, Asked, made, submission, asked_by, words_of, after_source, complete_command, command_at}
+use Rattle.pf_lines.specs.Clients.{ClientLine, calls, awaits, awaited, own_call, own_command, own_line, client_line_at}
 use Rattle.pf_desks.proofs.Isolated.{pick}
 
 line_left : (bs : List ℕ) → length (first_line bs).rest ≤ length bs
@@ -47,3 +48,38 @@ pub command_shorter : (b : ℕ) (bs : List ℕ) (s : WorkshopStep) (rest : List 
 command_shorter b bs s rest e =
     let line = first_line (b ∷ bs) in
     omega (arith, asked_left (asked_by (words_of line.text)) line.is_ended line.rest s rest e, line_shorter b bs)
+
+-- ---- lines of clients
+
+abbrev left_of : List ℕ → Option (ClientLine × List ℕ) → List ℕ
+left_of none None = none
+left_of none (Some p) = p.1
+
+same_left : (l m : ClientLine) (xs ys : List ℕ) → ◌≡◌ {A = Option (ClientLine × List ℕ)} (Some (l, xs)) (Some (m, ys)) → ys ≡ xs
+same_left l m xs ys e = sym (ap (left_of xs) e)
+
+own_left : (c : Bool) (l m : ClientLine) (bs rest : List ℕ) → if◌then◌else◌ {A = Option (ClientLine × List ℕ)} c (Some (l, bs)) None ≡ Some (m, rest) → rest ≡ bs
+own_left true l m bs rest e = same_left l m bs rest e
+own_left false l m bs rest e = absurd cc
+
+call_left : (project : ℕ) (s : WorkshopStep) (bs rest : List ℕ) (m : ClientLine) → own_call project s bs ≡ Some (m, rest) → rest ≡ bs
+call_left project (client_calls p c) bs rest m e = own_left (p == project) (calls c) m bs rest e
+call_left project (worker_does w p t k) bs rest m e = absurd cc
+
+command_left : (project b : ℕ) (bs rest : List ℕ) (m : ClientLine) (o : Option (WorkshopStep × List ℕ)) → command_at (b ∷ bs) ≡ o → own_command project o ≡ Some (m, rest)
+    → length rest ≤ length bs
+command_left project b bs rest m None h e = absurd cc
+command_left project b bs rest m (Some s) h e =
+    let same = call_left project s.0 s.1 rest m e in
+    omega (arith, ap length same, command_shorter b bs s.0 s.1 h)
+
+line_of_own : (project b : ℕ) (bs rest : List ℕ) (m : ClientLine) (a : Option (ℕ × ℕ)) → own_line project a (b ∷ bs) (first_line (b ∷ bs)).rest ≡ Some (m, rest)
+    → length rest ≤ length bs
+line_of_own project b bs rest m None e = command_left project b bs rest m (command_at (b ∷ bs)) refl e
+line_of_own project b bs rest m (Some a) e =
+    let same = own_left (a.0 == project) (awaits a.1) m (first_line (b ∷ bs)).rest rest e in
+    omega (arith, ap length same, line_shorter b bs)
+
+-- what follows a client's line is shorter too
+pub client_line_shorter : (project b : ℕ) (bs : List ℕ) (m : ClientLine) (rest : List ℕ) → client_line_at project (b ∷ bs) ≡ Some (m, rest) → length rest ≤ length bs
+client_line_shorter project b bs m rest e = line_of_own project b bs rest m (awaited (words_of (first_line (b ∷ bs)).text)) e

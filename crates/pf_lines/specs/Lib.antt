@@ -3,3 +3,4 @@ pub mod Splits
 pub mod Faults
 pub mod View
 pub mod Complete
+pub mod Clients

@@ -1,6 +1,10 @@
 -- What the code's own lines, and what they ask for, stand for.
+use Rattle.pf_request.specs.View.{view_of_call}
 use Rattle.pf_worlds.specs.View.{view_of_step}
+use Rattle.pf_lines.specs.Clients as clients
 use Rattle.pf_lines.specs.Commands as commands
+use Rattle.pf_lines.specs.declared.client.ClientLine.{ClientLine}
+use Rattle.pf_lines.specs.declared.client.ClientLine.TheVariants.{Call, Await}
 use Rattle.pf_lines.specs.declared.line.Asked.{Asked}
 use Rattle.pf_lines.specs.declared.line.Asked.TheVariants.{Made, Submission}
 use Rattle.pf_lines.specs.declared.split.Line.{Line}
@@ -11,3 +15,7 @@ view_of_line l = record { text = l.text.now; is_ended = l.is_ended; rest = l.res
 abbrev pub view_of_asked : Asked → commands.Asked
 view_of_asked (Made s) = commands.made (view_of_step s)
 view_of_asked (Submission project size) = commands.submission project size
+
+abbrev pub view_of_client_line : ClientLine → clients.ClientLine
+view_of_client_line (Call c) = clients.calls (view_of_call c)
+view_of_client_line (Await ticket) = clients.awaits ticket
