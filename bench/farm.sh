@@ -48,7 +48,7 @@ least() {
 
 together() {
   # shellcheck disable=SC2046
-  "$program" farm --workers "$1" $(seq -f 'c%g' "$1") > out
+  "$program" farm --workers "$1" $(seq -f 'c%g' "$1") > /dev/null
 }
 
 apart() {
@@ -69,9 +69,9 @@ for workers in 1 2 4; do
     exit (processors >= workers && programs < 0.9 * farm) }' || bad=1
 done
 
-one_client() { "$program" farm --workers 1 u1 > out; }
-four_clients() { "$program" farm --workers 1 u1 u2 u3 u4 > out; }
-none() { "$program" farm --workers 1 empty > out; }
+one_client() { "$program" farm --workers 1 u1 > /dev/null; }
+four_clients() { "$program" farm --workers 1 u1 u2 u3 u4 > /dev/null; }
+none() { "$program" farm --workers 1 empty > /dev/null; }
 : > empty
 for p in 1 2 3 4; do yes "usage $p" | head -n 9999 > "u$p" || true; done
 start_up=$(least none)

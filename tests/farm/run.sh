@@ -10,10 +10,12 @@ program=$(realpath "$program")
 room=${room:?}
 cd "$room" || exit 2
 
-# The module whose `main` has this body, and more functions from $2 on, in the file $1.
+# Puts a module into the file $1, which exports $2 and has the functions from $3 on.
 module() {
-  { printf -- '-module(m).\n-export([main/0]).\n'; shift; printf '%s\n' "$@"; } > m.erl.new
-  mv m.erl.new "$file"
+  file=$1
+  printf -- '-module(m).\n-export([%s]).\n' "$2" > "$file"
+  shift 2
+  printf '%s\n' "$@" >> "$file"
 }
 
 # Begins the file of project $1, which submits the source in the file $2.
@@ -38,17 +40,12 @@ farm() {
   note "farm of $workers over $* (status $status)" $?
 }
 
-file=one.erl
-module one 'main() -> 1 + 2 * 3.'
-file=loop.erl
-module loop 'main() -> main().'
-file=senders.erl
-module senders 'main() -> S = self(), spawn(m, s, [S, a]), spawn(m, s, [S, b]), {take(), take(), take(), take()}.' \
+module one.erl main/0 'main() -> 1 + 2 * 3.'
+module loop.erl main/0 'main() -> main().'
+module senders.erl main/0,s/2 \
+  'main() -> S = self(), spawn(m, s, [S, a]), spawn(m, s, [S, b]), {take(), take(), take(), take()}.' \
   's(P, T) -> P ! {T, 1}, P ! {T, 2}.' 'take() -> receive M -> M end.'
-sed -i 's/export(\[main\/0\])/export([main\/0, s\/2])/' senders.erl
-file=spawning.erl
-module spawning 'main() -> loop().' 'loop() -> spawn(m, kid, []), loop().' 'kid() -> receive go -> ok end.'
-sed -i 's/export(\[main\/0\])/export([main\/0, kid\/0])/' spawning.erl
+module spawning.erl main/0,kid/0 'main() -> loop().' 'loop() -> spawn(m, kid, []), loop().' 'kid() -> receive go -> ok end.'
 
 two_files() {
   for p in 1 2; do
@@ -95,8 +92,7 @@ nothing_to_wait_for() {
     printf 'await 1 1\norder 1 1 nosuch returns none 100\nawait 1 1\norder 1 1 main returns none 100000\ndrop 1 1\nawait 1 1\nfetch 1 1\n'
     printf 'order 1 1 main true seed:5 100\nawait 1 2\nstatus 1 2\nfetch 1 2\nwithdraw 1 1\ndrop 1 2\nwithdraw 1 1\nusage 1\nlog 1'
   } >> c1
-  printf 'p1 module 1\np1 refused B2\np1 ticket 1\np1 done\np1 refused B3\np1 ticket 2\np1 done\np1 report 4\n0/1 <0> cut\nlimit\nsteps 100\nproperty holds\np1 refused B4\np1 done\np1 done\np1 usage 0 0 0 0 11\np1 log 12\n' > wanted
-  sed -i 's/^p1 refused B4$/p1 refused B7/' wanted
+  printf 'p1 module 1\np1 refused B2\np1 ticket 1\np1 done\np1 refused B3\np1 ticket 2\np1 done\np1 report 4\n0/1 <0> cut\nlimit\nsteps 100\nproperty fails\np1 refused B4\np1 done\np1 done\np1 usage 0 0 0 0 11\np1 log 12\n' > wanted
   farm 0 2 c1
 }
 

@@ -5,6 +5,7 @@ ghost use Rattle.pf_hall.specs.Clients.{GetsReceipt};
 ghost use Rattle.pf_farm.specs.Seats.{SameEnds};
 
 use crate::seat::WorkSeat;
+use crate::waiting::{SLOTS, Waiting, slot_of};
 use pf_book::{Reply, Stage};
 use pf_farm_names::FarmNames;
 use pf_hall::{ClaimedTrial, ClientSeat, Hall};
@@ -13,14 +14,18 @@ use pf_request::Call;
 use pf_sched::{Finished, Job};
 use pf_terms::NoMemory;
 use std::alloc::Global;
+use std::array::from_fn;
+use std::sync::atomic::{AtomicBool, Ordering};
 use std::sync::{Condvar, Mutex, Wait};
 
-/// What lies under the lock: the hall, how often something came for which a worker may wait, and whether the farm stops.
+/// What lies under the lock: the hall, how often something came for which a worker may wait, how many workers wait, which clients do, and whether the farm stops.
 #[derive(Drop)]
 pub(crate) struct Shared<N: FarmNames> {
     pub hall: Hall<N>,
-    pub moves: u64,
-    pub stopped: bool,
+    moves: u64,
+    idle: u32,
+    clients: Waiting,
+    stopped: bool,
 }
 
 impl<N: FarmNames> Shared<N> {
@@ -48,7 +53,9 @@ impl<N: FarmNames> Shared<N> {
 pub struct Floor<N: FarmNames> {
     pub(crate) shared: Mutex<Shared<N>>,
     work: Condvar,
-    done: Condvar,
+    done: [Condvar; SLOTS],
+    /// The same as `stopped`, for workers between two slices.
+    stopping: AtomicBool,
 }
 
 impl<N: FarmNames> Floor<N> {
@@ -57,12 +64,15 @@ impl<N: FarmNames> Floor<N> {
         let shared = Shared {
             hall,
             moves: 0,
+            idle: 0,
+            clients: Waiting::new(),
             stopped: false,
         };
         Floor {
             shared: Mutex::new(shared),
             work: Condvar::new(),
-            done: Condvar::new(),
+            done: from_fn(|_| Condvar::new()),
+            stopping: AtomicBool::new(false),
         }
     }
 
@@ -72,10 +82,13 @@ impl<N: FarmNames> Floor<N> {
             shared,
             work: _,
             done: _,
+            stopping: _,
         } = self;
         let Shared {
             hall,
             moves: _,
+            idle: _,
+            clients: _,
             stopped: _,
         } = shared.into_inner();
         hall
@@ -95,14 +108,16 @@ impl<N: FarmNames> Floor<N> {
         ensures err { OnErr result (seat.new ≡ seat.old) }
     {
         let mut shared = self.shared.lock(rt);
+        let dropped = match &call {
+            Call::DropTrial(ticket) => Some(*ticket),
+            _ => None,
+        };
         let reply = shared.hall.call(alloc, seat, call)?;
-        match &reply {
-            Reply::Ticket(_) => {
-                shared.moved();
-                self.work.notify_one();
-            }
-            Reply::GivenUp => self.done.notify_all(),
-            _ => {}
+        if let Reply::Ticket(_) = &reply {
+            self.wake_one(&mut shared);
+        }
+        if let Some(ticket) = dropped {
+            self.tell_done(&shared, seat.project(), ticket);
         }
         Ok(reply)
     }
@@ -110,17 +125,41 @@ impl<N: FarmNames> Floor<N> {
     /// Waits until the trial of a ticket of the seat's project is done, or isn't held; or until the farm stops.
     pub fn wait_done<R: Wait>(&self, rt: &R, seat: &ClientSeat<N>, ticket: u64) {
         let project = seat.project();
-        let _shared = self
-            .done
-            .wait_while(rt, self.shared.lock(rt), |shared| shared.is_undone(project, ticket));
+        let slot = slot_of(project);
+        let mut shared = self.shared.lock(rt);
+        shared.clients.enter(slot, ticket);
+        let mut shared =
+            self.done[slot].wait_while(rt, shared, |shared| shared.is_undone(project, ticket));
+        shared.clients.leave(slot);
     }
 
     /// Has all workers return, once their runs are filed or handed back.
     pub fn stop<R: Wait>(&self, rt: &R) {
         let mut shared = self.shared.lock(rt);
         shared.stopped = true;
+        self.stopping.store(true, Ordering::SeqCst);
         self.work.notify_all();
-        self.done.notify_all();
+        for done in &self.done {
+            done.notify_all();
+        }
+    }
+
+    /// Wakes a worker that waits, for a trial that is queued now.
+    fn wake_one(&self, shared: &mut Shared<N>)
+        ensures { shared.new.hall ≡ shared.old.hall }
+    {
+        shared.moved();
+        if shared.idle > 0 {
+            self.work.notify_one();
+        }
+    }
+
+    /// Wakes the clients that may wait for a trial which is done now, or dropped.
+    fn tell_done(&self, shared: &Shared<N>, project: u32, ticket: u64) {
+        let slot = slot_of(project);
+        if shared.clients.is_awaited(slot, ticket) {
+            self.done[slot].notify_all();
+        }
     }
 
     /// Claims some queued trial for a seat.
@@ -138,6 +177,25 @@ impl<N: FarmNames> Floor<N> {
         seat.claim(&mut shared.hall)
     }
 
+    /// The same behind a park, of which it tells those who wait.
+    pub(crate) fn claim_after_park<R: Wait>(
+        &self,
+        rt: &R,
+        seat: &mut WorkSeat<N>,
+    ) -> Result<Option<ClaimedTrial<N>>, NoMemory>
+        requires { seat.old.busy ≡ false }
+        ensures ends { SameEnds seat.old seat.new }
+        ensures busy { IfOk result (λ o. seat.new.busy ≡ is_some o) }
+        ensures err { OnErr result (seat.new.busy ≡ false) }
+    {
+        let mut shared = self.shared.lock(rt);
+        shared.moved();
+        if shared.idle > 0 {
+            self.work.notify_all();
+        }
+        seat.claim(&mut shared.hall)
+    }
+
     /// Files what came of a seat's trial.
     pub(crate) fn file<R: Wait>(
         &self,
@@ -151,9 +209,11 @@ impl<N: FarmNames> Floor<N> {
         ensures ends { SameEnds seat.old seat.new }
         ensures idle { seat.new.busy ≡ false }
     {
+        let project = claim.claim().project;
+        let ticket = claim.claim().ticket;
         let mut shared = self.shared.lock(rt);
         seat.file(&mut shared.hall, claim, finished);
-        self.done.notify_all();
+        self.tell_done(&shared, project, ticket);
     }
 
     /// Hands a seat's trial back.
@@ -169,27 +229,26 @@ impl<N: FarmNames> Floor<N> {
     {
         let mut shared = self.shared.lock(rt);
         seat.hand_back(&mut shared.hall, claim);
-        shared.moved();
-        self.work.notify_one();
+        self.wake_one(&mut shared);
     }
 
-    /// Tells those who wait that a run was parked.
-    pub(crate) fn tell<R: Wait>(&self, rt: &R) {
-        let mut shared = self.shared.lock(rt);
-        shared.moved();
-        self.work.notify_all();
+    /// Whether the farm stops.
+    pub(crate) fn is_stopping(&self) -> bool {
+        self.stopping.load(Ordering::SeqCst)
     }
 
-    /// How often something moved, and whether the farm stops.
-    pub(crate) fn now<R: Wait>(&self, rt: &R) -> (u64, bool) {
-        let shared = self.shared.lock(rt);
-        (shared.moves, shared.stopped)
+    /// How often something came for which a worker may wait.
+    pub(crate) fn moves<R: Wait>(&self, rt: &R) -> u64 {
+        self.shared.lock(rt).moves
     }
 
-    /// Waits until something moves, or the farm stops.
+    /// Waits until something more comes, or the farm stops.
     pub(crate) fn wait_past<R: Wait>(&self, rt: &R, seen: u64) {
-        let _shared = self.work.wait_while(rt, self.shared.lock(rt), |shared| {
+        let mut shared = self.shared.lock(rt);
+        shared.idle = shared.idle.wrapping_add(1);
+        let mut shared = self.work.wait_while(rt, shared, |shared| {
             shared.moves == seen && !shared.stopped
         });
+        shared.idle = shared.idle.wrapping_sub(1);
     }
 }

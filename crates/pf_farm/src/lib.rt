@@ -7,6 +7,7 @@ mod gate;
 mod held;
 mod seat;
 mod tally;
+mod waiting;
 mod workers;
 
 pub use farm::{Blanks, Farm, MOST_SEATS, NoSeat};

@@ -1,6 +1,6 @@
 //! The work of one worker.
 
-ghost use Rattle.std.specs.Prelude.{◌≡◌, ◌<◌, true, false, length, is_some, IfOk, OnErr};
+ghost use Rattle.std.specs.Prelude.{◌≡◌, ◌<◌, true, false, length, is_some, IfOk, OnErr, OnOk};
 ghost use Rattle.pf_farm.specs.Seats.{AllIdle, IsRing, SameEnds};
 
 use crate::floor::Floor;
@@ -33,8 +33,8 @@ pub fn work<N: FarmNames, G: Gate, R: Wait>(
 {
     let mut scratch = Scratch::new(alloc);
     'works: for _ in rt.forever() {
-        let (seen, stopped) = floor.now(rt);
-        if stopped {
+        let seen = floor.moves(rt);
+        if floor.is_stopping() {
             break;
         }
         match next_run(alloc, rt, floor, seat) {
@@ -112,13 +112,15 @@ fn other_run<N: FarmNames, R: Wait>(
     ensures ends { SameEnds seat.old seat.new }
     ensures busy { seat.new.busy ≡ is_some result }
 {
-    if let Ok(Some(run)) = claimed_run(alloc, rt, floor, seat) {
-        return Some(run);
+    if let Ok(Some(claimed)) = floor.claim_after_park(rt, seat) {
+        if let Ok(run) = begun(alloc, rt, floor, seat, claimed) {
+            return Some(run);
+        }
     }
     seat.pop()
 }
 
-/// The run of a new claim, before its first event. A claim whose run can't begin for want of memory is handed back.
+/// The run of a new claim, before its first event.
 fn claimed_run<N: FarmNames, R: Wait>(
     alloc: Global,
     rt: &R,
@@ -130,11 +132,28 @@ fn claimed_run<N: FarmNames, R: Wait>(
     ensures busy { IfOk result (λ o. seat.new.busy ≡ is_some o) }
     ensures err { OnErr result (seat.new.busy ≡ false) }
 {
-    let Some(ClaimedTrial { claim, job }) = floor.claim(rt, seat)? else {
-        return Ok(None);
-    };
+    match floor.claim(rt, seat)? {
+        Some(claimed) => Ok(Some(begun(alloc, rt, floor, seat, claimed)?)),
+        None => Ok(None),
+    }
+}
+
+/// The run of a claim, before its first event. A claim whose run can't begin for want of memory is handed back.
+fn begun<N: FarmNames, R: Wait>(
+    alloc: Global,
+    rt: &R,
+    floor: &Floor<N>,
+    seat: &mut WorkSeat<N>,
+    claimed: ClaimedTrial<N>,
+) -> Result<HeldRun<N>, NoMemory>
+    requires { seat.old.busy ≡ true }
+    ensures ends { SameEnds seat.old seat.new }
+    ensures ok { OnOk result (seat.new.busy ≡ true) }
+    ensures err { OnErr result (seat.new.busy ≡ false) }
+{
+    let ClaimedTrial { claim, job } = claimed;
     match start(alloc, job) {
-        Ok(parked) => Ok(Some(HeldRun::new(claim, parked))),
+        Ok(parked) => Ok(HeldRun::new(claim, parked)),
         Err(NoMemory) => {
             floor.hand_back(rt, seat, claim);
             Err(NoMemory)
@@ -158,7 +177,7 @@ fn run_on<N: FarmNames, G: Gate, R: Wait>(
 {
     let mut run = run;
     'goes: for _ in rt.forever() {
-        if floor.now(rt).1 {
+        if floor.is_stopping() {
             break;
         }
         match sliced(alloc, rt, floor, seat, gate, scratch, run) {
@@ -193,10 +212,7 @@ fn sliced<N: FarmNames, G: Gate, R: Wait>(
             None
         }
         Slice::More(parked) => match seat.park(HeldRun::new(claim, parked)) {
-            Ok(()) => {
-                floor.tell(rt);
-                other_run(alloc, rt, floor, seat)
-            }
+            Ok(()) => other_run(alloc, rt, floor, seat),
             Err(run) => Some(run),
         },
     }
