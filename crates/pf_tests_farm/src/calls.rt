@@ -1,5 +1,6 @@
 //! Calls of clients, and the modules that they submit.
 
+use crate::missed::Missed;
 use crate::waiting::rest;
 use pf_book::{Reply, Stage};
 use pf_farm::{ClientSeat, Floor};
@@ -7,7 +8,6 @@ use pf_farm_names::FarmNames;
 use pf_request::{Call, Kind, Order, Request, RunChoices, ShortBytes, Source};
 use std::alloc::Global;
 use std::sync::Wait;
-use std::test::Fail;
 
 /// One event.
 pub(crate) const SUM: &str = "-module(m).\n-export([main/0]).\nmain() -> 1 + 2 * 3.\n";
@@ -35,12 +35,12 @@ pub(crate) fn submit<N: FarmNames, R: Wait>(
     floor: &Floor<N>,
     seat: &mut ClientSeat<N>,
     source: &str,
-) -> Result<(), Fail> {
+) -> Result<(), Missed> {
     let bytes = Vec::from_slice(alloc, source.as_bytes())?;
     let source = Source::new(alloc, bytes)?;
     match floor.call(alloc, rt, seat, Call::Submit(source))? {
         Reply::Module(_) => Ok(()),
-        _ => Err(Fail::from("a module is refused")),
+        _ => Err(Missed::that("a module is refused")),
     }
 }
 
@@ -53,7 +53,7 @@ pub(crate) fn order<N: FarmNames, R: Wait>(
     module: u64,
     seed: u64,
     limit: u32,
-) -> Result<u64, Fail> {
+) -> Result<u64, Missed> {
     let request = Request {
         root: ShortBytes::from_slice(alloc, b"main")?,
         property: ShortBytes::from_slice(alloc, b"true")?,
@@ -62,7 +62,7 @@ pub(crate) fn order<N: FarmNames, R: Wait>(
     };
     match floor.call(alloc, rt, seat, Call::Order(Order { module, request }))? {
         Reply::Ticket(ticket) => Ok(ticket),
-        _ => Err(Fail::from("an order is refused")),
+        _ => Err(Missed::that("an order is refused")),
     }
 }
 
@@ -73,10 +73,10 @@ pub(crate) fn status<N: FarmNames, R: Wait>(
     floor: &Floor<N>,
     seat: &mut ClientSeat<N>,
     ticket: u64,
-) -> Result<Stage, Fail> {
+) -> Result<Stage, Missed> {
     match floor.call(alloc, rt, seat, Call::Status(ticket))? {
         Reply::Stage(stage) => Ok(stage),
-        _ => Err(Fail::from("a status is refused")),
+        _ => Err(Missed::that("a status is refused")),
     }
 }
 
@@ -87,13 +87,13 @@ pub(crate) fn fetch<N: FarmNames, R: Wait>(
     floor: &Floor<N>,
     seat: &mut ClientSeat<N>,
     ticket: u64,
-) -> Result<u64, Fail> {
+) -> Result<u64, Missed> {
     match floor.call(alloc, rt, seat, Call::Fetch(ticket))? {
         Reply::Result(finished) => match finished.result() {
             Some(pf_sched::JobResult::Report(report)) => Ok(u64::from(report.steps)),
-            _ => Err(Fail::from("a report is of another kind")),
+            _ => Err(Missed::that("a report is of another kind")),
         },
-        _ => Err(Fail::from("a report isn't there")),
+        _ => Err(Missed::that("a report isn't there")),
     }
 }
 
@@ -104,10 +104,10 @@ pub(crate) fn give_up<N: FarmNames, R: Wait>(
     floor: &Floor<N>,
     seat: &mut ClientSeat<N>,
     ticket: u64,
-) -> Result<(), Fail> {
+) -> Result<(), Missed> {
     match floor.call(alloc, rt, seat, Call::DropTrial(ticket))? {
         Reply::GivenUp => Ok(()),
-        _ => Err(Fail::from("a drop is refused")),
+        _ => Err(Missed::that("a drop is refused")),
     }
 }
 
@@ -118,12 +118,12 @@ pub(crate) fn await_done<N: FarmNames, R: Wait>(
     floor: &Floor<N>,
     seat: &mut ClientSeat<N>,
     ticket: u64,
-) -> Result<(), Fail> {
+) -> Result<(), Missed> {
     for _ in 0..3_000u32 {
         if status(alloc, rt, floor, seat, ticket)? == Stage::Done {
             return Ok(());
         }
         rest(20_000);
     }
-    Err(Fail::from("a trial isn't done"))
+    Err(Missed::that("a trial isn't done"))
 }

@@ -4,6 +4,7 @@ ghost use Rattle.std.specs.Prelude.{◌≡◌, length};
 ghost use Rattle.pf_sched.specs.Slices.{Sliced};
 
 use crate::calls::{ENDLESS, SENDERS, fetch, give_up, order, submit};
+use crate::missed::Missed;
 use crate::scene::{Scene, play};
 use crate::waiting::Mark;
 use pf_farm::{ClientSeat, Closing, Floor, Gate};
@@ -37,7 +38,7 @@ fn has_all_receipts(alloc: Global, closing: &Closing, project: u32) -> Result<bo
             }
         }
     }
-    numbers.sort();
+    numbers.sort_unstable();
     let counted = numbers.iter().zip(1u64..).all(|(number, place)| *number == place);
     Ok(counted && numbers.len() as u64 == closing.call_count(project))
 }
@@ -79,7 +80,7 @@ impl Plays {
         rt: &R,
         floor: &Floor<N>,
         seat: &mut ClientSeat<N>,
-    ) -> Result<(), Fail> {
+    ) -> Result<(), Missed> {
         submit(alloc, rt, floor, seat, SENDERS)?;
         for seed in 0..50u64 {
             order(alloc, rt, floor, seat, 1, seed, 2_000)?;
@@ -97,7 +98,7 @@ impl Plays {
         rt: &R,
         floor: &Floor<N>,
         seat: &mut ClientSeat<N>,
-    ) -> Result<(), Fail> {
+    ) -> Result<(), Missed> {
         match self.play {
             Play::Trials => self.trials(alloc, rt, floor, seat),
             Play::Drop => {
@@ -117,7 +118,7 @@ impl Plays {
                 if self.slices.wait(30) {
                     Ok(())
                 } else {
-                    Err(Fail::from("the trials don't begin"))
+                    Err(Missed::that("the trials don't begin"))
                 }
             }
             Play::Full => {
@@ -156,7 +157,7 @@ impl Scene for Plays {
         rt: &R,
         floor: &Floor<N>,
         seats: &mut [ClientSeat<N>],
-    ) -> Result<(), Fail> {
+    ) -> Result<(), Missed> {
         for_each_mut(rt, seats, 4, &|_, seat| {
             if self.client(alloc, rt, floor, seat).is_err() {
                 self.failed.set();
@@ -165,7 +166,7 @@ impl Scene for Plays {
         if self.failed.count() == 0 {
             Ok(())
         } else {
-            Err(Fail::from("a client failed"))
+            Err(Missed::that("a client failed"))
         }
     }
 }
@@ -213,8 +214,10 @@ fn runs_that_are_parked_at_the_stop_are_handed_back(rt: HostRuntime) -> Result<(
     let keys = RandomState::new(&rt)?;
     let scene = Plays::new(Play::Stop);
     let closing = play(rt.alloc(), &rt, keys, 2, &[1], &scene)?;
-    assert_eq!(rt; closing.rows.len(), 20);
-    assert!(rt; ended_as(&closing, End::HandedBack) > 0, "some are handed back");
-    assert_eq!(rt; ended_as(&closing, End::HandedBack) + ended_as(&closing, End::Filed), 20);
+    let filed = ended_as(&closing, End::Filed);
+    let handed_back = ended_as(&closing, End::HandedBack);
+    // One that was handed back may be claimed again by a worker that hasn't seen the end yet.
+    assert!(rt; handed_back >= 20usize.saturating_sub(filed), "what isn't over is handed back");
+    assert!(rt; handed_back > 0 && closing.rows.len() == filed.saturating_add(handed_back), "each claim has ended");
     Ok(())
 }

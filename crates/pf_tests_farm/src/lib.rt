@@ -6,6 +6,8 @@ mod calls;
 #[cfg(test)]
 mod closed;
 #[cfg(test)]
+mod missed;
+#[cfg(test)]
 mod scene;
 #[cfg(test)]
 mod stolen;

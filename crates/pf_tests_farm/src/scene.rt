@@ -3,6 +3,7 @@
 ghost use Rattle.std.specs.Prelude.{◌≡◌, ◌<◌, ◌≤◌, Some, length, vec_len};
 ghost use Rattle.pf_farm.specs.Farms.{farm_of};
 
+use crate::missed::Missed;
 use pf_farm::{
     Blanks, ClientSeat, Closing, Farm, Floor, Gate, MOST_SEATS, NoSeat, work_all,
 };
@@ -25,7 +26,7 @@ pub(crate) trait Scene: Gate + Sync {
         rt: &R,
         floor: &Floor<N>,
         seats: &mut [ClientSeat<N>],
-    ) -> Result<(), Fail>
+    ) -> Result<(), Missed>
         ensures { length seats.new ≡ length seats.old };
 }
 
@@ -34,7 +35,7 @@ fn seated<N: FarmNames>(
     alloc: Global,
     farm: &mut Farm<N>,
     projects: &[u32],
-) -> Result<Vec<ClientSeat<N>>, Fail>
+) -> Result<Vec<ClientSeat<N>>, Missed>
     requires none { farm.old.given ≡ 0 }
     requires few { length projects.now ≤ MOST_SEATS }
     ensures seats { IfOk result (λ v. farm.new ≡ farm_of farm.old.workers (vec_len v)) }
@@ -43,8 +44,8 @@ fn seated<N: FarmNames>(
     'projects: for project in projects {
         match farm.seat(alloc, *project) {
             Ok(seat) => seats.push(seat)?,
-            Err(OrNoMemory::Fault(NoSeat)) => return Err(Fail::from("no seat is left")),
-            Err(OrNoMemory::NoMemory) => return Err(Fail::from("memory ran out")),
+            Err(OrNoMemory::Fault(NoSeat)) => return Err(Missed::that("no seat is left")),
+            Err(OrNoMemory::NoMemory) => return Err(Missed::that("memory ran out")),
         }
     }
     Ok(seats)
@@ -59,7 +60,7 @@ fn play_by<N: FarmNames + Send + Sync, R: Threads + Wait + Sync, S: Scene>(
     workers: usize,
     projects: &[u32],
     scene: &S,
-) -> Result<Closing, Fail>
+) -> Result<Closing, Missed>
     requires opened { (blanks.opened.name ≡ N.opened) × (blanks.opened.parts ≡ N.workers) }
     requires ended { (blanks.ended.name ≡ N.ended) × (blanks.ended.parts ≡ N.workers) }
     requires calls { (blanks.calls.name ≡ N.calls) × (blanks.calls.parts ≡ N.seats) }
@@ -84,8 +85,10 @@ fn play_by<N: FarmNames + Send + Sync, R: Threads + Wait + Sync, S: Scene>(
         },
     );
     let closing = farm.close(clients, seats);
-    played?;
-    Ok(closing)
+    match played {
+        Ok(()) => Ok(closing),
+        Err(missed) => Err(missed),
+    }
 }
 
 /// Plays a scene.
@@ -107,5 +110,8 @@ pub(crate) fn play<R: Threads + Wait + Sync, S: Scene>(
         claims: NewRegister::new(alloc)?,
         receipts: NewRegister::new(alloc)?,
     };
-    play_by::<Brand, R, S>(alloc, rt, keys, blanks, workers, projects, scene)
+    match play_by::<Brand, R, S>(alloc, rt, keys, blanks, workers, projects, scene) {
+        Ok(closing) => Ok(closing),
+        Err(missed) => Err(Fail::from(missed.what)),
+    }
 }

@@ -4,6 +4,7 @@ ghost use Rattle.std.specs.Prelude.{◌≡◌, length};
 ghost use Rattle.pf_sched.specs.Slices.{Sliced};
 
 use crate::calls::{SPAWNING, SUM, await_done, fetch, order, submit};
+use crate::missed::Missed;
 use crate::scene::{Scene, play};
 use crate::waiting::Mark;
 use pf_farm::{ClientSeat, Floor, Gate};
@@ -66,9 +67,9 @@ impl Scene for OneIsStolen {
         rt: &R,
         floor: &Floor<N>,
         seats: &mut [ClientSeat<N>],
-    ) -> Result<(), Fail> {
+    ) -> Result<(), Missed> {
         let [first, second, third] = seats else {
-            return Err(Fail::from("there are three clients"));
+            return Err(Missed::that("there are three clients"));
         };
         submit(alloc, rt, floor, first, SPAWNING)?;
         submit(alloc, rt, floor, second, SUM)?;

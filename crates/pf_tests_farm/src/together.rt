@@ -4,6 +4,7 @@ ghost use Rattle.std.specs.Prelude.{◌≡◌, length};
 ghost use Rattle.pf_sched.specs.Slices.{Sliced};
 
 use crate::calls::{SUM, fetch, order, status, submit};
+use crate::missed::Missed;
 use crate::scene::{Scene, play};
 use crate::waiting::{Mark, rest};
 use pf_book::Stage;
@@ -60,13 +61,13 @@ impl TwoTrials {
         rt: &R,
         floor: &Floor<N>,
         seat: &mut ClientSeat<N>,
-    ) -> Result<(), Fail> {
+    ) -> Result<(), Missed> {
         let side = self.sides(seat.project()).0;
         submit(alloc, rt, floor, seat, SUM)?;
         let ticket = order(alloc, rt, floor, seat, 1, 1, 100)?;
         side.begun.wait_for("the trial doesn't begin")?;
         if status(alloc, rt, floor, seat, ticket)? != Stage::Running {
-            return Err(Fail::from("the trial isn't running"));
+            return Err(Missed::that("the trial isn't running"));
         }
         side.answered.set();
         for _ in 0..5_000u32 {
@@ -77,7 +78,7 @@ impl TwoTrials {
             }
             rest(20_000);
         }
-        Err(Fail::from("the trial isn't done"))
+        Err(Missed::that("the trial isn't done"))
     }
 }
 
@@ -110,7 +111,7 @@ impl Scene for TwoTrials {
         rt: &R,
         floor: &Floor<N>,
         seats: &mut [ClientSeat<N>],
-    ) -> Result<(), Fail> {
+    ) -> Result<(), Missed> {
         for_each_mut(rt, seats, 2, &|_, seat| {
             if self.client(alloc, rt, floor, seat).is_err() {
                 self.sides(seat.project()).0.failed.set();
@@ -119,7 +120,7 @@ impl Scene for TwoTrials {
         if self.first.fetched.count() == 1 && self.second.fetched.count() == 1 {
             Ok(())
         } else {
-            Err(Fail::from("the two trials didn't run together"))
+            Err(Missed::that("the two trials didn't run together"))
         }
     }
 }

@@ -1,7 +1,7 @@
 //! Marks that one thread sets and another waits for, so long and no longer.
 
+use crate::missed::Missed;
 use std::sync::atomic::{AtomicU64, Ordering};
-use std::test::Fail;
 use std::thread;
 
 /// How many turns a wait has at most.
@@ -42,11 +42,11 @@ impl Mark {
     }
 
     /// The same, where it has to be.
-    pub(crate) fn wait_for(&self, what: &'static str) -> Result<(), Fail> {
+    pub(crate) fn wait_for(&self, what: &'static str) -> Result<(), Missed> {
         if self.wait(1) {
             Ok(())
         } else {
-            Err(Fail::from(what))
+            Err(Missed::that(what))
         }
     }
 }
