@@ -1,5 +1,6 @@
 # Completions of pulsefarm for bash: `. docs/pulsefarm.bash`, or a copy in the folder that bash-completion reads.
 
+_pulsefarm_commands='run hunt shrink chart check steps farm'
 _pulsefarm_properties='returns true nocrash nodeadlock withinlimit never:'
 
 # The options of the command $1.
@@ -10,6 +11,7 @@ _pulsefarm_options() {
     shrink) echo '--root --limit --edition --schedule --property --runs --help' ;;
     check) echo '--explain --help' ;;
     steps) echo '--help' ;;
+    farm) echo '--workers --summary --help' ;;
     *) echo '--help --version' ;;
   esac
 }
@@ -26,7 +28,11 @@ _pulsefarm() {
   local word=$2 before=$3 command=${COMP_WORDS[1]:-}
   COMPREPLY=()
   if [ "$COMP_CWORD" = 1 ]; then
-    mapfile -t COMPREPLY < <(compgen -W "run hunt shrink chart check steps $(_pulsefarm_options '')" -- "$word")
+    mapfile -t COMPREPLY < <(compgen -W "$_pulsefarm_commands help $(_pulsefarm_options '')" -- "$word")
+    return
+  fi
+  if [ "$command" = help ]; then
+    mapfile -t COMPREPLY < <(compgen -W "$_pulsefarm_commands" -- "$word")
     return
   fi
   case $before in
@@ -34,9 +40,9 @@ _pulsefarm() {
     --root) mapfile -t COMPREPLY < <(compgen -W "$(_pulsefarm_roots)" -- "$word") ;;
     --schedule)
       if [ "${word:0:1}" = @ ]; then
-        mapfile -t COMPREPLY < <(compgen -f -P @ -- "${word:1}")
+        mapfile -t COMPREPLY < <(compgen -f -P @ -- "${word:1}"; compgen -W '@-' -- "$word")
       else
-        mapfile -t COMPREPLY < <(compgen -W 'none @' -- "$word")
+        mapfile -t COMPREPLY < <(compgen -W 'none @ @-' -- "$word")
       fi
       ;;
     --strategy) mapfile -t COMPREPLY < <(compgen -W 'pos uniform' -- "$word") ;;

@@ -1,6 +1,6 @@
 # Completions of pulsefarm for fish: a copy in ~/.config/fish/completions, or in the folder that fish reads for packages.
 
-set -l commands run hunt shrink chart check steps
+set -l commands run hunt shrink chart check steps farm
 
 function __pulsefarm_roots --description 'The exported functions without arguments of the files among the words'
     for word in (commandline -opc)
@@ -10,8 +10,9 @@ function __pulsefarm_roots --description 'The exported functions without argumen
     end | sort -u
 end
 
-function __pulsefarm_schedules --description 'No choices, or files that have them'
+function __pulsefarm_schedules --description 'No choices, or files that have them, or the standard input'
     echo none
+    echo @-
     string replace -r '^' @ -- (__fish_complete_path (string replace -r '^@' '' -- (commandline -ct)))
 end
 
@@ -24,6 +25,8 @@ complete -c pulsefarm -n "not __fish_seen_subcommand_from $commands" -a shrink -
 complete -c pulsefarm -n "not __fish_seen_subcommand_from $commands" -a chart -d 'Draw a run'
 complete -c pulsefarm -n "not __fish_seen_subcommand_from $commands" -a check -d 'Read a module'
 complete -c pulsefarm -n "not __fish_seen_subcommand_from $commands" -a steps -d 'Carry out commands'
+complete -c pulsefarm -n "not __fish_seen_subcommand_from $commands" -a farm -d 'Run a farm of workers'
+complete -c pulsefarm -n "not __fish_seen_subcommand_from $commands help" -a help -d 'Print help of a command'
 
 complete -c pulsefarm -n "__fish_seen_subcommand_from $commands" -s h -l help -d 'Print help'
 complete -c pulsefarm -n '__fish_seen_subcommand_from run hunt shrink chart' -l root -x -a '(__pulsefarm_roots)' -d 'Function that runs first'
@@ -36,8 +39,9 @@ complete -c pulsefarm -n '__fish_seen_subcommand_from run hunt chart' -l weights
 complete -c pulsefarm -n '__fish_seen_subcommand_from run hunt chart' -l strategy -x -a 'pos uniform' -d 'How a seed chooses'
 complete -c pulsefarm -n '__fish_seen_subcommand_from run shrink chart' -l schedule -x -a '(__pulsefarm_schedules)' -d 'Choices, or @FILE'
 complete -c pulsefarm -n '__fish_seen_subcommand_from hunt' -l seeds -x -d 'Seeds A..B'
-complete -c pulsefarm -n '__fish_seen_subcommand_from hunt' -l workers -x -d 'Threads'
+complete -c pulsefarm -n '__fish_seen_subcommand_from hunt farm' -l workers -x -d 'Threads'
 complete -c pulsefarm -n '__fish_seen_subcommand_from hunt' -l all -d 'Tell each outcome'
 complete -c pulsefarm -n '__fish_seen_subcommand_from hunt' -l shrink -x -d 'Shrink within N runs'
 complete -c pulsefarm -n '__fish_seen_subcommand_from shrink' -l runs -x -d 'Most runs'
 complete -c pulsefarm -n '__fish_seen_subcommand_from check' -l explain -d 'Tell how to mend a refusal'
+complete -c pulsefarm -n '__fish_seen_subcommand_from farm' -l summary -d 'Tell what each worker did'

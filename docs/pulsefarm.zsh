@@ -11,9 +11,9 @@ _pulsefarm_roots() {
   compadd -a found
 }
 
-# No choices, or `@` and a file that has them.
+# No choices, or `@` and a file that has them, or `@-`, the standard input.
 _pulsefarm_schedules() {
-  if compset -P @; then _files; else compadd none && compadd -S '' @; fi
+  if compset -P @; then _files; compadd -- -; else compadd none @- && compadd -S '' @; fi
 }
 
 _pulsefarm_properties() {
@@ -22,7 +22,8 @@ _pulsefarm_properties() {
 }
 
 _pulsefarm() {
-  local -a job weights strategy schedule
+  local -a commands job weights strategy schedule
+  commands=(run hunt shrink chart check steps farm)
   job=(
     '--root[function that runs first]:function:_pulsefarm_roots'
     '--limit[most steps of a run]:steps: '
@@ -33,11 +34,15 @@ _pulsefarm() {
   strategy='--strategy[how a seed chooses]:strategy:(pos uniform)'
   schedule="--schedule[scheduler's numbers]:schedule:_pulsefarm_schedules"
   if ((CURRENT == 2)); then
-    compadd run hunt shrink chart check steps
+    compadd $commands help
     _arguments '(-h --help)'{-h,--help}'[print help]' '(-V --version)'{-V,--version}'[print version]'
     return
   fi
   local command=$words[2]
+  if [[ $command = help ]]; then
+    compadd $commands
+    return
+  fi
   shift words
   ((CURRENT--))
   local -a own
@@ -49,6 +54,7 @@ _pulsefarm() {
       ;;
     shrink) own=($job $schedule '--runs[most runs]:runs: ') ;;
     check) own=('--explain[tell how to mend a refusal]') ;;
+    farm) own=('--workers[threads]:threads: ' '--summary[tell what each worker did]') ;;
   esac
   _arguments $own '(-h --help)'{-h,--help}'[print help]' '*:file:_files'
 }

@@ -422,8 +422,12 @@ completions() {
   offers '1 2' pulsefarm run m.erl --edition ''
   offers 'main' pulsefarm chart m.erl --root ''
   offers '@m.erl' pulsefarm run --schedule @m.e
+  offers 'none @ @-' pulsefarm run --schedule ''
+  offers 'farm' pulsefarm f
+  offers '--summary' pulsefarm farm m.erl --s
+  offers 'chart check' pulsefarm help ch
   # Each option that is offered is one that the command takes.
-  for command in run hunt shrink chart check steps; do
+  for command in run hunt shrink chart check steps farm; do
     run "$command" --help
     for option in $(bash -c '. "$1"; _pulsefarm_options "$2"' bash "$top/docs/pulsefarm.bash" "$command"); do
       check "$command takes $option" grep -qe "$option" out

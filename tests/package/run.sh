@@ -9,7 +9,7 @@ top=$(cd "$(dirname "$0")/../.." && pwd)
 program=$(realpath "$program")
 export PROGRAM="$program" PATH="$PATH:/usr/sbin:/sbin"
 room=${room:?}
-commands='run hunt shrink chart check steps'
+commands='run hunt shrink chart check steps farm'
 main_job=$(printf '%s\n' '0/1 <0> end normal' 'finished 7' 'steps 4' 'property holds')
 "$top/tests/debian.sh" zsh fish man-db
 "$top/tests/port/erlang.sh" && has_erlang=1 || has_erlang=0

@@ -22,7 +22,7 @@ use Rattle.clap.specs.declared.builder.action.ArgAction.TheVariants as action
 use Rattle.clap.specs.declared.builder.value_parser.ValueParser.{ValueParser}
 use Rattle.clap.specs.declared.error.kind.ErrorKind.{ErrorKind}
 use Rattle.clap.specs.declared.error.kind.ErrorKind.TheVariants as kind
-use Rattle.pf_cli.specs.Args.{IsFaultBy, fault_under, hunt_fault, is_shown, own_fault, pulsefarm, run_fault, sought_fault, status_of_kind, values_fault, words_status}
+use Rattle.pf_cli.specs.Args.{IsFaultBy, fault_under, hunt_fault, is_shown, one_file_fault, own_fault, pulsefarm, run_fault, sought_fault, status_of_kind, values_fault, words_status}
 
 abbrev AllAre : Bool → Kinds → Type 0
 AllAre b [] = Unit {0}
@@ -233,7 +233,7 @@ alike_built a e k h words =
     alike_no)
 
 alike_words : (words : List Text) → Alike (fault_of pulsefarm words)
-alike_words words = alike_built (built pulsefarm) refl (refl, (refl, (refl, (refl, (refl, (refl, tt)))))) nothing_held (argument_words (built pulsefarm) words)
+alike_words words = alike_built (built pulsefarm) refl (refl, (refl, (refl, (refl, (refl, (refl, (refl, tt))))))) nothing_held (argument_words (built pulsefarm) words)
 
 -- ---- statuses
 
@@ -271,12 +271,15 @@ either_shown : (b : Bool) (k l : ErrorKind) → is_shown k ≡ false → is_show
 either_shown true k l h g = h
 either_shown false k l h g = g
 
-under_shown : (name : Text) (rows : List Row) → is_shown (fault_under name rows) ≡ false
-under_shown name rows =
+one_file_shown : (name : Text) (rows : List Row) → is_shown (one_file_fault name rows) ≡ false
+one_file_shown name rows =
     let run : is_shown (run_fault rows) ≡ false = values_shown _ _ _ in
     either_shown (bytes_eq name (codes "run")) _ _ run
     (either_shown (bytes_eq name (codes "chart")) _ _ run
     (either_shown (bytes_eq name (codes "hunt")) (hunt_fault rows) kind.InvalidValue (sought_shown _ _) refl))
+
+under_shown : (name : Text) (rows : List Row) → is_shown (fault_under name rows) ≡ false
+under_shown name rows = either_shown (bytes_eq name (codes "farm")) kind.InvalidValue _ refl (one_file_shown name rows)
 
 own_shown : (o : Option (Text × List Row)) → is_shown (own_fault o) ≡ false
 own_shown None = refl

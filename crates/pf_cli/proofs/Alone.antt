@@ -5,7 +5,7 @@ use Rattle.std.specs.Str.{bytes_eq}
 use Rattle.clap.specs.Words.{Text, Row, fault_of, first_of, subcommand_of}
 use Rattle.pf_model.specs.Meaning.{Choices, schedule}
 use Rattle.pf_text.specs.Numbers.{schedule_of}
-use Rattle.pf_cli.specs.Args.{asked, bounds_in, choices_named, file_at, guided_in, number_in, numbers_of, of_command, placed, property_named, pulsefarm, run_asked, run_of, schedule_file_of, shrink_of, shrinking_asked, unless_refused, wanted_by, run, chart, shrink}
+use Rattle.pf_cli.specs.Args.{asked, bounds_in, choices_named, file_at, guided_in, number_in, numbers_of, of_command, of_one_file, placed, property_named, pulsefarm, run_asked, run_of, schedule_file_of, shrink_of, shrinking_asked, unless_refused, wanted_by, run, chart, shrink}
 
 alone_word : (text word : Text) → file_at word ≡ None → numbers_of (Some text) word ≡ numbers_of None word
 alone_word text word e = ap (λ (f : Option Text). schedule_of (placed text word f)) e
@@ -37,12 +37,15 @@ alike_either : {T : Type 0} (b : Bool) (x y v w : T) → x ≡ y → v ≡ w →
 alike_either true x y v w e d = e
 alike_either false x y v w e d = d
 
-alone_command : (text name : Text) (rows : List Row) → option_and_then file_at (first_of (codes "schedule") rows) ≡ None → of_command (Some text) name rows ≡ of_command None name rows
-alone_command text name rows e =
+alone_one_file : (text name : Text) (rows : List Row) → option_and_then file_at (first_of (codes "schedule") rows) ≡ None → of_one_file (Some text) name rows ≡ of_one_file None name rows
+alone_one_file text name rows e =
     alike_either (bytes_eq name (codes "run")) _ _ _ _ (ap (option_map run) (alone_run text rows e))
     (alike_either (bytes_eq name (codes "chart")) _ _ _ _ (ap (option_map chart) (alone_run text rows e))
     (alike_either (bytes_eq name (codes "hunt")) _ _ _ _ refl
     (alike_either (bytes_eq name (codes "shrink")) _ _ _ _ (ap (option_map shrink) (alone_shrink text rows e)) refl)))
+
+alone_command : (text name : Text) (rows : List Row) → option_and_then file_at (first_of (codes "schedule") rows) ≡ None → of_command (Some text) name rows ≡ of_command None name rows
+alone_command text name rows e = alike_either (bytes_eq name (codes "farm")) _ _ _ _ refl (alone_one_file text name rows e)
 
 alone_asked : (text : Text) (o : Option (Text × List Row)) → asked (λ name rows. option_and_then file_at (first_of (codes "schedule") rows)) o ≡ None
     → asked (of_command (Some text)) o ≡ asked (of_command None) o

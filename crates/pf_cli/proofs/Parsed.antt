@@ -5,7 +5,7 @@ use Rattle.clap.specs.Words.{Text, Row, Kinds, HasKind, IsAmong, fault_of, first
 use Rattle.clap.specs.declared.error.Error.{Error}
 use Rattle.clap.specs.declared.error.kind.ErrorKind.{ErrorKind}
 use Rattle.clap.specs.declared.error.kind.ErrorKind.TheVariants as kind
-use Rattle.pf_cli.specs.Args.{IsFaultBy, own_fault, pulsefarm, of_command, asked, unless_refused, wanted_by, file_at, file_named, file_of, schedule_file_of}
+use Rattle.pf_cli.specs.Args.{IsFaultBy, own_fault, pulsefarm, of_command, asked, unless_refused, wanted_by, file_at, file_of, file_under, schedule_file_of}
 
 refused : {T : Type 0} (kinds : Kinds) (k : ErrorKind) (r : Option T) → IsAmong k kinds → unless_refused kinds r ≡ None
 refused [] k r h = absurd h
@@ -31,9 +31,9 @@ pub words_wanted : (text : Option Text) (words : List Text) (name : Text) (rows 
 unfolding wanted_by
 words_wanted text words name rows k e = unrefused (fault_of pulsefarm words) (asked (of_command text) (subcommand_of pulsefarm words)) k ∙ ap (asked (of_command text)) e
 
-pub words_file : (words : List Text) (name : Text) (rows : List Row) → subcommand_of pulsefarm words ≡ Some (name, rows) → file_of words ≡ file_named (first_of (codes "file") rows)
+pub words_file : (words : List Text) (name : Text) (rows : List Row) → subcommand_of pulsefarm words ≡ Some (name, rows) → file_of words ≡ file_under name rows
 unfolding file_of
-words_file words name rows e = ap (asked (λ (n : Text) (rs : List Row). file_named (first_of (codes "file") rs))) e
+words_file words name rows e = ap (asked file_under) e
 
 pub words_schedule : (words : List Text) (name : Text) (rows : List Row) → subcommand_of pulsefarm words ≡ Some (name, rows) → schedule_file_of words ≡ option_and_then file_at (first_of (codes "schedule") rows)
 unfolding schedule_file_of

@@ -1,8 +1,9 @@
 -- What the words of the command line ask for.
-use Rattle.std.specs.Prelude.{◌≡◌, ◌⊎◌, ℕ, List, [], ◌∷◌, Option, Some, None, option_map, option_and_then, codes, Bool, true, false, not, ◌==◌, ◌&&◌, ◌||◌, nat_le, nat_lt, if◌then◌else◌}
+use Rattle.std.specs.Prelude.{◌≡◌, ◌⊎◌, ℕ, List, [], ◌∷◌, Option, Some, None, option_map, option_and_then, codes, length, map, Bool, true, false, not, ◌==◌, ◌&&◌, ◌||◌, nat_le, nat_lt, if◌then◌else◌}
 use Rattle.std.specs.List.{list_any, before_first, after_first}
 use Rattle.std.specs.Str.{bytes_eq}
-use Rattle.clap.specs.Words.{IsAmong, App, Shape, Rule, Row, Text, new_app, new_rule, with_rule, with_subcommand, Kinds, first_of, subcommand_of, fault_of}
+use Rattle.clap.specs.Words.{IsAmong, App, Shape, Rule, Row, Text, all_of, new_app, new_rule, with_rule, with_subcommand, Kinds, first_of, subcommand_of, fault_of}
+use Rattle.clap.specs.Lexer.{usize_max}
 use Rattle.clap.specs.declared.builder.action.ArgAction.TheVariants.{SetTrue}
 use Rattle.clap.specs.declared.error.kind.ErrorKind.{ErrorKind}
 use Rattle.clap.specs.declared.error.kind.ErrorKind.TheVariants as kind
@@ -18,10 +19,11 @@ use Rattle.pf_cli.specs.declared.args.Edition.TheVariants.{First, Second}
 use Rattle.pf_cli.specs.declared.args.Weights.{Weights}
 use Rattle.pf_cli.specs.declared.args.RunArgs as run_code
 use Rattle.pf_cli.specs.declared.args.HuntArgs as hunt_code
+use Rattle.pf_cli.specs.declared.args.FarmArgs as farm_code
 use Rattle.pf_cli.specs.declared.args.Sought as sought_code
 use Rattle.pf_cli.specs.declared.args.Sought.TheVariants.{Failure, Outcomes}
 use Rattle.pf_cli.specs.declared.args.Args as args_code
-use Rattle.pf_cli.specs.declared.args.Args.TheVariants.{Run, Hunt, Shrink, Chart, Check, Steps}
+use Rattle.pf_cli.specs.declared.args.Args.TheVariants.{Run, Hunt, Shrink, Chart, Check, Steps, Farm}
 use Rattle.pf_cli.specs.declared.reading.Reading as reading_code
 use Rattle.pf_cli.specs.declared.reading.Reading.TheVariants as read
 
@@ -30,6 +32,11 @@ use Rattle.pf_cli.specs.declared.reading.Reading.TheVariants as read
 -- a file comes without a name before it
 abbrev pub file_rule : Rule
 file_rule = record (new_rule (codes "file")) { value_names = 1 }
+
+-- files come without a name before them, and there is at least one
+abbrev pub files_rule : Rule
+files_rule =
+    record (new_rule (codes "files")) { range = Some (record { start_inclusive = 1; end_inclusive = usize_max }); value_names = 1; required = true }
 
 -- an option has one value, and may be left out
 abbrev pub option_rule : Text → Rule
@@ -93,6 +100,10 @@ check_app = with_rule (with_rule (new_app (codes "check")) file_rule) (flag_rule
 abbrev pub steps_app : App
 steps_app = with_rule (new_app (codes "steps")) file_rule
 
+-- farm FILE.. --workers N [--summary]
+abbrev pub farm_app : App
+farm_app = with_rule (with_rule (with_rule (new_app (codes "farm")) files_rule) (required_rule (codes "workers"))) (flag_rule (codes "summary"))
+
 -- the program has a version, wants a command, and has no command `help`
 abbrev pub top_shape : Shape
 top_shape =
@@ -109,9 +120,13 @@ finding_app = with_subcommand (with_subcommand bare_app run_app.top) hunt_app.to
 abbrev pub runs_app : App
 runs_app = with_subcommand (with_subcommand finding_app shrink_app.top) chart_app.top
 
+-- and then with the others that read one file
+abbrev pub one_file_app : App
+one_file_app = with_subcommand (with_subcommand runs_app check_app.top) steps_app.top
+
 -- the command line
 abbrev pub pulsefarm : App
-pulsefarm = with_subcommand (with_subcommand runs_app check_app.top) steps_app.top
+pulsefarm = with_subcommand one_file_app farm_app.top
 
 -- ---- what is asked for
 
@@ -136,6 +151,12 @@ pub record HuntArgs : Type 0 where
   pub seeds : ℕ × ℕ
   pub workers : Option ℕ
   pub sought : Sought
+
+-- a farm is asked for: of n workers, and of the clients whose files these are, that of project 1 first; and whether what each worker did is told
+pub record FarmArgs : Type 0 where
+  pub workers : ℕ
+  pub files : List Text
+  pub summary : Bool
 
 abbrev pub request_by : (root property : Text) → Kind → (limit : ℕ) → Request
 request_by root property kind limit = record { root = root; property = property; kind = kind; limit = limit }
@@ -355,12 +376,25 @@ hunt_of rows =
     hunt_asked (sought_in rows) (first_of (codes "root") rows) (first_of (codes "property") rows) (bounds_in rows) (seeds_in rows)
     (weights_in rows) (strategy_in rows) (workers_in rows)
 
+-- files are 1 to 64
+abbrev pub as_files : List Text → Option (List Text)
+as_files files = if nat_le 1 (length files) && nat_le (length files) 64 then Some files else None
+
+abbrev pub farm_asked : (workers : Option ℕ) → (files : Option (List Text)) → (summary : Bool) → Option FarmArgs
+farm_asked (Some workers) (Some files) summary = Some (record { workers = workers; files = files; summary = summary })
+farm_asked _ _ summary = None
+
+abbrev pub farm_of : List Row → Option FarmArgs
+farm_of rows =
+    farm_asked (option_and_then as_workers (number_in (codes "workers") rows)) (option_and_then as_files (all_of (codes "files") rows))
+    (is_given (first_of (codes "summary") rows))
+
 -- whether a refusal is to be explained
 abbrev pub explain_of : List Row → Bool
 explain_of rows = is_given (first_of (codes "explain") rows)
 
 -- a command asks for a run, for a hunt over seeds, for the shrinking of a schedule, for the chart of a run, for a check that may explain what
--- it refuses, or for the steps that a file lists
+-- it refuses, for the steps that a file lists, or for a farm
 pub data Wanted : Type 0 where
   run : RunArgs → Wanted
   hunt : HuntArgs → Wanted
@@ -368,6 +402,7 @@ pub data Wanted : Type 0 where
   chart : RunArgs → Wanted
   check : (explain : Bool) → Wanted
   steps : Wanted
+  farm : FarmArgs → Wanted
 
 -- what a command without runs of its own asks for
 abbrev pub of_other : Text → List Row → Option Wanted
@@ -375,13 +410,18 @@ of_other name rows =
     if bytes_eq name (codes "check") then Some (check (explain_of rows))
     else (if bytes_eq name (codes "steps") then Some steps else None)
 
--- what the command of this name asks for by the values of its options, and by the text of its schedule's file where it is known
-abbrev pub of_command : (text : Option Text) → (name : Text) → List Row → Option Wanted
-of_command text name rows =
+-- what a command of one file asks for by the values of its options, and by the text of its schedule's file where it is known
+abbrev pub of_one_file : (text : Option Text) → (name : Text) → List Row → Option Wanted
+of_one_file text name rows =
     if bytes_eq name (codes "run") then option_map run (run_of text rows)
     else (if bytes_eq name (codes "chart") then option_map chart (run_of text rows)
     else (if bytes_eq name (codes "hunt") then option_map hunt (hunt_of rows)
     else (if bytes_eq name (codes "shrink") then option_map shrink (shrink_of text rows) else of_other name rows)))
+
+-- what the command of this name asks for
+abbrev pub of_command : (text : Option Text) → (name : Text) → List Row → Option Wanted
+of_command text name rows =
+    if bytes_eq name (codes "farm") then option_map farm (farm_of rows) else of_one_file text name rows
 
 abbrev pub asked : {T : Type 0} → (Text → List Row → Option T) → Option (Text × List Row) → Option T
 asked read None = None
@@ -405,9 +445,13 @@ abbrev pub file_named : Option Text → Option Text
 file_named None = None
 file_named (Some name) = if bytes_eq name (codes "-") then None else Some name
 
--- the file of the source or of the steps; none where it is the standard input
+-- the one file of a command; a farm's are its own
+abbrev pub file_under : Text → List Row → Option Text
+file_under name rows = if bytes_eq name (codes "farm") then None else file_named (first_of (codes "file") rows)
+
+-- the file of the source or of the steps; none where it is the standard input, or the words ask for a farm
 unfoldable pub file_of : List Text → Option Text
-file_of words = asked (λ name rows. file_named (first_of (codes "file") rows)) (subcommand_of pulsefarm words)
+file_of words = asked file_under (subcommand_of pulsefarm words)
 
 -- the file that the words name for a schedule
 unfoldable pub schedule_file_of : List Text → Option Text
@@ -442,6 +486,9 @@ view_of_hunt_args a =
       sought = sought_by a.sought;
     }
 
+abbrev pub view_of_farm_args : farm_code.FarmArgs → FarmArgs
+view_of_farm_args a = record { workers = a.workers; files = map (λ s. s.now) a.files.items; summary = a.summary }
+
 abbrev pub view_of_args : args_code.Args → Wanted
 view_of_args (Run a) = run (view_of_run_args a)
 view_of_args (Hunt a) = hunt (view_of_hunt_args a)
@@ -449,6 +496,7 @@ view_of_args (Chart a) = chart (view_of_run_args a)
 view_of_args (Shrink a) = shrink (view_of_run_args a)
 view_of_args (Check a) = check a.explain
 view_of_args (Steps a) = steps
+view_of_args (Farm a) = farm (view_of_farm_args a)
 
 abbrev pub named_file : args_code.Args → Option Text
 named_file (Run a) = option_map (λ s. s.now) a.file
@@ -457,6 +505,7 @@ named_file (Chart a) = option_map (λ s. s.now) a.file
 named_file (Shrink a) = option_map (λ s. s.now) a.file
 named_file (Check a) = option_map (λ s. s.now) a.file
 named_file (Steps a) = option_map (λ s. s.now) a.file
+named_file (Farm a) = None
 
 -- ---- words that ask for nothing
 
@@ -488,11 +537,14 @@ sought_fault _ _ = kind.InvalidValue
 abbrev pub hunt_fault : List Row → ErrorKind
 hunt_fault rows = sought_fault (is_given (first_of (codes "all") rows)) (first_of (codes "shrink") rows)
 
-abbrev pub fault_under : Text → List Row → ErrorKind
-fault_under name rows =
+abbrev pub one_file_fault : Text → List Row → ErrorKind
+one_file_fault name rows =
     if bytes_eq name (codes "run") then run_fault rows
     else (if bytes_eq name (codes "chart") then run_fault rows
     else (if bytes_eq name (codes "hunt") then hunt_fault rows else kind.InvalidValue))
+
+abbrev pub fault_under : Text → List Row → ErrorKind
+fault_under name rows = if bytes_eq name (codes "farm") then kind.InvalidValue else one_file_fault name rows
 
 abbrev pub own_fault : Option (Text × List Row) → ErrorKind
 own_fault None = kind.InvalidValue

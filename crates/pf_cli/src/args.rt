@@ -117,6 +117,17 @@ pub struct StepsArgs<'a> {
     pub file: Option<&'a str>,
 }
 
+/// What `farm` asks for.
+#[derive(Drop)]
+pub struct FarmArgs<'a> {
+    /// How many workers there are, from 1 to 64.
+    pub workers: u32,
+    /// The files of the clients, from 1 to 64: that of project 1, that of project 2 and so on.
+    pub files: Vec<&'a str>,
+    /// Whether what each worker did is told at the end.
+    pub summary: bool,
+}
+
 /// What the words ask for.
 #[derive(Drop)]
 pub enum Args<'a> {
@@ -126,13 +137,14 @@ pub enum Args<'a> {
     Shrink(RunArgs<'a>),
     Check(CheckArgs<'a>),
     Steps(StepsArgs<'a>),
+    Farm(FarmArgs<'a>),
 }
 
 impl<'a> Args<'a> {
     ghost use Rattle.std.specs.Prelude.{◌≡◌, option_map};
     ghost use Rattle.pf_cli.specs.Args.{named_file};
 
-    /// The file that is read; the standard input where there is none.
+    /// The file that is read; the standard input where there is none. Those of a farm are its own.
     pub fn file(&self) -> Option<&'a str>
         ensures { option_map (λ s. s.now) result ≡ named_file self.now }
     {
@@ -141,6 +153,7 @@ impl<'a> Args<'a> {
             Args::Hunt(args) => args.file,
             Args::Check(args) => args.file,
             Args::Steps(args) => args.file,
+            Args::Farm(_) => None,
         }
     }
 }

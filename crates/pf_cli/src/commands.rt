@@ -3,7 +3,7 @@
 ghost use Rattle.std.specs.Prelude.{◌≡◌, IfOk, false, codes};
 ghost use Rattle.clap.specs.Words.{app_of, rule_of, new_app};
 ghost use Rattle.clap.specs.declared.builder.command.Command.TheViews.{out-Command};
-ghost use Rattle.pf_cli.specs.Args.{bare_app, bounded_app, chart_app, check_app, file_rule, flag_rule, finding_app, hunt_app, one_run_app, option_rule, pulsefarm, required_rule, rooted_app, run_app, runs_app, seeded_app, shrink_app, steps_app, weighted_app, working_app};
+ghost use Rattle.pf_cli.specs.Args.{bare_app, bounded_app, chart_app, check_app, farm_app, file_rule, files_rule, flag_rule, finding_app, hunt_app, one_file_app, one_run_app, option_rule, pulsefarm, required_rule, rooted_app, run_app, runs_app, seeded_app, shrink_app, steps_app, weighted_app, working_app};
 
 use clap::{Arg, ArgAction, Command};
 use std::alloc::{AllocError, Global};
@@ -38,6 +38,18 @@ fn file<'a>(alloc: Global, help: &'a str) -> Arg<'a>
     ensures local { result.global ≡ false }
 {
     Arg::new(alloc, "file").value_name("FILE").help(help)
+}
+
+/// Files that come without a name before them, of which there is at least one.
+fn files<'a>(alloc: Global, help: &'a str) -> Arg<'a>
+    ensures rule { rule_of result ≡ files_rule }
+    ensures local { result.global ≡ false }
+{
+    Arg::new(alloc, "files")
+        .value_name("FILE")
+        .num_args(1..)
+        .required(true)
+        .help(help)
 }
 
 /// An option with its one value, which may be left out.
@@ -292,6 +304,23 @@ fn steps_command<'a>(alloc: Global) -> Result<Command<'a>, AllocError>
     Ok(steps)
 }
 
+/// `farm`.
+pub(crate) fn farm_command<'a>(alloc: Global) -> Result<Command<'a>, AllocError>
+    ensures app { IfOk result (λ c. app_of c ≡ farm_app) }
+    ensures local { IfOk result (λ c. (out-Command c).has_globals ≡ false) }
+{
+    let about =
+        "Runs a farm of workers, with a client for each file, and prints what each client is told";
+    let clients = "Files of the clients' lines, from 1 to 64; the first is that of project 1";
+    let workers = "Threads that work, from 1 to 64";
+    let summary = "Tells at the end what each worker did";
+    let farm = bare(alloc, "farm", about)
+        .arg(files(alloc, clients))?
+        .arg(required(alloc, "workers", "N", workers))?
+        .arg(flag(alloc, "summary", summary))?;
+    Ok(farm)
+}
+
 /// The program without its commands.
 fn top<'a>(alloc: Global) -> Command<'a>
     ensures app { app_of result ≡ bare_app }
@@ -326,12 +355,21 @@ fn commands_of_runs<'a>(alloc: Global) -> Result<Command<'a>, AllocError>
     Ok(more)
 }
 
+/// The program with the commands of one file.
+fn commands_of_one_file<'a>(alloc: Global) -> Result<Command<'a>, AllocError>
+    ensures app { IfOk result (λ c. app_of c ≡ one_file_app) }
+    ensures local { IfOk result (λ c. (out-Command c).has_globals ≡ false) }
+{
+    let most = commands_of_runs(alloc)?
+        .subcommand(check_command(alloc)?)?
+        .subcommand(steps_command(alloc)?)?;
+    Ok(most)
+}
+
 /// The whole command line.
 pub(crate) fn command<'a>(alloc: Global) -> Result<Command<'a>, AllocError>
     ensures { IfOk result (λ c. app_of c ≡ pulsefarm) }
 {
-    let whole = commands_of_runs(alloc)?
-        .subcommand(check_command(alloc)?)?
-        .subcommand(steps_command(alloc)?)?;
+    let whole = commands_of_one_file(alloc)?.subcommand(farm_command(alloc)?)?;
     Ok(whole)
 }

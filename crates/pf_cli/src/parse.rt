@@ -4,10 +4,11 @@ ghost use Rattle.std.specs.Prelude.{◌≡◌, ◌⊎◌, true, IfOk, IfErr, map
 ghost use Rattle.clap.specs.Words.{FailsBy, fault_of, subcommand_of, subcommand_rows_of, kind_of, first_of, rows_of, found_of};
 ghost use Rattle.pf_request.specs.Request.{choices_in, may_weigh};
 ghost use Rattle.pf_request.specs.View.{view_of_kind, view_of_request};
-ghost use Rattle.pf_cli.specs.Args.{IsFaultBy, IsFaultOf, fault_under, file_named, file_of, hunt_fault, hunt_of, named_file, of_command, of_other, pulsefarm, request_by, run_fault, run_of, schedule_file_of, shrink_of, status_of_kind, view_of_args, view_of_hunt_args, view_of_run_args, wanted_by, wanted_of};
+ghost use Rattle.pf_cli.specs.Args.{IsFaultBy, IsFaultOf, fault_under, file_named, file_of, file_under, hunt_fault, hunt_of, named_file, of_command, of_one_file, of_other, one_file_fault, pulsefarm, request_by, run_fault, run_of, schedule_file_of, shrink_of, status_of_kind, view_of_args, view_of_hunt_args, view_of_run_args, wanted_by, wanted_of};
 
 use crate::args::{Args, CheckArgs, HuntArgs, RunArgs, StepsArgs, Weights};
 use crate::commands::command;
+use crate::farm::farm_args;
 use crate::refusals::{Valued, mistake};
 use crate::values::{
     RUNS, bounds, choices, given_schedule, guided, is_given, named_file, named_property,
@@ -245,21 +246,21 @@ fn other_args<'a>(alloc: Global, name: &str, rows: &ArgMatches<'a>) -> Result<Ar
     Err(mistake(alloc, "a command is missing"))
 }
 
-/// What the command of this name asks for by the values of its options, with a text in place of its schedule's file.
-fn command_args<'a>(
+/// What a command of one file asks for by the values of its options, with a text in place of its schedule's file.
+fn one_file_args<'a>(
     alloc: Global,
     name: &str,
     rows: &ArgMatches<'a>,
     text: Option<&str>,
 ) -> Result<Args<'a>, Error>
     ensures ok { IfOk result (λ a.
-        of_command (option_map (λ s. s.now) text.entry) name.now (rows_of (found_of rows.now))
+        of_one_file (option_map (λ s. s.now) text.entry) name.now (rows_of (found_of rows.now))
         ≡ Some (view_of_args a)) }
     ensures file { IfOk result (λ a. named_file a
         ≡ file_named (first_of (codes "file") (rows_of (found_of rows.now)))) }
     ensures err { IfErr result (λ e. (kind_of e ≡ ErrorKind.OutOfMemory)
-        ⊎ ((kind_of e ≡ fault_under name.now (rows_of (found_of rows.now)))
-        × (of_command (option_map (λ s. s.now) text.entry) name.now (rows_of (found_of rows.now))
+        ⊎ ((kind_of e ≡ one_file_fault name.now (rows_of (found_of rows.now)))
+        × (of_one_file (option_map (λ s. s.now) text.entry) name.now (rows_of (found_of rows.now))
         ≡ None))) }
 {
     if name == "run" {
@@ -287,6 +288,31 @@ fn command_args<'a>(
         };
     }
     other_args(alloc, name, rows)
+}
+
+/// What the command of this name asks for by the values of its options, with a text in place of its schedule's file.
+fn command_args<'a>(
+    alloc: Global,
+    name: &str,
+    rows: &ArgMatches<'a>,
+    text: Option<&str>,
+) -> Result<Args<'a>, Error>
+    ensures ok { IfOk result (λ a.
+        of_command (option_map (λ s. s.now) text.entry) name.now (rows_of (found_of rows.now))
+        ≡ Some (view_of_args a)) }
+    ensures file { IfOk result (λ a. named_file a ≡ file_under name.now (rows_of (found_of rows.now))) }
+    ensures err { IfErr result (λ e. (kind_of e ≡ ErrorKind.OutOfMemory)
+        ⊎ ((kind_of e ≡ fault_under name.now (rows_of (found_of rows.now)))
+        × (of_command (option_map (λ s. s.now) text.entry) name.now (rows_of (found_of rows.now))
+        ≡ None))) }
+{
+    if name == "farm" {
+        return match farm_args(alloc, rows) {
+            Ok(args) => Ok(Args::Farm(args)),
+            Err(e) => Err(e),
+        };
+    }
+    one_file_args(alloc, name, rows, text)
 }
 
 /// What words ask for, and the file that they name for a schedule.

@@ -3,7 +3,9 @@
 ghost use Rattle.std.specs.Prelude.{◌≡◌, ◌⊎◌, IfOk};
 ghost use Rattle.clap.specs.Words.{kind_of};
 
-use crate::commands::{chart_command, command, hunt_command, run_command, shrink_command};
+use crate::commands::{
+    chart_command, command, farm_command, hunt_command, run_command, shrink_command,
+};
 use clap::Error;
 use clap::error::ErrorKind;
 use std::alloc::{AllocError, Global};
@@ -28,6 +30,7 @@ pub(crate) enum Valued {
     Hunt,
     Shrink,
     Chart,
+    Farm,
 }
 
 /// An error of this kind with its text and the usage of a command.
@@ -44,6 +47,7 @@ fn try_refuse(
         Valued::Hunt => hunt_command(alloc)?.bin_name("pulsefarm hunt")?,
         Valued::Chart => chart_command(alloc)?.bin_name("pulsefarm chart")?,
         Valued::Shrink => shrink_command(alloc)?.bin_name("pulsefarm shrink")?,
+        Valued::Farm => farm_command(alloc)?.bin_name("pulsefarm farm")?,
     };
     command.error(kind, text)
 }
@@ -86,6 +90,18 @@ pub(crate) fn refuse_number(
 {
     match format!(in alloc; "{name} <N>") {
         Ok(option) => refuse_value(alloc, valued, &option, value, wants),
+        Err(e) => Error::from(e),
+    }
+}
+
+/// An error that names a file of a client, which is one too many.
+pub(crate) fn refuse_file(alloc: Global, file: &str) -> Error
+    ensures { (kind_of result ≡ ErrorKind.OutOfMemory) ⊎ (kind_of result ≡ ErrorKind.InvalidValue) }
+{
+    match format!(in alloc;
+        "invalid value '{file}' for '<FILE>...': it wants at most 64 files, and this is the 65th"
+    ) {
+        Ok(text) => refuse(alloc, Valued::Farm, ErrorKind::InvalidValue, &text),
         Err(e) => Error::from(e),
     }
 }

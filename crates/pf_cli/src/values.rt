@@ -67,7 +67,7 @@ const STRATEGIES: &str = "`pos` or `uniform`; `pos` beside a seed without weight
 const EDITIONS: &str = "1 or 2";
 
 /// What the number of workers wants.
-const WORKERS: &str = "a number of threads from 1 to 64, without leading zeros";
+pub(crate) const WORKERS: &str = "a number of threads from 1 to 64, without leading zeros";
 
 /// The number that the value of an option is, which its command wants.
 pub(crate) fn number(
@@ -490,7 +490,7 @@ pub(crate) fn seeds(alloc: Global, rows: &ArgMatches) -> Result<(u64, u64), Erro
 }
 
 /// The number of workers that a word is.
-fn as_workers(word: &str) -> Option<u32>
+pub(crate) fn as_workers(word: &str) -> Option<u32>
     ensures { result ≡ option_and_then as_workers (number_of word.now) }
 {
     match number_of(word.as_bytes()) {

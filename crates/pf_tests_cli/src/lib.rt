@@ -2,6 +2,8 @@
 #![tactic(auto)]
 
 #[cfg(test)]
+mod farms;
+#[cfg(test)]
 mod hunts;
 #[cfg(test)]
 mod readings;
