@@ -113,20 +113,3 @@ fn a_farm_has_at_most_64_files(rt: HostRuntime) -> Result<(), Fail> {
     assert!(rt; is_refused(alloc, &more, why, USAGE)?);
     Ok(())
 }
-
-#[test]
-fn help_of_a_farm(rt: HostRuntime) -> Result<(), Fail> {
-    let alloc = rt.alloc();
-    if let Err(error) = read_args(alloc, &["pulsefarm", "farm", "--help"]) {
-        println!(rt; "{error}")?;
-    }
-    for words in [
-        ["pulsefarm", "farm", "a"],
-        ["pulsefarm", "farm", "--workers=1"],
-    ] {
-        if let Err(error) = read_args(alloc, &words) {
-            println!(rt; "{error}")?;
-        }
-    }
-    Ok(())
-}
