@@ -1,5 +1,5 @@
 -- What clients were told, and the histories of the desks.
-use Rattle.std.specs.Prelude.{◌≡◌, ◌⊎◌, ℕ, Bool, true, false, List, [], ◌∷◌, ◌++◌, length, map, All}
+use Rattle.std.specs.Prelude.{◌≡◌, ◌⊎◌, ℕ, Bool, true, false, List, [], ◌∷◌, ◌++◌, map, All}
 use Rattle.pf_request.specs.declared.call.Call as call_code
 use Rattle.pf_request.specs.View.{view_of_call}
 use Rattle.pf_quota.specs.declared.refusals.TheConstants.{MOST_CALLS}

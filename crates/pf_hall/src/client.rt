@@ -22,8 +22,12 @@ impl<N: FarmNames> Model for ClientSeat<N> {
     ghost use Rattle.pf_receipts.specs.Receipts.{of_project};
     ghost use Rattle.pf_quota.specs.declared.refusals.TheConstants.{MOST_CALLS};
     ghost use Rattle.pf_hall.specs.Clients.{ClientView};
+    ghost use Rattle.std.specs.Coded.{codes};
+    ghost use Rattle.pf_sched.specs.Views.{coded_finished_view};
 
     ghost Value = { ClientView };
+
+    ghost coded = { Prim.hlevel (codes, coded_finished_view) };
 
     ghost view = { λ c. record {
       project = c.seat.project;

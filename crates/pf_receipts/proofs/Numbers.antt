@@ -12,7 +12,7 @@ module _ {C A : Type 0} where
   if_append true r xs ys = refl
   if_append false r xs ys = refl
 
-  of_append : (q : ℕ) (xs ys : List (Receipt C A)) → of_project q (xs ++ ys) ≡ of_project q xs ++ of_project q ys
+  pub of_append : (q : ℕ) (xs ys : List (Receipt C A)) → of_project q (xs ++ ys) ≡ of_project q xs ++ of_project q ys
   of_append q [] ys = refl
   of_append q (x ∷ xs) ys = ap (put_if (x.project == q) x) (of_append q xs ys) ∙ if_append (x.project == q) x (of_project q xs) (of_project q ys)
 

@@ -1,6 +1,7 @@
 //! Which calls were logged.
 
 ghost use Rattle.std.specs.Prelude.{◌≡◌, ◌+◌, ◌<◌, true, false, [], ◌∷◌, ◌++◌, length, Some};
+ghost use Rattle.pf_register.specs.Places.{StartsWith};
 ghost use Rattle.pf_receipts.specs.Receipts.{empty_seat, gathering_of, of_project, receipt_of, seat_of};
 
 use crate::gathering::Gathering;
@@ -72,6 +73,7 @@ impl<N: FarmNames, C, A> CallLog<N, C, A> {
         ensures log { self.new ≡ self.old ++ receipt_of seat.old.project number call.value reply.now ∷ [] }
         ensures seat { seat.new ≡ seat_of seat.old.project
             (seat.old.receipts ++ receipt_of seat.old.project number call.value reply.now ∷ []) self.new }
+        ensures seen { StartsWith self.old seat.old.seen }
     {
         let receipt = Receipt::of(seat.project, number, call, reply);
         self.register.enter(&mut seat.token, &receipt);
