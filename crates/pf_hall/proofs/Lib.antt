@@ -1,6 +1,9 @@
-pub mod Language
-pub mod Noted
-pub mod Logged
-pub mod Full
+pub mod BookCrossing
 pub mod Closed
+pub mod Crossing
+pub mod Full
+pub mod Language
+pub mod Logged
+pub mod Noted
+pub mod ResultCrossing
 pub mod Sound
