@@ -1,6 +1,6 @@
 //! What the words of a command line ask for.
 
-ghost use Rattle.std.specs.Prelude.{◌≡◌, ◌<◌, true, vec_len};
+ghost use Rattle.std.specs.Prelude.{◌≡◌, ◌≤◌, true, vec_len};
 ghost use Rattle.pf_model.specs.Meaning.{weighted_seed};
 ghost use Rattle.pf_request.specs.Request.{choices_in, may_weigh};
 ghost use Rattle.pf_request.specs.View.{view_of_kind};
@@ -126,7 +126,8 @@ pub struct FarmArgs<'a> {
     pub files: Vec<&'a str>,
     /// Whether what each worker did is told at the end.
     pub summary: bool,
-    ghost some: { (0 < workers) × (workers < 65) × (0 < vec_len files) × (vec_len files < 65) },
+    ghost some_workers: { (1 ≤ workers) × (workers ≤ 64) },
+    ghost some_files: { (1 ≤ vec_len files) × (vec_len files ≤ 64) },
 }
 
 /// What the words ask for.

@@ -1,6 +1,6 @@
 //! What the words of `farm` ask for.
 
-ghost use Rattle.std.specs.Prelude.{◌≡◌, ◌⊎◌, ◌<◌, vec_len, IfOk, IfErr, Some, None, codes, map, option_map, option_and_then};
+ghost use Rattle.std.specs.Prelude.{◌≡◌, ◌≤◌, ◌⊎◌, IfOk, IfErr, Some, None, codes, map, option_map, option_and_then, vec_len};
 ghost use Rattle.clap.specs.Words.{all_of, kind_of, rows_of, found_of};
 ghost use Rattle.pf_cli.specs.Args.{as_files, as_workers, farm_of, number_in, view_of_farm_args};
 
@@ -20,9 +20,9 @@ fn values<'m, 'a>(rows: &'m ArgMatches<'a>, name: &str) -> Option<&'m [&'a str]>
 
 /// How many workers there are.
 fn workers(alloc: Global, rows: &ArgMatches) -> Result<u32, Error>
-    ensures some { IfOk result (λ n. (0 < n) × (n < 65)) }
     ensures ok { IfOk result (λ n.
         option_and_then as_workers (number_in (codes "workers") (rows_of (found_of rows.now))) ≡ Some n) }
+    ensures within { IfOk result (λ n. (1 ≤ n) × (n ≤ 64)) }
     ensures err { IfErr result (λ e. (kind_of e ≡ ErrorKind.OutOfMemory)
         ⊎ ((kind_of e ≡ ErrorKind.InvalidValue)
         × (option_and_then as_workers (number_in (codes "workers") (rows_of (found_of rows.now))) ≡ None))) }
@@ -38,10 +38,10 @@ fn workers(alloc: Global, rows: &ArgMatches) -> Result<u32, Error>
 
 /// The files of the clients.
 fn files<'a>(alloc: Global, rows: &ArgMatches<'a>) -> Result<Vec<&'a str>, Error>
-    ensures some { IfOk result (λ v. (0 < vec_len v) × (vec_len v < 65)) }
     ensures ok { IfOk result (λ v.
         option_and_then as_files (all_of (codes "files") (rows_of (found_of rows.now)))
         ≡ Some (map (λ s. s.now) v.items)) }
+    ensures within { IfOk result (λ v. (1 ≤ vec_len v) × (vec_len v ≤ 64)) }
     ensures err { IfErr result (λ e. (kind_of e ≡ ErrorKind.OutOfMemory)
         ⊎ ((kind_of e ≡ ErrorKind.InvalidValue)
         × (option_and_then as_files (all_of (codes "files") (rows_of (found_of rows.now))) ≡ None))) }

@@ -1,6 +1,6 @@
 //! The values of options.
 
-ghost use Rattle.std.specs.Prelude.{◌≡◌, ◌⊎◌, ◌<◌, true, IfSome, IfOk, IfErr, Some, None, codes, option_map, option_and_then};
+ghost use Rattle.std.specs.Prelude.{◌≡◌, ◌≤◌, ◌⊎◌, true, IfOk, IfErr, IfSome, Some, None, codes, option_map, option_and_then};
 ghost use Rattle.clap.specs.Words.{kind_of, first_of, rows_of, found_of};
 ghost use Rattle.pf_model.specs.Meaning.{schedule};
 ghost use Rattle.pf_text.specs.Numbers.{long_number_of, number_of, schedule_of};
@@ -492,7 +492,7 @@ pub(crate) fn seeds(alloc: Global, rows: &ArgMatches) -> Result<(u64, u64), Erro
 /// The number of workers that a word is.
 pub(crate) fn as_workers(word: &str) -> Option<u32>
     ensures number { result ≡ option_and_then as_workers (number_of word.now) }
-    ensures some { IfSome result (λ n. (0 < n) × (n < 65)) }
+    ensures within { IfSome result (λ n. (1 ≤ n) × (n ≤ 64)) }
 {
     match number_of(word.as_bytes()) {
         Some(number @ 1..=64) => Some(number),
