@@ -1,6 +1,6 @@
 //! `farm`: a client for each file, and workers, on one running farm.
 
-ghost use Rattle.std.specs.Prelude.{◌≡◌, ◌<◌, ◌≤◌, Some, vec_len};
+ghost use Rattle.std.specs.Prelude.{◌≡◌, ◌<◌, ◌≤◌, IfOk, IfSome, Some, length, vec_len};
 
 use crate::args::open;
 use crate::messages::{REFUSED, failed, say};
@@ -76,10 +76,11 @@ where
 fn opened<R>(rt: &R, names: &[&str]) -> Result<Option<Vec<R::File>>, OrNoMemory<StreamFault>>
 where
     R: Files + Print + Eprint + AllocGlobal,
+    ensures { IfOk result (λ files. IfSome files (λ v. vec_len v ≡ length names.now)) }
 {
     let mut files = Vec::new(rt.alloc());
     let mut is_read = false;
-    for name in names {
+    'names: for name in names {
         let is_input = *name == "-";
         if is_input && is_read {
             say(rt, "the standard input can be the file of one client only");
