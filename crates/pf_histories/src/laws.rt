@@ -1,0 +1,22 @@
+//! Laws of the definitions: functions with empty bodies, whose contracts are the laws. A history is of any length, and
+//! workers' notes stand anywhere in it. No law promises that a trial is ever filed.
+
+ghost use Rattle.pf_histories.specs.Laws.{ReportsAreMeant, NotedReportsAreMeant, SettledHistories};
+
+/// Reports: at every legal desk with no file marked for memory, what a `fetch` is told is what the job of its trial means.
+pub fn reports_are_meant()
+    ensures { ReportsAreMeant }
+{}
+
+/// Noted reports: what a legal history with no file marked for memory notes that a `fetch` was told is what the job of its
+/// trial means, at the desk of the entries before it.
+pub fn noted_reports_are_meant()
+    ensures { NotedReportsAreMeant }
+{}
+
+/// Settled: two legal desks with no file marked for memory, whose histories note the same calls in the same order, were
+/// told the same replies to settled calls, however workers' notes stand between them. A `status` is never settled, and a
+/// `fetch` only if neither history notes that its trial isn't done; all other calls are.
+pub fn settled_histories()
+    ensures { SettledHistories }
+{}
