@@ -131,7 +131,9 @@ fn answer_due<'a, W: Write, M: Ledger>(
         (W.contents writer.old.inner) (W.contents writer.new.inner)
         writer.old.failures.total writer.new.failures.total)) }
 {
-    let mut gathered = Gathered::new(alloc);
+    let mut gathered = Gathered {
+        text: Vec::new(alloc),
+    };
     let mut told = Told {
         text: Vec::new(alloc),
         report: None,
