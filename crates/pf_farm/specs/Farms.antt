@@ -1,7 +1,7 @@
 -- What contracts see of a farm.
 use Rattle.std.specs.Prelude.{◌≡◌, ⊤, ℕ}
-use Rattle.pf_fault.specs.declared.memory.OrNoMemory.{OrNoMemory}
-use Rattle.pf_fault.specs.declared.memory.OrNoMemory.TheVariants.{Fault, NoMemory}
+use Rattle.pf_fault.specs.declared.fault.OrNoMemory.{OrNoMemory}
+use Rattle.pf_fault.specs.declared.fault.OrNoMemory.TheVariants.{Fault, NoMemory}
 use Rattle.pf_farm.specs.declared.farm.NoSeat.{NoSeat}
 use Rattle.pf_farm.specs.declared.farm.TheConstants.{MOST_SEATS}
 

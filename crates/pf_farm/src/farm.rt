@@ -65,6 +65,7 @@ pub struct Farm<N: FarmNames> {
 impl<N: FarmNames> Model for Farm<N> {
     ghost use Rattle.std.specs.Prelude.{◌≡◌, ◌+◌, ◌<◌, ◌≤◌, []};
     ghost use Rattle.std.specs.Vec.{vec_capacity};
+    ghost use Rattle.pf_farm.specs.declared.farm.TheConstants.{MOST_SEATS};
     ghost use Rattle.pf_farm.specs.Farms.{FarmView, farm_of};
 
     ghost Value = { FarmView };
@@ -116,9 +117,7 @@ impl<N: FarmNames> Farm<N> {
         let (all_ended, mut ended) = ended.open::<EndedLedger<N>>();
         let (logged, calls) = calls.open::<CallLedger<N>>();
         let seats = ring_of_seats(alloc, &mut opened, &mut ended, workers)?;
-        let hall = Hall::new(
-            alloc, keys, all_opened, all_ended, logged, claims, receipts,
-        );
+        let hall = Hall::new(alloc, keys, all_opened, all_ended, logged, claims, receipts);
         let farm = Farm {
             floor: Floor::new(hall),
             opened,
@@ -132,11 +131,7 @@ impl<N: FarmNames> Farm<N> {
     }
 
     /// A seat for a client of a project, unless as many were given as may be. Several seats may have one project.
-    pub fn seat(
-        &mut self,
-        alloc: Global,
-        project: u32,
-    ) -> Result<ClientSeat<N>, OrNoMemory<NoSeat>>
+    pub fn seat(&mut self, alloc: Global, project: u32) -> Result<ClientSeat<N>, OrNoMemory<NoSeat>>
         ensures seat { IfOk result (λ s. (s ≡ empty_client project)
             × (self.new ≡ farm_of self.old.workers (self.old.given + 1))) }
         ensures err { IfErr result (λ e. LacksSeat e self.old × (self.new ≡ self.old)) }

@@ -128,8 +128,11 @@ impl<N: FarmNames> Floor<N> {
         let slot = slot_of(project);
         let mut shared = self.shared.lock(rt);
         shared.clients.enter(slot, ticket);
-        let mut shared =
-            self.done[slot].wait_while(rt, shared, |shared| shared.is_undone(project, ticket));
+        let mut shared = self.done[slot].wait_while(
+            rt,
+            shared,
+            |shared| shared.is_undone(project, ticket),
+        );
         shared.clients.leave(slot);
     }
 
