@@ -62,7 +62,12 @@ pub fn work_all<N: FarmNames + Sync + Send, G: Gate + Sync, R: Threads + Wait + 
     ensures idle { AllIdle seats.new }
 {
     let count = seats.len();
-    for_each_mut(rt, seats, count, &|_, seat| work(alloc, rt, floor, seat, gate));
+    let work_one = move |_: usize, seat: &mut WorkSeat<N>|
+        requires { seat.now.busy ≡ false }
+        ensures ends { SameEnds seat.entry.now seat.exit.now }
+        ensures idle { seat.exit.now.busy ≡ false }
+    { work(alloc, rt, floor, seat, gate) };
+    for_each_mut(rt, seats, count, &work_one);
 }
 
 /// Hands back all runs that are parked.
