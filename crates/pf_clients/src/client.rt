@@ -13,7 +13,7 @@ use pf_terms::{Counted, NoMemory, StreamFault};
 use pf_wire::{MOST_BYTES, Requester, Told, put_outcome};
 use pf_workshop::Response;
 use std::alloc::Global;
-use std::io::Read;
+use std::io::{Error, Read};
 use std::marker::Brand;
 use std::sync::Wait;
 use std::sync::ledger::{Blank, Ledger};
@@ -25,8 +25,20 @@ pub(crate) enum Ended {
     Answered,
     /// One was no command, and none behind it was read.
     NoCommand,
-    /// The file can't be read any more, or memory ran out.
-    Stopped(OrNoMemory<StreamFault>),
+    /// The file can't be read any more.
+    Unread(Error),
+    /// Memory ran out.
+    NoMemory,
+}
+
+/// How a file ended that can't be read, or for which memory ran out.
+fn stopped(stop: OrNoMemory<StreamFault>) -> Ended {
+    match stop {
+        OrNoMemory::Fault(StreamFault::Read(error) | StreamFault::Write(error)) => {
+            Ended::Unread(error)
+        }
+        OrNoMemory::NoMemory => Ended::NoMemory,
+    }
 }
 
 /// A client: its seat, its file until that is read, and what it was told, reply by reply.
@@ -63,7 +75,7 @@ impl<N: FarmNames, R: Read + Drop> Client<N, R> {
     ) {
         self.ended = match self.answer_all(alloc, rt, floor, watch) {
             Ok(ended) => ended,
-            Err(stop) => Ended::Stopped(stop),
+            Err(stop) => stopped(stop),
         };
     }
 

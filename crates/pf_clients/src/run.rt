@@ -1,6 +1,7 @@
 //! A farm of workers and clients, from its opening to its end.
 
-ghost use Rattle.std.specs.Prelude.{◌≡◌, ◌<◌, ◌≤◌, [], IfOk, Some, length, vec_capacity, vec_len};
+ghost use Rattle.std.specs.Prelude.{◌≡◌, ◌<◌, ◌≤◌, [], IfErr, IfOk, OnOk, Some, length, vec_capacity, vec_len};
+ghost use Rattle.pf_clients.specs.Faults.{CountsFault};
 ghost use Rattle.pf_farm.specs.Farms.{farm_of};
 ghost use Rattle.pf_farm.specs.Seats.{AllIdle, IsRing};
 
@@ -45,6 +46,8 @@ pub fn run_farm<
     requires workers { (0 < workers) × (workers < N.workers) }
     requires seats { MOST_SEATS < N.seats }
     requires files { (0 < vec_len files) × (vec_len files ≤ MOST_SEATS) }
+    ensures kept { OnOk result (writer.new.failures.total ≡ writer.old.failures.total) }
+    ensures counted { IfErr result (λ e. CountsFault e writer.old.failures.total writer.new.failures.total) }
 {
     let (mut farm, mut seats) = Farm::<N>::open(alloc, keys, blanks, workers)?;
     let mut clients = seated(alloc, &mut farm, files)?;

@@ -2,6 +2,7 @@
 
 ghost use Rattle.std.specs.Prelude.{◌≡◌, IfErr, OnOk};
 ghost use Rattle.pf_terms.specs.Streams.{CountsWrite};
+ghost use Rattle.pf_clients.specs.Faults.{CountsFault};
 
 use crate::client::Ended;
 use pf_fault::OrNoMemory;
@@ -28,7 +29,7 @@ fn write_one<W: Write, M: Ledger>(
     ensures counted { IfErr result (λ e. CountsWrite e writer.old.failures.total writer.new.failures.total) }
 {
     let mut gathered = Gathered::new(alloc);
-    for reply in told {
+    'replies: for reply in told {
         gathered.add_told(writer, reply)?;
     }
     gathered.send(writer)
@@ -39,14 +40,18 @@ pub(crate) fn write_all<W: Write, M: Ledger>(
     alloc: Global,
     answers: Vec<Answers>,
     writer: &mut Counted<W, M>,
-) -> Result<u8, OrNoMemory<StreamFault>> {
+) -> Result<u8, OrNoMemory<StreamFault>>
+    ensures kept { OnOk result (writer.new.failures.total ≡ writer.old.failures.total) }
+    ensures counted { IfErr result (λ e. CountsFault e writer.old.failures.total writer.new.failures.total) }
+{
     let mut status = 0;
-    for Answers { told, ended } in answers {
+    'files: for Answers { told, ended } in answers {
         write_one(alloc, &told, writer)?;
         match ended {
             Ended::Answered => {}
             Ended::NoCommand => status = 2,
-            Ended::Stopped(stop) => return Err(stop),
+            Ended::Unread(error) => return Err(OrNoMemory::Fault(StreamFault::Read(error))),
+            Ended::NoMemory => return Err(OrNoMemory::NoMemory),
         }
     }
     Ok(status)
