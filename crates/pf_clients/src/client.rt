@@ -66,13 +66,7 @@ fn contents<R: Read + Drop, L: Ledger>(
 
 impl<N: FarmNames, R: Read + Drop> Client<N, R> {
     /// Answers the lines of its file, at most 64 MiB of it, up to one that is no command.
-    pub fn work<T: Wait, G: Watch>(
-        &mut self,
-        alloc: Global,
-        rt: &T,
-        floor: &Floor<N>,
-        watch: &G,
-    ) {
+    pub fn work<T: Wait, G: Watch>(&mut self, alloc: Global, rt: &T, floor: &Floor<N>, watch: &G) {
         self.ended = match self.answer_all(alloc, rt, floor, watch) {
             Ok(ended) => ended,
             Err(stop) => stopped(stop),

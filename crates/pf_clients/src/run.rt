@@ -130,18 +130,17 @@ fn answer_all<
     R: Read + Send + Drop,
     T: Threads + Wait + Sync,
     G: Watch + Sync,
->(
-    alloc: Global,
-    rt: &T,
-    floor: &Floor<N>,
-    clients: &mut [Client<N, R>],
-    watch: &G,
-)
+>(alloc: Global, rt: &T, floor: &Floor<N>, clients: &mut [Client<N, R>], watch: &G)
     requires { 0 < length clients.old }
     ensures { length clients.new ≡ length clients.old }
 {
     let count = clients.len();
-    for_each_mut(rt, clients, count, &|_, client| client.work(alloc, rt, floor, watch));
+    for_each_mut(
+        rt,
+        clients,
+        count,
+        &|_, client| client.work(alloc, rt, floor, watch),
+    );
     floor.stop(rt);
 }
 

@@ -50,7 +50,7 @@ four_sync ν A B C D a b c d = search sendable depth 20
 
 module _ (A B C : RattleType) where
   pub closure_sync :
-    (i : ℕ) (δ : Ty) (ν : Sym) (a b c : NamedLft) → IsSync A → IsSync B → IsSync C →
-    IsSync (param i (arg δ no (TupleAt ν (Global.the_row ∷ ShrRef a.mir a.lft A ∷ ShrRef b.mir b.lft B ∷ ShrRef c.mir c.lft C ∷ []))))
+      (i : ℕ) (δ : Ty) (ν : Sym) (a b c : NamedLft) → IsSync A → IsSync B → IsSync C →
+      IsSync (param i (arg δ no (TupleAt ν (Global.the_row ∷ ShrRef a.mir a.lft A ∷ ShrRef b.mir b.lft B ∷ ShrRef c.mir c.lft C ∷ []))))
   closure_sync i δ ν a b c s t u =
       param_sync i _ (arg_sync δ no _ (four_sync ν _ _ _ _ heap.sync (shr_sync a.mir a.lft A s) (shr_sync b.mir b.lft B t) (shr_sync c.mir c.lft C u)))

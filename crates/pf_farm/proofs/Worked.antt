@@ -12,8 +12,8 @@ idle_each [] each = tt
 idle_each (s ∷ ss) each = (each 0 s (omega arith), idle_each ss (λ i d within. each (suc i) d (omega (arith, within))))
 
 pub chain_each :
-  (from to : Place) (ss ts : List SeatView) → length ts ≡ length ss → ((i : ℕ) (d : SeatView) → i < length ss → SameEnds (get_or ss i d) (get_or ts i d)) →
-  IsChain from ss to → IsChain from ts to
+    (from to : Place) (ss ts : List SeatView) → length ts ≡ length ss → ((i : ℕ) (d : SeatView) → i < length ss → SameEnds (get_or ss i d) (get_or ts i d)) →
+    IsChain from ss to → IsChain from ts to
 chain_each from to [] [] len each chain = chain
 chain_each from to [] (t ∷ ts) len each chain = absurd (omega (arith, len))
 chain_each from to (s ∷ ss) [] len each chain = absurd (omega (arith, len))

@@ -20,7 +20,11 @@ use std::thread::{Threads, for_each_mut};
 
 /// How many claims ended so.
 fn ended_as(closing: &Closing, end: End) -> usize {
-    closing.rows.iter().filter(|row| row.end == Some(end)).count()
+    closing
+        .rows
+        .iter()
+        .filter(|row| row.end == Some(end))
+        .count()
 }
 
 /// Whether the receipts of all seats of a project have the numbers of its calls, each once, and rise in each seat.
@@ -39,7 +43,10 @@ fn has_all_receipts(alloc: Global, closing: &Closing, project: u32) -> Result<bo
         }
     }
     numbers.sort_unstable();
-    let counted = numbers.iter().zip(1u64..).all(|(number, place)| *number == place);
+    let counted = numbers
+        .iter()
+        .zip(1u64..)
+        .all(|(number, place)| *number == place);
     Ok(counted && numbers.len() as u64 == closing.call_count(project))
 }
 
@@ -158,11 +165,16 @@ impl Scene for Plays {
         floor: &Floor<N>,
         seats: &mut [ClientSeat<N>],
     ) -> Result<(), Missed> {
-        for_each_mut(rt, seats, 4, &|_, seat| {
-            if self.client(alloc, rt, floor, seat).is_err() {
-                self.failed.set();
-            }
-        });
+        for_each_mut(
+            rt,
+            seats,
+            4,
+            &|_, seat| {
+                if self.client(alloc, rt, floor, seat).is_err() {
+                    self.failed.set();
+                }
+            },
+        );
         if self.failed.count() == 0 {
             Ok(())
         } else {
@@ -194,8 +206,14 @@ fn two_seats_may_have_one_project(rt: HostRuntime) -> Result<(), Fail> {
     let scene = Plays::new(Play::Full);
     let closing = play(alloc, &rt, keys, 1, &[7, 7], &scene)?;
     assert_eq!(rt; closing.call_count(7), 10_000);
-    assert!(rt; has_all_receipts(alloc, &closing, 7)?, "each call has its receipt");
-    assert!(rt; closing.seats.iter().any(|seat| seat.is_full), "one seat met the full log");
+    assert!(rt;
+        has_all_receipts(alloc, &closing, 7)?,
+        "each call has its receipt"
+    );
+    assert!(rt;
+        closing.seats.iter().any(|seat| seat.is_full),
+        "one seat met the full log"
+    );
     Ok(())
 }
 
@@ -217,7 +235,13 @@ fn runs_that_are_parked_at_the_stop_are_handed_back(rt: HostRuntime) -> Result<(
     let filed = ended_as(&closing, End::Filed);
     let handed_back = ended_as(&closing, End::HandedBack);
     // One that was handed back may be claimed again by a worker that hasn't seen the end yet.
-    assert!(rt; handed_back >= 20usize.saturating_sub(filed), "what isn't over is handed back");
-    assert!(rt; handed_back > 0 && closing.rows.len() == filed.saturating_add(handed_back), "each claim has ended");
+    assert!(rt;
+        handed_back >= 20usize.saturating_sub(filed),
+        "what isn't over is handed back"
+    );
+    assert!(rt;
+        handed_back > 0 && closing.rows.len() == filed.saturating_add(handed_back),
+        "each claim has ended"
+    );
     Ok(())
 }

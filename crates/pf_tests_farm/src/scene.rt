@@ -4,9 +4,7 @@ ghost use Rattle.std.specs.Prelude.{◌≡◌, ◌<◌, ◌≤◌, Some, length,
 ghost use Rattle.pf_farm.specs.Farms.{farm_of};
 
 use crate::missed::Missed;
-use pf_farm::{
-    Blanks, ClientSeat, Closing, Farm, Floor, Gate, MOST_SEATS, NoSeat, work_all,
-};
+use pf_farm::{Blanks, ClientSeat, Closing, Farm, Floor, Gate, MOST_SEATS, NoSeat, work_all};
 use pf_farm_names::FarmNames;
 use pf_fault::OrNoMemory;
 use pf_register::NewRegister;

@@ -80,7 +80,8 @@ impl Scene for OneIsStolen {
         self.third_begun.wait_for("the third trial doesn't begin")?;
         let short = order(alloc, rt, floor, second, 1, 1, 100)?;
         self.second_ordered.set();
-        self.second_begun.wait_for("the second trial doesn't begin")?;
+        self.second_begun
+            .wait_for("the second trial doesn't begin")?;
         await_done(alloc, rt, floor, first, long)?;
         fetch(alloc, rt, floor, first, long)?;
         self.first_fetched.set();
@@ -105,7 +106,10 @@ fn gate_steal(rt: HostRuntime) -> Result<(), Fail> {
     let keys = RandomState::new(&rt)?;
     let closing = play(rt.alloc(), &rt, keys, 2, &[1, 2, 3], &scene)?;
     assert_eq!(rt; closing.rows.len(), 3);
-    assert!(rt; scene.first_slices.count() > 1, "the long trial has several slices");
+    assert!(rt;
+        scene.first_slices.count() > 1,
+        "the long trial has several slices"
+    );
     assert_eq!(rt; scene.out_of_order.count(), 0);
     Ok(())
 }

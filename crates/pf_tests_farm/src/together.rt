@@ -112,11 +112,16 @@ impl Scene for TwoTrials {
         floor: &Floor<N>,
         seats: &mut [ClientSeat<N>],
     ) -> Result<(), Missed> {
-        for_each_mut(rt, seats, 2, &|_, seat| {
-            if self.client(alloc, rt, floor, seat).is_err() {
-                self.sides(seat.project()).0.failed.set();
-            }
-        });
+        for_each_mut(
+            rt,
+            seats,
+            2,
+            &|_, seat| {
+                if self.client(alloc, rt, floor, seat).is_err() {
+                    self.sides(seat.project()).0.failed.set();
+                }
+            },
+        );
         if self.first.fetched.count() == 1 && self.second.fetched.count() == 1 {
             Ok(())
         } else {

@@ -10,8 +10,8 @@ use pf_cli::FarmArgs;
 use pf_clients::run_farm;
 use pf_farm::{Blanks, MOST_SEATS};
 use pf_farm_names::FarmNames;
-use pf_register::NewRegister;
 use pf_fault::OrNoMemory;
+use pf_register::NewRegister;
 use pf_terms::{Counted, StreamFault};
 use std::alloc::AllocGlobal;
 use std::fs::Files;
@@ -60,7 +60,14 @@ where
             receipts: NewRegister::new(alloc)?,
         };
         let watch = FarmWatch::new(self.rt, alloc, self.stderr, files.len(), args.summary)?;
-        let status = run_by::<Brand, R, W, M>(self.rt, args.workers, blanks, files, &watch, writer)?;
+        let status = run_by::<Brand, R, W, M>(
+            self.rt,
+            args.workers,
+            blanks,
+            files,
+            &watch,
+            writer,
+        )?;
         watch.end();
         if status == REFUSED {
             say(

@@ -92,7 +92,9 @@ where
     let inner = stdout;
     let clearing = Clearing { line, inner };
     let (reads, writes) = (Blank::new(1), Blank::new(1));
-    try_all_by::<R, I, Clearing<'_, W>, Brand, Brand>(rt, stdin, clearing, line, farmer, reads, writes)
+    try_all_by::<R, I, Clearing<'_, W>, Brand, Brand>(
+        rt, stdin, clearing, line, farmer, reads, writes,
+    )
 }
 
 /// Does all work; what it gives is the status.

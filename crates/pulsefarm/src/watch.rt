@@ -7,11 +7,11 @@ use pf_farm::{Gate, WorkTally};
 use pf_fault::NoMemory;
 use pf_sched::{Parked, Scratch, Slice, run_slice};
 use std::alloc::Global;
+use std::fmt;
 use std::io::{IsTerminal, Stderr};
 use std::sync::Wait;
 use std::sync::atomic::{AtomicU64, Ordering};
 use std::time::{Clock, Instant};
-use std::fmt;
 
 /// How many milliseconds what was told stands there at least.
 const PAUSE: u64 = 100;

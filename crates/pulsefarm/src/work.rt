@@ -225,7 +225,15 @@ where
     };
     let answered = match open(rt, name) {
         Ok(file) => {
-            answer_file::<R::File, W, Brand, M>(rt, asked, file, writer, line, farmer, Blank::new(1))
+            answer_file::<R::File, W, Brand, M>(
+                rt,
+                asked,
+                file,
+                writer,
+                line,
+                farmer,
+                Blank::new(1),
+            )
         }
         Err(error) => Err(OrNoMemory::Fault(StreamFault::Read(error))),
     };
