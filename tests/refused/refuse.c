@@ -1,4 +1,4 @@
-// Refuses the growth that the variable REFUSE_GROWTH numbers, counted from 1 over malloc and realloc, and no other.
+// Refuses the growth that the variable REFUSE_GROWTH numbers, counted from 1 over malloc and realloc of all threads, and no other.
 // Where REFUSE_TOLD names a file, it is made when a growth was refused. Where BLOCKS_TOLD names a file, it is given, at the
 // program's end, how many blocks were asked for, how many were given back, and how many bytes stood in blocks at most.
 // Loaded by LD_PRELOAD; no part of any program.
@@ -11,18 +11,24 @@
 #include <stdlib.h>
 #include <unistd.h>
 
-static long left = -1;
+static long refused = -1;
+static long growths = 0;
 static long asked = 0;
 static long given_back = 0;
 static long standing = 0;
 static long most = 0;
 
+static long add(long *number, long more) {
+    return __atomic_add_fetch(number, more, __ATOMIC_SEQ_CST);
+}
+
+// The first growth comes before any thread is started.
 static int refuses(void) {
-    if (left == -1) {
+    if (refused == -1) {
         const char *number = getenv("REFUSE_GROWTH");
-        left = number ? strtol(number, NULL, 10) : 0;
+        refused = number ? strtol(number, NULL, 10) : 0;
     }
-    if (left == 0 || --left > 0) {
+    if (add(&growths, 1) != refused) {
         return 0;
     }
     const char *told = getenv("REFUSE_TOLD");
@@ -37,12 +43,14 @@ static int refuses(void) {
 }
 
 static void stands(long bytes) {
-    standing += bytes;
-    most = standing > most ? standing : most;
+    long now = add(&standing, bytes);
+    long before = __atomic_load_n(&most, __ATOMIC_SEQ_CST);
+    while (before < now && !__atomic_compare_exchange_n(&most, &before, now, 0, __ATOMIC_SEQ_CST, __ATOMIC_SEQ_CST)) {
+    }
 }
 
 static void *counted(void *block) {
-    asked += block != NULL;
+    add(&asked, block != NULL);
     stands((long)malloc_usable_size(block));
     return block;
 }
@@ -79,8 +87,8 @@ void free(void *block) {
     if (!real) {
         real = (void (*)(void *))dlsym(RTLD_NEXT, "free");
     }
-    given_back += block != NULL;
-    standing -= (long)malloc_usable_size(block);
+    add(&given_back, block != NULL);
+    add(&standing, -(long)malloc_usable_size(block));
     real(block);
 }
 

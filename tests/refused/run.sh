@@ -8,7 +8,8 @@
 # status 1 or 2. Anything else, a signal or a hang fails. Each run of the program itself, refused or not, has to give back each
 # block that it asked for.
 #
-# It does the same with `pulsefarm steps`, whose runs may go on after a refused growth and say so in a line.
+# It does the same with `pulsefarm steps`, whose runs may go on after a refused growth and say so in a line; and with `pulsefarm farm` over two files with two workers.
+# There the growths of all threads are counted, in an order that differs from run to run. So which growth is refused isn't known, but each text that may follow is.
 #
 # Then it runs a loop by tail calls within 1,000 and within 100,000 steps: both have to take the same memory at most.
 set -u
@@ -46,7 +47,7 @@ refusing() {
   rm -f "$room/told" "$room/blocks"
   # The words have no blanks in them.
   # shellcheck disable=SC2046
-  timeout 10 env LD_PRELOAD="$room/refuse.so" REFUSE_GROWTH="$1" REFUSE_TOLD="$room/told" BLOCKS_TOLD="$room/blocks" \
+  timeout 20 env LD_PRELOAD="$room/refuse.so" REFUSE_GROWTH="$1" REFUSE_TOLD="$room/told" BLOCKS_TOLD="$room/blocks" \
     "$program" $(cat "$room/words") < "$room/in" > "$room/out" 2> "$room/err"
   status=$?
 }
@@ -157,6 +158,73 @@ some_commands() {
     'steps 4' 'property holds' 'p2 refused B5' 'p2 usage 1 52 1 100 3' > "$whole"
 }
 
+# What the client of project $1 is told where a growth was refused in the call $2, or in the run $2 of one of its trials; by any other word no growth was refused.
+# A call that is refused so isn't logged, and uses up no number. Then comes what follows from it: without its module there is no order, and the second order has the first ticket if the first was refused.
+told_where() {
+  no="p$1 refused"
+  ticket="p$1 ticket"
+  module="p$1 module 1"
+  held="p$1 usage 1 $size"
+  case $2 in
+    submit) printf '%s\n' "$no NoMemory" "$no B1" "$no B1" "$no B3" "$no B3" "p$1 usage 0 0 0 0 4" ;;
+    first) printf '%s\n' "$module" "$no NoMemory" "$ticket 1" "p$1 $short" "$no B3" "$held 1 100 4" ;;
+    second) printf '%s\n' "$module" "$ticket 1" "$no NoMemory" "p$1 $long" "$no B3" "$held 1 2000 4" ;;
+    fetch) printf '%s\n' "$module" "$ticket 1" "$ticket 2" "$no NoMemory" "p$1 $short" "$held 2 2100 4" ;;
+    again) printf '%s\n' "$module" "$ticket 1" "$ticket 2" "p$1 $long" "$no NoMemory" "$held 2 2100 4" ;;
+    usage) printf '%s\n' "$module" "$ticket 1" "$ticket 2" "p$1 $long" "p$1 $short" "$no NoMemory" ;;
+    long) printf '%s\n' "$module" "$ticket 1" "$ticket 2" "p$1 $memory" "p$1 $short" "$held 2 2100 5" ;;
+    short) printf '%s\n' "$module" "$ticket 1" "$ticket 2" "p$1 $long" "p$1 $memory" "$held 2 2100 5" ;;
+    *) printf '%s\n' "$module" "$ticket 1" "$ticket 2" "p$1 $long" "p$1 $short" "$held 2 2100 5" ;;
+  esac
+}
+
+# Says in `allowed` that a run may end with the status $1 and the output in the file $2.
+allow() { echo "$1 $(cksum < "$2")" >> "$room/allowed"; }
+
+# Sets the words and the files of `pulsefarm farm`, and says how a run may end: with what both clients are told where one growth at most was refused; or
+# with status 2 and what was told up to some reply, file by file. Each client orders a run of 601 events, which a worker parks twice, and a short one. The long
+# one takes 5 steps for each of 300 sends, 3 beside them, and one for each delivery, to who has ended.
+some_farm() {
+  echo "farm --workers 2 $room/c1 $room/c2" > "$room/words"
+  : > "$room/in"
+  printf '%s\n' '-module(m).' '-export([main/0, one/0]).' 'main() -> f(300).' 'f(0) -> ok; f(N) -> self() ! N, f(N - 1).' 'one() -> 1 + 2 * 3.' > "$room/source"
+  size=$(($(wc -c < "$room/source")))
+  for p in 1 2; do
+    { echo "submit $p $size"; cat "$room/source"; echo; echo "order $p 1 main returns none 2000"; echo "order $p 1 one returns none 100"
+      for t in 1 2; do printf 'await %s %s\nfetch %s %s\n' $p $t $p $t; done; echo "usage $p"; } > "$room/c$p"
+  done
+  long=$(echo 'report 604'; awk 'BEGIN {
+    for (n = 300; n >= 1; n--) printf "0/%d <0> send <0> %d\n", (n == 300 ? 1 : 2), n
+    print "0/2 <0> end normal"
+    for (n = 1; n <= 300; n++) print "0/1 <0>-><0> deliver message dropped"
+    printf "finished ok\nsteps 1803\nproperty holds\n"
+  }')
+  short=$(printf '%s\n' 'report 4' '0/1 <0> end normal' 'finished 7' 'steps 4' 'property holds')
+  memory=$(printf '%s\n' 'report 3' memory 'steps 0' 'no verdict')
+  : > "$room/allowed"
+  for word in nothing submit first second fetch again usage long short; do
+    { told_where 1 $word; told_where 2 nothing; } > "$room/whole"
+    allow 0 "$room/whole"
+    { told_where 1 nothing; told_where 2 $word; } > "$room/whole"
+    allow 0 "$room/whole"
+  done
+  whole=$room/whole
+  wanted=0
+  { told_where 1 nothing; told_where 2 nothing; } > "$whole"
+  replies=0
+  while [ "$replies" -lt 12 ]; do
+    awk -v most="$replies" '/^p[12] / { replies++ } replies <= most' "$whole" > "$room/front"
+    allow 2 "$room/front"
+    replies=$((replies + 1))
+  done
+}
+
+# Whether a run of the farm ended as it may, with a message where its status isn't 0. While the words are read nobody knows that they ask for a farm: `NoMemory` goes out.
+farm_ended_well() {
+  if [ "$status" != 0 ] && [ ! -s "$room/err" ]; then return 1; fi
+  grep -q -x -e "$status $(cksum < "$room/out")" "$room/allowed" || ended_well
+}
+
 # Sets `most` to the bytes that stood in blocks at most, in a run within $1 steps.
 most_within() {
   echo "run --root main --limit $1 --schedule none" > "$room/words"
@@ -185,6 +253,8 @@ chart_refused
 some_commands
 all_refused steps commands_ended_well
 row_refused steps_race_in_both_orders commands_ended_well
+some_farm
+all_refused farm farm_ended_well
 
 printf '%s\n' '-module(m).' '-export([main/0]).' 'main() -> loop(50000).' 'loop(N) -> case N of 0 -> done; _ -> loop(N - 1) end.' > "$room/in"
 most_within 1000
