@@ -15,6 +15,7 @@ use Rattle.pf_deques.proofs.ends.Owner.TheSendSync as owner
 use Rattle.pf_deques.proofs.ends.Thief.TheSendSync as thief
 use Rattle.pf_sched.proofs.Crossing as sched
 use Rattle.pf_hall.proofs.Crossing as hall
+use Rattle.pf_farm.proofs.tally.WorkTally.TheSendSync as tally
 use Rattle.pf_farm.specs.contracts.held.HeldRun as HeldRun
 use Rattle.pf_farm.specs.contracts.seat.WorkSeat as WorkSeat
 use Rattle.pf_farm.specs.contracts.floor.Shared as Shared
@@ -27,7 +28,7 @@ module _ (N : RattleType) (g : names.Ghosts N.Denot) where
   held_run_send = search (hall.open_claim_send, sched.parked_send, sendable) depth 30
 
   pub work_seat_send : IsSend (WorkSeat.the_row N g)
-  work_seat_send = search (held_run_send, owner.the_send, thief.the_send, share.the_send, sendable) depth 30
+  work_seat_send = search (held_run_send, owner.the_send, thief.the_send, share.the_send, tally.the_field_send, sendable) depth 30
 
   -- ---- the floor
 
