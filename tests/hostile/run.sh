@@ -439,20 +439,25 @@ texts_for_readers() {
   done
 }
 
-# A deep source takes who reads it 1 MiB of stack at most, and the program needs 128 KiB of the system for itself: so 16 clients at once read such sources there.
+# A deep source takes who reads it 1 MiB of stack at most, and the program needs 128 KiB of the system for itself: so 64 clients at once read such sources there. Each awaits a
+# trial before, so that no thread can serve them all by itself.
 deep_sources_of_a_farm() {
-  module main/0 "main() -> $(repeated 'case 2 of 1 -> ' 255)1$(repeated ' end' 255)."
-  names=
+  module main/0,deep/0 'main() -> main().' "deep() -> $(repeated 'case 2 of 1 -> ' 255)1$(repeated ' end' 255)."
+  cp in deep
+  module main/0 'main() -> main().'
+  names=''
   : > wanted
-  for p in $(seq 16); do
+  for p in $(seq 64); do
     {
-      for _ in $(seq 20); do echo "submit $p $(($(wc -c < in)))"; cat in; echo; done
-      printf 'order %s 1 main returns none 9\nawait %s 1\nfetch %s 1\n' "$p" "$p" "$p"
+      echo "submit $p $(($(wc -c < in)))"; cat in; echo
+      for t in 1 2; do printf 'order %s 1 main withinlimit none 100000\nawait %s %s\n' "$p" "$p" $t; done
+      echo "submit $p $(($(wc -c < deep)))"; cat deep; echo
+      printf 'order %s 2 deep nocrash none 9\nawait %s 3\nfetch %s 3\n' "$p" "$p" "$p"
     } > "c$p"
     {
-      for n in $(seq 16); do echo "p$p module $n"; done
-      for _ in $(seq 4); do echo "p$p refused Q1"; done
-      printf 'p%s ticket 1\np%s report 4\n0/1 <0> end {{case_clause,2},[]}\nended {{case_clause,2},[]}\nsteps 3\nproperty fails\n' "$p" "$p"
+      echo "p$p module 1"
+      for t in 1 2; do echo "p$p ticket $t"; done
+      printf 'p%s module 2\np%s ticket 3\np%s report 4\n0/1 <0> end {{case_clause,2},[]}\nended {{case_clause,2},[]}\nsteps 3\nproperty fails\n' "$p" "$p" "$p"
     } >> wanted
     names="$names c$p"
   done
