@@ -464,10 +464,15 @@ deep_sources_of_a_farm() {
   : > in
   # The names have no blanks in them.
   # shellcheck disable=SC2086
-  (ulimit -s 128; exec timeout 60 "$program" farm --workers 4 $names) < in > out 2> err
+  (ulimit -s 8192; exec timeout 60 "$program" farm --workers 4 $names) < in > out 2> err
   status=$?
   [ $status = 0 ] && cmp -s out wanted
   note "deep sources of a farm: status $status" $?
+  # Threads have the stack that the limit gives: with less than they may want there is no farm.
+  (ulimit -s 4095; exec timeout 60 "$program" farm --workers 1 c1) < in > out 2> err
+  status=$?
+  [ $status = 2 ] && [ ! -s out ] && [ "$(cat err)" = "pulsefarm: a farm's threads have the stack that \`ulimit -s\` gives, and want 4 MiB of it" ]
+  note "a farm on small stacks: status $status" $?
 }
 
 # A schedule of 67,108,864 bytes, which are as many as are read, and more behind them: it has 33,554,432 numbers, which are too many.

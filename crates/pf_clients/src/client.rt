@@ -18,6 +18,9 @@ use std::marker::Brand;
 use std::sync::Wait;
 use std::sync::ledger::{Blank, Ledger};
 
+/// How long a text of several replies gets, in bytes, before another is begun.
+const MOST_TEXT: usize = 65_536;
+
 /// How the lines of a file ended.
 #[derive(Drop)]
 pub(crate) enum Ended {
@@ -110,12 +113,8 @@ impl<N: FarmNames, R: Read + Drop> Client<N, R> {
         bytes: &'a [u8],
     ) -> Result<Option<&'a [u8]>, NoMemory> {
         match read_client_line(alloc, self.seat.project(), bytes) {
-            Ok((ClientLine::Call(call), rest)) => {
-                self.answer_call(alloc, rt, floor, watch, call)?;
-                Ok(Some(rest))
-            }
-            Ok((ClientLine::Await(ticket), rest)) => {
-                floor.wait_done(rt, &self.seat, ticket);
+            Ok((line, rest)) => {
+                self.answer_line(alloc, rt, floor, watch, line)?;
                 Ok(Some(rest))
             }
             Err(OrNoMemory::Fault(NoCommand)) => {
@@ -123,6 +122,24 @@ impl<N: FarmNames, R: Read + Drop> Client<N, R> {
                 Ok(None)
             }
             Err(OrNoMemory::NoMemory) => Err(NoMemory),
+        }
+    }
+
+    /// Does what a line asks for.
+    fn answer_line<T: Wait, G: Watch>(
+        &mut self,
+        alloc: Global,
+        rt: &T,
+        floor: &Floor<N>,
+        watch: &G,
+        line: ClientLine,
+    ) -> Result<(), NoMemory> {
+        match line {
+            ClientLine::Call(call) => self.answer_call(alloc, rt, floor, watch, call),
+            ClientLine::Await(ticket) => {
+                floor.wait_done(rt, &self.seat, ticket);
+                Ok(())
+            }
         }
     }
 
@@ -149,6 +166,17 @@ impl<N: FarmNames, R: Read + Drop> Client<N, R> {
             report: None,
         };
         put_outcome(alloc, &mut told, Requester::Client { project }, response)?;
+        self.add(told)
+    }
+
+    /// Adds what was told, to the text that was told last where neither has a report.
+    fn add(&mut self, told: Told) -> Result<(), NoMemory> {
+        if let (Some(last), None) = (self.told.last_mut(), &told.report) {
+            if last.report.is_none() && last.text.len() < MOST_TEXT {
+                last.text.extend_from_slice(&told.text)?;
+                return Ok(());
+            }
+        }
         self.told.push(told)?;
         Ok(())
     }
@@ -156,10 +184,9 @@ impl<N: FarmNames, R: Read + Drop> Client<N, R> {
     /// Puts that the line of this number is no command.
     fn refuse(&mut self, alloc: Global, number: u64) -> Result<(), NoMemory> {
         let line = format!(in alloc; "command {number} refused {NoCommand}\n")?;
-        self.told.push(Told {
+        self.add(Told {
             text: line.into_bytes(),
             report: None,
-        })?;
-        Ok(())
+        })
     }
 }

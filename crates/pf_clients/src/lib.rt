@@ -3,6 +3,7 @@
 
 mod client;
 mod run;
+mod start;
 mod told;
 mod watch;
 

@@ -6,6 +6,7 @@ ghost use Rattle.pf_farm.specs.Farms.{farm_of};
 ghost use Rattle.pf_farm.specs.Seats.{AllIdle, IsRing};
 
 use crate::client::{Client, Ended};
+use crate::start::Start;
 use crate::told::{Answers, write_all};
 use crate::watch::Watch;
 use pf_farm::{Blanks, ClientSeat, Farm, Floor, Gate, MOST_SEATS, NoSeat, WorkSeat, work_all};
@@ -14,10 +15,11 @@ use pf_fault::OrNoMemory;
 use pf_terms::{Counted, NoMemory, StreamFault};
 use std::alloc::Global;
 use std::hash::RandomState;
-use std::io::{Read, Write};
+use std::io::{Error, ErrorKind, Read, Write};
 use std::sync::Wait;
 use std::sync::ledger::Ledger;
 use std::thread::{Threads, for_each_mut, join_mut};
+use std::time::Clock;
 
 /// Has so many workers and a client for each file work on one farm, file k, counted from 1, being that of project k, each in a thread of its own; then writes what each
 /// client was told, file by file. Gives the status: 2 if a line was no command, after which that file isn't read any further, and else 0.
@@ -26,7 +28,7 @@ pub fn run_farm<
     R: Read + Send + Drop,
     W: Write,
     M: Ledger,
-    T: Threads + Wait + Sync,
+    T: Threads + Wait + Clock + Sync,
     G: Gate + Watch + Sync,
 >(
     alloc: Global,
@@ -56,13 +58,17 @@ pub fn run_farm<
         answers: Vec::with_capacity(alloc, clients.len())?,
     };
     let floor = farm.floor();
-    serve(alloc, rt, floor, &mut clients, &mut seats, gate);
+    let begun = serve(alloc, rt, floor, gate, &mut seats, &mut clients);
     tell_work(&seats, gate);
     let Room {
         seats: told,
         answers,
     } = parted(clients, room);
     let _closing = farm.close(told, seats);
+    if !begun {
+        let error = Error::new(ErrorKind::Other, "no thread can be started");
+        return Err(OrNoMemory::Fault(StreamFault::Read(error)));
+    }
     write_all(alloc, answers, writer)
 }
 
@@ -96,20 +102,20 @@ fn seated<N: FarmNames, R: Drop>(
     Ok(clients)
 }
 
-/// Has all workers and all clients work side by side, until all clients are done.
+/// Has all workers and all clients work side by side, until all clients are done; whether they did. Where the system starts no thread beside this one, none of them works.
 fn serve<
     N: FarmNames + Send + Sync,
     R: Read + Send + Drop,
-    T: Threads + Wait + Sync,
+    T: Threads + Wait + Clock + Sync,
     G: Gate + Watch + Sync,
 >(
     alloc: Global,
     rt: &T,
     floor: &Floor<N>,
-    clients: &mut [Client<N, R>],
-    seats: &mut [WorkSeat<N>],
     gate: &G,
-)
+    seats: &mut [WorkSeat<N>],
+    clients: &mut [Client<N, R>],
+) -> bool
     requires some { (0 < length clients.old) × (0 < length seats.old) }
     requires idle { AllIdle seats.old }
     ensures clients { length clients.new ≡ length clients.old }
@@ -117,23 +123,64 @@ fn serve<
     ensures ring { IsRing seats.old → IsRing seats.new }
     ensures idle { AllIdle seats.new }
 {
-    join_mut(
-        rt,
-        &mut || work_all(alloc, rt, floor, seats, gate),
-        &mut || answer_all(alloc, rt, floor, clients, gate),
-    );
+    let start = Start::new();
+    let mut work = ||
+        requires { (0 < length seats.now) × AllIdle seats.now }
+        ensures len { length seats.exit.now ≡ length seats.entry.now }
+        ensures ring { IsRing seats.entry.now → IsRing seats.exit.now }
+        ensures idle { AllIdle seats.exit.now }
+    {
+        farm_out(alloc, rt, floor, gate, &start, seats)
+    };
+    let mut answer = || -> bool
+        requires { 0 < length clients.now }
+        ensures { length clients.exit.now ≡ length clients.entry.now }
+    {
+        answer_all(alloc, rt, floor, gate, &start, clients)
+    };
+    join_mut(rt, &mut work, &mut answer).1
 }
 
-/// Has all clients work side by side. Then the farm stops.
+/// Has all workers work, unless the clients have given up.
+fn farm_out<N: FarmNames + Send + Sync, T: Threads + Wait + Sync, G: Gate + Sync>(
+    alloc: Global,
+    rt: &T,
+    floor: &Floor<N>,
+    gate: &G,
+    start: &Start,
+    seats: &mut [WorkSeat<N>],
+)
+    requires some { 0 < length seats.old }
+    requires idle { AllIdle seats.old }
+    ensures len { length seats.new ≡ length seats.old }
+    ensures ring { IsRing seats.old → IsRing seats.new }
+    ensures idle { AllIdle seats.new }
+{
+    if start.begin(rt) {
+        work_all(alloc, rt, floor, seats, gate);
+    }
+}
+
+/// Has all clients work side by side, once the workers have begun; whether they have. Then the farm stops.
 fn answer_all<
     N: FarmNames + Send + Sync,
     R: Read + Send + Drop,
-    T: Threads + Wait + Sync,
+    T: Threads + Wait + Clock + Sync,
     G: Watch + Sync,
->(alloc: Global, rt: &T, floor: &Floor<N>, clients: &mut [Client<N, R>], watch: &G)
+>(
+    alloc: Global,
+    rt: &T,
+    floor: &Floor<N>,
+    watch: &G,
+    start: &Start,
+    clients: &mut [Client<N, R>],
+) -> bool
     requires { 0 < length clients.old }
     ensures { length clients.new ≡ length clients.old }
 {
+    if !start.wait(rt) {
+        return false;
+    }
     let count = clients.len();
     for_each_mut(
         rt,
@@ -142,6 +189,7 @@ fn answer_all<
         &|_, client| client.work(alloc, rt, floor, watch),
     );
     floor.stop(rt);
+    true
 }
 
 /// Tells what each worker did.

@@ -1,6 +1,5 @@
 //! What is left when a farm is closed.
 
-ghost use Rattle.std.specs.Prelude.{◌≡◌, length};
 ghost use Rattle.pf_sched.specs.Slices.{Sliced};
 
 use crate::calls::{ENDLESS, SENDERS, fetch, give_up, order, submit};
@@ -16,7 +15,6 @@ use std::alloc::Global;
 use std::hash::RandomState;
 use std::sync::Wait;
 use std::test::Fail;
-use std::thread::{Threads, for_each_mut};
 
 /// How many claims ended so.
 fn ended_as(closing: &Closing, end: End) -> usize {
@@ -68,7 +66,6 @@ struct Plays {
     play: Play,
     slices: Mark,
     dropped: Mark,
-    failed: Mark,
 }
 
 impl Plays {
@@ -77,7 +74,6 @@ impl Plays {
             play,
             slices: Mark::new(),
             dropped: Mark::new(),
-            failed: Mark::new(),
         }
     }
 
@@ -98,7 +94,28 @@ impl Plays {
         }
         Ok(())
     }
+}
 
+impl Gate for Plays {
+    fn slice<R: Wait>(
+        &self,
+        alloc: Global,
+        _rt: &R,
+        _project: u32,
+        _ticket: u64,
+        parked: Parked,
+        scratch: &mut Scratch,
+        turns: u32,
+    ) -> Slice {
+        self.slices.set();
+        if self.play == Play::Drop {
+            self.dropped.wait(1);
+        }
+        run_slice(alloc, parked, scratch, turns)
+    }
+}
+
+impl Scene for Plays {
     fn client<N: FarmNames, R: Wait>(
         &self,
         alloc: Global,
@@ -134,51 +151,6 @@ impl Plays {
                 }
                 Ok(())
             }
-        }
-    }
-}
-
-impl Gate for Plays {
-    fn slice<R: Wait>(
-        &self,
-        alloc: Global,
-        _rt: &R,
-        _project: u32,
-        _ticket: u64,
-        parked: Parked,
-        scratch: &mut Scratch,
-        turns: u32,
-    ) -> Slice {
-        self.slices.set();
-        if self.play == Play::Drop {
-            self.dropped.wait(1);
-        }
-        run_slice(alloc, parked, scratch, turns)
-    }
-}
-
-impl Scene for Plays {
-    fn play<N: FarmNames + Send + Sync, R: Threads + Wait + Sync>(
-        &self,
-        alloc: Global,
-        rt: &R,
-        floor: &Floor<N>,
-        seats: &mut [ClientSeat<N>],
-    ) -> Result<(), Missed> {
-        for_each_mut(
-            rt,
-            seats,
-            4,
-            &|_, seat| {
-                if self.client(alloc, rt, floor, seat).is_err() {
-                    self.failed.set();
-                }
-            },
-        );
-        if self.failed.count() == 0 {
-            Ok(())
-        } else {
-            Err(Missed::that("a client failed"))
         }
     }
 }

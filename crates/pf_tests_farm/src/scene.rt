@@ -1,10 +1,14 @@
 //! A farm with its gate and its clients, from its opening to its end.
 
-ghost use Rattle.std.specs.Prelude.{◌≡◌, ◌<◌, ◌≤◌, Some, length, vec_len};
+ghost use Rattle.std.specs.Prelude.{◌≡◌, ◌<◌, ◌≤◌, IfOk, Some, length, vec_len};
 ghost use Rattle.pf_farm.specs.Farms.{farm_of};
+ghost use Rattle.pf_farm.specs.Seats.{AllIdle, IsRing};
 
 use crate::missed::Missed;
-use pf_farm::{Blanks, ClientSeat, Closing, Farm, Floor, Gate, MOST_SEATS, NoSeat, work_all};
+use crate::waiting::Mark;
+use pf_farm::{
+    Blanks, ClientSeat, Closing, Farm, Floor, Gate, MOST_SEATS, NoSeat, WorkSeat, work_all,
+};
 use pf_farm_names::FarmNames;
 use pf_fault::OrNoMemory;
 use pf_register::NewRegister;
@@ -14,18 +18,17 @@ use std::marker::Brand;
 use std::sync::Wait;
 use std::sync::ledger::Blank;
 use std::test::Fail;
-use std::thread::{Threads, join_mut};
+use std::thread::{Threads, for_each_mut, join_mut};
 
-/// What the clients of a farm do, and what stands at its gate meanwhile. A client's part is to come to an end whatever happens.
+/// What each client of a farm does, in a thread of its own, and what stands at the gate meanwhile. A client comes to an end whatever happens.
 pub(crate) trait Scene: Gate + Sync {
-    fn play<N: FarmNames + Send + Sync, R: Threads + Wait + Sync>(
+    fn client<N: FarmNames, R: Wait>(
         &self,
         alloc: Global,
         rt: &R,
         floor: &Floor<N>,
-        seats: &mut [ClientSeat<N>],
-    ) -> Result<(), Missed>
-        ensures { length seats.new ≡ length seats.old };
+        seat: &mut ClientSeat<N>,
+    ) -> Result<(), Missed>;
 }
 
 /// A seat for a client of each of these projects.
@@ -36,7 +39,8 @@ fn seated<N: FarmNames>(
 ) -> Result<Vec<ClientSeat<N>>, Missed>
     requires none { farm.old.given ≡ 0 }
     requires few { length projects.now ≤ MOST_SEATS }
-    ensures seats { IfOk result (λ v. farm.new ≡ farm_of farm.old.workers (vec_len v)) }
+    ensures seats { IfOk result (λ v. vec_len v ≡ length projects.now) }
+    ensures given { IfOk result (λ v. farm.new ≡ farm_of farm.old.workers (length projects.now)) }
 {
     let mut seats = Vec::new(alloc);
     'projects: for project in projects {
@@ -47,6 +51,64 @@ fn seated<N: FarmNames>(
         }
     }
     Ok(seats)
+}
+
+/// Has all clients do their parts side by side. Then the farm stops.
+fn clients_play<N: FarmNames + Send + Sync, R: Threads + Wait + Sync, S: Scene>(
+    alloc: Global,
+    rt: &R,
+    floor: &Floor<N>,
+    seats: &mut [ClientSeat<N>],
+    scene: &S,
+    failed: &Mark,
+)
+    requires { 0 < length seats.old }
+    ensures { length seats.new ≡ length seats.old }
+{
+    let count = seats.len();
+    let play_one = move |_: usize, seat: &mut ClientSeat<N>| {
+        if scene.client(alloc, rt, floor, seat).is_err() {
+            failed.set();
+        }
+    };
+    for_each_mut(rt, seats, count, &play_one);
+    floor.stop(rt);
+}
+
+/// Has workers and clients work side by side.
+fn all_play<N: FarmNames + Send + Sync, R: Threads + Wait + Sync, S: Scene>(
+    alloc: Global,
+    rt: &R,
+    floor: &Floor<N>,
+    clients: &mut [ClientSeat<N>],
+    seats: &mut [WorkSeat<N>],
+    scene: &S,
+    failed: &Mark,
+)
+    requires some { (0 < length clients.old) × (0 < length seats.old) }
+    requires idle { AllIdle seats.old }
+    ensures clients { length clients.new ≡ length clients.old }
+    ensures seats { length seats.new ≡ length seats.old }
+    ensures ring { IsRing seats.old → IsRing seats.new }
+    ensures idle { AllIdle seats.new }
+{
+    let mut work = ||
+        requires { (0 < length seats.now) × AllIdle seats.now }
+        ensures len { length seats.exit.now ≡ length seats.entry.now }
+        ensures ring { IsRing seats.entry.now → IsRing seats.exit.now }
+        ensures idle { AllIdle seats.exit.now }
+    {
+        let scene = scene;
+        work_all(alloc, rt, floor, seats, scene)
+    };
+    let mut play = ||
+        requires { 0 < length clients.now }
+        ensures { length clients.exit.now ≡ length clients.entry.now }
+    {
+        let scene = scene;
+        clients_play(alloc, rt, floor, clients, scene, failed)
+    };
+    join_mut(rt, &mut work, &mut play);
 }
 
 /// Plays a scene with so many workers, and a client of each of these projects; what is left of the farm.
@@ -66,27 +128,18 @@ fn play_by<N: FarmNames + Send + Sync, R: Threads + Wait + Sync, S: Scene>(
     requires receipts { N.receipts ≡ Some blanks.receipts }
     requires workers { (0 < workers) × (workers < N.workers) }
     requires seats { MOST_SEATS < N.seats }
-    requires few { length projects.now ≤ MOST_SEATS }
+    requires few { (0 < length projects.now) × (length projects.now ≤ MOST_SEATS) }
 {
     let (mut farm, mut seats) = Farm::<N>::open(alloc, keys, blanks, workers)?;
     let mut clients = seated(alloc, &mut farm, projects)?;
-    let mut played = Ok(());
+    let failed = Mark::new();
     let floor = farm.floor();
-    let ours = clients.as_mut_slice();
-    let theirs = seats.as_mut_slice();
-    join_mut(
-        rt,
-        &mut || work_all(alloc, rt, floor, theirs, scene),
-        &mut || {
-            played = scene.play(alloc, rt, floor, ours);
-            floor.stop(rt);
-        },
-    );
+    all_play(alloc, rt, floor, &mut clients, &mut seats, scene, &failed);
     let closing = farm.close(clients, seats);
-    match played {
-        Ok(()) => Ok(closing),
-        Err(missed) => Err(missed),
+    if failed.count() > 0 {
+        return Err(Missed::that("a client failed"));
     }
+    Ok(closing)
 }
 
 /// Plays a scene.
@@ -99,7 +152,7 @@ pub(crate) fn play<R: Threads + Wait + Sync, S: Scene>(
     scene: &S,
 ) -> Result<Closing, Fail>
     requires workers { (0 < workers) × (workers < 65) }
-    requires few { length projects.now ≤ MOST_SEATS }
+    requires few { (0 < length projects.now) × (length projects.now ≤ MOST_SEATS) }
 {
     let blanks = Blanks {
         opened: Blank::new(65),

@@ -1,6 +1,5 @@
 //! A run that one worker parks goes on at another.
 
-ghost use Rattle.std.specs.Prelude.{◌≡◌, length};
 ghost use Rattle.pf_sched.specs.Slices.{Sliced};
 
 use crate::calls::{SPAWNING, SUM, await_done, fetch, order, submit};
@@ -14,7 +13,6 @@ use std::alloc::Global;
 use std::hash::RandomState;
 use std::sync::Wait;
 use std::test::Fail;
-use std::thread::Threads;
 
 /// The trial of project 1 is long, those of projects 2 and 3 are short. The first and the third are held in their first slices until the second is ordered. The second is
 /// held until the first was fetched, and the third until the second has begun: so the first was parked by one worker, and went on at the other.
@@ -60,35 +58,48 @@ impl Gate for OneIsStolen {
     }
 }
 
-impl Scene for OneIsStolen {
-    fn play<N: FarmNames + Send + Sync, R: Threads + Wait + Sync>(
+impl OneIsStolen {
+    /// The long trial, which is fetched while the second is held.
+    fn first<N: FarmNames, R: Wait>(
         &self,
         alloc: Global,
         rt: &R,
         floor: &Floor<N>,
-        seats: &mut [ClientSeat<N>],
+        seat: &mut ClientSeat<N>,
     ) -> Result<(), Missed> {
-        let [first, second, third] = seats else {
-            return Err(Missed::that("there are three clients"));
-        };
-        submit(alloc, rt, floor, first, SPAWNING)?;
-        submit(alloc, rt, floor, second, SUM)?;
-        submit(alloc, rt, floor, third, SUM)?;
-        let long = order(alloc, rt, floor, first, 1, 1, 2_000)?;
-        self.first_slices.wait_for("the long trial doesn't begin")?;
-        let held = order(alloc, rt, floor, third, 1, 1, 100)?;
-        self.third_begun.wait_for("the third trial doesn't begin")?;
-        let short = order(alloc, rt, floor, second, 1, 1, 100)?;
-        self.second_ordered.set();
-        self.second_begun
-            .wait_for("the second trial doesn't begin")?;
-        await_done(alloc, rt, floor, first, long)?;
-        fetch(alloc, rt, floor, first, long)?;
+        submit(alloc, rt, floor, seat, SPAWNING)?;
+        let ticket = order(alloc, rt, floor, seat, 1, 1, 2_000)?;
+        await_done(alloc, rt, floor, seat, ticket)?;
+        fetch(alloc, rt, floor, seat, ticket)?;
         self.first_fetched.set();
-        await_done(alloc, rt, floor, second, short)?;
-        await_done(alloc, rt, floor, third, held)?;
-        fetch(alloc, rt, floor, second, short)?;
-        fetch(alloc, rt, floor, third, held)?;
+        Ok(())
+    }
+}
+
+impl Scene for OneIsStolen {
+    fn client<N: FarmNames, R: Wait>(
+        &self,
+        alloc: Global,
+        rt: &R,
+        floor: &Floor<N>,
+        seat: &mut ClientSeat<N>,
+    ) -> Result<(), Missed> {
+        let project = seat.project();
+        if project == 1 {
+            return self.first(alloc, rt, floor, seat);
+        }
+        submit(alloc, rt, floor, seat, SUM)?;
+        if project == 2 {
+            self.third_begun.wait_for("the third trial doesn't begin")?;
+        } else {
+            self.first_slices.wait_for("the long trial doesn't begin")?;
+        }
+        let ticket = order(alloc, rt, floor, seat, 1, 1, 100)?;
+        if project == 2 {
+            self.second_ordered.set();
+        }
+        await_done(alloc, rt, floor, seat, ticket)?;
+        fetch(alloc, rt, floor, seat, ticket)?;
         Ok(())
     }
 }

@@ -1,12 +1,11 @@
 //! Two trials of two projects run at the same time: neither ends before both have begun, and the one that began first waits until the other was fetched.
 
-ghost use Rattle.std.specs.Prelude.{◌≡◌, length};
 ghost use Rattle.pf_sched.specs.Slices.{Sliced};
 
-use crate::calls::{SUM, fetch, order, status, submit};
+use crate::calls::{SUM, await_done, fetch, order, status, submit};
 use crate::missed::Missed;
 use crate::scene::{Scene, play};
-use crate::waiting::{Mark, rest};
+use crate::waiting::Mark;
 use pf_book::Stage;
 use pf_farm::{ClientSeat, Floor, Gate};
 use pf_farm_names::FarmNames;
@@ -15,7 +14,6 @@ use std::alloc::Global;
 use std::hash::RandomState;
 use std::sync::Wait;
 use std::test::Fail;
-use std::thread::{Threads, for_each_mut};
 
 /// What is known of one project's trial.
 #[derive(Drop)]
@@ -23,7 +21,6 @@ struct Side {
     begun: Mark,
     answered: Mark,
     fetched: Mark,
-    failed: Mark,
 }
 
 impl Side {
@@ -32,7 +29,6 @@ impl Side {
             begun: Mark::new(),
             answered: Mark::new(),
             fetched: Mark::new(),
-            failed: Mark::new(),
         }
     }
 }
@@ -52,33 +48,6 @@ impl TwoTrials {
         } else {
             (&self.second, &self.first)
         }
-    }
-
-    /// What a client does: its trial is running when it is asked for first, and done some time.
-    fn client<N: FarmNames, R: Wait>(
-        &self,
-        alloc: Global,
-        rt: &R,
-        floor: &Floor<N>,
-        seat: &mut ClientSeat<N>,
-    ) -> Result<(), Missed> {
-        let side = self.sides(seat.project()).0;
-        submit(alloc, rt, floor, seat, SUM)?;
-        let ticket = order(alloc, rt, floor, seat, 1, 1, 100)?;
-        side.begun.wait_for("the trial doesn't begin")?;
-        if status(alloc, rt, floor, seat, ticket)? != Stage::Running {
-            return Err(Missed::that("the trial isn't running"));
-        }
-        side.answered.set();
-        for _ in 0..5_000u32 {
-            if status(alloc, rt, floor, seat, ticket)? == Stage::Done {
-                fetch(alloc, rt, floor, seat, ticket)?;
-                side.fetched.set();
-                return Ok(());
-            }
-            rest(20_000);
-        }
-        Err(Missed::that("the trial isn't done"))
     }
 }
 
@@ -105,28 +74,26 @@ impl Gate for TwoTrials {
 }
 
 impl Scene for TwoTrials {
-    fn play<N: FarmNames + Send + Sync, R: Threads + Wait + Sync>(
+    /// Its trial is running when it is asked for first, and done some time.
+    fn client<N: FarmNames, R: Wait>(
         &self,
         alloc: Global,
         rt: &R,
         floor: &Floor<N>,
-        seats: &mut [ClientSeat<N>],
+        seat: &mut ClientSeat<N>,
     ) -> Result<(), Missed> {
-        for_each_mut(
-            rt,
-            seats,
-            2,
-            &|_, seat| {
-                if self.client(alloc, rt, floor, seat).is_err() {
-                    self.sides(seat.project()).0.failed.set();
-                }
-            },
-        );
-        if self.first.fetched.count() == 1 && self.second.fetched.count() == 1 {
-            Ok(())
-        } else {
-            Err(Missed::that("the two trials didn't run together"))
+        let side = self.sides(seat.project()).0;
+        submit(alloc, rt, floor, seat, SUM)?;
+        let ticket = order(alloc, rt, floor, seat, 1, 1, 100)?;
+        side.begun.wait_for("the trial doesn't begin")?;
+        if status(alloc, rt, floor, seat, ticket)? != Stage::Running {
+            return Err(Missed::that("the trial isn't running"));
         }
+        side.answered.set();
+        await_done(alloc, rt, floor, seat, ticket)?;
+        fetch(alloc, rt, floor, seat, ticket)?;
+        side.fetched.set();
+        Ok(())
     }
 }
 

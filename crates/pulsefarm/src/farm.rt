@@ -40,6 +40,8 @@ pub trait Farmer {
 pub struct Farming<'a, R> {
     pub rt: &'a R,
     pub stderr: Stderr,
+    /// Whether a thread has stack enough for the deepest source.
+    pub has_stack: bool,
 }
 
 impl<R> Farmer for Farming<'_, R>
@@ -48,6 +50,13 @@ where
     R::File: Send + Drop,
 {
     fn farm<W: Write, M: Ledger>(&self, args: &FarmArgs, writer: &mut Counted<W, M>) -> Answered {
+        if !self.has_stack {
+            say(
+                self.rt,
+                "a farm's threads have the stack that `ulimit -s` gives, and want 4 MiB of it",
+            );
+            return Ok(REFUSED);
+        }
         let Some(files) = opened(self.rt, &args.files)? else {
             return Ok(REFUSED);
         };

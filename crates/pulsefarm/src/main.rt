@@ -108,23 +108,27 @@ where
     }
 }
 
-/// The same, where `farm` may wait.
-fn whole<R, I: Read + Drop>(rt: &R, stdin: I, stderr: Stderr) -> u8
+/// The same, where `farm` may wait; whether its threads have stack enough is told.
+fn whole<R, I: Read + Drop>(rt: &R, stdin: I, stderr: Stderr, has_stack: bool) -> u8
 where
     R: Env + Files + Print + Eprint + AllocGlobal + RandomSource + Clock + Threads + Wait + Sync,
     R::File: Send + Drop,
 {
-    let farmer = Farming { rt, stderr };
+    let farmer = Farming {
+        rt,
+        stderr,
+        has_stack,
+    };
     all(rt, stdin, stderr, &farmer)
 }
 
 fn main(rt: HostRuntime) -> ExitCode {
     if first_thread_has_stack(&rt) {
-        return ExitCode::from(whole(&rt, rt.stdin(), rt.stderr()));
+        return ExitCode::from(whole(&rt, rt.stdin(), rt.stderr(), true));
     }
     let worker = Builder::new()
         .stack_size(STACK_BYTES)
-        .spawn(&rt, move || whole(&rt, rt.stdin(), rt.stderr()));
+        .spawn(&rt, move || whole(&rt, rt.stdin(), rt.stderr(), false));
     match worker {
         Ok(worker) => ExitCode::from(worker.join(&rt)),
         Err(error) => {

@@ -45,13 +45,24 @@ where
     }
 }
 
-/// Says that a file has no schedule, with its first line.
+/// How many characters of a line are told.
+const MOST_TOLD: usize = 60;
+
+/// The beginning of a line.
+fn beginning(line: &str) -> &str {
+    match line.char_indices().nth(MOST_TOLD) {
+        Some((end, _)) => line.get(..end).unwrap_or(line),
+        None => line,
+    }
+}
+
+/// Says that a file has no schedule, with the beginning of its first line.
 fn no_schedule(
     rt: &(impl Eprint + AllocGlobal),
     file: &str,
     contents: &str,
 ) -> Result<u8, NoMemory> {
-    let first = contents.lines().next().unwrap_or("");
+    let first = beginning(contents.lines().next().unwrap_or(""));
     let text = format!(in rt.alloc();
         "the file {file} holds no schedule: its first line is `{first}`"
     )?;
