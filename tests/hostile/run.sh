@@ -439,7 +439,7 @@ texts_for_readers() {
   done
 }
 
-# A deep source takes who reads it 1 MiB of stack at most, and the program needs 128 KiB of the system for itself: so 64 clients at once read such sources there. Each awaits a
+# A deep source takes who reads it 1 MiB of stack at most: so 64 clients at once read such sources, each in a thread with the stack that the limit gives. Each awaits a
 # trial before, so that no thread can serve them all by itself.
 deep_sources_of_a_farm() {
   module main/0,deep/0 'main() -> main().' "deep() -> $(repeated 'case 2 of 1 -> ' 255)1$(repeated ' end' 255)."
