@@ -23,7 +23,9 @@ bounded() {
   name=$1 wanted_status=$2 most_time=$3 most_room=$4
   shift 4
   echo 'none none' > used
-  (ulimit -s 128; LD_PRELOAD=./lessen.so exec timeout 60 ./bounds used "$program" "$@") < in > out 2> err
+  # A farm's threads have the stack that the limit gives, and want 4 MiB of it.
+  if [ "$1" = farm ]; then stack=4096; else stack=128; fi
+  (ulimit -s $stack; LD_PRELOAD=./lessen.so exec timeout 60 ./bounds used "$program" "$@") < in > out 2> err
   status=$?
   read -r took held < used
   [ "$status" = "$wanted_status" ] && cmp -s out wanted && [ "$took" -le "$most_time" ] && [ "$held" -le "$most_room" ]
