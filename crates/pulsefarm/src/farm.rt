@@ -69,14 +69,17 @@ where
             receipts: NewRegister::new(alloc)?,
         };
         let watch = FarmWatch::new(self.rt, alloc, self.stderr, files.len(), args.summary)?;
-        let status = run_by::<Brand, R, W, M>(
-            self.rt,
-            args.workers,
-            blanks,
-            files,
-            &watch,
-            writer,
-        )?;
+        let answered =
+            run_by::<Brand, R, W, M>(self.rt, args.workers, blanks, files, &watch, writer);
+        let status = match answered {
+            Ok(status) => status,
+            Err(OrNoMemory::Fault(StreamFault::Read(error))) => {
+                let told = format!(in alloc; "{error}")?;
+                say(self.rt, &told);
+                return Ok(REFUSED);
+            }
+            Err(stop) => return Err(stop),
+        };
         watch.end();
         if status == REFUSED {
             say(
