@@ -1,6 +1,14 @@
 -- Clients may go to another thread: a lemma a type, each from those of its parts.
+use Rattle.std.specs.Prelude.{ℕ, [], ◌∷◌}
+use mir.Syntax.{Sym, Ty}
 use denote.RattleType.{RattleType}
-use denote.Param.Send.{IsSend, recorded_send, sendable}
+use denote.Exit.{no}
+use denote.Param.{param, arg}
+use denote.Ref.{NamedLft, ShrRef}
+use denote.Slice.{MutSlice}
+use denote.Struct.Tuple.{TupleAt}
+use denote.Param.Send.{AllSend, IsSend, IsSync, arg_send, mut_slice_send, param_send, recorded_send, recorded_sync, sendable, shr_send, struct_send}
+use denote.Struct.Declared.{shape}
 use Rattle.std.proofs.Crossing as heap
 use Rattle.std.proofs.io.Error.TheSendSync as error
 use Rattle.pf_farm_names.specs.declared.names.FarmNames as names
@@ -9,7 +17,10 @@ use Rattle.pf_hall.proofs.Crossing as hall
 use Rattle.pf_wire.specs.contracts.told.Told as Told
 use Rattle.pf_wire.specs.contracts.told.ToldReport as Report
 use Rattle.pf_clients.specs.contracts.client.Ended as Ended
+use Rattle.pf_clients.proofs.start.Stage.TheSendSync as stage
 use Rattle.pf_clients.specs.contracts.client.Client as Client
+use Rattle.pf_clients.specs.contracts.start.Start as Start
+use Rattle.std.specs.contracts.alloc.Global as Global
 
 report_field_send : IsSend (Report.the_field).row
 report_field_send = search (sched.finished_send, heap.crosses, sendable) depth 30
@@ -21,11 +32,33 @@ told_send : IsSend Told.the_row
 told_send = recorded_send (Told.the_field).row _ _ (Told.the_type).to_one told_field_send
 
 ended_field_send : IsSend (Ended.the_field).row
-ended_field_send = search (error.the_field_send, error.the_send, sendable) depth 30
+ended_field_send = search (error.the_field_send, sendable) depth 30
 
 module _ (N R : RattleType) (g : names.Ghosts N.Denot) (s : IsSend R) where
   client_field_send : IsSend (Client.the_field N R g).row
-  client_field_send = search (hall.client_seat_send, told_send, ended_field_send, s, heap.crosses, sendable) depth 30
+  client_field_send =
+      let all : AllSend (shape (Client.the_type N R g)).fields = (search (hall.client_seat_send N g, sendable) depth 30, (search (s, sendable) depth 30, (search (told_send, heap.crosses, sendable) depth 30, (search (ended_field_send, sendable) depth 30, tt)))) in
+      struct_send (shape (Client.the_type N R g)) all
 
   pub client_send : IsSend (Client.the_row N R g)
   client_send = recorded_send (Client.the_field N R g).row _ _ (Client.the_type N R g).to_one client_field_send
+
+-- ---- the start is shared
+
+start_field_sync : IsSync (Start.the_field).row
+start_field_sync = search (stage.the_field_send, heap.crosses, sendable) depth 30
+
+pub start_sync : IsSync Start.the_row
+start_sync = recorded_sync (Start.the_field).row _ _ (Start.the_type).to_one start_field_sync
+
+-- ---- a closure that lends an allocator and four values, and writes a slice
+
+six_send : (ν : Sym) (A B C D E F : RattleType) → IsSend A → IsSend B → IsSend C → IsSend D → IsSend E → IsSend F → IsSend (TupleAt ν (A ∷ B ∷ C ∷ D ∷ E ∷ F ∷ []))
+six_send ν A B C D E F a b c d e f = search sendable depth 20
+
+module _ (A B C D E : RattleType) where
+  pub work_send :
+      (i : ℕ) (δ : Ty) (ν : Sym) (z a b c d e : NamedLft) → IsSync A → IsSync B → IsSync C → IsSync D → IsSend E →
+      IsSend (param i (arg δ no (TupleAt ν (ShrRef z.mir z.lft Global.the_row ∷ ShrRef a.mir a.lft A ∷ ShrRef b.mir b.lft B ∷ ShrRef c.mir c.lft C ∷ ShrRef d.mir d.lft D ∷ MutSlice e.mir e.lft E ∷ []))))
+  work_send i δ ν z a b c d e s t u v w =
+      param_send i _ (arg_send δ no _ (six_send ν _ _ _ _ _ _ (shr_send z.mir z.lft Global.the_row heap.sync) (shr_send a.mir a.lft A s) (shr_send b.mir b.lft B t) (shr_send c.mir c.lft C u) (shr_send d.mir d.lft D v) (mut_slice_send e.mir e.lft E w)))

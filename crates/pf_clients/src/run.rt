@@ -58,7 +58,8 @@ pub fn run_farm<
         answers: Vec::with_capacity(alloc, clients.len())?,
     };
     let floor = farm.floor();
-    let begun = serve(alloc, rt, floor, gate, &mut seats, &mut clients);
+    let start = Start::new();
+    let begun = serve(alloc, rt, floor, gate, &start, &mut clients, &mut seats);
     tell_work(&seats, gate);
     let Room {
         seats: told,
@@ -104,17 +105,19 @@ fn seated<N: FarmNames, R: Drop>(
 
 /// Has all workers and all clients work side by side, until all clients are done; whether they did. Where the system starts no thread beside this one, none of them works.
 fn serve<
+    'a,
     N: FarmNames + Send + Sync,
     R: Read + Send + Drop,
     T: Threads + Wait + Clock + Sync,
     G: Gate + Watch + Sync,
 >(
     alloc: Global,
-    rt: &T,
-    floor: &Floor<N>,
-    gate: &G,
-    seats: &mut [WorkSeat<N>],
-    clients: &mut [Client<N, R>],
+    rt: &'a T,
+    floor: &'a Floor<N>,
+    gate: &'a G,
+    start: &'a Start,
+    clients: &'a mut [Client<N, R>],
+    seats: &'a mut [WorkSeat<N>],
 ) -> bool
     requires some { (0 < length clients.old) × (0 < length seats.old) }
     requires idle { AllIdle seats.old }
@@ -123,21 +126,16 @@ fn serve<
     ensures ring { IsRing seats.old → IsRing seats.new }
     ensures idle { AllIdle seats.new }
 {
-    let start = Start::new();
     let mut work = ||
         requires { (0 < length seats.now) × AllIdle seats.now }
         ensures len { length seats.exit.now ≡ length seats.entry.now }
         ensures ring { IsRing seats.entry.now → IsRing seats.exit.now }
         ensures idle { AllIdle seats.exit.now }
-    {
-        farm_out(alloc, rt, floor, gate, &start, seats)
-    };
+    { farm_out(alloc, rt, floor, gate, start, seats) };
     let mut answer = || -> bool
         requires { 0 < length clients.now }
         ensures { length clients.exit.now ≡ length clients.entry.now }
-    {
-        answer_all(alloc, rt, floor, gate, &start, clients)
-    };
+    { answer_all(alloc, rt, floor, gate, start, clients) };
     join_mut(rt, &mut work, &mut answer).1
 }
 
@@ -178,18 +176,31 @@ fn answer_all<
     requires { 0 < length clients.old }
     ensures { length clients.new ≡ length clients.old }
 {
-    if !start.wait(rt) {
-        return false;
+    let begun = start.wait(rt);
+    if begun {
+        answer_each(alloc, rt, floor, watch, clients);
+        floor.stop(rt);
     }
+    begun
+}
+
+/// Has all clients work side by side.
+fn answer_each<
+    N: FarmNames + Send + Sync,
+    R: Read + Send + Drop,
+    T: Threads + Wait + Sync,
+    G: Watch + Sync,
+>(alloc: Global, rt: &T, floor: &Floor<N>, watch: &G, clients: &mut [Client<N, R>])
+    requires { 0 < length clients.old }
+    ensures { length clients.new ≡ length clients.old }
+{
     let count = clients.len();
     for_each_mut(
         rt,
         clients,
         count,
-        &|_, client| client.work(alloc, rt, floor, watch),
+        &move |_, client| client.work(alloc, rt, floor, watch),
     );
-    floor.stop(rt);
-    true
 }
 
 /// Tells what each worker did.
