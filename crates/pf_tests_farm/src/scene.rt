@@ -53,37 +53,68 @@ fn seated<N: FarmNames>(
     Ok(seats)
 }
 
+/// Has one client do its part.
+fn client_plays<N: FarmNames, R: Wait, S: Scene>(
+    alloc: Global,
+    rt: &R,
+    floor: &Floor<N>,
+    scene: &S,
+    failed: &Mark,
+    seat: &mut ClientSeat<N>,
+) {
+    if scene.client(alloc, rt, floor, seat).is_err() {
+        failed.set();
+    }
+}
+
 /// Has all clients do their parts side by side. Then the farm stops.
 fn clients_play<N: FarmNames + Send + Sync, R: Threads + Wait + Sync, S: Scene>(
     alloc: Global,
     rt: &R,
     floor: &Floor<N>,
-    seats: &mut [ClientSeat<N>],
     scene: &S,
     failed: &Mark,
+    seats: &mut [ClientSeat<N>],
 )
     requires { 0 < length seats.old }
     ensures { length seats.new ≡ length seats.old }
 {
     let count = seats.len();
-    let play_one = move |_: usize, seat: &mut ClientSeat<N>| {
-        if scene.client(alloc, rt, floor, seat).is_err() {
-            failed.set();
-        }
-    };
-    for_each_mut(rt, seats, count, &play_one);
+    for_each_mut(
+        rt,
+        seats,
+        count,
+        &move |_, seat| client_plays(alloc, rt, floor, scene, failed, seat),
+    );
     floor.stop(rt);
 }
 
-/// Has workers and clients work side by side.
-fn all_play<N: FarmNames + Send + Sync, R: Threads + Wait + Sync, S: Scene>(
+/// Has all workers work side by side.
+fn workers_play<N: FarmNames + Send + Sync, R: Threads + Wait + Sync, S: Scene>(
     alloc: Global,
     rt: &R,
     floor: &Floor<N>,
-    clients: &mut [ClientSeat<N>],
-    seats: &mut [WorkSeat<N>],
     scene: &S,
-    failed: &Mark,
+    seats: &mut [WorkSeat<N>],
+)
+    requires some { 0 < length seats.old }
+    requires idle { AllIdle seats.old }
+    ensures len { length seats.new ≡ length seats.old }
+    ensures ring { IsRing seats.old → IsRing seats.new }
+    ensures idle { AllIdle seats.new }
+{
+    work_all(alloc, rt, floor, seats, scene);
+}
+
+/// Has workers and clients work side by side.
+fn all_play<'a, N: FarmNames + Send + Sync, R: Threads + Wait + Sync, S: Scene>(
+    alloc: Global,
+    rt: &'a R,
+    floor: &'a Floor<N>,
+    scene: &'a S,
+    failed: &'a Mark,
+    clients: &'a mut [ClientSeat<N>],
+    seats: &'a mut [WorkSeat<N>],
 )
     requires some { (0 < length clients.old) × (0 < length seats.old) }
     requires idle { AllIdle seats.old }
@@ -97,17 +128,11 @@ fn all_play<N: FarmNames + Send + Sync, R: Threads + Wait + Sync, S: Scene>(
         ensures len { length seats.exit.now ≡ length seats.entry.now }
         ensures ring { IsRing seats.entry.now → IsRing seats.exit.now }
         ensures idle { AllIdle seats.exit.now }
-    {
-        let scene = scene;
-        work_all(alloc, rt, floor, seats, scene)
-    };
+    { workers_play(alloc, rt, floor, scene, seats) };
     let mut play = ||
         requires { 0 < length clients.now }
         ensures { length clients.exit.now ≡ length clients.entry.now }
-    {
-        let scene = scene;
-        clients_play(alloc, rt, floor, clients, scene, failed)
-    };
+    { clients_play(alloc, rt, floor, scene, failed, clients) };
     join_mut(rt, &mut work, &mut play);
 }
 
@@ -134,7 +159,7 @@ fn play_by<N: FarmNames + Send + Sync, R: Threads + Wait + Sync, S: Scene>(
     let mut clients = seated(alloc, &mut farm, projects)?;
     let failed = Mark::new();
     let floor = farm.floor();
-    all_play(alloc, rt, floor, &mut clients, &mut seats, scene, &failed);
+    all_play(alloc, rt, floor, scene, &failed, &mut clients, &mut seats);
     let closing = farm.close(clients, seats);
     if failed.count() > 0 {
         return Err(Missed::that("a client failed"));
