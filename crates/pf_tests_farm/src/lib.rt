@@ -5,13 +5,11 @@
 mod calls;
 #[cfg(test)]
 mod closed;
-#[cfg(test)]
-mod missed;
+pub mod missed;
 #[cfg(test)]
 mod scene;
 #[cfg(test)]
 mod stolen;
 #[cfg(test)]
 mod together;
-#[cfg(test)]
-mod waiting;
+pub mod waiting;

@@ -5,12 +5,12 @@ use std::alloc::{AllocError, AllocFailed};
 
 /// What went otherwise than it had to.
 #[derive(Drop, Clone, Copy)]
-pub(crate) struct Missed {
+pub struct Missed {
     pub what: &'static str,
 }
 
 impl Missed {
-    pub(crate) fn that(what: &'static str) -> Missed {
+    pub fn that(what: &'static str) -> Missed {
         Missed { what }
     }
 }

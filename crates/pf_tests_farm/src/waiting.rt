@@ -9,29 +9,29 @@ const MOST_TURNS: u64 = 100_000_000;
 
 /// A mark.
 #[derive(Drop)]
-pub(crate) struct Mark {
+pub struct Mark {
     count: AtomicU64,
 }
 
 impl Mark {
-    pub(crate) fn new() -> Mark {
+    pub fn new() -> Mark {
         Mark {
             count: AtomicU64::new(0),
         }
     }
 
     /// Sets it once more; how often it was set before.
-    pub(crate) fn set(&self) -> u64 {
+    pub fn set(&self) -> u64 {
         self.count.fetch_add(1, Ordering::SeqCst)
     }
 
     /// How often it was set.
-    pub(crate) fn count(&self) -> u64 {
+    pub fn count(&self) -> u64 {
         self.count.load(Ordering::SeqCst)
     }
 
     /// Waits until it was set so often; whether it was.
-    pub(crate) fn wait(&self, times: u64) -> bool {
+    pub fn wait(&self, times: u64) -> bool {
         for _ in 0..MOST_TURNS {
             if self.count() >= times {
                 return true;
@@ -42,7 +42,7 @@ impl Mark {
     }
 
     /// The same, where it has to be.
-    pub(crate) fn wait_for(&self, what: &'static str) -> Result<(), Missed> {
+    pub fn wait_for(&self, what: &'static str) -> Result<(), Missed> {
         if self.wait(1) {
             Ok(())
         } else {
@@ -52,7 +52,7 @@ impl Mark {
 }
 
 /// Lets other threads go on for so many turns.
-pub(crate) fn rest(turns: u32) {
+pub fn rest(turns: u32) {
     for _ in 0..turns {
         thread::yield_now();
     }
