@@ -69,8 +69,14 @@ where
             receipts: NewRegister::new(alloc)?,
         };
         let watch = FarmWatch::new(self.rt, alloc, self.stderr, files.len(), args.summary)?;
-        let answered =
-            run_by::<Brand, R, W, M>(self.rt, args.workers, blanks, files, &watch, writer);
+        let answered = run_by::<Brand, R, W, M>(
+            self.rt,
+            args.workers,
+            blanks,
+            files,
+            &watch,
+            writer,
+        );
         let status = match answered {
             Ok(status) => status,
             Err(OrNoMemory::Fault(StreamFault::Read(error))) => {
