@@ -179,7 +179,24 @@ parked_runs() {
   done
 }
 
+# How far the trials are is told on standard error where that is a terminal, in one line that is written over, and makes no difference to the output.
+on_a_terminal() {
+  begin 1 spawning.erl
+  awk 'BEGIN { for (t = 1; t <= 3000; t++) print "order 1 1 main true seed:" t " 2000\nawait 1 " t "\ndrop 1 " t }' >> c1
+  : > c2
+  alone 1 > wanted
+  script -qec "timeout 60 '$program' farm --workers 2 c1 c2 > out" /dev/null < /dev/null > err
+  status=$?
+  [ $status = 0 ] && cmp -s out wanted && tr '\r' '\n' < err | sed 's/\x1b\[K//' | awk '
+    /^trials done of ordered: p1 [0-9]+\/[0-9]+ p2 0\/0$/ { split($6, n, "/"); if (n[1] > n[2] || n[2] > 3000) bad = 1; lines++; next }
+    /^$/ { next }
+    { bad = 1 }
+    END { exit bad || !lines }'
+  note "a terminal (status $status)" $?
+}
+
 two_files
+on_a_terminal
 lines_that_are_none
 nothing_to_wait_for
 files
