@@ -29,72 +29,62 @@ const WORKER_PARTS: u64 = 65;
 /// The parts of the ledger of calls: one for each seat that a farm may give, and one for the farm.
 const SEAT_PARTS: u64 = MOST_SEATS as u64 + 1;
 
-/// Who runs a farm. It stands apart, since a farm waits and no other command does.
-pub trait Farmer {
-    /// Does what `farm` asks for.
-    fn farm<W: Write, M: Ledger>(&self, args: &FarmArgs, writer: &mut Counted<W, M>) -> Answered;
-}
-
-/// Runs farms by a runtime that may wait.
-#[derive(Drop)]
-pub struct Farming<'a, R> {
-    pub rt: &'a R,
+/// What a farm wants to know of the process that it runs in.
+#[derive(Clone, Copy)]
+pub struct Host {
     pub stderr: Stderr,
     /// Whether a thread has stack enough for the deepest source.
     pub has_stack: bool,
 }
 
-impl<R> Farmer for Farming<'_, R>
+/// Does what `farm` asks for.
+pub fn farm<R, W: Write, M: Ledger>(
+    rt: &R,
+    args: &FarmArgs,
+    host: Host,
+    writer: &mut Counted<W, M>,
+) -> Answered
 where
     R: Files + Print + Eprint + AllocGlobal + RandomSource + Clock + Threads + Wait + Sync,
     R::File: Send + Drop,
 {
-    fn farm<W: Write, M: Ledger>(&self, args: &FarmArgs, writer: &mut Counted<W, M>) -> Answered {
-        if !self.has_stack {
-            say(
-                self.rt,
-                "a farm's threads have the stack that `ulimit -s` gives, and want 4 MiB of it",
-            );
-            return Ok(REFUSED);
-        }
-        let Some(files) = opened(self.rt, &args.files)? else {
-            return Ok(REFUSED);
-        };
-        let alloc = self.rt.alloc();
-        let blanks = Blanks {
-            opened: Blank::new(WORKER_PARTS),
-            ended: Blank::new(WORKER_PARTS),
-            calls: Blank::new(SEAT_PARTS),
-            claims: NewRegister::new(alloc)?,
-            receipts: NewRegister::new(alloc)?,
-        };
-        let watch = FarmWatch::new(self.rt, alloc, self.stderr, files.len(), args.summary)?;
-        let answered = run_by::<Brand, R, W, M>(
-            self.rt,
-            args.workers,
-            blanks,
-            files,
-            &watch,
-            writer,
+    if !host.has_stack {
+        say(
+            rt,
+            "a farm's threads have the stack that `ulimit -s` gives, and want 4 MiB of it",
         );
-        let status = match answered {
-            Ok(status) => status,
-            Err(OrNoMemory::Fault(StreamFault::Read(error))) => {
-                let told = format!(in alloc; "{error}")?;
-                say(self.rt, &told);
-                return Ok(REFUSED);
-            }
-            Err(stop) => return Err(stop),
-        };
-        watch.end();
-        if status == REFUSED {
-            say(
-                self.rt,
-                "a line of a file is no command there: those before it were answered, and nothing behind it was read",
-            );
-        }
-        Ok(status)
+        return Ok(REFUSED);
     }
+    let Some(files) = opened(rt, &args.files)? else {
+        return Ok(REFUSED);
+    };
+    let alloc = rt.alloc();
+    let blanks = Blanks {
+        opened: Blank::new(WORKER_PARTS),
+        ended: Blank::new(WORKER_PARTS),
+        calls: Blank::new(SEAT_PARTS),
+        claims: NewRegister::new(alloc)?,
+        receipts: NewRegister::new(alloc)?,
+    };
+    let watch = FarmWatch::new(rt, alloc, host.stderr, files.len(), args.summary)?;
+    let answered = run_by::<Brand, R, W, M>(rt, args.workers, blanks, files, &watch, writer);
+    let status = match answered {
+        Ok(status) => status,
+        Err(OrNoMemory::Fault(StreamFault::Read(error))) => {
+            let told = format!(in alloc; "{error}")?;
+            say(rt, &told);
+            return Ok(REFUSED);
+        }
+        Err(stop) => return Err(stop),
+    };
+    watch.end();
+    if status == REFUSED {
+        say(
+            rt,
+            "a line of a file is no command there: those before it were answered, and nothing behind it was read",
+        );
+    }
+    Ok(status)
 }
 
 /// Opens the files of all clients; none, if one can't be opened, which is said then. `-` names the standard input.

@@ -16,7 +16,7 @@ mod work;
 ghost use Rattle.std.specs.Prelude.{◌≡◌, ◌<◌};
 
 use crate::args::given_words;
-use crate::farm::{Farmer, Farming};
+use crate::farm::Host;
 use crate::messages::{REFUSED, no_memory};
 use crate::obey::obey;
 use crate::progress::{Clearing, Line};
@@ -26,7 +26,7 @@ use pf_terms::Counted;
 use std::alloc::{AllocGlobal, Global};
 use std::env::Env;
 use std::fs::Files;
-use std::io::{self, Read, Stderr, Write};
+use std::io::{self, Read, Write};
 use std::marker::Brand;
 use std::process::ExitCode;
 use std::random::RandomSource;
@@ -58,12 +58,13 @@ fn try_all_by<R, I: Read + Drop, W: Write + Drop, L: Ledger, M: Ledger>(
     stdin: I,
     stdout: W,
     line: &Line,
-    farmer: &impl Farmer,
+    host: Host,
     reads: Blank,
     writes: Blank,
 ) -> Result<u8, NoMemory>
 where
-    R: Env + Files + Print + Eprint + AllocGlobal + RandomSource + Clock + Threads + Sync,
+    R: Env + Files + Print + Eprint + AllocGlobal + RandomSource + Clock + Threads + Wait + Sync,
+    R::File: Send + Drop,
     requires reads { reads.name ≡ L.name }
     requires read_parts { reads.parts ≡ L.parts }
     requires some_reads { 0 < reads.parts }
@@ -75,7 +76,7 @@ where
     let words = words_of(rt.alloc(), &given)?;
     let mut reader = Counted::<I, L>::new(stdin, reads);
     let mut writer = Counted::<W, M>::new(stdout, writes);
-    obey(rt, &words, &mut reader, &mut writer, line, farmer)
+    obey(rt, &words, &mut reader, &mut writer, line, host)
 }
 
 /// The same; before anything is written the line is emptied.
@@ -84,51 +85,43 @@ fn try_all<R, I: Read + Drop, W: Write + Drop>(
     stdin: I,
     stdout: W,
     line: &Line,
-    farmer: &impl Farmer,
+    host: Host,
 ) -> Result<u8, NoMemory>
 where
-    R: Env + Files + Print + Eprint + AllocGlobal + RandomSource + Clock + Threads + Sync,
+    R: Env + Files + Print + Eprint + AllocGlobal + RandomSource + Clock + Threads + Wait + Sync,
+    R::File: Send + Drop,
 {
     let inner = stdout;
     let clearing = Clearing { line, inner };
     let (reads, writes) = (Blank::new(1), Blank::new(1));
     try_all_by::<R, I, Clearing<'_, W>, Brand, Brand>(
-        rt, stdin, clearing, line, farmer, reads, writes,
+        rt, stdin, clearing, line, host, reads, writes,
     )
 }
 
 /// Does all work; what it gives is the status.
-fn all<R, I: Read + Drop>(rt: &R, stdin: I, stderr: Stderr, farmer: &impl Farmer) -> u8
+fn all<R, I: Read + Drop>(rt: &R, stdin: I, host: Host) -> u8
 where
-    R: Env + Files + Print + Eprint + AllocGlobal + RandomSource + Clock + Threads + Sync,
+    R: Env + Files + Print + Eprint + AllocGlobal + RandomSource + Clock + Threads + Wait + Sync,
+    R::File: Send + Drop,
 {
-    match try_all(rt, stdin, io::writer(rt), &Line::new(stderr), farmer) {
+    match try_all(rt, stdin, io::writer(rt), &Line::new(host.stderr), host) {
         Ok(status) => status,
         Err(NoMemory) => no_memory(rt),
     }
 }
 
-/// The same, where `farm` may wait; whether its threads have stack enough is told.
-fn whole<R, I: Read + Drop>(rt: &R, stdin: I, stderr: Stderr, has_stack: bool) -> u8
-where
-    R: Env + Files + Print + Eprint + AllocGlobal + RandomSource + Clock + Threads + Wait + Sync,
-    R::File: Send + Drop,
-{
-    let farmer = Farming {
-        rt,
-        stderr,
-        has_stack,
-    };
-    all(rt, stdin, stderr, &farmer)
-}
-
 fn main(rt: HostRuntime) -> ExitCode {
-    if first_thread_has_stack(&rt) {
-        return ExitCode::from(whole(&rt, rt.stdin(), rt.stderr(), true));
+    let host = Host {
+        stderr: rt.stderr(),
+        has_stack: first_thread_has_stack(&rt),
+    };
+    if host.has_stack {
+        return ExitCode::from(all(&rt, rt.stdin(), host));
     }
     let worker = Builder::new()
         .stack_size(STACK_BYTES)
-        .spawn(&rt, move || whole(&rt, rt.stdin(), rt.stderr(), false));
+        .spawn(&rt, move || all(&rt, rt.stdin(), host));
     match worker {
         Ok(worker) => ExitCode::from(worker.join(&rt)),
         Err(error) => {

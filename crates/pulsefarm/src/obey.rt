@@ -5,7 +5,7 @@ ghost use Rattle.pf_cli.specs.Args.{reading_of, tells, view_of_reading};
 ghost use Rattle.pf_command.specs.Streams.{streams};
 ghost use Rattle.pulsefarm.specs.Unread.{LeavesUnread};
 
-use crate::farm::Farmer;
+use crate::farm::Host;
 use crate::messages::{REFUSED, failed, no_memory, say, tell};
 use crate::progress::Line;
 use crate::schedule::{contents, contents_of_input, is_schedule, schedule_in};
@@ -17,6 +17,7 @@ use std::alloc::AllocGlobal;
 use std::fs::Files;
 use std::io::{self, Read, Write};
 use std::random::RandomSource;
+use std::sync::Wait;
 use std::sync::ledger::Ledger;
 use std::thread::Threads;
 use std::time::Clock;
@@ -78,10 +79,11 @@ fn work_by_schedule<R, I: Read, W: Write, L: Ledger, M: Ledger>(
     stdin: &mut Counted<I, L>,
     writer: &mut Counted<W, M>,
     line: &Line,
-    farmer: &impl Farmer,
+    host: Host,
 ) -> u8
 where
-    R: Files + Print + Eprint + AllocGlobal + RandomSource + Clock + Threads + Sync,
+    R: Files + Print + Eprint + AllocGlobal + RandomSource + Clock + Threads + Wait + Sync,
+    R::File: Send + Drop,
 {
     if file == "-" && args.file().is_none() {
         say(
@@ -90,7 +92,7 @@ where
         );
         return REFUSED;
     }
-    work(rt, args, stdin, writer, line, farmer)
+    work(rt, args, stdin, writer, line, host)
 }
 
 /// Does what words ask for by the schedule in a file.
@@ -101,10 +103,11 @@ fn obey_schedule<R, I: Read, W: Write, L: Ledger, M: Ledger>(
     stdin: &mut Counted<I, L>,
     writer: &mut Counted<W, M>,
     line: &Line,
-    farmer: &impl Farmer,
+    host: Host,
 ) -> Result<u8, NoMemory>
 where
-    R: Files + Print + Eprint + AllocGlobal + RandomSource + Clock + Threads + Sync,
+    R: Files + Print + Eprint + AllocGlobal + RandomSource + Clock + Threads + Wait + Sync,
+    R::File: Send + Drop,
 {
     let contents = match schedule_contents(rt, file, stdin) {
         Ok(contents) => contents,
@@ -115,7 +118,7 @@ where
         return no_schedule(rt, file, &contents);
     }
     match read(rt.alloc(), words, Some(schedule))? {
-        Reading::Args(args) => Ok(work_by_schedule(rt, &args, file, stdin, writer, line, farmer)),
+        Reading::Args(args) => Ok(work_by_schedule(rt, &args, file, stdin, writer, line, host)),
         Reading::Text {
             text,
             status,
@@ -133,10 +136,11 @@ pub fn obey<R, I: Read, W: Write, L: Ledger, M: Ledger>(
     stdin: &mut Counted<I, L>,
     writer: &mut Counted<W, M>,
     line: &Line,
-    farmer: &impl Farmer,
+    host: Host,
 ) -> Result<u8, NoMemory>
 where
-    R: Files + Print + Eprint + AllocGlobal + RandomSource + Clock + Threads + Sync,
+    R: Files + Print + Eprint + AllocGlobal + RandomSource + Clock + Threads + Wait + Sync,
+    R::File: Send + Drop,
     ensures { (status : ℕ) (is_fault : Bool)
         → reading_of None (map (λ w. w.now) words.now) ≡ tells status is_fault
         → LeavesUnread is_fault status result
@@ -146,12 +150,12 @@ where
         stdin.new.failures.total writer.new.failures.total) }
 {
     match read(rt.alloc(), words, None)? {
-        Reading::Args(args) => Ok(work(rt, &args, stdin, writer, line, farmer)),
+        Reading::Args(args) => Ok(work(rt, &args, stdin, writer, line, host)),
         Reading::Text {
             text,
             status,
             is_fault,
         } => Ok(tell(rt, &text, status, is_fault, writer)),
-        Reading::ScheduleIn(file) => obey_schedule(rt, words, file, stdin, writer, line, farmer),
+        Reading::ScheduleIn(file) => obey_schedule(rt, words, file, stdin, writer, line, host),
     }
 }

@@ -3,7 +3,7 @@
 ghost use Rattle.std.specs.Prelude.{◌≡◌, ◌<◌};
 
 use crate::args::open;
-use crate::farm::Farmer;
+use crate::farm::{Host, farm};
 use crate::messages::{REFUSED, failed, no_memory, no_more_memory, say};
 use crate::progress::{Line, Runs, Seeds};
 use crate::why::why;
@@ -18,6 +18,7 @@ use std::hash::RandomState;
 use std::io::{self, Read, Write};
 use std::marker::Brand;
 use std::random::RandomSource;
+use std::sync::Wait;
 use std::sync::ledger::{Blank, Ledger};
 use std::thread::{Threads, available_parallelism};
 use std::time::Clock;
@@ -104,14 +105,18 @@ fn answer_all_steps<R: Read, W: Write, L: Ledger, M: Ledger>(
 }
 
 /// Answers a source; the line tells how far a hunt or a shrinking came.
-fn answer_source<R: Read, W: Write, L: Ledger, M: Ledger>(
-    rt: &(impl AllocGlobal + RandomSource + Clock + Threads + Sync),
+fn answer_source<H, R: Read, W: Write, L: Ledger, M: Ledger>(
+    rt: &H,
     asked: &Args,
     reader: &mut Counted<R, L>,
     writer: &mut Counted<W, M>,
     line: &Line,
-    farmer: &impl Farmer,
-) -> Answered {
+    host: Host,
+) -> Answered
+where
+    H: Files + Print + Eprint + AllocGlobal + RandomSource + Clock + Threads + Wait + Sync,
+    H::File: Send + Drop,
+{
     let alloc = rt.alloc();
     match asked {
         Args::Run(args) => serve(alloc, reader, Run { args }, writer),
@@ -126,26 +131,29 @@ fn answer_source<R: Read, W: Write, L: Ledger, M: Ledger>(
             serve(alloc, reader, Check { explain }, writer)
         }
         Args::Steps(_) => answer_steps(rt, reader, writer),
-        Args::Farm(args) => farmer.farm(args, writer),
+        Args::Farm(args) => farm(rt, args, host, writer),
     }
 }
 
 /// The same with the bytes of a source. If it is refused, or what is asked for of it, standard error says why.
-fn answer_bytes<W: Write, L: Ledger, M: Ledger>(
-    rt: &(impl Eprint + AllocGlobal + RandomSource + Clock + Threads + Sync),
+fn answer_bytes<H, W: Write, L: Ledger, M: Ledger>(
+    rt: &H,
     asked: &Args,
     source: Vec<u8>,
     writer: &mut Counted<W, M>,
     line: &Line,
-    farmer: &impl Farmer,
+    host: Host,
     reads: Blank,
 ) -> Answered
+where
+    H: Files + Print + Eprint + AllocGlobal + RandomSource + Clock + Threads + Wait + Sync,
+    H::File: Send + Drop,
     requires reads { reads.name ≡ L.name }
     requires read_parts { reads.parts ≡ L.parts }
     requires some_reads { 0 < reads.parts }
 {
     let mut reader = Counted::<&[u8], L>::new(source.as_slice(), reads);
-    let answered = answer_source(rt, asked, &mut reader, writer, line, farmer);
+    let answered = answer_source(rt, asked, &mut reader, writer, line, host);
     line.clear();
     let status = answered?;
     if status == REFUSED {
@@ -158,39 +166,46 @@ fn answer_bytes<W: Write, L: Ledger, M: Ledger>(
 }
 
 /// Does what is asked for between a reader and a writer; the line tells how far a hunt or a shrinking came, and is empty at the end.
-fn answer<R: Read, W: Write, L: Ledger, M: Ledger>(
-    rt: &(impl Eprint + AllocGlobal + RandomSource + Clock + Threads + Sync),
+fn answer<H, R: Read, W: Write, L: Ledger, M: Ledger>(
+    rt: &H,
     asked: &Args,
     reader: &mut Counted<R, L>,
     writer: &mut Counted<W, M>,
     line: &Line,
-    farmer: &impl Farmer,
-) -> Answered {
+    host: Host,
+) -> Answered
+where
+    H: Files + Print + Eprint + AllocGlobal + RandomSource + Clock + Threads + Wait + Sync,
+    H::File: Send + Drop,
+{
     match asked {
         Args::Steps(_) => return answer_all_steps(rt, reader, writer),
-        Args::Farm(args) => return farmer.farm(args, writer),
+        Args::Farm(args) => return farm(rt, args, host, writer),
         _ => {}
     }
     let source = reader.take_front(rt.alloc(), MOST_BYTES)?;
-    answer_bytes::<W, Brand, M>(rt, asked, source, writer, line, farmer, Blank::new(1))
+    answer_bytes::<H, W, Brand, M>(rt, asked, source, writer, line, host, Blank::new(1))
 }
 
 /// The same with what a file holds.
-fn answer_file<R: Read + Drop, W: Write, L: Ledger, M: Ledger>(
-    rt: &(impl Eprint + AllocGlobal + RandomSource + Clock + Threads + Sync),
+fn answer_file<H, R: Read + Drop, W: Write, L: Ledger, M: Ledger>(
+    rt: &H,
     asked: &Args,
     file: R,
     writer: &mut Counted<W, M>,
     line: &Line,
-    farmer: &impl Farmer,
+    host: Host,
     reads: Blank,
 ) -> Answered
+where
+    H: Files + Print + Eprint + AllocGlobal + RandomSource + Clock + Threads + Wait + Sync,
+    H::File: Send + Drop,
     requires reads { reads.name ≡ L.name }
     requires read_parts { reads.parts ≡ L.parts }
     requires some_reads { 0 < reads.parts }
 {
     let mut reader = Counted::<R, L>::new(file, reads);
-    answer(rt, asked, &mut reader, writer, line, farmer)
+    answer(rt, asked, &mut reader, writer, line, host)
 }
 
 /// The status of a command, and what is said of its end.
@@ -214,24 +229,25 @@ pub fn work<R, I: Read, W: Write, L: Ledger, M: Ledger>(
     stdin: &mut Counted<I, L>,
     writer: &mut Counted<W, M>,
     line: &Line,
-    farmer: &impl Farmer,
+    host: Host,
 ) -> u8
 where
-    R: Files + Print + Eprint + AllocGlobal + RandomSource + Clock + Threads + Sync,
+    R: Files + Print + Eprint + AllocGlobal + RandomSource + Clock + Threads + Wait + Sync,
+    R::File: Send + Drop,
 {
     let Some(name) = asked.file() else {
-        let answered = answer(rt, asked, stdin, writer, line, farmer);
+        let answered = answer(rt, asked, stdin, writer, line, host);
         return end(rt, asked, None, answered);
     };
     let answered = match open(rt, name) {
         Ok(file) => {
-            answer_file::<R::File, W, Brand, M>(
+            answer_file::<R, R::File, W, Brand, M>(
                 rt,
                 asked,
                 file,
                 writer,
                 line,
-                farmer,
+                host,
                 Blank::new(1),
             )
         }

@@ -1,5 +1,5 @@
 use Rattle.std.specs.Prelude.{Some}
-use Rattle.pulsefarm.proofs.farm.FarmingFarmer.farm.Given as goal
+use Rattle.pulsefarm.proofs.farm.farm.Given as goal
 
 -- the farm's ledgers and registers are named by its blanks
 abbrev pub ghosts-run_by : goal.ghosts-run_by
