@@ -52,7 +52,8 @@ impl fmt::Display for Shown<'_> {
         f.write_str("trials done of ordered:")?;
         for (index, trials) in self.trials.iter().take(MOST_TOLD).enumerate() {
             let done = trials.done.load(Ordering::SeqCst);
-            let ordered = trials.ordered.load(Ordering::SeqCst);
+            // One may be done before its client has counted it.
+            let ordered = trials.ordered.load(Ordering::SeqCst).max(done);
             write!(f, " p{} {done}/{ordered}", index.saturating_add(1))?;
         }
         if self.trials.len() > MOST_TOLD {
