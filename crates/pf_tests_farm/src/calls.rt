@@ -119,11 +119,11 @@ pub(crate) fn await_done<N: FarmNames, R: Wait>(
     seat: &mut ClientSeat<N>,
     ticket: u64,
 ) -> Result<(), Missed> {
-    for _ in 0..3_000u32 {
+    for _ in 0..5_000u32 {
         if status(alloc, rt, floor, seat, ticket)? == Stage::Done {
             return Ok(());
         }
-        rest(20_000);
+        rest(1_000);
     }
     Err(Missed::that("a trial isn't done"))
 }

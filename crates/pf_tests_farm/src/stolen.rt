@@ -2,7 +2,7 @@
 
 ghost use Rattle.pf_sched.specs.Slices.{Sliced};
 
-use crate::calls::{SPAWNING, SUM, await_done, fetch, order, submit};
+use crate::calls::{SPAWNING, SUM, fetch, order, submit};
 use crate::missed::Missed;
 use crate::scene::{Scene, play};
 use crate::waiting::Mark;
@@ -69,7 +69,7 @@ impl OneIsStolen {
     ) -> Result<(), Missed> {
         submit(alloc, rt, floor, seat, SPAWNING)?;
         let ticket = order(alloc, rt, floor, seat, 1, 1, 2_000)?;
-        await_done(alloc, rt, floor, seat, ticket)?;
+        floor.wait_done(rt, seat, ticket);
         fetch(alloc, rt, floor, seat, ticket)?;
         self.first_fetched.set();
         Ok(())
@@ -98,7 +98,7 @@ impl Scene for OneIsStolen {
         if project == 2 {
             self.second_ordered.set();
         }
-        await_done(alloc, rt, floor, seat, ticket)?;
+        floor.wait_done(rt, seat, ticket);
         fetch(alloc, rt, floor, seat, ticket)?;
         Ok(())
     }
