@@ -6,8 +6,11 @@ _pulsefarm_properties='returns true nocrash nodeadlock withinlimit never:'
 # The options of the command $1.
 _pulsefarm_options() {
   case $1 in
-    run | chart) echo '--root --limit --edition --seed --weights --strategy --schedule --property --help' ;;
-    hunt) echo '--root --limit --edition --property --seeds --weights --strategy --workers --all --shrink --help' ;;
+    run) echo '--root --limit --edition --seed --weights --strategy --schedule --property --help' ;;
+    chart) echo '--root --limit --edition --seed --weights --strategy --schedule --property --compact --page --help' ;;
+    hunt)
+      echo '--root --limit --edition --property --seeds --for --weights --strategy --workers --all --shrink --all-roots --fail-fast --leaks --help'
+      ;;
     shrink) echo '--root --limit --edition --schedule --property --runs --help' ;;
     check) echo '--explain --help' ;;
     steps) echo '--help' ;;
@@ -47,7 +50,7 @@ _pulsefarm() {
       ;;
     --strategy) mapfile -t COMPREPLY < <(compgen -W 'pos uniform' -- "$word") ;;
     --edition) mapfile -t COMPREPLY < <(compgen -W '1 2' -- "$word") ;;
-    --limit | --seed | --seeds | --weights | --workers | --shrink | --runs) ;;
+    --limit | --seed | --seeds | --for | --weights | --workers | --shrink | --runs | --page) ;;
     *)
       if [ "${word:0:1}" = - ]; then
         mapfile -t COMPREPLY < <(compgen -W "$(_pulsefarm_options "$command")" -- "$word")

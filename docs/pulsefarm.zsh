@@ -47,10 +47,14 @@ _pulsefarm() {
   ((CURRENT--))
   local -a own
   case $command in
-    run | chart) own=($job '--seed[seed]:seed: ' $weights $strategy $schedule) ;;
+    run) own=($job '--seed[seed]:seed: ' $weights $strategy $schedule) ;;
+    chart)
+      own=($job '--seed[seed]:seed: ' $weights $strategy $schedule '--compact[join send and receive]' '--page[page of 500 rows]:page: ')
+      ;;
     hunt)
-      own=($job '--seeds[seeds A..B]:seeds: ' $weights $strategy '--workers[threads]:threads: ' '--all[tell each outcome]'
-        '--shrink[shrink within N runs]:runs: ')
+      own=($job '--seeds[seeds A..B]:seeds: ' '--for[time after which it stops]:time: ' $weights $strategy '--workers[threads]:threads: ' '--all[tell each outcome]'
+        '--shrink[shrink within N runs]:runs: ' '--all-roots[hunt every root]' '--fail-fast[end behind the first root that fails]'
+        '--leaks[waiting processes fail too]')
       ;;
     shrink) own=($job $schedule '--runs[most runs]:runs: ') ;;
     check) own=('--explain[tell how to mend a refusal]') ;;

@@ -1,9 +1,11 @@
 #!/usr/bin/env python3
-"""answer.py < ANSWER: writes as JSON what `pulsefarm hunt` prints: a failure with its schedule and report, none, each outcome, or a refusal."""
+"""answer.py < ANSWER: writes as JSON what `pulsefarm hunt` prints: a failure with its schedule and report, none, each outcome, or a refusal; and
+behind how many seeds a hunt for a time stopped, if it did."""
 import json
 import re
 import sys
 
+STOPPED = re.compile(r"stopped behind (\d+) seeds")
 NONE = re.compile(r"no failure in (\d+) seeds")
 ROW = re.compile(r"(holds|fails) (\d+) seeds, least (\d+): (.*)")
 
@@ -35,6 +37,9 @@ def failure(lines):
 
 def read(lines):
     """Returns what an answer tells."""
+    stopped = STOPPED.fullmatch(lines[0]) if lines else None
+    if stopped:
+        return {**read(lines[1:]), "stopped": int(stopped[1])}
     rows = [ROW.fullmatch(it) for it in lines if it != "strategy pos"]
     none = NONE.fullmatch(lines[0]) if lines else None
     if none:

@@ -53,6 +53,10 @@ answers() {
   holds "$room/json" 'it["strategy"] == "uniform" and it["outcomes"][1] == {"property": "fails", "seeds": 342, "least": 4, "outcome": "finished false"} and len(it["outcomes"]) == 2'
   "$program" hunt "$top/examples/wrong_reply.erl" --root main --limit 2000 --property true --seeds 0..9 | python3 "$top/examples/ci/answer.py" > "$room/json"
   holds "$room/json" 'it["seed"] == 2 and "shrinking" not in it and len(it["schedule"]) == len(it["events"]) == 20'
+  printf 'stopped behind 512 seeds\nno failure in 512 seeds\n' | python3 "$top/examples/ci/answer.py" > "$room/json"
+  holds "$room/json" 'it == {"answer": "none", "seeds": 512, "stopped": 512}'
+  printf 'stopped behind 8 seeds\nstrategy pos\nholds 8 seeds, least 0: finished true\n' | python3 "$top/examples/ci/answer.py" > "$room/json"
+  holds "$room/json" '(it["stopped"], it["strategy"], it["outcomes"][0]["seeds"]) == (8, "pos", 8)'
   echo 'E6 at 41' | python3 "$top/examples/ci/answer.py" > "$room/json"
   holds "$room/json" 'it == {"answer": "refused", "why": "E6 at 41"}'
   sh "$top/examples/ci/hunt.sh" "$room/found" "$top/examples/wrong_reply.erl" none 9 true 0..5 > "$room/out" 2> "$room/err"

@@ -78,7 +78,42 @@ files() {
   : > in
   run steps ./-
   ended 'file that is named -' 2 'command 1 refused C1\n' \
-    'pulsefarm: a line is no command: those before it were answered, and nothing behind it was read\n'
+    "pulsefarm: command 1 is none: no command begins with \`-module(m).\`; $unread"
+}
+
+unread='those before it were answered, and nothing behind it was read\n'
+
+# A line that is no command, $1, is told by its number and this reason, $2.
+no_command() {
+  printf 'usage 0\n%b\nusage 0\n' "$1" > in
+  run steps
+  ended "no command: $1" 2 'p0 usage 0 0 0 0 0\ncommand 2 refused C1\n' "pulsefarm: command 2 is none: $2; $unread"
+}
+
+lines_that_are_no_command() {
+  small='it wants a number from 0 to 4294967295 without leading zeros'
+  no_command '' 'the line is empty'
+  no_command 'usage 0\r' 'the line ends in a carriage return, and a line feed alone ends a line'
+  no_command 'usag 0' 'no command begins with `usag`'
+  no_command ' usage 0' 'no command begins with ``'
+  no_command 'usage' '`P` is missing: `usage` wants `P` behind it'
+  no_command 'fetch 0' '`T` is missing: `fetch` wants `P T` behind it'
+  no_command 'fetch 0 x' "\`x\` is no \`T\` of \`fetch\`: $small"
+  no_command 'fetch 0 01' "\`01\` is no \`T\` of \`fetch\`: $small"
+  no_command 'fetch 0 1 2' 'it has too many words: `fetch` wants `P T` behind it'
+  no_command 'slice 0 0 1 0' '`0` is no `TURNS` of `slice`: it wants a number from 1 to 4294967295 without leading zeros'
+  no_command 'order 0 1 main true seed:1:2 9' \
+    '`seed:1:2` is no `CHOICES` of `order`: it wants `seed:N`, `seed:N:R:D`, `none` or numbers with commas between them'
+  no_command 'shrink 0 1 main true 1,,2 9 9' '`1,,2` is no `LIST` of `shrink`: it wants `none` or numbers with commas between them'
+  no_command 'order 0 1  true none 9' '`` is no `ROOT` of `order`: it wants a word without tabulators and carriage returns'
+  no_command 'submit 0 99' 'the source of as many bytes, and a line end, don'\''t follow `submit`'
+}
+
+# As many bytes as are read, of one submission, and a line behind them.
+more_than_is_read() {
+  { printf 'submit 0 67108846\n'; head -c 67108846 /dev/zero; printf '\nusage 0\n'; } > in
+  run steps
+  ended 'more than is read' 0 'p0 refused Q2\n' "pulsefarm: 67,108,864 bytes of commands were read, and what follows them isn't\n"
 }
 
 missing='No such file or directory (os error 2)\n'
@@ -555,6 +590,8 @@ long_inputs() {
 
 files
 files_that_are_not_read
+lines_that_are_no_command
+more_than_is_read
 words
 streams
 client_that_waits

@@ -104,6 +104,76 @@ outcomes() {
   done
 }
 
+# The number in the line that says that a hunt stopped; nothing where the first line of the output says something else.
+stopped_behind() { sed -n '1s/^stopped behind \([1-9][0-9]*\) seeds$/\1/p' "$room/out"; }
+
+# Hunts of the module $1 for a time: each stops soon, and tells of the seeds that it ran what a hunt over these seeds tells.
+for_a_time() {
+  asked="$examples/$1.erl --root main --limit 2000"
+  # The words in `$asked` have no blanks in them.
+  # shellcheck disable=SC2086
+  {
+    began=$(date +%s)
+    told "$room/out" hunt $asked --property withinlimit --for 1s
+    number=$(stopped_behind)
+    printf 'stopped behind %s seeds\nno failure in %s seeds\n' "$number" "$number" > "$room/wanted"
+    note "$1 for a second, from seed 0" "$([ -n "$number" ] && [ "$status" = 0 ] && cmp -s "$room/out" "$room/wanted"; echo $?)"
+    note "$1 for a second takes no ten" "$([ $(($(date +%s) - began)) -lt 10 ]; echo $?)"
+    told "$room/out" hunt $asked --property "$2" --seeds 7..1000000000 --for 1s --all --strategy "$strategy"
+    number=$(stopped_behind)
+    wanted_status=$status
+    sed 1d "$room/out" > "$room/wanted"
+    note "$1 for a second, each outcome" "$([ -n "$number" ]; echo $?)"
+    compare "$1, the outcomes of as many seeds" "$wanted_status" /dev/null "$room/wanted" \
+      hunt $asked --property "$2" --seeds "7..$((7 + ${number:-1}))" --all --strategy "$strategy"
+    echo 'no failure in 40 seeds' > "$room/wanted"
+    compare "$1 over 40 seeds, for an hour" 0 /dev/null "$room/wanted" hunt $asked --property withinlimit --seeds 5..45 --for 1h
+    told "$room/wanted" hunt $asked --property "$2" --seeds 0..200 --strategy "$strategy"
+    compare "$1 fails within a time" 1 /dev/null "$room/wanted" hunt $asked --property "$2" --seeds 0..200 --for 60m --strategy "$strategy"
+    compare "$1 fails within a time, without seeds" 1 /dev/null "$room/wanted" hunt $asked --property "$2" --for 60m --strategy "$strategy"
+  }
+}
+
+# Words of a time that are none, and a hunt without seeds and a time, which is over the first 10,000.
+times_refused() {
+  : > "$room/wanted"
+  asked="$examples/$1.erl --root main --limit 2000 --property true"
+  # The words in `$asked` have no blanks in them.
+  # shellcheck disable=SC2086
+  {
+    for time in 0s 5 s 05s 5S 5ms 1.5s -1s +1s 4294967296s; do
+      compare "a time of $time" 2 /dev/null "$room/wanted" hunt $asked --seeds 0..5 --for="$time"
+      note "a time of $time is named" "$(grep -q "invalid value '$time' for '--for <T>'" "$room/err"; echo $?)"
+    done
+    echo 'no failure in 10000 seeds' > "$room/wanted"
+    compare 'no seeds and no time' 0 /dev/null "$room/wanted" hunt "$examples/lost_update_mended.erl" --root main --limit 2000 --property true
+  }
+}
+
+# Properties with an atom that stands nowhere in the module: the same goes out, and standard error says so. $1 is the module, $2 an atom that it has.
+lacking() {
+  echo 'no failure in 5 seeds' > "$room/wanted"
+  : > "$room/silent"
+  said='pulsefarm: no message fits the pattern of the property: its atom `nowhere_at_all` stands nowhere in the module'
+  asked="$examples/$1.erl --root main --limit 2000"
+  # The words in `$asked` have no blanks in them.
+  # shellcheck disable=SC2086
+  {
+    compare 'an atom that the module lacks' 0 /dev/null "$room/wanted" hunt $asked --seeds 0..5 --property 'never:{X,nowhere_at_all,other}'
+    note 'the atom is named' "$([ "$(cat "$room/err")" = "$said" ]; echo $?)"
+    told "$room/out" run $asked --seed 1 --property 'never:nowhere_at_all'
+    note 'a run names it too' "$([ "$(cat "$room/err")" = "$said" ] && [ "$(tail -n 1 "$room/out")" = 'property holds' ]; echo $?)"
+    told "$room/out" chart $asked --seed 1 --property 'never:nowhere_at_all'
+    note 'a chart names it too' "$([ "$(cat "$room/err")" = "$said" ]; echo $?)"
+    told "$room/out" shrink $asked --schedule none --runs 2 --property 'never:nowhere_at_all'
+    note 'a shrinking says that nothing fails' "$(grep -q 'nothing to shrink' "$room/err"; echo $?)"
+    for property in returns 'never:{X,Y,Z,7}' "never:{$2,'EXIT',noproc,X,Y,Z}"; do
+      told "$room/out" run $asked --seed 1 --property "$property"
+      note "nothing is said of $property" "$(cmp -s "$room/err" "$room/silent"; echo $?)"
+    done
+  }
+}
+
 # What is refused: $1 names it, $2 is the source, $3 the text, and then come the words.
 refused() {
   name=$1 source=$2
@@ -136,6 +206,10 @@ while read -r module property; do
     shrunk "$module" "$property" 300
     outcomes "$module" "$property"
   done
+  strategy=pos
+  for_a_time "$module" "$property"
 done < "$room/table"
+times_refused lost_update
+lacking stale_monitor main
 refusals
 tell_counts

@@ -175,7 +175,7 @@ clean_root() {
 options_of() {
   # (no command is no word)
   # shellcheck disable=SC2086
-  "$program" $1 --help | sed -n 's/^ *\(-., \)*\(--[a-z]*\).*/\2/p' | sort
+  "$program" $1 --help | sed -n 's/^ *\(-., \)*\(--[a-z-]*\).*/\2/p' | sort
 }
 
 # The page has each command and each option of the program, and no other option.
@@ -188,7 +188,7 @@ page() {
   done | sort -u > "$room/wanted"
   [ "$(wc -l < "$room/wanted")" -ge 14 ]
   note "help has options" $?
-  sed -n '/^OPTIONS/,/^EXIT/p' "$room/page" | grep -o '^ \{7\}\(-., \)\?--[a-z]*' | grep -o -- '--[a-z]*' | sort > "$room/out"
+  sed -n '/^OPTIONS/,/^EXIT/p' "$room/page" | grep -o '^ \{7\}\(-., \)\?--[a-z-]*' | grep -o -- '--[a-z-]*' | sort > "$room/out"
   cmp -s "$room/out" "$room/wanted"
   note "the page has the options of help" $?
   for command in $commands; do
@@ -197,7 +197,7 @@ page() {
   done
   # The synopsis of a command has each option that its usage wants.
   for command in $commands; do
-    for option in $("$program" "$command" --help | sed -n 's/^Usage: //p' | grep -o -- '--[a-z]*'); do
+    for option in $("$program" "$command" --help | sed -n 's/^Usage: //p' | grep -o -- '--[a-z-]*'); do
       [ "$command" = chart ] || grep "^       pulsefarm $command " "$room/page" | grep -q -- "$option "
       note "the synopsis of $command has $option" $?
     done

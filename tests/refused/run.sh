@@ -11,6 +11,8 @@
 # It does the same with `pulsefarm steps`, whose runs may go on after a refused growth and say so in a line; and with `pulsefarm farm` over two files with two workers.
 # There the growths of all threads are counted, in an order that differs from run to run. So which growth is refused isn't known, but each text that may follow is.
 #
+# It does so with a check of a module and of a refused one, and with hunts: once a run that fails was found its seed and its schedule are told.
+#
 # Then it runs a loop by tail calls within 1,000 and within 100,000 steps: both have to take the same memory at most.
 set -u
 top=$(cd "$(dirname "$0")/../.." && pwd)
@@ -81,11 +83,32 @@ ended_well() {
 }
 
 # Whether a run of commands ended as it may: so too with a line that says where memory ran out; or with status 2 and a message on
-# standard error, behind which nothing more went out.
+# standard error, behind which nothing more went out. Until then all answers are those of the run without it.
 commands_ended_well() {
-  ended_well \
-    || { [ "$status" = 0 ] && grep -q -x -e 'p[12] refused NoMemory' -e 'w[0-3] no memory' "$room/out"; } \
+  ended_well && return
+  sed '/^p[0-9]* refused NoMemory$/,$d; /^w[0-3] no memory$/,$d' "$room/out" > "$room/before"
+  head -c "$(wc -c < "$room/before")" "$whole" | cmp -s - "$room/before" || return 1
+  { [ "$status" = 0 ] && grep -q -x -e 'p[0-9]* refused NoMemory' -e 'w[0-3] no memory' "$room/out"; } \
     || { [ "$status" = 2 ] && ! grep -q -x NoMemory "$room/out" && grep -q 'NoMemory$' "$room/err"; }
+}
+
+# Whether a hunt ended as it may: with its seed and schedule, too, and that memory ran out behind them; once a run was found these are told.
+hunt_ended_well() {
+  if [ "$status" = 2 ] && cmp -s "$room/out" "$room/stopped"; then
+    stopped=$((stopped + 1))
+    return
+  fi
+  if [ "$stopped" != 0 ] && [ "$(cat "$room/out")" = NoMemory ]; then return 1; fi
+  ended_well
+}
+
+# Refuses each growth of the row $1 in turn, a hunt by one worker that finds a run.
+hunt_refused() {
+  some_row "$1"
+  stopped=0
+  all_refused "$1" hunt_ended_well
+  echo "$1: $stopped of them behind what was found"
+  [ "$stopped" != 0 ] || failure "$1: no growth was refused behind what was found"
 }
 
 # Refuses each growth of the program in turn: $1 names the run, and $2 tells whether it ended as it may.
@@ -245,14 +268,20 @@ row_run_refused flush_takes_the_oldest_that_tells
 row_run_refused seed_of_two_senders
 row_run_refused property_never_of_what_is_sent
 row_refused shrink_wait_within_three_runs ended_well
-row_refused hunt_of_a_wait ended_well
 printf '%s\n' 'seed 7' 'schedule 0' memory 'steps 0' 'no verdict' > "$room/stopped"
-row_run_refused hunt_of_a_wait_shrunk
+hunt_refused hunt_of_a_wait
+hunt_refused hunt_of_a_wait_shrunk
 row_refused hunt_of_each_outcome ended_well
 chart_refused
 some_commands
 all_refused steps commands_ended_well
 row_refused steps_race_in_both_orders commands_ended_well
+row_refused steps_two_projects_with_one_module commands_ended_well
+row_refused steps_runs_parked_and_stolen commands_ended_well
+row_refused steps_stray_after_a_drop commands_ended_well
+row_refused steps_shrinkings commands_ended_well
+row_refused check_every_form ended_well
+row_refused check_explain_unsafe ended_well
 some_farm
 all_refused farm farm_ended_well
 

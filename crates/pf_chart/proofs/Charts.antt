@@ -1,49 +1,120 @@
 -- The parts of a chart in turn are a chart.
-use Rattle.std.proofs.Common.{◌≡◌, ℕ, List, [], ◌∷◌, ◌++◌, sym, ◌∙◌, ap, append_assoc}
-use Rattle.std.specs.Prelude.{flat_map, map}
+use Rattle.std.proofs.Common.{◌≡◌, ◌≢◌, ◌<◌, ◌≤◌, ◌+◌, ◌-◌, ℕ, arith, inl, inr, min, length-drop, Bool, true, false, List, [], ◌∷◌, ◌++◌, refl, sym, ◌∙◌, ap, append_assoc, length, get_or, take, drop, map, add-one, suc}
+use Rattle.std.specs.Prelude.{flat_map, nat_lt, if◌then◌else◌}
+use Rattle.std.specs.List.{filter}
+use Rattle.std.proofs.lemmas.List.{drop-map, take-map, take_all, take_more}
+use Rattle.std.proofs.lemmas.List.Elements.{filter-append}
 use Rattle.std.proofs.lemmas.List.Folds.{flat_map-map}
+use Rattle.std.proofs.lemmas.Bool.{cases_lt}
+use Rattle.std.proofs.lemmas.Bool.Decides.{nat_tests}
+use Rattle.std.proofs.lemmas.Grind.{common_steps}
 use Rattle.pf_model.specs.declared.report.Event.{Event}
 use Rattle.pf_model.specs.declared.report.Report.{Report}
-use Rattle.pf_model.specs.Reports.{event_of, label_of, outcome_of, report_of}
-use Rattle.pf_model.specs.Text.{label_text, outcome_text}
+use Rattle.pf_model.specs.Meaning as meaning
+use Rattle.pf_model.specs.Reports.{event_of, outcome_of, report_of}
+use Rattle.pf_model.specs.Text.{outcome_text}
 use Rattle.pf_chart.specs.declared.columns.Column.{Column}
-use Rattle.pf_chart.specs.Chart.{IsChart, chart, event_labels, process_labels, twice}
+use Rattle.pf_chart.specs.declared.manner.Manner.{Manner}
+use Rattle.pf_chart.specs.declared.rows.Row.{Row}
+use Rattle.pf_chart.specs.Chart.{IsChart, chart, choice_labels, choice_text, copies, event_labels, first_row, has_row, page_of, process_labels, shown, twice}
 use Rattle.pf_chart.specs.Words.{Draws}
 use Rattle.pf_svg.proofs.Drawn.{elsewhere, renamed}
 
-abbrev pub of_columns : List ℕ → List Column → List (List ℕ)
-of_columns root cs = flat_map (λ c. process_labels root c.spawned) cs
+abbrev pub told : Row → meaning.Event
+told row = event_of row.event.now
 
-abbrev pub of_events : (ℕ → List ℕ) → List Event → List (List ℕ)
-of_events name es = flat_map (λ e. twice (label_text name (label_of e.label))) es
+abbrev pub of_columns : (rows : ℕ) → List ℕ → List Column → List (List ℕ)
+of_columns n root cs = flat_map (λ c. process_labels n root c.spawned) cs
 
--- the labels of the events, as those of the report
-told_events : (name : ℕ → List ℕ) (r : Report) → of_events name r.events.items ≡ flat_map twice (event_labels name (report_of r))
-told_events name r =
-    sym (flat_map-map (λ e. twice (label_text name e.label)) event_of r.events.items)
-    ∙ sym (flat_map-map twice (λ e. label_text name e.label) (map event_of r.events.items))
+abbrev pub of_choices : List Row → List (List ℕ)
+of_choices rows = flat_map (λ row. choice_labels (event_of row.event.now)) rows
+
+abbrev pub of_rows : (ℕ → List ℕ) → List Row → List (List ℕ)
+of_rows name rows = flat_map (λ row. event_labels name (event_of row.event.now)) rows
+
+-- ---- choices
+
+pub unmarked : (e : meaning.Event) → e.choice ≡ 0 → [] ≡ choice_labels e
+unmarked e none = sym (ap (λ (n : ℕ). if nat_lt 0 n then choice_text e ∷ [] else []) none)
+
+pub marked : (e : meaning.Event) (text : List ℕ) → e.choice ≢ 0 → text ≡ choice_text e → text ∷ [] ≡ choice_labels e
+marked e text some is =
+    let above : nat_lt 0 e.choice ≡ true = grind (arith, nat_tests, some) in
+    ap (λ (t : List ℕ). t ∷ []) is ∙ sym (ap (λ (b : Bool). if b then choice_text e ∷ [] else []) above)
+
+-- ---- rows
+
+pub copies_more : (n : ℕ) (labels : List (List ℕ)) → copies n labels ++ labels ≡ copies (n + 1) labels
+copies_more n labels = ap (λ (k : ℕ). copies k labels) (sym (add-one n))
+
+-- at most 500 rows from a first on
+pub cut : (rows : List Row) (first end : ℕ) → first ≤ length rows → end ≡ min (length rows) (first + 500)
+    → take (end - first) (drop first rows) ≡ take 500 (drop first rows)
+cut rows first end within is = elim (cases_lt (length rows) (first + 500)) [
+  | inl h ↦ take_all (end - first) (drop first rows) (omega (arith, is, length-drop first rows))
+      ∙ sym (take_all 500 (drop first rows) (omega (arith, length-drop first rows)))
+  | inr h ↦ (let all : end - first ≡ 500 = omega (arith, is) in ap (λ (n : ℕ). take n (drop first rows)) all)
+]
+
+-- one event more
+pub rows_more : (compact : Bool) (es : List Event) (i : ℕ) (e : Event) → i < length es → e ≡ get_or es i e
+    → filter (has_row compact) (map event_of (take i es)) ++ filter (has_row compact) (event_of e ∷ []) ≡ filter (has_row compact) (map event_of (take (i + 1) es))
+rows_more compact es i e lt is =
+    let all : take (i + 1) es ≡ take i es ++ e ∷ [] = take_more es i e lt ∙ ap (λ (x : Event). take i es ++ x ∷ []) (sym is) in
+    let events : map event_of (take (i + 1) es) ≡ map event_of (take i es) ++ event_of e ∷ [] = ap (map event_of) all ∙ grind (arith, common_steps) in
+    sym (ap (filter (has_row compact)) events ∙ filter-append (has_row compact) (map event_of (take i es)) (event_of e ∷ []))
+
+pub row_kept : (compact : Bool) (e : meaning.Event) → has_row compact e ≡ true → e ∷ [] ≡ filter (has_row compact) (e ∷ [])
+row_kept compact e is = rw is refl
+
+pub row_left : (compact : Bool) (e : meaning.Event) → has_row compact e ≡ false → [] ≡ filter (has_row compact) (e ∷ [])
+row_left compact e is = rw is refl
+
+length_told : (rows : List Row) → length (map told rows) ≡ length rows
+length_told [] = refl
+length_told (row ∷ rows) = ap suc (length_told rows)
+
+-- a page of the events is that of the rows
+pub paged : (page : ℕ) (rows : List Row) → map told (page_of page rows) ≡ page_of page (map told rows)
+paged page rows =
+    let first = first_row page (length rows) in
+    sym (take-map told 500 (drop first rows))
+    ∙ ap (take 500) (sym (drop-map told first rows))
+    ∙ ap (λ (n : ℕ). take 500 (drop (first_row page n) (map told rows))) (sym (length_told rows))
+
+-- ---- the whole
 
 -- the document is a chart of the report
-pub chart_of : (name : ℕ → List ℕ) (root : List ℕ) (r : Report) (cs : List Column) (o p : List ℕ) {x y : List ℕ}
+pub chart_of : (name : ℕ → List ℕ) (root : List ℕ) (m : Manner) (r : Report) (cs : List Column) (rows : List Row) (n : ℕ) (o p : List ℕ) {x y : List ℕ}
+    → map told rows ≡ shown m (report_of r) → n ≡ length rows
     → o ≡ outcome_text name (outcome_of r.outcome) → p ≡ outcome_text name (outcome_of r.outcome)
-    → Draws ((root ∷ root ∷ o ∷ []) ++ ((of_columns root cs ++ of_events name r.events.items) ++ twice p)) x y
-    → IsChart name root (report_of r) x y
-chart_of name root r cs o p e e' d =
+    → Draws ((root ∷ root ∷ o ∷ []) ++ ((of_columns n root cs ++ (of_choices rows ++ of_rows name rows)) ++ twice p)) x y
+    → IsChart name root m (report_of r) x y
+chart_of name root m r cs rows n o p are count e e' d =
     let outcome = outcome_text name (outcome_of r.outcome) in
+    let events = shown m (report_of r) in
     let origins = map (λ (c : Column). c.spawned) cs in
-    let events = flat_map twice (event_labels name (report_of r)) in
-    let processes : of_columns root cs ≡ flat_map (process_labels root) origins =
-    sym (flat_map-map (process_labels root) (λ (c : Column). c.spawned) cs) in
-    let rest : (of_columns root cs ++ of_events name r.events.items) ++ twice p ≡ flat_map (process_labels root) origins ++ (events ++ twice outcome) =
-    append_assoc (of_columns root cs) (of_events name r.events.items) (twice p)
-    ∙ ap (λ (t : List (List ℕ)). t ++ (of_events name r.events.items ++ twice p)) processes
-    ∙ ap (λ (t : List (List ℕ)). flat_map (process_labels root) origins ++ (t ++ twice p)) (told_events name r)
-    ∙ ap (λ (t : List ℕ). flat_map (process_labels root) origins ++ (events ++ twice t)) e' in
+    let number : n ≡ length events = count ∙ sym (length_told rows) ∙ ap length are in
+    let processes : of_columns n root cs ≡ flat_map (process_labels (length events) root) origins =
+    sym (flat_map-map (process_labels n root) (λ (c : Column). c.spawned) cs) ∙ ap (λ (k : ℕ). flat_map (process_labels k root) origins) number in
+    let choices : of_choices rows ≡ flat_map choice_labels events = sym (flat_map-map choice_labels told rows) ∙ ap (flat_map choice_labels) are in
+    let labels : of_rows name rows ≡ flat_map (event_labels name) events = sym (flat_map-map (event_labels name) told rows) ∙ ap (flat_map (event_labels name)) are in
+    let parted : (of_columns n root cs ++ (of_choices rows ++ of_rows name rows)) ++ twice p
+    ≡ of_columns n root cs ++ (of_choices rows ++ (of_rows name rows ++ twice p)) =
+    append_assoc (of_columns n root cs) (of_choices rows ++ of_rows name rows) (twice p)
+    ∙ ap (λ (t : List (List ℕ)). of_columns n root cs ++ t) (append_assoc (of_choices rows) (of_rows name rows) (twice p)) in
+    let rest : (of_columns n root cs ++ (of_choices rows ++ of_rows name rows)) ++ twice p
+    ≡ flat_map (process_labels (length events) root) origins ++ (flat_map choice_labels events ++ (flat_map (event_labels name) events ++ twice outcome)) =
+    parted
+    ∙ ap (λ (t : List (List ℕ)). t ++ (of_choices rows ++ (of_rows name rows ++ twice p))) processes
+    ∙ ap (λ (t : List (List ℕ)). flat_map (process_labels (length events) root) origins ++ (t ++ (of_rows name rows ++ twice p))) choices
+    ∙ ap (λ (t : List (List ℕ)). flat_map (process_labels (length events) root) origins ++ (flat_map choice_labels events ++ (t ++ twice p))) labels
+    ∙ ap (λ (t : List ℕ). flat_map (process_labels (length events) root) origins ++ (flat_map choice_labels events ++ (flat_map (event_labels name) events ++ twice t))) e' in
     chart origins
-    (renamed (ap (λ (t : List ℕ). (root ∷ root ∷ t ∷ []) ++ ((of_columns root cs ++ of_events name r.events.items) ++ twice p)) e
+    (renamed (ap (λ (t : List ℕ). (root ∷ root ∷ t ∷ []) ++ ((of_columns n root cs ++ (of_choices rows ++ of_rows name rows)) ++ twice p)) e
     ∙ ap (λ (t : List (List ℕ)). (root ∷ root ∷ outcome ∷ []) ++ t) rest) d)
 
 -- a chart that was made by itself, after what stands elsewhere
-pub moved : {name : ℕ → List ℕ} {root : List ℕ} {r : _} {x y : List ℕ} (before after : List ℕ) → x ≡ [] → after ≡ before ++ y
-    → IsChart name root r x y → IsChart name root r before after
+pub moved : {name : ℕ → List ℕ} {root : List ℕ} {m : Manner} {r : _} {x y : List ℕ} (before after : List ℕ) → x ≡ [] → after ≡ before ++ y
+    → IsChart name root m r x y → IsChart name root m r before after
 moved before after none e (chart origins d) = chart origins (elsewhere before after none e d)

@@ -3,7 +3,7 @@ use Rattle.std.specs.Prelude.{ℕ, Bool, List, [], ◌∷◌, ◌++◌, codes}
 use Rattle.pf_svg.specs.Document.{Draws as DrawsIn}
 use Rattle.pf_svg.specs.Words.{is_word as is_word_of}
 use Rattle.pf_chart.specs.declared.marks.TheConstants.{LINKED, UNLINKED}
-use Rattle.pf_chart.specs.declared.style.TheConstants.{DEFINITIONS, LEGEND, LEGEND_OF_SPAWNS, STYLE}
+use Rattle.pf_chart.specs.declared.style.TheConstants.{DEFINITIONS, LEGEND, LEGEND_OF_CHOICES, LEGEND_OF_RECEIPTS, LEGEND_OF_SPAWNS, STYLE}
 
 -- tags, or beginnings and ends of tags
 abbrev pub markup : List (List ℕ)
@@ -14,7 +14,7 @@ markup =
 
 -- names of attributes that are numbers
 abbrev pub attributes : List (List ℕ)
-attributes = codes "data-pid" ∷ codes "data-event" ∷ codes "data-delivery" ∷ []
+attributes = codes "data-pid" ∷ codes "data-event" ∷ codes "data-delivery" ∷ codes "data-receive" ∷ []
 
 -- classes: of lines and texts, of processes, of events and of arrows
 abbrev pub classes : List (List ℕ)
@@ -25,7 +25,7 @@ classes =
     ∷ codes "monitor" ∷ codes "demonitor" ∷ codes "exit" ∷ codes "flag" ∷ codes "name" ∷ codes "reference"
     ∷ codes "receive" ∷ codes "wait" ∷ codes "raise" ∷ codes "end" ∷ codes "cut" ∷ codes "delivery"
     ∷ codes "dropped" ∷ codes "ending" ∷ codes "arrow " ∷ codes "arrow spawn" ∷ codes "message" ∷ codes "down"
-    ∷ codes " lost" ∷ codes " dropped" ∷ codes "" ∷ []
+    ∷ codes " lost" ∷ codes " dropped" ∷ codes " chosen" ∷ codes "number chosen" ∷ codes "choice" ∷ codes "page" ∷ codes "" ∷ []
 
 -- outlines of marks
 abbrev pub outlines : List (List ℕ)
@@ -44,7 +44,9 @@ abbrev pub phrases : List (List ℕ)
 phrases =
     codes ", from top to bottom. Processes: " ∷ codes ". Events: " ∷ codes ". Outcome: " ∷ codes "by "
     ∷ codes " spawned by " ∷ codes " in event " ∷ codes " from " ∷ codes " to " ∷ codes "waits"
-    ∷ codes ", never delivered" ∷ codes ", dropped" ∷ LEGEND.now ∷ LEGEND_OF_SPAWNS.now ∷ []
+    ∷ codes ", never delivered" ∷ codes ", never received" ∷ codes ", dropped" ∷ codes ", delivered by a choice above 0"
+    ∷ codes "Page " ∷ codes " of " ∷ codes ": rows "
+    ∷ LEGEND.now ∷ LEGEND_OF_CHOICES.now ∷ LEGEND_OF_RECEIPTS.now ∷ LEGEND_OF_SPAWNS.now ∷ []
 
 abbrev pub words : List (List ℕ)
 words = markup ++ attributes ++ classes ++ outlines ++ phrases ++ STYLE.now ∷ DEFINITIONS.now ∷ []

@@ -52,12 +52,15 @@ pub(crate) enum Start {
     Above(usize),
 }
 
-/// Where an arrow ends: nowhere, or in the row of the delivery, at which the signal may have been dropped.
+/// Where an arrow ends: nowhere, or at the delivery, at which the signal may have been dropped. In a compact chart a message that comes into a
+/// mailbox ends at the event that takes it, or nowhere if none does.
 #[derive(Clone, Copy)]
 pub(crate) enum Reach {
     Nowhere,
     Taken(usize),
     Dropped(usize),
+    Received(usize),
+    Unread,
 }
 
 /// A signal, from one column to another.
@@ -68,4 +71,22 @@ pub(crate) struct Arrow {
     pub(crate) to: usize,
     pub(crate) start: Start,
     pub(crate) reach: Reach,
+    /// Whether a delivery that has no row of its own was a choice above 0.
+    pub(crate) chosen: bool,
+}
+
+impl Arrow {
+    /// The event in which it begins.
+    pub(crate) fn beginning(&self) -> usize {
+        let (Start::In(event) | Start::Above(event)) = self.start;
+        event
+    }
+
+    /// The event in which it ends, if it does.
+    pub(crate) fn end(&self) -> Option<usize> {
+        match self.reach {
+            Reach::Taken(event) | Reach::Dropped(event) | Reach::Received(event) => Some(event),
+            Reach::Nowhere | Reach::Unread => None,
+        }
+    }
 }

@@ -2,17 +2,21 @@
 
 ghost use Rattle.std.specs.Prelude.{◌≡◌, ◌++◌, ◌∷◌, [], ℕ, List, IfOk, OnErr, OnOk, IsTrue, flat_map};
 ghost use Rattle.pf_terms.specs.Atoms.{name_of};
-ghost use Rattle.pf_model.specs.Reports.{label_of, outcome_of, report_of};
-ghost use Rattle.pf_model.specs.Text.{label_text, outcome_text};
-ghost use Rattle.pf_chart.specs.Chart.{IsChart, process_labels, twice};
+ghost use Rattle.pf_model.specs.Reports.{event_of, outcome_of, report_of};
+ghost use Rattle.pf_model.specs.Text.{outcome_text};
+ghost use Rattle.pf_chart.specs.Chart.{IsChart, choice_labels, event_labels, process_labels, twice};
 ghost use Rattle.pf_chart.specs.Words.{Draws, is_word};
 
 use crate::events::{put_events, put_numbers};
 use crate::heads::{put_columns, put_spawns};
 use crate::layout::{Layout, layout_of};
-use crate::sheet::{GUTTER, ROW, Sheet, TOP};
+use crate::manner::Manner;
+use crate::rows::{PAGE, Row, first_row, page_of, rows_of};
+use crate::sheet::{GUTTER, Sheet, TOP};
 use crate::strokes::put_arrows;
-use crate::style::{DEFINITIONS, LEGEND, LEGEND_OF_SPAWNS, STYLE};
+use crate::style::{
+    DEFINITIONS, LEGEND, LEGEND_OF_CHOICES, LEGEND_OF_RECEIPTS, LEGEND_OF_SPAWNS, STYLE,
+};
 use crate::words::Svg;
 use pf_svg::Part::{Attribute, Label, Markup, Number, Short};
 use pf_terms::{AtomTable, NoMemory};
@@ -60,7 +64,7 @@ fn put_words<'a>(
 }
 
 /// Puts the sheet, and bands behind the rows.
-fn put_ground(svg: &mut Svg, events: usize, sheet: Sheet) -> Result<(), NoMemory>
+fn put_ground(svg: &mut Svg, sheet: Sheet) -> Result<(), NoMemory>
     ensures { OnOk result (Draws [] svg.old svg.new) }
 {
     svg.put(&[Markup("<rect class=\"sheet\" width=\"100%\" height=\"100%\"/>\n")])?;
@@ -68,7 +72,7 @@ fn put_ground(svg: &mut Svg, events: usize, sheet: Sheet) -> Result<(), NoMemory
         Markup(" class=\"bands\""),
         Attribute("y", TOP),
         Attribute("width", sheet.width()),
-        Attribute("height", (events as u64).saturating_mul(ROW)),
+        Attribute("height", sheet.rows_end().saturating_sub(TOP)),
     ])?;
     svg.end_line()
 }
@@ -93,14 +97,47 @@ fn put_result(svg: &mut Svg, outcome: &[u8], y: u64, sheet: Sheet) -> Result<(),
     svg.close_group()
 }
 
-/// Puts the outcome and the legend below all, and the end of the document.
-fn put_bottom(svg: &mut Svg, outcome: &[u8], sheet: Sheet) -> Result<(), NoMemory>
+/// Puts which page it is, if there are several.
+fn put_page(svg: &mut Svg, y: u64, sheet: Sheet) -> Result<(), NoMemory>
+    ensures { OnOk result (Draws [] svg.old svg.new) }
+{
+    if sheet.all_rows() <= PAGE {
+        return Ok(());
+    }
+    let content = [
+        Markup("Page "),
+        Number(((sheet.above / PAGE) as u64).saturating_add(1)),
+        Markup(" of "),
+        Number(((sheet.all_rows().saturating_sub(1) / PAGE) as u64).saturating_add(1)),
+        Markup(": rows "),
+        Number((sheet.above as u64).saturating_add(1)),
+        Markup(" to "),
+        Number(sheet.above.saturating_add(sheet.count) as u64),
+        Markup(" of "),
+        Number(sheet.all_rows() as u64),
+    ];
+    svg.text("page", (GUTTER, y), &content)?;
+    svg.end_line()
+}
+
+/// Puts how to read the chart.
+fn put_legends(svg: &mut Svg, y: u64, compact: bool) -> Result<(), NoMemory>
+    ensures { OnOk result (Draws [] svg.old svg.new) }
+{
+    let ends = if compact { LEGEND_OF_RECEIPTS } else { LEGEND };
+    put_legend(svg, ends, y)?;
+    put_legend(svg, LEGEND_OF_CHOICES, y.saturating_add(15))?;
+    put_legend(svg, LEGEND_OF_SPAWNS, y.saturating_add(30))
+}
+
+/// Puts the outcome, the page and the legend below all, and the end of the document.
+fn put_bottom(svg: &mut Svg, outcome: &[u8], compact: bool, sheet: Sheet) -> Result<(), NoMemory>
     ensures { OnOk result (Draws (twice outcome.now) svg.old svg.new) }
 {
-    let y = sheet.bottom().saturating_add(48);
+    let y = sheet.bottom().saturating_add(84);
     put_result(svg, outcome, y, sheet)?;
-    put_legend(svg, LEGEND, y.saturating_add(22))?;
-    put_legend(svg, LEGEND_OF_SPAWNS, y.saturating_add(37))?;
+    put_page(svg, y.saturating_add(20), sheet)?;
+    put_legends(svg, y.saturating_add(40), compact)?;
     svg.close()
 }
 
@@ -110,21 +147,22 @@ fn put_layout(
     svg: &mut Svg,
     atoms: &AtomTable,
     root: &[u8],
-    report: &Report,
+    rows: &[Row],
     layout: &Layout,
     sheet: Sheet,
 ) -> Result<(), NoMemory>
     ensures { OnOk result (Draws
-        (flat_map (λ c. process_labels root.now c.spawned) layout.now.columns.items
-        ++ flat_map (λ e. twice (label_text (name_of atoms.now) (label_of e.label))) report.now.events.items)
+        (flat_map (λ c. process_labels sheet.entry.count root.now c.spawned) layout.now.columns.items
+        ++ (flat_map (λ r. choice_labels (event_of r.event.now)) rows.now
+        ++ flat_map (λ r. event_labels (name_of atoms.now) (event_of r.event.now)) rows.now))
         svg.old svg.new) }
 {
-    put_ground(svg, report.events.len(), sheet)?;
-    put_numbers(svg, report.events.len(), sheet)?;
+    put_ground(svg, sheet)?;
     put_columns(svg, &layout.columns, root, sheet)?;
+    put_numbers(alloc, svg, rows, sheet)?;
     put_spawns(svg, &layout.columns, sheet)?;
     put_arrows(svg, &layout.traffic.arrows, &layout.columns, sheet)?;
-    put_events(alloc, svg, atoms, &report.events, &layout.columns, sheet)
+    put_events(alloc, svg, atoms, rows, &layout.columns, sheet)
 }
 
 /// Puts the whole document.
@@ -134,19 +172,23 @@ fn put_document(
     atoms: &AtomTable,
     root: &[u8],
     report: &Report,
+    manner: Manner,
 ) -> Result<(), NoMemory>
-    ensures { OnOk result (IsChart (name_of atoms.now) root.now (report_of report.now) svg.old svg.new) }
+    ensures { OnOk result (IsChart (name_of atoms.now) root.now manner (report_of report.now)
+        svg.old svg.new) }
 {
-    let layout = layout_of(alloc, report)?;
+    let layout = layout_of(alloc, report, manner.compact)?;
+    let all_rows = rows_of(alloc, &report.events, manner.compact)?;
+    let rows = page_of(&all_rows, manner.page);
     let processes = layout.columns.len();
-    let events = report.events.len();
-    let sheet = Sheet::new(processes, events);
+    let above = first_row(manner.page, all_rows.len());
+    let sheet = Sheet::new(processes, &all_rows, above, rows.len());
     let outcome = text_of_outcome(alloc, atoms, report)?;
     svg.open(sheet.width(), sheet.height())?;
-    put_words(svg, root, &outcome, processes, events)?;
+    put_words(svg, root, &outcome, processes, report.events.len())?;
     svg.put(&[Markup(STYLE), Markup(DEFINITIONS)])?;
-    put_layout(alloc, svg, atoms, root, report, &layout, sheet)?;
-    put_bottom(svg, &outcome, sheet)
+    put_layout(alloc, svg, atoms, root, rows, &layout, sheet)?;
+    put_bottom(svg, &outcome, manner.compact, sheet)
 }
 
 /// Puts a report of a run from the function `root` as a message sequence chart: a whole SVG document, after what stood there.
@@ -157,12 +199,13 @@ pub fn put_chart(
     atoms: &AtomTable,
     root: &[u8],
     report: &Report,
+    manner: Manner,
 ) -> Result<(), NoMemory>
-    ensures put { OnOk result (IsChart (name_of atoms.now) root.now (report_of report.now)
+    ensures put { OnOk result (IsChart (name_of atoms.now) root.now manner (report_of report.now)
         out.old.items out.new.items) }
     ensures err { OnErr result (out.new.items ≡ out.old.items) }
 {
     let mut svg = Svg::new(alloc);
-    put_document(alloc, &mut svg, atoms, root, report)?;
+    put_document(alloc, &mut svg, atoms, root, report, manner)?;
     put(out, svg.as_bytes())
 }

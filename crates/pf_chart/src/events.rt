@@ -1,33 +1,66 @@
 //! Events on the sheet: their numbers, their marks and their labels.
 
-ghost use Rattle.std.specs.Prelude.{◌≡◌, ◌∷◌, [], IsTrue, OnOk, flat_map};
+ghost use Rattle.std.specs.Prelude.{◌≡◌, ◌++◌, ◌∷◌, [], IsTrue, OnOk, flat_map};
 ghost use Rattle.pf_terms.specs.Atoms.{name_of};
-ghost use Rattle.pf_model.specs.Reports.{label_of};
+ghost use Rattle.pf_model.specs.Reports.{event_of, label_of};
 ghost use Rattle.pf_model.specs.Text.{label_text};
-ghost use Rattle.pf_chart.specs.Chart.{twice};
+ghost use Rattle.pf_chart.specs.Chart.{choice_labels, choice_text, event_labels, twice};
 ghost use Rattle.pf_chart.specs.Words.{Draws, is_word};
 
 use crate::columns::{Column, column_of};
 use crate::marks::mark_of;
+use crate::rows::Row;
 use crate::sheet::{GUTTER, Sheet, event_number};
 use crate::words::Svg;
 use pf_model::report::{Actor, Event};
 use pf_svg::Part::{Attribute, Label, Markup, Number, Point, Short};
 use pf_terms::{AtomTable, NoMemory};
+use pf_text::{put, put_number};
 use pf_trace::put_label;
 use std::alloc::Global;
 
 /// How many bytes of a label are shown at least if it is longer.
 const MOST_OF_LABEL: usize = 32;
 
-/// Puts the numbers of all events, one in each row.
-pub(crate) fn put_numbers(svg: &mut Svg, events: usize, sheet: Sheet) -> Result<(), NoMemory>
-    ensures { OnOk result (Draws [] svg.old svg.new) }
+/// Puts the mark of a choice above 0, as `*2/3`.
+fn put_star(out: &mut Vec<u8>, event: &Event) -> Result<(), NoMemory>
+    ensures { OnOk result (out.new.items ≡ out.old.items ++ choice_text (event_of event.now)) }
 {
-    for row in 0..events {
-        let at = (GUTTER - 10, sheet.y(row).saturating_add(4));
-        svg.text("number", at, &[Number(event_number(row))])?;
-        svg.end_line()?;
+    put(out, b"*")?;
+    put_number(out, u64::from(event.choice))?;
+    put(out, b"/")?;
+    put_number(out, u64::from(event.count))
+}
+
+/// Puts the number of an event, and before it its choice if that is above 0.
+fn put_number_of(alloc: Global, svg: &mut Svg, row: &Row, y: u64) -> Result<(), NoMemory>
+    ensures { OnOk result (Draws (choice_labels (event_of row.now.event.now)) svg.old svg.new) }
+{
+    let number = Number(event_number(row.index));
+    if row.event.choice == 0 {
+        svg.text("number", (GUTTER - 10, y), &[number])?;
+        return svg.end_line();
+    }
+    let mut choice = Vec::new(alloc);
+    put_star(&mut choice, row.event)?;
+    svg.text("choice", (6, y), &[Label(&choice)])?;
+    svg.text("number chosen", (GUTTER - 10, y), &[number])?;
+    svg.end_line()
+}
+
+/// Puts the numbers and the choices of all rows.
+pub(crate) fn put_numbers(
+    alloc: Global,
+    svg: &mut Svg,
+    rows: &[Row],
+    sheet: Sheet,
+) -> Result<(), NoMemory>
+    ensures { OnOk result (Draws (flat_map (λ r. choice_labels (event_of r.event.now)) rows.now)
+        svg.old svg.new) }
+{
+    for (place, row) in rows.iter().enumerate() {
+        let y = sheet.row_y(place).saturating_add(4);
+        put_number_of(alloc, svg, row, y)?;
     }
     Ok(())
 }
@@ -39,20 +72,26 @@ fn column_of_actor(columns: &[Column], actor: Actor) -> usize {
     column_of(columns, pid).unwrap_or(0)
 }
 
+/// What the class of an event tells of its choice.
+fn class_of_choice(event: &Event) -> &'static str
+    ensures { IsTrue (is_word result.now) }
+{
+    if event.choice == 0 { "" } else { " chosen" }
+}
+
 /// Puts the beginning of an event of a kind, which stands at a point.
-fn put_opening(
-    svg: &mut Svg,
-    row: usize,
-    at: (u64, u64),
-    kind: &'static str,
-) -> Result<(), NoMemory>
+fn put_opening(svg: &mut Svg, row: &Row, at: (u64, u64), kind: &'static str) -> Result<(), NoMemory>
     requires { IsTrue (is_word kind.now) }
     ensures { OnOk result (Draws [] svg.old svg.new) }
 {
     svg.group(
-        &[Markup("event "), Markup(kind)],
         &[
-            Attribute("data-event", event_number(row)),
+            Markup("event "),
+            Markup(kind),
+            Markup(class_of_choice(row.event)),
+        ],
+        &[
+            Attribute("data-event", event_number(row.index)),
             Markup(" transform=\"translate("),
             Point(at.0, at.1),
             Markup(")\""),
@@ -80,36 +119,41 @@ fn put_event(
     alloc: Global,
     svg: &mut Svg,
     atoms: &AtomTable,
-    event: &Event,
-    row: usize,
+    row: &Row,
     at: (u64, u64),
 ) -> Result<(), NoMemory>
-    ensures { OnOk result (Draws (twice (label_text (name_of atoms.now) (label_of event.now.label)))
+    ensures { OnOk result (Draws (event_labels (name_of atoms.now) (event_of row.now.event.now))
         svg.old svg.new) }
 {
     let mut label = Vec::new(alloc);
-    put_label(&mut label, atoms, &event.label)?;
-    let mark = mark_of(&event.label);
+    put_label(&mut label, atoms, &row.event.label)?;
+    let mark = mark_of(&row.event.label);
     put_opening(svg, row, at, mark.kind)?;
     put_mark(svg, mark.outline, &label)
 }
 
-/// Puts all events.
+/// Puts the events of all rows.
 pub(crate) fn put_events(
     alloc: Global,
     svg: &mut Svg,
     atoms: &AtomTable,
-    events: &[Event],
+    rows: &[Row],
     columns: &[Column],
     sheet: Sheet,
 ) -> Result<(), NoMemory>
     ensures { OnOk result (Draws
-        (flat_map (λ e. twice (label_text (name_of atoms.now) (label_of e.label))) events.now)
+        (flat_map (λ r. event_labels (name_of atoms.now) (event_of r.event.now)) rows.now)
         svg.old svg.new) }
 {
-    for (row, event) in events.iter().enumerate() {
-        let at = sheet.at(column_of_actor(columns, event.actor), row);
-        put_event(alloc, svg, atoms, event, row, at)?;
+    for (place, row) in rows.iter().enumerate() {
+        let column = column_of_actor(columns, row.event.actor);
+        put_event(
+            alloc,
+            svg,
+            atoms,
+            row,
+            (sheet.x(column), sheet.row_y(place)),
+        )?;
     }
     Ok(())
 }

@@ -1,56 +1,84 @@
 //! Processes on the sheet: heads, lifelines and feet.
 
 ghost use Rattle.std.specs.Prelude.{◌++◌, [], IsTrue, OnOk, flat_map};
-ghost use Rattle.pf_chart.specs.Chart.{origin_labels, process_labels};
+ghost use Rattle.pf_chart.specs.Chart.{copies, head_rows, origin_labels, process_labels};
 ghost use Rattle.pf_chart.specs.Words.{Draws, is_word};
 
 use crate::columns::{Column, column_of};
-use crate::sheet::{Sheet, event_number};
+use crate::sheet::{HEAD_HEIGHT, Sheet, Side, event_number};
 use crate::words::Svg;
 use pf_svg::Part::{Attribute, Label, Markup, Number, Pid, Short};
 use pf_terms::NoMemory;
 
-/// Where heads begin and end.
-const HEAD_TOP: u64 = 12;
-
-const HEAD_HEIGHT: u64 = 40;
 /// How much of a name goes into the narrowest head.
 const LEAST_OF_NAME: usize = 6;
-/// How far the second line of a foot stands below the first.
-const FOOT_LINE: u64 = 12;
 
-/// Puts the box of a head, with the pid.
-fn put_box(svg: &mut Svg, pid: u32, x: u64, pitch: u64) -> Result<(), NoMemory>
+/// Puts the box of a head that begins at y, with the pid.
+fn put_box(svg: &mut Svg, pid: u32, x: u64, y: u64, pitch: u64) -> Result<(), NoMemory>
     ensures { OnOk result (Draws [] svg.old svg.new) }
 {
     let width = pitch.saturating_sub(8);
     svg.rect(&[
         Attribute("x", x.saturating_sub(width / 2)),
-        Attribute("y", HEAD_TOP),
+        Attribute("y", y),
         Attribute("width", width),
         Attribute("height", HEAD_HEIGHT),
         Attribute("rx", 4),
     ])?;
-    svg.text("pid", (x, 29), &[Pid(pid)])
+    svg.text("pid", (x, y.saturating_add(17)), &[Pid(pid)])
 }
 
-/// Puts whose process it is: the root function, or who spawned it.
+/// Puts whose process it is, below the pid of its head: the root function, or who spawned it.
 fn put_origin(
     svg: &mut Svg,
     column: &Column,
     root: &[u8],
     x: u64,
+    y: u64,
     pitch: u64,
 ) -> Result<(), NoMemory>
     ensures { OnOk result (Draws (origin_labels root.now column.now.spawned) svg.old svg.new) }
 {
+    let at = (x, y.saturating_add(33));
     match column.spawned {
-        Some((parent, _)) => svg.text("of", (x, 45), &[Markup("by "), Pid(parent)]),
+        Some((parent, _)) => svg.text("of", at, &[Markup("by "), Pid(parent)]),
         None => {
             let most = LEAST_OF_NAME.saturating_add((pitch.saturating_sub(64) / 6) as usize);
-            svg.text("of", (x, 45), &[Short(root, most)])
+            svg.text("of", at, &[Short(root, most)])
         }
     }
+}
+
+/// Puts a head that begins at y.
+fn put_head(
+    svg: &mut Svg,
+    column: &Column,
+    root: &[u8],
+    x: u64,
+    y: u64,
+    pitch: u64,
+) -> Result<(), NoMemory>
+    ensures { OnOk result (Draws (origin_labels root.now column.now.spawned) svg.old svg.new) }
+{
+    put_box(svg, column.pid, x, y, pitch)?;
+    put_origin(svg, column, root, x, y, pitch)
+}
+
+/// Puts all heads of a process, above the rows, between them and below.
+fn put_heads(
+    svg: &mut Svg,
+    column: &Column,
+    root: &[u8],
+    sheet: Sheet,
+    x: u64,
+) -> Result<(), NoMemory>
+    ensures { OnOk result (Draws
+        (copies (head_rows sheet.entry.count) (origin_labels root.now column.now.spawned)) svg.old svg.new) }
+{
+    for index in 0..sheet.head_rows() {
+        put_head(svg, column, root, x, sheet.head_y(index), sheet.pitch())?;
+    }
+    Ok(())
 }
 
 /// Where the lifeline ends.
@@ -65,7 +93,7 @@ fn end(column: &Column, sheet: Sheet) -> u64 {
 fn put_before(svg: &mut Svg, column: &Column, sheet: Sheet, x: u64) -> Result<u64, NoMemory>
     ensures { OnOk result (Draws [] svg.old svg.new) }
 {
-    let head = HEAD_TOP + HEAD_HEIGHT;
+    let head = sheet.head_y(0).saturating_add(HEAD_HEIGHT);
     match column.spawned {
         Some((_, row)) => {
             svg.line("before", x, head, sheet.y(row))?;
@@ -90,19 +118,15 @@ fn put_life(svg: &mut Svg, column: &Column, sheet: Sheet, x: u64) -> Result<(), 
     }
 }
 
-/// Puts the foot below a lifeline that goes on to the end: the pid, and below it whether the process waits in a deadlock.
+/// Puts below the last head whether the process waits in a deadlock.
 fn put_foot(svg: &mut Svg, column: &Column, sheet: Sheet, x: u64) -> Result<(), NoMemory>
     ensures { OnOk result (Draws [] svg.old svg.new) }
 {
-    if column.ended.is_some() {
-        return Ok(());
-    }
-    let y = sheet.bottom().saturating_add(14);
-    svg.text("foot", (x, y), &[Pid(column.pid)])?;
     if !column.deadlocked {
         return Ok(());
     }
-    svg.text("foot", (x, y.saturating_add(FOOT_LINE)), &[Markup("waits")])
+    let y = sheet.bottom().saturating_add(HEAD_HEIGHT + 14);
+    svg.text("foot", (x, y), &[Markup("waits")])
 }
 
 /// Puts the tooltip of a process: its pid, and its root function or who spawned it.
@@ -139,14 +163,14 @@ fn put_column(
     sheet: Sheet,
     x: u64,
 ) -> Result<(), NoMemory>
-    ensures { OnOk result (Draws (process_labels root.now column.now.spawned) svg.old svg.new) }
+    ensures { OnOk result (Draws (process_labels sheet.entry.count root.now column.now.spawned)
+        svg.old svg.new) }
 {
     let pid = Attribute("data-pid", u64::from(column.pid));
     svg.group(&[Markup(class_of(column))], &[pid])?;
     put_tooltip(svg, column, root)?;
     put_life(svg, column, sheet, x)?;
-    put_box(svg, column.pid, x, sheet.pitch())?;
-    put_origin(svg, column, root, x, sheet.pitch())?;
+    put_heads(svg, column, root, sheet, x)?;
     put_foot(svg, column, sheet, x)?;
     svg.close_group()
 }
@@ -158,8 +182,8 @@ pub(crate) fn put_columns(
     root: &[u8],
     sheet: Sheet,
 ) -> Result<(), NoMemory>
-    ensures { OnOk result (Draws (flat_map (λ c. process_labels root.now c.spawned) columns.now)
-        svg.old svg.new) }
+    ensures { OnOk result (Draws
+        (flat_map (λ c. process_labels sheet.entry.count root.now c.spawned) columns.now) svg.old svg.new) }
 {
     for (index, column) in columns.iter().enumerate() {
         put_column(svg, column, root, sheet, sheet.x(index))?;
@@ -167,10 +191,13 @@ pub(crate) fn put_columns(
     Ok(())
 }
 
-/// The column of who spawned a process, and the row in which it did.
-fn parent_of(columns: &[Column], column: &Column) -> Option<(usize, usize)> {
-    let (parent, row) = column.spawned?;
-    Some((column_of(columns, parent)?, row))
+/// The column of who spawned a process, and the event in which it did, if that stands on the page.
+fn parent_of(columns: &[Column], column: &Column, sheet: Sheet) -> Option<(usize, usize)> {
+    let (parent, event) = column.spawned?;
+    if sheet.side(event) != Side::Here {
+        return None;
+    }
+    Some((column_of(columns, parent)?, event))
 }
 
 /// Puts an arrow from who spawns to the beginning of a lifeline, unless it is that of the root.
@@ -183,7 +210,7 @@ fn put_spawn(
 ) -> Result<(), NoMemory>
     ensures { OnOk result (Draws [] svg.old svg.new) }
 {
-    let Some((from, row)) = parent_of(columns, column) else {
+    let Some((from, row)) = parent_of(columns, column, sheet) else {
         return Ok(());
     };
     let event = Attribute("data-event", event_number(row));
@@ -192,7 +219,7 @@ fn put_spawn(
     svg.close_group()
 }
 
-/// Puts an arrow to the beginning of each lifeline but that of the root.
+/// Puts an arrow to the beginning of each lifeline that begins on the page, but to that of the root.
 pub(crate) fn put_spawns(svg: &mut Svg, columns: &[Column], sheet: Sheet) -> Result<(), NoMemory>
     ensures { OnOk result (Draws [] svg.old svg.new) }
 {

@@ -1,6 +1,8 @@
 //! What is drawn of a report beside its events: a column for each process, and an arrow for each signal.
 
+use crate::arrows::{Arrow, Reach, SignalKind};
 use crate::columns::{Column, column_of, columns_of};
+use crate::receipts::receipts_of;
 use crate::traffic::Traffic;
 use pf_model::report::{Actor, Event, Label, Report, Suffix};
 use pf_terms::NoMemory;
@@ -100,13 +102,42 @@ impl Layout {
     }
 }
 
-/// What is drawn of a report.
-pub(crate) fn layout_of(alloc: Global, report: &Report) -> Result<Layout, NoMemory> {
+/// Whether an event was a choice above 0.
+fn is_chosen(events: &[Event], index: usize) -> bool {
+    events.get(index).is_some_and(|event| event.choice > 0)
+}
+
+/// Has each message that comes into a mailbox go on to the event that takes it.
+fn join_receipts(
+    alloc: Global,
+    arrows: &mut Vec<Arrow>,
+    events: &[Event],
+    columns: &[Column],
+) -> Result<(), NoMemory> {
+    let receipts = receipts_of(alloc, events, columns)?;
+    for arrow in arrows.iter_mut() {
+        if let (SignalKind::Message, Reach::Taken(delivery)) = (arrow.kind, arrow.reach) {
+            arrow.chosen = is_chosen(events, delivery);
+            arrow.reach = match receipts.get(delivery) {
+                Some(Some(row)) => Reach::Received(*row),
+                _ => Reach::Unread,
+            };
+        }
+    }
+    Ok(())
+}
+
+/// What is drawn of a report, in a compact chart or in another.
+pub(crate) fn layout_of(alloc: Global, report: &Report, compact: bool) -> Result<Layout, NoMemory> {
     let columns = columns_of(alloc, report)?;
     let traffic = Traffic::new(alloc, columns.len())?;
     let mut layout = Layout { columns, traffic };
     for (row, event) in report.events.iter().enumerate() {
         layout.event(alloc, row, event)?;
+    }
+    if compact {
+        let Layout { columns, traffic } = &mut layout;
+        join_receipts(alloc, &mut traffic.arrows, &report.events, columns)?;
     }
     Ok(layout)
 }

@@ -7,8 +7,11 @@ mod columns;
 mod events;
 mod heads;
 mod layout;
+mod manner;
 mod marks;
 mod peers;
+mod receipts;
+mod rows;
 mod sheet;
 mod strokes;
 mod style;
@@ -16,3 +19,4 @@ mod traffic;
 mod words;
 
 pub use chart::put_chart;
+pub use manner::Manner;

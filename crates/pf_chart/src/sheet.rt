@@ -1,19 +1,30 @@
 //! Where columns and rows stand on the sheet, in pixels.
 
-ghost use Rattle.std.specs.Prelude.{◌≤◌};
+ghost use Rattle.std.specs.Prelude.{◌≡◌, ◌≤◌};
+ghost use Rattle.pf_chart.specs.Chart.{head_rows};
+
+use crate::rows::Row;
 
 /// What one row takes, and half of it.
-pub(crate) const ROW: u64 = 26;
+const ROW: u64 = 26;
 
 pub(crate) const HALF_ROW: u64 = 13;
 /// What stands above the rows: the heads.
 pub(crate) const TOP: u64 = 64;
-/// What stands left of the columns: the numbers of events.
-pub(crate) const GUTTER: u64 = 56;
+/// After so many rows the heads stand again, and what they take there.
+const BAND: u64 = 40;
+
+const GAP: u64 = 52;
+/// Where the first heads begin, and how high a head is.
+const HEAD_TOP: u64 = 12;
+
+pub(crate) const HEAD_HEIGHT: u64 = 40;
+/// What stands left of the columns: the numbers of events, and choices above 0.
+pub(crate) const GUTTER: u64 = 80;
 /// What stands right of the columns: labels of the last one.
 const MARGIN: u64 = 280;
-/// What stands below the rows: feet, the outcome, the legend.
-const BOTTOM: u64 = 99;
+/// What stands below the lifelines: feet, the outcome, the legend.
+const BOTTOM: u64 = 170;
 
 /// How wide the columns are together, if each of them may be.
 const WIDE: u64 = 1600;
@@ -25,12 +36,24 @@ const WIDEST: u64 = 200;
 /// The legend has this room at least.
 const NARROWEST_SHEET: u64 = 760;
 
-/// How many columns and rows there are, and how wide a column is.
+/// On which side of the rows of a page an event stands, if it isn't among them.
+#[derive(Clone, Copy, PartialEq, Eq)]
+pub(crate) enum Side {
+    Above,
+    Here,
+    Below,
+}
+
+/// How many columns there are and how wide one is, and which rows stand on the page.
 #[derive(Clone, Copy)]
-pub(crate) struct Sheet {
+pub(crate) struct Sheet<'r> {
     columns: u64,
-    rows: u64,
     pitch: u64,
+    /// The rows of all pages.
+    rows: &'r [Row<'r>],
+    /// How many of them stand above the page, and how many on it.
+    pub(crate) above: usize,
+    pub(crate) count: usize,
 }
 
 /// How wide each column is if there are this many.
@@ -44,23 +67,33 @@ fn pitch_of(columns: u64) -> u64
     (WIDE / columns).max(NARROWEST).min(WIDEST)
 }
 
-/// The number of the event in a row; the first is 1.
-pub(crate) fn event_number(row: usize) -> u64 {
-    (row as u64).saturating_add(1)
+/// The number of an event; the first is 1.
+pub(crate) fn event_number(index: usize) -> u64 {
+    (index as u64).saturating_add(1)
 }
 
-impl Sheet {
-    pub(crate) fn new(columns: usize, rows: usize) -> Sheet {
+impl<'r> Sheet<'r> {
+    /// The sheet of a page that has so many rows below those of the pages above it.
+    pub(crate) fn new(columns: usize, rows: &'r [Row<'r>], above: usize, count: usize) -> Sheet<'r>
+        ensures { result.count ≡ count }
+    {
         let columns = columns as u64;
         Sheet {
             columns,
-            rows: rows as u64,
             pitch: pitch_of(columns),
+            rows,
+            above,
+            count,
         }
     }
 
     pub(crate) fn pitch(&self) -> u64 {
         self.pitch
+    }
+
+    /// How many rows all pages have together.
+    pub(crate) fn all_rows(&self) -> usize {
+        self.rows.len()
     }
 
     /// The middle of a column.
@@ -69,23 +102,80 @@ impl Sheet {
         left.saturating_add(GUTTER + self.pitch / 2)
     }
 
-    /// The middle of a row.
-    pub(crate) fn y(&self, row: usize) -> u64 {
-        let above = (row as u64).saturating_mul(ROW);
-        above.saturating_add(TOP + HALF_ROW)
+    /// The middle of a row of the page.
+    pub(crate) fn row_y(&self, row: usize) -> u64 {
+        let row = row as u64;
+        row.saturating_mul(ROW)
+            .saturating_add((row / BAND).saturating_mul(GAP))
+            .saturating_add(TOP + HALF_ROW)
     }
 
-    /// Where a column and a row meet.
-    pub(crate) fn at(&self, column: usize, row: usize) -> (u64, u64) {
-        (self.x(column), self.y(row))
+    /// How many rows of all pages stand above an event.
+    fn rows_before(&self, event: usize) -> usize {
+        match self.rows.binary_search_by_key(&event, |row| row.index) {
+            Ok(before) | Err(before) => before,
+        }
     }
 
-    /// The lower edge of the last row, and as much below it.
-    pub(crate) fn bottom(&self) -> u64 {
-        self.rows
-            .saturating_add(1)
+    /// Whether an event stands on the page, or on which side of it.
+    pub(crate) fn side(&self, event: usize) -> Side {
+        let before = self.rows_before(event);
+        if before < self.above {
+            Side::Above
+        } else if before - self.above < self.count {
+            Side::Here
+        } else {
+            Side::Below
+        }
+    }
+
+    /// The middle of the row of an event, or of the next one if it has none; the edge of the rows if it stands on another page.
+    pub(crate) fn y(&self, event: usize) -> u64 {
+        match self.side(event) {
+            Side::Above => TOP,
+            Side::Here => self.row_y(self.rows_before(event).saturating_sub(self.above)),
+            Side::Below => self.rows_end(),
+        }
+    }
+
+    /// Where a column and the row of an event meet.
+    pub(crate) fn at(&self, column: usize, event: usize) -> (u64, u64) {
+        (self.x(column), self.y(event))
+    }
+
+    /// The lower edge of the last row.
+    pub(crate) fn rows_end(&self) -> u64 {
+        let gaps = (self.count.saturating_sub(1) as u64) / BAND;
+        (self.count as u64)
             .saturating_mul(ROW)
+            .saturating_add(gaps.saturating_mul(GAP))
             .saturating_add(TOP)
+    }
+
+    /// Where lifelines end, a row below the last one.
+    pub(crate) fn bottom(&self) -> u64 {
+        self.rows_end().saturating_add(ROW)
+    }
+
+    /// How many rows of heads there are.
+    pub(crate) fn head_rows(&self) -> usize
+        ensures { result ≡ head_rows self.now.count }
+    {
+        self.count.saturating_sub(1) / 40 + 2
+    }
+
+    /// Where a row of heads begins: above the rows, between them, or below.
+    pub(crate) fn head_y(&self, index: usize) -> u64 {
+        if index == 0 {
+            return HEAD_TOP;
+        }
+        if index.saturating_add(1) >= self.head_rows() {
+            return self.bottom();
+        }
+        (index as u64)
+            .saturating_mul(BAND * ROW + GAP)
+            .saturating_add(TOP)
+            .saturating_sub(GAP - 6)
     }
 
     pub(crate) fn width(&self) -> u64 {

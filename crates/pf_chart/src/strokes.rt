@@ -5,13 +5,15 @@ ghost use Rattle.pf_chart.specs.Words.{Draws, is_word};
 
 use crate::arrows::{Arrow, Reach, Start};
 use crate::columns::Column;
-use crate::sheet::{HALF_ROW, ROW, Sheet, event_number};
+use crate::sheet::{HALF_ROW, Sheet, Side, event_number};
 use crate::words::Svg;
 use pf_svg::Part::{Attribute, Markup, Pid};
 use pf_terms::NoMemory;
 
-/// How far a signal to oneself swings out.
+/// How far a signal to oneself swings out, and how far one goes down that is never delivered.
 const SWING: u64 = 22;
+
+const FALL: u64 = 20;
 
 /// Puts a line from point to point; one that ends in its own column swings out.
 fn put_path(svg: &mut Svg, from: (u64, u64), to: (u64, u64)) -> Result<(), NoMemory>
@@ -27,7 +29,7 @@ fn put_path(svg: &mut Svg, from: (u64, u64), to: (u64, u64)) -> Result<(), NoMem
 /// Where a signal ends that is never delivered: beside the sender on the side of the receiver, between two lifelines, a row below.
 fn in_the_air(from: (u64, u64), to: u64, pitch: u64) -> (u64, u64) {
     let (x, y) = from;
-    let y = y.saturating_add(ROW - 6);
+    let y = y.saturating_add(FALL);
     if x == to {
         (x.saturating_sub(SWING), y)
     } else if x < to {
@@ -44,8 +46,21 @@ fn end_in_words(reach: Reach) -> (&'static str, &'static str)
 {
     match reach {
         Reach::Nowhere => (" lost", ", never delivered"),
-        Reach::Taken(_) => ("", ""),
+        Reach::Taken(_) | Reach::Received(_) => ("", ""),
         Reach::Dropped(_) => (" dropped", ", dropped"),
+        Reach::Unread => (" lost", ", never received"),
+    }
+}
+
+/// What the class of an arrow tells of the choice by which it was delivered, if no row does, and how that is told in words.
+fn choice_in_words(chosen: bool) -> (&'static str, &'static str)
+    ensures class { IsTrue (is_word result.0.now) }
+    ensures words { IsTrue (is_word result.1.now) }
+{
+    if chosen {
+        (" chosen", ", delivered by a choice above 0")
+    } else {
+        ("", "")
     }
 }
 
@@ -54,15 +69,26 @@ fn put_opening(svg: &mut Svg, arrow: &Arrow, end: &'static str) -> Result<(), No
     requires { IsTrue (is_word end.now) }
     ensures { OnOk result (Draws [] svg.old svg.new) }
 {
-    let class = [Markup("arrow "), Markup(arrow.kind.word()), Markup(end)];
-    let (Start::In(row) | Start::Above(row)) = arrow.start;
-    let event = Attribute("data-event", event_number(row));
+    let (chosen, _) = choice_in_words(arrow.chosen);
+    let class = [
+        Markup("arrow "),
+        Markup(arrow.kind.word()),
+        Markup(end),
+        Markup(chosen),
+    ];
+    let event = Attribute("data-event", event_number(arrow.beginning()));
     match arrow.reach {
-        Reach::Nowhere => svg.group(&class, &[event]),
+        Reach::Nowhere | Reach::Unread => svg.group(&class, &[event]),
         Reach::Taken(row) | Reach::Dropped(row) => {
             svg.group(
                 &class,
                 &[event, Attribute("data-delivery", event_number(row))],
+            )
+        }
+        Reach::Received(row) => {
+            svg.group(
+                &class,
+                &[event, Attribute("data-receive", event_number(row))],
             )
         }
     }
@@ -78,17 +104,30 @@ fn beginning(arrow: &Arrow, sheet: Sheet) -> (u64, u64) {
 
 /// Where an arrow ends.
 fn end(arrow: &Arrow, sheet: Sheet) -> (u64, u64) {
-    match arrow.reach {
-        Reach::Nowhere => in_the_air(beginning(arrow, sheet), sheet.x(arrow.to), sheet.pitch()),
-        Reach::Taken(row) | Reach::Dropped(row) => sheet.at(arrow.to, row),
+    match arrow.end() {
+        Some(event) => sheet.at(arrow.to, event),
+        None => in_the_air(beginning(arrow, sheet), sheet.x(arrow.to), sheet.pitch()),
     }
 }
 
-/// Puts an arrow between the processes of these pids, with its kind, its processes and its end in words.
+/// Whether something of an arrow is on the page: an end, or one end on each side of it.
+fn is_here(arrow: &Arrow, sheet: Sheet) -> bool {
+    let beginning = sheet.side(arrow.beginning());
+    match arrow.end() {
+        Some(event) => beginning == Side::Here || beginning != sheet.side(event),
+        None => beginning == Side::Here,
+    }
+}
+
+/// Puts an arrow between the processes of these pids, with its kind, its processes and its end in words, if something of it is on the page.
 fn put_arrow(svg: &mut Svg, arrow: &Arrow, from: u32, to: u32, sheet: Sheet) -> Result<(), NoMemory>
     ensures { OnOk result (Draws [] svg.old svg.new) }
 {
+    if !is_here(arrow, sheet) {
+        return Ok(());
+    }
     let (class, words) = end_in_words(arrow.reach);
+    let (_, choice) = choice_in_words(arrow.chosen);
     put_opening(svg, arrow, class)?;
     svg.title(&[
         Markup(arrow.kind.word()),
@@ -97,6 +136,7 @@ fn put_arrow(svg: &mut Svg, arrow: &Arrow, from: u32, to: u32, sheet: Sheet) -> 
         Markup(" to "),
         Pid(to),
         Markup(words),
+        Markup(choice),
     ])?;
     put_path(svg, beginning(arrow, sheet), end(arrow, sheet))?;
     svg.close_group()

@@ -6,6 +6,8 @@ text{font-family:Helvetica,Arial,sans-serif;font-size:11px;fill:#111;paint-order
 .sheet{fill:#fff}\n\
 .bands{fill:url(#pf-bands)}\n\
 .number{text-anchor:end;fill:#555}\n\
+.chosen.number,.choice{font-weight:bold;fill:#9a3412}\n\
+.page{font-weight:bold}\n\
 .outcome{font-size:14px;font-weight:bold}\n\
 .legend{fill:#444}\n\
 .process text{text-anchor:middle;stroke:none}\n\
@@ -29,6 +31,8 @@ text{font-family:Helvetica,Arial,sans-serif;font-size:11px;fill:#111;paint-order
 .event.send path,.event.receive path,.event.exit path,.event.end path{fill:#111}\n\
 .event.link path,.event.unlink path,.event.reference path,.event.cut path{fill:none}\n\
 .event.dropped path{fill:none;stroke-width:2.5}\n\
+.event.chosen text{font-weight:bold;fill:#9a3412}\n\
+.arrow.chosen path{stroke-width:3.5}\n\
 </style>\n";
 
 /// The ends of arrows, and every other row a little darker; a row is 26 high, and the first begins at 64.
@@ -45,3 +49,11 @@ pub(crate) const LEGEND_OF_SPAWNS: &str =
 /// How to read the ends of arrows.
 pub(crate) const LEGEND: &str =
     "A signal goes from who sent it to where it was delivered. It ends in a ring where it never was, and at a cross where it was dropped.";
+
+/// How to read the ends of arrows in a compact chart.
+pub(crate) const LEGEND_OF_RECEIPTS: &str =
+    "A message goes from its send to its receive, and ends in a ring where there is none; a thick one was delivered by a choice above 0.";
+
+/// How to read the marks of choices.
+pub(crate) const LEGEND_OF_CHOICES: &str =
+    "A star is a choice above 0: *2/3 is number 2, counted from 0, of three that could go. All other events were number 0.";

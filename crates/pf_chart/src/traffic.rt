@@ -51,6 +51,7 @@ impl Traffic {
             to,
             start: Start::In(row),
             reach: Reach::Nowhere,
+            chosen: false,
         })?;
         let queue = self.on_way.entry((from, to, kind as u8))?.or_default();
         queue.push_back(index)?;
@@ -143,6 +144,7 @@ impl Traffic {
             to,
             start: Start::Above(row),
             reach,
+            chosen: false,
         })?;
         Ok(())
     }

@@ -22,7 +22,7 @@ use Rattle.clap.specs.declared.builder.action.ArgAction.TheVariants as action
 use Rattle.clap.specs.declared.builder.value_parser.ValueParser.{ValueParser}
 use Rattle.clap.specs.declared.error.kind.ErrorKind.{ErrorKind}
 use Rattle.clap.specs.declared.error.kind.ErrorKind.TheVariants as kind
-use Rattle.pf_cli.specs.Args.{IsFaultBy, fault_under, hunt_fault, is_shown, one_file_fault, own_fault, pulsefarm, run_fault, sought_fault, status_of_kind, values_fault, words_status}
+use Rattle.pf_cli.specs.Args.{IsFaultBy, clashes_in, fault_under, hunt_fault, is_shown, one_file_fault, own_fault, pulsefarm, run_fault, status_of_kind, values_fault, words_status}
 
 abbrev AllAre : Bool → Kinds → Type 0
 AllAre b [] = Unit {0}
@@ -260,23 +260,20 @@ values_shown None (Some v) (Some b) = refl
 values_shown (Some a) w None = refl
 values_shown (Some a) w (Some b) = refl
 
--- nor what a hunt seeks
-sought_shown : (all : Bool) (shrink : Option Text) → is_shown (sought_fault all shrink) ≡ false
-sought_shown true None = refl
-sought_shown true (Some w) = refl
-sought_shown false None = refl
-sought_shown false (Some w) = refl
-
 either_shown : (b : Bool) (k l : ErrorKind) → is_shown k ≡ false → is_shown l ≡ false → is_shown (if b then k else l) ≡ false
 either_shown true k l h g = h
 either_shown false k l h g = g
+
+-- nor are those of a hunt
+hunt_shown : (rows : List Row) → is_shown (hunt_fault rows) ≡ false
+hunt_shown rows = either_shown (clashes_in rows) kind.ArgumentConflict kind.InvalidValue refl refl
 
 one_file_shown : (name : Text) (rows : List Row) → is_shown (one_file_fault name rows) ≡ false
 one_file_shown name rows =
     let run : is_shown (run_fault rows) ≡ false = values_shown _ _ _ in
     either_shown (bytes_eq name (codes "run")) _ _ run
     (either_shown (bytes_eq name (codes "chart")) _ _ run
-    (either_shown (bytes_eq name (codes "hunt")) (hunt_fault rows) kind.InvalidValue (sought_shown _ _) refl))
+    (either_shown (bytes_eq name (codes "hunt")) (hunt_fault rows) kind.InvalidValue (hunt_shown rows) refl))
 
 under_shown : (name : Text) (rows : List Row) → is_shown (fault_under name rows) ≡ false
 under_shown name rows = either_shown (bytes_eq name (codes "farm")) kind.InvalidValue _ refl (one_file_shown name rows)

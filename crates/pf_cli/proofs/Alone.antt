@@ -5,7 +5,7 @@ use Rattle.std.specs.Str.{bytes_eq}
 use Rattle.clap.specs.Words.{Text, Row, fault_of, first_of, subcommand_of}
 use Rattle.pf_model.specs.Meaning.{Choices, schedule}
 use Rattle.pf_text.specs.Numbers.{schedule_of}
-use Rattle.pf_cli.specs.Args.{asked, bounds_in, choices_named, file_at, guided_in, number_in, numbers_of, of_command, of_one_file, placed, property_named, pulsefarm, run_asked, run_of, schedule_file_of, shrink_of, shrinking_asked, unless_refused, wanted_by, run, chart, shrink}
+use Rattle.pf_cli.specs.Args.{RunArgs, asked, bounds_in, chart_asked, chart_of, choices_named, file_at, guided_in, is_given, number_in, numbers_of, of_command, of_one_file, page_named, placed, property_named, pulsefarm, root_named, run_asked, run_of, schedule_file_of, shrink_of, shrinking_asked, unless_refused, wanted_by, run, chart, shrink}
 
 alone_word : (text word : Text) → file_at word ≡ None → numbers_of (Some text) word ≡ numbers_of None word
 alone_word text word e = ap (λ (f : Option Text). schedule_of (placed text word f)) e
@@ -24,13 +24,17 @@ alone_schedule text (Some word) e = alone_word text word e
 
 alone_run : (text : Text) (rows : List Row) → option_and_then file_at (first_of (codes "schedule") rows) ≡ None → run_of (Some text) rows ≡ run_of None rows
 alone_run text rows e =
-    ap (λ (cs : Option Choices). run_asked (first_of (codes "root") rows) (bounds_in rows) cs (guided_in cs rows) (property_named (first_of (codes "property") rows)))
+    ap (λ (cs : Option Choices). run_asked (root_named (first_of (codes "root") rows)) (bounds_in rows) cs (guided_in cs rows) (property_named (first_of (codes "property") rows)))
     (alone_choices text (first_of (codes "seed") rows) (first_of (codes "weights") rows) (first_of (codes "schedule") rows) e)
 
 alone_shrink : (text : Text) (rows : List Row) → option_and_then file_at (first_of (codes "schedule") rows) ≡ None → shrink_of (Some text) rows ≡ shrink_of None rows
 alone_shrink text rows e =
-    ap (shrinking_asked (first_of (codes "root") rows) (first_of (codes "property") rows) (bounds_in rows) (number_in (codes "runs") rows))
+    ap (shrinking_asked (root_named (first_of (codes "root") rows)) (first_of (codes "property") rows) (bounds_in rows) (number_in (codes "runs") rows))
     (alone_schedule text (first_of (codes "schedule") rows) e)
+
+alone_chart : (text : Text) (rows : List Row) → option_and_then file_at (first_of (codes "schedule") rows) ≡ None → chart_of (Some text) rows ≡ chart_of None rows
+alone_chart text rows e =
+    ap (λ (r : Option RunArgs). chart_asked r (is_given (first_of (codes "compact") rows)) (page_named (first_of (codes "page") rows))) (alone_run text rows e)
 
 -- a choice between alike is alike
 alike_either : {T : Type 0} (b : Bool) (x y v w : T) → x ≡ y → v ≡ w → (if b then x else v) ≡ (if b then y else w)
@@ -40,7 +44,7 @@ alike_either false x y v w e d = d
 alone_one_file : (text name : Text) (rows : List Row) → option_and_then file_at (first_of (codes "schedule") rows) ≡ None → of_one_file (Some text) name rows ≡ of_one_file None name rows
 alone_one_file text name rows e =
     alike_either (bytes_eq name (codes "run")) _ _ _ _ (ap (option_map run) (alone_run text rows e))
-    (alike_either (bytes_eq name (codes "chart")) _ _ _ _ (ap (option_map chart) (alone_run text rows e))
+    (alike_either (bytes_eq name (codes "chart")) _ _ _ _ (ap (option_map chart) (alone_chart text rows e))
     (alike_either (bytes_eq name (codes "hunt")) _ _ _ _ refl
     (alike_either (bytes_eq name (codes "shrink")) _ _ _ _ (ap (option_map shrink) (alone_shrink text rows e)) refl)))
 

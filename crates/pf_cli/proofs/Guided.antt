@@ -2,9 +2,9 @@
 use Rattle.std.proofs.Common.{◌≡◌, List, Option, Some, None, refl, ap, ◌∙◌}
 use Rattle.clap.specs.Words.{Text, Row, first_of}
 use Rattle.clap.specs.declared.error.kind.ErrorKind.TheVariants as kind
-use Rattle.std.specs.Prelude.{codes, ℕ}
+use Rattle.std.specs.Prelude.{Bool, codes, ℕ}
 use Rattle.pf_model.specs.Meaning.{Choices}
-use Rattle.pf_cli.specs.Args.{bounds_in, choices_in, choices_named, guided_in, property_named, run_asked, run_of, values_fault}
+use Rattle.pf_cli.specs.Args.{RunArgs, bounds_in, chart_asked, choices_in, choices_named, guided_in, property_named, root_named, run_asked, run_fault, run_of, values_fault}
 
 -- where a seed or a schedule is read the fault is a value's
 pub values_chosen : (text s w t : Option Text) (cs : Choices) → choices_named text s w t ≡ Some cs → values_fault s w t ≡ kind.InvalidValue
@@ -15,16 +15,33 @@ values_chosen text None (Some v) None cs e = absurd (cc)
 values_chosen text None (Some v) (Some b) cs e = absurd (cc)
 values_chosen text (Some a) w (Some b) cs e = absurd (cc)
 
-none_asked : (root : Option Text) (bounds : Option (ℕ × ℕ)) (cs : Choices) (property : Text) → run_asked root bounds (Some cs) None property ≡ None
-none_asked None None cs property = refl
-none_asked None (Some b) cs property = refl
-none_asked (Some r) None cs property = refl
-none_asked (Some r) (Some b) cs property = refl
+unasked : (root : Text) (bounds : Option (ℕ × ℕ)) (property : Text) (a : RunArgs) → run_asked root bounds None None property ≡ Some a → ⊥
+unasked root None property a e = absurd cc
+unasked root (Some b) property a e = absurd cc
+
+-- a run that is asked for has choices
+pub run_chosen : (text : Option Text) (rows : List Row) (a : RunArgs) → run_of text rows ≡ Some a → run_fault rows ≡ kind.InvalidValue
+run_chosen text rows a e = by (choices_in text rows) refl e
+  where
+    by : (cs : Option Choices) → choices_in text rows ≡ cs
+        → run_asked (root_named (first_of (codes "root") rows)) (bounds_in rows) cs (guided_in cs rows) (property_named (first_of (codes "property") rows)) ≡ Some a
+        → run_fault rows ≡ kind.InvalidValue
+    by (Some cs) chosen h = values_chosen text (first_of (codes "seed") rows) (first_of (codes "weights") rows) (first_of (codes "schedule") rows) cs chosen
+    by None chosen h = absurd (unasked (root_named (first_of (codes "root") rows)) (bounds_in rows) (property_named (first_of (codes "property") rows)) a h)
+
+-- nor is a chart whose page is none
+pub unpaged : (r : Option RunArgs) (compact : Bool) → chart_asked r compact None ≡ None
+unpaged None compact = refl
+unpaged (Some a) compact = refl
+
+none_asked : (root : Text) (bounds : Option (ℕ × ℕ)) (cs : Choices) (property : Text) → run_asked root bounds (Some cs) None property ≡ None
+none_asked root None cs property = refl
+none_asked root (Some b) cs property = refl
 
 -- nothing is asked for
 pub none_guided : (text : Option Text) (rows : List Row) (cs : Choices) → choices_in text rows ≡ Some cs → guided_in (Some cs) rows ≡ None → run_of text rows ≡ None
 none_guided text rows cs e h =
-    let root = first_of (codes "root") rows in
+    let root = root_named (first_of (codes "root") rows) in
     let property = property_named (first_of (codes "property") rows) in
     ap (λ (q : Option Choices). run_asked root (bounds_in rows) q (guided_in q rows) property) e
     ∙ ap (λ (p : Option (Option ℕ)). run_asked root (bounds_in rows) (Some cs) p property) h

@@ -4,3 +4,5 @@ pub mod Alone
 pub mod Told
 pub mod Named
 pub mod Guided
+pub mod Undotted
+pub mod Reached

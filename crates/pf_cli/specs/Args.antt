@@ -9,6 +9,9 @@ use Rattle.clap.specs.declared.error.kind.ErrorKind.{ErrorKind}
 use Rattle.clap.specs.declared.error.kind.ErrorKind.TheVariants as kind
 use Rattle.pf_model.specs.Meaning.{Choices, seed, schedule, weighted_seed}
 use Rattle.pf_text.specs.Numbers.{number_of, long_number_of, schedule_of}
+use Rattle.pf_cli.specs.Seeds.{seeds_named}
+use Rattle.pf_cli.specs.Span.{time_named}
+use Rattle.pf_cli.specs.Reach.{Reach, clashes, more_named, names_given, reach_asked, roots_named}
 use Rattle.pf_request.specs.Request as requests
 use Rattle.pf_request.specs.Request.{Request, Kind}
 use Rattle.pf_request.specs.View.{view_of_request}
@@ -17,7 +20,9 @@ use Rattle.pf_strategy.specs.declared.strategy.Strategy.TheVariants.{Uniform, Pr
 use Rattle.pf_cli.specs.declared.args.Edition.{Edition}
 use Rattle.pf_cli.specs.declared.args.Edition.TheVariants.{First, Second}
 use Rattle.pf_cli.specs.declared.args.Weights.{Weights}
+use Rattle.pf_cli.specs.declared.args.Roots.{Roots}
 use Rattle.pf_cli.specs.declared.args.RunArgs as run_code
+use Rattle.pf_cli.specs.declared.args.ChartArgs as chart_code
 use Rattle.pf_cli.specs.declared.args.HuntArgs as hunt_code
 use Rattle.pf_cli.specs.declared.args.FarmArgs as farm_code
 use Rattle.pf_cli.specs.declared.args.Sought as sought_code
@@ -33,50 +38,69 @@ use Rattle.pf_cli.specs.declared.reading.Reading.TheVariants as read
 abbrev pub file_rule : Rule
 file_rule = record (new_rule (codes "file")) { value_names = 1 }
 
--- files come without a name before them, and there is at least one
+-- words that come without a name before them
+abbrev pub many_rule : Text → Rule
+many_rule name =
+    record (new_rule name) { range = Some (record { start_inclusive = 1; end_inclusive = usize_max }); value_names = 1 }
+
+-- files, of which there is at least one
 abbrev pub files_rule : Rule
-files_rule =
-    record (new_rule (codes "files")) { range = Some (record { start_inclusive = 1; end_inclusive = usize_max }); value_names = 1; required = true }
+files_rule = record (many_rule (codes "files")) { required = true }
+
+-- sources, of which there may be none
+abbrev pub sources_rule : Rule
+sources_rule = many_rule (codes "file")
 
 -- an option has one value, and may be left out
 abbrev pub option_rule : Text → Rule
 option_rule name = record (new_rule name) { long = Some name; value_names = 1 }
 
+-- an option must be given where its command wants it
+abbrev pub wanted_rule : (wanted : Bool) → Text → Rule
+wanted_rule wanted name = record (option_rule name) { required = wanted }
+
 -- an option must be given
 abbrev pub required_rule : Text → Rule
-required_rule name = record (option_rule name) { required = true }
+required_rule name = wanted_rule true name
 
 -- a flag has no value, and may be left out
 abbrev pub flag_rule : Text → Rule
 flag_rule name = record (new_rule name) { long = Some name; action = Some SetTrue }
 
--- all runs have a source and a root: NAME [FILE] --root F
-abbrev pub rooted_app : Text → App
-rooted_app name = with_rule (with_rule (new_app name) file_rule) (required_rule (codes "root"))
+-- all runs have a source and a root: NAME [FILE] --root F; whether the root must be given, and whether there may be several sources, is their
+-- command's
+abbrev pub rooted_app : (source : Rule) → (wanted : Bool) → Text → App
+rooted_app source wanted name = with_rule (with_rule (new_app name) source) (wanted_rule wanted (codes "root"))
 
 -- and bounds, whatever their choices are: --limit N [--edition E]
-abbrev pub bounded_app : Text → App
-bounded_app name = with_rule (with_rule (rooted_app name) (required_rule (codes "limit"))) (option_rule (codes "edition"))
+abbrev pub bounded_app : (source : Rule) → (wanted : Bool) → Text → App
+bounded_app source wanted name =
+    with_rule (with_rule (rooted_app source wanted name) (wanted_rule wanted (codes "limit"))) (option_rule (codes "edition"))
 
 -- a command of one run: after these [--seed N] [--weights R:D] [--strategy S]
-abbrev pub weighted_app : Text → App
-weighted_app name =
-    with_rule (with_rule (with_rule (bounded_app name) (option_rule (codes "seed"))) (option_rule (codes "weights"))) (option_rule (codes "strategy"))
+abbrev pub weighted_app : (wanted : Bool) → Text → App
+weighted_app wanted name =
+    with_rule (with_rule (with_rule (bounded_app file_rule wanted name) (option_rule (codes "seed"))) (option_rule (codes "weights"))) (option_rule (codes "strategy"))
 
 -- and then [--schedule L] [--property P]
-abbrev pub one_run_app : Text → App
-one_run_app name = with_rule (with_rule (weighted_app name) (option_rule (codes "schedule"))) (option_rule (codes "property"))
+abbrev pub one_run_app : (wanted : Bool) → Text → App
+one_run_app wanted name = with_rule (with_rule (weighted_app wanted name) (option_rule (codes "schedule"))) (option_rule (codes "property"))
 
--- `run` and `chart` take the same words
+-- `run` wants a root and a limit
 abbrev pub run_app : App
-run_app = one_run_app (codes "run")
+run_app = one_run_app true (codes "run")
 
+-- `chart` takes the same words, and wants neither; and then [--compact] [--page K]
 abbrev pub chart_app : App
-chart_app = one_run_app (codes "chart")
+chart_app = with_rule (with_rule (one_run_app false (codes "chart")) (flag_rule (codes "compact"))) (option_rule (codes "page"))
 
--- what is hunted: hunt [FILE] --root F --limit N [--edition E] --property P --seeds A..B
+-- what is hunted: hunt [FILE].. [--root F] [--limit N] [--edition E] [--property P]
+abbrev pub judged_app : App
+judged_app = with_rule (bounded_app sources_rule false (codes "hunt")) (option_rule (codes "property"))
+
+-- and how far: after these [--seeds A..B] [--for T]
 abbrev pub seeded_app : App
-seeded_app = with_rule (with_rule (bounded_app (codes "hunt")) (required_rule (codes "property"))) (required_rule (codes "seeds"))
+seeded_app = with_rule (with_rule judged_app (option_rule (codes "seeds"))) (option_rule (codes "for"))
 
 -- and how: after these [--weights R:D] [--strategy S] [--workers N]
 abbrev pub working_app : App
@@ -84,13 +108,18 @@ working_app =
     with_rule (with_rule (with_rule seeded_app (option_rule (codes "weights"))) (option_rule (codes "strategy"))) (option_rule (codes "workers"))
 
 -- and what is told: [--all] [--shrink N]
+abbrev pub telling_app : App
+telling_app = with_rule (with_rule working_app (flag_rule (codes "all"))) (option_rule (codes "shrink"))
+
+-- and what is gone over: [--all-roots] [--fail-fast] [--leaks]
 abbrev pub hunt_app : App
-hunt_app = with_rule (with_rule working_app (flag_rule (codes "all"))) (option_rule (codes "shrink"))
+hunt_app =
+    with_rule (with_rule (with_rule telling_app (flag_rule (codes "all-roots"))) (flag_rule (codes "fail-fast"))) (flag_rule (codes "leaks"))
 
 -- shrink [FILE] --root F --limit N [--edition E] --schedule L --property P --runs N
 abbrev pub shrink_app : App
 shrink_app =
-    with_rule (with_rule (with_rule (bounded_app (codes "shrink")) (required_rule (codes "schedule"))) (required_rule (codes "property"))) (required_rule (codes "runs"))
+    with_rule (with_rule (with_rule (bounded_app file_rule true (codes "shrink")) (required_rule (codes "schedule"))) (required_rule (codes "property"))) (required_rule (codes "runs"))
 
 -- check [FILE] [--explain]
 abbrev pub check_app : App
@@ -137,18 +166,29 @@ pub record RunArgs : Type 0 where
   pub edition : ℕ
   pub priorities : Option ℕ
 
+-- a chart is asked for: of a run, compact or not, and which page of it
+pub record ChartArgs : Type 0 where
+  pub run : RunArgs
+  pub compact : Bool
+  pub page : ℕ
+
 -- what is sought among seeds: the least that fails, whose schedule is shrunk within n runs where that is asked for; or each outcome
 pub data Sought : Type 0 where
   failure : (runs : Option ℕ) → Sought
   outcomes : Sought
 
--- a hunt is asked for: the request is the run by the seed 0, in whose place the seeds from a first to before an end go, by a strategy; by n
--- workers if these are named
+-- a hunt is asked for: the request is the run by the seed 0, in whose place the seeds from a first to before an end go, by a strategy; for so
+-- many seconds if a time is named, and by n workers if these are; and what it goes over
 pub record HuntArgs : Type 0 where
+  pub more : List Text
+  pub roots : Roots
+  pub fail_fast : Bool
+  pub leaks : Bool
   pub request : Request
   pub edition : ℕ
   pub strategy : Strategy
   pub seeds : ℕ × ℕ
+  pub time : Option ℕ
   pub workers : Option ℕ
   pub sought : Sought
 
@@ -183,9 +223,24 @@ abbrev pub edition_named : Option Text → Option ℕ
 edition_named None = Some 1
 edition_named (Some word) = option_and_then as_edition (number_of word)
 
+-- a flag that is given has the value `true`
+abbrev pub is_given : Option Text → Bool
+is_given None = false
+is_given (Some value) = bytes_eq value (codes "true")
+
+-- the root that a word names; `main` where there is none
+abbrev pub root_named : Option Text → Text
+root_named None = codes "main"
+root_named (Some word) = word
+
+-- where no limit is named it is the largest
+abbrev pub limit_named : Option Text → Option ℕ
+limit_named None = Some 100000
+limit_named (Some word) = number_of word
+
 -- the limit and the edition
 abbrev pub bounds_in : List Row → Option (ℕ × ℕ)
-bounds_in rows = both (number_in (codes "limit") rows) (edition_named (first_of (codes "edition") rows))
+bounds_in rows = both (limit_named (first_of (codes "limit") rows)) (edition_named (first_of (codes "edition") rows))
 
 -- a weight is 1 to 9
 abbrev pub as_weight : ℕ → Option ℕ
@@ -263,10 +318,10 @@ abbrev pub property_named : Option Text → Text
 property_named None = codes "returns"
 property_named (Some word) = word
 
-abbrev pub run_asked : (root : Option Text) → (bounds : Option (ℕ × ℕ)) → Option Choices → (priorities : Option (Option ℕ)) → (property : Text) → Option RunArgs
-run_asked (Some root) (Some bounds) (Some choices) (Some priorities) property =
+abbrev pub run_asked : (root : Text) → (bounds : Option (ℕ × ℕ)) → Option Choices → (priorities : Option (Option ℕ)) → (property : Text) → Option RunArgs
+run_asked root (Some bounds) (Some choices) (Some priorities) property =
     Some (args_by root property (requests.run choices) bounds priorities)
-run_asked _ _ _ _ property = None
+run_asked root _ _ _ property = None
 
 abbrev pub choices_in : (text : Option Text) → List Row → Option Choices
 choices_in text rows =
@@ -277,13 +332,30 @@ guided_in choices rows = guided (strategy_named Uniform (first_of (codes "strate
 
 abbrev pub run_of : (text : Option Text) → List Row → Option RunArgs
 run_of text rows =
-    run_asked (first_of (codes "root") rows) (bounds_in rows) (choices_in text rows) (guided_in (choices_in text rows) rows)
+    run_asked (root_named (first_of (codes "root") rows)) (bounds_in rows) (choices_in text rows) (guided_in (choices_in text rows) rows)
     (property_named (first_of (codes "property") rows))
 
-abbrev pub shrinking_asked : (root property : Option Text) → (bounds : Option (ℕ × ℕ)) → (runs : Option ℕ) → (schedule : Option (List ℕ)) → Option RunArgs
-shrinking_asked (Some root) (Some property) (Some bounds) (Some runs) (Some numbers) =
+-- pages are counted from 1
+abbrev pub as_page : ℕ → Option ℕ
+as_page n = if nat_le 1 n then Some n else None
+
+-- where none is named it is the first
+abbrev pub page_named : Option Text → Option ℕ
+page_named None = Some 1
+page_named (Some word) = option_and_then as_page (number_of word)
+
+abbrev pub chart_asked : Option RunArgs → (compact : Bool) → (page : Option ℕ) → Option ChartArgs
+chart_asked (Some asked) compact (Some page) = Some (record { run = asked; compact = compact; page = page })
+chart_asked _ compact _ = None
+
+abbrev pub chart_of : (text : Option Text) → List Row → Option ChartArgs
+chart_of text rows =
+    chart_asked (run_of text rows) (is_given (first_of (codes "compact") rows)) (page_named (first_of (codes "page") rows))
+
+abbrev pub shrinking_asked : (root : Text) → (property : Option Text) → (bounds : Option (ℕ × ℕ)) → (runs : Option ℕ) → (schedule : Option (List ℕ)) → Option RunArgs
+shrinking_asked root (Some property) (Some bounds) (Some runs) (Some numbers) =
     Some (args_by root property (requests.shrink numbers runs) bounds None)
-shrinking_asked _ _ _ _ _ = None
+shrinking_asked root _ _ _ _ = None
 
 -- the numbers that the schedule is
 abbrev pub schedule_in : (text : Option Text) → List Row → Option (List ℕ)
@@ -291,23 +363,8 @@ schedule_in text rows = option_and_then (numbers_of text) (first_of (codes "sche
 
 abbrev pub shrink_of : (text : Option Text) → List Row → Option RunArgs
 shrink_of text rows =
-    shrinking_asked (first_of (codes "root") rows) (first_of (codes "property") rows) (bounds_in rows) (number_in (codes "runs") rows)
+    shrinking_asked (root_named (first_of (codes "root") rows)) (first_of (codes "property") rows) (bounds_in rows) (number_in (codes "runs") rows)
     (schedule_in text rows)
-
--- seeds are A..B, with A below B: A is before the first dot, B after one dot more
-abbrev pub is_dot : ℕ → Bool
-is_dot c = c == 46
-
-abbrev pub after_dot : List ℕ → Option ℕ
-after_dot [] = None
-after_dot (c ∷ text) = if is_dot c then long_number_of text else None
-
-abbrev pub seeds_between : (first end : Option ℕ) → Option (ℕ × ℕ)
-seeds_between (Some a) (Some b) = if nat_lt a b then Some (a, b) else None
-seeds_between _ _ = None
-
-abbrev pub seeds_of : Text → Option (ℕ × ℕ)
-seeds_of text = seeds_between (long_number_of (before_first is_dot text)) (after_dot (after_first is_dot text))
 
 -- workers are 1 to 64
 abbrev pub as_workers : ℕ → Option ℕ
@@ -318,17 +375,11 @@ abbrev pub workers_named : Option Text → Option (Option ℕ)
 workers_named None = Some None
 workers_named (Some word) = option_map Some (option_and_then as_workers (number_of word))
 
--- a flag that is given has the value `true`
-abbrev pub is_given : Option Text → Bool
-is_given None = false
-is_given (Some value) = bytes_eq value (codes "true")
-
--- each outcome and a shrinking aren't sought together
+-- each outcome is sought, or the least seed that fails
 abbrev pub sought_named : (all : Bool) → (shrink : Option Text) → Option Sought
+sought_named true shrink = Some outcomes
 sought_named false None = Some (failure None)
 sought_named false (Some word) = option_map (λ n. failure (Some n)) (number_of word)
-sought_named true None = Some outcomes
-sought_named true (Some word) = None
 
 abbrev pub sought_in : List Row → Option Sought
 sought_in rows = sought_named (is_given (first_of (codes "all") rows)) (first_of (codes "shrink") rows)
@@ -342,24 +393,32 @@ abbrev pub hunt_strategy : (weights : Option (ℕ × ℕ)) → Option Text → O
 hunt_strategy None word = strategy_named Priorities word
 hunt_strategy (Some weights) word = unless_guided (strategy_named Uniform word)
 
-abbrev pub hunt_by : (root property : Text) → Choices → Strategy → (bounds seeds : ℕ × ℕ) → (workers : Option ℕ) → Sought → HuntArgs
-hunt_by root property choices strategy bounds seeds workers sought =
+abbrev pub hunt_by : Reach → (root property : Text) → Choices → Strategy → (bounds seeds : ℕ × ℕ) → (time workers : Option ℕ) → Sought → HuntArgs
+hunt_by reach root property choices strategy bounds seeds time workers sought =
     record {
+      more = reach.more;
+      roots = reach.roots;
+      fail_fast = reach.fail_fast;
+      leaks = reach.leaks;
       request = request_by root property (requests.run choices) bounds.0;
       edition = bounds.1;
       strategy = strategy;
       seeds = seeds;
+      time = time;
       workers = workers;
       sought = sought;
     }
 
-abbrev pub hunt_asked : Option Sought → (root property : Option Text) → (bounds seeds : Option (ℕ × ℕ)) → (weights : Option (Option (ℕ × ℕ))) → Option Strategy → (workers : Option (Option ℕ)) → Option HuntArgs
-hunt_asked (Some sought) (Some root) (Some property) (Some bounds) (Some seeds) (Some weights) (Some strategy) (Some workers) =
-    Some (hunt_by root property (seeded weights 0) strategy bounds seeds workers sought)
-hunt_asked _ _ _ _ _ _ _ _ = None
+abbrev pub hunt_asked : Option Reach → Option Sought → (root property : Text) → (bounds seeds : Option (ℕ × ℕ)) → (time : Option (Option ℕ)) → (weights : Option (Option (ℕ × ℕ))) → Option Strategy → (workers : Option (Option ℕ)) → Option HuntArgs
+hunt_asked (Some reach) (Some sought) root property (Some bounds) (Some seeds) (Some time) (Some weights) (Some strategy) (Some workers) =
+    Some (hunt_by reach root property (seeded weights 0) strategy bounds seeds time workers sought)
+hunt_asked _ _ root property _ _ _ _ _ _ = None
 
 abbrev pub seeds_in : List Row → Option (ℕ × ℕ)
-seeds_in rows = option_and_then seeds_of (first_of (codes "seeds") rows)
+seeds_in rows = seeds_named (first_of (codes "for") rows) (first_of (codes "seeds") rows)
+
+abbrev pub time_in : List Row → Option (Option ℕ)
+time_in rows = time_named (first_of (codes "for") rows)
 
 abbrev pub weights_in : List Row → Option (Option (ℕ × ℕ))
 weights_in rows = weights_named (first_of (codes "weights") rows)
@@ -371,10 +430,29 @@ workers_in rows = workers_named (first_of (codes "workers") rows)
 abbrev pub strategy_in : List Row → Option Strategy
 strategy_in rows = option_and_then (λ weights. hunt_strategy weights (first_of (codes "strategy") rows)) (weights_in rows)
 
+-- the names of the sources
+abbrev pub names_in : List Row → List Text
+names_in rows = names_given (all_of (codes "file") rows)
+
+abbrev pub reach_in : List Row → Option Reach
+reach_in rows =
+    reach_asked (more_named (names_in rows)) (roots_named (is_given (first_of (codes "all-roots") rows)) (first_of (codes "root") rows))
+    (is_given (first_of (codes "fail-fast") rows)) (is_given (first_of (codes "leaks") rows))
+
+-- whether words stand there that don't go together
+abbrev pub clashes_in : List Row → Bool
+clashes_in rows =
+    clashes (is_given (first_of (codes "all-roots") rows)) (is_given (first_of (codes "leaks") rows)) (nat_lt 1 (length (names_in rows)))
+    (is_given (first_of (codes "all") rows)) (first_of (codes "root") rows) (first_of (codes "shrink") rows)
+
+-- what a hunt's words ask for where they go together
+abbrev pub hunt_of_values : List Row → Option HuntArgs
+hunt_of_values rows =
+    hunt_asked (reach_in rows) (sought_in rows) (root_named (first_of (codes "root") rows)) (property_named (first_of (codes "property") rows))
+    (bounds_in rows) (seeds_in rows) (time_in rows) (weights_in rows) (strategy_in rows) (workers_in rows)
+
 abbrev pub hunt_of : List Row → Option HuntArgs
-hunt_of rows =
-    hunt_asked (sought_in rows) (first_of (codes "root") rows) (first_of (codes "property") rows) (bounds_in rows) (seeds_in rows)
-    (weights_in rows) (strategy_in rows) (workers_in rows)
+hunt_of rows = if clashes_in rows then None else hunt_of_values rows
 
 -- files are 1 to 64
 abbrev pub as_files : List Text → Option (List Text)
@@ -399,7 +477,7 @@ pub data Wanted : Type 0 where
   run : RunArgs → Wanted
   hunt : HuntArgs → Wanted
   shrink : RunArgs → Wanted
-  chart : RunArgs → Wanted
+  chart : ChartArgs → Wanted
   check : (explain : Bool) → Wanted
   steps : Wanted
   farm : FarmArgs → Wanted
@@ -414,7 +492,7 @@ of_other name rows =
 abbrev pub of_one_file : (text : Option Text) → (name : Text) → List Row → Option Wanted
 of_one_file text name rows =
     if bytes_eq name (codes "run") then option_map run (run_of text rows)
-    else (if bytes_eq name (codes "chart") then option_map chart (run_of text rows)
+    else (if bytes_eq name (codes "chart") then option_map chart (chart_of text rows)
     else (if bytes_eq name (codes "hunt") then option_map hunt (hunt_of rows)
     else (if bytes_eq name (codes "shrink") then option_map shrink (shrink_of text rows) else of_other name rows)))
 
@@ -475,13 +553,21 @@ abbrev pub view_of_run_args : run_code.RunArgs → RunArgs
 view_of_run_args a =
     record { request = view_of_request a.request; edition = edition_number a.edition; priorities = a.priorities }
 
+abbrev pub view_of_chart_args : chart_code.ChartArgs → ChartArgs
+view_of_chart_args a = record { run = view_of_run_args a.run; compact = a.compact; page = a.page }
+
 abbrev pub view_of_hunt_args : hunt_code.HuntArgs → HuntArgs
 view_of_hunt_args a =
     record {
+      more = map (λ s. s.now) a.more.items;
+      roots = a.roots;
+      fail_fast = a.fail_fast;
+      leaks = a.leaks;
       request = view_of_request a.request;
       edition = edition_number a.edition;
       strategy = a.strategy;
       seeds = (a.first, a.end);
+      time = a.time;
       workers = a.workers;
       sought = sought_by a.sought;
     }
@@ -492,7 +578,7 @@ view_of_farm_args a = record { workers = a.workers; files = map (λ s. s.now) a.
 abbrev pub view_of_args : args_code.Args → Wanted
 view_of_args (Run a) = run (view_of_run_args a)
 view_of_args (Hunt a) = hunt (view_of_hunt_args a)
-view_of_args (Chart a) = chart (view_of_run_args a)
+view_of_args (Chart a) = chart (view_of_chart_args a)
 view_of_args (Shrink a) = shrink (view_of_run_args a)
 view_of_args (Check a) = check a.explain
 view_of_args (Steps a) = steps
@@ -501,7 +587,7 @@ view_of_args (Farm a) = farm (view_of_farm_args a)
 abbrev pub named_file : args_code.Args → Option Text
 named_file (Run a) = option_map (λ s. s.now) a.file
 named_file (Hunt a) = option_map (λ s. s.now) a.file
-named_file (Chart a) = option_map (λ s. s.now) a.file
+named_file (Chart a) = option_map (λ s. s.now) a.run.file
 named_file (Shrink a) = option_map (λ s. s.now) a.file
 named_file (Check a) = option_map (λ s. s.now) a.file
 named_file (Steps a) = option_map (λ s. s.now) a.file
@@ -529,13 +615,9 @@ values_fault _ _ _ = kind.InvalidValue
 abbrev pub run_fault : List Row → ErrorKind
 run_fault rows = values_fault (first_of (codes "seed") rows) (first_of (codes "weights") rows) (first_of (codes "schedule") rows)
 
--- each outcome beside a shrinking, or else a value that is none
-abbrev pub sought_fault : (all : Bool) → (shrink : Option Text) → ErrorKind
-sought_fault true (Some _) = kind.ArgumentConflict
-sought_fault _ _ = kind.InvalidValue
-
+-- words that don't go together, or else a value that is none
 abbrev pub hunt_fault : List Row → ErrorKind
-hunt_fault rows = sought_fault (is_given (first_of (codes "all") rows)) (first_of (codes "shrink") rows)
+hunt_fault rows = if clashes_in rows then kind.ArgumentConflict else kind.InvalidValue
 
 abbrev pub one_file_fault : Text → List Row → ErrorKind
 one_file_fault name rows =

@@ -1,1 +1,4 @@
 pub mod Args
+pub mod Reach
+pub mod Seeds
+pub mod Span

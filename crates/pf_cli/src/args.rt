@@ -58,7 +58,7 @@ impl Weights {
     }
 }
 
-/// What `run`, `chart` or `shrink` asks for: a request of the module that a file holds, in an edition.
+/// What `run` or `shrink` asks for, and of which run `chart` asks: a request of the module that a file holds, in an edition.
 #[derive(Drop)]
 pub struct RunArgs<'a> {
     /// The file of the source; the standard input where there is none.
@@ -71,6 +71,16 @@ pub struct RunArgs<'a> {
     ghost weighs: { may_weigh (choices_in (view_of_kind request.kind)) ≡ true },
 }
 
+/// What `chart` asks for.
+#[derive(Drop)]
+pub struct ChartArgs<'a> {
+    pub run: RunArgs<'a>,
+    /// Whether waits and messages that go into a mailbox have no row.
+    pub compact: bool,
+    /// Which page of the rows, from 1.
+    pub page: u32,
+}
+
 /// What is sought among seeds.
 #[derive(Drop, Clone, Copy)]
 pub enum Sought {
@@ -80,12 +90,30 @@ pub enum Sought {
     Outcomes,
 }
 
+/// Which roots of a source are hunted.
+#[derive(Drop, Clone, Copy)]
+pub enum Roots {
+    /// None is named: `main`; of several sources every one.
+    Main,
+    /// The one that is named.
+    Named,
+    /// Each exported function without arguments.
+    Every,
+}
+
 /// What `hunt` asks for: `request` is the run by the seed 0, by the weights that are named, in whose place those by the seeds from `first` to
 /// before `end` go.
 #[derive(Drop)]
 pub struct HuntArgs<'a> {
-    /// The file of the source; the standard input where there is none.
+    /// The file of the source, of several the first; the standard input where there is none.
     pub file: Option<&'a str>,
+    /// The names of the sources behind the first, at most 4,095, as they stand.
+    pub more: Vec<&'a str>,
+    pub roots: Roots,
+    /// Whether nothing is hunted behind the first root that fails.
+    pub fail_fast: bool,
+    /// Whether a seed fails too whose root returned while processes still wait.
+    pub leaks: bool,
     pub request: Request,
     /// The edition of each run.
     pub edition: Edition,
@@ -95,6 +123,8 @@ pub struct HuntArgs<'a> {
     pub first: u64,
     /// The seed before which the hunt ends; above the first.
     pub end: u64,
+    /// For how many seconds it goes on at most, where a time is named.
+    pub time: Option<u64>,
     /// How many threads run seeds, from 1 to 64, where it is named.
     pub workers: Option<u32>,
     pub sought: Sought,
@@ -135,7 +165,7 @@ pub struct FarmArgs<'a> {
 pub enum Args<'a> {
     Run(RunArgs<'a>),
     Hunt(HuntArgs<'a>),
-    Chart(RunArgs<'a>),
+    Chart(ChartArgs<'a>),
     Shrink(RunArgs<'a>),
     Check(CheckArgs<'a>),
     Steps(StepsArgs<'a>),
@@ -151,7 +181,8 @@ impl<'a> Args<'a> {
         ensures { option_map (λ s. s.now) result ≡ named_file self.now }
     {
         match self {
-            Args::Run(args) | Args::Chart(args) | Args::Shrink(args) => args.file,
+            Args::Run(args) | Args::Shrink(args) => args.file,
+            Args::Chart(args) => args.run.file,
             Args::Hunt(args) => args.file,
             Args::Check(args) => args.file,
             Args::Steps(args) => args.file,

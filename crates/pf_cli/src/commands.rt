@@ -3,13 +3,16 @@
 ghost use Rattle.std.specs.Prelude.{◌≡◌, IfOk, false, codes};
 ghost use Rattle.clap.specs.Words.{app_of, rule_of, new_app};
 ghost use Rattle.clap.specs.declared.builder.command.Command.TheViews.{out-Command};
-ghost use Rattle.pf_cli.specs.Args.{bare_app, bounded_app, chart_app, check_app, farm_app, file_rule, files_rule, flag_rule, finding_app, hunt_app, one_file_app, one_run_app, option_rule, pulsefarm, required_rule, rooted_app, run_app, runs_app, seeded_app, shrink_app, steps_app, weighted_app, working_app};
+ghost use Rattle.pf_cli.specs.Args.{bare_app, bounded_app, chart_app, check_app, farm_app, file_rule, files_rule, flag_rule, finding_app, hunt_app, judged_app, many_rule, one_file_app, one_run_app, option_rule, pulsefarm, required_rule, rooted_app, run_app, runs_app, seeded_app, shrink_app, steps_app, telling_app, wanted_rule, weighted_app, working_app};
 
 use clap::{Arg, ArgAction, Command};
 use std::alloc::{AllocError, Global};
 
 const SOURCE_HELP: &str =
     "File of the module's source, at most 65,536 bytes; `-` is standard input [default: -]";
+
+const SOURCES_HELP: &str =
+    "Files of modules' sources, each at most 65,536 bytes, or folders of such files, whose names end in `.erl`; `-` is standard input [default: -]";
 
 const SCHEDULE_HELP: &str =
     "Scheduler's numbers, each from 0 to 4294967295, at most 100,000 with commas between them, or `none`";
@@ -18,7 +21,21 @@ const FAILING_HELP: &str =
     "Property that fails: `returns`, `true`, `nocrash`, `nodeadlock`, `withinlimit` or `never:PATTERN`";
 
 const JUDGING_HELP: &str =
-    "Property that each run is judged by: `returns`, `true`, `nocrash`, `nodeadlock`, `withinlimit` or `never:PATTERN`";
+    "Property that each run is judged by: `returns`, `true`, `nocrash`, `nodeadlock`, `withinlimit` or `never:PATTERN` [default: returns]";
+
+const SEEDS_HELP: &str =
+    "Seeds from A to before B; `A..=B` has B too, and `N` is 0..N; each from 0 to 18446744073709551615 [default: 10000; with --for all but the greatest]";
+
+const TIME_HELP: &str = "Time after which the hunt stops and tells what it knows, as 90s, 5m or 2h";
+
+const ROOT_HELP: &str = "Name of the function that runs first, exported and without arguments";
+
+const ROOT_OR_MAIN_HELP: &str =
+    "Name of the function that runs first, exported and without arguments [default: main]";
+
+const LIMIT_HELP: &str = "Most steps of a run, from 1 to 100,000";
+
+const LIMIT_OR_MOST_HELP: &str = "Most steps of a run, from 1 to 100,000 [default: 100000]";
 
 const RUN_STRATEGY: &str =
     "How the seed chooses: `uniform`, or by priorities, `pos` [default: uniform]";
@@ -29,8 +46,7 @@ const HUNT_STRATEGY: &str =
 const RUN_USAGE: &str =
     "pulsefarm run [OPTIONS] --root <F> --limit <N> <--seed <N>|--schedule <L>> [FILE]";
 
-const CHART_USAGE: &str =
-    "pulsefarm chart [OPTIONS] --root <F> --limit <N> <--seed <N>|--schedule <L>> [FILE]";
+const CHART_USAGE: &str = "pulsefarm chart [OPTIONS] <--seed <N>|--schedule <L>> [FILE]";
 
 /// A file that comes without a name before it.
 fn file<'a>(alloc: Global, help: &'a str) -> Arg<'a>
@@ -40,16 +56,23 @@ fn file<'a>(alloc: Global, help: &'a str) -> Arg<'a>
     Arg::new(alloc, "file").value_name("FILE").help(help)
 }
 
-/// Files that come without a name before them, of which there is at least one.
+/// Files that come without a name before them.
+fn many<'a>(alloc: Global, name: &'a str, help: &'a str) -> Arg<'a>
+    ensures rule { rule_of result ≡ many_rule name.entry.now }
+    ensures local { result.global ≡ false }
+{
+    Arg::new(alloc, name)
+        .value_name("FILE")
+        .num_args(1..)
+        .help(help)
+}
+
+/// Files of clients, of which there is at least one.
 fn files<'a>(alloc: Global, help: &'a str) -> Arg<'a>
     ensures rule { rule_of result ≡ files_rule }
     ensures local { result.global ≡ false }
 {
-    Arg::new(alloc, "files")
-        .value_name("FILE")
-        .num_args(1..)
-        .required(true)
-        .help(help)
+    many(alloc, "files", help).required(true)
 }
 
 /// An option with its one value, which may be left out.
@@ -82,20 +105,26 @@ fn flag<'a>(alloc: Global, name: &'a str, help: &'a str) -> Arg<'a>
         .help(help)
 }
 
-fn root<'a>(alloc: Global) -> Arg<'a>
-    ensures rule { rule_of result ≡ required_rule (codes "root") }
+/// The root, which must be given if it is wanted, and else is `main`.
+fn root<'a>(alloc: Global, wanted: bool) -> Arg<'a>
+    ensures rule { rule_of result ≡ wanted_rule wanted (codes "root") }
     ensures local { result.global ≡ false }
 {
-    let help = "Name of the function that runs first, exported and without arguments";
-    required(alloc, "root", "F", help)
+    let help = if wanted { ROOT_HELP } else { ROOT_OR_MAIN_HELP };
+    option(alloc, "root", "F", help).required(wanted)
 }
 
-fn limit<'a>(alloc: Global) -> Arg<'a>
-    ensures rule { rule_of result ≡ required_rule (codes "limit") }
+/// The limit, which must be given if it is wanted, and else is the largest.
+fn limit<'a>(alloc: Global, wanted: bool) -> Arg<'a>
+    ensures rule { rule_of result ≡ wanted_rule wanted (codes "limit") }
     ensures local { result.global ≡ false }
 {
-    let help = "Most steps of a run, from 1 to 100,000";
-    required(alloc, "limit", "N", help)
+    let help = if wanted {
+        LIMIT_HELP
+    } else {
+        LIMIT_OR_MOST_HELP
+    };
+    option(alloc, "limit", "N", help).required(wanted)
 }
 
 fn edition<'a>(alloc: Global) -> Arg<'a>
@@ -154,24 +183,38 @@ fn bare<'a>(alloc: Global, name: &'a str, about: &'a str) -> Command<'a>
     Command::new(alloc, name).about(about)
 }
 
-/// A command of runs without the options of its bounds, its choices and its property.
-fn rooted<'a>(alloc: Global, name: &'a str, about: &'a str) -> Result<Command<'a>, AllocError>
-    ensures app { IfOk result (λ c. app_of c ≡ rooted_app name.entry.now) }
+/// A command of runs without the options of its bounds, its choices and its property; its source is given, and whether it wants a root.
+fn rooted<'a>(
+    alloc: Global,
+    source: Arg<'a>,
+    name: &'a str,
+    about: &'a str,
+    wanted: bool,
+) -> Result<Command<'a>, AllocError>
+    requires local { source.global ≡ false }
+    ensures app { IfOk result (λ c. app_of c ≡ rooted_app (rule_of source.entry) wanted name.entry.now) }
     ensures local { IfOk result (λ c. (out-Command c).has_globals ≡ false) }
 {
     let rooted = bare(alloc, name, about)
-        .arg(file(alloc, SOURCE_HELP))?
-        .arg(root(alloc))?;
+        .arg(source)?
+        .arg(root(alloc, wanted))?;
     Ok(rooted)
 }
 
-/// The same with the options of its bounds.
-fn bounded<'a>(alloc: Global, name: &'a str, about: &'a str) -> Result<Command<'a>, AllocError>
-    ensures app { IfOk result (λ c. app_of c ≡ bounded_app name.entry.now) }
+/// The same with the options of its bounds; its source is given, and whether it wants a root and a limit.
+fn bounded<'a>(
+    alloc: Global,
+    source: Arg<'a>,
+    name: &'a str,
+    about: &'a str,
+    wanted: bool,
+) -> Result<Command<'a>, AllocError>
+    requires local { source.global ≡ false }
+    ensures app { IfOk result (λ c. app_of c ≡ bounded_app (rule_of source.entry) wanted name.entry.now) }
     ensures local { IfOk result (λ c. (out-Command c).has_globals ≡ false) }
 {
-    let bounded = rooted(alloc, name, about)?
-        .arg(limit(alloc))?
+    let bounded = rooted(alloc, source, name, about, wanted)?
+        .arg(limit(alloc, wanted))?
         .arg(edition(alloc))?;
     Ok(bounded)
 }
@@ -182,11 +225,13 @@ fn weighted<'a>(
     name: &'a str,
     about: &'a str,
     usage: &'a str,
+    wanted: bool,
 ) -> Result<Command<'a>, AllocError>
-    ensures app { IfOk result (λ c. app_of c ≡ weighted_app name.entry.now) }
+    ensures app { IfOk result (λ c. app_of c ≡ weighted_app wanted name.entry.now) }
     ensures local { IfOk result (λ c. (out-Command c).has_globals ≡ false) }
 {
-    let weighted = bounded(alloc, name, about)?
+    let source = file(alloc, SOURCE_HELP);
+    let weighted = bounded(alloc, source, name, about, wanted)?
         .override_usage(usage)
         .arg(seed(alloc))?
         .arg(weights(alloc))?
@@ -200,11 +245,12 @@ fn one_run<'a>(
     name: &'a str,
     about: &'a str,
     usage: &'a str,
+    wanted: bool,
 ) -> Result<Command<'a>, AllocError>
-    ensures app { IfOk result (λ c. app_of c ≡ one_run_app name.entry.now) }
+    ensures app { IfOk result (λ c. app_of c ≡ one_run_app wanted name.entry.now) }
     ensures local { IfOk result (λ c. (out-Command c).has_globals ≡ false) }
 {
-    let run = weighted(alloc, name, about, usage)?
+    let run = weighted(alloc, name, about, usage, wanted)?
         .arg(schedule(alloc))?
         .arg(property(alloc))?;
     Ok(run)
@@ -216,7 +262,7 @@ pub(crate) fn run_command<'a>(alloc: Global) -> Result<Command<'a>, AllocError>
     ensures local { IfOk result (λ c. (out-Command c).has_globals ≡ false) }
 {
     let about = "Runs a module by a seed or a schedule and reports each turn and delivery";
-    one_run(alloc, "run", about, RUN_USAGE)
+    one_run(alloc, "run", about, RUN_USAGE, true)
 }
 
 /// `chart`.
@@ -225,7 +271,24 @@ pub(crate) fn chart_command<'a>(alloc: Global) -> Result<Command<'a>, AllocError
     ensures local { IfOk result (λ c. (out-Command c).has_globals ≡ false) }
 {
     let about = "Draws a run as a message sequence chart in SVG";
-    one_run(alloc, "chart", about, CHART_USAGE)
+    let compact =
+        "Draws each message from its send to its receive, without rows for waits and deliveries";
+    let page = "Page of 500 rows, counted from 1; the last where there are fewer [default: 1]";
+    let chart = one_run(alloc, "chart", about, CHART_USAGE, false)?
+        .arg(flag(alloc, "compact", compact))?
+        .arg(option(alloc, "page", "K", page))?;
+    Ok(chart)
+}
+
+/// A hunt without the options of how far it goes, how it is done and what it tells.
+fn judged<'a>(alloc: Global, about: &'a str) -> Result<Command<'a>, AllocError>
+    ensures app { IfOk result (λ c. app_of c ≡ judged_app) }
+    ensures local { IfOk result (λ c. (out-Command c).has_globals ≡ false) }
+{
+    let judging = option(alloc, "property", "P", JUDGING_HELP);
+    let sources = many(alloc, "file", SOURCES_HELP);
+    let judged = bounded(alloc, sources, "hunt", about, false)?.arg(judging)?;
+    Ok(judged)
 }
 
 /// A hunt without the options of how it is done and of what it tells.
@@ -233,10 +296,9 @@ fn seeded<'a>(alloc: Global, about: &'a str) -> Result<Command<'a>, AllocError>
     ensures app { IfOk result (λ c. app_of c ≡ seeded_app) }
     ensures local { IfOk result (λ c. (out-Command c).has_globals ≡ false) }
 {
-    let seeds = "Seeds from A to before B, each from 0 to 18446744073709551615";
-    let seeded = bounded(alloc, "hunt", about)?
-        .arg(required(alloc, "property", "P", JUDGING_HELP))?
-        .arg(required(alloc, "seeds", "A..B", seeds))?;
+    let seeded = judged(alloc, about)?
+        .arg(option(alloc, "seeds", "A..B", SEEDS_HELP))?
+        .arg(option(alloc, "for", "T", TIME_HELP))?;
     Ok(seeded)
 }
 
@@ -253,17 +315,32 @@ fn working<'a>(alloc: Global, about: &'a str) -> Result<Command<'a>, AllocError>
     Ok(working)
 }
 
+/// A hunt without the options of what it goes over.
+fn telling<'a>(alloc: Global, about: &'a str) -> Result<Command<'a>, AllocError>
+    ensures app { IfOk result (λ c. app_of c ≡ telling_app) }
+    ensures local { IfOk result (λ c. (out-Command c).has_globals ≡ false) }
+{
+    let all = "Tells each outcome, by how many seeds and the least of them, and runs all seeds";
+    let shrink = "Shrinks the schedule of the seed that fails, within N runs from 1 to 1,000";
+    let telling = working(alloc, about)?
+        .arg(flag(alloc, "all", all))?
+        .arg(option(alloc, "shrink", "N", shrink))?;
+    Ok(telling)
+}
+
 /// `hunt`.
 pub(crate) fn hunt_command<'a>(alloc: Global) -> Result<Command<'a>, AllocError>
     ensures app { IfOk result (λ c. app_of c ≡ hunt_app) }
     ensures local { IfOk result (λ c. (out-Command c).has_globals ≡ false) }
 {
     let about = "Runs a module by many seeds and reports the least that fails a property";
-    let all = "Tells each outcome, by how many seeds and the least of them, and runs all seeds";
-    let shrink = "Shrinks the schedule of the seed that fails, within N runs from 1 to 1,000";
-    let hunt = working(alloc, about)?
-        .arg(flag(alloc, "all", all))?
-        .arg(option(alloc, "shrink", "N", shrink))?;
+    let roots = "Hunts every exported function without arguments, and tells of each in a line";
+    let fail_fast = "Hunts nothing behind the first root that fails";
+    let leaks = "Lets a seed fail too whose root returned while processes still wait";
+    let hunt = telling(alloc, about)?
+        .arg(flag(alloc, "all-roots", roots))?
+        .arg(flag(alloc, "fail-fast", fail_fast))?
+        .arg(flag(alloc, "leaks", leaks))?;
     Ok(hunt)
 }
 
@@ -274,7 +351,8 @@ pub(crate) fn shrink_command<'a>(alloc: Global) -> Result<Command<'a>, AllocErro
 {
     let about = "Shrinks a schedule that fails and reports the run of the schedule that is found";
     let runs = "Most runs, from 1 to 1,000; that of the given schedule is the first";
-    let shrink = bounded(alloc, "shrink", about)?
+    let source = file(alloc, SOURCE_HELP);
+    let shrink = bounded(alloc, source, "shrink", about, true)?
         .arg(required(alloc, "schedule", "L", SCHEDULE_HELP))?
         .arg(required(alloc, "property", "P", FAILING_HELP))?
         .arg(required(alloc, "runs", "N", runs))?;

@@ -1,22 +1,18 @@
 //! What the words of `farm` ask for.
 
-ghost use Rattle.std.specs.Prelude.{◌≡◌, ◌≤◌, ◌⊎◌, IfOk, IfErr, Some, None, codes, map, option_map, option_and_then, vec_len};
+ghost use Rattle.std.specs.Prelude.{◌≡◌, ◌≤◌, ◌⊎◌, IfOk, IfErr, Some, None, codes, map, option_and_then, vec_len};
 ghost use Rattle.clap.specs.Words.{all_of, kind_of, rows_of, found_of};
 ghost use Rattle.pf_cli.specs.Args.{as_files, as_workers, farm_of, number_in, view_of_farm_args};
 
 use crate::args::FarmArgs;
 use crate::refusals::{Valued, mistake, refuse_file, refuse_number};
-use crate::values::{WORKERS, as_workers, is_given, value};
+use crate::values::{WORKERS, as_workers, is_given, value, values};
 use clap::error::ErrorKind;
 use clap::{ArgMatches, Error};
 use std::alloc::Global;
 
-/// The values of a word that may stand several times.
-fn values<'m, 'a>(rows: &'m ArgMatches<'a>, name: &str) -> Option<&'m [&'a str]>
-    ensures { option_map (λ s. map (λ v. v.now) s.now) result ≡ all_of name.now (rows_of (found_of rows.now)) }
-{
-    rows.get_raw(name)
-}
+/// What the files want.
+const FILES: &str = "'<FILE>...': it wants at most 64 files, and this is the 65th";
 
 /// How many workers there are.
 fn workers(alloc: Global, rows: &ArgMatches) -> Result<u32, Error>
@@ -53,7 +49,7 @@ fn files<'a>(alloc: Global, rows: &ArgMatches<'a>) -> Result<Vec<&'a str>, Error
         return Err(mistake(alloc, "a file is missing"));
     }
     if let Some(extra) = named.get(64) {
-        return Err(refuse_file(alloc, extra));
+        return Err(refuse_file(alloc, Valued::Farm, extra, FILES));
     }
     match Vec::from_slice(alloc, named) {
         Ok(files) => Ok(files),

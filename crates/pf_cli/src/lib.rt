@@ -6,11 +6,16 @@ mod commands;
 mod farm;
 mod laws;
 mod parse;
+mod reach;
 mod reading;
 mod refusals;
+mod seeds;
+mod span;
 mod values;
 
-pub use args::{Args, CheckArgs, Edition, FarmArgs, HuntArgs, RunArgs, Sought, StepsArgs};
+pub use args::{
+    Args, ChartArgs, CheckArgs, Edition, FarmArgs, HuntArgs, Roots, RunArgs, Sought, StepsArgs,
+};
 pub use laws::{stands_alone, statuses_agree};
 pub use parse::{read_args, status_of_kind};
 pub use reading::{Reading, read};

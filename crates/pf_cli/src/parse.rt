@@ -4,15 +4,18 @@ ghost use Rattle.std.specs.Prelude.{◌≡◌, ◌⊎◌, true, IfOk, IfErr, map
 ghost use Rattle.clap.specs.Words.{FailsBy, fault_of, subcommand_of, subcommand_rows_of, kind_of, first_of, rows_of, found_of};
 ghost use Rattle.pf_request.specs.Request.{choices_in, may_weigh};
 ghost use Rattle.pf_request.specs.View.{view_of_kind, view_of_request};
-ghost use Rattle.pf_cli.specs.Args.{IsFaultBy, IsFaultOf, fault_under, file_named, file_of, file_under, hunt_fault, hunt_of, named_file, of_command, of_one_file, of_other, one_file_fault, pulsefarm, request_by, run_fault, run_of, schedule_file_of, shrink_of, status_of_kind, view_of_args, view_of_hunt_args, view_of_run_args, wanted_by, wanted_of};
+ghost use Rattle.pf_cli.specs.Args.{IsFaultBy, IsFaultOf, chart_of, fault_under, file_named, file_of, file_under, hunt_fault, hunt_of, hunt_of_values, named_file, of_command, of_one_file, of_other, one_file_fault, pulsefarm, request_by, run_fault, run_of, schedule_file_of, shrink_of, status_of_kind, view_of_args, view_of_chart_args, view_of_hunt_args, view_of_run_args, wanted_by, wanted_of};
 
-use crate::args::{Args, CheckArgs, HuntArgs, RunArgs, StepsArgs, Weights};
+use crate::args::{Args, ChartArgs, CheckArgs, HuntArgs, RunArgs, StepsArgs, Weights};
 use crate::commands::command;
 use crate::farm::farm_args;
-use crate::refusals::{Valued, mistake};
+use crate::reach::{clash, reach_of};
+use crate::refusals::{Valued, mistake, refuse_both};
+use crate::seeds::seeds;
+use crate::span::time;
 use crate::values::{
     RUNS, bounds, choices, given_schedule, guided, is_given, named_file, named_property,
-    named_schedule, number, seeds, sought, strategy, value, weights, workers,
+    named_root, named_schedule, number, page, sought, strategy, value, weights, workers,
 };
 use clap::error::ErrorKind;
 use clap::{ArgMatches, Error};
@@ -90,13 +93,11 @@ fn run_args<'a>(
         Ok(priorities) => priorities,
         Err(e) => return Err(e),
     };
-    let Some(root) = value(rows, "root") else {
-        return Err(mistake(alloc, "--root is missing"));
-    };
     let (limit, edition) = match bounds(alloc, valued, rows) {
         Ok(bounds) => bounds,
         Err(e) => return Err(e),
     };
+    let root = named_root(rows);
     let property = named_property(rows);
     match request(alloc, root, property, Kind::Run(choices), limit) {
         Ok(request) => Ok(RunArgs {
@@ -109,24 +110,50 @@ fn run_args<'a>(
     }
 }
 
-/// The hunt that the values of the options ask for.
-fn hunt_args<'a>(alloc: Global, rows: &ArgMatches<'a>) -> Result<HuntArgs<'a>, Error>
-    ensures ok { IfOk result (λ a. hunt_of (rows_of (found_of rows.now)) ≡ Some (view_of_hunt_args a)) }
+/// The chart that the values of the options ask for, with a text in place of its schedule's file.
+fn chart_args<'a>(
+    alloc: Global,
+    rows: &ArgMatches<'a>,
+    text: Option<&str>,
+) -> Result<ChartArgs<'a>, Error>
+    ensures ok { IfOk result (λ a.
+        chart_of (option_map (λ s. s.now) text.entry) (rows_of (found_of rows.now))
+        ≡ Some (view_of_chart_args a)) }
+    ensures file { IfOk result (λ a. option_map (λ s. s.now) a.run.file
+        ≡ file_named (first_of (codes "file") (rows_of (found_of rows.now)))) }
+    ensures err { IfErr result (λ e. (kind_of e ≡ ErrorKind.OutOfMemory)
+        ⊎ ((kind_of e ≡ run_fault (rows_of (found_of rows.now)))
+        × (chart_of (option_map (λ s. s.now) text.entry) (rows_of (found_of rows.now)) ≡ None))) }
+{
+    let run = match run_args(alloc, Valued::Chart, rows, text) {
+        Ok(run) => run,
+        Err(e) => return Err(e),
+    };
+    match page(alloc, rows) {
+        Ok(page) => Ok(ChartArgs {
+            run,
+            compact: is_given(rows, "compact"),
+            page,
+        }),
+        Err(e) => Err(e),
+    }
+}
+
+/// The hunt that the values of the options ask for, which go together.
+fn hunt_values<'a>(alloc: Global, rows: &ArgMatches<'a>) -> Result<HuntArgs<'a>, Error>
+    ensures ok { IfOk result (λ a. hunt_of_values (rows_of (found_of rows.now)) ≡ Some (view_of_hunt_args a)) }
     ensures file { IfOk result (λ a. option_map (λ s. s.now) a.file
         ≡ file_named (first_of (codes "file") (rows_of (found_of rows.now)))) }
     ensures err { IfErr result (λ e. (kind_of e ≡ ErrorKind.OutOfMemory)
-        ⊎ ((kind_of e ≡ hunt_fault (rows_of (found_of rows.now)))
-        × (hunt_of (rows_of (found_of rows.now)) ≡ None))) }
+        ⊎ ((kind_of e ≡ ErrorKind.InvalidValue) × (hunt_of_values (rows_of (found_of rows.now)) ≡ None))) }
 {
+    let reach = match reach_of(alloc, rows) {
+        Ok(reach) => reach,
+        Err(e) => return Err(e),
+    };
     let sought = match sought(alloc, rows) {
         Ok(sought) => sought,
         Err(e) => return Err(e),
-    };
-    let Some(root) = value(rows, "root") else {
-        return Err(mistake(alloc, "--root is missing"));
-    };
-    let Some(property) = value(rows, "property") else {
-        return Err(mistake(alloc, "--property is missing"));
     };
     let (limit, edition) = match bounds(alloc, Valued::Hunt, rows) {
         Ok(bounds) => bounds,
@@ -134,6 +161,10 @@ fn hunt_args<'a>(alloc: Global, rows: &ArgMatches<'a>) -> Result<HuntArgs<'a>, E
     };
     let (first, end) = match seeds(alloc, rows) {
         Ok(seeds) => seeds,
+        Err(e) => return Err(e),
+    };
+    let time = match time(alloc, rows) {
+        Ok(time) => time,
         Err(e) => return Err(e),
     };
     let weights = match weights(alloc, Valued::Hunt, rows) {
@@ -148,19 +179,41 @@ fn hunt_args<'a>(alloc: Global, rows: &ArgMatches<'a>) -> Result<HuntArgs<'a>, E
         Ok(workers) => workers,
         Err(e) => return Err(e),
     };
+    let root = named_root(rows);
+    let property = named_property(rows);
     let kind = Kind::Run(Weights::seeded(weights, 0));
     match request(alloc, root, property, kind, limit) {
         Ok(request) => Ok(HuntArgs {
             file: named_file(rows),
+            more: reach.more,
+            roots: reach.roots,
+            fail_fast: reach.fail_fast,
+            leaks: reach.leaks,
             request,
             edition,
             strategy,
             first,
             end,
+            time,
             workers,
             sought,
         }),
         Err(e) => Err(e),
+    }
+}
+
+/// The hunt that the values of the options ask for.
+fn hunt_args<'a>(alloc: Global, rows: &ArgMatches<'a>) -> Result<HuntArgs<'a>, Error>
+    ensures ok { IfOk result (λ a. hunt_of (rows_of (found_of rows.now)) ≡ Some (view_of_hunt_args a)) }
+    ensures file { IfOk result (λ a. option_map (λ s. s.now) a.file
+        ≡ file_named (first_of (codes "file") (rows_of (found_of rows.now)))) }
+    ensures err { IfErr result (λ e. (kind_of e ≡ ErrorKind.OutOfMemory)
+        ⊎ ((kind_of e ≡ hunt_fault (rows_of (found_of rows.now)))
+        × (hunt_of (rows_of (found_of rows.now)) ≡ None))) }
+{
+    match clash(rows) {
+        Some((first, second)) => Err(refuse_both(alloc, Valued::Hunt, first, second)),
+        None => hunt_values(alloc, rows),
     }
 }
 
@@ -179,9 +232,6 @@ fn shrink_args<'a>(
         ⊎ ((kind_of e ≡ ErrorKind.InvalidValue)
         × (shrink_of (option_map (λ s. s.now) text.entry) (rows_of (found_of rows.now)) ≡ None))) }
 {
-    let Some(root) = value(rows, "root") else {
-        return Err(mistake(alloc, "--root is missing"));
-    };
     let Some(property) = value(rows, "property") else {
         return Err(mistake(alloc, "--property is missing"));
     };
@@ -197,6 +247,7 @@ fn shrink_args<'a>(
         Ok(schedule) => schedule,
         Err(e) => return Err(e),
     };
+    let root = named_root(rows);
     match request(
         alloc,
         root,
@@ -270,7 +321,7 @@ fn one_file_args<'a>(
         };
     }
     if name == "chart" {
-        return match run_args(alloc, Valued::Chart, rows, text) {
+        return match chart_args(alloc, rows, text) {
             Ok(args) => Ok(Args::Chart(args)),
             Err(e) => Err(e),
         };

@@ -62,6 +62,21 @@ pub(crate) fn refuse(alloc: Global, valued: Valued, kind: ErrorKind, text: &str)
     }
 }
 
+/// An error of this kind with a text, if that could be made.
+fn refuse_with(
+    alloc: Global,
+    valued: Valued,
+    kind: ErrorKind,
+    text: Result<String, AllocError>,
+) -> Error
+    ensures { (kind_of result ≡ ErrorKind.OutOfMemory) ⊎ (kind_of result ≡ kind) }
+{
+    match text {
+        Ok(text) => refuse(alloc, valued, kind, &text),
+        Err(e) => Error::from(e),
+    }
+}
+
 /// An error that names the value of an option, as `limit <N>`.
 pub(crate) fn refuse_value(
     alloc: Global,
@@ -72,10 +87,8 @@ pub(crate) fn refuse_value(
 ) -> Error
     ensures { (kind_of result ≡ ErrorKind.OutOfMemory) ⊎ (kind_of result ≡ ErrorKind.InvalidValue) }
 {
-    match format!(in alloc; "invalid value '{value}' for '--{option}': it wants {wants}") {
-        Ok(text) => refuse(alloc, valued, ErrorKind::InvalidValue, &text),
-        Err(e) => Error::from(e),
-    }
+    let told = format!(in alloc; "invalid value '{value}' for '--{option}': it wants {wants}");
+    refuse_with(alloc, valued, ErrorKind::InvalidValue, told)
 }
 
 /// The same of an option whose value is a number.
@@ -94,14 +107,18 @@ pub(crate) fn refuse_number(
     }
 }
 
-/// An error that names a file of a client, which is one too many.
-pub(crate) fn refuse_file(alloc: Global, file: &str) -> Error
+/// An error that names a file, which is one too many.
+pub(crate) fn refuse_file(alloc: Global, valued: Valued, file: &str, wants: &str) -> Error
     ensures { (kind_of result ≡ ErrorKind.OutOfMemory) ⊎ (kind_of result ≡ ErrorKind.InvalidValue) }
 {
-    match format!(in alloc;
-        "invalid value '{file}' for '<FILE>...': it wants at most 64 files, and this is the 65th"
-    ) {
-        Ok(text) => refuse(alloc, Valued::Farm, ErrorKind::InvalidValue, &text),
-        Err(e) => Error::from(e),
-    }
+    let text = format!(in alloc; "invalid value '{file}' for {wants}");
+    refuse_with(alloc, valued, ErrorKind::InvalidValue, text)
+}
+
+/// An error of two words that don't go together.
+pub(crate) fn refuse_both(alloc: Global, valued: Valued, first: &str, second: &str) -> Error
+    ensures { (kind_of result ≡ ErrorKind.OutOfMemory) ⊎ (kind_of result ≡ ErrorKind.ArgumentConflict) }
+{
+    let text = format!(in alloc; "the argument '{first}' cannot be used with {second}");
+    refuse_with(alloc, valued, ErrorKind::ArgumentConflict, text)
 }

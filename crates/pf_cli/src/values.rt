@@ -1,12 +1,12 @@
 //! The values of options.
 
-ghost use Rattle.std.specs.Prelude.{◌≡◌, ◌≤◌, ◌⊎◌, true, IfOk, IfErr, IfSome, Some, None, codes, option_map, option_and_then};
-ghost use Rattle.clap.specs.Words.{kind_of, first_of, rows_of, found_of};
+ghost use Rattle.std.specs.Prelude.{◌≡◌, ◌≤◌, ◌⊎◌, true, IfOk, IfErr, IfSome, Some, None, codes, map, option_map, option_and_then};
+ghost use Rattle.clap.specs.Words.{all_of, kind_of, first_of, rows_of, found_of};
 ghost use Rattle.pf_model.specs.Meaning.{schedule};
 ghost use Rattle.pf_text.specs.Numbers.{long_number_of, number_of, schedule_of};
 ghost use Rattle.pf_request.specs.Request.{may_weigh};
 ghost use Rattle.pf_request.specs.View.{view_of_choices};
-ghost use Rattle.pf_cli.specs.Args.{after_dot, as_edition, as_workers, bounds_in, choices_in, edition_named, edition_number, file_at, file_named, guided_by, guided_in, hunt_fault, hunt_strategy, in_place, is_given, number_in, numbers_of, property_named, run_fault, schedule_in, seeded_by, seeds_in, seeds_of, sought_by, sought_in, strategy_named, strategy_of, weight_of, weights_by, weights_in, weights_of, workers_in};
+ghost use Rattle.pf_cli.specs.Args.{as_edition, as_workers, bounds_in, choices_in, edition_named, edition_number, file_at, file_named, guided_by, guided_in, hunt_strategy, in_place, is_given, limit_named, number_in, numbers_of, page_named, property_named, root_named, run_fault, schedule_in, seeded_by, sought_by, sought_in, strategy_named, strategy_of, weight_of, weights_by, weights_in, weights_of, workers_in};
 
 use crate::args::{Edition, Sought, Weights};
 use crate::refusals::{Valued, mistake, refuse, refuse_number, refuse_value};
@@ -24,6 +24,13 @@ pub(crate) fn value<'a>(rows: &ArgMatches<'a>, name: &str) -> Option<&'a str>
     ensures { option_map (λ s. s.now) result ≡ first_of name.now (rows_of (found_of rows.now)) }
 {
     rows.get_str(name)
+}
+
+/// The values of a word that may stand several times.
+pub(crate) fn values<'m, 'a>(rows: &'m ArgMatches<'a>, name: &str) -> Option<&'m [&'a str]>
+    ensures { option_map (λ s. map (λ v. v.now) s.now) result ≡ all_of name.now (rows_of (found_of rows.now)) }
+{
+    rows.get_raw(name)
 }
 
 /// Whether a flag is given.
@@ -53,10 +60,6 @@ const STEPS: &str = "a number of steps from 1 to 100000, without leading zeros";
 /// What the number of runs wants.
 pub(crate) const RUNS: &str = "a number of runs from 1 to 1000, without leading zeros";
 
-/// What seeds want.
-const SEEDS: &str =
-    "two numbers A..B from 0 to 18446744073709551615, without leading zeros, A below B; B is the end and not run";
-
 /// What weights want.
 const WEIGHTS: &str = "two numbers R:D from 1 to 9, R of a process and D of a channel";
 
@@ -65,6 +68,9 @@ const STRATEGIES: &str = "`pos` or `uniform`; `pos` beside a seed without weight
 
 /// What an edition wants.
 const EDITIONS: &str = "1 or 2";
+
+/// What a page wants.
+const PAGES: &str = "a number from 1 to 4294967295, without leading zeros";
 
 /// What the number of workers wants.
 pub(crate) const WORKERS: &str = "a number of threads from 1 to 64, without leading zeros";
@@ -119,6 +125,23 @@ fn edition(alloc: Global, valued: Valued, rows: &ArgMatches) -> Result<Edition, 
     }
 }
 
+/// The limit that is named; the largest where none is.
+fn limit(alloc: Global, valued: Valued, rows: &ArgMatches) -> Result<u32, Error>
+    ensures ok { IfOk result (λ n.
+        limit_named (first_of (codes "limit") (rows_of (found_of rows.now))) ≡ Some n) }
+    ensures err { IfErr result (λ e. (kind_of e ≡ ErrorKind.OutOfMemory)
+        ⊎ ((kind_of e ≡ ErrorKind.InvalidValue)
+        × (limit_named (first_of (codes "limit") (rows_of (found_of rows.now))) ≡ None))) }
+{
+    let Some(word) = value(rows, "limit") else {
+        return Ok(100_000);
+    };
+    match number_of(word.as_bytes()) {
+        Some(limit) => Ok(limit),
+        None => Err(refuse_number(alloc, valued, "limit", word, STEPS)),
+    }
+}
+
 /// The limit of steps and the edition.
 pub(crate) fn bounds(
     alloc: Global,
@@ -129,7 +152,7 @@ pub(crate) fn bounds(
     ensures err { IfErr result (λ e. (kind_of e ≡ ErrorKind.OutOfMemory)
         ⊎ ((kind_of e ≡ ErrorKind.InvalidValue) × (bounds_in (rows_of (found_of rows.now)) ≡ None))) }
 {
-    let limit = match number(alloc, valued, rows, "limit", STEPS) {
+    let limit = match limit(alloc, valued, rows) {
         Ok(limit) => limit,
         Err(e) => return Err(e),
     };
@@ -414,6 +437,16 @@ pub(crate) fn strategy(
     }
 }
 
+/// The root that the words name; `main` where they name none.
+pub(crate) fn named_root<'a>(rows: &ArgMatches<'a>) -> &'a str
+    ensures { result.now ≡ root_named (first_of (codes "root") (rows_of (found_of rows.now))) }
+{
+    match value(rows, "root") {
+        Some(name) => name,
+        None => "main",
+    }
+}
+
 /// The property that the words name; `returns` where they name none.
 pub(crate) fn named_property<'a>(rows: &ArgMatches<'a>) -> &'a str
     ensures { result.now ≡ property_named (first_of (codes "property") (rows_of (found_of rows.now))) }
@@ -450,42 +483,20 @@ pub(crate) fn given_schedule(
     }
 }
 
-/// The number after one more dot.
-fn after_dot(text: &[u8]) -> Option<u64>
-    ensures { result ≡ after_dot text.now }
-{
-    match text {
-        [b'.', number @ ..] => long_number_of(number),
-        _ => None,
-    }
-}
-
-/// The seeds that a text names: the first, and the one before which they end.
-fn seeds_of(text: &str) -> Option<(u64, u64)>
-    ensures { result ≡ seeds_of text.now }
-{
-    let (front, back) = text.split_once('.')?;
-    let first = long_number_of(front.as_bytes())?;
-    let end = after_dot(back.as_bytes())?;
-    if first < end {
-        Some((first, end))
-    } else {
-        None
-    }
-}
-
-/// The seeds of a hunt.
-pub(crate) fn seeds(alloc: Global, rows: &ArgMatches) -> Result<(u64, u64), Error>
-    ensures ok { IfOk result (λ s. seeds_in (rows_of (found_of rows.now)) ≡ Some s) }
+/// The page of a chart; the first where none is named.
+pub(crate) fn page(alloc: Global, rows: &ArgMatches) -> Result<u32, Error>
+    ensures ok { IfOk result (λ n.
+        page_named (first_of (codes "page") (rows_of (found_of rows.now))) ≡ Some n) }
     ensures err { IfErr result (λ e. (kind_of e ≡ ErrorKind.OutOfMemory)
-        ⊎ ((kind_of e ≡ ErrorKind.InvalidValue) × (seeds_in (rows_of (found_of rows.now)) ≡ None))) }
+        ⊎ ((kind_of e ≡ ErrorKind.InvalidValue)
+        × (page_named (first_of (codes "page") (rows_of (found_of rows.now))) ≡ None))) }
 {
-    let Some(word) = value(rows, "seeds") else {
-        return Err(mistake(alloc, "--seeds is missing"));
+    let Some(word) = value(rows, "page") else {
+        return Ok(1);
     };
-    match seeds_of(word) {
-        Some(seeds) => Ok(seeds),
-        None => Err(refuse_value(alloc, Valued::Hunt, "seeds <A..B>", word, SEEDS)),
+    match number_of(word.as_bytes()) {
+        Some(page @ 1..) => Ok(page),
+        _ => Err(refuse_value(alloc, Valued::Chart, "page <K>", word, PAGES)),
     }
 }
 
@@ -519,19 +530,14 @@ pub(crate) fn workers(alloc: Global, rows: &ArgMatches) -> Result<Option<u32>, E
 pub(crate) fn sought(alloc: Global, rows: &ArgMatches) -> Result<Sought, Error>
     ensures ok { IfOk result (λ s. sought_in (rows_of (found_of rows.now)) ≡ Some (sought_by s)) }
     ensures err { IfErr result (λ e. (kind_of e ≡ ErrorKind.OutOfMemory)
-        ⊎ ((kind_of e ≡ hunt_fault (rows_of (found_of rows.now)))
-        × (sought_in (rows_of (found_of rows.now)) ≡ None))) }
+        ⊎ ((kind_of e ≡ ErrorKind.InvalidValue) × (sought_in (rows_of (found_of rows.now)) ≡ None))) }
 {
     match (is_given(rows, "all"), value(rows, "shrink")) {
+        (true, _) => Ok(Sought::Outcomes),
         (false, None) => Ok(Sought::Failure { runs: None }),
-        (true, None) => Ok(Sought::Outcomes),
         (false, Some(word)) => match number_of(word.as_bytes()) {
             Some(runs) => Ok(Sought::Failure { runs: Some(runs) }),
             None => Err(refuse_number(alloc, Valued::Hunt, "shrink", word, RUNS)),
         },
-        (true, Some(_)) => {
-            let text = "the argument '--all' cannot be used with '--shrink <N>'";
-            Err(refuse(alloc, Valued::Hunt, ErrorKind::ArgumentConflict, text))
-        }
     }
 }

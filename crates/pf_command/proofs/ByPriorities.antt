@@ -8,6 +8,7 @@ use Rattle.pf_request.specs.Request.{Request}
 use Rattle.pf_request.specs.Job.{Job}
 use Rattle.pf_sched.specs.Asked.{Asks}
 use Rattle.pf_strategy.specs.Runs.{MeansByPriorities}
+use Rattle.pf_chart.specs.declared.manner.Manner.{Manner}
 use Rattle.pf_cli.specs.Args.{RunArgs}
 use Rattle.pf_command.specs.Answers.{AnswersBy, IsModuleOf, source_refused, job_refused, told}
 use Rattle.pf_command.specs.Charts.{Draws}
@@ -39,6 +40,7 @@ pub asks_shared : (m k : ReadModule) (n e : ℕ) (r : Request) (x : Result Job C
 asks_shared m k n e r x module_is edition_is asks = subst (λ l. Asks l e r x) module_is (subst (λ i. Asks k i r x) edition_is asks)
 
 -- a schedule changes nothing of the root that a chart names
-pub draws_alike : (asks : ReadModule → Result Job Code → Type 0) (q r : Request) (numbers bytes text : List ℕ) (status : ℕ) → q ≡ with_schedule r numbers
-    → AnswersBy asks (Draws q.root) bytes text status → AnswersBy asks (Draws r.root) bytes text status
-draws_alike asks q r numbers bytes text status same = subst (λ root. AnswersBy asks (Draws root) bytes text status) (ap (λ y. y.root) same)
+pub draws_alike : (asks : ReadModule → Result Job Code → Type 0) (q r : Request) (m n : Manner) (numbers bytes text : List ℕ) (status : ℕ) → q ≡ with_schedule r numbers → m ≡ n
+    → AnswersBy asks (Draws q.root m) bytes text status → AnswersBy asks (Draws r.root n) bytes text status
+draws_alike asks q r m n numbers bytes text status same manner answers =
+    subst (λ k. AnswersBy asks (Draws r.root k) bytes text status) manner (subst (λ root. AnswersBy asks (Draws root m) bytes text status) (ap (λ y. y.root) same) answers)

@@ -9,14 +9,14 @@ use Rattle.pf_model.specs.Shrinking.{is_failure}
 use Rattle.pf_model.specs.Text.{report_text}
 use Rattle.pf_model.specs.declared.report.Report as code
 use Rattle.pf_request.specs.Job.{Job}
-use Rattle.pf_seeds.specs.Hunts.{FirstFailing, Tallies}
+use Rattle.pf_seeds.specs.Hunts.{ComesTo, FirstFailing, Tallies}
 use Rattle.pf_seeds.specs.Rows as rows
 use Rattle.pf_seeds.specs.Views.{row_of, rows_in}
 use Rattle.pf_seeds.specs.declared.row.Row.{Row}
 use Rattle.pf_cli.specs.Args.{HuntArgs, failure, outcomes}
-use Rattle.pf_command.specs.Answers.{names_of}
-use Rattle.pf_command.specs.Hunts.{TellsShrunk, TellsSought, choices_of, none_text, row_text, rows_status, seed_text, strategy_text}
-use Rattle.pf_command.specs.Hunts.{none_fails, seed_fails, seed_shrunk, seed_alone, tallied}
+use Rattle.pf_command.specs.Answers.{names_of, no_memory_text}
+use Rattle.pf_command.specs.Hunts.{TellsReport, TellsShrinking, TellsSought, choices_of, front_text, may_stop, none_text, row_text, rows_status, seed_text, strategy_text}
+use Rattle.pf_command.specs.Hunts.{none_fails, seed_fails, seed_cut, seed_shrunk, seed_alone, tallied}
 use Rattle.pf_command.specs.declared.answer.Answer.{Answer}
 
 -- the choices of events are those of what they stand for
@@ -32,20 +32,29 @@ pub texts_are : (name : ℕ → List ℕ) (xs : List Row) → flat_map (λ x. ro
 texts_are name xs = sym (flat_map-map (row_text name) row_of xs)
 
 module _ (h : HuntArgs) (bytes : List ℕ) (j : Job) where
-  pub tells_none : (runs : Option ℕ) (a : Answer) → FirstFailing h.strategy j.asked h.seeds.0 h.seeds.1 None
-      → (a.text.items ≡ none_text (h.seeds.1 - h.seeds.0)) × (a.status ≡ 0) → TellsSought h bytes j (failure runs) a.text.items a.status
-  tells_none runs a none is = rw (is.0, is.1) (none_fails runs none)
+  pub tells_none : (runs : Option ℕ) (c : ℕ) (a : Answer) → ComesTo (may_stop h) h.seeds.1 c → FirstFailing h.leaks h.strategy j.asked h.seeds.0 c None
+      → (a.text.items ≡ front_text h c ++ none_text (c - h.seeds.0)) × (a.status ≡ 0) → TellsSought h bytes j (failure runs) a.text.items a.status
+  tells_none runs c a reach none is = rw (is.0, is.1) (none_fails runs c reach none)
 
-  pub tells_failure : (s : ℕ) (r : Report) (a : Answer) → FirstFailing h.strategy j.asked h.seeds.0 h.seeds.1 (Some (s, r))
-      → (a.text.items ≡ seed_text s h.strategy (choices_of r) ++ report_text (names_of j) r) × (a.status ≡ 1)
-      → TellsSought h bytes j (failure None) a.text.items a.status
-  tells_failure s r a least is = rw (is.0, is.1) (seed_fails s r least)
+  -- behind the seed and the choices of a run that fails stands its report, or what it was cut to
+  pub tells_report : (s : ℕ) (r : Report) (text : List ℕ) (status : ℕ) → FirstFailing h.leaks h.strategy j.asked h.seeds.0 h.seeds.1 (Some (s, r))
+      → TellsReport j r text status → TellsSought h bytes j (failure None) (seed_text s h.strategy (choices_of r) ++ text) status
+  tells_report s r text status least (inl is) = rw (is.0, is.1) (seed_fails s r least)
+  tells_report s r text status least (inr (es, rest, e, is, one)) = rw (is, one) (seed_cut s r es rest least e)
 
-  pub tells_shrunk : (s : ℕ) (r : Report) (runs : ℕ) (a : Answer) → FirstFailing h.strategy j.asked h.seeds.0 h.seeds.1 (Some (s, r))
-      → TellsShrunk h bytes j s r runs a → TellsSought h bytes j (failure (Some runs)) a.text.items a.status
-  tells_shrunk s r runs a least (inl (text, e, answers)) = rw e (seed_shrunk s r runs text a.status least answers)
-  tells_shrunk s r runs a least (inr is) = rw (is.0, is.1) (seed_alone s r runs least)
+  -- or what the shrinking of the choices is answered with
+  pub tells_shrinking : (s : ℕ) (r : Report) (runs : ℕ) (text : List ℕ) (status : ℕ) → FirstFailing h.leaks h.strategy j.asked h.seeds.0 h.seeds.1 (Some (s, r))
+      → TellsShrinking h bytes r runs text status → TellsSought h bytes j (failure (Some runs)) (seed_text s h.strategy (choices_of r) ++ text) status
+  tells_shrinking s r runs text status least (inl answers) = seed_shrunk s r runs text status least answers
+  tells_shrinking s r runs text status least (inr is) = rw (is.0, is.1) (seed_alone s r runs least)
 
-  pub tells_rows : (xs : List rows.Row) (a : Answer) → Tallies h.strategy j.asked h.seeds.0 h.seeds.1 xs
-      → (a.text.items ≡ strategy_text h.strategy ++ flat_map (row_text (names_of j)) xs) × (a.status ≡ rows_status xs) → TellsSought h bytes j outcomes a.text.items a.status
-  tells_rows xs a counted is = rw (is.0, is.1) (tallied xs counted)
+  -- something may be told behind the seed of a run that fails
+  pub may_be_told : (s : ℕ) (r : Report) (runs : Option ℕ) → FirstFailing h.leaks h.strategy j.asked h.seeds.0 h.seeds.1 (Some (s, r))
+      → (text : List ℕ) × (status : ℕ) × TellsSought h bytes j (failure runs) (seed_text s h.strategy (choices_of r) ++ text) status
+  may_be_told s r None least = (report_text (names_of j) r, 1, seed_fails s r least)
+  may_be_told s r (Some runs) least = (no_memory_text, 2, seed_alone s r runs least)
+
+  pub tells_rows : (c : ℕ) (xs : List rows.Row) (a : Answer) → ComesTo (may_stop h) h.seeds.1 c → Tallies h.strategy j.asked h.seeds.0 c xs
+      → (a.text.items ≡ front_text h c ++ strategy_text h.strategy ++ flat_map (row_text (names_of j)) xs) × (a.status ≡ rows_status xs)
+      → TellsSought h bytes j outcomes a.text.items a.status
+  tells_rows c xs a reach counted is = rw (is.0, is.1) (tallied c xs reach counted)

@@ -1,16 +1,19 @@
 -- The rows of answers, for texts and statuses that are equal to theirs.
-use Rattle.std.proofs.Common.{◌≡◌, ◌++◌, ℕ, zero, Bool, List, Ok, Err, subst}
+use Rattle.std.proofs.Common.{◌≡◌, ◌++◌, ℕ, zero, Bool, List, [], Ok, Err, refl, ap, ◌∙◌, subst, arith}
 use Rattle.std.specs.Prelude.{Result, codes}
+use Rattle.std.proofs.lemmas.Fmt.{decimal_digit}
 use Rattle.pf_fault.specs.Codes.{code_text, refusal_text}
 use Rattle.pf_fault.specs.declared.code.Code.{Code}
+use Rattle.pf_terms.specs.Atoms.{name_of}
 use Rattle.pf_syntax.specs.Module.{Checked}
 use Rattle.pf_model.specs.Shrinking as shrinking
 use Rattle.pf_model.specs.Shrinking.{IsResult}
+use Rattle.pf_model.specs.Text.{report_text}
 use Rattle.pf_model.specs.TermText.{line}
 use Rattle.pf_check.specs.Reads.{Reads, refused, accepted_as}
 use Rattle.pf_request.specs.Module.{ReadModule}
 use Rattle.pf_request.specs.Job.{Job, memory_report}
-use Rattle.pf_command.specs.Answers.{AnswersBy, IsModuleOf, Refuses, Tells, TellsResult, source_refused, job_refused, told, result, out_of_memory}
+use Rattle.pf_command.specs.Answers.{AnswersBy, IsModuleOf, Refuses, no_memory_text, Tells, TellsResult, source_refused, job_refused, told, result, out_of_memory}
 use Rattle.pf_command.specs.Checks.{Checks, Explains, is_module, is_refused}
 use Rattle.pf_command.specs.declared.answer.Answer.{Answer}
 
@@ -34,12 +37,14 @@ tells_result j atoms x y a is e f tells =
     let names : TellsResult j.asked.code.atoms y a = subst (λ l. TellsResult l y a) f (subst (λ z. TellsResult atoms z a) e tells) in
     rw (names.0, names.1) (result y is)
 
+-- the report of a run without memory
+pub memory_text : (name : ℕ → List ℕ) → report_text name memory_report ≡ no_memory_text
+memory_text name = ap (λ d. line (codes "memory") ++ line (codes "steps " ++ d) ++ line (codes "no verdict")) (decimal_digit 0 (omega arith))
+
 -- or that memory ran out within a run
-pub tells_no_memory : (j : Job) (atoms : List (List ℕ)) (a : Answer) → j.asked.runs ≡ zero → atoms ≡ j.asked.code.atoms
-    → TellsResult atoms (shrinking.report memory_report) a → Tells j a.text.items a.status
-tells_no_memory j atoms a run f tells =
-    let names : TellsResult j.asked.code.atoms (shrinking.report memory_report) a = subst (λ l. TellsResult l (shrinking.report memory_report) a) f tells in
-    rw (names.0, names.1) (out_of_memory run)
+pub tells_no_memory : (j : Job) (atoms : List (List ℕ)) (a : Answer) → j.asked.runs ≡ zero → TellsResult atoms (shrinking.report memory_report) a
+    → Tells j a.text.items a.status
+tells_no_memory j atoms a run tells = rw (tells.0 ∙ memory_text (name_of atoms), tells.1) (out_of_memory [] run (λ r means. (r.events, refl)))
 
 pub row_module : (explain : Bool) (m : Checked) (bytes text : List ℕ) (status : ℕ) → Reads bytes (accepted_as m)
     → text ≡ line (codes "ok") → status ≡ 0 → Checks explain bytes text status

@@ -1,20 +1,24 @@
 -- What a source is answered with of which a run or a shrinking is asked for: the text that goes out and the status.
-use Rattle.std.specs.Prelude.{◌≡◌, ℕ, zero, Bool, true, false, List, Option, None, Some, Result, Ok, Err}
+use Rattle.std.specs.Prelude.{◌≡◌, ◌⊎◌, ℕ, zero, Bool, true, false, List, ◌++◌, Option, None, Some, Result, Ok, Err, codes}
 use Rattle.pf_fault.specs.Codes.{code_text, refusal_text}
 use Rattle.pf_fault.specs.declared.code.Code.{Code}
 use Rattle.pf_fault.specs.declared.code.Code.TheVariants as code
 use Rattle.pf_terms.specs.Atoms.{name_of}
+use Rattle.pf_model.specs.Meaning as meaning
+use Rattle.pf_model.specs.Meaning.{Event, Means, Report}
 use Rattle.pf_model.specs.Shrinking as shrinking
 use Rattle.pf_model.specs.Shrinking.{IsResult}
 use Rattle.pf_model.specs.TermText.{line}
-use Rattle.pf_model.specs.Text.{report_text, result_text}
+use Rattle.pf_model.specs.Text.{result_text}
+use Rattle.pf_trace.specs.Written.{lines_text}
 use Rattle.pf_request.specs.Module.{ReadModule}
-use Rattle.pf_request.specs.Job.{Job, memory_report}
+use Rattle.pf_request.specs.Job.{Job}
 use Rattle.pf_request.specs.View.{view_of_request}
 use Rattle.pf_request.specs.declared.request.Request.{Request}
 use Rattle.pf_check.specs.Reads.{Reads, refused}
 use Rattle.pf_module.specs.Reading.{IsReadAs}
 use Rattle.pf_sched.specs.Asked.{Asks}
+use Rattle.pf_sched.specs.Waiting.{waiting_in}
 use Rattle.pf_cli.specs.Args.{RunArgs, edition_number}
 use Rattle.pf_cli.specs.declared.args.Edition.{Edition}
 use Rattle.pf_command.specs.declared.answer.Answer.{Answer}
@@ -64,10 +68,30 @@ told_status (shrinking.report r) = run_status r.verdict
 told_status (shrinking.shrunk_to f r) = 1
 told_status shrinking.nothing_fails = 2
 
--- what is told of a job: what it comes to; or of a run that memory ran out within it. Nothing is told of a shrinking without memory
+-- these are the first events of what a job means
+abbrev pub AreFirst : meaning.Job → List Event → Type 0
+AreFirst j es = (r : Report) → Means j r → (rest : List Event) × (r.events ≡ es ++ rest)
+
+-- what is told of a run within which memory ran out: no event, no step and no verdict
+abbrev pub no_memory_text : List ℕ
+no_memory_text = codes "memory\nsteps 0\nno verdict\n"
+
+abbrev pub IsNoMemory : List ℕ → ℕ → Type 0
+IsNoMemory text status = (text ≡ no_memory_text) × (status ≡ 2)
+
+-- the lines of events, and that memory ran out behind them
+abbrev pub cut_text : (ℕ → List ℕ) → List Event → List ℕ
+cut_text name es = lines_text name es ++ no_memory_text
+
+-- what is told of a job: what it comes to; or of a run that memory ran out within it, behind the lines of its first events that went out by
+-- then. Nothing is told of a shrinking without memory
 pub data Tells (j : Job) : List ℕ → ℕ → Type 0 where
   result : (x : shrinking.Result) → IsResult j.asked x → Tells j (told_text (names_of j) x) (told_status x)
-  out_of_memory : j.asked.runs ≡ zero → Tells j (report_text (names_of j) memory_report) 2
+  out_of_memory : (es : List Event) → j.asked.runs ≡ zero → AreFirst j.asked es → Tells j (cut_text (names_of j) es) 2
+
+-- what was counted stays, or it is how many processes still wait at the end of the run of a job though its root returned
+abbrev pub Waits : Job → (old new : ℕ) → Type 0
+Waits j old new = (new ≡ old) ⊎ ((r : Report) × Means j.asked r × (new ≡ waiting_in r))
 
 -- a source of these bytes, of which a run or a shrinking is asked for, is answered with this text and this status
 abbrev pub Answers : RunArgs → (bytes text : List ℕ) → ℕ → Type 0

@@ -7,7 +7,8 @@ use Rattle.pf_request.specs.Request.{Request, run}
 use Rattle.pf_request.specs.Job.{Job}
 use Rattle.pf_sched.specs.Asked.{Asks}
 use Rattle.pf_strategy.specs.Runs.{MeansByPriorities}
-use Rattle.pf_cli.specs.Args.{RunArgs}
+use Rattle.pf_chart.specs.declared.manner.Manner.{Manner}
+use Rattle.pf_cli.specs.Args.{ChartArgs, RunArgs}
 use Rattle.pf_command.specs.Answers.{AnswersBy, IsModuleOf, Tells}
 use Rattle.pf_command.specs.Charts.{Draws}
 use Rattle.pf_command.specs.Hunts.{choices_of}
@@ -29,6 +30,9 @@ pub data AsksOfRun (a : RunArgs) (m : ReadModule) : Result Job Code → Type 0 w
 abbrev pub RunAnswers : RunArgs → (bytes text : List ℕ) → ℕ → Type 0
 RunAnswers a = AnswersBy (AsksOfRun a) Tells
 
--- and one of which the chart of a run is asked for with these
-abbrev pub DrawnAnswers : RunArgs → (bytes text : List ℕ) → ℕ → Type 0
-DrawnAnswers a = AnswersBy (AsksOfRun a) (Draws a.request.root)
+-- and one of which a chart is asked for with these
+abbrev pub manner_of : ChartArgs → Manner
+manner_of a = record { compact = a.compact; page = a.page }
+
+abbrev pub DrawnAnswers : ChartArgs → (bytes text : List ℕ) → ℕ → Type 0
+DrawnAnswers a = AnswersBy (AsksOfRun a.run) (Draws a.run.request.root (manner_of a))

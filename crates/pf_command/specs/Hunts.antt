@@ -1,23 +1,25 @@
 -- What a source is answered with whose runs by many seeds are asked for: the text that goes out and the status.
-use Rattle.std.specs.Prelude.{◌≡◌, ◌⊎◌, ℕ, ◌-◌, Bool, true, false, if◌then◌else◌, List, [], ◌++◌, map, flat_map, codes, Option, None, Some, Result, Ok, Err}
+use Rattle.std.specs.Prelude.{◌≡◌, ◌⊎◌, ℕ, ◌-◌, ◌==◌, Bool, true, false, if◌then◌else◌, is_some, List, [], ◌++◌, map, flat_map, codes, Option, None, Some, Result, Ok, Err}
 use Rattle.std.specs.List.{list_any}
 use Rattle.std.specs.Fmt.{decimal}
 use Rattle.pf_fault.specs.declared.code.Code.{Code}
-use Rattle.pf_model.specs.Meaning.{Report}
+use Rattle.pf_model.specs.Meaning.{Event, Report}
 use Rattle.pf_model.specs.Shrinking.{is_failure}
 use Rattle.pf_model.specs.TermText.{line}
 use Rattle.pf_model.specs.Text.{outcome_text, report_text, schedule_text}
 use Rattle.pf_request.specs.Module.{ReadModule}
 use Rattle.pf_request.specs.Request.{shrink}
-use Rattle.pf_request.specs.Job.{Job, memory_report}
+use Rattle.pf_request.specs.Job.{Job}
 use Rattle.pf_sched.specs.Asked.{Asks}
 use Rattle.pf_strategy.specs.declared.strategy.Strategy.{Strategy}
 use Rattle.pf_strategy.specs.declared.strategy.Strategy.TheVariants.{Uniform, Priorities}
-use Rattle.pf_seeds.specs.Hunts.{FirstFailing, Tallies}
+use Rattle.pf_seeds.specs.Hunts.{ComesTo, FirstFailing, Tallies}
 use Rattle.pf_seeds.specs.Rows.{Row}
+use Rattle.pf_seeds.specs.Views.{failure_of}
 use Rattle.pf_cli.specs.Args.{HuntArgs, RunArgs, Sought, failure, outcomes}
-use Rattle.pf_command.specs.declared.answer.Answer.{Answer}
-use Rattle.pf_command.specs.Answers.{Answers, AnswersBy, AsksOf, names_of}
+use Rattle.pf_command.specs.declared.ending.HuntEnd.{HuntEnd}
+use Rattle.pf_command.specs.declared.ending.HuntEnd.TheVariants.{Told, Found}
+use Rattle.pf_command.specs.Answers.{Answers, AnswersBy, AsksOf, IsModuleOf, IsNoMemory, cut_text, names_of, no_memory_text}
 
 -- ---- what is asked for
 
@@ -44,6 +46,17 @@ pub data AsksFor (h : HuntArgs) : Sought → ReadModule → Result Job Code → 
 -- the choices of a run, event by event: by them as a schedule it runs so again
 abbrev pub choices_of : Report → List ℕ
 choices_of r = map (λ e. e.choice) r.events
+
+-- a hunt for a time may stop before its end
+abbrev pub may_stop : HuntArgs → Bool
+may_stop h = is_some h.time
+
+abbrev pub stopped_text : (seeds : ℕ) → List ℕ
+stopped_text seeds = codes "stopped behind " ++ decimal seeds ++ codes " seeds\n"
+
+-- in front of what is told of the seeds to before c stands that the hunt stopped there, unless these are all
+abbrev pub front_text : HuntArgs → (c : ℕ) → List ℕ
+front_text h c = if c == h.seeds.1 then [] else stopped_text (c - h.seeds.0)
 
 abbrev pub none_text : (seeds : ℕ) → List ℕ
 none_text seeds = codes "no failure in " ++ decimal seeds ++ codes " seeds\n"
@@ -74,22 +87,25 @@ rows_status rows = if list_any (λ x. is_failure x.verdict) rows then 1 else 0
 
 -- TellsSought h bytes j sought text status: what is told of the runs of a job by the seeds, by what is sought, if the source has these bytes
 pub data TellsSought (h : HuntArgs) (bytes : List ℕ) (j : Job) : Sought → List ℕ → ℕ → Type 0 where
-  -- no run fails
-  none_fails : (runs : Option ℕ) → FirstFailing h.strategy j.asked h.seeds.0 h.seeds.1 None
-      → TellsSought h bytes j (failure runs) (none_text (h.seeds.1 - h.seeds.0)) 0
+  -- no run fails of the seeds that it came to
+  none_fails : (runs : Option ℕ) (c : ℕ) → ComesTo (may_stop h) h.seeds.1 c → FirstFailing h.leaks h.strategy j.asked h.seeds.0 c None
+      → TellsSought h bytes j (failure runs) (front_text h c ++ none_text (c - h.seeds.0)) 0
   -- the least seed whose run fails, the choices of that run, and its report
-  seed_fails : (s : ℕ) (r : Report) → FirstFailing h.strategy j.asked h.seeds.0 h.seeds.1 (Some (s, r))
+  seed_fails : (s : ℕ) (r : Report) → FirstFailing h.leaks h.strategy j.asked h.seeds.0 h.seeds.1 (Some (s, r))
       → TellsSought h bytes j (failure None) (seed_text s h.strategy (choices_of r) ++ report_text (names_of j) r) 1
+  -- or, if memory ran out within the report, the lines of its first events that went out by then, and that it did
+  seed_cut : (s : ℕ) (r : Report) (es rest : List Event) → FirstFailing h.leaks h.strategy j.asked h.seeds.0 h.seeds.1 (Some (s, r)) → r.events ≡ es ++ rest
+      → TellsSought h bytes j (failure None) (seed_text s h.strategy (choices_of r) ++ cut_text (names_of j) es) 2
   -- or what the shrinking of these choices is answered with
-  seed_shrunk : (s : ℕ) (r : Report) (runs : ℕ) (text : List ℕ) (status : ℕ) → FirstFailing h.strategy j.asked h.seeds.0 h.seeds.1 (Some (s, r))
+  seed_shrunk : (s : ℕ) (r : Report) (runs : ℕ) (text : List ℕ) (status : ℕ) → FirstFailing h.leaks h.strategy j.asked h.seeds.0 h.seeds.1 (Some (s, r))
       → Answers (shrinking_of h (choices_of r) runs) bytes text status
       → TellsSought h bytes j (failure (Some runs)) (seed_text s h.strategy (choices_of r) ++ text) status
   -- or, if memory ran out within the shrinking, that it did
-  seed_alone : (s : ℕ) (r : Report) (runs : ℕ) → FirstFailing h.strategy j.asked h.seeds.0 h.seeds.1 (Some (s, r))
-      → TellsSought h bytes j (failure (Some runs)) (seed_text s h.strategy (choices_of r) ++ report_text (names_of j) memory_report) 2
-  -- the strategy, and each outcome that is met
-  tallied : (rows : List Row) → Tallies h.strategy j.asked h.seeds.0 h.seeds.1 rows
-      → TellsSought h bytes j outcomes (strategy_text h.strategy ++ flat_map (row_text (names_of j)) rows) (rows_status rows)
+  seed_alone : (s : ℕ) (r : Report) (runs : ℕ) → FirstFailing h.leaks h.strategy j.asked h.seeds.0 h.seeds.1 (Some (s, r))
+      → TellsSought h bytes j (failure (Some runs)) (seed_text s h.strategy (choices_of r) ++ no_memory_text) 2
+  -- the strategy, and each outcome that is met by the seeds that it came to
+  tallied : (c : ℕ) (rows : List Row) → ComesTo (may_stop h) h.seeds.1 c → Tallies h.strategy j.asked h.seeds.0 c rows
+      → TellsSought h bytes j outcomes (front_text h c ++ strategy_text h.strategy ++ flat_map (row_text (names_of j)) rows) (rows_status rows)
 
 -- a source of these bytes, of whose runs by many seeds this is sought, is answered with this text and this status
 abbrev pub SoughtAnswers : HuntArgs → Sought → (bytes text : List ℕ) → ℕ → Type 0
@@ -98,10 +114,37 @@ SoughtAnswers h sought bytes = AnswersBy (AsksFor h sought) (λ j. TellsSought h
 abbrev pub HuntAnswers : HuntArgs → (bytes text : List ℕ) → ℕ → Type 0
 HuntAnswers h = SoughtAnswers h h.sought
 
--- ---- the code's own answers
+-- ---- what a hunt comes to before it is told
 
--- the answer tells a seed with the choices of its run, and then what the shrinking of these is answered with, or that memory ran out within it
-abbrev pub TellsShrunk : HuntArgs → (bytes : List ℕ) → Job → ℕ → Report → (runs : ℕ) → Answer → Type 0
-TellsShrunk h bytes j s r runs a =
-    ((text : List ℕ) × (a.text.items ≡ seed_text s h.strategy (choices_of r) ++ text) × Answers (shrinking_of h (choices_of r) runs) bytes text a.status)
-    ⊎ ((a.text.items ≡ seed_text s h.strategy (choices_of r) ++ report_text (names_of j) memory_report) × (a.status ≡ 2))
+-- what may be said of the end of a hunt over the runs of a source's job: its answer; or, where a run fails, that
+abbrev pub MaySay : HuntArgs → (bytes : List ℕ) → HuntEnd → List ℕ → ℕ → Type 0
+MaySay h bytes (Told a) text status = (text ≡ a.text.items) × (status ≡ a.status)
+MaySay h bytes (Found f) text status = TellsSought h bytes f.job (failure f.runs) text status
+
+-- it is a run that fails, the first of the module of the source, or an answer
+abbrev pub IsFound : HuntArgs → (bytes : List ℕ) → HuntEnd → Type 0
+IsFound h bytes (Told a) = Unit {0}
+IsFound h bytes (Found f) =
+    IsModuleOf bytes f.«module» × FirstFailing h.leaks h.strategy f.job.asked h.seeds.0 h.seeds.1 (Some (failure_of f.failure))
+
+-- whatever may be said of it is told of the runs of this job
+abbrev pub TellsAs : HuntArgs → (bytes : List ℕ) → Job → Sought → HuntEnd → Type 0
+TellsAs h bytes j sought x =
+    IsFound h bytes x × ((text : List ℕ) (status : ℕ) → MaySay h bytes x text status → TellsSought h bytes j sought text status)
+
+-- so a source of these bytes may be answered
+abbrev pub EndsAs : HuntArgs → Sought → (bytes : List ℕ) → HuntEnd → Type 0
+EndsAs h sought bytes x = IsFound h bytes x × ((text : List ℕ) (status : ℕ) → MaySay h bytes x text status → SoughtAnswers h sought bytes text status)
+
+-- ---- the code's own words
+
+-- what is told of a run that fails behind its choices: its report; or the lines of its first events, and that memory ran out
+abbrev pub TellsReport : Job → Report → List ℕ → ℕ → Type 0
+TellsReport j r text status =
+    ((text ≡ report_text (names_of j) r) × (status ≡ 1))
+    ⊎ ((es : List Event) × (rest : List Event) × (r.events ≡ es ++ rest) × (text ≡ cut_text (names_of j) es) × (status ≡ 2))
+
+-- what the shrinking of its choices is answered with; or that memory ran out within it
+abbrev pub TellsShrinking : HuntArgs → (bytes : List ℕ) → Report → (runs : ℕ) → List ℕ → ℕ → Type 0
+TellsShrinking h bytes r runs text status =
+    Answers (shrinking_of h (choices_of r) runs) bytes text status ⊎ IsNoMemory text status

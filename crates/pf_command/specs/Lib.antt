@@ -4,3 +4,4 @@ pub mod Charts
 pub mod Guided
 pub mod Checks
 pub mod Streams
+pub mod Waiting

@@ -1,11 +1,13 @@
 -- What goes out between a reader and a writer, of which it is said what answers which bytes.
-use Rattle.std.specs.Prelude.{◌≡◌, ◌≤◌, ◌+◌, ℕ, List, length, take, Option, IfSome}
+use Rattle.std.specs.Prelude.{◌≡◌, ◌≤◌, ◌+◌, ℕ, List, length, take, Option, IfSome, Result, Ok, Err}
 use Rattle.std.specs.Io.KnownBytes.{Appends, Consumes}
 use Rattle.pf_fault.specs.declared.fault.OrNoMemory.{OrNoMemory}
 use Rattle.pf_fault.specs.declared.fault.OrNoMemory.TheVariants.{NoMemory, Fault}
-use Rattle.pf_terms.specs.Streams.{AppendsFront}
+use Rattle.pf_terms.specs.Streams.{AppendsFront, CountsWrite}
 use Rattle.pf_terms.specs.declared.stream.StreamFault.{StreamFault}
 use Rattle.pf_terms.specs.declared.stream.StreamFault.TheVariants.{Read, Write}
+use Rattle.pf_model.specs.TermText.{line}
+use Rattle.pf_command.specs.declared.answer.Answer.{Answer}
 use Rattle.pf_command.specs.declared.serving.TheConstants.{MOST_BYTES}
 
 -- a reader and a writer: what is still to be read and what was written, if it is known, and how many calls of each failed
@@ -49,3 +51,24 @@ abbrev pub Leaves : OrNoMemory StreamFault → Answering → (old new : Streams)
 Leaves NoMemory P old new = NoneFailed old new × (new.written ≡ old.written)
 Leaves (Fault (Read e)) P old new = (new.failed_reads ≡ old.failed_reads + 1) × (new.failed_writes ≡ old.failed_writes) × (new.written ≡ old.written)
 Leaves (Fault (Write e)) P old new = (new.failed_reads ≡ old.failed_reads) × (new.failed_writes ≡ old.failed_writes + 1) × AnsweredInPart P old new
+
+-- ---- within a command
+
+-- what goes out of a text that may be told, with its status: all of it; or a beginning, where a write failed and was counted
+abbrev pub Prints : (may : List ℕ → ℕ → Type 0) → (written_old written_new : Option (List ℕ)) → (failed_old failed_new : ℕ) → Result ℕ StreamFault → Type 0
+Prints P w0 w1 n0 n1 (Ok status) = (text : List ℕ) × P text status × Appends w0 w1 text × (n1 ≡ n0)
+Prints P w0 w1 n0 n1 (Err f) = (text : List ℕ) × (status : ℕ) × P text status × AppendsFront w0 w1 text × CountsWrite f n0 n1
+
+-- the same; or memory ran out before anything went out
+abbrev pub Sends : (may : List ℕ → ℕ → Type 0) → (written_old written_new : Option (List ℕ)) → (failed_old failed_new : ℕ) → Result ℕ (OrNoMemory StreamFault) → Type 0
+Sends P w0 w1 n0 n1 (Ok status) = Prints P w0 w1 n0 n1 (Ok status)
+Sends P w0 w1 n0 n1 (Err NoMemory) = (w1 ≡ w0) × (n1 ≡ n0)
+Sends P w0 w1 n0 n1 (Err (Fault f)) = Prints P w0 w1 n0 n1 (Err f)
+
+-- this is the text of an answer, and its status
+abbrev pub IsAnswer : Answer → List ℕ → ℕ → Type 0
+IsAnswer a text status = (text ≡ a.text.items) × (status ≡ a.status)
+
+-- and these are words on a line of their own, with the status of what is refused
+abbrev pub IsRefused : (words : List ℕ) → List ℕ → ℕ → Type 0
+IsRefused words text status = (text ≡ line words) × (status ≡ 2)

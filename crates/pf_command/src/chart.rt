@@ -5,15 +5,15 @@ ghost use Rattle.pf_model.specs.Reports.{report_of};
 ghost use Rattle.pf_model.specs.Shrinking.{IsResult, by_schedule};
 ghost use Rattle.pf_sched.specs.Views.{result_of};
 ghost use Rattle.pf_command.specs.Answers.{IsModuleOf, run_args};
-ghost use Rattle.pf_cli.specs.Args.{view_of_run_args};
+ghost use Rattle.pf_cli.specs.Args.{view_of_chart_args};
 ghost use Rattle.pf_command.specs.Charts.{ChartAnswers, Draws, DrawsMeaning, DrawsRun};
-ghost use Rattle.pf_command.specs.Guided.{DrawnAnswers};
+ghost use Rattle.pf_command.specs.Guided.{DrawnAnswers, manner_of};
 
 use crate::answer::{Answer, read_source, refused_at, refused_by_code, run_status};
 use crate::guided::scheduled;
 use crate::serving::Answering;
-use pf_chart::put_chart;
-use pf_cli::{Edition, RunArgs};
+use pf_chart::{Manner, put_chart};
+use pf_cli::{ChartArgs, Edition};
 use pf_fault::{Code, NoMemory, OrNoMemory};
 use pf_model::report::Report;
 use pf_module::ReadModule;
@@ -26,79 +26,97 @@ use std::alloc::Global;
 use std::sync::Arc;
 
 /// The chart of a run, with the status of its verdict.
-fn draw_run(alloc: Global, atoms: &AtomTable, root: &[u8], run: &Report) -> Result<Answer, NoMemory>
-    ensures { IfOk result (DrawsRun atoms.now root.now (report_of run.now)) }
+fn draw_run(
+    alloc: Global,
+    atoms: &AtomTable,
+    root: &[u8],
+    manner: Manner,
+    run: &Report,
+) -> Result<Answer, NoMemory>
+    ensures { IfOk result (DrawsRun atoms.now root.now manner (report_of run.now)) }
 {
     let mut text = Vec::new(alloc);
-    put_chart(alloc, &mut text, atoms, root, run)?;
+    put_chart(alloc, &mut text, atoms, root, run, manner)?;
     let status = run_status(run.verdict);
     Ok(Answer { text, status })
 }
 
 /// The chart of a job that is one run, which is made with its events.
-fn draw_one_run(alloc: Global, root: &[u8], job: &Job) -> Result<Answer, NoMemory>
+fn draw_one_run(alloc: Global, root: &[u8], manner: Manner, job: &Job) -> Result<Answer, NoMemory>
     requires { job.now.asked.runs ≡ zero }
-    ensures { IfOk result (DrawsMeaning job.now.asked root.now) }
+    ensures { IfOk result (DrawsMeaning job.now.asked root.now manner) }
 {
     let run = report_of_run(alloc, job, &mut Scratch::new(alloc))?;
-    draw_run(alloc, job.module().atoms(), root, &run)
+    draw_run(alloc, job.module().atoms(), root, manner, &run)
 }
 
 /// The chart of a job's run by this schedule, which is made with its events: what is filed has none.
 fn draw_by_schedule(
     alloc: Global,
     root: &[u8],
+    manner: Manner,
     job: &Job,
     schedule: &[u32],
 ) -> Result<Answer, NoMemory>
-    ensures { IfOk result (DrawsMeaning (by_schedule job.now.asked schedule.now) root.now) }
+    ensures { IfOk result (DrawsMeaning (by_schedule job.now.asked schedule.now) root.now manner) }
 {
     let run = report_by_schedule(alloc, job, schedule, &mut Scratch::new(alloc))?;
-    draw_run(alloc, job.module().atoms(), root, &run)
+    draw_run(alloc, job.module().atoms(), root, manner, &run)
 }
 
 /// The chart of what a shrinking came to: of the run by the schedule that it found. If the given schedule doesn't fail, that is refused.
-fn draw_result(alloc: Global, root: &[u8], job: &Job, came: &JobResult) -> Result<Answer, NoMemory>
+fn draw_result(
+    alloc: Global,
+    root: &[u8],
+    manner: Manner,
+    job: &Job,
+    came: &JobResult,
+) -> Result<Answer, NoMemory>
     requires shrinks { 0 < job.now.asked.runs }
     requires result { IsResult job.now.asked (result_of came.now) }
-    ensures { IfOk result (λ a. Draws root.now job.now a.text.items a.status) }
+    ensures { IfOk result (λ a. Draws root.now manner job.now a.text.items a.status) }
 {
     match came {
         JobResult::Report(_) => unreachable!(),
-        JobResult::Shrunk { schedule, .. } => draw_by_schedule(alloc, root, job, schedule),
+        JobResult::Shrunk { schedule, .. } => draw_by_schedule(alloc, root, manner, job, schedule),
         JobResult::NothingFails => refused_by_code(alloc, Code::NothingFails),
     }
 }
 
 /// The chart of a shrinking whose runs are over. If memory ran out within them, there is none.
-fn draw_finished(alloc: Global, root: &[u8], finished: &Finished) -> Result<Answer, NoMemory>
+fn draw_finished(
+    alloc: Global,
+    root: &[u8],
+    manner: Manner,
+    finished: &Finished,
+) -> Result<Answer, NoMemory>
     requires { 0 < finished.now.job.asked.runs }
-    ensures { IfOk result (λ a. Draws root.now finished.now.job a.text.items a.status) }
+    ensures { IfOk result (λ a. Draws root.now manner finished.now.job a.text.items a.status) }
 {
     match finished.result() {
-        Some(came) => draw_result(alloc, root, finished.job(), came),
+        Some(came) => draw_result(alloc, root, manner, finished.job(), came),
         None => Err(NoMemory),
     }
 }
 
 /// The chart of a shrinking, which is run to its end.
-fn draw_shrinking(alloc: Global, root: &[u8], job: Job) -> Result<Answer, NoMemory>
+fn draw_shrinking(alloc: Global, root: &[u8], manner: Manner, job: Job) -> Result<Answer, NoMemory>
     requires { 0 < job.asked.runs }
-    ensures { IfOk result (λ a. Draws root.now job a.text.items a.status) }
+    ensures { IfOk result (λ a. Draws root.now manner job a.text.items a.status) }
 {
     let job = Arc::new(alloc, job)?;
     let finished = run_to_end(alloc, job, &mut Scratch::new(alloc), &mut Silent)?;
-    draw_finished(alloc, root, &finished)
+    draw_finished(alloc, root, manner, &finished)
 }
 
 /// The chart of a job.
-fn draw_job(alloc: Global, root: &[u8], job: Job) -> Result<Answer, NoMemory>
-    ensures { IfOk result (λ a. Draws root.now job a.text.items a.status) }
+fn draw_job(alloc: Global, root: &[u8], manner: Manner, job: Job) -> Result<Answer, NoMemory>
+    ensures { IfOk result (λ a. Draws root.now manner job a.text.items a.status) }
 {
     if job.runs() > 0 {
-        draw_shrinking(alloc, root, job)
+        draw_shrinking(alloc, root, manner, job)
     } else {
-        draw_one_run(alloc, root, &job)
+        draw_one_run(alloc, root, manner, &job)
     }
 }
 
@@ -107,33 +125,45 @@ fn draw_module(
     alloc: Global,
     request: &Request,
     edition: Edition,
+    manner: Manner,
     module: ReadModule,
 ) -> Result<Answer, NoMemory>
     ensures { IfOk result (λ a. (bytes : List ℕ) → IsModuleOf bytes «module»
-        → ChartAnswers (run_args request.now edition) bytes a.text.items a.status) }
+        → ChartAnswers manner (run_args request.now edition) bytes a.text.items a.status) }
 {
     match Job::new(alloc, module, request, edition.number()) {
-        Ok(job) => draw_job(alloc, request.root.as_slice(), job),
+        Ok(job) => draw_job(alloc, request.root.as_slice(), manner, job),
         Err(OrNoMemory::Fault(refusal)) => refused_by_code(alloc, refusal.code()),
         Err(OrNoMemory::NoMemory) => Err(NoMemory),
+    }
+}
+
+/// The manner that is asked for.
+fn manner_of(args: &ChartArgs) -> Manner
+    ensures { result ≡ manner_of (view_of_chart_args args.now) }
+{
+    Manner {
+        compact: args.compact,
+        page: args.page,
     }
 }
 
 /// The answer to a module of which the run by the priorities of a seed is asked for.
 fn draw_guided(
     alloc: Global,
-    args: &RunArgs,
+    args: &ChartArgs,
     seed: u64,
     module: ReadModule,
 ) -> Result<Answer, NoMemory>
-    requires { args.now.priorities ≡ Some seed }
+    requires { args.now.run.priorities ≡ Some seed }
     ensures { IfOk result (λ a. (bytes : List ℕ) → IsModuleOf bytes «module»
-        → DrawnAnswers (view_of_run_args args.now) bytes a.text.items a.status) }
+        → DrawnAnswers (view_of_chart_args args.now) bytes a.text.items a.status) }
 {
-    match Job::new(alloc, module.share()?, &args.request, args.edition.number()) {
+    let run = &args.run;
+    match Job::new(alloc, module.share()?, &run.request, run.edition.number()) {
         Ok(job) => {
-            let request = scheduled(alloc, &args.request, &job, seed)?;
-            draw_module(alloc, &request, args.edition, module)
+            let request = scheduled(alloc, &run.request, &job, seed)?;
+            draw_module(alloc, &request, run.edition, manner_of(args), module)
         }
         Err(OrNoMemory::Fault(refusal)) => refused_by_code(alloc, refusal.code()),
         Err(OrNoMemory::NoMemory) => Err(NoMemory),
@@ -141,19 +171,20 @@ fn draw_guided(
 }
 
 /// The answer to a module of which the chart of a run is asked for.
-fn draw_asked(alloc: Global, args: &RunArgs, module: ReadModule) -> Result<Answer, NoMemory>
+fn draw_asked(alloc: Global, args: &ChartArgs, module: ReadModule) -> Result<Answer, NoMemory>
     ensures { IfOk result (λ a. (bytes : List ℕ) → IsModuleOf bytes «module»
-        → DrawnAnswers (view_of_run_args args.now) bytes a.text.items a.status) }
+        → DrawnAnswers (view_of_chart_args args.now) bytes a.text.items a.status) }
 {
-    match args.priorities {
+    let run = &args.run;
+    match run.priorities {
         Some(seed) => draw_guided(alloc, args, seed, module),
-        None => draw_module(alloc, &args.request, args.edition, module),
+        None => draw_module(alloc, &run.request, run.edition, manner_of(args), module),
     }
 }
 
 /// The answer to a source of these bytes: the chart of its run, or why there is none.
-fn draw_source(alloc: Global, args: &RunArgs, bytes: Vec<u8>) -> Result<Answer, NoMemory>
-    ensures { IfOk result (λ a. DrawnAnswers (view_of_run_args args.now) bytes.items a.text.items a.status) }
+fn draw_source(alloc: Global, args: &ChartArgs, bytes: Vec<u8>) -> Result<Answer, NoMemory>
+    ensures { IfOk result (λ a. DrawnAnswers (view_of_chart_args args.now) bytes.items a.text.items a.status) }
 {
     match read_source(alloc, bytes) {
         Ok(module) => draw_asked(alloc, args, module),
@@ -165,14 +196,14 @@ fn draw_source(alloc: Global, args: &RunArgs, bytes: Vec<u8>) -> Result<Answer, 
 /// The chart of a run is asked for.
 #[derive(Drop)]
 pub struct Chart<'a> {
-    pub args: &'a RunArgs<'a>,
+    pub args: &'a ChartArgs<'a>,
 }
 
 impl Answering for Chart<'_> {
-    ghost use Rattle.pf_cli.specs.Args.{view_of_run_args};
+    ghost use Rattle.pf_cli.specs.Args.{view_of_chart_args};
     ghost use Rattle.pf_command.specs.Guided.{DrawnAnswers};
 
-    ghost answers = { λ c. DrawnAnswers (view_of_run_args c.args.now) };
+    ghost answers = { λ c. DrawnAnswers (view_of_chart_args c.args.now) };
 
     fn answer(self, alloc: Global, bytes: Vec<u8>) -> Result<Answer, NoMemory> {
         draw_source(alloc, self.args, bytes)

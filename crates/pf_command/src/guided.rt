@@ -7,9 +7,8 @@ ghost use Rattle.pf_request.specs.View.{view_of_request};
 ghost use Rattle.pf_command.specs.Guided.{with_schedule};
 ghost use Rattle.pf_command.specs.Hunts.{choices_of};
 
-use crate::seeds::choices_of;
 use pf_request::{Kind, Request, RunChoices, ShortBytes};
-use pf_sched::{Job, Scratch, report_by_priorities};
+use pf_sched::{Job, Scratch, choices_by_priorities};
 use pf_terms::NoMemory;
 use std::alloc::Global;
 
@@ -36,6 +35,6 @@ pub(crate) fn scheduled(
     ensures { IfOk result (λ q. (r : ReportOf) × MeansByPriorities job.now.asked seed r
         × (view_of_request q ≡ with_schedule (view_of_request request.now) (choices_of r))) }
 {
-    let report = report_by_priorities(alloc, job, seed, &mut Scratch::new(alloc))?;
-    by_schedule(alloc, request, choices_of(alloc, &report)?)
+    let choices = choices_by_priorities(alloc, job, seed, &mut Scratch::new(alloc))?;
+    by_schedule(alloc, request, choices)
 }

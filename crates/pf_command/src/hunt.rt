@@ -2,10 +2,11 @@
 
 ghost use Rattle.std.specs.Prelude.{IfErr, IfOk, OnOk};
 ghost use Rattle.pf_cli.specs.Args.{view_of_hunt_args};
-ghost use Rattle.pf_command.specs.Hunts.{HuntAnswers};
-ghost use Rattle.pf_command.specs.Streams.{Answered, Leaves, NoneFailed, Takes, streams};
+ghost use Rattle.pf_command.specs.Hunts.{EndsAs, HuntAnswers};
+ghost use Rattle.pf_command.specs.Streams.{Answered, Leaves, NoneFailed, Sends, Takes, streams};
 
-use crate::answer::{Answer, read_source, refused_at};
+use crate::answer::{read_source, refused_at};
+use crate::ending::{HuntEnd, print_end};
 use crate::seek::hunt_module;
 use crate::serving::MOST_BYTES;
 use pf_cli::HuntArgs;
@@ -17,23 +18,44 @@ use std::io::{Read, Write};
 use std::sync::ledger::Ledger;
 use std::thread::Threads;
 
-/// The answer to a source of these bytes, by the given number of workers: the least seed that fails, or each outcome; or why no seed was run.
-fn answer_hunt<T: Threads + Sync>(
+/// What it comes to for a source of these bytes, by the given number of workers: an answer, or a run that fails.
+fn end_of_hunt<T: Threads + Sync>(
     rt: &T,
     alloc: Global,
     args: &HuntArgs,
     bytes: Vec<u8>,
     workers: u64,
     seeds: &mut impl pf_seeds::HuntObserver,
-    observer: &mut impl Observer,
-) -> Result<Answer, NoMemory>
-    ensures { IfOk result (λ a. HuntAnswers (view_of_hunt_args args.now) bytes.items a.text.items a.status) }
+) -> Result<HuntEnd, NoMemory>
+    ensures { IfOk result (EndsAs (view_of_hunt_args args.now) (view_of_hunt_args args.now).sought bytes.items) }
 {
     match read_source(alloc, bytes) {
-        Ok(module) => hunt_module(rt, alloc, args, module, workers, seeds, observer),
-        Err(OrNoMemory::Fault(refusal)) => refused_at(alloc, refusal),
+        Ok(module) => hunt_module(rt, alloc, args, module, workers, seeds),
         Err(OrNoMemory::NoMemory) => Err(NoMemory),
+        Err(OrNoMemory::Fault(refusal)) => {
+            let answer = refused_at(alloc, refusal)?;
+            Ok(HuntEnd::Told(answer))
+        }
     }
+}
+
+/// Prints what a source of these bytes is answered with, by the given number of workers.
+fn print_hunt<W: Write, M: Ledger, T: Threads + Sync>(
+    rt: &T,
+    alloc: Global,
+    args: &HuntArgs,
+    bytes: Vec<u8>,
+    workers: u64,
+    writer: &mut Counted<W, M>,
+    seeds: &mut impl pf_seeds::HuntObserver,
+    observer: &mut impl Observer,
+) -> Result<u8, OrNoMemory<StreamFault>>
+    ensures { Sends (HuntAnswers (view_of_hunt_args args.now) bytes.items)
+        (W.contents writer.old.inner) (W.contents writer.new.inner)
+        writer.old.failures.total writer.new.failures.total result }
+{
+    let end = end_of_hunt(rt, alloc, args, bytes, workers, seeds)?;
+    Ok(print_end(alloc, args, end, observer, writer)?)
 }
 
 /// Answers a source whose runs by many seeds are asked for, by n workers: reads at most one byte more than a source may have, writes a
@@ -70,7 +92,5 @@ pub fn hunt_source<R: Read, W: Write, L: Ledger, M: Ledger, T: Threads + Sync>(
         reader.new.failures.total writer.new.failures.total)) }
 {
     let source = reader.take_front(alloc, MOST_BYTES)?;
-    let answer = answer_hunt(rt, alloc, args, source, workers, seeds, observer)?;
-    writer.put(&answer.text)?;
-    Ok(answer.status)
+    print_hunt(rt, alloc, args, source, workers, writer, seeds, observer)
 }

@@ -4,16 +4,21 @@
 mod answer;
 mod chart;
 mod check;
+mod ending;
 mod guided;
 mod hunt;
+mod printing;
 mod run;
 mod seeds;
 mod seek;
 mod serving;
+mod stopping;
+mod waiting;
 
 pub use answer::Answer;
 pub use chart::Chart;
 pub use check::Check;
 pub use hunt::hunt_source;
-pub use run::{Run, Shrink};
+pub use printing::run_source;
+pub use run::Shrink;
 pub use serving::{Answering, MOST_BYTES, serve};

@@ -1,4 +1,4 @@
-//! What a source is answered with of which a run or a shrinking is asked for.
+//! What a source is answered with of which a shrinking is asked for.
 
 ghost use Rattle.std.specs.Prelude.{◌≡◌, List, ℕ, zero, IfOk, Some};
 ghost use Rattle.pf_terms.specs.Atoms.{name_of};
@@ -7,18 +7,15 @@ ghost use Rattle.pf_model.specs.Text.{report_text};
 ghost use Rattle.pf_request.specs.Job.{memory_report};
 ghost use Rattle.pf_trace.specs.Written.{AreWritten, report_in};
 ghost use Rattle.pf_sched.specs.Views.{IsWritten, result_of};
-ghost use Rattle.pf_cli.specs.Args.{view_of_run_args};
 ghost use Rattle.pf_command.specs.Answers.{Answers, IsModuleOf, Tells, TellsResult, run_args};
-ghost use Rattle.pf_command.specs.Guided.{RunAnswers};
 
 use crate::answer::{Answer, FAILED, read_source, refused_at, refused_by_code, run_status};
-use crate::guided::scheduled;
 use crate::serving::Answering;
 use pf_cli::{Edition, RunArgs};
 use pf_fault::{Code, NoMemory, OrNoMemory};
 use pf_module::ReadModule;
 use pf_request::Request;
-use pf_sched::{Finished, Job, JobResult, Observer, Scratch, Silent, memory_report, run_to_end};
+use pf_sched::{Finished, Job, JobResult, Observer, Scratch, memory_report, run_to_end};
 use pf_terms::AtomTable;
 use pf_trace::{WrittenReport, put_found, put_written};
 use std::alloc::Global;
@@ -96,7 +93,11 @@ fn write_finished(alloc: Global, finished: &Finished) -> Result<Answer, NoMemory
 }
 
 /// The answer of a job, which is run to its end.
-fn answer_job(alloc: Global, job: Job, observer: &mut impl Observer) -> Result<Answer, NoMemory>
+pub(crate) fn answer_job(
+    alloc: Global,
+    job: Job,
+    observer: &mut impl Observer,
+) -> Result<Answer, NoMemory>
     ensures { IfOk result (λ a. Tells job a.text.items a.status) }
 {
     let job = Arc::new(alloc, job)?;
@@ -136,66 +137,6 @@ fn answer_source(
         Ok(module) => answer_module(alloc, request, edition, module, observer),
         Err(OrNoMemory::Fault(refusal)) => refused_at(alloc, refusal),
         Err(OrNoMemory::NoMemory) => Err(NoMemory),
-    }
-}
-
-/// The answer to a module of which the run by the priorities of a seed is asked for.
-fn answer_guided(
-    alloc: Global,
-    args: &RunArgs,
-    seed: u64,
-    module: ReadModule,
-) -> Result<Answer, NoMemory>
-    requires { args.now.priorities ≡ Some seed }
-    ensures { IfOk result (λ a. (bytes : List ℕ) → IsModuleOf bytes «module»
-        → RunAnswers (view_of_run_args args.now) bytes a.text.items a.status) }
-{
-    match Job::new(alloc, module.share()?, &args.request, args.edition.number()) {
-        Ok(job) => {
-            let request = scheduled(alloc, &args.request, &job, seed)?;
-            answer_module(alloc, &request, args.edition, module, &mut Silent)
-        }
-        Err(OrNoMemory::Fault(refusal)) => refused_by_code(alloc, refusal.code()),
-        Err(OrNoMemory::NoMemory) => Err(NoMemory),
-    }
-}
-
-/// The answer to a module of which a run is asked for.
-fn answer_run(alloc: Global, args: &RunArgs, module: ReadModule) -> Result<Answer, NoMemory>
-    ensures { IfOk result (λ a. (bytes : List ℕ) → IsModuleOf bytes «module»
-        → RunAnswers (view_of_run_args args.now) bytes a.text.items a.status) }
-{
-    match args.priorities {
-        Some(seed) => answer_guided(alloc, args, seed, module),
-        None => answer_module(alloc, &args.request, args.edition, module, &mut Silent),
-    }
-}
-
-/// The answer to a source of these bytes of which a run is asked for.
-fn answer_run_source(alloc: Global, args: &RunArgs, bytes: Vec<u8>) -> Result<Answer, NoMemory>
-    ensures { IfOk result (λ a. RunAnswers (view_of_run_args args.now) bytes.items a.text.items a.status) }
-{
-    match read_source(alloc, bytes) {
-        Ok(module) => answer_run(alloc, args, module),
-        Err(OrNoMemory::Fault(refusal)) => refused_at(alloc, refusal),
-        Err(OrNoMemory::NoMemory) => Err(NoMemory),
-    }
-}
-
-/// A run is asked for.
-#[derive(Drop)]
-pub struct Run<'a> {
-    pub args: &'a RunArgs<'a>,
-}
-
-impl Answering for Run<'_> {
-    ghost use Rattle.pf_cli.specs.Args.{view_of_run_args};
-    ghost use Rattle.pf_command.specs.Guided.{RunAnswers};
-
-    ghost answers = { λ c. RunAnswers (view_of_run_args c.args.now) };
-
-    fn answer(self, alloc: Global, bytes: Vec<u8>) -> Result<Answer, NoMemory> {
-        answer_run_source(alloc, self.args, bytes)
     }
 }
 

@@ -1,22 +1,21 @@
 //! The texts of hunts over seeds.
 
-ghost use Rattle.std.specs.Prelude.{◌≡◌, ◌++◌, IfOk, OnOk, codes, flat_map, map, if◌then◌else◌};
-ghost use Rattle.std.specs.Fmt.{decimal};
+ghost use Rattle.std.specs.Prelude.{◌≡◌, ◌++◌, IfOk, OnOk, flat_map, map, if◌then◌else◌};
 ghost use Rattle.std.specs.List.{list_any};
 ghost use Rattle.pf_terms.specs.Atoms.{name_of};
 ghost use Rattle.pf_model.specs.Reports.{outcome_of, report_of};
 ghost use Rattle.pf_model.specs.Shrinking.{is_failure};
 ghost use Rattle.pf_model.specs.TermText.{line};
-ghost use Rattle.pf_model.specs.Text.{outcome_text, schedule_text};
+ghost use Rattle.pf_model.specs.Text.{outcome_text};
 ghost use Rattle.pf_seeds.specs.Views.{row_of};
-ghost use Rattle.pf_command.specs.Hunts.{choices_of, none_text, row_text, seed_text, strategy_text, verdict_text};
+ghost use Rattle.pf_command.specs.Hunts.{choices_of, none_text, row_text, strategy_text, verdict_text};
 
 use crate::answer::FAILED;
 use pf_model::report::Report;
 use pf_seeds::{HashedOutcome, Row};
 use pf_strategy::Strategy;
 use pf_terms::{AtomTable, NoMemory};
-use pf_text::{put, put_byte, put_number, put_schedule};
+use pf_text::{put, put_number};
 use pf_trace::put_outcome;
 use std::alloc::Global;
 
@@ -55,39 +54,6 @@ pub(crate) fn put_strategy(out: &mut Vec<u8>, strategy: Strategy) -> Result<(), 
         Strategy::Priorities => put(out, b"strategy pos\n"),
         Strategy::Uniform => Ok(()),
     }
-}
-
-/// Puts the choices of a run, on a line.
-fn put_choices(out: &mut Vec<u8>, choices: &[u32]) -> Result<(), NoMemory>
-    ensures { OnOk result (out.new.items
-        ≡ out.old.items ++ codes "schedule " ++ schedule_text choices.now ++ codes "\n") }
-{
-    put(out, b"schedule ")?;
-    put_schedule(out, choices)?;
-    put_byte(out, b'\n')
-}
-
-/// Puts the seed of a run that fails, on a line.
-fn put_number_of_seed(out: &mut Vec<u8>, seed: u64) -> Result<(), NoMemory>
-    ensures { OnOk result (out.new.items ≡ out.old.items ++ codes "seed " ++ decimal seed ++ codes "\n") }
-{
-    put(out, b"seed ")?;
-    put_number(out, seed)?;
-    put_byte(out, b'\n')
-}
-
-/// Puts the seed of a run that fails, its strategy and its choices, each on a line.
-pub(crate) fn put_seed(
-    out: &mut Vec<u8>,
-    seed: u64,
-    strategy: Strategy,
-    choices: &[u32],
-) -> Result<(), NoMemory>
-    ensures { OnOk result (out.new.items ≡ out.old.items ++ seed_text seed strategy choices.now) }
-{
-    put_number_of_seed(out, seed)?;
-    put_strategy(out, strategy)?;
-    put_choices(out, choices)
 }
 
 /// Puts whether a property holds, before what comes of it.

@@ -3,7 +3,7 @@
 use crate::cure::Cure;
 
 /// By the function of `lists`.
-pub(crate) const LISTS: [Cure; 12] = [
+pub(crate) const LISTS: [Cure; 16] = [
     Cure {
         word: "map",
         says: "The module `lists` isn't here: write the function with its own recursion.",
@@ -76,6 +76,30 @@ pub(crate) const LISTS: [Cure; 12] = [
         instead: "lists:delete(X, Xs)",
         write: "delete(X, Xs)   with   delete(_, []) -> []; delete(X, [X | Rest]) -> Rest; delete(X, [Y | Rest]) -> [Y | delete(X, Rest)].",
     },
+    Cure {
+        word: "all",
+        says: "The module `lists` isn't here: write the function with its own recursion.",
+        instead: "lists:all(fun(X) -> X > 0 end, Xs)",
+        write: "all_positive(Xs)   with   all_positive([]) -> true; all_positive([X | Rest]) -> X > 0 andalso all_positive(Rest).",
+    },
+    Cure {
+        word: "any",
+        says: "The module `lists` isn't here: write the function with its own recursion.",
+        instead: "lists:any(fun(X) -> X > 0 end, Xs)",
+        write: "any_positive(Xs)   with   any_positive([]) -> false; any_positive([X | Rest]) -> X > 0 orelse any_positive(Rest).",
+    },
+    Cure {
+        word: "keydelete",
+        says: "The module `lists` isn't here: write the function with its own recursion.",
+        instead: "lists:keydelete(K, 1, Pairs)",
+        write: "without(K, Pairs)   with   without(_, []) -> []; without(K, [{K, _} | Rest]) -> Rest; without(K, [Pair | Rest]) -> [Pair | without(K, Rest)].",
+    },
+    Cure {
+        word: "sort",
+        says: "The module `lists` isn't here: write the function with its own recursion.",
+        instead: "lists:sort(Xs)",
+        write: "sort(Xs)   with   sort([]) -> []; sort([X | Rest]) -> insert(X, sort(Rest)).   insert(X, [Y | Rest]) when X > Y -> [Y | insert(X, Rest)]; insert(X, Ys) -> [X | Ys].",
+    },
 ];
 
 pub(crate) const OTHER_OF_LISTS: Cure = Cure {
@@ -91,13 +115,13 @@ pub(crate) const ERLANG: [Cure; 4] = [
         word: "send_after",
         says: "There are no timers: let a process of its own send the message when the scheduler chooses.",
         instead: "erlang:send_after(100, self(), tick)",
-        write: "spawn(?MODULE, timer, [self()])   with   timer(P) -> P ! tick.",
+        write: "spawn(?MODULE, timer, [self()])   with   -export([timer/1]).   timer(P) -> P ! tick.",
     },
     Cure {
         word: "start_timer",
         says: "There are no timers: let a process of its own send the message when the scheduler chooses.",
         instead: "erlang:start_timer(100, self(), tick)",
-        write: "spawn(?MODULE, timer, [self()])   with   timer(P) -> P ! tick.",
+        write: "spawn(?MODULE, timer, [self()])   with   -export([timer/1]).   timer(P) -> P ! tick.",
     },
     Cure {
         word: "error",
@@ -150,7 +174,7 @@ pub(crate) const MODULES: [Cure; 11] = [
         word: "supervisor",
         says: "There is no `supervisor`: monitor the process, and spawn it again when it is down.",
         instead: "supervisor:start_link(?MODULE, [])",
-        write: "keep() -> {_, M} = spawn_monitor(?MODULE, worker, []), receive {'DOWN', M, process, _, _} -> keep() end.",
+        write: "keep() -> {_, M} = spawn_monitor(?MODULE, worker, []), receive {'DOWN', M, process, _, _} -> keep() end.   with   -export([worker/0]).",
     },
     Cure {
         word: "maps",
@@ -174,7 +198,7 @@ pub(crate) const MODULES: [Cure; 11] = [
         word: "rand",
         says: "There is no chance but the scheduler's: let two processes race, and take what comes first.",
         instead: "rand:uniform(2)",
-        write: "spawn(?MODULE, coin, [self(), 1]), spawn(?MODULE, coin, [self(), 2]), receive N -> N end   with   coin(P, N) -> P ! N.",
+        write: "spawn(?MODULE, coin, [self(), 1]), spawn(?MODULE, coin, [self(), 2]), receive N -> N end   with   -export([coin/2]).   coin(P, N) -> P ! N.",
     },
     Cure {
         word: "logger",

@@ -37,7 +37,7 @@ pub(crate) const UNDEFINED: [Cure; 17] = [
         word: "send_after",
         says: "There are no timers: let a process of its own send the message when the scheduler chooses.",
         instead: "send_after(100, self(), tick)",
-        write: "spawn(?MODULE, timer, [self()])   with   timer(P) -> P ! tick.",
+        write: "spawn(?MODULE, timer, [self()])   with   -export([timer/1]).   timer(P) -> P ! tick.",
     },
     Cure {
         word: "is_boolean",
@@ -67,19 +67,19 @@ pub(crate) const UNDEFINED: [Cure; 17] = [
         word: "abs",
         says: "There is no `abs`: write both signs.",
         instead: "abs(X)",
-        write: "abs(X)   with   abs(X) when X < 0 -> -X; abs(X) -> X.",
+        write: "distance(X)   with   distance(X) when X < 0 -> -X; distance(X) -> X.",
     },
     Cure {
         word: "max",
-        says: "There is no `max`: write it in this module.",
+        says: "There is no `max`: write a function of this module, by a name of its own.",
         instead: "max(A, B)",
-        write: "max(A, B)   with   max(A, B) when A < B -> B; max(A, _) -> A.",
+        write: "larger(A, B)   with   larger(A, B) when A < B -> B; larger(A, _) -> A.",
     },
     Cure {
         word: "min",
-        says: "There is no `min`: write it in this module.",
+        says: "There is no `min`: write a function of this module, by a name of its own.",
         instead: "min(A, B)",
-        write: "min(A, B)   with   min(A, B) when B < A -> B; min(A, _) -> A.",
+        write: "smaller(A, B)   with   smaller(A, B) when B < A -> B; smaller(A, _) -> A.",
     },
     Cure {
         word: "setelement",

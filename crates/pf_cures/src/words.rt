@@ -13,19 +13,19 @@ pub(crate) const WORDS: [Cure; 16] = [
         word: "after",
         says: "There is no `after`: let a process of its own send a message when the time is over, which the scheduler chooses.",
         instead: "receive {ok, V} -> V after 100 -> late end",
-        write: "spawn(?MODULE, timer, [self()]), receive {ok, V} -> V; timeout -> late end   with   timer(P) -> P ! timeout.",
+        write: "spawn(?MODULE, timer, [self()]), receive {ok, V} -> V; timeout -> late end   with   -export([timer/1]).   timer(P) -> P ! timeout.",
     },
     Cure {
         word: "catch",
         says: "There is no `catch`: let the call run in a process of its own, and receive how that ends.",
         instead: "R = (catch risky(X))",
-        write: "{_, M} = spawn_monitor(?MODULE, risky, [X]), R = receive {'DOWN', M, process, _, Why} -> Why end",
+        write: "{_, M} = spawn_monitor(?MODULE, risky, [X]), R = receive {'DOWN', M, process, _, Why} -> Why end   with   -export([risky/1]).",
     },
     Cure {
         word: "try",
         says: "There is no `try`: let the call run in a process of its own, and receive how that ends.",
         instead: "try risky(X) of _ -> ok catch _:_ -> failed end",
-        write: "{_, M} = spawn_monitor(?MODULE, risky, [X]), receive {'DOWN', M, process, _, normal} -> ok; {'DOWN', M, process, _, _} -> failed end",
+        write: "{_, M} = spawn_monitor(?MODULE, risky, [X]), receive {'DOWN', M, process, _, normal} -> ok; {'DOWN', M, process, _, _} -> failed end   with   -export([risky/1]).",
     },
     Cure {
         word: "begin",

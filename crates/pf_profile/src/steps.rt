@@ -7,7 +7,7 @@ ghost use Rattle.pf_profile.specs.Profile.{run_profile};
 
 use pf_fault::OrNoMemory;
 use pf_terms::{Counted, StreamFault};
-use pf_wire::MOST_BYTES;
+use pf_wire::{Ending, MOST_BYTES};
 use std::alloc::Global;
 use std::hash::RandomState;
 use std::io::{Read, Write};
@@ -15,12 +15,13 @@ use std::sync::ledger::Ledger;
 
 /// Reads at most 64 MiB, piece by piece, answers each command before it waits for more, and gives the status: 2 if a
 /// line is no command, after which nothing is done, and else 0. The workshop of four workers hashes with these
-/// keys, which no answer depends on.
+/// keys, which no answer depends on. The ending is for who says why reading ended.
 pub fn run_steps<R: Read, W: Write, L: Ledger, M: Ledger>(
     alloc: Global,
     keys: RandomState,
     reader: &mut Counted<R, L>,
     writer: &mut Counted<W, M>,
+    ending: &mut Ending,
 ) -> Result<u8, OrNoMemory<StreamFault>>
     ensures answered { IfOk result (λ status. StepsAnswered run_profile (R.remaining reader.old.inner)
         (W.contents writer.old.inner) (W.contents writer.new.inner) status) }
@@ -34,5 +35,5 @@ pub fn run_steps<R: Read, W: Write, L: Ledger, M: Ledger>(
         reader.old.failures.total reader.new.failures.total
         writer.old.failures.total writer.new.failures.total) }
 {
-    pf_wire::run_steps(alloc, keys, reader, writer)
+    pf_wire::run_steps(alloc, keys, reader, writer, ending)
 }

@@ -2,8 +2,12 @@
 #![tactic(auto)]
 
 mod finding;
+mod lacking;
+mod lines;
 mod position;
 mod wording;
 
 pub use finding::{Asked, Reason, find_reason};
+pub use lacking::lacking_sentence;
+pub use lines::line_reason;
 pub use wording::sentence;

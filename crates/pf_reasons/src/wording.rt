@@ -24,7 +24,7 @@ const NO_MEMORY: &str = "memory ran out within the run";
 const MOST: usize = 100_000;
 
 /// A text that is quoted, of which a long one is cut.
-fn quoted(alloc: Global, bytes: &[u8]) -> Result<String, NoMemory> {
+pub(crate) fn quoted(alloc: Global, bytes: &[u8]) -> Result<String, NoMemory> {
     let mut text = String::new(alloc);
     text.push('`')?;
     for byte in bytes.iter().take(60) {

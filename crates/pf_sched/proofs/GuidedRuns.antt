@@ -3,16 +3,14 @@ use Rattle.std.proofs.Common.{◌≡◌, inr, ℕ, zero, suc, ◌+◌, ◌-◌, 
 use Rattle.std.specs.Prelude.{slice_get, take}
 use Rattle.std.proofs.lemmas.List.{length-map}
 use Rattle.std.proofs.lemmas.Option.{same_Some}
-use Rattle.rand_pcg.specs.Lcg.{Lcg}
 use Rattle.pf_model.specs.Module.{Module}
 use Rattle.pf_model.specs.Configuration.{Configuration}
 use Rattle.pf_model.specs.Meaning.{Event, Report, event_of, outcome_of}
 use Rattle.pf_model.specs.Properties.{Outcome, verdict}
 use Rattle.pf_model.specs.Runs.{Actor, Passes, Stops, Transition, enabled, start, transition}
-use Rattle.pf_property.specs.Views.{labels_in}
 use Rattle.pf_property.proofs.Shown.{labels_of_run}
 use Rattle.pf_request.specs.Job.{Job}
-use Rattle.pf_priorities.specs.Priorities.{State, first}
+use Rattle.pf_priorities.specs.Priorities.{first}
 use Rattle.pf_strategy.specs.Keys.{key_of, keys_of}
 use Rattle.pf_strategy.specs.Runs.{GoesBy, MeansByPriorities, later, picked, stays}
 use Rattle.pf_strategy.proofs.Longer.{goes_on}
@@ -124,13 +122,21 @@ module _ (j : Job) (seed : ℕ) where
           ∙ ap (λ n. event k n e.actor e.label) w.counts
           ∙ ap (event k (length (enabled g.last)) e.actor) p.label
 
-  -- as many events as the limit has steps end it
-  pub ends_by_limit : (es : List Event) (x : Guided) (g : GoingBy j seed es x) → limit ≤ length es → Stops (limit - x.system.steps) g.last
-  ends_by_limit es x g all =
+  -- each event is a step at least
+  as_many_events : (es : List Event) (x : Guided) → GoingBy j seed es x → length es ≤ x.system.steps
+  as_many_events es x g =
       let count : length es ≡ length g.transitions = ap length g.events ∙ length-map g.transitions event_of in
       let few = as_many_steps m (by_numbers (choices g.transitions)) limit c g.transitions g.last x.system.steps
       (replayed m (first seed) limit c g.transitions g.last x.system.steps (priorities_in x) g.goes) in
-      inr (omega arith)
+      omega arith
+
+  -- so there are few
+  pub few_so_far : (es : List Event) (x : Guided) → GoingBy j seed es x → length es ≤ limit
+  few_so_far es x g = let few = as_many_events es x g in omega arith
+
+  -- and as many as the limit has steps end it
+  pub ends_by_limit : (es : List Event) (x : Guided) (g : GoingBy j seed es x) → limit ≤ length es → Stops (limit - x.system.steps) g.last
+  ends_by_limit es x g all = let few = as_many_events es x g in inr (omega arith)
 
   -- the report of one that is over is what the job means
   pub means : (es : List Event) (x : Guided) (g : GoingBy j seed es x) → Stops (limit - x.system.steps) g.last → (r : Report) → Closes j es x.system r

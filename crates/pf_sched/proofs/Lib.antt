@@ -1,4 +1,7 @@
 pub mod Asking
+pub mod Evidenced
+pub mod Alive
+pub mod Living
 pub mod Longer
 pub mod GuidedRuns
 pub mod Past
@@ -9,5 +12,6 @@ pub mod Tries
 pub mod Hunted
 pub mod Ended
 pub mod Shrunk
+pub mod Printed
 mod SystemCrossing
 pub mod Crossing

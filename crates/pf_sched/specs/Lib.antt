@@ -2,6 +2,8 @@ pub mod Views
 pub mod Asked
 pub mod InJob
 pub mod Told
+pub mod Waiting
+pub mod Evidence
 pub mod Traces
 pub mod Events
 pub mod Parts
@@ -12,3 +14,4 @@ pub mod Slices
 pub mod Judging
 pub mod Guided
 pub mod Closing
+pub mod Printing

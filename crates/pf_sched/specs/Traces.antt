@@ -1,5 +1,5 @@
 -- What a run made of its transitions, as far as it came, and which events its trace was told.
-use Rattle.std.specs.Prelude.{◌≡◌, ◌≤◌, ℕ, zero, Bool, true, false, List, [], Some, length, map, slice_get}
+use Rattle.std.specs.Prelude.{◌≡◌, ◌≤◌, ℕ, zero, Bool, true, false, List, [], Option, Some, None, length, map, slice_get}
 use Rattle.rand_pcg.specs.Pcg.{pcg32}
 use Rattle.rand_pcg.specs.Lcg.{Lcg}
 use Rattle.pf_choice.specs.Choices as choice
@@ -8,13 +8,16 @@ use Rattle.pf_choice.specs.Chosen.{Profile}
 use Rattle.pf_choice.specs.declared.choices.Choices.{Choices}
 use Rattle.pf_model.specs.Module.{Module}
 use Rattle.pf_model.specs.Configuration.{Configuration}
+use Rattle.pf_model.specs.Labels.{Label}
+use Rattle.pf_model.specs.Reports.{actor_of}
 use Rattle.pf_model.specs.Channels.{heads}
 use Rattle.pf_model.specs.Meaning as meaning
 use Rattle.pf_model.specs.Meaning.{picks, profile_of, words_of}
 use Rattle.pf_model.specs.Runs.{can_go, enabled, numbers_of, Goes, Transition, Words}
 use Rattle.pf_system.specs.Steps.{PassesTo}
 use Rattle.pf_sched.specs.declared.execution.Execution.{Execution}
-use Rattle.pf_sched.specs.Told.{Hears}
+use Rattle.pf_sched.specs.declared.execution.Chosen.{Chosen}
+use Rattle.pf_sched.specs.Told.{Hears, event}
 
 -- choices are those of a job, from the first on
 pub record Makes (cs : meaning.Choices) (q : Choices Lcg) : Type 0 where
@@ -35,6 +38,11 @@ pub record Went (left : ℕ) (c : Configuration) (x : Execution) (e : meaning.Ev
   pub chooses : Chooses pcg32 x.choices (ready_in c) (heads_in c) e.choice x'.choices
   pub chosen : slice_get (enabled c) e.choice ≡ Some e.actor
   pub passes : PassesTo left x.system e.actor e.label used x'.system
+
+-- the same of the actor that is told, which showed this; or nobody may go and nothing was done
+abbrev pub MayHavePassed : ℕ → Configuration → Execution → Option Chosen → Label → Execution → Type 0
+MayHavePassed left c x (Some n) l x' = Went left c x (event n.index n.among (actor_of n.actor) l) x'
+MayHavePassed left c x None l x' = (enabled c ≡ []) × (x' ≡ x)
 
 -- the same, and a trace was told so; or nobody may go and nothing was done
 abbrev pub MayHaveGone : {T : Type 0} (Told : T → meaning.Job → List meaning.Event → Type 0) → ℕ → Configuration → Execution → T → Bool → Execution → T → Type 0

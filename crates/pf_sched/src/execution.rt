@@ -10,7 +10,7 @@ ghost use Rattle.pf_model.specs.Runs.{Stops};
 ghost use Rattle.pf_system.specs.Steps.{IsNoteOf, MayGo, PassesTo, noted};
 ghost use Rattle.pf_sched.specs.Parts.{Executes};
 ghost use Rattle.pf_sched.specs.Slices.{Continues, IsComplete};
-ghost use Rattle.pf_sched.specs.Traces.{Makes, MayHaveGone, heads_in, ready_in};
+ghost use Rattle.pf_sched.specs.Traces.{Makes, MayHaveGone, MayHavePassed, heads_in, ready_in};
 
 use crate::job::Job;
 use crate::scratch::Scratch;
@@ -60,6 +60,14 @@ fn choose(choices: &mut Choices, enabled: &Enabled<'_>) -> usize
     choices.next_of(enabled.processes(), enabled.channels())
 }
 
+/// Which of how many actors that might go went, and who it is.
+#[derive(Clone, Copy)]
+pub(crate) struct Chosen {
+    pub index: u32,
+    pub among: u32,
+    pub actor: Actor,
+}
+
 /// Whether a run is over where its system stands: nobody may go, or no step is left.
 fn is_over(system: &System, limit: u32) -> bool
     ensures { (c : Configuration) → system.now.standing ≡ Some c
@@ -85,8 +93,34 @@ impl Execution {
         })
     }
 
-    /// The transition of the actor that the next word chooses, within the limit of steps, of which the trace is told; whether there was
-    /// one, since nobody may go else. `shown` is room for what it shows.
+    /// The transition of the actor that the next word chooses, within the limit of steps, and which it is; none if nobody may go. What it
+    /// shows is written.
+    pub fn pass_next(
+        &mut self,
+        alloc: Global,
+        limit: u32,
+        shown: &mut Label,
+    ) -> Result<Option<Chosen>, NoMemory>
+        requires { self.old.system.steps < limit }
+        ensures { IfOk result (λ chosen. (c : Configuration) → self.old.system.standing ≡ Some c
+            → MayHavePassed (limit - self.old.system.steps) c self.old chosen (label_of shown.new) self.new) }
+    {
+        let enabled = self.system.enabled();
+        let among = enabled.len();
+        if among == 0 {
+            return Ok(None);
+        }
+        let index = choose(&mut self.choices, &enabled);
+        let actor = enabled.actor(index);
+        pass(alloc, &mut self.system, actor, limit, shown)?;
+        Ok(Some(Chosen {
+            index: index as u32,
+            among: among as u32,
+            actor,
+        }))
+    }
+
+    /// The same, of which a trace is told; whether there was one, since nobody may go else. `shown` is room for what it shows.
     fn go<T: Trace>(
         &mut self,
         alloc: Global,
@@ -98,15 +132,10 @@ impl Execution {
         ensures { IfOk result (λ went. (c : Configuration) → self.old.system.standing ≡ Some c
             → MayHaveGone T.Told (limit - self.old.system.steps) c self.old trace.old went self.new trace.new) }
     {
-        let enabled = self.system.enabled();
-        let among = enabled.len();
-        if among == 0 {
+        let Some(chosen) = self.pass_next(alloc, limit, shown)? else {
             return Ok(false);
-        }
-        let index = choose(&mut self.choices, &enabled);
-        let actor = enabled.actor(index);
-        pass(alloc, &mut self.system, actor, limit, shown)?;
-        trace.tell(index as u32, among as u32, actor, shown)?;
+        };
+        trace.tell(chosen.index, chosen.among, chosen.actor, shown)?;
         Ok(true)
     }
 

@@ -2,11 +2,14 @@
 #![tactic(auto)]
 
 mod choices;
+mod evidence;
 mod execution;
 mod finished;
 mod guided;
 mod job;
+pub mod laws;
 mod parked;
+mod printing;
 mod progress;
 mod refusal;
 mod result;
@@ -22,6 +25,7 @@ mod whole;
 pub use finished::{Ending, Finished};
 pub use job::Job;
 pub use parked::{Parked, start};
+pub use printing::{PrintedRun, print_run};
 pub use progress::{Observer, Progress, Silent};
 pub use refusal::JobRefusal;
 pub use result::{JobResult, memory_report};
@@ -29,6 +33,6 @@ pub use result_block::Whole;
 pub use scratch::Scratch;
 pub use slice::{Slice, run_slice, run_to_end};
 pub use whole::{
-    Judged, judged_by_priorities, judged_run, report_by_priorities, report_by_schedule,
-    report_of_run,
+    Judged, choices_by_priorities, judged_by_priorities, judged_run, report_by_priorities,
+    report_by_schedule, report_of_run,
 };

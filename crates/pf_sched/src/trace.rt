@@ -1,13 +1,15 @@
 //! Who is told of a run as it happens.
 
-ghost use Rattle.std.specs.Prelude.{◌≡◌, ◌||◌, ℕ, List, [], false, OnOk};
+ghost use Rattle.std.specs.Prelude.{◌≡◌, ◌||◌, ℕ, List, [], false, OnOk, map};
 ghost use Rattle.pf_model.specs.Meaning as model;
 ghost use Rattle.pf_model.specs.Reports.{actor_of, event_of, label_of};
 ghost use Rattle.pf_property.specs.Judging.{rules_out};
 ghost use Rattle.pf_property.specs.Views.{property_of};
 ghost use Rattle.pf_trace.specs.Written.{AreWrittenSoFar, told_so_far};
-ghost use Rattle.pf_sched.specs.Told.{Decides, Hears, Lists, Writes, event};
+ghost use Rattle.pf_sched.specs.Evidence.{Shows};
+ghost use Rattle.pf_sched.specs.Told.{Hears, Lists, Writes, event};
 
+use crate::evidence::Evidence;
 use crate::job::Job;
 use pf_model::report::{Actor, Event, Label};
 use pf_property::Property;
@@ -55,28 +57,44 @@ impl Trace for Vec<Event> {
     }
 }
 
-/// What a verdict needs of the events, of which none is kept: whether the label of one rules the property out.
+/// The choices alone.
+impl Trace for Vec<u32> {
+    ghost Told = { λ numbers j told. numbers.items ≡ map (λ e. e.choice) told };
+
+    fn tell(
+        &mut self,
+        choice: u32,
+        _count: u32,
+        _actor: Actor,
+        _shown: &mut Label,
+    ) -> Result<(), NoMemory> {
+        self.push(choice)?;
+        Ok(())
+    }
+}
+
+/// What a judgement needs of the events, of which none is kept.
 #[derive(Drop)]
 pub(crate) struct Seen<'a> {
     property: &'a Property,
-    pub ruled_out: bool,
+    pub evidence: Evidence,
 }
 
 impl<'a> Seen<'a> {
     /// No event.
     pub fn new(property: &'a Property) -> Seen<'a>
-        ensures property { result.property.now ≡ property.now }
-        ensures none { result.ruled_out ≡ false }
+        ensures { (j : model.Job) → property_of property.now ≡ j.property
+            → Shows (property_of result.property.now) result.evidence j [] }
     {
         Seen {
             property,
-            ruled_out: false,
+            evidence: Evidence::new(),
         }
     }
 }
 
 impl Trace for Seen<'_> {
-    ghost Told = { λ s. Decides (property_of s.property.now) s.ruled_out };
+    ghost Told = { λ s. Shows (property_of s.property.now) s.evidence };
 
     fn tell(
         &mut self,
@@ -85,7 +103,7 @@ impl Trace for Seen<'_> {
         _actor: Actor,
         shown: &mut Label,
     ) -> Result<(), NoMemory> {
-        self.ruled_out = self.ruled_out || self.property.rules_out(shown);
+        self.evidence.see(self.property, shown);
         Ok(())
     }
 }

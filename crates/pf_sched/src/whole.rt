@@ -1,17 +1,18 @@
 //! Runs made to their end at once: with their events, or without.
 
-ghost use Rattle.std.specs.Prelude.{◌≡◌, [], zero, IfOk, List, map};
+ghost use Rattle.std.specs.Prelude.{◌≡◌, ◌≤◌, [], zero, IfOk, List, length, map};
 ghost use Rattle.pf_model.specs.Meaning as model;
 ghost use Rattle.pf_model.specs.Meaning.{Means};
 ghost use Rattle.pf_model.specs.Reports.{event_of, report_of};
 ghost use Rattle.pf_model.specs.Shrinking.{by_schedule};
 ghost use Rattle.pf_strategy.specs.Runs.{MeansByPriorities};
 ghost use Rattle.pf_sched.specs.Closing.{Closes};
+ghost use Rattle.pf_sched.specs.Evidence.{Shows};
 ghost use Rattle.pf_sched.specs.Judging.{IsJudged, Judges, JudgesByPriorities};
 ghost use Rattle.pf_sched.specs.Parts.{Executes};
-ghost use Rattle.pf_sched.specs.Told.{Decides};
 
 use crate::choices::{of_schedule, open};
+use crate::evidence::Evidence;
 use crate::execution::Execution;
 use crate::guided::Guided;
 use crate::job::Job;
@@ -23,15 +24,17 @@ use pf_system::{Spare, System};
 use pf_terms::NoMemory;
 use std::alloc::Global;
 
-/// How the run of a job came out, and whether its property holds; there is no verdict where memory ran out.
+/// How the run of a job came out, and whether its property holds; there is no verdict where memory ran out. How many processes still wait at
+/// its end, where its root returned; else none are told.
 #[derive(Drop)]
 pub struct Judged {
     pub outcome: Outcome,
     pub verdict: Option<bool>,
+    pub waiting: u32,
 }
 
 /// The run of a job that is no shrinking, before its first event, in what others left behind.
-fn first_execution(alloc: Global, job: &Job, spare: Spare) -> Result<Execution, NoMemory>
+pub(crate) fn first_execution(alloc: Global, job: &Job, spare: Spare) -> Result<Execution, NoMemory>
     requires { job.now.asked.runs ≡ zero }
     ensures { IfOk result (λ x. Executes job.now job.now.asked.choices [] x) }
 {
@@ -62,14 +65,25 @@ fn report_of_events(
     })
 }
 
-/// How a run that is over came out, where it is known of its events whether one rules the property out.
-fn judge(alloc: Global, job: &Job, system: &System, ruled_out: bool) -> Result<Judged, NoMemory>
-    ensures { IfOk result (λ v. (es : List model.Event) → Decides job.now.asked.property ruled_out job.now.asked es
+/// How a run that is over came out, by what is kept of its events.
+pub(crate) fn judge(
+    alloc: Global,
+    job: &Job,
+    system: &System,
+    evidence: Evidence,
+) -> Result<Judged, NoMemory>
+    ensures { IfOk result (λ v. (es : List model.Event) → length es ≤ job.now.asked.limit
+        → Shows job.now.asked.property evidence job.now.asked es
         → (r : model.Report) × Closes job.now es system.now r × IsJudged r v) }
 {
     let outcome = system.outcome(alloc)?;
-    let verdict = job.property.judge(ruled_out, &outcome);
-    Ok(Judged { outcome, verdict })
+    let verdict = job.property.judge(evidence.ruled_out, &outcome);
+    let waiting = evidence.processes.waiting(&outcome);
+    Ok(Judged {
+        outcome,
+        verdict,
+        waiting,
+    })
 }
 
 /// The report of a run, from its first event on, by whichever choices.
@@ -121,7 +135,7 @@ pub fn judged_run(alloc: Global, job: &Job, scratch: &mut Scratch) -> Result<Jud
     let mut execution = first_execution(alloc, job, scratch.take_spare(alloc))?;
     let mut seen = Seen::new(&job.property);
     execution.complete(alloc, job, &mut seen)?;
-    let judged = judge(alloc, job, &execution.system, seen.ruled_out)?;
+    let judged = judge(alloc, job, &execution.system, seen.evidence)?;
     scratch.put_spare(execution.system.into_spare());
     Ok(judged)
 }
@@ -155,7 +169,25 @@ pub fn judged_by_priorities(
     let mut guided = Guided::new(alloc, job, seed, scratch.take_spare(alloc))?;
     let mut seen = Seen::new(&job.property);
     guided.complete(alloc, job, &mut seen)?;
-    let judged = judge(alloc, job, &guided.system, seen.ruled_out)?;
+    let judged = judge(alloc, job, &guided.system, seen.evidence)?;
     scratch.put_spare(guided.system.into_spare());
     Ok(judged)
+}
+
+/// The choices of the run that a job makes by the priorities of a seed, event by event: by them as a schedule it runs so again. What stands
+/// in the scratch makes no difference.
+pub fn choices_by_priorities(
+    alloc: Global,
+    job: &Job,
+    seed: u64,
+    scratch: &mut Scratch,
+) -> Result<Vec<u32>, NoMemory>
+    ensures { IfOk result (λ numbers. (r : model.Report) × MeansByPriorities job.now.asked seed r
+        × (numbers.items ≡ map (λ e. e.choice) r.events)) }
+{
+    let mut guided = Guided::new(alloc, job, seed, scratch.take_spare(alloc))?;
+    let mut numbers = Vec::new(alloc);
+    guided.complete(alloc, job, &mut numbers)?;
+    scratch.put_spare(guided.system.into_spare());
+    Ok(numbers)
 }

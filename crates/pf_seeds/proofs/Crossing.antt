@@ -6,17 +6,33 @@ use Rattle.pf_model.proofs.Crossing as model
 use Rattle.pf_strategy.proofs.strategy.Strategy.TheSendSync as strategy
 use Rattle.pf_sched.proofs.Crossing as sched
 use Rattle.pf_seeds.specs.contracts.failure.Failure as Failure
+use Rattle.pf_seeds.specs.contracts.failure.Searched as Searched
+use Rattle.pf_seeds.specs.contracts.leak.Leak as Leak
 use Rattle.pf_seeds.specs.contracts.places.Place as Place
 use Rattle.pf_seeds.specs.contracts.places.Places as Places
 use Rattle.pf_seeds.specs.contracts.row.Row as Row
 use Rattle.pf_seeds.specs.contracts.seeded.Hunt as Hunt
+use Rattle.pf_seeds.specs.contracts.tallied.Tallied as Tallied
 use Rattle.pf_seeds.specs.contracts.tally.Tally as Tally
+use Rattle.pf_seeds.specs.contracts.workers.Team as Team
 
 pub failure_field_send : IsSend (Failure.the_field).row
 failure_field_send = search (model.sends, sendable) depth 30
 
 pub failure_send : IsSend Failure.the_row
 failure_send = recorded_send (Failure.the_field).row _ _ (Failure.the_type).to_one failure_field_send
+
+leak_field_send : IsSend (Leak.the_field).row
+leak_field_send = search sendable depth 30
+
+leak_send : IsSend Leak.the_row
+leak_send = recorded_send (Leak.the_field).row _ _ (Leak.the_type).to_one leak_field_send
+
+pub searched_field_send : IsSend (Searched.the_field).row
+searched_field_send = search (failure_send, leak_send, sendable) depth 30
+
+pub searched_send : IsSend Searched.the_row
+searched_send = recorded_send (Searched.the_field).row _ _ (Searched.the_type).to_one searched_field_send
 
 row_field_send : IsSend (Row.the_field).row
 row_field_send = search (model.sends, sendable) depth 30
@@ -39,13 +55,25 @@ tally_field_send = search (row_send, places_field_send, heap.crosses, sendable) 
 pub tally_send : IsSend Tally.the_row
 tally_send = recorded_send (Tally.the_field).row _ _ (Tally.the_type).to_one tally_field_send
 
+pub tallied_field_send : IsSend (Tallied.the_field).row
+tallied_field_send = search (tally_field_send, leak_field_send, sendable) depth 30
+
+pub tallied_send : IsSend Tallied.the_row
+tallied_send = recorded_send (Tallied.the_field).row _ _ (Tallied.the_type).to_one tallied_field_send
+
+team_field_send : IsSend (Team.the_field).row
+team_field_send = search sendable depth 30
+
+pub team_send : IsSend Team.the_row
+team_send = recorded_send (Team.the_field).row _ _ (Team.the_type).to_one team_field_send
+
 -- what is hunted is shared
 pub hunt_field_sync : IsSync (Hunt.the_field).row
-hunt_field_sync = search (sched.crosses, strategy.the_field_sync, sendable) depth 30
+hunt_field_sync = search (sched.crosses, heap.crosses, strategy.the_field_sync, sendable) depth 30
 
 pub hunt_sync : IsSync Hunt.the_row
 hunt_sync = recorded_sync (Hunt.the_field).row _ _ (Hunt.the_type).to_one hunt_field_sync
 
-pub ruleset crosses = (failure_field_send, failure_send, tally_field_send, tally_send)
+pub ruleset crosses = (searched_field_send, searched_send, tallied_field_send, tallied_send)
 
-pub ruleset shares = (hunt_field_sync, hunt_sync)
+pub ruleset shares = (hunt_field_sync, hunt_sync, team_send)

@@ -1,13 +1,17 @@
 -- The laws of hunts.
-use Rattle.std.specs.Prelude.{◌≡◌, ◌≤◌, ◌-◌, ◌↔◌, ℕ, List, Option, true}
+use Rattle.std.specs.Prelude.{◌≡◌, ◌≤◌, ◌-◌, ◌↔◌, ℕ, Bool, List, Option, true}
 use Rattle.pf_model.specs.Meaning.{Job, Report}
 use Rattle.pf_strategy.specs.declared.strategy.Strategy.{Strategy}
-use Rattle.pf_seeds.specs.Hunts.{FirstFailing, Tallies}
+use Rattle.pf_seeds.specs.Hunts.{FirstFailing, FirstLeaking, Tallies}
 use Rattle.pf_seeds.specs.Rows.{Row, counted, is_like, joined}
 
 -- seeds come to one answer only
 abbrev pub OneFirst : Type 0
-OneFirst = (w : Strategy) (j : Job) (a b : ℕ) (x y : Option (ℕ × Report)) → FirstFailing w j a b x → FirstFailing w j a b y → x ≡ y
+OneFirst =
+    (leaks : Bool) (w : Strategy) (j : Job) (a b : ℕ) (x y : Option (ℕ × Report)) → FirstFailing leaks w j a b x → FirstFailing leaks w j a b y → x ≡ y
+
+abbrev pub OneLeak : Type 0
+OneLeak = (w : Strategy) (j : Job) (a b : ℕ) (x y : Option (ℕ × ℕ)) → FirstLeaking w j a b x → FirstLeaking w j a b y → x ≡ y
 
 abbrev pub OneTally : Type 0
 OneTally = (w : Strategy) (j : Job) (a b : ℕ) (xs ys : List Row) → Tallies w j a b xs → Tallies w j a b ys → xs ≡ ys

@@ -5,4 +5,5 @@ pub mod Hashes
 pub mod RowHashes
 pub mod Places
 pub mod Views
+pub mod Known
 pub mod Laws

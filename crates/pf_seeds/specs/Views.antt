@@ -1,15 +1,19 @@
--- What the code's own failures and rows stand for.
+-- What the code's own failures, leaks and rows stand for.
 use Rattle.std.specs.Prelude.{◌≡◌, ◌<◌, ℕ, true, false, List, map, slice_get, Some}
 use Rattle.pf_model.specs.Meaning.{Report}
 use Rattle.pf_model.specs.Reports.{report_of}
 use Rattle.pf_seeds.specs.Rows as rows
 use Rattle.pf_seeds.specs.Rows.{is_like}
 use Rattle.pf_seeds.specs.declared.failure.Failure.{Failure}
+use Rattle.pf_seeds.specs.declared.leak.Leak.{Leak}
 use Rattle.pf_seeds.specs.declared.row.Row.{Row}
 use Rattle.pf_seeds.specs.declared.tally.Tally.{Tally}
 
 abbrev pub failure_of : Failure → ℕ × Report
 failure_of f = (f.seed, report_of f.report)
+
+abbrev pub leak_of : Leak → ℕ × ℕ
+leak_of l = (l.seed, l.processes)
 
 abbrev pub row_of : Row → rows.Row
 row_of x = record { verdict = x.verdict; outcome = x.outcome; count = x.count; least = x.least }

@@ -1,14 +1,16 @@
 //! Hunts over ranges of any length, block by block, so that they end soon if a run fails.
 
-ghost use Rattle.std.specs.Prelude.{◌≤◌, ◌<◌, IfOk, option_map};
-ghost use Rattle.pf_seeds.specs.Hunts.{FirstFailing, Tallies};
-ghost use Rattle.pf_seeds.specs.Views.{failure_of, rows_of};
+ghost use Rattle.std.specs.Prelude.{◌≡◌, ◌≤◌, ◌<◌, IfOk, true};
+ghost use Rattle.pf_seeds.specs.Hunts.{ComesTo};
+ghost use Rattle.pf_seeds.specs.Known.{CountsAll, Finds};
 
-use crate::failure::Failure;
-use crate::observer::HuntObserver;
+use crate::failure::Searched;
+use crate::leak::{Leak, earlier};
+use crate::observer::{HuntObserver, Pace};
 use crate::seeded::Hunt;
+use crate::tallied::Tallied;
 use crate::tally::Tally;
-use crate::workers::{first_of_block, tally_of_block};
+use crate::workers::{Team, first_of_block, tally_of_block};
 use pf_terms::NoMemory;
 use std::alloc::Global;
 use std::thread::Threads;
@@ -25,60 +27,149 @@ fn block_end(from: u64, end: u64, each: u64, workers: u64) -> u64
     from + size.min(end - from)
 }
 
-/// How many seeds each worker has in the next block: twice as many, up to a bound.
-fn grown(each: u64) -> u64 {
-    each.saturating_mul(2).min(MOST)
+/// How many seeds each worker has in the next block: twice as many, up to a bound, if blocks grow.
+fn next_size(each: u64, pace: Pace) -> u64 {
+    match pace {
+        Pace::Longer => each.saturating_mul(2).min(MOST),
+        Pace::Same | Pace::Stop => each,
+    }
 }
 
-/// The least seed from a first to before an end whose run fails, by the given number of workers. The observer is told how far it came.
+/// Whether a hunt that has seeds left stops here.
+fn stops(may_stop: bool, pace: Pace) -> bool
+    ensures { result ≡ true → may_stop ≡ true }
+{
+    may_stop && matches!(pace, Pace::Stop)
+}
+
+/// Tells an observer of a leak, if there is one.
+fn tell_leak(leak: Option<Leak>, observer: &mut impl HuntObserver) {
+    if let Some(leak) = leak {
+        observer.leak(leak);
+    }
+}
+
+/// The least seed that fails, block by block.
+fn search_blocks<R: Threads + Sync>(
+    rt: &R,
+    alloc: Global,
+    hunt: &Hunt,
+    from: u64,
+    end: u64,
+    may_stop: bool,
+    workers: u64,
+    observer: &mut impl HuntObserver,
+) -> Result<Searched, NoMemory>
+    ensures known { IfOk result (λ s. Finds hunt.now from s.end s) }
+    ensures reach { IfOk result (λ s. ComesTo may_stop end s.end) }
+{
+    let team = Team {
+        first: 0,
+        size: workers,
+    };
+    let mut leak = None;
+    let mut at = from;
+    let mut each = 1;
+    while at < end {
+        let next = block_end(at, end, each, workers);
+        let block = first_of_block(rt, alloc, hunt, at, next, team)?;
+        leak = earlier(leak, block.leak);
+        let failure = block.failure;
+        if failure.is_some() {
+            observer.progress(next - from, 1);
+            return Ok(Searched { failure, leak, end });
+        }
+        let pace = observer.progress(next - from, 0);
+        if next < end && stops(may_stop, pace) {
+            let end = next;
+            return Ok(Searched { failure, leak, end });
+        }
+        at = next;
+        each = next_size(each, pace);
+    }
+    let failure = None;
+    Ok(Searched { failure, leak, end })
+}
+
+/// The least seed from a first to before an end whose run fails, by the given number of workers, and the least of those up to it whose
+/// root returned while processes still waited, of which the observer is told. It is told, too, how far the hunt came; if the hunt may
+/// stop, it does so once the observer says it, and what is known is told.
 pub fn first_failing<R: Threads + Sync>(
     rt: &R,
     alloc: Global,
     hunt: &Hunt,
     from: u64,
     end: u64,
+    may_stop: bool,
     workers: u64,
     observer: &mut impl HuntObserver,
-) -> Result<Option<Failure>, NoMemory>
-    ensures { IfOk result (λ f.
-        FirstFailing hunt.now.strategy hunt.now.job.asked from end (option_map failure_of f)) }
+) -> Result<Searched, NoMemory>
+    ensures known { IfOk result (λ s. Finds hunt.now from s.end s) }
+    ensures reach { IfOk result (λ s. ComesTo may_stop end s.end) }
 {
+    let searched = search_blocks(rt, alloc, hunt, from, end, may_stop, workers, observer)?;
+    tell_leak(searched.leak, observer);
+    Ok(searched)
+}
+
+/// The rows, block by block.
+fn tally_blocks<R: Threads + Sync>(
+    rt: &R,
+    alloc: Global,
+    hunt: &Hunt,
+    from: u64,
+    end: u64,
+    may_stop: bool,
+    workers: u64,
+    observer: &mut impl HuntObserver,
+) -> Result<Tallied, NoMemory>
+    ensures known { IfOk result (λ t. CountsAll hunt.now from t.end t) }
+    ensures reach { IfOk result (λ t. ComesTo may_stop end t.end) }
+{
+    let team = Team {
+        first: 0,
+        size: workers,
+    };
+    let mut tally = Tally::new(alloc);
+    let mut leak = None;
     let mut at = from;
     let mut each = 1;
     while at < end {
         let next = block_end(at, end, each, workers);
-        if let Some(failure) = first_of_block(rt, alloc, hunt, at, next, workers)? {
-            observer.progress(next - from, 1);
-            return Ok(Some(failure));
+        let block = tally_of_block(rt, alloc, hunt, at, next, team)?;
+        leak = earlier(leak, block.leak);
+        tally.join(block.tally)?;
+        let pace = observer.progress(next - from, tally.failures());
+        if next < end && stops(may_stop, pace) {
+            return Ok(Tallied {
+                tally,
+                leak,
+                end: next,
+            });
         }
-        observer.progress(next - from, 0);
         at = next;
-        each = grown(each);
+        each = next_size(each, pace);
     }
-    Ok(None)
+    Ok(Tallied { tally, leak, end })
 }
 
-/// The rows of the runs by the seeds from a first to before an end, by the given number of workers. The observer is told how far it came.
+/// The rows of the runs by the seeds from a first to before an end, by the given number of workers, and the least of these whose root
+/// returned while processes still waited, of which the observer is told. It is told, too, how far the hunt came; if the hunt may stop, it
+/// does so once the observer says it, and the rows are those of the seeds that were run.
 pub fn tally_all<R: Threads + Sync>(
     rt: &R,
     alloc: Global,
     hunt: &Hunt,
     from: u64,
     end: u64,
+    may_stop: bool,
     workers: u64,
     observer: &mut impl HuntObserver,
-) -> Result<Tally, NoMemory>
-    ensures { IfOk result (λ t. Tallies hunt.now.strategy hunt.now.job.asked from end (rows_of t)) }
+) -> Result<Tallied, NoMemory>
+    ensures known { IfOk result (λ t. CountsAll hunt.now from t.end t) }
+    ensures reach { IfOk result (λ t. ComesTo may_stop end t.end) }
 {
-    let mut tally = Tally::new(alloc);
-    let mut at = from;
-    let mut each = 1;
-    while at < end {
-        let next = block_end(at, end, each, workers);
-        tally.join(tally_of_block(rt, alloc, hunt, at, next, workers)?)?;
-        observer.progress(next - from, tally.failures());
-        at = next;
-        each = grown(each);
-    }
-    Ok(tally)
+    let tallied = tally_blocks(rt, alloc, hunt, from, end, may_stop, workers, observer)?;
+    tell_leak(tallied.leak, observer);
+    Ok(tallied)
 }

@@ -1,10 +1,12 @@
 //! The least seed whose run fails.
 
-ghost use Rattle.std.specs.Prelude.{◌≡◌, IfOk, option_map};
-ghost use Rattle.pf_model.specs.Shrinking.{is_failure};
-ghost use Rattle.pf_seeds.specs.Hunts.{FirstFailing};
-ghost use Rattle.pf_seeds.specs.Views.{failure_of};
+ghost use Rattle.std.specs.Prelude.{◌≡◌, IfOk};
+ghost use Rattle.pf_model.specs.Meaning.{Report as ReportOf};
+ghost use Rattle.pf_sched.specs.Judging.{IsJudged};
+ghost use Rattle.pf_seeds.specs.Hunts.{fails};
+ghost use Rattle.pf_seeds.specs.Known.{Finds};
 
+use crate::leak::{Leak, earlier, leak_at};
 use crate::seeded::{Hunt, judged_by_seed, run_by_seed};
 use pf_model::report::Report;
 use pf_sched::{Judged, Scratch};
@@ -18,30 +20,44 @@ pub struct Failure {
     pub report: Report,
 }
 
-/// Whether the property fails of a run.
-fn fails(judged: &Judged) -> bool
-    ensures { result ≡ is_failure judged.now.verdict }
-{
-    matches!(judged.verdict, Some(false))
+/// What is known of the seeds before an end: the least whose run fails, if any; and, up to and with that one, the least whose root returned
+/// while processes still waited.
+#[derive(Drop)]
+pub struct Searched {
+    pub failure: Option<Failure>,
+    pub leak: Option<Leak>,
+    pub end: u64,
 }
 
-/// The least seed from a first to before an end whose run fails, with the report of that run, which is made once more for it.
+/// Whether a run fails: its property does; or, if leaks are failures too, processes still wait though its root returned.
+fn fails(leaks: bool, judged: &Judged) -> bool
+    ensures { (r : ReportOf) → IsJudged r judged.now → result ≡ fails leaks r }
+{
+    matches!(judged.verdict, Some(false)) || (leaks && judged.waiting > 0)
+}
+
+/// The least seed from a first to before an end whose run fails, with the report of that run, which is made once more for it; by the runs of
+/// this worker.
 pub fn first_in(
     alloc: Global,
     hunt: &Hunt,
+    worker: u64,
     from: u64,
     end: u64,
-) -> Result<Option<Failure>, NoMemory>
-    ensures { IfOk result (λ f.
-        FirstFailing hunt.now.strategy hunt.now.job.asked from end (option_map failure_of f)) }
+) -> Result<Searched, NoMemory>
+    ensures { IfOk result (Finds hunt.now from end) }
 {
     let mut scratch = Scratch::new(alloc);
+    let mut leak = None;
     for seed in from..end {
-        let judged = judged_by_seed(alloc, hunt, &mut scratch, seed)?;
-        if fails(&judged) {
+        let judged = judged_by_seed(alloc, hunt, worker, &mut scratch, seed)?;
+        leak = earlier(leak, leak_at(seed, judged.waiting));
+        if fails(hunt.leaks, &judged) {
             let report = run_by_seed(alloc, hunt, &mut scratch, seed)?;
-            return Ok(Some(Failure { seed, report }));
+            let failure = Some(Failure { seed, report });
+            return Ok(Searched { failure, leak, end });
         }
     }
-    Ok(None)
+    let failure = None;
+    Ok(Searched { failure, leak, end })
 }

@@ -1,10 +1,15 @@
 //! Laws of the definitions: functions with empty bodies, whose contracts are the laws.
 
-ghost use Rattle.pf_seeds.specs.Laws.{EachIsCounted, LikeIsSame, OneFirst, OneTally, PartsAreTheWhole};
+ghost use Rattle.pf_seeds.specs.Laws.{EachIsCounted, LikeIsSame, OneFirst, OneLeak, OneTally, PartsAreTheWhole};
 
 /// Seeds have one least that fails.
 pub fn one_first()
     ensures { OneFirst }
+{}
+
+/// Seeds have one least that leaks, by one number of processes.
+pub fn one_leak()
+    ensures { OneLeak }
 {}
 
 /// Seeds have one tally.

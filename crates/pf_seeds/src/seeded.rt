@@ -1,6 +1,6 @@
 //! The run of a job by a seed.
 
-ghost use Rattle.std.specs.Prelude.{◌≡◌, IfOk};
+ghost use Rattle.std.specs.Prelude.{◌≡◌, All, IfOk};
 ghost use Rattle.pf_model.specs.Meaning.{Means};
 ghost use Rattle.pf_model.specs.Reports.{report_of};
 ghost use Rattle.pf_request.specs.Job.{asked_by_seed};
@@ -16,12 +16,34 @@ use pf_strategy::Strategy;
 use pf_terms::NoMemory;
 use std::alloc::Global;
 
-/// What is the same for all seeds of a hunt: the job in whose place their runs go, of whose own choices the weights alone play a part; and how a
-/// seed chooses.
+/// What is the same for all seeds of a hunt: the job in whose place their runs go, of whose own choices the weights alone play a part; how a
+/// seed chooses; and whether one fails too whose root returned while processes still waited.
 #[derive(Drop)]
 pub struct Hunt {
     pub job: Job,
+    /// The same job over modules of their own: one for each worker behind the first, so that no two workers count the holders of one
+    /// module. Where there are fewer, the others share that of the first.
+    pub others: Vec<Job>,
     pub strategy: Strategy,
+    pub leaks: bool,
+    ghost alike: { All (λ j. j ≡ job) others.items },
+}
+
+impl Hunt {
+    ghost use Rattle.std.specs.Prelude.{◌≡◌};
+
+    /// The job of a worker, counted from 0.
+    fn job_of(&self, worker: u64) -> &Job
+        ensures { result.now ≡ self.now.job }
+    {
+        match usize::try_from(worker) {
+            Ok(number) if number > 0 => match self.others.get(number - 1) {
+                Some(job) => job,
+                None => &self.job,
+            },
+            _ => &self.job,
+        }
+    }
 }
 
 /// The report of the run by a seed in place of the job's own choices and by their weights.
@@ -36,7 +58,7 @@ fn run_by_words(
     report_of_run(alloc, &job.by_seed(seed)?, scratch)
 }
 
-/// The outcome and the verdict of that report.
+/// What is told of that report but for its events.
 fn judged_by_words(
     alloc: Global,
     job: &Job,
@@ -63,17 +85,20 @@ pub fn run_by_seed(
     }
 }
 
-/// The outcome and the verdict of that report. No event is kept.
+/// The outcome and the verdict of that report, and how many processes still wait though its root returned. No event is kept. The run is that
+/// of this worker, counted from 0.
 pub(crate) fn judged_by_seed(
     alloc: Global,
     hunt: &Hunt,
+    worker: u64,
     scratch: &mut Scratch,
     seed: u64,
 ) -> Result<Judged, NoMemory>
     ensures { IfOk result (λ v. JudgesBySeed hunt.now.strategy hunt.now.job.asked seed v) }
 {
+    let job = hunt.job_of(worker);
     match hunt.strategy {
-        Strategy::Uniform => judged_by_words(alloc, &hunt.job, scratch, seed),
-        Strategy::Priorities => judged_by_priorities(alloc, &hunt.job, seed, scratch),
+        Strategy::Uniform => judged_by_words(alloc, job, scratch, seed),
+        Strategy::Priorities => judged_by_priorities(alloc, job, seed, scratch),
     }
 }

@@ -1,9 +1,9 @@
 //! Each outcome that is met by the seeds in their order.
 
 ghost use Rattle.std.specs.Prelude.{IfOk};
-ghost use Rattle.pf_seeds.specs.Hunts.{Tallies};
-ghost use Rattle.pf_seeds.specs.Views.{rows_of};
+ghost use Rattle.pf_seeds.specs.Known.{CountsAll};
 
+use crate::leak::{Leak, earlier, leak_at};
 use crate::row::Row;
 use crate::seeded::{Hunt, judged_by_seed};
 use crate::tally::Tally;
@@ -11,15 +11,31 @@ use pf_sched::Scratch;
 use pf_terms::NoMemory;
 use std::alloc::Global;
 
-/// The rows of the runs by the seeds from a first to before an end.
-pub fn tally_in(alloc: Global, hunt: &Hunt, from: u64, end: u64) -> Result<Tally, NoMemory>
-    ensures { IfOk result (λ t. Tallies hunt.now.strategy hunt.now.job.asked from end (rows_of t)) }
+/// The rows of the runs by the seeds before an end, and the least of these whose root returned while processes still waited.
+#[derive(Drop)]
+pub struct Tallied {
+    pub tally: Tally,
+    pub leak: Option<Leak>,
+    pub end: u64,
+}
+
+/// The rows of the runs by the seeds from a first to before an end, by the runs of this worker.
+pub fn tally_in(
+    alloc: Global,
+    hunt: &Hunt,
+    worker: u64,
+    from: u64,
+    end: u64,
+) -> Result<Tallied, NoMemory>
+    ensures { IfOk result (CountsAll hunt.now from end) }
 {
     let mut scratch = Scratch::new(alloc);
     let mut tally = Tally::new(alloc);
+    let mut leak = None;
     for seed in from..end {
-        let judged = judged_by_seed(alloc, hunt, &mut scratch, seed)?;
+        let judged = judged_by_seed(alloc, hunt, worker, &mut scratch, seed)?;
+        leak = earlier(leak, leak_at(seed, judged.waiting));
         tally.add(Row::met(seed, judged))?;
     }
-    Ok(tally)
+    Ok(Tallied { tally, leak, end })
 }

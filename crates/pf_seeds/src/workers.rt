@@ -1,17 +1,45 @@
 //! Seeds that are shared out among workers, each in a thread of its own. What they come to is what one worker comes to.
 
-ghost use Rattle.std.specs.Prelude.{◌≤◌, ◌<◌, IfOk, option_map};
+ghost use Rattle.std.specs.Prelude.{◌≤◌, ◌<◌, ℕ, IfOk};
 ghost use denote.Param.Send.{IsSync};
-ghost use Rattle.pf_seeds.specs.Hunts.{FirstFailing, Tallies};
-ghost use Rattle.pf_seeds.specs.Views.{failure_of, rows_of};
+ghost use Rattle.pf_seeds.specs.Known.{CountsAll, Finds};
+ghost use Rattle.pf_seeds.specs.declared.seeded.Hunt.{Hunt};
 
-use crate::failure::{Failure, first_in};
+use crate::failure::{Searched, first_in};
+use crate::leak::earlier;
 use crate::seeded::Hunt;
-use crate::tallied::tally_in;
-use crate::tally::Tally;
+use crate::tallied::{Tallied, tally_in};
 use pf_terms::NoMemory;
 use std::alloc::Global;
 use std::thread::{Threads, join};
+
+/// Workers that share seeds out: the first of them, counted from 0, and how many they are.
+#[derive(Drop, Clone, Copy)]
+pub struct Team {
+    pub first: u64,
+    pub size: u64,
+}
+
+impl Team {
+    ghost use Rattle.std.specs.Prelude.{◌<◌};
+
+    /// The first half of a team, and the others.
+    fn halves(self) -> (Team, Team)
+        requires { 1 < self.size }
+        ensures fewer { (result.0.size < self.size) × (result.1.size < self.size) }
+    {
+        let size = self.size / 2;
+        let front = Team {
+            first: self.first,
+            size,
+        };
+        let back = Team {
+            first: self.first.saturating_add(size),
+            size: self.size - size,
+        };
+        (front, back)
+    }
+}
 
 /// Where the part of the first of the workers ends.
 fn edge(from: u64, end: u64, first: u64, workers: u64) -> u64
@@ -24,7 +52,28 @@ fn edge(from: u64, end: u64, first: u64, workers: u64) -> u64
     from + part.min(count)
 }
 
-/// The least seed from a first to before an end whose run fails, by the given number of workers.
+/// What is known of the seeds to before an end, by those of a part in front and, where none of them fails, by those behind it.
+fn both_parts(
+    front: Searched,
+    back: Result<Searched, NoMemory>,
+    end: u64,
+) -> Result<Searched, NoMemory>
+    ensures { (h : Hunt) (a c : ℕ) → a ≤ c → c ≤ end → Finds h a c front
+        → IfOk back (Finds h c end) → IfOk result (Finds h a end) }
+{
+    let Searched { failure, leak, .. } = front;
+    if failure.is_some() {
+        return Ok(Searched { failure, leak, end });
+    }
+    let back = back?;
+    Ok(Searched {
+        failure: back.failure,
+        leak: earlier(leak, back.leak),
+        end,
+    })
+}
+
+/// The least seed from a first to before an end whose run fails, by a team of workers.
 #[cycle(first)]
 pub fn first_of_block<R: Threads + Sync>(
     rt: &R,
@@ -32,37 +81,28 @@ pub fn first_of_block<R: Threads + Sync>(
     hunt: &Hunt,
     from: u64,
     end: u64,
-    workers: u64,
-) -> Result<Option<Failure>, NoMemory>
-    ensures { IfOk result (λ f.
-        FirstFailing hunt.now.strategy hunt.now.job.asked from end (option_map failure_of f)) }
+    team: Team,
+) -> Result<Searched, NoMemory>
+    ensures { IfOk result (Finds hunt.now from end) }
 {
-    if workers < 2 || end <= from {
-        return first_in(alloc, hunt, from, end);
+    if team.size < 2 || end <= from {
+        return first_in(alloc, hunt, team.first, from, end);
     }
-    let low = workers / 2;
-    let high = workers - low;
-    let middle = edge(from, end, low, workers);
-    let front_part = move || -> Result<Option<Failure>, NoMemory>
+    let (front_team, back_team) = team.halves();
+    let middle = edge(from, end, front_team.size, team.size);
+    let front_part = move || -> Result<Searched, NoMemory>
         requires { IsSync R.row }
-        ensures { IfOk result (λ f.
-            FirstFailing hunt.entry.now.strategy hunt.entry.now.job.asked from middle
-            (option_map failure_of f)) }
-    { first_of_block(rt, alloc, hunt, from, middle, low) };
-    let back_part = move || -> Result<Option<Failure>, NoMemory>
+        ensures { IfOk result (Finds hunt.entry.now from middle) }
+    { first_of_block(rt, alloc, hunt, from, middle, front_team) };
+    let back_part = move || -> Result<Searched, NoMemory>
         requires { IsSync R.row }
-        ensures { IfOk result (λ f.
-            FirstFailing hunt.entry.now.strategy hunt.entry.now.job.asked middle end
-            (option_map failure_of f)) }
-    { first_of_block(rt, alloc, hunt, middle, end, high) };
+        ensures { IfOk result (Finds hunt.entry.now middle end) }
+    { first_of_block(rt, alloc, hunt, middle, end, back_team) };
     let (front, back) = join(rt, front_part, back_part);
-    match front? {
-        Some(failure) => Ok(Some(failure)),
-        None => back,
-    }
+    both_parts(front?, back, end)
 }
 
-/// The rows of the runs by the seeds from a first to before an end, by the given number of workers.
+/// The rows of the runs by the seeds from a first to before an end, by a team of workers.
 #[cycle(tallied)]
 pub fn tally_of_block<R: Threads + Sync>(
     rt: &R,
@@ -70,28 +110,28 @@ pub fn tally_of_block<R: Threads + Sync>(
     hunt: &Hunt,
     from: u64,
     end: u64,
-    workers: u64,
-) -> Result<Tally, NoMemory>
-    ensures { IfOk result (λ t. Tallies hunt.now.strategy hunt.now.job.asked from end (rows_of t)) }
+    team: Team,
+) -> Result<Tallied, NoMemory>
+    ensures { IfOk result (CountsAll hunt.now from end) }
 {
-    if workers < 2 || end <= from {
-        return tally_in(alloc, hunt, from, end);
+    if team.size < 2 || end <= from {
+        return tally_in(alloc, hunt, team.first, from, end);
     }
-    let low = workers / 2;
-    let high = workers - low;
-    let middle = edge(from, end, low, workers);
-    let front_part = move || -> Result<Tally, NoMemory>
+    let (front_team, back_team) = team.halves();
+    let middle = edge(from, end, front_team.size, team.size);
+    let front_part = move || -> Result<Tallied, NoMemory>
         requires { IsSync R.row }
-        ensures { IfOk result (λ t.
-            Tallies hunt.entry.now.strategy hunt.entry.now.job.asked from middle (rows_of t)) }
-    { tally_of_block(rt, alloc, hunt, from, middle, low) };
-    let back_part = move || -> Result<Tally, NoMemory>
+        ensures { IfOk result (CountsAll hunt.entry.now from middle) }
+    { tally_of_block(rt, alloc, hunt, from, middle, front_team) };
+    let back_part = move || -> Result<Tallied, NoMemory>
         requires { IsSync R.row }
-        ensures { IfOk result (λ t.
-            Tallies hunt.entry.now.strategy hunt.entry.now.job.asked middle end (rows_of t)) }
-    { tally_of_block(rt, alloc, hunt, middle, end, high) };
+        ensures { IfOk result (CountsAll hunt.entry.now middle end) }
+    { tally_of_block(rt, alloc, hunt, middle, end, back_team) };
     let (front, back) = join(rt, front_part, back_part);
-    let mut tally = front?;
-    tally.join(back?)?;
-    Ok(tally)
+    let front = front?;
+    let back = back?;
+    let mut tally = front.tally;
+    tally.join(back.tally)?;
+    let leak = earlier(front.leak, back.leak);
+    Ok(Tallied { tally, leak, end })
 }

@@ -9,6 +9,9 @@ pub mod Selected
 pub mod Plain
 pub mod Matched
 pub mod Entered
+pub mod Contractions
+pub mod Arguments
+pub mod Values
 pub mod Outer
 pub mod Ready
 pub mod Scans

@@ -7,6 +7,7 @@ pub mod View
 pub mod Sound
 pub mod MicroSteps
 pub mod Advanced
+pub mod Lane
 pub mod MachineView
 pub mod Readiness
 pub mod Encoding

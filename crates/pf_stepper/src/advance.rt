@@ -94,7 +94,15 @@ impl Stack {
         let mut focus = first;
         let mut used = 0;
         while used < left {
+            used += self.hurry(alloc, code, own, &mut focus, left - used)?;
+            if used == left {
+                put(advance, Advance::Changed(focus));
+                return Ok(used);
+            }
             used += 1;
+            if self.stops(code, own, &mut focus, advance)? {
+                return Ok(used);
+            }
             match self.advance(alloc, code, own, focus)? {
                 Advance::Changed(next) => focus = next,
                 stop => {

@@ -170,7 +170,7 @@ impl Stack {
     /// The slot of a left operand that can be read after the right one: the left one is a variable in scope,
     /// and the right one a node.
     #[inline(always)]
-    fn left_in_scope(&self, left: Operand, right: Operand) -> Option<u32>
+    pub(crate) fn left_in_scope(&self, left: Operand, right: Operand) -> Option<u32>
         ensures in_scope { IfSome result (λ x.
             IsLeftInScope (activation self.now.env.items self.now.base) left x) }
         ensures index { result ≡ left_index (activation self.now.env.items self.now.base) left right }

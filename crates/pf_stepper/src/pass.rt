@@ -13,7 +13,7 @@ use pf_syntax::{Module, NodeId, Operand};
 use pf_terms::NoMemory;
 
 /// A count of arguments as a frame notes it. It fails at 2^32, which no machine has the room for.
-fn noted(count: usize) -> Result<u32, NoMemory>
+pub(crate) fn noted(count: usize) -> Result<u32, NoMemory>
     ensures { IfOk result (λ n. n ≡ count) }
 {
     u32::try_from(count).map_err(|_| NoMemory)

@@ -1,11 +1,12 @@
 //! One stack of slots for all activations, one of finished operands, and the frames over them.
 
-ghost use Rattle.std.specs.Prelude.{◌≡◌, ◌≤◌, ◌∷◌, [], ◌++◌, drop, length, take, IfOk, IfSome, OnOk, Some};
+ghost use Rattle.std.specs.Prelude.{◌≡◌, ◌≤◌, ◌-◌, ◌∷◌, [], ◌++◌, ◌<◌, drop, length, take, vec_capacity, vec_len, IfOk, IfSome, OnOk, Some};
 ghost use Rattle.pf_terms.specs.Term.{value_of};
 ghost use Rattle.pf_terms.specs.declared.term.Term.TheVariants as term;
 ghost use Rattle.pf_syntax.specs.Module.{Tables};
 ghost use Rattle.pf_patterns.specs.Operands.{IsOperand};
 ghost use Rattle.pf_patterns.specs.Slots.{activation};
+ghost use Rattle.pf_stepper.specs.Lane.{under};
 ghost use Rattle.pf_stepper.specs.Lookups.{value_at};
 ghost use Rattle.pf_stepper.specs.Sound.{frame_for, top_end};
 
@@ -40,6 +41,28 @@ pub(crate) fn cut(values: &mut Vec<Term>, end: usize)
     while end < values.len() {
         values.pop();
     }
+}
+
+/// Room for one more.
+#[inline(never)]
+fn grow<T>(values: &mut Vec<T>) -> Result<(), NoMemory>
+    ensures items { values.new.items ≡ values.old.items }
+    ensures room { OnOk result (vec_len values.new < vec_capacity values.new) }
+{
+    values.reserve(1)?;
+    Ok(())
+}
+
+/// A value behind the others. Most often there is room, and then it needs no call.
+#[inline(always)]
+pub(crate) fn append<T: Drop>(values: &mut Vec<T>, value: T) -> Result<(), NoMemory>
+    ensures { OnOk result (values.new.items ≡ values.old.items ++ value ∷ []) }
+{
+    if values.len() == values.capacity() {
+        grow(values)?;
+    }
+    values.push_reserved(value);
+    Ok(())
 }
 
 impl Stack {
@@ -104,6 +127,53 @@ impl Stack {
         let frame = self.frame(kind);
         self.frames.push(frame)?;
         Ok(())
+    }
+
+    /// The same without a call where there is room.
+    #[inline(always)]
+    pub(crate) fn hold(&mut self, kind: Kind) -> Result<(), NoMemory>
+        ensures ok { OnOk result (self.new.frames.items
+            ≡ self.old.frames.items ++ frame_for kind self.old.base (length self.old.env.items) ∷ []) }
+        ensures env { self.new.env ≡ self.old.env }
+        ensures operands { self.new.operands ≡ self.old.operands }
+        ensures base { self.new.base ≡ self.old.base }
+    {
+        let frame = self.frame(kind);
+        append(&mut self.frames, frame)
+    }
+
+    /// The innermost frame.
+    #[inline(always)]
+    pub(crate) fn innermost(&self) -> Option<Frame>
+        ensures { IfSome result (λ x. self.now.frames.items ≡ under self.now.frames.items ++ x ∷ []) }
+    {
+        match self.frames.last() {
+            Some(frame) => Some(*frame),
+            None => None,
+        }
+    }
+
+    /// Takes off the innermost frame.
+    #[inline(always)]
+    pub(crate) fn leave(&mut self)
+        ensures frames { self.new.frames.items ≡ under self.old.frames.items }
+        ensures env { self.new.env ≡ self.old.env }
+        ensures operands { self.new.operands ≡ self.old.operands }
+        ensures base { self.new.base ≡ self.old.base }
+    {
+        let _frame = self.frames.pop();
+    }
+
+    /// Takes off the last operand.
+    #[inline(always)]
+    pub(crate) fn leave_operand(&mut self)
+        ensures operands { self.new.operands.items
+            ≡ take (length self.old.operands.items - 1) self.old.operands.items }
+        ensures env { self.new.env ≡ self.old.env }
+        ensures frames { self.new.frames ≡ self.old.frames }
+        ensures base { self.new.base ≡ self.old.base }
+    {
+        let _operand = self.operands.pop();
     }
 
     /// The operands after the first n become the newest slots.

@@ -1,4 +1,4 @@
-//! Charts of reports that are made by hand. Of three processes column K has its middle at 156 + 200 K, and the row of event N at
+//! Charts of reports that are made by hand. Of three processes column K has its middle at 180 + 200 K, and the row of event N at
 //! 51 + 26 N.
 
 use crate::fixtures::{atom, chart, has_all, spawn, turn};
@@ -20,8 +20,8 @@ fn an_empty_report_has_the_root_and_the_outcome(rt: HostRuntime) -> Result<(), F
         &[
             "<title>Run of main</title>",
             "<g class=\"process\" data-pid=\"0\"><title>&lt;0&gt; from main</title>",
-            "<text class=\"of\" x=\"156\" y=\"45\">main</text>",
-            "y=\"138\">memory</text>",
+            "<text class=\"of\" x=\"180\" y=\"45\">main</text>",
+            "y=\"174\">memory</text>",
         ],
     )
 }
@@ -36,7 +36,7 @@ fn a_head_tells_who_spawned_a_process(rt: HostRuntime) -> Result<(), Fail> {
         &text,
         &[
             "<g class=\"process\" data-pid=\"2\"><title>&lt;2&gt; spawned by &lt;0&gt; in event 2</title>",
-            "<text class=\"pid\" x=\"556\" y=\"29\">&lt;2&gt;</text><text class=\"of\" x=\"556\" y=\"45\">by &lt;0&gt;</text>",
+            "<text class=\"pid\" x=\"580\" y=\"29\">&lt;2&gt;</text><text class=\"of\" x=\"580\" y=\"45\">by &lt;0&gt;</text>",
         ],
     )
 }
@@ -58,8 +58,9 @@ fn who_is_in_a_deadlock_is_red_from_the_last_wait_on(rt: HostRuntime) -> Result<
         &text,
         &[
             "<g class=\"process deadlocked\" data-pid=\"0\">",
-            "<line class=\"life waiting\" x1=\"156\" y1=\"155\" x2=\"156\" y2=\"220\"/>",
-            "<text class=\"foot\" x=\"156\" y=\"234\">&lt;0&gt;</text><text class=\"foot\" x=\"156\" y=\"246\">waits</text>",
+            "<line class=\"life waiting\" x1=\"180\" y1=\"155\" x2=\"180\" y2=\"220\"/>",
+            "<text class=\"pid\" x=\"180\" y=\"237\">&lt;0&gt;</text><text class=\"of\" x=\"180\" y=\"253\">main</text>\
+<text class=\"foot\" x=\"180\" y=\"274\">waits</text>",
             "<g class=\"process\" data-pid=\"1\">",
             "<g class=\"process deadlocked\" data-pid=\"2\">",
             ">deadlock &lt;0&gt; &lt;2&gt;</text>",
@@ -98,7 +99,7 @@ fn what_is_long_is_shortened_and_whole_in_its_tooltip(rt: HostRuntime) -> Result
             "<title>receive abcdefghijklmnopqrstuvwxyzabcdefghijklmnopqrstuvwxyzabcdefghijklmnopqrstuvwxyz</title>",
             ">receive abcdefghijklmnopqrstuvwx...</text>",
             "<title>finished abcdefghijklmnopqrstuvwxyzabcdefghijklmnopqrstuvwxyzabcdefghijklmnopqrstuvwxyz</title>",
-            ">finished abcdefghijklmnopqrstuvwxyzabcdefghijklmnopqrstuvwxyzabcdefghijk...</text>",
+            ">finished abcdefghijklmnopqrstuvwxyzabcdefghijklmnopqrstuvwxyzabcde...</text>",
         ],
     )
 }

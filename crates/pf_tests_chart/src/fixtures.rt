@@ -1,6 +1,6 @@
 //! Reports that are made by hand, and their charts.
 
-use pf_chart::put_chart;
+use pf_chart::{Manner, put_chart};
 use pf_model::Signal;
 use pf_terms::{AtomTable, Term};
 use pf_trace::{Actor, Event, Label, Outcome, Report, Suffix};
@@ -19,6 +19,17 @@ fn event(actor: Actor, label: Label) -> Event {
 /// What a process did in a turn.
 pub(crate) fn turn(pid: u32, label: Label) -> Event {
     event(Actor::Process(pid), label)
+}
+
+/// The same by another choice.
+pub(crate) fn chosen(choice: u32, count: u32, event: Event) -> Event {
+    let Event { actor, label, .. } = event;
+    Event {
+        choice,
+        count,
+        actor,
+        label,
+    }
 }
 
 /// What came of a signal.
@@ -61,12 +72,37 @@ pub(crate) fn has_all(text: &str, pieces: &[&str]) -> Result<(), Fail> {
     Ok(())
 }
 
-/// The chart of a run of `main`.
+/// The first page of the chart of a run of `main`, in which each event has a row.
 pub(crate) fn chart(
     alloc: Global,
     atoms: &AtomTable,
     events: Vec<Event>,
     outcome: Outcome,
+) -> Result<String, Fail> {
+    let manner = Manner {
+        compact: false,
+        page: 1,
+    };
+    chart_in(alloc, atoms, events, outcome, manner)
+}
+
+/// That a chart has none of these pieces.
+pub(crate) fn has_none(text: &str, pieces: &[&str]) -> Result<(), Fail> {
+    for piece in pieces {
+        if text.contains(*piece) {
+            return Err(Fail::new(format_args!("the chart has {piece}")));
+        }
+    }
+    Ok(())
+}
+
+/// The chart of a run of `main` in this manner.
+pub(crate) fn chart_in(
+    alloc: Global,
+    atoms: &AtomTable,
+    events: Vec<Event>,
+    outcome: Outcome,
+    manner: Manner,
 ) -> Result<String, Fail> {
     let report = Report {
         events,
@@ -75,7 +111,7 @@ pub(crate) fn chart(
         verdict: None,
     };
     let mut text = Vec::new(alloc);
-    put_chart(alloc, &mut text, atoms, b"main", &report)?;
+    put_chart(alloc, &mut text, atoms, b"main", &report, manner)?;
     match String::from_utf8(text) {
         Ok(text) => Ok(text),
         Err(_) => Err(Fail::from("a chart is no UTF-8")),

@@ -6,4 +6,6 @@ mod charts;
 #[cfg(test)]
 mod fixtures;
 #[cfg(test)]
+mod manners;
+#[cfg(test)]
 mod signals;

@@ -1,4 +1,4 @@
-//! Arrows of charts of reports that are made by hand. Of three processes column K has its middle at 156 + 200 K, and the row of event N
+//! Arrows of charts of reports that are made by hand. Of three processes column K has its middle at 180 + 200 K, and the row of event N
 //! at 51 + 26 N.
 
 use crate::fixtures::{chart, delivery, has_all, number, send, spawn, turn};
@@ -22,10 +22,10 @@ fn an_arrow_goes_from_a_send_to_its_delivery(rt: HostRuntime) -> Result<(), Fail
     has_all(
         &text,
         &[
-            "<g class=\"arrow spawn\" data-event=\"2\"><path d=\"M156 103L556 103\"/></g>",
-            "<g class=\"event send\" data-event=\"3\" transform=\"translate(156 129)\"><title>send &lt;2&gt; 7</title>",
+            "<g class=\"arrow spawn\" data-event=\"2\"><path d=\"M180 103L580 103\"/></g>",
+            "<g class=\"event send\" data-event=\"3\" transform=\"translate(180 129)\"><title>send &lt;2&gt; 7</title>",
             "<g class=\"arrow message\" data-event=\"3\" data-delivery=\"4\"><title>message from &lt;0&gt; to &lt;2&gt;</title>\
-<path d=\"M156 129L556 155\"/></g>",
+<path d=\"M180 129L580 155\"/></g>",
             "<g class=\"event receive\" data-event=\"5\"",
         ],
     )
@@ -46,7 +46,7 @@ fn a_dropped_signal_ends_at_a_cross(rt: HostRuntime) -> Result<(), Fail> {
         &text,
         &[
             "<g class=\"arrow message dropped\" data-event=\"3\" data-delivery=\"4\">",
-            "data-event=\"4\" transform=\"translate(556 155)\"><title>deliver message dropped</title><path d=\"M-6 -6l12 12M-6 6l12 -12\"/>",
+            "data-event=\"4\" transform=\"translate(580 155)\"><title>deliver message dropped</title><path d=\"M-6 -6l12 12M-6 6l12 -12\"/>",
         ],
     )
 }
@@ -67,10 +67,10 @@ fn a_signal_that_is_never_delivered_ends_between_lifelines(rt: HostRuntime) -> R
         &text,
         &[
             "<g class=\"arrow message lost\" data-event=\"3\"><title>message from &lt;0&gt; to &lt;2&gt;, never delivered</title>\
-<path d=\"M156 129L256 149\"/></g>",
+<path d=\"M180 129L280 149\"/></g>",
             "<g class=\"arrow message lost\" data-event=\"4\"><title>message from &lt;2&gt; to &lt;1&gt;, never delivered</title>\
-<path d=\"M556 155L456 175\"/></g>",
-            "<path d=\"M356 181L334 201\"/></g>",
+<path d=\"M580 155L480 175\"/></g>",
+            "<path d=\"M380 181L358 201\"/></g>",
         ],
     )
 }
@@ -128,8 +128,8 @@ fn who_is_watched_from_its_begin_has_a_mark_of_its_own(rt: HostRuntime) -> Resul
     has_all(
         &text,
         &[
-            "<g class=\"event watched\" data-event=\"1\" transform=\"translate(156 77)\"><title>spawn_monitor &lt;1&gt; #Ref&lt;0&gt;</title>",
-            "<g class=\"arrow spawn\" data-event=\"1\"><path d=\"M156 77L356 77\"/></g>",
+            "<g class=\"event watched\" data-event=\"1\" transform=\"translate(180 77)\"><title>spawn_monitor &lt;1&gt; #Ref&lt;0&gt;</title>",
+            "<g class=\"arrow spawn\" data-event=\"1\"><path d=\"M180 77L380 77\"/></g>",
             "<g class=\"arrow down\" data-event=\"2\" data-delivery=\"3\">",
             ">demonitor #Ref&lt;0&gt; flush</text>",
         ],

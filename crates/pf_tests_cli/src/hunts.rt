@@ -1,7 +1,7 @@
 //! What the words of `hunt` and of `chart` ask for.
 
 use crate::requests::{is_main, is_seeded};
-use pf_cli::{Args, Edition, HuntArgs, RunArgs, Sought, read_args, status_of_kind};
+use pf_cli::{Args, ChartArgs, Edition, HuntArgs, RunArgs, Sought, read_args, status_of_kind};
 use pf_strategy::Strategy;
 use std::alloc::Global;
 use std::test::Fail;
@@ -37,13 +37,32 @@ fn seeds_of(alloc: Global, word: &str) -> Option<(u64, u64)> {
 #[test]
 fn seeds_of_a_hunt(rt: HostRuntime) {
     let largest = "--seeds=18446744073709551614..18446744073709551615";
+    let last = "--seeds=0..=18446744073709551614";
     for (word, seeds) in [
         ("--seeds=0..1", (0, 1)),
         ("--seeds=7..1000", (7, 1000)),
         (largest, (u64::MAX - 1, u64::MAX)),
+        ("--seeds=5", (0, 5)),
+        ("--seeds=18446744073709551615", (0, u64::MAX)),
+        ("--seeds=5..=5", (5, 6)),
+        (last, (0, u64::MAX)),
     ] {
         assert_eq!(rt; seeds_of(rt.alloc(), word), Some(seeds));
     }
+}
+
+/// Whether a hunt has what one has that is given a file alone.
+fn is_of_defaults(hunt: &HuntArgs) -> bool {
+    hunt.file == Some("a.erl")
+        && is_main(&hunt.request, "returns", 100_000)
+        && (hunt.first, hunt.end) == (0, 10_000)
+        && hunt.time.is_none()
+}
+
+#[test]
+fn a_hunt_may_have_a_file_alone(rt: HostRuntime) {
+    let words = ["pulsefarm", "hunt", "a.erl"];
+    assert!(rt; matches!(&hunt_of(rt.alloc(), &words), Some(hunt) if is_of_defaults(hunt)));
 }
 
 /// Whether a hunt has what it is given, and no more.
@@ -52,6 +71,7 @@ fn is_as_given(hunt: &HuntArgs) -> bool {
         && is_main(&hunt.request, "true", 5)
         && is_seeded(&hunt.request, 0)
         && matches!(hunt.edition, Edition::First)
+        && hunt.time.is_none()
         && hunt.workers.is_none()
         && matches!(hunt.sought, Sought::Failure { runs: None })
 }
@@ -60,6 +80,39 @@ fn is_as_given(hunt: &HuntArgs) -> bool {
 fn a_hunt_has_what_it_is_given(rt: HostRuntime) {
     let words = hunt_over("--seeds=0..10", "a.erl");
     assert!(rt; matches!(&hunt_of(rt.alloc(), &words), Some(hunt) if is_as_given(hunt)));
+}
+
+/// The seeds of a hunt for a time, and how many seconds it has; none where the word is refused.
+fn for_a_time(alloc: Global, word: &str) -> Option<(u64, u64, Option<u64>)> {
+    let words = hunt_over(word, "a.erl");
+    let hunt = hunt_of(alloc, &words)?;
+    Some((hunt.first, hunt.end, hunt.time))
+}
+
+#[test]
+fn times_of_a_hunt(rt: HostRuntime) {
+    for (word, seconds) in [
+        ("--for=1s", 1),
+        ("--for=90s", 90),
+        ("--for=5m", 300),
+        ("--for=2h", 7200),
+        ("--for=4294967295h", 15461882262000),
+    ] {
+        assert_eq!(rt;
+            for_a_time(rt.alloc(), word),
+            Some((0, u64::MAX, Some(seconds))),
+            "{word}"
+        );
+    }
+}
+
+#[test]
+fn seeds_and_a_time(rt: HostRuntime) {
+    let words = hunt_over("--seeds=3..10", "--for=5m");
+    let hunt = hunt_of(rt.alloc(), &words);
+    assert!(rt;
+        matches!(&hunt, Some(hunt) if hunt.first == 3 && hunt.end == 10 && hunt.time == Some(300))
+    );
 }
 
 /// Whether a hunt seeks outcomes, or within how many runs it shrinks; none where the word is refused.
@@ -96,7 +149,7 @@ fn refused_hunt(alloc: Global, why: &str) -> Result<String, Fail> {
     Ok(format!(in alloc;
         "error: {why}
 
-Usage: pulsefarm hunt [OPTIONS] --root <F> --limit <N> --property <P> --seeds <A..B> [FILE]
+Usage: pulsefarm hunt [OPTIONS] [FILE]...
 
 For more information, try '--help'.
 "
@@ -104,7 +157,7 @@ For more information, try '--help'.
 }
 
 /// Whether these words are refused for this, with the status 2.
-fn is_refused(alloc: Global, words: &[&str], why: &str) -> Result<bool, Fail> {
+pub fn is_refused(alloc: Global, words: &[&str], why: &str) -> Result<bool, Fail> {
     let text = refused_hunt(alloc, why)?;
     match read_args(alloc, words) {
         Ok(_) => Ok(false),
@@ -173,21 +226,37 @@ fn wrong_strategies_are_named(rt: HostRuntime) -> Result<(), Fail> {
 #[test]
 fn wrong_seeds_are_named(rt: HostRuntime) -> Result<(), Fail> {
     let wants =
-        "two numbers A..B from 0 to 18446744073709551615, without leading zeros, A below B; B is the end and not run";
+        "A..B, A..=B or N, numbers from 0 to 18446744073709551615 without leading zeros: the seeds from A to before B, up to B, or from 0 to before N";
     let values = [
         "",
-        "5",
+        "0",
+        "05",
+        "5.",
         "5..",
         "..5",
         "5..5",
         "6..5",
+        "5..=4",
+        "5..=",
         "0...5",
-        "0..=5",
+        "0.=5",
+        "0..==5",
         "00..5",
         "0.5",
         "0..18446744073709551616",
+        "0..=18446744073709551615",
     ];
     let taken = taken_value(rt.alloc(), "a.erl", "--seeds", "<A..B>", &values, wants)?;
+    assert_eq!(rt; taken, None);
+    Ok(())
+}
+
+#[test]
+fn wrong_times_are_named(rt: HostRuntime) -> Result<(), Fail> {
+    let wants =
+        "a number of seconds, minutes or hours above 0, without leading zeros, as 90s, 5m or 2h";
+    let values = ["", "s", "5", "0s", "05s", "5ms", "5S", "4294967296s"];
+    let taken = taken_value(rt.alloc(), "a.erl", "--for", "<T>", &values, wants)?;
     assert_eq!(rt; taken, None);
     Ok(())
 }
@@ -257,5 +326,64 @@ fn a_chart_takes_the_words_of_a_run(rt: HostRuntime) {
         "--seed=3",
     ];
     let asked = read_args(rt.alloc(), &words);
-    assert!(rt; matches!(&asked, Ok(Args::Chart(run)) if returns_of(run, "a.erl")));
+    assert!(rt; matches!(&asked, Ok(Args::Chart(chart)) if returns_of(&chart.run, "a.erl")));
+}
+
+/// Whether a chart is of the run of `main` of this file within 100,000 steps, and has this manner.
+fn is_drawn(chart: &ChartArgs, file: &str, compact: bool, page: u32) -> bool {
+    chart.run.file == Some(file)
+        && is_main(&chart.run.request, "returns", 100_000)
+        && chart.compact == compact
+        && chart.page == page
+}
+
+#[test]
+fn a_chart_may_have_a_file_and_a_seed_alone(rt: HostRuntime) {
+    let words = ["pulsefarm", "chart", "a.erl", "--seed=3"];
+    let asked = read_args(rt.alloc(), &words);
+    assert!(rt; matches!(&asked, Ok(Args::Chart(chart)) if is_drawn(chart, "a.erl", false, 1)));
+}
+
+#[test]
+fn a_chart_has_the_manner_that_it_is_given(rt: HostRuntime) {
+    let words = [
+        "pulsefarm",
+        "chart",
+        "--compact",
+        "a.erl",
+        "--seed=3",
+        "--page=4294967295",
+    ];
+    let asked = read_args(rt.alloc(), &words);
+    assert!(rt;
+        matches!(&asked, Ok(Args::Chart(chart)) if is_drawn(chart, "a.erl", true, u32::MAX))
+    );
+}
+
+/// Whether a page of this number is refused, with the status 2.
+fn is_refused_page(alloc: Global, value: &str) -> Result<bool, Fail> {
+    let word = format!(in alloc; "--page={value}")?;
+    let text = format!(in alloc;
+        "error: invalid value '{value}' for '--page <K>': it wants a number from 1 to 4294967295, without leading zeros
+
+Usage: pulsefarm chart [OPTIONS] <--seed <N>|--schedule <L>> [FILE]
+
+For more information, try '--help'.
+"
+    )?;
+    match read_args(alloc, &["pulsefarm", "chart", "--seed=3", &word]) {
+        Ok(_) => Ok(false),
+        Err(error) => {
+            let shown = error.to_string(alloc)?;
+            Ok(shown.as_str() == text.as_str() && status_of_kind(error.kind()) == 2)
+        }
+    }
+}
+
+#[test]
+fn wrong_pages_are_named(rt: HostRuntime) -> Result<(), Fail> {
+    for value in ["", "0", "01", "-1", "4294967296"] {
+        assert!(rt; is_refused_page(rt.alloc(), value)?, "{value}");
+    }
+    Ok(())
 }

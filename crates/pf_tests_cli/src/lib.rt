@@ -6,6 +6,8 @@ mod farms;
 #[cfg(test)]
 mod hunts;
 #[cfg(test)]
+mod reach;
+#[cfg(test)]
 mod readings;
 #[cfg(test)]
 mod requests;

@@ -173,3 +173,35 @@ fn what_another_job_came_to_is_not_filed(rt: HostRuntime) -> Result<(), Fail> {
     assert_eq!(rt; told.as_str(), "false, true, false, running");
     Ok(())
 }
+
+/// What the book says of the file of project 3's trial: under the equal ticket of project 8, whose equal trial waits; and under its own, once that
+/// was dropped.
+fn strayed(alloc: Global, book: &mut Book) -> Result<String, Fail> {
+    let Some(job) = book.claim_at(3, 1)? else {
+        return Err(Fail::from("a trial isn't queued"));
+    };
+    let finished = run_to_end(alloc, job, &mut Scratch::new(alloc), &mut Silent)?;
+    let other = book.file(8, 1, finished.share()?);
+    let gone = dropped(alloc, book, 1)?;
+    let own = book.file(3, 1, finished);
+    Ok(format!(in alloc; "{other}, {gone}, {own}")?)
+}
+
+/// The same, and where project 8's trial stands then.
+fn told_of_stray_files(alloc: Global, keys: RandomState) -> Result<String, Fail> {
+    let mut book = Book::new(alloc, keys);
+    submitted(alloc, &mut book, 3, SUM_BYTES)?;
+    submitted(alloc, &mut book, 8, SUM_BYTES)?;
+    ordered(alloc, &mut book, 3)?;
+    ordered(alloc, &mut book, 8)?;
+    let told = strayed(alloc, &mut book)?;
+    let left = described(alloc, book.status(alloc, 8, 1)?)?;
+    Ok(format!(in alloc; "{told}, {left}")?)
+}
+
+#[test]
+fn what_is_of_another_project_or_was_dropped_is_not_filed(rt: HostRuntime) -> Result<(), Fail> {
+    let told = told_of_stray_files(rt.alloc(), RandomState::new(&rt)?)?;
+    assert_eq!(rt; told.as_str(), "false, given up, false, queued");
+    Ok(())
+}

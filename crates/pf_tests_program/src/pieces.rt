@@ -4,7 +4,7 @@ ghost use Rattle.std.specs.Prelude.{◌≡◌, ◌<◌};
 
 use crate::pipes::{Ended, end_of};
 use pf_terms::{Counted, FailAt};
-use pf_wire::run_steps;
+use pf_wire::{Ending, run_steps};
 use std::alloc::{AllocError, Global};
 use std::hash::RandomState;
 use std::io;
@@ -87,7 +87,7 @@ fn tell_by<L: Ledger, M: Ledger>(
     };
     let mut reader = Counted::<FailAt<Bites<'_>>, L>::new(FailAt::new(bites, failing), reads);
     let mut writer = Counted::<Tally, M>::new(tally, writes);
-    let ended = end_of(run_steps(alloc, keys, &mut reader, &mut writer));
+    let ended = end_of(run_steps(alloc, keys, &mut reader, &mut writer, &mut Ending::new()));
     let Counted { inner: tally, .. } = writer;
     Told { ended, tally }
 }

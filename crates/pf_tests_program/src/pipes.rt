@@ -5,12 +5,12 @@ ghost use Rattle.pf_request.specs.Request.{choices_in, may_weigh};
 ghost use Rattle.pf_request.specs.View.{view_of_kind};
 
 use pf_cli::{Edition, RunArgs};
-use pf_command::{Answering, Run, Shrink, serve};
+use pf_command::{Answering, Shrink, run_source, serve};
 use pf_fault::OrNoMemory;
 use pf_request::{Kind, Request, RunChoices, ShortBytes};
 use pf_sched::Observer;
 use pf_terms::{Counted, FailAt, StreamFault};
-use pf_wire::run_steps;
+use pf_wire::{Ending, run_steps};
 use std::alloc::{AllocError, Global};
 use std::hash::RandomState;
 use std::io;
@@ -125,10 +125,38 @@ pub fn asked<'a>(alloc: Global, property: &str, kind: Kind) -> Result<RunArgs<'a
     })
 }
 
+fn run_by<L: Ledger, M: Ledger>(
+    alloc: Global,
+    args: &RunArgs,
+    input: &[u8],
+    failing: Failing,
+    reads: Blank,
+    writes: Blank,
+) -> Worked
+    requires reads { reads.name ≡ L.name }
+    requires read_parts { reads.parts ≡ L.parts }
+    requires some_reads { 0 < reads.parts }
+    requires writes { writes.name ≡ M.name }
+    requires write_parts { writes.parts ≡ M.parts }
+    requires some_writes { 0 < writes.parts }
+{
+    let narrow = Narrow {
+        taken: Vec::new(alloc),
+    };
+    let mut reader = Counted::<FailAt<&[u8]>, L>::new(FailAt::new(input, failing.read), reads);
+    let mut writer = Counted::<FailAt<Narrow>, M>::new(FailAt::new(narrow, failing.write), writes);
+    let ended = end_of(run_source(alloc, &mut reader, args, &mut writer));
+    let Counted { inner, .. } = writer;
+    let FailAt { inner: narrow, .. } = inner;
+    let Narrow { taken: out } = narrow;
+    Worked { out, ended }
+}
+
 /// Runs `main` of a source in memory by a seed within 1,000 steps, with calls that fail.
 pub fn run(alloc: Global, input: &[u8], failing: Failing) -> Result<Worked, AllocError> {
     let args = asked(alloc, "returns", Kind::Run(RunChoices::Seed(0)))?;
-    Ok(answer(alloc, Run { args: &args }, input, failing))
+    let (reads, writes) = (Blank::new(1), Blank::new(1));
+    Ok(run_by::<Brand, Brand>(alloc, &args, input, failing, reads, writes))
 }
 
 /// Shrinks a schedule of a source in memory.
@@ -162,7 +190,7 @@ fn carry_out_by<L: Ledger, M: Ledger>(
     };
     let mut reader = Counted::<FailAt<&[u8]>, L>::new(FailAt::new(input, failing.read), reads);
     let mut writer = Counted::<FailAt<Narrow>, M>::new(FailAt::new(narrow, failing.write), writes);
-    let ended = end_of(run_steps(alloc, keys, &mut reader, &mut writer));
+    let ended = end_of(run_steps(alloc, keys, &mut reader, &mut writer, &mut Ending::new()));
     let Counted { inner, .. } = writer;
     let FailAt { inner: narrow, .. } = inner;
     let Narrow { taken: out } = narrow;

@@ -5,3 +5,5 @@
 mod hunts;
 #[cfg(test)]
 mod jobs;
+#[cfg(test)]
+mod leaks;

@@ -7,7 +7,7 @@ ghost use Rattle.pf_model.specs.Text.{report_text};
 ghost use Rattle.pf_trace.specs.Written.{AreWritten, AreWrittenSoFar, end_text, events_of, told_so_far, report_in};
 
 use crate::event_lines::EventLines;
-use crate::report::{put_event, put_outcome, put_steps, put_verdict};
+use crate::report::{put_event, put_last_lines};
 use pf_model::report::{Event, Outcome};
 use pf_terms::{AtomTable, NoMemory};
 use pf_text::put;
@@ -23,8 +23,8 @@ const FIRST_BYTES: usize = 1_000;
 /// The lines of a run's events, put as the run goes. The events are not kept: what stands for them has no bytes, and only clauses read it.
 #[derive(Drop)]
 pub struct LinesSoFar {
-    text: Vec<u8>,
-    told: Vec<Snapshot<Event>>,
+    pub(crate) text: Vec<u8>,
+    pub(crate) told: Vec<Snapshot<Event>>,
 }
 
 impl LinesSoFar {
@@ -99,9 +99,7 @@ impl WrittenReport {
         ensures { OnOk result (out.new.items ≡ out.old.items
             ++ end_text (name_of atoms.now) (report_in self.now)) }
     {
-        put_outcome(out, atoms, &self.outcome)?;
-        put_steps(out, self.steps)?;
-        put_verdict(out, self.verdict)
+        put_last_lines(out, atoms, &self.outcome, self.steps, self.verdict)
     }
 }
 

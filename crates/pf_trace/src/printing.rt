@@ -1,37 +1,46 @@
 //! What is printed of a report.
 
-ghost use Rattle.std.specs.Prelude.{◌≡◌, IfErr, OnOk};
+ghost use Rattle.std.specs.Prelude.{◌≡◌, IfErr, IfOk, OnOk, map};
 ghost use Rattle.std.specs.Io.KnownBytes.{Appends};
 ghost use Rattle.pf_terms.specs.Atoms.{name_of};
-ghost use Rattle.pf_model.specs.Reports.{report_of};
+ghost use Rattle.pf_model.specs.Meaning.{Report as ReportOf};
+ghost use Rattle.pf_model.specs.Reports.{event_of, report_of};
 ghost use Rattle.pf_model.specs.Text.{report_text};
-ghost use Rattle.pf_terms.specs.Streams.{LeavesFront};
+ghost use Rattle.pf_trace.specs.Written.{HasGoneOut, StopsShort};
 
-use crate::report::put_report;
+use crate::pieces::Pieces;
 use pf_fault::OrNoMemory;
-use pf_model::report::Report;
+use pf_model::report::{Event, Report};
 use pf_terms::{AtomTable, Counted, StreamFault};
 use std::alloc::Global;
 use std::io::Write;
 use std::sync::ledger::Ledger;
 
-/// Writes a text. Where a write fails, a beginning of it went out.
-fn print_text<W: Write, M: Ledger>(
-    text: &[u8],
+/// Writes the lines of events, but for the last of them, which wait.
+fn print_events<W: Write, M: Ledger>(
+    alloc: Global,
+    events: &[Event],
+    atoms: &AtomTable,
     writer: &mut Counted<W, M>,
-) -> Result<(), OrNoMemory<StreamFault>>
-    ensures written { OnOk result (Appends (W.contents writer.old.inner) (W.contents writer.new.inner)
-        text.now) }
+) -> Result<Pieces, OrNoMemory<StreamFault>>
+    ensures out { IfOk result (λ p. HasGoneOut (name_of atoms.now) (map event_of events.now) p
+        (W.contents writer.old.inner) (W.contents writer.new.inner)) }
     ensures kept { OnOk result (writer.new.failures.total ≡ writer.old.failures.total) }
-    ensures fault { IfErr result (λ e. LeavesFront e text.now
+    ensures fault { IfErr result (λ e. (r : ReportOf) → r.events ≡ map event_of events.now
+        → StopsShort e (name_of atoms.now) r
         (W.contents writer.old.inner) (W.contents writer.new.inner)
         writer.old.failures.total writer.new.failures.total) }
 {
-    writer.put(text)?;
-    Ok(())
+    let mut pieces = Pieces::new(alloc);
+    for event in events {
+        pieces.add(atoms, event)?;
+        pieces.print_full(writer)?;
+    }
+    Ok(pieces)
 }
 
-/// Writes the text of a report. Where a write fails, a beginning of it went out; where memory runs out, nothing did.
+/// Writes the text of a report, piece by piece. Where a write fails, a beginning of it went out; where memory runs out, the lines of its first
+/// events did.
 pub fn print_report<W: Write, M: Ledger>(
     alloc: Global,
     report: &Report,
@@ -41,11 +50,10 @@ pub fn print_report<W: Write, M: Ledger>(
     ensures written { OnOk result (Appends (W.contents writer.old.inner) (W.contents writer.new.inner)
         (report_text (name_of atoms.now) (report_of report.now))) }
     ensures kept { OnOk result (writer.new.failures.total ≡ writer.old.failures.total) }
-    ensures fault { IfErr result (λ e. LeavesFront e (report_text (name_of atoms.now) (report_of report.now))
+    ensures fault { IfErr result (λ e. StopsShort e (name_of atoms.now) (report_of report.now)
         (W.contents writer.old.inner) (W.contents writer.new.inner)
         writer.old.failures.total writer.new.failures.total) }
 {
-    let mut text = Vec::new(alloc);
-    put_report(&mut text, atoms, report)?;
-    print_text(&text, writer)
+    let pieces = print_events(alloc, &report.events, atoms, writer)?;
+    pieces.print_end(atoms, &report.outcome, report.steps, report.verdict, writer)
 }

@@ -6,6 +6,7 @@ ghost use Rattle.pf_terms.specs.Atoms.{name_of};
 ghost use Rattle.pf_model.specs.Reports.{actor_of, event_of, outcome_of, report_of};
 ghost use Rattle.pf_model.specs.Text.{actor_text, event_text, outcome_text, report_text, verdict_text};
 ghost use Rattle.pf_model.specs.TermText.{line, pid_text};
+ghost use Rattle.pf_trace.specs.Written.{last_lines};
 
 use crate::labels::put_label;
 use pf_model::report::{Actor, Event, Outcome, Report};
@@ -97,7 +98,7 @@ pub fn put_outcome(out: &mut Vec<u8>, atoms: &AtomTable, outcome: &Outcome) -> R
     put_byte(out, b'\n')
 }
 
-pub(crate) fn put_verdict(out: &mut Vec<u8>, verdict: Option<bool>) -> Result<(), NoMemory>
+fn put_verdict(out: &mut Vec<u8>, verdict: Option<bool>) -> Result<(), NoMemory>
     ensures { OnOk result (out.new.items ≡ out.old.items ++ line (verdict_text verdict)) }
 {
     match verdict {
@@ -107,12 +108,28 @@ pub(crate) fn put_verdict(out: &mut Vec<u8>, verdict: Option<bool>) -> Result<()
     }
 }
 
-pub(crate) fn put_steps(out: &mut Vec<u8>, steps: u32) -> Result<(), NoMemory>
+fn put_steps(out: &mut Vec<u8>, steps: u32) -> Result<(), NoMemory>
     ensures { OnOk result (out.new.items ≡ out.old.items ++ line (codes "steps " ++ decimal steps)) }
 {
     put(out, b"steps ")?;
     put_number(out, u64::from(steps))?;
     put_byte(out, b'\n')
+}
+
+/// Puts what follows the lines of a report's events: the outcome, the steps and the verdict, a line each.
+pub fn put_last_lines(
+    out: &mut Vec<u8>,
+    atoms: &AtomTable,
+    outcome: &Outcome,
+    steps: u32,
+    verdict: Option<bool>,
+) -> Result<(), NoMemory>
+    ensures { OnOk result (out.new.items ≡ out.old.items
+        ++ last_lines (name_of atoms.now) (outcome_of outcome.now) steps verdict) }
+{
+    put_outcome(out, atoms, outcome)?;
+    put_steps(out, steps)?;
+    put_verdict(out, verdict)
 }
 
 /// Puts the text of a report.
@@ -121,7 +138,5 @@ pub fn put_report(out: &mut Vec<u8>, atoms: &AtomTable, report: &Report) -> Resu
         ++ report_text (name_of atoms.now) (report_of report.now)) }
 {
     put_events(out, atoms, &report.events)?;
-    put_outcome(out, atoms, &report.outcome)?;
-    put_steps(out, report.steps)?;
-    put_verdict(out, report.verdict)
+    put_last_lines(out, atoms, &report.outcome, report.steps, report.verdict)
 }

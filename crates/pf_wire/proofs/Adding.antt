@@ -15,7 +15,8 @@ use Rattle.pf_trace.specs.Written.{end_text}
 use Rattle.pf_wire.specs.Whole.{events_text, result_events, result_end, report_lines, with_report, whole_text}
 use Rattle.pf_wire.specs.declared.told.Told.{Told}
 use Rattle.pf_wire.specs.declared.told.ToldReport.{ToldReport}
-use Rattle.pf_wire.proofs.Leaving.{IsAdded, front_of_both, front_of_more}
+use Rattle.pf_trace.proofs.Fronts.{front_of_both, front_of_more}
+use Rattle.pf_wire.proofs.Leaving.{IsAdded}
 
 pub at_err : {T E P : Type 0} (r : Result T E) → P → OnErr r P
 at_err (Ok x) h = tt

@@ -11,6 +11,7 @@ use Rattle.pf_terms.specs.declared.stream.StreamFault.{StreamFault}
 use Rattle.pf_terms.specs.declared.stream.StreamFault.TheVariants.{Read, Write}
 use Rattle.pf_terms.specs.Streams.{AppendsFront, CountsWrite}
 use Rattle.pf_terms.proofs.Writes.{appends_both}
+use Rattle.pf_trace.proofs.Fronts.{front_of_both, front_of_more}
 use Rattle.pf_worlds.specs.Workshop.{RunProfile, Workshop, new_workshop}
 use Rattle.pf_worlds.specs.Chores.{Response}
 use Rattle.pf_worlds.specs.Steps.{WorkshopStep}
@@ -32,16 +33,9 @@ front_both w0 w1 w2 a b more h k = (
   appends_both w0 w1 w2 a k.0 h k.3,
 )
 
-pub front_of_both : (w0 w1 w2 : Option (List ℕ)) (a b : List ℕ) → Appends w0 w1 a → AppendsFront w1 w2 b → AppendsFront w0 w2 (a ++ b)
-front_of_both w0 w1 w2 a b h k = subst (AppendsFront w0 w2) (append-nil (a ++ b)) (front_both w0 w1 w2 a b [] h k)
-
 not_false : (b : Bool) → not b ≡ false → b ≡ true
 not_false true h = refl
 not_false false h = absurd cc
-
--- a beginning of a text is one of a longer text
-pub front_of_more : (w0 w1 : Option (List ℕ)) (a b : List ℕ) → AppendsFront w0 w1 a → AppendsFront w0 w1 (a ++ b)
-front_of_more w0 w1 a b k = (k.0, k.1 ++ b, ap (λ (t : List ℕ). t ++ b) k.2 ∙ append_assoc k.0 k.1 b, k.3)
 
 -- something is due at the end
 some_due : (b : ℕ) (bs : List ℕ) → is_due true (b ∷ bs) ≡ false → ⊥

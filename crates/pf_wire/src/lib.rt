@@ -1,12 +1,14 @@
 //! The replies that `steps` writes, and its work between a reader and a writer.
 #![tactic(auto)]
 
+mod ending;
 mod outcome;
 mod reply;
 mod steps;
 mod stream;
 mod told;
 
+pub use ending::{Ending, RefusedLine};
 pub use outcome::{Requester, put_outcome};
 pub use steps::{MOST_BYTES, WORKERS, run_steps};
 pub use stream::Gathered;

@@ -13,6 +13,7 @@ ghost use Rattle.pf_wire.specs.Turns.{TellsAll, TellsUpTo, TurnsLeave};
 ghost use Rattle.pf_wire.specs.Whole.{whole_text};
 ghost use Rattle.pf_lines.specs.Complete.{is_due};
 
+use crate::ending::Ending;
 use crate::outcome::{Requester, put_outcome};
 use crate::reply::put_code;
 use crate::stream::{Gathered, Input, ROOM};
@@ -110,7 +111,7 @@ struct Left<'a> {
 }
 
 /// Answers the commands that are due, the first of which has this number, up to a line that is none; after that there is
-/// nothing left.
+/// nothing left, and the ending has that line.
 fn answer_due<'a, W: Write, M: Ledger>(
     alloc: Global,
     workshop: &mut Workshop,
@@ -118,6 +119,7 @@ fn answer_due<'a, W: Write, M: Ledger>(
     input: &'a [u8],
     is_over: bool,
     writer: &mut Counted<W, M>,
+    ending: &mut Ending,
 ) -> Result<Option<Left<'a>>, OrNoMemory<StreamFault>>
     requires { first + length input.now < 2 ^ 63 }
     ensures answered { IfOk result (λ left. MatchOption left
@@ -151,6 +153,7 @@ fn answer_due<'a, W: Write, M: Ledger>(
         gathered.add_told(writer, &told)?;
         let Some(after) = follows else {
             gathered.send(writer)?;
+            ending.refuse(alloc, number, rest);
             return Ok(None);
         };
         rest = after;
@@ -162,12 +165,13 @@ fn answer_due<'a, W: Write, M: Ledger>(
 
 /// Reads at most 64 MiB, piece by piece, answers each command before it waits for more, and gives the status: 2 if a
 /// line is no command, after which nothing is done, and else 0. The workshop of four workers hashes with these
-/// keys, which no answer depends on.
+/// keys, which no answer depends on. The ending is for who says why reading ended.
 pub fn run_steps<R: Read, W: Write, L: Ledger, M: Ledger>(
     alloc: Global,
     keys: RandomState,
     reader: &mut Counted<R, L>,
     writer: &mut Counted<W, M>,
+    ending: &mut Ending,
 ) -> Result<u8, OrNoMemory<StreamFault>>
     ensures answered { IfOk result (λ status. ForRight (λ p. StepsAnswered p (R.remaining reader.old.inner)
         (W.contents writer.old.inner) (W.contents writer.new.inner) status)) }
@@ -189,6 +193,7 @@ pub fn run_steps<R: Read, W: Write, L: Ledger, M: Ledger>(
     let mut is_over = false;
     while !is_over {
         is_over = input.take_piece(reader, piece)?;
+        ending.is_full = input.taken == MOST_BYTES;
         if input.is_due(is_over) {
             let Some(left) = answer_due(
                 alloc,
@@ -197,6 +202,7 @@ pub fn run_steps<R: Read, W: Write, L: Ledger, M: Ledger>(
                 &input.bytes,
                 is_over,
                 writer,
+                ending,
             )?
             else {
                 return Ok(2);

@@ -19,7 +19,8 @@ fn marked(alloc: Global, bytes: &[u8]) -> Result<String, AllocError> {
     Ok(text)
 }
 
-fn read_word(alloc: Global, bytes: &[u8]) -> Result<String, AllocError> {
+/// The text of a word.
+pub fn read_word(alloc: Global, bytes: &[u8]) -> Result<String, AllocError> {
     match str::from_utf8(bytes) {
         Ok(text) => String::from_str(alloc, text),
         Err(_) => marked(alloc, bytes),

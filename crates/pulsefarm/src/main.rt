@@ -4,11 +4,14 @@
 mod args;
 mod escape;
 mod farm;
+mod folder;
 mod messages;
 mod obey;
 mod progress;
 mod schedule;
 mod stack;
+mod suite;
+mod waiting;
 mod watch;
 mod why;
 mod work;

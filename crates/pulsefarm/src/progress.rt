@@ -1,6 +1,8 @@
 //! How far a hunt or a shrinking came, in a line of the terminal that standard error is.
 
+use crate::waiting::Waiting;
 use pf_sched::{Observer, Progress};
+use pf_seeds::{HuntObserver, Leak, Pace};
 use std::cell::Cell;
 use std::io::{IsTerminal, Stderr, Write};
 use std::time::{Clock, Duration, Instant};
@@ -87,23 +89,39 @@ impl Observer for Runs<'_> {
     }
 }
 
-/// How far a hunt over n seeds came, and in what time if that is known.
+/// How far a hunt over n seeds came, and in what time if that is known; and for how many seconds it goes on at most, where that is asked for.
 #[derive(Drop)]
 struct SeedsDone {
     done: u64,
     seeds: u64,
     failures: u64,
     time: Option<Duration>,
+    limit: Option<u64>,
+}
+
+impl SeedsDone {
+    /// How many seeds it ran each second, and how many seconds are left, after so many milliseconds.
+    fn pace(&self, milliseconds: u128) -> (u128, u128) {
+        let (done, left) = (self.done, self.seeds.saturating_sub(self.done));
+        let pace = u128::from(done).saturating_mul(1_000) / milliseconds.max(1);
+        let rest = u128::from(left) / pace.max(1);
+        let within = match self.limit {
+            Some(limit) => u128::from(limit).saturating_sub(milliseconds / 1_000),
+            None => rest,
+        };
+        (pace, rest.min(within))
+    }
 }
 
 impl fmt::Display for SeedsDone {
     fn fmt<W: fmt::Write>(&self, f: &mut fmt::Formatter<W>) -> fmt::Result {
-        let (done, left) = (self.done, self.seeds.saturating_sub(self.done));
-        write!(f, "{done} of {} seeds, ", self.seeds)?;
+        write!(f, "{}", self.done)?;
+        if self.limit.is_none() {
+            write!(f, " of {}", self.seeds)?;
+        }
+        f.write_str(" seeds, ")?;
         if let Some(time) = self.time {
-            let milliseconds = time.as_millis().max(1);
-            let pace = u128::from(done).saturating_mul(1_000) / milliseconds;
-            let rest = u128::from(left) / pace.max(1);
+            let (pace, rest) = self.pace(time.as_millis());
             write!(f, "{pace} seeds/s, {rest} s left, ")?;
         }
         write!(f, "{} failures", self.failures)
@@ -113,51 +131,104 @@ impl fmt::Display for SeedsDone {
 /// How many milliseconds what a hunt told stands there at least.
 const PAUSE: u128 = 100;
 
+/// How many milliseconds a block of seeds takes at least before blocks grow no more.
+const BLOCK: u128 = 50;
+
 /// Who watches a hunt over n seeds.
 #[derive(Drop)]
 pub struct Seeds<'a, C> {
     line: &'a Line,
     clock: &'a C,
     seeds: u64,
+    /// For how many seconds it goes on at most, where that is asked for.
+    limit: Option<u64>,
     /// When it began, if the clock tells.
     start: Option<Instant>,
     /// When it told last, from its start on.
     told: Option<Duration>,
+    /// When its last block was over, from its start on.
+    over: Duration,
+    /// The least seed whose root returned while processes still waited, once it is known.
+    leak: Option<Leak>,
 }
 
 impl<'a, C: Clock> Seeds<'a, C> {
-    pub fn new(line: &'a Line, clock: &'a C, seeds: u64) -> Seeds<'a, C> {
+    pub fn new(line: &'a Line, clock: &'a C, seeds: u64, limit: Option<u64>) -> Seeds<'a, C> {
         Seeds {
             line,
             clock,
             seeds,
+            limit,
             start: Instant::now(clock).ok(),
             told: None,
+            over: Duration::ZERO,
+            leak: None,
         }
+    }
+
+    /// How many processes still wait although the root returned, if there are any.
+    pub fn waiting(&self) -> Option<Waiting> {
+        let Leak { seed, processes } = self.leak?;
+        Some(Waiting {
+            processes,
+            seed: Some(seed),
+        })
     }
 
     /// The time since its start, if the clock tells.
     fn time(&self) -> Option<Duration> {
         self.start?.elapsed(self.clock).ok()
     }
-}
 
-impl<C: Clock> pf_seeds::HuntObserver for Seeds<'_, C> {
-    fn progress(&mut self, done: u64, failures: u64) {
-        let time = self.time();
+    /// Tells how far it came, unless it did so just now.
+    fn tell(&mut self, time: Option<Duration>, done: u64, failures: u64) {
         if let (Some(now), Some(told)) = (time, self.told) {
             if now.saturating_sub(told).as_millis() < PAUSE {
                 return;
             }
         }
         self.told = time;
-        let seeds = self.seeds;
+        let (seeds, limit) = (self.seeds, self.limit);
         self.line.show(&SeedsDone {
             done,
             seeds,
             failures,
             time,
+            limit,
         });
+    }
+
+    /// How it goes on after this time. If the clock doesn't tell, a hunt for a time ends.
+    fn pace(&mut self, time: Option<Duration>) -> Pace {
+        let Some(now) = time else {
+            return if self.limit.is_some() {
+                Pace::Stop
+            } else {
+                Pace::Longer
+            };
+        };
+        if self.limit.is_some_and(|limit| now.as_secs() >= limit) {
+            return Pace::Stop;
+        }
+        let took = now.saturating_sub(self.over).as_millis();
+        self.over = now;
+        if took < BLOCK {
+            Pace::Longer
+        } else {
+            Pace::Same
+        }
+    }
+}
+
+impl<C: Clock> HuntObserver for Seeds<'_, C> {
+    fn progress(&mut self, done: u64, failures: u64) -> Pace {
+        let time = self.time();
+        self.tell(time, done, failures);
+        self.pace(time)
+    }
+
+    fn leak(&mut self, leak: Leak) {
+        self.leak = Some(leak);
     }
 }
 

@@ -6,13 +6,17 @@ use crate::args::open;
 use crate::farm::{Host, farm};
 use crate::messages::{REFUSED, failed, no_memory, no_more_memory, say};
 use crate::progress::{Line, Runs, Seeds};
-use crate::why::why;
-use pf_cli::{Args, HuntArgs, Sought};
-use pf_command::{Chart, Check, MOST_BYTES, Run, Shrink, hunt_source, serve};
-use pf_fault::OrNoMemory;
+use crate::suite::{hunt_suite, is_suite};
+use crate::waiting::{Waiting, say_waiting};
+use crate::why::{lacking_of, why};
+use pf_cli::{Args, HuntArgs, RunArgs, Sought};
+use pf_command::{Chart, Check, MOST_BYTES, Shrink, hunt_source, run_source, serve};
+use pf_fault::{NoMemory, OrNoMemory};
 use pf_profile::run_steps;
+use pf_reasons::line_reason;
 use pf_terms::{Counted, StreamFault};
-use std::alloc::AllocGlobal;
+use pf_wire::{Ending, RefusedLine};
+use std::alloc::{AllocGlobal, Global};
 use std::fs::Files;
 use std::hash::RandomState;
 use std::io::{self, Read, Write};
@@ -43,13 +47,14 @@ fn answer_steps<R: Read, W: Write, L: Ledger, M: Ledger>(
     rt: &(impl AllocGlobal + RandomSource),
     reader: &mut Counted<R, L>,
     writer: &mut Counted<W, M>,
+    ending: &mut Ending,
 ) -> Answered {
     let keys = random_keys(rt)?;
-    run_steps(rt.alloc(), keys, reader, writer)
+    run_steps(rt.alloc(), keys, reader, writer, ending)
 }
 
 /// How many threads run the seeds of a hunt: those that are named, or one for each of the machine's processors, at most 64.
-fn workers_of(rt: &impl Threads, args: &HuntArgs) -> u64 {
+pub fn workers_of(rt: &impl Threads, args: &HuntArgs) -> u64 {
     match (args.workers, available_parallelism(rt)) {
         (Some(named), _) => u64::from(named),
         (None, Ok(count)) => u64::try_from(count.get()).unwrap_or(1).min(64),
@@ -67,16 +72,16 @@ fn most_runs(args: &HuntArgs) -> u32 {
 
 /// Answers a source whose seeds are run; the line tells how far that came.
 fn answer_hunt<R: Read, W: Write, L: Ledger, M: Ledger>(
-    rt: &(impl AllocGlobal + Clock + Threads + Sync),
+    rt: &(impl Eprint + AllocGlobal + Clock + Threads + Sync),
     args: &HuntArgs,
     reader: &mut Counted<R, L>,
     writer: &mut Counted<W, M>,
     line: &Line,
 ) -> Answered {
     let workers = workers_of(rt, args);
-    let mut seeds = Seeds::new(line, rt, args.end.saturating_sub(args.first));
+    let mut seeds = Seeds::new(line, rt, args.end.saturating_sub(args.first), args.time);
     let mut runs = Runs::new(line, most_runs(args));
-    hunt_source(
+    let status = hunt_source(
         rt,
         rt.alloc(),
         reader,
@@ -85,22 +90,65 @@ fn answer_hunt<R: Read, W: Write, L: Ledger, M: Ledger>(
         writer,
         &mut seeds,
         &mut runs,
-    )
+    )?;
+    if let Some(waiting) = seeds.waiting() {
+        line.clear();
+        say_waiting(rt, waiting);
+    }
+    Ok(status)
 }
 
-/// Answers commands, and says on standard error if a line was refused.
+/// Answers a source of which a run is asked for.
+fn answer_run<R: Read, W: Write, L: Ledger, M: Ledger>(
+    rt: &(impl Eprint + AllocGlobal),
+    args: &RunArgs,
+    reader: &mut Counted<R, L>,
+    writer: &mut Counted<W, M>,
+) -> Answered {
+    let mut processes = 0;
+    let status = run_source(rt.alloc(), reader, args, writer, &mut processes)?;
+    if processes > 0 {
+        let seed = None;
+        say_waiting(rt, Waiting { processes, seed });
+    }
+    Ok(status)
+}
+
+/// Says on standard error why reading ended before the input did.
+fn say_ending(rt: &(impl Eprint + AllocGlobal), ending: &Ending) {
+    if ending.is_full {
+        say(
+            rt,
+            "67,108,864 bytes of commands were read, and what follows them isn't",
+        );
+    }
+    let Some(line) = &ending.refused else {
+        return;
+    };
+    match refusal(rt.alloc(), line) {
+        Ok(text) => say(rt, &text),
+        Err(NoMemory) => say(rt, "a line is no command"),
+    }
+}
+
+/// Why a line was refused.
+fn refusal(alloc: Global, line: &RefusedLine) -> Result<String, NoMemory> {
+    let number = line.number;
+    let reason = line_reason(alloc, &line.text, line.is_whole)?;
+    Ok(format!(in alloc;
+        "command {number} is none: {reason}; those before it were answered, and nothing behind it was read"
+    )?)
+}
+
+/// Answers commands, and says on standard error why reading ended before the input did.
 fn answer_all_steps<R: Read, W: Write, L: Ledger, M: Ledger>(
     rt: &(impl Eprint + AllocGlobal + RandomSource),
     reader: &mut Counted<R, L>,
     writer: &mut Counted<W, M>,
 ) -> Answered {
-    let status = answer_steps(rt, reader, writer)?;
-    if status == REFUSED {
-        say(
-            rt,
-            "a line is no command: those before it were answered, and nothing behind it was read",
-        );
-    }
+    let mut ending = Ending::new();
+    let status = answer_steps(rt, reader, writer, &mut ending)?;
+    say_ending(rt, &ending);
     Ok(status)
 }
 
@@ -119,7 +167,7 @@ where
 {
     let alloc = rt.alloc();
     match asked {
-        Args::Run(args) => serve(alloc, reader, Run { args }, writer),
+        Args::Run(args) => answer_run(rt, args, reader, writer),
         Args::Chart(args) => serve(alloc, reader, Chart { args }, writer),
         Args::Hunt(args) => answer_hunt(rt, args, reader, writer, line),
         Args::Shrink(args) => {
@@ -130,7 +178,7 @@ where
             let explain = args.explain;
             serve(alloc, reader, Check { explain }, writer)
         }
-        Args::Steps(_) => answer_steps(rt, reader, writer),
+        Args::Steps(_) => answer_steps(rt, reader, writer, &mut Ending::new()),
         Args::Farm(args) => farm(rt, args, host, writer),
     }
 }
@@ -156,11 +204,13 @@ where
     let answered = answer_source(rt, asked, &mut reader, writer, line, host);
     line.clear();
     let status = answered?;
-    if status == REFUSED {
-        // The answer went out: nothing more is said where memory runs out now.
-        if let Ok(told) = why(rt.alloc(), asked, &source) {
+    // The answer went out: nothing more is said where memory runs out now.
+    if status != REFUSED {
+        if let Ok(Some(told)) = lacking_of(rt.alloc(), asked, &source) {
             say(rt, &told);
         }
+    } else if let Ok(told) = why(rt.alloc(), asked, &source) {
+        say(rt, &told);
     }
     Ok(status)
 }
@@ -235,6 +285,12 @@ where
     R: Files + Print + Eprint + AllocGlobal + RandomSource + Clock + Threads + Wait + Sync,
     R::File: Send + Drop,
 {
+    if let Args::Hunt(args) = asked {
+        if is_suite(rt, args) {
+            let answered = hunt_suite(rt, args, stdin, writer, line);
+            return end(rt, asked, None, answered);
+        }
+    }
     let Some(name) = asked.file() else {
         let answered = answer(rt, asked, stdin, writer, line, host);
         return end(rt, asked, None, answered);

@@ -5,4 +5,4 @@ use Rattle.pf_chart.proofs.chart.put_bottom.Goals as goal
 pub returns : goal.returns
 returns c =
     on_ok_weaker c.close.result
-    (λ h. plainly (plainly (plainly c.in_ok-put_result.ensures c.in_ok-put_legend.ensures) c.in_ok-put_legend-2.ensures) h) c.close.ensures
+    (λ h. plainly (plainly (plainly c.in_ok-put_result.ensures c.in_ok-put_page.ensures) c.in_ok-put_legends.ensures) h) c.close.ensures

@@ -1,21 +1,21 @@
 use Rattle.std.proofs.Common.{◌≡◌, get_or, rules}
 use Rattle.pf_terms.specs.Atoms.{name_of}
-use Rattle.pf_model.specs.Reports.{label_of}
-use Rattle.pf_model.specs.Text.{label_text}
-use Rattle.pf_chart.specs.Chart.{twice}
+use Rattle.pf_model.specs.Reports.{event_of}
+use Rattle.pf_chart.specs.Chart.{event_labels}
 use Rattle.pf_svg.proofs.Drawn.{grown_by, in_turn, nothing, renamed, to_end}
 use Rattle.pf_chart.proofs.events.put_events.Goals as goal
 
-pub loop-row-init : goal.loop-row-init
-loop-row-init c = nothing _
+pub loop-place-init : goal.loop-place-init
+loop-place-init c = nothing _
 
-pub loop-row-preserved : goal.loop-row-preserved
-loop-row-preserved c =
-    let event = c.index-events-row.result in
-    let read : event ≡ get_or c.args.events.now c.loop-row.row event = search rules in
+pub loop-place-preserved : goal.loop-place-preserved
+loop-place-preserved c =
+    let row = c.index-rows-place.result in
+    let read : row ≡ get_or c.args.rows.now c.loop-place.place row = search rules in
     renamed
-    (grown_by (λ event. twice (label_text (name_of c.args.atoms.now) (label_of event.label))) c.args.events.now c.loop-row.row event c.loop-row-test.true read)
-    (in_turn c.loop-row.invariant c.in_ok-put_event.ensures)
+    (grown_by (λ row. event_labels (name_of c.args.atoms.now) (event_of row.event.now)) c.args.rows.now c.loop-place.place row c.loop-place-test.true read)
+    (in_turn c.loop-place.invariant c.in_ok-put_event.ensures)
 
 pub returns : goal.returns
-returns c = to_end (λ event. twice (label_text (name_of c.args.atoms.now) (label_of event.label))) c.args.events.now c.loop-row.row c.loop-row-test.false c.loop-row.invariant
+returns c =
+    to_end (λ row. event_labels (name_of c.args.atoms.now) (event_of row.event.now)) c.args.rows.now c.loop-place.place c.loop-place-test.false c.loop-place.invariant

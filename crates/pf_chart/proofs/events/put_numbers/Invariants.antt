@@ -1,7 +1,8 @@
+use Rattle.std.proofs.Common.{take}
+use Rattle.pf_chart.proofs.Charts.{of_choices}
 use Rattle.pf_chart.specs.Words.{Draws}
-use Rattle.std.proofs.Common.{[]}
 use Rattle.pf_chart.proofs.events.put_numbers.Given as goal
 
--- what is drawn so far has no label
-abbrev pub invariant-loop-row : goal.invariant-loop-row
-invariant-loop-row l = Draws [] l.fn.svg l.svg
+-- the choices so far are drawn
+abbrev pub invariant-loop-place : goal.invariant-loop-place
+invariant-loop-place l = Draws (of_choices (take l.place l.rows)) l.fn.svg l.svg

@@ -4,5 +4,5 @@ use Rattle.pf_chart.proofs.heads.put_column.Goals as goal
 
 pub returns : goal.returns
 returns c = on_ok_weaker c.close_group.result (λ h. in_turn c.in_ok-group.ensures
-    (in_turn (plainly (plainly c.in_ok-put_tooltip.ensures c.in_ok-put_life.ensures) c.in_ok-put_box.ensures)
-    (plainly (plainly c.in_ok-put_origin.ensures c.in_ok-put_foot.ensures) h))) c.close_group.ensures
+    (in_turn (plainly c.in_ok-put_tooltip.ensures c.in_ok-put_life.ensures)
+    (plainly (plainly c.in_ok-put_heads.ensures c.in_ok-put_foot.ensures) h))) c.close_group.ensures

@@ -7,4 +7,4 @@ use Rattle.pf_chart.proofs.heads.put_columns.Given as goal
 -- the labels of the columns so far are drawn
 abbrev pub invariant-loop-index : goal.invariant-loop-index
 invariant-loop-index l =
-    Draws (flat_map (λ c. process_labels l.root c.spawned) (take l.index l.columns)) l.fn.svg l.svg
+    Draws (flat_map (λ c. process_labels l.sheet.count l.root c.spawned) (take l.index l.columns)) l.fn.svg l.svg

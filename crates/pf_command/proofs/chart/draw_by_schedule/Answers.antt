@@ -16,5 +16,5 @@ returns c =
     let atoms : table ≡ j.code.atoms = c.atoms.ensures ∙ ap (λ (m : Checked). m.atoms) c.deref.ensures
     ∙ ap (λ (k : Module). k.atoms) c.module.ensures in
     let run = report_of c.in_ok-run.run' in
-    IfOk-weaker c.draw_run.result (DrawsRun table root run) (DrawsMeaning j root)
-    (λ a drawn. draws_meaning j root table run a c.in_ok-run.ensures atoms drawn) c.draw_run.ensures
+    IfOk-weaker c.draw_run.result (DrawsRun table root c.args.manner run) (DrawsMeaning j root c.args.manner)
+    (λ a drawn. draws_meaning j root c.args.manner table run a c.in_ok-run.ensures atoms drawn) c.draw_run.ensures

@@ -20,4 +20,4 @@ returns-in-Some c =
     let f = c.args.finished.now in
     let root = c.args.root.now in
     let job : c.deref.result.now ≡ f.job = c.deref.ensures ∙ c.job.ensures in
-    subst (λ j. IfOk c.draw_result.result (λ a. Draws root j a.text.items a.status)) job c.draw_result.ensures
+    subst (λ j. IfOk c.draw_result.result (λ a. Draws root c.args.manner j a.text.items a.status)) job c.draw_result.ensures

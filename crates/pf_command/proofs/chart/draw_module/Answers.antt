@@ -1,4 +1,4 @@
-use Rattle.std.proofs.Common.{ℕ, List, Ok, Err, subst}
+use Rattle.std.proofs.Common.{◌≡◌, ◌∙◌, ap, ℕ, List, Ok, Err, subst}
 use Rattle.std.proofs.lemmas.Result.{IfOk-weaker}
 use Rattle.pf_fault.specs.Codes.{code_text}
 use Rattle.pf_sched.specs.Views.{code_of}
@@ -14,9 +14,9 @@ returns-in-Ok c =
     let m = c.args.module in
     let job = c.in-Ok.job in
     let asks : AsksOf asked m (Ok job) = asks_in m c.number.result asked.edition asked.request (Ok job) c.number.ensures.number c.in-Ok.ensures in
-    IfOk-weaker c.draw_job.result (λ a. Draws c.as_slice.result.now job a.text.items a.status)
-    (λ a. (bytes : List ℕ) → IsModuleOf bytes m → ChartAnswers asked bytes a.text.items a.status)
-    (λ a tells bytes is. row_told (AsksOf asked) (Draws asked.request.root) m bytes job a is asks (subst (λ r. Draws r job a.text.items a.status) c.as_slice.ensures tells)) c.draw_job.ensures
+    IfOk-weaker c.draw_job.result (λ a. Draws c.as_slice.result.now c.args.manner job a.text.items a.status)
+    (λ a. (bytes : List ℕ) → IsModuleOf bytes m → ChartAnswers c.args.manner asked bytes a.text.items a.status)
+    (λ a tells bytes is. row_told (AsksOf asked) (Draws asked.request.root c.args.manner) m bytes job a is asks (subst (λ r. Draws r c.args.manner job a.text.items a.status) c.as_slice.ensures tells)) c.draw_job.ensures
 
 pub returns-in-Err-Fault : goal.returns-in-Err-Fault
 returns-in-Err-Fault c =
@@ -25,6 +25,7 @@ returns-in-Err-Fault c =
     let code = code_of c.in-Err-Fault.refusal in
     let refused = rw c.in-Err-Fault.field-0-is at c.in-Err-Fault.ensures in
     let asks : AsksOf asked m (Err code) = asks_in m c.number.result asked.edition asked.request (Err code) c.number.ensures.number refused in
+    let known : c.code.result ≡ code = c.code.ensures ∙ ap code_of c.in-Err-Fault.refusal-is in
     IfOk-weaker c.refused_by_code.result (λ a. Refuses a (code_text code))
-    (λ a. (bytes : List ℕ) → IsModuleOf bytes m → ChartAnswers asked bytes a.text.items a.status)
-    (λ a told bytes is. row_job_refused (AsksOf asked) (Draws asked.request.root) m bytes a code is asks told) (rw c.code.ensures at c.refused_by_code.ensures)
+    (λ a. (bytes : List ℕ) → IsModuleOf bytes m → ChartAnswers c.args.manner asked bytes a.text.items a.status)
+    (λ a told bytes is. row_job_refused (AsksOf asked) (Draws asked.request.root c.args.manner) m bytes a code is asks told) (rw known at c.refused_by_code.ensures)

@@ -8,4 +8,4 @@ pub returns : goal.returns
 returns c =
     let name = name_of c.args.atoms.now in
     let run = report_of c.args.run.now in
-    (subst (λ (before : List ℕ). IsChart name c.args.root.now run before c.put_chart.new.out.items) c.new-text.ensures.items c.in_ok-put_chart.ensures.put, c.run_status-status.ensures)
+    (subst (λ (before : List ℕ). IsChart name c.args.root.now c.args.manner run before c.put_chart.new.out.items) c.new-text.ensures.items c.in_ok-put_chart.ensures.put, c.run_status-status.ensures)

@@ -33,11 +33,8 @@ pub returns-in-None : goal.returns-in-None
 returns-in-None c =
     let j = c.args.finished.now.job in
     let table = c.atoms-atoms.result.now in
-    let job : c.deref.result.now ≡ j = c.deref.ensures ∙ c.job-job.ensures in
-    let atoms : table ≡ j.asked.code.atoms = c.atoms-atoms.ensures ∙ ap (λ (m : Checked). m.atoms) c.deref-2.ensures
-    ∙ ap (λ (k : Module). k.atoms) c.module.ensures ∙ ap (λ (k : Job). k.asked.code.atoms) job in
     let asked = c.deref-in-None.result.now in
     let same : asked ≡ j = c.deref-in-None.ensures ∙ c.job-job.ensures in
     IfOk-weaker c.write_no_memory.result (λ a. (asked.asked.runs ≡ zero) × TellsResult table (report memory_report) a)
     (λ a. Tells j a.text.items a.status)
-    (λ a is. tells_no_memory j table a (subst (λ (k : Job). k.asked.runs ≡ zero) same is.0) atoms is.1) c.write_no_memory.ensures
+    (λ a is. tells_no_memory j table a (subst (λ (k : Job). k.asked.runs ≡ zero) same is.0) is.1) c.write_no_memory.ensures

@@ -14,7 +14,7 @@ returns-in-Ok g c =
     let h = view_of_hunt_args c.args.args.now in
     let m = c.args.module in
     let job = c.in-Ok.job in
-    let asks = asks_in m c.number.result h.edition h.request (Ok job) c.number.ensures.number c.in-Ok.ensures in
+    let asks = asks_in m c.number.result h.edition h.request (Ok job) c.number.ensures.number (rw c.in_ok-share.ensures at c.in-Ok.ensures) in
     IfOk-weaker c.seek_outcomes.result (λ a. (bytes : List ℕ) → TellsSought h bytes job outcomes a.text.items a.status)
     (λ a. (bytes : List ℕ) → IsModuleOf bytes m → SoughtAnswers h outcomes bytes a.text.items a.status)
     (λ a told bytes of.
@@ -26,7 +26,7 @@ returns-in-Err-Fault g c =
     let h = view_of_hunt_args c.args.args.now in
     let m = c.args.module in
     let code = code_of c.in-Err-Fault.refusal in
-    let refused = rw c.in-Err-Fault.field-0-is at c.in-Err-Fault.ensures in
+    let refused = rw (c.in-Err-Fault.field-0-is, c.in_ok-share.ensures) at c.in-Err-Fault.ensures in
     let asks = asks_in m c.number.result h.edition h.request (Err code) c.number.ensures.number refused in
     IfOk-weaker c.refused_by_code.result (λ a. Refuses a (code_text code))
     (λ a. (bytes : List ℕ) → IsModuleOf bytes m → SoughtAnswers h outcomes bytes a.text.items a.status)

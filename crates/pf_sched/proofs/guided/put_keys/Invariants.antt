@@ -1,4 +1,4 @@
-use Rattle.std.proofs.Common.{◌≡◌, ◌≤◌, length}
+use Rattle.std.proofs.Common.{◌≡◌}
 use Rattle.std.specs.Prelude.{take}
 use Rattle.pf_strategy.specs.Keys.{keys_of}
 use Rattle.pf_system.specs.Steps.{noted}

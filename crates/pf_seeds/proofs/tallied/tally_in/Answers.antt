@@ -1,7 +1,9 @@
-use Rattle.std.proofs.Common.{inl, inr, refl, sym, ap, subst, arith}
+use Rattle.std.proofs.Common.{◌+◌, inl, inr, refl, sym, ap, subst, arith}
+use Rattle.std.specs.Prelude.{option_map}
 use Rattle.pf_seeds.specs.Hunts.{Tallies, no_seed}
-use Rattle.pf_seeds.specs.Views.{rows_of}
+use Rattle.pf_seeds.specs.Views.{leak_of, rows_of}
 use Rattle.pf_seeds.proofs.Counting.{each_is_counted, ends_there, one_seed_more}
+use Rattle.pf_seeds.proofs.Leaking.{leaks_there, no_leak}
 use Rattle.pf_seeds.proofs.tallied.tally_in.Goals as goal
 
 pub loop-seed-init : goal.loop-seed-init
@@ -9,6 +11,7 @@ loop-seed-init c =
     let j = c.args.hunt.now.job.asked in
     record {
       rows = subst (Tallies c.args.hunt.now.strategy j c.args.from c.args.from) (sym c.new-tally.ensures) (no_seed c.args.from (omega arith));
+      leak = no_leak c.args.hunt.now.strategy j c.args.from c.args.from (omega arith);
       at = inl refl;
     }
 
@@ -31,10 +34,20 @@ loop-seed-preserved c =
       rows =
           rw (c.in_ok-add.ensures, c.met.ensures judged.0 judged.2)
           (one_seed_more c.args.hunt.now.strategy j c.args.from at.seed (rows_of at.tally) judged.0 (omega (arith, at.auto.seed)) at.invariant.rows judged.1);
+      leak =
+          c.earlier-leak.ensures c.args.hunt.now.strategy j c.args.from at.seed (at.seed + 1) (omega (arith, at.auto.seed)) (omega arith) at.invariant.leak
+          (c.leak_at.ensures c.args.hunt.now.strategy j judged.0 judged.1 judged.2.2);
       at = inr (omega (arith, c.loop-seed-test.true));
     }
 
 pub returns : goal.returns
 returns c =
+    let w = c.args.hunt.now.strategy in
+    let j = c.args.hunt.now.job.asked in
     let at = c.loop-seed in
-    ends_there c.args.hunt.now.strategy c.args.hunt.now.job.asked c.args.from c.args.end at.seed (rows_of at.tally) at.invariant.rows at.invariant.at (omega (arith, c.loop-seed-test.false))
+    let over = c.loop-seed-test.false in
+    record {
+      rows = ends_there w j c.args.from c.args.end at.seed (rows_of at.tally) at.invariant.rows at.invariant.at (omega (arith, over));
+      leak = leaks_there w j c.args.from c.args.end at.seed (option_map leak_of at.leak) at.invariant.leak at.invariant.at (omega (arith, over));
+      end = refl;
+    }

@@ -4,14 +4,9 @@ use Rattle.pf_fault.specs.declared.fault.OrNoMemory.{OrNoMemory}
 use Rattle.pf_fault.specs.declared.fault.OrNoMemory.TheVariants.{Fault}
 use Rattle.pf_terms.specs.declared.stream.StreamFault.{StreamFault}
 use Rattle.pf_wire.specs.Whole.{whole_text}
+use Rattle.pf_trace.proofs.Fronts.{handed_on}
 use Rattle.pf_wire.proofs.Leaving.{at_hand_first, at_hand_sent, at_hand_in_part, at_hand_more, more_in_part, ends_ill, ends_ill_in_part, in_part, leaves_at, shorter_after}
 use Rattle.pf_wire.proofs.steps.answer_due.Goals as goal
-
--- a fault of a stream is handed on
-handed_on : {T : Type 0} (r : Result T (OrNoMemory StreamFault)) (f : StreamFault) (P : OrNoMemory StreamFault → Type 0)
-    → IsErr r × IsErrAnd r (λ e. e ≡ Fault f) → P (Fault f) → IfErr r P
-handed_on (Ok x) f P h k = tt
-handed_on (Err e) f P h k = subst P (sym h.1) k
 
 pub loop-alloc-init : goal.loop-alloc-init
 loop-alloc-init g c = record {
@@ -23,7 +18,7 @@ loop-alloc-init g c = record {
 pub returns-in_err-send-in-Err-clause-fault : goal.returns-in_err-send-in-Err-clause-fault
 returns-in_err-send-in-Err-clause-fault g c =
     let l = c.loop-alloc in
-    handed_on c.from_residual.result c.in_err-send-in-Err.field-0.0 _ c.from_residual.ensures
+    handed_on c.from_residual.result (Fault c.in_err-send-in-Err.field-0.0) _ c.from_residual.ensures
     (λ p right.
     leaves_at p c.args.is_over c.args.input.now c.args.workshop.now c.args.first _ _ c.in_err-send-in-Err.field-0.0 _ _ _ l.invariant.same c.in_err-send-in-Err.ensures.counted
     (at_hand_in_part p c.args.is_over c.args.input.now l.gathered.text.items l.rest.now c.args.workshop.now l.workshop c.args.first l.number _ _ _ (l.invariant.so_far p right)
@@ -43,7 +38,7 @@ pub returns-in_err-add_told-clause-fault : goal.returns-in_err-add_told-clause-f
 returns-in_err-add_told-clause-fault g c =
     let l = c.loop-alloc in
     let due = sym c.is_due.ensures ∙ c.loop-alloc-test.true in
-    handed_on c.from_residual-in_err-add_told.result c.in_err-add_told.field-0.0 _ c.from_residual-in_err-add_told.ensures
+    handed_on c.from_residual-in_err-add_told.result (Fault c.in_err-add_told.field-0.0) _ c.from_residual-in_err-add_told.ensures
     (λ p right.
     leaves_at p c.args.is_over c.args.input.now c.args.workshop.now c.args.first _ _ c.in_err-add_told.field-0.0 _ _ _ l.invariant.same c.in_err-add_told.ensures.counted
     (more_in_part p right c.args.is_over c.args.input.now l.gathered.text.items l.rest.now c.args.workshop.now l.workshop c.answer_front.new.workshop c.args.first l.number _ _ _
@@ -53,7 +48,7 @@ pub returns-in_err-send-clause-fault : goal.returns-in_err-send-clause-fault
 returns-in_err-send-clause-fault g c =
     let l = c.loop-alloc in
     let due = sym c.is_due.ensures ∙ c.loop-alloc-test.true in
-    handed_on c.from_residual-in_err-send.result c.in_err-send.field-0.0 _ c.from_residual-in_err-send.ensures
+    handed_on c.from_residual-in_err-send.result (Fault c.in_err-send.field-0.0) _ c.from_residual-in_err-send.ensures
     (λ p right.
     leaves_at p c.args.is_over c.args.input.now c.args.workshop.now c.args.first _ _ c.in_err-send.field-0.0 _ _ _ (c.in_ok-add_told.ensures.kept ∙ l.invariant.same) c.in_err-send.ensures.counted
     (ends_ill_in_part p right c.args.is_over c.args.input.now l.gathered.text.items c.add_told.new.self.text.items l.rest.now c.args.workshop.now l.workshop c.answer_front.new.workshop
@@ -93,7 +88,7 @@ loop-alloc-preserved g c =
 pub returns-in_err-send-2-clause-fault : goal.returns-in_err-send-2-clause-fault
 returns-in_err-send-2-clause-fault g c =
     let l = c.loop-alloc in
-    handed_on c.from_residual-in_err-send-2.result c.in_err-send-2.field-0.0 _ c.from_residual-in_err-send-2.ensures
+    handed_on c.from_residual-in_err-send-2.result (Fault c.in_err-send-2.field-0.0) _ c.from_residual-in_err-send-2.ensures
     (λ p right.
     leaves_at p c.args.is_over c.args.input.now c.args.workshop.now c.args.first _ _ c.in_err-send-2.field-0.0 _ _ _ l.invariant.same c.in_err-send-2.ensures.counted
     (at_hand_in_part p c.args.is_over c.args.input.now l.gathered.text.items l.rest.now c.args.workshop.now l.workshop c.args.first l.number _ _ _ (l.invariant.so_far p right)

@@ -4,14 +4,9 @@ use Rattle.pf_fault.specs.declared.fault.OrNoMemory.{OrNoMemory}
 use Rattle.pf_fault.specs.declared.fault.OrNoMemory.TheVariants.{NoMemory}
 use Rattle.pf_terms.specs.declared.stream.StreamFault.{StreamFault}
 use Rattle.pf_wire.specs.declared.steps.TheConstants.{MOST_BYTES}
+use Rattle.pf_trace.proofs.Fronts.{handed_on}
 use Rattle.pf_wire.proofs.Leaving.{less_left, within_later, stands_before, stands_ended, stands_ended_ill, stands_first, stands_further, stands_later, stands_stopped, stands_taken, stands_taken_more, stands_unread, stands_without_memory}
 use Rattle.pf_wire.proofs.steps.run_steps.Goals as goal
-
--- a fault is handed on
-handed_on : {T : Type 0} (r : Result T (OrNoMemory StreamFault)) (f : OrNoMemory StreamFault) (P : OrNoMemory StreamFault → Type 0)
-    → IsErr r × IsErrAnd r (λ e. e ≡ f) → P f → IfErr r P
-handed_on (Ok x) f P h k = tt
-handed_on (Err e) f P h k = subst P (sym h.1) k
 
 pub returns-in_err-room-clause-fault : goal.returns-in_err-room-clause-fault
 returns-in_err-room-clause-fault g c =

@@ -1,25 +1,21 @@
-use Rattle.std.proofs.Common.{length, sym, ap, ◌∙◌}
-use Rattle.std.specs.Prelude.{slice_get}
+use Rattle.std.proofs.Common.{◌-◌, refl, subst}
 use Rattle.pf_model.specs.Reports.{actor_of, label_of}
-use Rattle.pf_system.specs.Steps.{noted}
 use Rattle.pf_sched.specs.Told.{event}
-use Rattle.pf_sched.proofs.Traces.{may_go}
+use Rattle.pf_sched.specs.Traces.{MayHavePassed}
 use Rattle.pf_sched.proofs.execution.Execution.go.Goals as goal
 
-pub pass-requires-clause-enabled : goal.pass-requires-clause-enabled
-pass-requires-clause-enabled g c =
-    may_go c.args.self.now.system.standing (noted c.enabled-enabled.result) c.enabled-enabled.ensures.actors c.choose-index.result (actor_of c.actor-actor.result)
-    c.actor-actor.ensures
-
 pub returns : goal.returns
-returns g c d stands = (
-  event c.choose-index.result c.len-among.result (actor_of c.actor-actor.result) (label_of c.pass.new.shown),
-  record {
-    used = c.in_ok-pass.field-0;
-    counts = c.len-among.ensures.count ∙ ap length (c.enabled-enabled.ensures.actors d stands);
-    chooses = c.choose-index.ensures.chooses d (c.enabled-enabled.ensures.both d stands);
-    chosen = ap (λ xs. slice_get xs c.choose-index.result) (sym (c.enabled-enabled.ensures.actors d stands)) ∙ c.actor-actor.ensures;
-    passes = c.in_ok-pass.ensures;
-  },
-  c.in_ok-tell.ensures,
-)
+returns g c d stands =
+    let old = c.args.self.now in
+    let n = c.in-Some.chosen in (
+      event n.index n.among (actor_of n.actor) (label_of c.pass_next.new.shown),
+      subst (λ o. MayHavePassed (c.args.limit - old.system.steps) d old o (label_of c.pass_next.new.shown) c.pass_next.new.self) c.in-Some.is (c.in_ok-chosen.ensures d stands),
+      c.in_ok-tell.ensures,
+    )
+
+pub returns-in_default : goal.returns-in_default
+returns-in_default g c d stands =
+    let old = c.args.self.now in
+    let none =
+    subst (λ o. MayHavePassed (c.args.limit - old.system.steps) d old o (label_of c.pass_next.new.shown) c.pass_next.new.self) c.in_default.is (c.in_ok-chosen.ensures d stands) in
+    (none.0, none.1, refl)

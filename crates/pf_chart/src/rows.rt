@@ -1,0 +1,74 @@
+//! The rows of a chart: which events have one, and on which page.
+
+ghost use Rattle.std.specs.Prelude.{◌≡◌, ◌≤◌, IfOk, map};
+ghost use Rattle.std.specs.List.{filter};
+ghost use Rattle.pf_model.specs.Reports.{event_of, label_of};
+ghost use Rattle.pf_chart.specs.Chart.{first_row, has_row, is_quiet, page_of};
+
+use pf_model::Signal;
+use pf_model::report::{Event, Label, Suffix};
+use pf_terms::NoMemory;
+use std::alloc::Global;
+
+/// How many rows a page has.
+pub(crate) const PAGE: usize = 500;
+
+/// An event that has a row, with its place among all events.
+#[derive(Drop, Clone, Copy)]
+pub(crate) struct Row<'e> {
+    pub(crate) index: usize,
+    pub(crate) event: &'e Event,
+}
+
+/// Whether it is a wait, or the delivery of a message into a mailbox.
+fn is_quiet(label: &Label) -> bool
+    ensures { result ≡ is_quiet (label_of label.now) }
+{
+    matches!(
+        label,
+        Label::Waits | Label::Delivers(Signal::Message(_), Suffix::TookEffect)
+    )
+}
+
+/// Whether an event has a row: in a compact chart what is quiet has none.
+fn has_row(compact: bool, event: &Event) -> bool
+    ensures { result ≡ has_row compact (event_of event.now) }
+{
+    !(compact && is_quiet(&event.label))
+}
+
+/// The rows of all pages.
+pub(crate) fn rows_of<'e>(
+    alloc: Global,
+    events: &'e [Event],
+    compact: bool,
+) -> Result<Vec<Row<'e>>, NoMemory>
+    ensures { IfOk result (λ rows. map (λ r. event_of r.event.now) rows.items
+        ≡ filter (has_row compact) (map event_of events.now)) }
+{
+    let mut rows = Vec::new(alloc);
+    for (index, event) in events.iter().enumerate() {
+        if has_row(compact, event) {
+            rows.push(Row { index, event })?;
+        }
+    }
+    Ok(rows)
+}
+
+/// How many rows stand on the pages before this one; before the last where there are fewer pages.
+pub(crate) fn first_row(page: u32, rows: usize) -> usize
+    ensures first { result ≡ first_row page rows }
+    ensures within { result ≤ rows }
+{
+    let pages_before = (page.saturating_sub(1) as usize).min(rows.saturating_sub(1) / PAGE);
+    PAGE * pages_before
+}
+
+/// The rows of a page.
+pub(crate) fn page_of<'r, 'e>(rows: &'r [Row<'e>], page: u32) -> &'r [Row<'e>]
+    ensures { result.now ≡ page_of page rows.now }
+{
+    let first = first_row(page, rows.len());
+    let end = rows.len().min(first.saturating_add(PAGE));
+    &rows[first..end]
+}

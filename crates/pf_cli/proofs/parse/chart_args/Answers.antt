@@ -1,0 +1,19 @@
+use Rattle.std.proofs.Common.{ap, inl, inr, ◌∙◌, sym}
+use Rattle.std.specs.Prelude.{codes, option_map}
+use Rattle.clap.specs.Words.{first_of, found_of, rows_of}
+use Rattle.pf_cli.specs.Args.{chart_asked, is_given, run_of, view_of_run_args}
+use Rattle.pf_cli.proofs.Guided.{run_chosen, unpaged}
+use Rattle.pf_cli.proofs.parse.chart_args.Goals as goal
+
+pub returns-clause-err : goal.returns-clause-err
+returns-clause-err c =
+    let text = option_map (λ s. s.now) c.args.text in
+    let rows = rows_of (found_of c.args.rows.now) in
+    let compact = is_given (first_of (codes "compact") rows) in
+    elim (c.in-Err-page.ensures.err) [
+      | inl h ↦ inl h
+      | inr h ↦ inr (
+        h.0 ∙ sym (run_chosen text rows (view_of_run_args c.in-Ok.run') c.in-Ok.ensures.ok),
+        ap (chart_asked (run_of text rows) compact) h.1 ∙ unpaged (run_of text rows) compact,
+      )
+    ]

@@ -1,0 +1,124 @@
+//! What a hunt goes over.
+
+ghost use Rattle.std.specs.Prelude.{◌≡◌, ◌⊎◌, IfOk, IfErr, Some, None, codes, is_some, length, map, nat_lt};
+ghost use Rattle.clap.specs.Words.{first_of, kind_of, rows_of, found_of};
+ghost use Rattle.pf_cli.specs.Args.{clashes_in, is_given, names_in, reach_in};
+ghost use Rattle.pf_cli.specs.Reach.{more_named, roots_named, view_of_reach};
+
+use crate::args::Roots;
+use crate::refusals::{Valued, refuse_file};
+use crate::values::{is_given, value, values};
+use clap::error::ErrorKind;
+use clap::{ArgMatches, Error};
+use std::alloc::Global;
+
+/// What the names of a hunt want.
+const NAMES: &str = "'[FILE]...': it wants at most 4,096 files, and this is the 4,097th";
+
+/// What a hunt goes over.
+#[derive(Drop)]
+pub(crate) struct Reach<'a> {
+    /// The names of the sources behind the first.
+    pub more: Vec<&'a str>,
+    pub roots: Roots,
+    /// Whether nothing is hunted behind the first root that fails.
+    pub fail_fast: bool,
+    /// Whether a seed fails too whose root returned while processes still wait.
+    pub leaks: bool,
+}
+
+/// The names behind the first of these.
+fn behind_first<'a>(alloc: Global, names: &[&'a str]) -> Result<Vec<&'a str>, Error>
+    ensures ok { IfOk result (λ v. more_named (map (λ s. s.now) names.now) ≡ Some (map (λ s. s.now) v.items)) }
+    ensures err { IfErr result (λ e. (kind_of e ≡ ErrorKind.OutOfMemory)
+        ⊎ ((kind_of e ≡ ErrorKind.InvalidValue) × (more_named (map (λ s. s.now) names.now) ≡ None))) }
+{
+    if let Some(extra) = names.get(4_096) {
+        return Err(refuse_file(alloc, Valued::Hunt, extra, NAMES));
+    }
+    let Some((_, behind)) = names.split_first() else {
+        return Ok(Vec::new(alloc));
+    };
+    match Vec::from_slice(alloc, behind) {
+        Ok(more) => Ok(more),
+        Err(e) => Err(Error::from(e)),
+    }
+}
+
+/// The names of the sources behind the first.
+fn more<'a>(alloc: Global, rows: &ArgMatches<'a>) -> Result<Vec<&'a str>, Error>
+    ensures ok { IfOk result (λ v.
+        more_named (names_in (rows_of (found_of rows.now))) ≡ Some (map (λ s. s.now) v.items)) }
+    ensures err { IfErr result (λ e. (kind_of e ≡ ErrorKind.OutOfMemory)
+        ⊎ ((kind_of e ≡ ErrorKind.InvalidValue)
+        × (more_named (names_in (rows_of (found_of rows.now))) ≡ None))) }
+{
+    match values(rows, "file") {
+        Some(names) => behind_first(alloc, names),
+        None => Ok(Vec::new(alloc)),
+    }
+}
+
+/// Whether several sources are named.
+fn are_several(rows: &ArgMatches) -> bool
+    ensures { result ≡ nat_lt 1 (length (names_in (rows_of (found_of rows.now)))) }
+{
+    match values(rows, "file") {
+        Some(names) => names.len() > 1,
+        None => false,
+    }
+}
+
+/// Which roots are hunted.
+fn roots(rows: &ArgMatches) -> Roots
+    ensures { result ≡ roots_named (is_given (first_of (codes "all-roots") (rows_of (found_of rows.now))))
+        (first_of (codes "root") (rows_of (found_of rows.now))) }
+{
+    match (is_given(rows, "all-roots"), value(rows, "root")) {
+        (true, _) => Roots::Every,
+        (false, None) => Roots::Main,
+        (false, Some(_)) => Roots::Named,
+    }
+}
+
+/// What the hunt goes over.
+pub(crate) fn reach_of<'a>(alloc: Global, rows: &ArgMatches<'a>) -> Result<Reach<'a>, Error>
+    ensures ok { IfOk result (λ r. reach_in (rows_of (found_of rows.now)) ≡ Some (view_of_reach r)) }
+    ensures err { IfErr result (λ e. (kind_of e ≡ ErrorKind.OutOfMemory)
+        ⊎ ((kind_of e ≡ ErrorKind.InvalidValue) × (reach_in (rows_of (found_of rows.now)) ≡ None))) }
+{
+    match more(alloc, rows) {
+        Ok(more) => Ok(Reach {
+            more,
+            roots: roots(rows),
+            fail_fast: is_given(rows, "fail-fast"),
+            leaks: is_given(rows, "leaks"),
+        }),
+        Err(e) => Err(e),
+    }
+}
+
+/// Two words that don't go together, if such stand there.
+pub(crate) fn clash(rows: &ArgMatches) -> Option<(&'static str, &'static str)>
+    ensures { is_some result ≡ clashes_in (rows_of (found_of rows.now)) }
+{
+    let every = is_given(rows, "all-roots");
+    if every && value(rows, "root").is_some() {
+        return Some(("--all-roots", "'--root <F>'"));
+    }
+    let told = match (is_given(rows, "all"), value(rows, "shrink")) {
+        (true, Some(_)) => return Some(("--all", "'--shrink <N>'")),
+        (true, None) => "--all",
+        (false, Some(_)) => "--shrink <N>",
+        (false, None) => return None,
+    };
+    if is_given(rows, "leaks") {
+        Some((told, "'--leaks'"))
+    } else if every {
+        Some((told, "'--all-roots'"))
+    } else if are_several(rows) {
+        Some((told, "several files"))
+    } else {
+        None
+    }
+}

@@ -1,0 +1,20 @@
+use Rattle.std.proofs.Common.{inl, inr}
+use Rattle.pf_model.specs.Reports.{report_of}
+use Rattle.pf_cli.specs.Args.{view_of_hunt_args}
+use Rattle.pf_command.specs.Answers.{IsNoMemory}
+use Rattle.pf_command.specs.Hunts.{TellsShrinking}
+use Rattle.pf_command.specs.Streams.{IsAnswer}
+use Rattle.pf_command.proofs.Streaming.{prints_more}
+use Rattle.pf_command.proofs.ending.print_shrunk.Goals as goal
+
+pub returns-in-Ok : goal.returns-in-Ok
+returns-in-Ok g c bytes of =
+    let h = view_of_hunt_args c.args.args.now in
+    let r = report_of c.args.report.now in
+    prints_more (IsAnswer c.in-Ok.answer) (TellsShrinking h bytes r c.args.runs) _ _ _ _ (λ t s is. inl (rw (is.0, is.1) (c.in-Ok.ensures bytes of))) c.print_answer.result c.print_answer.ensures
+
+pub returns-in-Err : goal.returns-in-Err
+returns-in-Err g c bytes of =
+    let h = view_of_hunt_args c.args.args.now in
+    let r = report_of c.args.report.now in
+    prints_more IsNoMemory (TellsShrinking h bytes r c.args.runs) _ _ _ _ (λ t s is. inr is) c.print_no_memory.result c.print_no_memory.ensures

@@ -1,0 +1,263 @@
+//! What a hunt comes to, and how a run that fails is told: its seed and its choices go out first, which takes no memory, so that they are
+//! known whatever comes behind.
+
+ghost use Rattle.std.specs.Prelude.{◌≡◌, ◌++◌, List, ℕ, Some, OnErr, OnOk, IfErr, IfOk, codes, map};
+ghost use Rattle.std.specs.Fmt.{decimal};
+ghost use Rattle.std.specs.Io.KnownBytes.{Appends};
+ghost use Rattle.pf_terms.specs.Streams.{AppendsFront, CountsWrite};
+ghost use Rattle.pf_model.specs.Reports.{report_of};
+ghost use Rattle.pf_model.specs.Text.{schedule_text};
+ghost use Rattle.pf_seeds.specs.Hunts.{FirstFailing};
+ghost use Rattle.pf_seeds.specs.Views.{failure_of};
+ghost use Rattle.pf_cli.specs.Args.{failure, view_of_hunt_args};
+ghost use Rattle.pf_command.specs.Answers.{Answers, IsModuleOf};
+ghost use Rattle.pf_command.specs.Hunts.{IsFound, MaySay, TellsReport, TellsShrinking, TellsSought, choices_of, seed_text, shrinking_of, strategy_text};
+ghost use Rattle.pf_command.specs.Streams.{Prints};
+ghost use Rattle.pf_command.specs.Waiting.{Adds, after_commas};
+
+use crate::answer::{Answer, FAILED};
+use crate::printing::{print_answer, print_no_memory};
+use crate::seeds::choices_of;
+use crate::seek::shrink;
+use crate::waiting::{Waiting, add, add_number};
+use pf_cli::HuntArgs;
+use pf_fault::{NoMemory, OrNoMemory};
+use pf_model::report::{Event, Report};
+use pf_module::ReadModule;
+use pf_sched::{Job, Observer};
+use pf_seeds::Failure;
+use pf_strategy::Strategy;
+use pf_terms::{Counted, StreamFault};
+use pf_trace::print_report;
+use std::alloc::Global;
+use std::io::Write;
+use std::sync::ledger::Ledger;
+
+/// A run that fails: its job, the module of that, its seed and its report; and within how many runs its schedule is to be shrunk, if it is.
+#[derive(Drop)]
+pub struct Found {
+    pub job: Job,
+    pub module: ReadModule,
+    pub failure: Failure,
+    pub runs: Option<u32>,
+}
+
+/// What a hunt comes to.
+#[derive(Drop)]
+pub enum HuntEnd {
+    /// An answer.
+    Told(Answer),
+    /// A run that fails, which is to be told.
+    Found(Found),
+}
+
+/// Adds a comma and a choice.
+fn add_choice<W: Write, M: Ledger>(
+    waiting: &mut Waiting,
+    choice: u32,
+    writer: &mut Counted<W, M>,
+) -> Result<(), StreamFault>
+    ensures added { OnOk result (Adds waiting.old.items (codes "," ++ decimal choice)
+        waiting.new.items (W.contents writer.old.inner) (W.contents writer.new.inner)) }
+    ensures kept { OnOk result (writer.new.failures.total ≡ writer.old.failures.total) }
+    ensures front { OnErr result (AppendsFront (W.contents writer.old.inner) (W.contents writer.new.inner)
+        (waiting.old.items ++ (codes "," ++ decimal choice))) }
+    ensures counted { IfErr result (λ e. CountsWrite e writer.old.failures.total writer.new.failures.total) }
+{
+    add(waiting, b",", writer)?;
+    add_number(waiting, u64::from(choice), writer)
+}
+
+/// Adds the choices of events, each after a comma.
+fn add_others<W: Write, M: Ledger>(
+    waiting: &mut Waiting,
+    events: &[Event],
+    writer: &mut Counted<W, M>,
+) -> Result<(), StreamFault>
+    ensures added { OnOk result (Adds waiting.old.items (after_commas (map (λ e. e.choice) events.now))
+        waiting.new.items (W.contents writer.old.inner) (W.contents writer.new.inner)) }
+    ensures kept { OnOk result (writer.new.failures.total ≡ writer.old.failures.total) }
+    ensures front { OnErr result (AppendsFront (W.contents writer.old.inner) (W.contents writer.new.inner)
+        (waiting.old.items ++ after_commas (map (λ e. e.choice) events.now))) }
+    ensures counted { IfErr result (λ e. CountsWrite e writer.old.failures.total writer.new.failures.total) }
+{
+    for event in events {
+        add_choice(waiting, event.choice, writer)?;
+    }
+    Ok(())
+}
+
+/// Adds the choices of events, with commas between them, or `none`.
+fn add_choices<W: Write, M: Ledger>(
+    waiting: &mut Waiting,
+    events: &[Event],
+    writer: &mut Counted<W, M>,
+) -> Result<(), StreamFault>
+    ensures added { OnOk result (Adds waiting.old.items (schedule_text (map (λ e. e.choice) events.now))
+        waiting.new.items (W.contents writer.old.inner) (W.contents writer.new.inner)) }
+    ensures kept { OnOk result (writer.new.failures.total ≡ writer.old.failures.total) }
+    ensures front { OnErr result (AppendsFront (W.contents writer.old.inner) (W.contents writer.new.inner)
+        (waiting.old.items ++ schedule_text (map (λ e. e.choice) events.now))) }
+    ensures counted { IfErr result (λ e. CountsWrite e writer.old.failures.total writer.new.failures.total) }
+{
+    match events.split_first() {
+        None => add(waiting, b"none", writer),
+        Some((first, others)) => {
+            add_number(waiting, u64::from(first.choice), writer)?;
+            add_others(waiting, others, writer)
+        }
+    }
+}
+
+/// The line that names a strategy, if it is the one by priorities.
+fn strategy_line(strategy: Strategy) -> &'static [u8]
+    ensures { result.now ≡ strategy_text strategy }
+{
+    match strategy {
+        Strategy::Priorities => b"strategy pos\n",
+        Strategy::Uniform => b"",
+    }
+}
+
+/// Adds the line of a seed.
+fn add_seed<W: Write, M: Ledger>(
+    waiting: &mut Waiting,
+    seed: u64,
+    writer: &mut Counted<W, M>,
+) -> Result<(), StreamFault>
+    ensures added { OnOk result (Adds waiting.old.items (codes "seed " ++ decimal seed ++ codes "\n")
+        waiting.new.items (W.contents writer.old.inner) (W.contents writer.new.inner)) }
+    ensures kept { OnOk result (writer.new.failures.total ≡ writer.old.failures.total) }
+    ensures front { OnErr result (AppendsFront (W.contents writer.old.inner) (W.contents writer.new.inner)
+        (waiting.old.items ++ (codes "seed " ++ decimal seed ++ codes "\n"))) }
+    ensures counted { IfErr result (λ e. CountsWrite e writer.old.failures.total writer.new.failures.total) }
+{
+    add(waiting, b"seed ", writer)?;
+    add_number(waiting, seed, writer)?;
+    add(waiting, b"\n", writer)
+}
+
+/// Writes the seed of a run that fails, its strategy and its choices, each on a line. It takes no memory.
+fn print_seed<W: Write, M: Ledger>(
+    strategy: Strategy,
+    failure: &Failure,
+    writer: &mut Counted<W, M>,
+) -> Result<(), StreamFault>
+    ensures written { OnOk result (Appends (W.contents writer.old.inner) (W.contents writer.new.inner)
+        (seed_text failure.now.seed strategy (choices_of (report_of failure.now.report)))) }
+    ensures kept { OnOk result (writer.new.failures.total ≡ writer.old.failures.total) }
+    ensures front { OnErr result (AppendsFront (W.contents writer.old.inner) (W.contents writer.new.inner)
+        (seed_text failure.now.seed strategy (choices_of (report_of failure.now.report)))) }
+    ensures counted { IfErr result (λ e. CountsWrite e writer.old.failures.total writer.new.failures.total) }
+{
+    let mut waiting = Waiting::new();
+    add_seed(&mut waiting, failure.seed, writer)?;
+    add(&mut waiting, strategy_line(strategy), writer)?;
+    add(&mut waiting, b"schedule ", writer)?;
+    add_choices(&mut waiting, &failure.report.events, writer)?;
+    add(&mut waiting, b"\n", writer)?;
+    writer.put(waiting.as_slice())
+}
+
+/// Prints the report of a run that fails; if memory runs out within it, that it did.
+fn print_failure<W: Write, M: Ledger>(
+    alloc: Global,
+    job: &Job,
+    report: &Report,
+    writer: &mut Counted<W, M>,
+) -> Result<u8, StreamFault>
+    ensures { Prints (TellsReport job.now (report_of report.now))
+        (W.contents writer.old.inner) (W.contents writer.new.inner)
+        writer.old.failures.total writer.new.failures.total result }
+{
+    match print_report(alloc, report, job.module().atoms(), writer) {
+        Ok(()) => Ok(FAILED),
+        Err(OrNoMemory::Fault(fault)) => Err(fault),
+        Err(OrNoMemory::NoMemory) => print_no_memory(writer),
+    }
+}
+
+/// What the shrinking of the choices of a run is answered with.
+fn shrink_report(
+    alloc: Global,
+    args: &HuntArgs,
+    module: ReadModule,
+    report: &Report,
+    runs: u32,
+    observer: &mut impl Observer,
+) -> Result<Answer, NoMemory>
+    ensures { IfOk result (λ a. (bytes : List ℕ) → IsModuleOf bytes «module»
+        → Answers (shrinking_of (view_of_hunt_args args.now) (choices_of (report_of report.now)) runs) bytes
+        a.text.items a.status) }
+{
+    let choices = choices_of(alloc, report)?;
+    shrink(alloc, args, module, choices, runs, observer)
+}
+
+/// Prints what the shrinking of the choices of a run is answered with; if memory runs out within it, that it did.
+fn print_shrunk<W: Write, M: Ledger>(
+    alloc: Global,
+    args: &HuntArgs,
+    module: ReadModule,
+    report: &Report,
+    runs: u32,
+    observer: &mut impl Observer,
+    writer: &mut Counted<W, M>,
+) -> Result<u8, StreamFault>
+    ensures { (bytes : List ℕ) → IsModuleOf bytes «module»
+        → Prints (TellsShrinking (view_of_hunt_args args.now) bytes (report_of report.now) runs)
+        (W.contents writer.old.inner) (W.contents writer.new.inner)
+        writer.old.failures.total writer.new.failures.total result }
+{
+    match shrink_report(alloc, args, module, report, runs, observer) {
+        Ok(answer) => print_answer(&answer, writer),
+        Err(NoMemory) => print_no_memory(writer),
+    }
+}
+
+/// Prints a run that fails: its seed and its choices, and then its report, or what their shrinking is answered with.
+fn print_found<W: Write, M: Ledger>(
+    alloc: Global,
+    args: &HuntArgs,
+    found: Found,
+    observer: &mut impl Observer,
+    writer: &mut Counted<W, M>,
+) -> Result<u8, StreamFault>
+    ensures { (bytes : List ℕ) → IsModuleOf bytes found.«module»
+        → FirstFailing args.now.leaks args.now.strategy found.job.asked args.now.first args.now.end
+        (Some (failure_of found.failure))
+        → Prints (TellsSought (view_of_hunt_args args.now) bytes found.job (failure found.runs))
+        (W.contents writer.old.inner) (W.contents writer.new.inner)
+        writer.old.failures.total writer.new.failures.total result }
+{
+    let Found {
+        job,
+        module,
+        failure,
+        runs,
+    } = found;
+    print_seed(args.strategy, &failure, writer)?;
+    match runs {
+        Some(runs) => print_shrunk(alloc, args, module, &failure.report, runs, observer, writer),
+        None => print_failure(alloc, &job, &failure.report, writer),
+    }
+}
+
+/// Prints what a hunt came to.
+pub(crate) fn print_end<W: Write, M: Ledger>(
+    alloc: Global,
+    args: &HuntArgs,
+    end: HuntEnd,
+    observer: &mut impl Observer,
+    writer: &mut Counted<W, M>,
+) -> Result<u8, StreamFault>
+    ensures { (bytes : List ℕ) → IsFound (view_of_hunt_args args.now) bytes end
+        → Prints (MaySay (view_of_hunt_args args.now) bytes end)
+        (W.contents writer.old.inner) (W.contents writer.new.inner)
+        writer.old.failures.total writer.new.failures.total result }
+{
+    match end {
+        HuntEnd::Told(answer) => print_answer(&answer, writer),
+        HuntEnd::Found(found) => print_found(alloc, args, found, observer, writer),
+    }
+}

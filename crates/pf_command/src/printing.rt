@@ -1,0 +1,231 @@
+//! The work of a run between a reader and a writer: its report goes out as the run goes, so that no more of it is held than a piece.
+
+ghost use Rattle.std.specs.Prelude.{◌≡◌, List, ℕ, zero, IfErr, IfOk, OnOk, Some};
+ghost use Rattle.pf_fault.specs.Codes.{code_text, refusal_text};
+ghost use Rattle.pf_cli.specs.Args.{view_of_run_args};
+ghost use Rattle.pf_command.specs.Answers.{Answers, IsModuleOf, IsNoMemory, Tells, Waits, run_args};
+ghost use Rattle.pf_command.specs.Guided.{RunAnswers};
+ghost use Rattle.pf_command.specs.Streams.{Answered, IsAnswer, IsRefused, Leaves, NoneFailed, Prints, Sends, Takes, streams};
+
+use crate::answer::{Answer, REFUSED, read_source, refused_at, refused_by_code, run_status};
+use crate::guided::scheduled;
+use crate::run::answer_job;
+use crate::serving::MOST_BYTES;
+use pf_cli::{Edition, RunArgs};
+use pf_fault::{Code, OrNoMemory, Refusal};
+use pf_module::ReadModule;
+use pf_request::Request;
+use pf_sched::{Job, Scratch, Silent, print_run};
+use pf_terms::{Counted, StreamFault};
+use std::alloc::Global;
+use std::io::{Read, Write};
+use std::sync::ledger::Ledger;
+
+/// Writes the line of a code, as `B2`, with the status of what is refused.
+fn print_code<W: Write, M: Ledger>(
+    alloc: Global,
+    code: Code,
+    writer: &mut Counted<W, M>,
+) -> Result<u8, OrNoMemory<StreamFault>>
+    ensures { Sends (IsRefused (code_text code)) (W.contents writer.old.inner) (W.contents writer.new.inner)
+        writer.old.failures.total writer.new.failures.total result }
+{
+    let answer = refused_by_code(alloc, code)?;
+    Ok(print_answer(&answer, writer)?)
+}
+
+/// Writes the line of a refusal with its offset, as `E6 at 41`.
+fn print_refusal<W: Write, M: Ledger>(
+    alloc: Global,
+    refusal: Refusal,
+    writer: &mut Counted<W, M>,
+) -> Result<u8, OrNoMemory<StreamFault>>
+    ensures { Sends (IsRefused (refusal_text refusal.code refusal.offset))
+        (W.contents writer.old.inner) (W.contents writer.new.inner)
+        writer.old.failures.total writer.new.failures.total result }
+{
+    let answer = refused_at(alloc, refusal)?;
+    Ok(print_answer(&answer, writer)?)
+}
+
+/// Writes what is told of a run within which memory ran out, behind the lines that went out. It takes no memory.
+pub(crate) fn print_no_memory<W: Write, M: Ledger>(
+    writer: &mut Counted<W, M>,
+) -> Result<u8, StreamFault>
+    ensures { Prints IsNoMemory (W.contents writer.old.inner) (W.contents writer.new.inner)
+        writer.old.failures.total writer.new.failures.total result }
+{
+    writer.put(b"memory\nsteps 0\nno verdict\n")?;
+    Ok(REFUSED)
+}
+
+/// Writes an answer.
+pub(crate) fn print_answer<W: Write, M: Ledger>(
+    answer: &Answer,
+    writer: &mut Counted<W, M>,
+) -> Result<u8, StreamFault>
+    ensures { Prints (IsAnswer answer.now) (W.contents writer.old.inner) (W.contents writer.new.inner)
+        writer.old.failures.total writer.new.failures.total result }
+{
+    writer.put(&answer.text)?;
+    Ok(answer.status)
+}
+
+/// Prints the report of a job that is one run, as the run goes, and counts how many processes still wait though its root returned.
+fn print_one_run<W: Write, M: Ledger>(
+    alloc: Global,
+    job: &Job,
+    writer: &mut Counted<W, M>,
+    waiting: &mut u32,
+) -> Result<u8, StreamFault>
+    requires { job.now.asked.runs ≡ zero }
+    ensures told { Prints (Tells job.now) (W.contents writer.old.inner) (W.contents writer.new.inner)
+        writer.old.failures.total writer.new.failures.total result }
+    ensures waits { Waits job.now waiting.old waiting.new }
+{
+    match print_run(alloc, job, &mut Scratch::new(alloc), writer) {
+        Ok(printed) => {
+            *waiting = printed.waiting;
+            Ok(run_status(printed.verdict))
+        }
+        Err(OrNoMemory::Fault(fault)) => Err(fault),
+        Err(OrNoMemory::NoMemory) => print_no_memory(writer),
+    }
+}
+
+/// Prints what is told of a job. Of one that is one run it counts how many processes still wait though its root returned.
+fn print_job<W: Write, M: Ledger>(
+    alloc: Global,
+    job: Job,
+    writer: &mut Counted<W, M>,
+    waiting: &mut u32,
+) -> Result<u8, OrNoMemory<StreamFault>>
+    ensures told { Sends (Tells job) (W.contents writer.old.inner) (W.contents writer.new.inner)
+        writer.old.failures.total writer.new.failures.total result }
+    ensures waits { Waits job waiting.old waiting.new }
+{
+    if job.runs() > 0 {
+        let answer = answer_job(alloc, job, &mut Silent)?;
+        Ok(print_answer(&answer, writer)?)
+    } else {
+        Ok(print_one_run(alloc, &job, writer, waiting)?)
+    }
+}
+
+/// Prints the answer to a module of which this is asked for.
+fn print_asked<W: Write, M: Ledger>(
+    alloc: Global,
+    request: &Request,
+    edition: Edition,
+    module: ReadModule,
+    writer: &mut Counted<W, M>,
+    waiting: &mut u32,
+) -> Result<u8, OrNoMemory<StreamFault>>
+    ensures { (bytes : List ℕ) → IsModuleOf bytes «module»
+        → Sends (Answers (run_args request.now edition) bytes)
+        (W.contents writer.old.inner) (W.contents writer.new.inner)
+        writer.old.failures.total writer.new.failures.total result }
+{
+    match Job::new(alloc, module, request, edition.number()) {
+        Ok(job) => print_job(alloc, job, writer, waiting),
+        Err(OrNoMemory::NoMemory) => Err(OrNoMemory::NoMemory),
+        Err(OrNoMemory::Fault(refusal)) => print_code(alloc, refusal.code(), writer),
+    }
+}
+
+/// Prints the answer to a module of which the run by the priorities of a seed is asked for.
+fn print_guided<W: Write, M: Ledger>(
+    alloc: Global,
+    args: &RunArgs,
+    seed: u64,
+    module: ReadModule,
+    writer: &mut Counted<W, M>,
+    waiting: &mut u32,
+) -> Result<u8, OrNoMemory<StreamFault>>
+    requires { args.now.priorities ≡ Some seed }
+    ensures { (bytes : List ℕ) → IsModuleOf bytes «module»
+        → Sends (RunAnswers (view_of_run_args args.now) bytes)
+        (W.contents writer.old.inner) (W.contents writer.new.inner)
+        writer.old.failures.total writer.new.failures.total result }
+{
+    match Job::new(alloc, module.share()?, &args.request, args.edition.number()) {
+        Ok(job) => {
+            let request = scheduled(alloc, &args.request, &job, seed)?;
+            print_asked(alloc, &request, args.edition, module, writer, waiting)
+        }
+        Err(OrNoMemory::NoMemory) => Err(OrNoMemory::NoMemory),
+        Err(OrNoMemory::Fault(refusal)) => print_code(alloc, refusal.code(), writer),
+    }
+}
+
+/// Prints the answer to a module of which a run is asked for.
+fn print_module<W: Write, M: Ledger>(
+    alloc: Global,
+    args: &RunArgs,
+    module: ReadModule,
+    writer: &mut Counted<W, M>,
+    waiting: &mut u32,
+) -> Result<u8, OrNoMemory<StreamFault>>
+    ensures { (bytes : List ℕ) → IsModuleOf bytes «module»
+        → Sends (RunAnswers (view_of_run_args args.now) bytes)
+        (W.contents writer.old.inner) (W.contents writer.new.inner)
+        writer.old.failures.total writer.new.failures.total result }
+{
+    match args.priorities {
+        Some(seed) => print_guided(alloc, args, seed, module, writer, waiting),
+        None => print_asked(alloc, &args.request, args.edition, module, writer, waiting),
+    }
+}
+
+/// Prints the answer to a source of these bytes of which a run is asked for.
+fn print_source<W: Write, M: Ledger>(
+    alloc: Global,
+    args: &RunArgs,
+    bytes: Vec<u8>,
+    writer: &mut Counted<W, M>,
+    waiting: &mut u32,
+) -> Result<u8, OrNoMemory<StreamFault>>
+    ensures { Sends (RunAnswers (view_of_run_args args.now) bytes.items)
+        (W.contents writer.old.inner) (W.contents writer.new.inner)
+        writer.old.failures.total writer.new.failures.total result }
+{
+    match read_source(alloc, bytes) {
+        Ok(module) => print_module(alloc, args, module, writer, waiting),
+        Err(OrNoMemory::NoMemory) => Err(OrNoMemory::NoMemory),
+        Err(OrNoMemory::Fault(refusal)) => print_refusal(alloc, refusal, writer),
+    }
+}
+
+/// Answers a source of which a run is asked for: reads at most one byte more than a source may have, writes the report as the run goes, or
+/// why there is none, and gives the status. How many processes still wait though the root returned is put in `waiting`, if there are any.
+pub fn run_source<R: Read, W: Write, L: Ledger, M: Ledger>(
+    alloc: Global,
+    reader: &mut Counted<R, L>,
+    args: &RunArgs,
+    writer: &mut Counted<W, M>,
+    waiting: &mut u32,
+) -> Result<u8, OrNoMemory<StreamFault>>
+    ensures answered { IfOk result (λ status. Answered (RunAnswers (view_of_run_args args.now))
+        (streams (R.remaining reader.old.inner) (W.contents writer.old.inner)
+        reader.old.failures.total writer.old.failures.total)
+        (streams (R.remaining reader.new.inner) (W.contents writer.new.inner)
+        reader.new.failures.total writer.new.failures.total) status) }
+    ensures counts { OnOk result (NoneFailed
+        (streams (R.remaining reader.old.inner) (W.contents writer.old.inner)
+        reader.old.failures.total writer.old.failures.total)
+        (streams (R.remaining reader.new.inner) (W.contents writer.new.inner)
+        reader.new.failures.total writer.new.failures.total)) }
+    ensures taken { Takes
+        (streams (R.remaining reader.old.inner) (W.contents writer.old.inner)
+        reader.old.failures.total writer.old.failures.total)
+        (streams (R.remaining reader.new.inner) (W.contents writer.new.inner)
+        reader.new.failures.total writer.new.failures.total) }
+    ensures fault { IfErr result (λ e. Leaves e (RunAnswers (view_of_run_args args.now))
+        (streams (R.remaining reader.old.inner) (W.contents writer.old.inner)
+        reader.old.failures.total writer.old.failures.total)
+        (streams (R.remaining reader.new.inner) (W.contents writer.new.inner)
+        reader.new.failures.total writer.new.failures.total)) }
+{
+    let source = reader.take_front(alloc, MOST_BYTES)?;
+    print_source(alloc, args, source, writer, waiting)
+}

@@ -1,0 +1,21 @@
+use Rattle.std.proofs.Common.{length, sym, ap, ◌∙◌}
+use Rattle.std.specs.Prelude.{slice_get}
+use Rattle.pf_model.specs.Reports.{actor_of}
+use Rattle.pf_system.specs.Steps.{noted}
+use Rattle.pf_sched.proofs.Traces.{may_go}
+use Rattle.pf_sched.proofs.execution.Execution.pass_next.Goals as goal
+
+pub pass-requires-clause-enabled : goal.pass-requires-clause-enabled
+pass-requires-clause-enabled c =
+    may_go c.args.self.now.system.standing (noted c.enabled-enabled.result) c.enabled-enabled.ensures.actors c.choose-index.result (actor_of c.actor-actor.result)
+    c.actor-actor.ensures
+
+pub returns : goal.returns
+returns c d stands =
+    record {
+      used = c.in_ok-pass.field-0;
+      counts = c.len-among.ensures.count ∙ ap length (c.enabled-enabled.ensures.actors d stands);
+      chooses = c.choose-index.ensures.chooses d (c.enabled-enabled.ensures.both d stands);
+      chosen = ap (λ xs. slice_get xs c.choose-index.result) (sym (c.enabled-enabled.ensures.actors d stands)) ∙ c.actor-actor.ensures;
+      passes = c.in_ok-pass.ensures;
+    }

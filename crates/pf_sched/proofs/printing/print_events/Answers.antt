@@ -1,0 +1,55 @@
+use Rattle.std.proofs.Common.{◌≡◌, ◌≤◌, ◌-◌, ◌∷◌, ◌++◌, [], zero, inr, length, ◌∙◌, subst, arith}
+use Rattle.pf_model.specs.Meaning.{picks_of}
+use Rattle.pf_model.specs.Runs.{start}
+use Rattle.pf_trace.proofs.Fronts.{handed_on}
+use Rattle.pf_sched.specs.Printing.{CutsShort, PrintsOn}
+use Rattle.pf_sched.proofs.Past.{as_many_steps}
+use Rattle.pf_sched.proofs.Sliced.{made}
+use Rattle.pf_sched.proofs.Traces.{length_last}
+use Rattle.pf_sched.proofs.printing.print_events.Goals as goal
+
+pub returns-in_err-print_next-clause-fault : goal.returns-in_err-print_next-clause-fault
+returns-in_err-print_next-clause-fault g c =
+    let j = c.args.job.now in
+    let i = c.loop.invariant in
+    let f = c.in_err-print_next.field-0.0 in
+    let w0 = g.W.Write.contents c.args.writer.now.inner in
+    handed_on c.from_residual.result f _ c.from_residual.ensures
+    (subst (λ n. CutsShort f j j.asked.choices w0 (g.W.Write.contents c.print_next.new.writer.inner) n c.print_next.new.writer.failures.total) i.kept
+    (c.in_err-print_next.ensures.fault j j.asked.choices i.printed.0 w0 c.requires.limit i.printed.2))
+
+pub returns-then-not-branch-clause-printed : goal.returns-then-not-branch-clause-printed
+returns-then-not-branch-clause-printed g c =
+    let j = c.args.job.now in
+    let i = c.loop.invariant in
+    let w0 = g.W.Write.contents c.args.writer.now.inner in
+    let on =
+    subst (λ b. PrintsOn j j.asked.choices i.printed.0 c.print_next.new.execution c.print_next.new.printer w0 (g.W.Write.contents c.print_next.new.writer.inner) b)
+    c.if-not-branch.true (c.in_ok-print_next.ensures.printed j j.asked.choices i.printed.0 w0 c.requires.limit i.printed.2) in
+    (i.printed.0, on.0, on.1)
+
+pub loop-preserved : goal.loop-preserved
+loop-preserved g c =
+    let j = c.args.job.now in
+    let i = c.loop.invariant in
+    let w0 = g.W.Write.contents c.args.writer.now.inner in
+    let on =
+    subst (λ b. PrintsOn j j.asked.choices i.printed.0 c.print_next.new.execution c.print_next.new.printer w0 (g.W.Write.contents c.print_next.new.writer.inner) b)
+    c.if-not-branch.false (c.in_ok-print_next.ensures.printed j j.asked.choices i.printed.0 w0 c.requires.limit i.printed.2) in
+    let count = i.printed.1 in
+    let more = length_last i.printed.0 on.0 in
+    record { printed = (i.printed.0 ++ on.0 ∷ [], omega arith, on.1); kept = c.in_ok-print_next.ensures.kept ∙ i.kept }
+
+pub returns-clause-printed : goal.returns-clause-printed
+returns-clause-printed g c =
+    let j = c.args.job.now in
+    let i = c.loop.invariant in
+    let x = c.loop.execution in
+    let run = i.printed.2.run in
+    let count = i.printed.1 in
+    let limit = c.requires.limit in
+    let events = made j j.asked.choices i.printed.0 x run in
+    let steps : length run.transitions ≤ x.system.steps =
+    as_many_steps j.asked.code (picks_of j.asked.choices) j.asked.limit (start j.asked.root j.asked.edition) run.transitions run.last x.system.steps run.goes in
+    let none : j.asked.limit - x.system.steps ≡ zero = omega arith in
+    (i.printed.0, i.printed.2, (run.last, run.stands, inr none))

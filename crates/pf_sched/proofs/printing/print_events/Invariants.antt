@@ -1,0 +1,13 @@
+use Rattle.std.proofs.Common.{◌≡◌, List, length}
+use Rattle.pf_model.specs.Meaning.{Event}
+use Rattle.pf_sched.specs.Printing.{IsPrinted}
+use Rattle.pf_sched.proofs.printing.print_events.Given as goal
+
+-- an event was made in each turn, all were told, and the lines of those that don't wait went out; no call failed
+abbrev pub invariant-loop : goal.invariant-loop
+invariant-loop g l =
+    let contents = g.W.Write.contents in
+    record {
+      printed : (es : List Event) × (length es ≡ l.counter) × IsPrinted l.job l.job.asked.choices es l.execution l.printer (contents l.fn.writer.inner) (contents l.writer.inner);
+      kept : l.writer.failures.total ≡ l.fn.writer.failures.total;
+    }

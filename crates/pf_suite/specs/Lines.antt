@@ -1,0 +1,62 @@
+-- What is told of hunts over several sources and roots: a line for each, and a summary.
+use Rattle.std.specs.Prelude.{ℕ, ◌==◌, nat_lt, Bool, true, false, if◌then◌else◌, List, [], ◌++◌, codes}
+use Rattle.std.specs.List.{count_by}
+use Rattle.std.specs.Fmt.{decimal}
+use Rattle.pf_fault.specs.Codes.{code_text}
+use Rattle.pf_model.specs.TermText.{atom_text, line}
+use Rattle.pf_suite.specs.declared.end.RootEnd.{RootEnd}
+use Rattle.pf_suite.specs.declared.end.RootEnd.TheVariants.{Fails, NoFailure, Stopped, Refused}
+use Rattle.pf_suite.specs.declared.end.Ending.{Ending}
+use Rattle.pf_suite.specs.declared.end.Ending.TheVariants.{Lost, Root}
+
+-- ---- the line of a root, or of a source without one
+
+abbrev pub end_text : RootEnd → List ℕ
+end_text (Fails s) = codes "seed " ++ decimal s ++ codes " fails"
+end_text (NoFailure n) = codes "no failure in " ++ decimal n ++ codes " seeds"
+end_text (Stopped n) = codes "stopped behind " ++ decimal n ++ codes " seeds, no failure"
+end_text (Refused code) = code_text code
+
+-- a root is named behind its file
+abbrev pub root_name : (file root : List ℕ) → List ℕ
+root_name file root = file ++ codes " " ++ atom_text root
+
+-- what is told stands behind a name
+abbrev pub told_line : (name told : List ℕ) → List ℕ
+told_line name told = name ++ codes ": " ++ line told
+
+abbrev pub root_line : (file root : List ℕ) → RootEnd → List ℕ
+root_line file root e = told_line (root_name file root) (end_text e)
+
+abbrev pub rootless_text : List ℕ
+rootless_text = codes "no exported function without arguments"
+
+-- ---- the summary
+
+-- a root that was hunted
+abbrev pub is_root : Ending → Bool
+is_root Lost = false
+is_root (Root e) = true
+
+abbrev pub fails : Ending → Bool
+fails (Root (Fails s)) = true
+fails _ = false
+
+-- what is refused, or can't be read
+abbrev pub is_refused : Ending → Bool
+is_refused Lost = true
+is_refused (Root (Refused code)) = true
+is_refused _ = false
+
+-- a number, with the word for one or for several
+abbrev pub counted : ℕ → (one several : List ℕ) → List ℕ
+counted n one several = decimal n ++ codes " " ++ (if n == 1 then one else several)
+
+abbrev pub summary_text : (files : ℕ) → List Ending → List ℕ
+summary_text files ends =
+    counted files (codes "file") (codes "files") ++ codes ", " ++ counted (count_by is_root ends) (codes "root") (codes "roots") ++ codes ": "
+    ++ counted (count_by fails ends) (codes "fails") (codes "fail") ++ codes ", " ++ line (decimal (count_by is_refused ends) ++ codes " refused")
+
+-- 2 if something is refused or can't be read, else 1 if a root fails, else 0
+abbrev pub suite_status : List Ending → ℕ
+suite_status ends = if nat_lt 0 (count_by is_refused ends) then 2 else (if nat_lt 0 (count_by fails ends) then 1 else 0)

@@ -1,0 +1,117 @@
+//! The hunt of one root of a module.
+
+ghost use Rattle.std.specs.Prelude.{◌≡◌, IfOk, Ok, MatchResult, is_some, option_map};
+ghost use Rattle.pf_request.specs.Job as jobs;
+ghost use Rattle.pf_request.specs.View.{view_of_request};
+ghost use Rattle.pf_sched.specs.Asked.{Asks, IsRefusal};
+ghost use Rattle.pf_seeds.specs.Hunts.{ComesTo};
+ghost use Rattle.pf_seeds.specs.Views.{failure_of};
+ghost use Rattle.pf_cli.specs.Args.{view_of_hunt_args};
+ghost use Rattle.pf_suite.specs.Ends.{IsLeast, JobEnds, RootEnds, request_for};
+
+use crate::end::RootEnd;
+use pf_cli::HuntArgs;
+use pf_fault::{NoMemory, OrNoMemory};
+use pf_module::ReadModule;
+use pf_request::{Request, ShortBytes};
+use pf_sched::{Job, JobRefusal};
+use pf_seeds::{Hunt, HuntObserver, Searched, first_failing, other_jobs};
+use std::alloc::Global;
+use std::thread::Threads;
+
+/// What a hunt asks for of a root.
+pub fn request_for(alloc: Global, args: &HuntArgs, root: &[u8]) -> Result<Request, NoMemory>
+    ensures { IfOk result (λ r. view_of_request r ≡ request_for (view_of_hunt_args args.now) root.now) }
+{
+    let HuntArgs { request, .. } = args;
+    Ok(Request {
+        root: ShortBytes::from_slice(alloc, root)?,
+        property: ShortBytes::from_slice(alloc, request.property.as_slice())?,
+        kind: request.kind.share()?,
+        limit: request.limit,
+    })
+}
+
+/// The job in whose place those of the seeds go.
+fn job_for(
+    alloc: Global,
+    args: &HuntArgs,
+    module: &ReadModule,
+    root: &[u8],
+) -> Result<Job, OrNoMemory<JobRefusal>>
+    ensures { MatchResult result
+        (λ job. Asks «module».now (view_of_hunt_args args.now).edition
+        (request_for (view_of_hunt_args args.now) root.now) (Ok job))
+        (IsRefusal (Asks «module».now (view_of_hunt_args args.now).edition
+        (request_for (view_of_hunt_args args.now) root.now))) }
+{
+    let request = request_for(alloc, args, root)?;
+    Job::new(alloc, module.share()?, &request, args.edition.number())
+}
+
+/// How the hunt of a job ended, of whose seeds this is known.
+fn end_of(args: &HuntArgs, searched: &Searched) -> RootEnd
+    ensures { (j : jobs.Job)
+        → IsLeast (view_of_hunt_args args.now) j searched.now.end (option_map failure_of searched.now.failure)
+        → ComesTo (is_some args.now.time) args.now.end searched.now.end
+        → JobEnds (view_of_hunt_args args.now) j result }
+{
+    match &searched.failure {
+        Some(failure) => RootEnd::Fails { seed: failure.seed },
+        None if searched.end == args.end => RootEnd::NoFailure {
+            seeds: args.end.saturating_sub(args.first),
+        },
+        None => RootEnd::Stopped {
+            seeds: searched.end.saturating_sub(args.first),
+        },
+    }
+}
+
+/// How the hunt of the job of a root ends, by the given number of workers.
+fn hunt_job<T: Threads + Sync>(
+    rt: &T,
+    alloc: Global,
+    args: &HuntArgs,
+    module: &ReadModule,
+    root: &[u8],
+    job: Job,
+    workers: u64,
+    observer: &mut impl HuntObserver,
+) -> Result<RootEnd, NoMemory>
+    ensures { IfOk result (JobEnds (view_of_hunt_args args.now) job) }
+{
+    let request = request_for(alloc, args, root)?;
+    let most = workers.min(args.end.saturating_sub(args.first));
+    let others = other_jobs(alloc, &job, module, &request, most)?;
+    let hunt = Hunt {
+        job,
+        others,
+        strategy: args.strategy,
+        leaks: args.leaks,
+    };
+    let may_stop = args.time.is_some();
+    let searched = first_failing(
+        rt, alloc, &hunt, args.first, args.end, may_stop, workers, observer,
+    )?;
+    Ok(end_of(args, &searched))
+}
+
+/// How the hunt of a root of a module ends, by the given number of workers. Who watches is told how many seeds are done; if the hunt is one
+/// for a time, it ends once the observer says it, and never before a first block of seeds.
+pub fn hunt_root<T: Threads + Sync>(
+    rt: &T,
+    alloc: Global,
+    args: &HuntArgs,
+    module: &ReadModule,
+    root: &[u8],
+    workers: u64,
+    observer: &mut impl HuntObserver,
+) -> Result<RootEnd, NoMemory>
+    ensures { IfOk result (RootEnds (view_of_hunt_args args.now) root.now «module».now) }
+{
+    match job_for(alloc, args, module, root) {
+        Ok(job) => hunt_job(rt, alloc, args, module, root, job, workers, observer),
+        Err(OrNoMemory::Fault(refusal)) => Ok(RootEnd::Refused(refusal.code())),
+        Err(OrNoMemory::NoMemory) => Err(NoMemory),
+    }
+}

@@ -1,0 +1,15 @@
+//! Hunts over several sources and roots: which roots a source has, what the hunt of each comes to, and what is told of them.
+#![tactic(auto)]
+
+mod end;
+mod hunt;
+mod lines;
+mod roots;
+mod source;
+mod summary;
+
+pub use end::{Ending, RootEnd};
+pub use hunt::{hunt_root, request_for};
+pub use lines::{line_of_refusal, line_of_root, line_of_rootless, root_name};
+pub use source::{Hunted, read_hunted};
+pub use summary::Suite;

@@ -1,0 +1,119 @@
+//! The lines of a run's events that go out as they are written, piece by piece.
+
+ghost use Rattle.std.specs.Prelude.{◌≡◌, ◌++◌, ◌∷◌, [], List, ℕ, IfErr, OnOk};
+ghost use Rattle.std.specs.Io.KnownBytes.{Appends};
+ghost use Rattle.pf_terms.specs.Atoms.{name_of};
+ghost use Rattle.pf_terms.specs.Streams.{LeavesFront};
+ghost use Rattle.pf_model.specs.Reports.{event_of, outcome_of};
+ghost use Rattle.pf_trace.specs.Written.{AreWrittenSoFar, GoesOut, gone_from, last_lines, lines_text, told_so_far};
+
+use crate::lines::LinesSoFar;
+use crate::report::put_last_lines;
+use pf_fault::OrNoMemory;
+use pf_model::report::{Event, Outcome};
+use pf_terms::{AtomTable, Counted, NoMemory, StreamFault};
+use std::alloc::Global;
+use std::io::Write;
+use std::snapshot::Snapshot;
+use std::sync::ledger::Ledger;
+
+/// Lines that have so many bytes go out.
+const PIECE_BYTES: usize = 65_536;
+
+/// The lines of a run's events, which go out in pieces: those that wait. Lines that went out are not kept; what stands for their events has no
+/// bytes, and only clauses read it.
+#[derive(Drop)]
+pub struct Pieces {
+    gone: Vec<Snapshot<Event>>,
+    lines: LinesSoFar,
+}
+
+impl Pieces {
+    /// No line.
+    pub fn new(alloc: Global) -> Pieces
+        ensures gone { gone_from result ≡ [] }
+        ensures waiting { told_so_far result.lines ≡ [] }
+        ensures written { (name : ℕ → List ℕ) → AreWrittenSoFar name result.lines }
+    {
+        Pieces {
+            gone: Vec::new(alloc),
+            lines: LinesSoFar::new(alloc),
+        }
+    }
+
+    /// Adds the line of an event. None goes out.
+    pub fn add(&mut self, atoms: &AtomTable, event: &Event) -> Result<(), NoMemory>
+        ensures gone { self.new.gone ≡ self.old.gone }
+        ensures event { OnOk result (told_so_far self.new.lines
+            ≡ told_so_far self.old.lines ++ event_of event.now ∷ []) }
+        ensures line { OnOk result (AreWrittenSoFar (name_of atoms.now) self.old.lines
+            → AreWrittenSoFar (name_of atoms.now) self.new.lines) }
+    {
+        self.lines.add(atoms, event)
+    }
+
+    /// Has the lines that wait go out.
+    fn print<W: Write, M: Ledger>(
+        &mut self,
+        writer: &mut Counted<W, M>,
+    ) -> Result<(), OrNoMemory<StreamFault>>
+        ensures out { (name : ℕ → List ℕ) → AreWrittenSoFar name self.old.lines → OnOk result
+            (GoesOut name self.old self.new (W.contents writer.old.inner) (W.contents writer.new.inner)) }
+        ensures kept { OnOk result (writer.new.failures.total ≡ writer.old.failures.total) }
+        ensures fault { (name : ℕ → List ℕ) → AreWrittenSoFar name self.old.lines → IfErr result (λ e.
+            LeavesFront e (lines_text name (told_so_far self.old.lines))
+            (W.contents writer.old.inner) (W.contents writer.new.inner)
+            writer.old.failures.total writer.new.failures.total) }
+    {
+        self.gone.append(&mut self.lines.told)?;
+        writer.put(&self.lines.text)?;
+        self.lines.text.clear();
+        Ok(())
+    }
+
+    /// Has the lines that wait go out if they make a piece.
+    pub fn print_full<W: Write, M: Ledger>(
+        &mut self,
+        writer: &mut Counted<W, M>,
+    ) -> Result<(), OrNoMemory<StreamFault>>
+        ensures out { (name : ℕ → List ℕ) → AreWrittenSoFar name self.old.lines → OnOk result
+            (GoesOut name self.old self.new (W.contents writer.old.inner) (W.contents writer.new.inner)) }
+        ensures kept { OnOk result (writer.new.failures.total ≡ writer.old.failures.total) }
+        ensures fault { (name : ℕ → List ℕ) → AreWrittenSoFar name self.old.lines → IfErr result (λ e.
+            LeavesFront e (lines_text name (told_so_far self.old.lines))
+            (W.contents writer.old.inner) (W.contents writer.new.inner)
+            writer.old.failures.total writer.new.failures.total) }
+    {
+        if self.lines.text.len() < PIECE_BYTES {
+            return Ok(());
+        }
+        self.print(writer)
+    }
+
+    /// Has the lines that wait go out, and behind them what follows the lines of a report's events.
+    pub fn print_end<W: Write, M: Ledger>(
+        self,
+        atoms: &AtomTable,
+        outcome: &Outcome,
+        steps: u32,
+        verdict: Option<bool>,
+        writer: &mut Counted<W, M>,
+    ) -> Result<(), OrNoMemory<StreamFault>>
+        requires { AreWrittenSoFar (name_of atoms.now) self.lines }
+        ensures written { OnOk result (Appends (W.contents writer.old.inner) (W.contents writer.new.inner)
+            (lines_text (name_of atoms.now) (told_so_far self.lines)
+            ++ last_lines (name_of atoms.now) (outcome_of outcome.now) steps verdict)) }
+        ensures kept { OnOk result (writer.new.failures.total ≡ writer.old.failures.total) }
+        ensures fault { IfErr result (λ e. LeavesFront e
+            (lines_text (name_of atoms.now) (told_so_far self.lines)
+            ++ last_lines (name_of atoms.now) (outcome_of outcome.now) steps verdict)
+            (W.contents writer.old.inner) (W.contents writer.new.inner)
+            writer.old.failures.total writer.new.failures.total) }
+    {
+        let Pieces { lines, gone: _ } = self;
+        let LinesSoFar { mut text, told: _ } = lines;
+        put_last_lines(&mut text, atoms, outcome, steps, verdict)?;
+        writer.put(&text)?;
+        Ok(())
+    }
+}

@@ -1,0 +1,330 @@
+//! Hunts over several sources and roots: a line for each root as soon as its hunt is over, and a summary.
+
+ghost use Rattle.std.specs.Prelude.{◌≡◌, ◌<◌};
+
+use crate::args::open;
+use crate::escape::Shown;
+use crate::folder::{files_in, is_folder};
+use crate::messages::{REFUSED, failed, say};
+use crate::progress::{Line, Seeds};
+use crate::waiting::Waiting;
+use crate::why::why_of_root;
+use crate::work::{Answered, workers_of};
+use pf_cli::{HuntArgs, Roots, Sought};
+use pf_command::MOST_BYTES;
+use pf_fault::{NoMemory, OrNoMemory};
+use pf_module::ReadModule;
+use pf_request::Request;
+use pf_suite::{
+    Ending, Hunted, RootEnd, Suite, hunt_root, line_of_refusal, line_of_root, line_of_rootless,
+    read_hunted, request_for, root_name,
+};
+use pf_terms::{Counted, StreamFault};
+use std::alloc::{AllocGlobal, Global};
+use std::fs::Files;
+use std::io::{self, Read, Write};
+use std::marker::Brand;
+use std::sync::ledger::{Blank, Ledger};
+use std::thread::Threads;
+use std::time::{Clock, Instant};
+
+/// Whether a hunt goes over several sources or roots: it has several names, or every root, or its name is that of a folder.
+pub fn is_suite(rt: &impl Files, args: &HuntArgs) -> bool {
+    !args.more.is_empty()
+        || matches!(args.roots, Roots::Every)
+        || args.file.is_some_and(|name| is_folder(rt, name))
+}
+
+/// Whether a hunt goes on behind what it came to, or stops there.
+#[derive(Clone, Copy, PartialEq, Eq)]
+enum Next {
+    GoesOn,
+    Stops,
+}
+
+/// Whether a hunt goes on, or what ended it.
+type Step = Result<Next, OrNoMemory<StreamFault>>;
+
+/// A hunt over several sources, as far as it came.
+#[derive(Drop)]
+struct SuiteHunt<'a, R> {
+    rt: &'a R,
+    args: &'a HuntArgs<'a>,
+    line: &'a Line,
+    workers: u64,
+    /// When it began, if the clock tells.
+    start: Option<Instant>,
+    suite: Suite,
+    /// Whether the standard input was read.
+    is_input_read: bool,
+}
+
+/// What a file holds, but no more than a byte above what a source may have.
+fn bytes_in<F: Read + Drop, L: Ledger>(
+    alloc: Global,
+    file: F,
+    reads: Blank,
+) -> Result<Vec<u8>, OrNoMemory<StreamFault>>
+where
+    requires reads { reads.name ≡ L.name }
+    requires read_parts { reads.parts ≡ L.parts }
+    requires some_reads { 0 < reads.parts }
+{
+    let mut reader = Counted::<F, L>::new(file, reads);
+    reader.take_front(alloc, MOST_BYTES)
+}
+
+/// What goes out at once.
+fn put_now<W: Write, M: Ledger>(
+    text: &[u8],
+    writer: &mut Counted<W, M>,
+) -> Result<(), OrNoMemory<StreamFault>> {
+    writer.put(text)?;
+    match writer.inner.flush() {
+        Ok(()) => Ok(()),
+        Err(error) => Err(OrNoMemory::Fault(StreamFault::Write(error))),
+    }
+}
+
+impl<R> SuiteHunt<'_, R>
+where
+    R: Files + Print + Eprint + AllocGlobal + Clock + Threads + Sync,
+    R::File: Drop,
+{
+    /// How many seconds are left, where a time is named.
+    fn time_left(&self) -> Option<u64> {
+        let limit = self.args.time?;
+        let Some(start) = self.start else {
+            return Some(limit);
+        };
+        match start.elapsed(self.rt) {
+            Ok(passed) => Some(limit.saturating_sub(passed.as_secs())),
+            Err(_) => Some(limit),
+        }
+    }
+
+    /// Says that a file or a folder can't be read, and counts it.
+    fn lost(&mut self, name: &str, fault: StreamFault) -> Step {
+        if fault.error().kind() == io::ErrorKind::OutOfMemory {
+            return Err(OrNoMemory::NoMemory);
+        }
+        self.suite.ends.push(Ending::Lost)?;
+        self.line.clear();
+        failed(self.rt, Some(name), &fault);
+        Ok(Next::GoesOn)
+    }
+
+    /// The bytes of a file; `-` names the standard input, which is read once only.
+    fn bytes_of<I: Read, L: Ledger>(
+        &mut self,
+        name: &str,
+        stdin: &mut Counted<I, L>,
+    ) -> Result<Vec<u8>, OrNoMemory<StreamFault>> {
+        let alloc = self.rt.alloc();
+        if name != "-" {
+            return match open(self.rt, name) {
+                Ok(file) => bytes_in::<R::File, Brand>(alloc, file, Blank::new(1)),
+                Err(error) => Err(OrNoMemory::Fault(StreamFault::Read(error))),
+            };
+        }
+        if self.is_input_read {
+            let reason = "the standard input can be read once only";
+            let error = io::Error::new(io::ErrorKind::Other, reason);
+            return Err(OrNoMemory::Fault(StreamFault::Read(error)));
+        }
+        self.is_input_read = true;
+        stdin.take_front(alloc, MOST_BYTES)
+    }
+
+    /// Says on standard error why something of this name is refused.
+    fn say_why(&self, name: &str, request: &Request, source: &[u8]) -> Result<(), NoMemory> {
+        let alloc = self.rt.alloc();
+        let why = why_of_root(alloc, self.args, request, source)?;
+        let told = format!(in alloc; "{name}: {why}")?;
+        say(self.rt, &told);
+        Ok(())
+    }
+
+    /// Says more of a root than its line on standard error: why it is refused, and how many processes still wait.
+    fn say_more(
+        &self,
+        file: &str,
+        module: &ReadModule,
+        root: &[u8],
+        end: RootEnd,
+        waiting: Option<Waiting>,
+    ) -> Result<(), NoMemory> {
+        let alloc = self.rt.alloc();
+        let bytes = root_name(alloc, file, root)?;
+        let name = str::from_utf8(&bytes).unwrap_or(file);
+        if matches!(end, RootEnd::Refused(_)) {
+            let request = request_for(alloc, self.args, root)?;
+            self.say_why(name, &request, module.source().bytes())?;
+        }
+        if let Some(waiting) = waiting {
+            let told = format!(in alloc; "{name}: {waiting}")?;
+            say(self.rt, &told);
+        }
+        Ok(())
+    }
+
+    /// Hunts a root.
+    fn root<W: Write, M: Ledger>(
+        &mut self,
+        file: &str,
+        module: &ReadModule,
+        root: &[u8],
+        writer: &mut Counted<W, M>,
+    ) -> Step {
+        let alloc = self.rt.alloc();
+        let args = self.args;
+        let seeds = args.end.saturating_sub(args.first);
+        let mut observer = Seeds::new(self.line, self.rt, seeds, self.time_left());
+        let workers = self.workers;
+        let end = hunt_root(self.rt, alloc, args, module, root, workers, &mut observer)?;
+        self.suite.ends.push(Ending::Root(end))?;
+        put_now(&line_of_root(alloc, file, root, end)?, writer)?;
+        // The line went out: nothing more is said where memory runs out now.
+        let _said = self.say_more(file, module, root, end, observer.waiting());
+        if args.fail_fast && matches!(end, RootEnd::Fails { .. }) {
+            Ok(Next::Stops)
+        } else {
+            Ok(Next::GoesOn)
+        }
+    }
+
+    /// Hunts the roots of a source.
+    fn roots<W: Write, M: Ledger>(
+        &mut self,
+        file: &str,
+        source: &Hunted,
+        writer: &mut Counted<W, M>,
+    ) -> Step {
+        if source.roots.is_empty() {
+            put_now(&line_of_rootless(self.rt.alloc(), file)?, writer)?;
+        }
+        for root in &source.roots {
+            if self.root(file, &source.module, root, writer)? == Next::Stops {
+                return Ok(Next::Stops);
+            }
+        }
+        Ok(Next::GoesOn)
+    }
+
+    /// Hunts what a source of these bytes has, or tells why it is none.
+    fn source<W: Write, M: Ledger>(
+        &mut self,
+        file: &str,
+        bytes: &[u8],
+        writer: &mut Counted<W, M>,
+    ) -> Step {
+        let (alloc, args) = (self.rt.alloc(), self.args);
+        match read_hunted(alloc, args, bytes) {
+            Ok(source) => self.roots(file, &source, writer),
+            Err(OrNoMemory::NoMemory) => Err(OrNoMemory::NoMemory),
+            Err(OrNoMemory::Fault(refusal)) => {
+                self.suite.ends.push(Ending::Lost)?;
+                put_now(&line_of_refusal(alloc, file, refusal)?, writer)?;
+                let _said = self.say_why(file, &args.request, bytes);
+                Ok(Next::GoesOn)
+            }
+        }
+    }
+
+    /// Hunts what a file has.
+    fn file<I: Read, W: Write, L: Ledger, M: Ledger>(
+        &mut self,
+        name: &str,
+        stdin: &mut Counted<I, L>,
+        writer: &mut Counted<W, M>,
+    ) -> Step {
+        self.suite.files = self.suite.files.saturating_add(1);
+        match self.bytes_of(name, stdin) {
+            Ok(bytes) => {
+                let has_lines = false;
+                let shown = Shown {
+                    text: name,
+                    has_lines,
+                };
+                let file = format!(in self.rt.alloc(); "{shown}")?;
+                self.source(&file, &bytes, writer)
+            }
+            Err(OrNoMemory::Fault(fault)) => self.lost(name, fault),
+            Err(OrNoMemory::NoMemory) => Err(OrNoMemory::NoMemory),
+        }
+    }
+
+    /// Hunts what a name names: a file, or the files of a folder.
+    fn name<I: Read, W: Write, L: Ledger, M: Ledger>(
+        &mut self,
+        name: &str,
+        stdin: &mut Counted<I, L>,
+        writer: &mut Counted<W, M>,
+    ) -> Step {
+        if !is_folder(self.rt, name) {
+            return self.file(name, stdin, writer);
+        }
+        let files = match files_in(self.rt, name) {
+            Ok(files) => files,
+            Err(OrNoMemory::Fault(fault)) => return self.lost(name, fault),
+            Err(OrNoMemory::NoMemory) => return Err(OrNoMemory::NoMemory),
+        };
+        for file in &files {
+            if self.file(file, stdin, writer)? == Next::Stops {
+                return Ok(Next::Stops);
+            }
+        }
+        Ok(Next::GoesOn)
+    }
+
+    /// Hunts what all names name.
+    fn names<I: Read, W: Write, L: Ledger, M: Ledger>(
+        &mut self,
+        stdin: &mut Counted<I, L>,
+        writer: &mut Counted<W, M>,
+    ) -> Step {
+        let args = self.args;
+        if self.name(args.file.unwrap_or("-"), stdin, writer)? == Next::Stops {
+            return Ok(Next::Stops);
+        }
+        for name in &args.more {
+            if self.name(name, stdin, writer)? == Next::Stops {
+                return Ok(Next::Stops);
+            }
+        }
+        Ok(Next::GoesOn)
+    }
+}
+
+/// Hunts over several sources and roots.
+pub fn hunt_suite<R, I: Read, W: Write, L: Ledger, M: Ledger>(
+    rt: &R,
+    args: &HuntArgs,
+    stdin: &mut Counted<I, L>,
+    writer: &mut Counted<W, M>,
+    line: &Line,
+) -> Answered
+where
+    R: Files + Print + Eprint + AllocGlobal + Clock + Threads + Sync,
+    R::File: Drop,
+{
+    if !matches!(args.sought, Sought::Failure { runs: None }) {
+        say(
+            rt,
+            "`--all` and `--shrink` want one file, and this is a folder",
+        );
+        return Ok(REFUSED);
+    }
+    let mut hunt = SuiteHunt {
+        rt,
+        args,
+        line,
+        workers: workers_of(rt, args),
+        start: Instant::now(rt).ok(),
+        suite: Suite::new(rt.alloc()),
+        is_input_read: false,
+    };
+    hunt.names(stdin, writer)?;
+    put_now(&hunt.suite.summary(rt.alloc())?, writer)?;
+    Ok(hunt.suite.status())
+}

@@ -1,0 +1,3 @@
+-module(m).
+-export([main/0]).
+main() -> lists:sort([2, 1]).

@@ -1,0 +1,4 @@
+-module(m).
+-export([main/0]).
+main() -> f(a, 1).
+f(A, N) -> {N + N, {N, A + N}}.

@@ -1,0 +1,4 @@
+-module(m).
+-export([main/0]).
+main() -> X = 1, Y = {X}, [Y | f(X)].
+f(N) -> {N}.

@@ -1,0 +1,47 @@
+%% Three candidates tell each other their numbers; the highest leads.
+-module(leader).
+-export([main/0, timer/1, candidate/2]).
+
+% -spec main() -> boolean().
+main() ->
+    Me = self(),
+    Candidates = candidates(Me, seq(1, 3)),
+    introduce(Candidates, Candidates),
+    Leaders = [receive {leader, C, N} -> N end || C <- Candidates],
+    all_three(Leaders).
+
+candidates(_, []) -> [];
+candidates(Me, [N | Rest]) -> [spawn(?MODULE, candidate, [Me, N]) | candidates(Me, Rest)].
+
+all_three([]) -> true;
+all_three([N | Rest]) -> N =:= 3 andalso all_three(Rest).
+
+introduce([], _) -> ok;
+introduce([C | Rest], All) -> C ! {others, delete(C, All)}, introduce(Rest, All).
+
+delete(_, []) -> [];
+delete(X, [X | Rest]) -> Rest;
+delete(X, [Y | Rest]) -> [Y | delete(X, Rest)].
+
+seq(A, B) when A > B -> [];
+seq(A, B) -> [A | seq(A + 1, B)].
+
+% -spec candidate(pid(), pos_integer()) -> term().
+candidate(Boss, Number) ->
+    receive
+        {others, Others} ->
+            claim_all(Number, Others),
+            Boss ! {leader, self(), highest(Number)}
+    end.
+
+claim_all(_, []) -> ok;
+claim_all(Number, [P | Rest]) -> P ! {claim, Number}, claim_all(Number, Rest).
+
+highest(Number) ->
+    spawn(?MODULE, timer, [self()]),
+    receive
+        {claim, Other} -> highest(max(Number, Other));
+        timeout -> Number
+    end.
+
+timer(P) -> P ! timeout.

@@ -1,0 +1,31 @@
+%% A rate limiter that lets two requests pass.
+-module(limiter).
+-export([main/0]).
+-define(MOST, 2).
+
+-spec main() -> boolean().
+main() ->
+    Limiter = spawn(fun() -> limiter(?MOST) end),
+    Me = self(),
+    [spawn(fun() -> Me ! {answer, request(Limiter)} end) || _ <- lists:seq(1, 3)],
+    Answers = lists:map(fun(_) -> receive {answer, A} -> A end end, lists:seq(1, 3)),
+    length(lists:filter(fun(A) -> A =:= passed end, Answers)) =< ?MOST.
+
+limiter(Left) ->
+    receive
+        {left, From} ->
+            From ! {left, Left},
+            limiter(Left);
+        take ->
+            limiter(Left - 1)
+    end.
+
+-spec request(pid()) -> passed | refused.
+request(Limiter) ->
+    Limiter ! {left, self()},
+    receive
+        {left, 0} -> refused;
+        {left, _} -> Limiter ! take, passed
+    after 1000 ->
+        refused
+    end.
