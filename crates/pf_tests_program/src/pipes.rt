@@ -145,7 +145,7 @@ fn run_by<L: Ledger, M: Ledger>(
     };
     let mut reader = Counted::<FailAt<&[u8]>, L>::new(FailAt::new(input, failing.read), reads);
     let mut writer = Counted::<FailAt<Narrow>, M>::new(FailAt::new(narrow, failing.write), writes);
-    let ended = end_of(run_source(alloc, &mut reader, args, &mut writer));
+    let ended = end_of(run_source(alloc, &mut reader, args, &mut writer, &mut 0));
     let Counted { inner, .. } = writer;
     let FailAt { inner: narrow, .. } = inner;
     let Narrow { taken: out } = narrow;
