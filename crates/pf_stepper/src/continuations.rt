@@ -50,7 +50,7 @@ impl Stack {
             Some(other) => pair_up(alloc, code, binary, value, other, &mut self.operands),
             None => {
                 self.operands.push(value)?;
-                self.wait(Kind::BinaryRight(binary))?;
+                self.wait(Kind::BinaryRight(binary, id))?;
                 Ok(MicroStep::Silent(Focus::Eval(right)))
             }
         }
@@ -64,9 +64,10 @@ impl Stack {
         own: u32,
         frame: Frame,
         binary: Binary,
+        id: NodeId,
         value: Term,
     ) -> Result<MicroStep, NoMemory>
-        requires kind { frame.kind ≡ kind.BinaryRight binary }
+        requires kind { frame.kind ≡ kind.BinaryRight binary id }
         requires sound { Holds self.old frame }
         ensures { IfOk result (λ t. Gave code.now own self.old frame value self.new t) }
     {
@@ -85,9 +86,10 @@ impl Stack {
         frame: Frame,
         binary: Binary,
         index: u32,
+        id: NodeId,
         value: Term,
     ) -> Result<MicroStep, NoMemory>
-        requires kind { frame.kind ≡ kind.BinaryAfterSlot binary index }
+        requires kind { frame.kind ≡ kind.BinaryAfterSlot binary index id }
         requires sound { Holds self.old frame }
         ensures { IfOk result (λ t. Gave code.now own self.old frame value self.new t) }
     {
@@ -103,9 +105,10 @@ impl Stack {
         code: &Module,
         own: u32,
         frame: Frame,
+        id: NodeId,
         value: Term,
     ) -> Result<MicroStep, NoMemory>
-        requires kind { frame.kind ≡ kind.Negation }
+        requires kind { frame.kind ≡ kind.Negation id }
         requires sound { Holds self.old frame }
         ensures { IfOk result (λ t. Gave code.now own self.old frame value self.new t) }
     {

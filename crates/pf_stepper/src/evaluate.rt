@@ -87,7 +87,7 @@ impl Stack {
             Node::Send(left, right) => {
                 self.operation(alloc, code, own, id, Binary::Send, *left, *right)
             }
-            Node::Negate(part) => self.descend_apart(alloc, code, own, Kind::Negation, *part),
+            Node::Negate(part) => self.descend_apart(alloc, code, own, Kind::Negation(id), *part),
             Node::AndAlso(left, _) => {
                 self.descend_apart(alloc, code, own, Kind::Shortcut(false, id), *left)
             }
@@ -206,7 +206,7 @@ impl Stack {
     {
         match self.left_in_scope(left, right) {
             Some(index) => {
-                self.wait(Kind::BinaryAfterSlot(binary, index))?;
+                self.wait(Kind::BinaryAfterSlot(binary, index, id))?;
                 Ok(MicroStep::Silent(Focus::Eval(right)))
             }
             None => self.descend(alloc, code, own, Kind::BinaryLeft(id), left),

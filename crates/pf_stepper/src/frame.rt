@@ -28,11 +28,12 @@ pub(crate) enum Callee {
 pub(crate) enum Kind {
     /// The left operand at the node, before the right one.
     BinaryLeft(NodeId),
-    /// A right operand, after the left one.
-    BinaryRight(Binary),
-    /// A right operand, where the left one is the variable in this slot of the activation.
-    BinaryAfterSlot(Binary, u32),
-    Negation,
+    /// The right operand at the node, after the left one.
+    BinaryRight(Binary, NodeId),
+    /// The right operand at the node, where the left one is the variable in this slot of the activation.
+    BinaryAfterSlot(Binary, u32, NodeId),
+    /// The operand of the minus at the node.
+    Negation(NodeId),
     /// The left side of the `andalso` at the node, or of the `orelse`, which `true` decides.
     Shortcut(bool, NodeId),
     /// An argument of the call at the node, or an element of its tuple.

@@ -45,11 +45,13 @@ impl Stack {
     {
         match frame.kind {
             Kind::BinaryLeft(id) => self.left_done(alloc, code, own, frame, id, value),
-            Kind::BinaryRight(binary) => self.right_done(alloc, code, own, frame, binary, value),
-            Kind::BinaryAfterSlot(binary, index) => {
-                self.right_after_slot(alloc, code, own, frame, binary, index, value)
+            Kind::BinaryRight(binary, id) => {
+                self.right_done(alloc, code, own, frame, binary, id, value)
             }
-            Kind::Negation => self.negate(code, own, frame, value),
+            Kind::BinaryAfterSlot(binary, index, id) => {
+                self.right_after_slot(alloc, code, own, frame, binary, index, id, value)
+            }
+            Kind::Negation(id) => self.negate(code, own, frame, id, value),
             Kind::Shortcut(decides, id) => self.shortcut(
                 alloc, code, own, frame, decides, id, value,
             ),

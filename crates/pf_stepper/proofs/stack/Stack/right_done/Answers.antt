@@ -7,7 +7,7 @@ use Rattle.pf_stepper.proofs.stack.Stack.right_done.Goals as goal
 pub returns-in-Some : goal.returns-in-Some
 returns-in-Some c =
     rw c.in-Some.ensures.items
-    (applies _ c.args.own _ _ _ _ _ c.in-Some.left c.args.value (rw c.in-Some.ensures.items at c.requires.sound) c.args.binary (record c.args.self.now { operands = c.pair_up.new.operands }) c.pair_up.result c.requires.kind refl refl
+    (applies _ c.args.own _ _ _ _ _ c.in-Some.left c.args.value (rw c.in-Some.ensures.items at c.requires.sound) c.args.binary c.args.id (record c.args.self.now { operands = c.pair_up.new.operands }) c.pair_up.result c.requires.kind refl refl
     c.pair_up.ensures)
 
 pub returns-in-None : goal.returns-in-None
