@@ -17,3 +17,4 @@ pub mod Ready
 pub mod Scans
 pub mod Before
 pub mod Crossing
+pub mod Points

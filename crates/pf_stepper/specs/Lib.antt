@@ -10,6 +10,7 @@ pub mod Advanced
 pub mod Lane
 pub mod MachineView
 pub mod Readiness
+pub mod Points
 pub mod Encoding
 pub mod Inner
 pub mod Moves

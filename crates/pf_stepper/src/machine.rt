@@ -4,6 +4,7 @@ ghost use Rattle.std.specs.Prelude.{◌≡◌, IfOk, IsErr, OnErr, OnOk};
 ghost use Rattle.pf_terms.specs.Term.{values_of};
 ghost use Rattle.pf_model.specs.Module.{module_of};
 ghost use Rattle.pf_stepper.specs.MachineView.{at_call, spent, standing_so};
+ghost use Rattle.pf_stepper.specs.Points.{IsPointAt};
 ghost use Rattle.pf_stepper.specs.Readiness.{IsReadyAhead};
 ghost use Rattle.pf_stepper.specs.Settled.{AdvanceIsSound, IsReadyAfter, IsReadyToSettle, Settled};
 ghost use Rattle.pf_stepper.specs.Turns.{Answered, CanAnswer, CanMove, MovedFrom, RunsTurn};
@@ -13,6 +14,7 @@ use crate::advance::Advance;
 use crate::frame::{Callee, Focus};
 use crate::inbox::Inbox;
 use crate::lookups::clauses;
+use crate::point::Point;
 use crate::room::Room;
 use crate::stack::{Stack, put};
 use pf_nodes::Pool;
@@ -200,6 +202,18 @@ impl Machine {
         ensures { result ≡ self.now.own }
     {
         self.own
+    }
+
+    /// Where the process stands, and the module in whose code that is.
+    pub fn point(&self) -> (&Module, Point)
+        ensures code { module_of result.0.now ≡ self.now.code }
+        ensures point { IsPointAt result.0.now.tables self.now.standing result.1 }
+    {
+        let point = match &self.standing {
+            Standing::Goes(focus) => self.stack.point(focus),
+            Standing::Asking | Standing::Over | Standing::Spent => Point::Nowhere,
+        };
+        (&self.module, point)
     }
 
     /// All steps up to and with the next action, message, wait or end, but no more than `left`: how many they were, and in
