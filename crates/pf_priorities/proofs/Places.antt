@@ -1,11 +1,13 @@
 -- Those that are held, before an index and behind it: one key more is gone through.
 use Rattle.std.proofs.Common.{◌≡◌, ℕ, suc, ◌+◌, ◌<◌, ◌≤◌, Bool, true, false, List, [], ◌∷◌, ◌++◌, length, refl, sym, ap, ◌∙◌, arith, get_or, append_assoc}
-use Rattle.std.specs.Prelude.{drop, take, nat_lt, if◌then◌else◌}
+use Rattle.std.specs.Prelude.{drop, take, map, nat_lt, if◌then◌else◌}
+use Rattle.std.specs.List.{remove}
 use Rattle.std.proofs.Math.Seq.{drop-append-add, drop-cons, take-append-add}
 use Rattle.std.proofs.lemmas.Bool.Decides.{nat_tests}
-use Rattle.std.proofs.lemmas.List.{length-append, length-take-le}
+use Rattle.std.proofs.lemmas.List.{append-nil, drop_all, length-append, length-map, length-take-le}
 use Rattle.pf_priorities.specs.declared.priorities.Held.{Held}
-use Rattle.pf_priorities.specs.Priorities.{State, Given, all_given, before, given, held, highest_from}
+use Rattle.pf_priorities.specs.Keys.{channel_key, keys_among}
+use Rattle.pf_priorities.specs.Priorities.{State, Given, all_given, before, choice, given, held, highest, highest_from, without_highest}
 
 is_below : (a b : ℕ) → a < b → nat_lt a b ≡ true
 is_below a b h = by (nat_lt a b) refl
@@ -108,3 +110,36 @@ module _ {G : Type 0} (step : G → ℕ × G) (keys : List ℕ) (g g' : G) (hs n
   -- the same list as before
   pub same_list : Gave → take i hs ++ (all_given step (drop i keys) g (drop i hs)).held ≡ take (i + 1) ns ++ rest.held
   same_list w = ap (λ s. s.held) (one_given w)
+
+-- ---- keys
+
+pub count_of_keys : (ps : List ℕ) (hs : List (ℕ × ℕ)) → length (keys_among ps hs) ≡ length ps + length hs
+count_of_keys ps hs = length-append ps (map (λ h. channel_key h.0 h.1) hs) ∙ ap (λ n. length ps + n) (length-map hs (λ h. channel_key h.0 h.1))
+
+-- ---- all of them
+
+module _ {G : Type 0} (step : G → ℕ × G) (keys : List ℕ) (g : G) (hs : List Held) (i : ℕ) where
+  abbrev others : State G
+  others = all_given step (drop i keys) g (drop i hs)
+
+  abbrev none : State G
+  none = record { generator = g; held = [] }
+
+  abbrev left : List Held → State G
+  left xs = record { generator = g; held = xs }
+
+  none_other : length keys ≤ i → others ≡ none
+  none_other h = ap (λ l. all_given step l g (drop i hs)) (drop_all i keys h)
+
+  -- once all were gone through, the highest goes
+  pub all_gone : (s : State G) (best most : ℕ) → length keys ≤ i → all_given step keys s.generator s.held ≡ behind (take i hs) others
+      → highest_from 0 0 0 (take i hs ++ others.held) ≡ highest_from i best most others.held
+      → choice step s keys ≡ (best, left (remove (take i hs) best))
+  all_gone s best most h given top =
+      let t = take i hs in
+      let e = none_other h in
+      let nil : t ++ [] ≡ t = append-nil t in
+      let all : all_given step keys s.generator s.held ≡ left t = given ∙ ap (behind t) e ∙ ap left nil in
+      let is_best : highest t ≡ best =
+      ap highest (sym nil) ∙ ap (λ z. highest_from 0 0 0 (t ++ z.held)) (sym e) ∙ top ∙ ap (λ z. highest_from i best most z.held) e in
+      ap (λ a. (highest a.held, without_highest a)) all ∙ ap (λ b. (b, left (remove t b))) is_best

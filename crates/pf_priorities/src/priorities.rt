@@ -1,7 +1,8 @@
 //! [`Priorities`]: who waits with which priority, and the generator of the next.
 
-ghost use Rattle.std.specs.Prelude.{◌≡◌, ◌<◌, ◌≤◌, ◌++◌, ◌∷◌, IfOk, OnOk, drop, length, take};
+ghost use Rattle.std.specs.Prelude.{◌≡◌, ◌+◌, ◌<◌, ◌≤◌, ◌^◌, ◌++◌, ◌∷◌, IfOk, OnOk, Some, drop, length, slice_get, take};
 ghost use Rattle.rand_pcg.specs.Pcg.{pcg32};
+ghost use Rattle.pf_priorities.specs.Keys.{channel_key, keys_among};
 ghost use Rattle.pf_priorities.specs.Priorities.{choice, first, from_key, given, held, highest_from, state_of};
 
 use pf_fault::NoMemory;
@@ -34,8 +35,32 @@ fn drop_below(holders: &mut Vec<Held>, at: usize, key: u64)
     }
 }
 
-/// The priority of a key, which stands at an index then: the one that it holds, or else the generator's next word.
-fn give(
+/// The key of a channel.
+#[inline(always)]
+fn channel_key(from: u32, to: u32) -> u64
+    ensures { result ≡ channel_key from to }
+{
+    (u64::from(from) + 1)
+        .wrapping_mul(1 << 32)
+        .wrapping_add(u64::from(to))
+}
+
+/// The key at an index among those of processes and channels.
+#[inline(always)]
+fn key_at(pids: &[u32], channels: &[(u32, u32)], at: usize) -> u64
+    requires { at < length pids.now + length channels.now }
+    ensures { slice_get (keys_among pids.now channels.now) at ≡ Some result }
+{
+    if at < pids.len() {
+        return u64::from(pids[at]);
+    }
+    let (from, to) = channels[at - pids.len()];
+    channel_key(from, to)
+}
+
+/// The priority of a key, which may stand behind an index: the one that it holds, or else the generator's next word. The key stands at the index then.
+#[inline(never)]
+fn seek(
     generator: &mut Lcg64Xsh32,
     holders: &mut Vec<Held>,
     at: usize,
@@ -57,6 +82,27 @@ fn give(
     Ok(priority)
 }
 
+/// The same; most often the key stands at the index.
+#[inline(always)]
+fn give(
+    generator: &mut Lcg64Xsh32,
+    holders: &mut Vec<Held>,
+    at: usize,
+    key: u64,
+) -> Result<u32, NoMemory>
+    requires { at ≤ length holders.old.items }
+    ensures priority { IfOk result (λ p. p ≡ (given pcg32 key generator.old (drop at holders.old.items)).priority) }
+    ensures generator { OnOk result
+        (generator.new ≡ (given pcg32 key generator.old (drop at holders.old.items)).generator) }
+    ensures holders { IfOk result (λ p. holders.new.items
+        ≡ take at holders.old.items ++ held key p ∷ (given pcg32 key generator.old (drop at holders.old.items)).rest) }
+{
+    if at < holders.len() && holders[at].key == key {
+        return Ok(holders[at].priority);
+    }
+    seek(generator, holders, at, key)
+}
+
 impl Priorities {
     /// Those of a seed, before the first choice.
     pub fn seed(alloc: Global, seed: u64) -> Priorities
@@ -68,25 +114,27 @@ impl Priorities {
         }
     }
 
-    /// The next choice among those of these keys, as an index from 0 on: the first of those with the highest priority. Room for their priorities
-    /// may be refused.
-    pub fn choose(&mut self, keys: &[u64]) -> Result<usize, NoMemory>
-        requires { 0 < length keys.now }
-        ensures choice { IfOk result (λ i. choice pcg32 (state_of self.old) keys.now ≡ (i, state_of self.new)) }
-        ensures one { IfOk result (λ i. i < length keys.now) }
+    /// The next choice among these processes and then these channels, as an index from 0 on: the first of those with the highest priority. Room for
+    /// their priorities may be refused.
+    pub fn choose(&mut self, pids: &[u32], channels: &[(u32, u32)]) -> Result<usize, NoMemory>
+        requires some { 0 < length pids.now + length channels.now }
+        requires few { length pids.now + length channels.now < 2 ^ 32 }
+        ensures choice { IfOk result (λ i.
+            choice pcg32 (state_of self.old) (keys_among pids.now channels.now) ≡ (i, state_of self.new)) }
+        ensures one { IfOk result (λ i. i < length pids.now + length channels.now) }
     {
+        let count = pids.len() + channels.len();
         let mut best = 0;
         let mut highest = 0;
-        let mut at = 0;
-        for key in keys {
-            let priority = give(&mut self.generator, &mut self.held, at, *key)?;
+        for at in 0..count {
+            let key = key_at(pids, channels, at);
+            let priority = give(&mut self.generator, &mut self.held, at, key)?;
             if priority > highest {
                 best = at;
                 highest = priority;
             }
-            at += 1;
         }
-        self.held.truncate(at);
+        self.held.truncate(count);
         self.held.remove(best);
         Ok(best)
     }

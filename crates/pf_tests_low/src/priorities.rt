@@ -4,24 +4,30 @@ use pf_priorities::Priorities;
 use std::alloc::Global;
 use std::test::Fail;
 
-/// The keys of those who may go, event after event: some come between others, some vanish, and some come back.
-const EVENTS: [&[u64]; 9] = [
-    &[2, 5, 9],
-    &[2, 5, 9],
-    &[3, 5],
-    &[3, 5, 9],
-    &[3, 9],
-    &[3],
-    &[0, 1, 2, 3, 4, 5],
-    &[0, 1, 2, 3, 4, 5],
-    &[0, 1, 2, 3, 4, 5],
+/// Processes and channels.
+type Among = (&'static [u32], &'static [(u32, u32)]);
+
+/// Those who may go, event after event: some come between others, some vanish, and some come back.
+const EVENTS: [Among; 9] = [
+    (&[2], &[(0, 5), (0, 9)]),
+    (&[2], &[(0, 5), (0, 9)]),
+    (&[3], &[(0, 5)]),
+    (&[3], &[(0, 5), (0, 9)]),
+    (&[3], &[(0, 9)]),
+    (&[3], &[]),
+    (&[0, 1, 2, 3], &[(0, 4), (0, 5)]),
+    (&[0, 1, 2, 3], &[(0, 4), (0, 5)]),
+    (&[0, 1, 2, 3], &[(0, 4), (0, 5)]),
 ];
 
 /// Whether the priorities of a seed choose so.
 fn chooses(alloc: Global, seed: u64, wanted: &[usize]) -> Result<bool, Fail> {
     let mut priorities = Priorities::seed(alloc, seed);
-    for (keys, index) in EVENTS.iter().zip(wanted) {
-        if keys.is_empty() || priorities.choose(keys)? != *index {
+    for ((pids, channels), index) in EVENTS.iter().zip(wanted) {
+        if pids.is_empty() || channels.len() > 2 || pids.len() > 4 {
+            return Ok(false);
+        }
+        if priorities.choose(pids, channels)? != *index {
             return Ok(false);
         }
     }
