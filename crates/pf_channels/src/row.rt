@@ -1,7 +1,7 @@
 //! What one process has on its way to others.
 
-ghost use Rattle.std.specs.Prelude.{◌≡◌, ◌+◌, ◌<◌, ◌≤◌, length, map, [], Some, None, slice_get, IfSome, IfNone, OnOk, OnErr};
-ghost use Rattle.pf_model.specs.Channels.{with_last};
+ghost use Rattle.std.specs.Prelude.{◌≡◌, ◌+◌, ◌<◌, ◌≤◌, ◌++◌, length, map, [], Some, None, slice_get, IfSome, IfNone, OnOk, OnErr};
+ghost use Rattle.pf_model.specs.Channels.{heads_of, with_last};
 ghost use Rattle.pf_model.specs.Maps.{got, put};
 ghost use Rattle.pf_model.specs.Signals.{signal_of};
 ghost use Rattle.pf_channels.specs.Rows.{taken_in};
@@ -58,6 +58,20 @@ impl Row {
         ensures { slice_get (map (λ queue. queue.0) self.now) at ≡ Some result }
     {
         self.queues.as_slice()[at].0 as u32
+    }
+
+    /// Puts the sender with each of its receivers behind other pairs.
+    pub(crate) fn put_heads(
+        &self,
+        from: u32,
+        pairs: &mut Vec<(u32, u32)>,
+    ) -> Result<(), NoMemory>
+        ensures { OnOk result (pairs.new.items ≡ pairs.old.items ++ heads_of from self.now) }
+    {
+        for at in 0..self.len() {
+            pairs.push((from, self.receiver(at)))?;
+        }
+        Ok(())
     }
 
     /// Adds a signal as the youngest to a receiver.

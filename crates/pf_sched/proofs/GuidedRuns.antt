@@ -1,17 +1,18 @@
 -- A run by the priorities of a seed, transition by transition.
 use Rattle.std.proofs.Common.{◌≡◌, inr, ℕ, zero, suc, ◌+◌, ◌-◌, ◌<◌, ◌≤◌, List, [], ◌∷◌, ◌++◌, length, map, Option, Some, Bool, refl, sym, ap, ◌∙◌, subst, arith}
-use Rattle.std.specs.Prelude.{slice_get, take}
+use Rattle.std.specs.Prelude.{slice_get}
 use Rattle.std.proofs.lemmas.List.{length-map}
 use Rattle.std.proofs.lemmas.Option.{same_Some}
 use Rattle.pf_model.specs.Module.{Module}
 use Rattle.pf_model.specs.Configuration.{Configuration}
 use Rattle.pf_model.specs.Meaning.{Event, Report, event_of, outcome_of}
 use Rattle.pf_model.specs.Properties.{Outcome, verdict}
-use Rattle.pf_model.specs.Runs.{Actor, Passes, Stops, Transition, enabled, start, transition}
+use Rattle.pf_model.specs.Runs.{Passes, Stops, Transition, channel, enabled, process, start, transition}
 use Rattle.pf_property.proofs.Shown.{labels_of_run}
 use Rattle.pf_request.specs.Job.{Job}
+use Rattle.pf_priorities.specs.Keys.{channel_key, keys_among}
 use Rattle.pf_priorities.specs.Priorities.{first}
-use Rattle.pf_strategy.specs.Keys.{key_of, keys_of}
+use Rattle.pf_strategy.specs.Keys.{keys_of}
 use Rattle.pf_strategy.specs.Runs.{GoesBy, MeansByPriorities, later, picked, stays}
 use Rattle.pf_strategy.proofs.Longer.{goes_on}
 use Rattle.pf_strategy.proofs.Replayed.{by_numbers, choices, replayed}
@@ -26,17 +27,18 @@ use Rattle.pf_sched.proofs.Past.{as_many_steps}
 
 -- ---- keys
 
--- one actor more
-one_after : (xs : List Actor) (i : ℕ) (x : Actor) → slice_get xs i ≡ Some x → keys_of (take (suc i) xs) ≡ keys_of (take i xs) ++ key_of x ∷ []
-one_after [] i x e = absurd (cc)
-one_after (y ∷ ys) zero x e = ap (λ z. key_of z ∷ []) (same_Some y x e)
-one_after (y ∷ ys) (suc i) x e = ap (λ l. key_of y ∷ l) (one_after ys i x e)
+-- the keys of processes and of channels, as they are noted, are those of the actors
+key_by_pair : (hs : List (ℕ × ℕ)) → keys_of (map (λ h. channel h.0 h.1) hs) ≡ map (λ h. channel_key h.0 h.1) hs
+key_by_pair [] = refl
+key_by_pair (h ∷ hs) = ap (λ l. channel_key h.0 h.1 ∷ l) (key_by_pair hs)
 
-pub one_key_more : (ks : List ℕ) (xs : List Actor) (i k : ℕ) (x : Actor) → slice_get xs i ≡ Some x → k ≡ key_of x → ks ≡ keys_of (take i xs)
-    → ks ++ k ∷ [] ≡ keys_of (take (i + 1) xs)
-one_key_more ks xs i k x e same before =
-    let after : suc i ≡ i + 1 = omega arith in
-    ap (λ l. l ++ k ∷ []) before ∙ ap (λ n. keys_of (take i xs) ++ n ∷ []) same ∙ sym (one_after xs i x e) ∙ ap (λ n. keys_of (take n xs)) after
+pub noted_keys : (ps : List ℕ) (hs : List (ℕ × ℕ)) → keys_among ps hs ≡ keys_of (map process ps ++ map (λ h. channel h.0 h.1) hs)
+noted_keys [] hs = sym (key_by_pair hs)
+noted_keys (p ∷ ps) hs = ap (λ l. p ∷ l) (noted_keys ps hs)
+
+pub noted_count : (ps : List ℕ) (hs : List (ℕ × ℕ)) → length (map process ps ++ map (λ h. channel h.0 h.1) hs) ≡ length ps + length hs
+noted_count [] hs = length-map hs (λ h. channel h.0 h.1)
+noted_count (p ∷ ps) hs = ap suc (noted_count ps hs)
 
 -- ---- transitions
 

@@ -2,8 +2,6 @@
 
 ghost use Rattle.std.specs.Prelude.{◌≡◌, ◌<◌, ◌-◌, [], ℕ, IfOk, OnOk, Some};
 ghost use Rattle.pf_model.specs.Configuration.{Configuration};
-ghost use Rattle.pf_strategy.specs.Keys.{keys_of};
-ghost use Rattle.pf_system.specs.Steps.{noted};
 ghost use Rattle.pf_sched.specs.Guided.{GoingBy, IsCompleteBy, MayHaveGoneBy};
 
 use crate::execution::pass;
@@ -11,8 +9,7 @@ use crate::job::Job;
 use crate::trace::Trace;
 use pf_model::report::Label;
 use pf_priorities::Priorities;
-use pf_strategy::key_of;
-use pf_system::{Enabled, Spare, System};
+use pf_system::{Spare, System};
 use pf_terms::NoMemory;
 use std::alloc::Global;
 
@@ -21,18 +18,7 @@ use std::alloc::Global;
 pub(crate) struct Guided {
     pub system: System,
     priorities: Priorities,
-    keys: Vec<u64>,
-}
-
-/// Puts the keys of those who may go in place of others.
-fn put_keys(keys: &mut Vec<u64>, enabled: &Enabled<'_>) -> Result<(), NoMemory>
-    ensures { OnOk result (keys.new.items ≡ keys_of (noted enabled.now)) }
-{
-    keys.clear();
-    for index in 0..enabled.len() {
-        keys.push(key_of(enabled.actor(index)))?;
-    }
-    Ok(())
+    channels: Vec<(u32, u32)>,
 }
 
 impl Guided {
@@ -43,7 +29,7 @@ impl Guided {
         Ok(Guided {
             system: System::new_in(alloc, job.module(), job.root, job.edition(), spare)?,
             priorities: Priorities::seed(alloc, seed),
-            keys: Vec::new(alloc),
+            channels: Vec::new(alloc),
         })
     }
 
@@ -65,8 +51,10 @@ impl Guided {
         if among == 0 {
             return Ok(false);
         }
-        put_keys(&mut self.keys, &enabled)?;
-        let index = self.priorities.choose(self.keys.as_slice())?;
+        enabled.put_channels(&mut self.channels)?;
+        let index = self
+            .priorities
+            .choose(enabled.pids(), self.channels.as_slice())?;
         let actor = enabled.actor(index);
         pass(alloc, &mut self.system, actor, limit, shown)?;
         trace.tell(index as u32, among as u32, actor, shown)?;

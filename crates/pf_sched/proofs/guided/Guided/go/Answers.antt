@@ -23,7 +23,7 @@ returns g c d stands = (
     counts = c.len-among.ensures.count ∙ ap length (c.enabled-enabled.ensures.actors d stands);
     chooses =
         ap (choice pcg32 (priorities_in c.args.self.now))
-        (sym (c.as_slice.ensures.value ∙ c.in_ok-put_keys.ensures ∙ ap keys_of (c.enabled-enabled.ensures.actors d stands)))
+        (sym (keys_here c ∙ ap keys_of (c.enabled-enabled.ensures.actors d stands)))
         ∙ c.in_ok-index.ensures.choice;
     chosen = ap (λ xs. slice_get xs c.in_ok-index.index) (sym (c.enabled-enabled.ensures.actors d stands)) ∙ c.actor-actor.ensures;
     passes = c.in_ok-pass.ensures;

@@ -10,5 +10,5 @@ returns c =
     let stands : s.standing ≡ Some (start j.asked.root j.asked.edition) =
     ap (λ z. z.standing) c.in_ok-new_in.ensures ∙ ap (λ k. Some (start k.asked.root c.edition.result)) c.job.view_is
     ∙ ap (λ e. Some (start j.asked.root e)) c.edition.ensures.edition in
-    begins j c.args.seed (record { system = s; priorities = c.seed.result; keys = c.new.result })
+    begins j c.args.seed (record { system = s; priorities = c.seed.result; channels = c.new.result })
     (ap (λ z. z.code) c.in_ok-new_in.ensures ∙ c.module.ensures) stands (ap (λ z. z.steps) c.in_ok-new_in.ensures) c.seed.ensures
