@@ -5,9 +5,9 @@ ghost use Rattle.rand_pcg.specs.Pcg.{pcg32};
 ghost use Rattle.pf_choice.specs.Choices.{Chooses};
 ghost use Rattle.pf_model.specs.Configuration.{Configuration};
 ghost use Rattle.pf_model.specs.Meaning as model;
-ghost use Rattle.pf_model.specs.Reports.{actor_of, label_of};
+ghost use Rattle.pf_model.specs.Reports.{label_of};
 ghost use Rattle.pf_model.specs.Runs.{Stops};
-ghost use Rattle.pf_system.specs.Steps.{IsNoteOf, MayGo, PassesTo, noted};
+ghost use Rattle.pf_system.specs.Steps.{IsNoteOf, noted};
 ghost use Rattle.pf_sched.specs.Parts.{Executes};
 ghost use Rattle.pf_sched.specs.Slices.{Continues, IsComplete};
 ghost use Rattle.pf_sched.specs.Traces.{Makes, MayHaveGone, MayHavePassed, heads_in, ready_in};
@@ -26,28 +26,6 @@ use std::alloc::Global;
 pub(crate) struct Execution {
     pub system: System,
     pub choices: Choices,
-}
-
-/// What an actor does that may go, within the limit of steps: how many steps it used; what it shows is written.
-pub(crate) fn pass(
-    alloc: Global,
-    system: &mut System,
-    actor: Actor,
-    limit: u32,
-    shown: &mut Label,
-) -> Result<u32, NoMemory>
-    requires enabled { MayGo (actor_of actor) system.old.standing }
-    requires left { system.old.steps < limit }
-    ensures { IfOk result (λ used.
-        PassesTo (limit - system.old.steps) system.old (actor_of actor) (label_of shown.new) used system.new) }
-{
-    match actor {
-        Actor::Process(pid) => system.turn(alloc, pid, limit, shown),
-        Actor::Channel { from, to } => {
-            system.deliver(alloc, from, to, limit, shown)?;
-            Ok(1)
-        }
-    }
 }
 
 /// Which of the actors that may go the next word chooses, from 0 on. A word is drawn if there is but one, too.
@@ -112,7 +90,7 @@ impl Execution {
         }
         let index = choose(&mut self.choices, &enabled);
         let actor = enabled.actor(index);
-        pass(alloc, &mut self.system, actor, limit, shown)?;
+        self.system.pass(alloc, actor, limit, shown)?;
         Ok(Some(Chosen {
             index: index as u32,
             among: among as u32,

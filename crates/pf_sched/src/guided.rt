@@ -4,7 +4,6 @@ ghost use Rattle.std.specs.Prelude.{◌≡◌, ◌<◌, ◌-◌, [], ℕ, IfOk, 
 ghost use Rattle.pf_model.specs.Configuration.{Configuration};
 ghost use Rattle.pf_sched.specs.Guided.{GoingBy, IsCompleteBy, MayHaveGoneBy};
 
-use crate::execution::pass;
 use crate::job::Job;
 use crate::trace::Trace;
 use pf_model::report::Label;
@@ -56,7 +55,7 @@ impl Guided {
             .priorities
             .choose(enabled.pids(), self.channels.as_slice())?;
         let actor = enabled.actor(index);
-        pass(alloc, &mut self.system, actor, limit, shown)?;
+        self.system.pass(alloc, actor, limit, shown)?;
         trace.tell(index as u32, among as u32, actor, shown)?;
         Ok(true)
     }

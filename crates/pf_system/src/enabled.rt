@@ -1,6 +1,6 @@
 //! Who may go.
 
-ghost use Rattle.std.specs.Prelude.{◌≡◌, ◌^◌, ◌<◌, ◌≤◌, length, slice_get, Some};
+ghost use Rattle.std.specs.Prelude.{◌≡◌, ◌^◌, ◌<◌, ◌≤◌, OnOk, length, slice_get, Some};
 ghost use Rattle.pf_model.specs.Channels.{heads};
 ghost use Rattle.pf_model.specs.Reports.{actor_of};
 ghost use Rattle.pf_model.specs.declared.limits.TheConstants.{MOST_PROCESSES};
@@ -9,6 +9,7 @@ ghost use Rattle.pf_system.specs.Steps.{noted};
 use pf_channels::Channels;
 use pf_model::report::Actor;
 use pf_sorted::SortedSet;
+use pf_terms::NoMemory;
 
 /// The enabled actors: the processes that neither ended nor wait, by number, and then the channels that aren't empty, by sender and
 /// then by receiver.
@@ -54,5 +55,11 @@ impl Enabled<'_> {
         }
         let (from, to) = self.channels.head(k - ready.len());
         Actor::Channel { from, to }
+    }
+    /// Puts the sender and the receiver of each channel that isn't empty, in their order, in place of other pairs.
+    pub fn put_channels(&self, pairs: &mut Vec<(u32, u32)>) -> Result<(), NoMemory>
+        ensures { OnOk result (pairs.new.items ≡ heads self.now.channels.now) }
+    {
+        self.channels.put_heads(pairs)
     }
 }

@@ -4,7 +4,7 @@ ghost use Rattle.std.specs.Prelude.{◌≡◌, ◌-◌, ◌<◌, ◌≤◌, leng
 ghost use Rattle.pf_model.specs.Module.{module_of};
 ghost use Rattle.pf_model.specs.Limits.{IsEdition};
 ghost use Rattle.pf_model.specs.Meaning.{outcome_of as outcome_where};
-ghost use Rattle.pf_model.specs.Reports.{label_of, outcome_of};
+ghost use Rattle.pf_model.specs.Reports.{actor_of, label_of, outcome_of};
 ghost use Rattle.pf_model.specs.declared.limits.TheConstants.{MOST_PROCESSES};
 ghost use Rattle.pf_model.specs.Runs.{process, channel, enabled, start};
 ghost use Rattle.pf_system.specs.View.{view_of_system};
@@ -17,7 +17,7 @@ use crate::slot::Life;
 use crate::spare::Spare;
 use pf_channels::Channels;
 use pf_model::limits::most_processes;
-use pf_model::report::{Label, Outcome};
+use pf_model::report::{Actor, Label, Outcome};
 use pf_stepper::Machine;
 use pf_syntax::{FunctionId, Module};
 use pf_terms::NoMemory;
@@ -197,6 +197,28 @@ impl System {
         self.steps += 1;
         self.spent = false;
         Ok(())
+    }
+
+    /// What an actor does that may go, a turn or a delivery: how many steps it used. What it shows is written to `shown`.
+    pub fn pass(
+        &mut self,
+        alloc: Global,
+        actor: Actor,
+        limit: u32,
+        shown: &mut Label,
+    ) -> Result<u32, NoMemory>
+        requires enabled { MayGo (actor_of actor) self.old.standing }
+        requires left { self.old.steps < limit }
+        ensures { IfOk result (λ used. PassesTo (limit - self.old.steps)
+            self.old (actor_of actor) (label_of shown.new) used self.new) }
+    {
+        match actor {
+            Actor::Process(pid) => self.turn(alloc, pid, limit, shown),
+            Actor::Channel { from, to } => {
+                self.deliver(alloc, from, to, limit, shown)?;
+                Ok(1)
+            }
+        }
     }
 
     /// Takes what runs before left behind, in place of what it had.

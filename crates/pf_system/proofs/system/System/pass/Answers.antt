@@ -1,6 +1,6 @@
 use Rattle.std.proofs.Common.{◌-◌, arith}
 use Rattle.pf_sched.proofs.Traces.{delivers_within}
-use Rattle.pf_sched.proofs.execution.pass.Goals as goal
+use Rattle.pf_system.proofs.system.System.pass.Goals as goal
 
 pub returns-in_ok-deliver-in-Channel : goal.returns-in_ok-deliver-in-Channel
 returns-in_ok-deliver-in-Channel c =
