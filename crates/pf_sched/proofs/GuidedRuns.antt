@@ -36,10 +36,6 @@ pub noted_keys : (ps : List ℕ) (hs : List (ℕ × ℕ)) → keys_among ps hs �
 noted_keys [] hs = sym (key_by_pair hs)
 noted_keys (p ∷ ps) hs = ap (λ l. p ∷ l) (noted_keys ps hs)
 
-pub noted_count : (ps : List ℕ) (hs : List (ℕ × ℕ)) → length (map process ps ++ map (λ h. channel h.0 h.1) hs) ≡ length ps + length hs
-noted_count [] hs = length-map hs (λ h. channel h.0 h.1)
-noted_count (p ∷ ps) hs = ap suc (noted_count ps hs)
-
 -- ---- transitions
 
 module _ (j : Job) (seed : ℕ) where

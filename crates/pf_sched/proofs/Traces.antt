@@ -13,8 +13,8 @@ use Rattle.pf_model.specs.Configuration.{Configuration}
 use Rattle.pf_model.specs.Labels.{Label}
 use Rattle.pf_model.specs.Channels.{heads}
 use Rattle.pf_model.specs.Meaning.{Event, event_of, picks}
-use Rattle.pf_model.specs.Runs.{Actor, process, channel, enabled, Goes, stays, Passed, Passes, delivery, transition, Transition, Words}
-use Rattle.pf_system.specs.Steps.{IsAmong, IsNoteOf, MayGo, PassesTo, noted}
+use Rattle.pf_model.specs.Runs.{enabled, Goes, stays, Passed, Passes, transition, Transition, Words}
+use Rattle.pf_system.specs.Steps.{IsNoteOf, PassesTo}
 use Rattle.pf_system.specs.View.{SystemView}
 use Rattle.pf_system.specs.declared.enabled.Enabled.{Enabled}
 use Rattle.pf_sched.specs.declared.execution.Execution.{Execution}
@@ -23,29 +23,6 @@ use Rattle.pf_sched.specs.Traces.{Going, Went, heads_in, ready_in}
 use Rattle.pf_sched.proofs.Longer.{goes_on, pick_at}
 use Rattle.std.proofs.lemmas.Option.{same_Some}
 use Rattle.pf_system.proofs.Bodies.{map_more}
-
--- what stands at an index is among them
-pub among : (xs : List Actor) (k : ℕ) (x : Actor) → slice_get xs k ≡ Some x → IsAmong x xs
-among [] k x e = absurd (cc)
-among (y ∷ xs) zero x e = ([], xs, ap (λ z. z ∷ xs) (same_Some y x e))
-among (y ∷ xs) (suc k) x e = let r = among xs k x e in (y ∷ r.0, r.1, ap (λ z. y ∷ z) r.2)
-
--- a delivery is one step, however many are left
-pub delivers_within : (left a b : ℕ) (s s' : SystemView) (l : Label) → 0 < left → PassesTo 1 s (channel a b) l 1 s' → PassesTo left s (channel a b) l 1 s'
-delivers_within left a b s s' l h p =
-    record {
-      before = p.before;
-      passed = p.passed;
-      was = p.was;
-      passes = further p.passed p.passes;
-      becomes = p.becomes;
-      label = p.label;
-      counts = p.counts;
-      within = omega arith;
-    }
-  where
-    further : (q : Passed) → Passes s.code 1 p.before (channel a b) q → Passes s.code left p.before (channel a b) q
-    further _ (delivery _ _ x cs e) = delivery a b x cs e
 
 pub length_last : {A : Type 0} (xs : List A) (x : A) → length (xs ++ x ∷ []) ≡ length xs + 1
 length_last [] x = refl
@@ -130,19 +107,6 @@ module _ (m : Module) (f : Profile) (ws : Words) (limit : ℕ) (c : Configuratio
           ∙ ap (event k (length (enabled g.last)) e.actor) p.label
 
 -- ---- who may go
-
--- what stands among those that are noted may go
-pub may_go : (o : Option Configuration) (xs : List Actor) → ((c : Configuration) → o ≡ Some c → xs ≡ enabled c) → (k : ℕ) (x : Actor) → slice_get xs k ≡ Some x → MayGo x o
-may_go None xs h k x e = tt
-may_go (Some c) xs h k x e = among (enabled c) k x (ap (λ l. slice_get l k) (sym (h c refl)) ∙ e)
-
--- how many are noted
-pub noted_count : (e : Enabled) → length (noted e) ≡ length e.ready.now + length (heads e.channels.now)
-noted_count e =
-    let a = length-map e.ready.now process in
-    let b = length-map (heads e.channels.now) (λ h. channel h.0 h.1) in
-    let all = length-append (map process e.ready.now) (map (λ h. channel h.0 h.1) (heads e.channels.now)) in
-    omega arith
 
 -- a choice among those that are noted is one among those that may go
 pub chooses_among : (e : Enabled) (c : Configuration) → IsNoteOf e c → (q q' : Choices Lcg) (procs chans k : ℕ) → procs ≡ length e.ready.now

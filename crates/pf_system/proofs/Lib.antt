@@ -19,3 +19,4 @@ pub mod Passing
 pub mod Beginning
 pub mod Systems
 pub mod Outcomes
+pub mod WhoMayGo

@@ -1,5 +1,6 @@
 use Rattle.std.proofs.Common.{arith}
-use Rattle.pf_sched.proofs.Traces.{chooses_among, noted_count}
+use Rattle.pf_system.proofs.WhoMayGo.{noted_count}
+use Rattle.pf_sched.proofs.Traces.{chooses_among}
 use Rattle.pf_sched.proofs.execution.choose.Goals as goal
 
 pub next_of-requires : goal.next_of-requires

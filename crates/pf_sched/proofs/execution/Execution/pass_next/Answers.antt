@@ -2,7 +2,7 @@ use Rattle.std.proofs.Common.{length, sym, ap, ◌∙◌}
 use Rattle.std.specs.Prelude.{slice_get}
 use Rattle.pf_model.specs.Reports.{actor_of}
 use Rattle.pf_system.specs.Steps.{noted}
-use Rattle.pf_sched.proofs.Traces.{may_go}
+use Rattle.pf_system.proofs.WhoMayGo.{may_go}
 use Rattle.pf_sched.proofs.execution.Execution.pass_next.Goals as goal
 
 pub pass-requires-clause-enabled : goal.pass-requires-clause-enabled

@@ -7,7 +7,7 @@ use Rattle.pf_strategy.specs.Keys.{keys_of}
 use Rattle.pf_system.specs.Steps.{noted}
 use Rattle.pf_sched.specs.Guided.{priorities_in}
 use Rattle.pf_sched.specs.Told.{event}
-use Rattle.pf_sched.proofs.Traces.{may_go}
+use Rattle.pf_system.proofs.WhoMayGo.{may_go}
 use Rattle.pf_sched.proofs.guided.Guided.go.Goals as goal
 
 pub pass-requires-clause-enabled : goal.pass-requires-clause-enabled

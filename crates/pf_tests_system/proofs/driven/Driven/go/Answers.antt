@@ -1,7 +1,7 @@
 use Rattle.std.proofs.Common.{subst}
 use Rattle.pf_model.specs.Reports.{actor_of}
 use Rattle.pf_system.specs.Steps.{MayGo, noted}
-use Rattle.pf_sched.proofs.Traces.{may_go}
+use Rattle.pf_system.proofs.WhoMayGo.{may_go}
 use Rattle.pf_tests_system.proofs.driven.Driven.go.Goals as goal
 
 pub turn-requires-clause-enabled : goal.turn-requires-clause-enabled
