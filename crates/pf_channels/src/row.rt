@@ -61,11 +61,7 @@ impl Row {
     }
 
     /// Puts the sender with each of its receivers behind other pairs.
-    pub(crate) fn put_heads(
-        &self,
-        from: u32,
-        pairs: &mut Vec<(u32, u32)>,
-    ) -> Result<(), NoMemory>
+    pub(crate) fn put_heads(&self, from: u32, pairs: &mut Vec<(u32, u32)>) -> Result<(), NoMemory>
         ensures { OnOk result (pairs.new.items ≡ pairs.old.items ++ heads_of from self.now) }
     {
         for at in 0..self.len() {
