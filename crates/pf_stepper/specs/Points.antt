@@ -90,13 +90,13 @@ IsInPlace (lit v) = Unit {0}
 IsInPlace (var x) = Unit {0}
 IsInPlace t = ⊥
 
--- it takes values that are all there, and is no function
+-- a tuple or a built-in function
 abbrev pub Builds : Callee → Type 0
 Builds (callee.Function g) = ⊥
 Builds (callee.Builtin b) = Unit {0}
 Builds callee.Tuple = Unit {0}
 
--- innermost is a tuple, or a call of a built-in function, whose parts have their values
+-- innermost is a tuple or a call of a built-in function, of values
 pub record IsBuilt (r : Tree) : Type 0 where
   pub frames : List Hole
   pub takes : Callee
@@ -127,12 +127,12 @@ pub record IsWithin (t : Tables) (s : State) (n : NodeId) (i : ℕ) : Type 0 whe
   pub in_place : IsInPlace inner
   pub is : s ≡ running (fill (frames ++ hole ∷ []) inner)
 
--- the process returns what it has, builds a value of parts, is about to end, or has ended
+-- the process returns what it has, is at a tuple or a built-in function of values, or is about to end
 abbrev pub HasNoNode : State → Type 0
 HasNoNode (running r) = IsInPlace r ⊎ IsBuilt r
 HasNoNode (waiting r) = ⊥
 HasNoNode (ending r) = Unit {0}
-HasNoNode (ended e) = Unit {0}
+HasNoNode (ended e) = ⊥
 
 -- a process in this state stands at this point
 abbrev pub IsPointOf : Tables → State → Point → Type 0
