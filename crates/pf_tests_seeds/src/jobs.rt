@@ -84,8 +84,10 @@ pub(crate) fn uniform(alloc: Global, job: Job) -> Hunt {
 /// The same, in which a seed fails too whose root returned while processes wait.
 pub(crate) fn for_leaks(alloc: Global, job: Job) -> Hunt {
     Hunt {
+        job,
+        others: Vec::new(alloc),
+        strategy: Strategy::Uniform,
         leaks: true,
-        ..uniform(alloc, job)
     }
 }
 
