@@ -20,3 +20,4 @@ pub mod Beginning
 pub mod Systems
 pub mod Outcomes
 pub mod WhoMayGo
+pub mod Points

@@ -36,6 +36,13 @@ impl Enabled<'_> {
         pids.len()
     }
 
+    /// The processes among them, by number.
+    pub fn pids(&self) -> &[u32]
+        ensures { result.now ≡ self.now.ready.now }
+    {
+        self.ready.as_slice()
+    }
+
     /// How many channels are among them.
     pub fn channels(&self) -> usize
         ensures { result ≡ length (heads self.now.channels.now) }

@@ -12,6 +12,7 @@ mod messages;
 mod monitors;
 mod names;
 mod outcome;
+mod point;
 mod processes;
 mod shared;
 mod slot;

@@ -1,12 +1,16 @@
 //! The system of processes of one run.
 
-ghost use Rattle.std.specs.Prelude.{◌≡◌, ◌-◌, ◌<◌, ◌≤◌, length, Some, None, IfOk, IsErr, OnErr, OnOk};
+ghost use Rattle.std.specs.Prelude.{◌≡◌, ◌-◌, ◌<◌, ◌≤◌, false, length, Some, None};
+ghost use Rattle.std.specs.Prelude.{IfOk, IfSome, IsErr, MatchOption, OnErr, OnOk};
+ghost use Rattle.pf_model.specs.Configuration.{is_alive, of};
+ghost use Rattle.pf_model.specs.Deliveries.{woken};
 ghost use Rattle.pf_model.specs.Module.{module_of};
 ghost use Rattle.pf_model.specs.Limits.{IsEdition};
 ghost use Rattle.pf_model.specs.Meaning.{outcome_of as outcome_where};
 ghost use Rattle.pf_model.specs.Reports.{actor_of, label_of, outcome_of};
 ghost use Rattle.pf_model.specs.declared.limits.TheConstants.{MOST_PROCESSES};
 ghost use Rattle.pf_model.specs.Runs.{process, channel, enabled, start};
+ghost use Rattle.pf_stepper.specs.Points.{IsPointOf};
 ghost use Rattle.pf_system.specs.View.{view_of_system};
 ghost use Rattle.pf_system.specs.Steps.{IsNoteOf, MayGo, PassesTo, noted};
 
@@ -18,7 +22,7 @@ use crate::spare::Spare;
 use pf_channels::Channels;
 use pf_model::limits::most_processes;
 use pf_model::report::{Actor, Label, Outcome};
-use pf_stepper::Machine;
+use pf_stepper::{Machine, Point};
 use pf_syntax::{FunctionId, Module};
 use pf_terms::NoMemory;
 use pf_ties::Ties;
@@ -129,6 +133,21 @@ impl System {
             ready: &self.processes.ready,
             channels: &self.processes.shared.channels,
         }
+    }
+
+    /// Where a process stands, and the module in whose code that is; none where there is none of this pid, it has ended, or memory
+    /// ran out.
+    pub fn point(&self, pid: u32) -> Option<(&Module, Point)>
+        ensures code { IfSome result (λ x. module_of x.0.now ≡ self.now.code) }
+        ensures point { (c : _) → self.now.standing ≡ Some c
+            → MatchOption result (is_alive (of c.core pid).state ≡ false)
+            (λ x. IsPointOf x.0.now.tables (woken (of c.core pid).state) x.1) }
+        ensures spent { IfSome result (λ x. self.now.standing ≡ None → ⊥) }
+    {
+        if self.spent {
+            return None;
+        }
+        self.processes.point(pid)
     }
 
     /// How a run comes out that stops here: at its limit where anybody may go, and else by what the root came to.
