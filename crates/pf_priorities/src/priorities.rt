@@ -117,8 +117,7 @@ impl Priorities {
     /// The next choice among these processes and then these channels, as an index from 0 on: the first of those with the highest priority. Room for
     /// their priorities may be refused.
     pub fn choose(&mut self, pids: &[u32], channels: &[(u32, u32)]) -> Result<usize, NoMemory>
-        requires some { 0 < length pids.now + length channels.now }
-        requires few { length pids.now + length channels.now < 2 ^ 32 }
+        requires { 0 < length pids.now + length channels.now }
         ensures choice { IfOk result (λ i.
             choice pcg32 (state_of self.old) (keys_among pids.now channels.now) ≡ (i, state_of self.new)) }
         ensures one { IfOk result (λ i. i < length pids.now + length channels.now) }

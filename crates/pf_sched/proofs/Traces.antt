@@ -1,7 +1,6 @@
 -- A run by words, transition by transition.
-use Rattle.std.proofs.Common.{◌≡◌, ℕ, zero, suc, ◌+◌, ◌-◌, ◌<◌, List, [], ◌∷◌, ◌++◌, length, map, Option, Some, None, refl, sym, ap, ◌∙◌, subst, arith}
+use Rattle.std.proofs.Common.{◌≡◌, ℕ, suc, ◌+◌, ◌-◌, ◌<◌, List, [], ◌∷◌, ◌++◌, length, map, Some, refl, sym, ap, ◌∙◌, subst, arith}
 use Rattle.std.specs.Prelude.{slice_get}
-use Rattle.std.proofs.lemmas.List.{length-append, length-map}
 use Rattle.rand_pcg.specs.Pcg.{pcg32}
 use Rattle.rand_pcg.specs.Lcg.{Lcg}
 use Rattle.pf_choice.specs.Choices as choice
@@ -10,10 +9,9 @@ use Rattle.pf_choice.specs.Chosen.{Profile, chosen}
 use Rattle.pf_choice.specs.declared.choices.Choices.{Choices}
 use Rattle.pf_model.specs.Module.{Module}
 use Rattle.pf_model.specs.Configuration.{Configuration}
-use Rattle.pf_model.specs.Labels.{Label}
 use Rattle.pf_model.specs.Channels.{heads}
 use Rattle.pf_model.specs.Meaning.{Event, event_of, picks}
-use Rattle.pf_model.specs.Runs.{enabled, Goes, stays, Passed, Passes, transition, Transition, Words}
+use Rattle.pf_model.specs.Runs.{enabled, Goes, stays, Passes, transition, Transition, Words}
 use Rattle.pf_system.specs.Steps.{IsNoteOf, PassesTo}
 use Rattle.pf_system.specs.View.{SystemView}
 use Rattle.pf_system.specs.declared.enabled.Enabled.{Enabled}

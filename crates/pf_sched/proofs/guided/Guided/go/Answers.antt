@@ -1,13 +1,16 @@
-use Rattle.std.proofs.Common.{length, sym, ap, ◌∙◌}
+use Rattle.std.proofs.Common.{◌≡◌, length, sym, ap, ◌∙◌}
 use Rattle.std.specs.Prelude.{slice_get}
 use Rattle.rand_pcg.specs.Pcg.{pcg32}
 use Rattle.pf_model.specs.Reports.{actor_of, label_of}
+use Rattle.pf_model.specs.Channels.{heads}
+use Rattle.pf_priorities.specs.Keys.{keys_among}
 use Rattle.pf_priorities.specs.Priorities.{choice}
 use Rattle.pf_strategy.specs.Keys.{keys_of}
 use Rattle.pf_system.specs.Steps.{noted}
 use Rattle.pf_sched.specs.Guided.{priorities_in}
 use Rattle.pf_sched.specs.Told.{event}
 use Rattle.pf_system.proofs.WhoMayGo.{may_go}
+use Rattle.pf_sched.proofs.GuidedRuns.{noted_keys}
 use Rattle.pf_sched.proofs.guided.Guided.go.Goals as goal
 
 pub pass-requires-clause-enabled : goal.pass-requires-clause-enabled
@@ -16,17 +19,21 @@ pass-requires-clause-enabled g c =
     c.actor-actor.ensures
 
 pub returns : goal.returns
-returns g c d stands = (
-  event c.in_ok-index.index c.len-among.result (actor_of c.actor-actor.result) (label_of c.pass.new.shown),
-  record {
-    used = c.in_ok-pass.field-0;
-    counts = c.len-among.ensures.count ∙ ap length (c.enabled-enabled.ensures.actors d stands);
-    chooses =
-        ap (choice pcg32 (priorities_in c.args.self.now))
-        (sym (keys_here c ∙ ap keys_of (c.enabled-enabled.ensures.actors d stands)))
-        ∙ c.in_ok-index.ensures.choice;
-    chosen = ap (λ xs. slice_get xs c.in_ok-index.index) (sym (c.enabled-enabled.ensures.actors d stands)) ∙ c.actor-actor.ensures;
-    passes = c.in_ok-pass.ensures;
-  },
-  c.in_ok-tell.ensures,
-)
+returns g c d stands =
+    let ps = c.enabled-enabled.result.ready.now in
+    let hs = heads c.enabled-enabled.result.channels.now in
+    let keys : keys_among c.pids.result.now c.as_slice.result.now ≡ keys_of (noted c.enabled-enabled.result) =
+    ap (λ xs. keys_among xs c.as_slice.result.now) c.pids.ensures ∙ ap (keys_among ps) (c.as_slice.ensures.value ∙ c.in_ok-put_channels.ensures) ∙ noted_keys ps hs in (
+      event c.in_ok-index.index c.len-among.result (actor_of c.actor-actor.result) (label_of c.pass.new.shown),
+      record {
+        used = c.in_ok-pass.field-0;
+        counts = c.len-among.ensures.count ∙ ap length (c.enabled-enabled.ensures.actors d stands);
+        chooses =
+            ap (choice pcg32 (priorities_in c.args.self.now))
+            (sym (keys ∙ ap keys_of (c.enabled-enabled.ensures.actors d stands)))
+            ∙ c.in_ok-index.ensures.choice;
+        chosen = ap (λ xs. slice_get xs c.in_ok-index.index) (sym (c.enabled-enabled.ensures.actors d stands)) ∙ c.actor-actor.ensures;
+        passes = c.in_ok-pass.ensures;
+      },
+      c.in_ok-tell.ensures,
+    )
