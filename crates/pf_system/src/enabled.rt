@@ -63,6 +63,7 @@ impl Enabled<'_> {
         let (from, to) = self.channels.head(k - ready.len());
         Actor::Channel { from, to }
     }
+
     /// Puts the sender and the receiver of each channel that isn't empty, in their order, in place of other pairs.
     pub fn put_channels(&self, pairs: &mut Vec<(u32, u32)>) -> Result<(), NoMemory>
         ensures { OnOk result (pairs.new.items ≡ heads self.now.channels.now) }
