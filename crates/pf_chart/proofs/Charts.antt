@@ -17,14 +17,15 @@ use Rattle.pf_chart.specs.declared.columns.Column.{Column}
 use Rattle.pf_chart.specs.declared.manner.Manner.{Manner}
 use Rattle.pf_chart.specs.declared.rows.Row.{Row}
 use Rattle.pf_chart.specs.Chart.{IsChart, chart, choice_labels, choice_text, copies, event_labels, first_row, has_row, page_of, process_labels, shown, twice}
+use Rattle.pf_chart.specs.Origins.{process_of}
 use Rattle.pf_chart.specs.Words.{Draws}
 use Rattle.pf_svg.proofs.Drawn.{elsewhere, renamed}
 
 abbrev pub told : Row → meaning.Event
 told row = event_of row.event.now
 
-abbrev pub of_columns : (rows : ℕ) → List ℕ → List Column → List (List ℕ)
-of_columns n root cs = flat_map (λ c. process_labels n root c.spawned) cs
+abbrev pub of_columns : (rows : ℕ) → List ℕ → List (List ℕ) → List Column → List (List ℕ)
+of_columns n root names cs = flat_map (λ c. process_labels n root names (process_of c)) cs
 
 abbrev pub of_choices : List Row → List (List ℕ)
 of_choices rows = flat_map (λ row. choice_labels (event_of row.event.now)) rows
@@ -85,36 +86,36 @@ paged page rows =
 -- ---- the whole
 
 -- the document is a chart of the report
-pub chart_of : (name : ℕ → List ℕ) (root : List ℕ) (m : Manner) (r : Report) (cs : List Column) (rows : List Row) (n : ℕ) (o p : List ℕ) {x y : List ℕ}
+pub chart_of : (name : ℕ → List ℕ) (root : List ℕ) (names : List (List ℕ)) (m : Manner) (r : Report) (cs : List Column) (rows : List Row) (n : ℕ) (o p : List ℕ) {x y : List ℕ}
     → map told rows ≡ shown m (report_of r) → n ≡ length rows
     → o ≡ outcome_text name (outcome_of r.outcome) → p ≡ outcome_text name (outcome_of r.outcome)
-    → Draws ((root ∷ root ∷ o ∷ []) ++ ((of_columns n root cs ++ (of_choices rows ++ of_rows name rows)) ++ twice p)) x y
-    → IsChart name root m (report_of r) x y
-chart_of name root m r cs rows n o p are count e e' d =
+    → Draws ((root ∷ root ∷ o ∷ []) ++ ((of_columns n root names cs ++ (of_choices rows ++ of_rows name rows)) ++ twice p)) x y
+    → IsChart name root names m (report_of r) x y
+chart_of name root names m r cs rows n o p are count e e' d =
     let outcome = outcome_text name (outcome_of r.outcome) in
     let events = shown m (report_of r) in
-    let origins = map (λ (c : Column). c.spawned) cs in
+    let processes = map process_of cs in
     let number : n ≡ length events = count ∙ sym (length_told rows) ∙ ap length are in
-    let processes : of_columns n root cs ≡ flat_map (process_labels (length events) root) origins =
-    sym (flat_map-map (process_labels n root) (λ (c : Column). c.spawned) cs) ∙ ap (λ (k : ℕ). flat_map (process_labels k root) origins) number in
+    let labels_of_processes : of_columns n root names cs ≡ flat_map (process_labels (length events) root names) processes =
+    sym (flat_map-map (process_labels n root names) process_of cs) ∙ ap (λ (k : ℕ). flat_map (process_labels k root names) processes) number in
     let choices : of_choices rows ≡ flat_map choice_labels events = sym (flat_map-map choice_labels told rows) ∙ ap (flat_map choice_labels) are in
     let labels : of_rows name rows ≡ flat_map (event_labels name) events = sym (flat_map-map (event_labels name) told rows) ∙ ap (flat_map (event_labels name)) are in
-    let parted : (of_columns n root cs ++ (of_choices rows ++ of_rows name rows)) ++ twice p
-    ≡ of_columns n root cs ++ (of_choices rows ++ (of_rows name rows ++ twice p)) =
-    append_assoc (of_columns n root cs) (of_choices rows ++ of_rows name rows) (twice p)
-    ∙ ap (λ (t : List (List ℕ)). of_columns n root cs ++ t) (append_assoc (of_choices rows) (of_rows name rows) (twice p)) in
-    let rest : (of_columns n root cs ++ (of_choices rows ++ of_rows name rows)) ++ twice p
-    ≡ flat_map (process_labels (length events) root) origins ++ (flat_map choice_labels events ++ (flat_map (event_labels name) events ++ twice outcome)) =
+    let parted : (of_columns n root names cs ++ (of_choices rows ++ of_rows name rows)) ++ twice p
+    ≡ of_columns n root names cs ++ (of_choices rows ++ (of_rows name rows ++ twice p)) =
+    append_assoc (of_columns n root names cs) (of_choices rows ++ of_rows name rows) (twice p)
+    ∙ ap (λ (t : List (List ℕ)). of_columns n root names cs ++ t) (append_assoc (of_choices rows) (of_rows name rows) (twice p)) in
+    let rest : (of_columns n root names cs ++ (of_choices rows ++ of_rows name rows)) ++ twice p
+    ≡ flat_map (process_labels (length events) root names) processes ++ (flat_map choice_labels events ++ (flat_map (event_labels name) events ++ twice outcome)) =
     parted
-    ∙ ap (λ (t : List (List ℕ)). t ++ (of_choices rows ++ (of_rows name rows ++ twice p))) processes
-    ∙ ap (λ (t : List (List ℕ)). flat_map (process_labels (length events) root) origins ++ (t ++ (of_rows name rows ++ twice p))) choices
-    ∙ ap (λ (t : List (List ℕ)). flat_map (process_labels (length events) root) origins ++ (flat_map choice_labels events ++ (t ++ twice p))) labels
-    ∙ ap (λ (t : List ℕ). flat_map (process_labels (length events) root) origins ++ (flat_map choice_labels events ++ (flat_map (event_labels name) events ++ twice t))) e' in
-    chart origins
-    (renamed (ap (λ (t : List ℕ). (root ∷ root ∷ t ∷ []) ++ ((of_columns n root cs ++ (of_choices rows ++ of_rows name rows)) ++ twice p)) e
+    ∙ ap (λ (t : List (List ℕ)). t ++ (of_choices rows ++ (of_rows name rows ++ twice p))) labels_of_processes
+    ∙ ap (λ (t : List (List ℕ)). flat_map (process_labels (length events) root names) processes ++ (t ++ (of_rows name rows ++ twice p))) choices
+    ∙ ap (λ (t : List (List ℕ)). flat_map (process_labels (length events) root names) processes ++ (flat_map choice_labels events ++ (t ++ twice p))) labels
+    ∙ ap (λ (t : List ℕ). flat_map (process_labels (length events) root names) processes ++ (flat_map choice_labels events ++ (flat_map (event_labels name) events ++ twice t))) e' in
+    chart processes
+    (renamed (ap (λ (t : List ℕ). (root ∷ root ∷ t ∷ []) ++ ((of_columns n root names cs ++ (of_choices rows ++ of_rows name rows)) ++ twice p)) e
     ∙ ap (λ (t : List (List ℕ)). (root ∷ root ∷ outcome ∷ []) ++ t) rest) d)
 
 -- a chart that was made by itself, after what stands elsewhere
-pub moved : {name : ℕ → List ℕ} {root : List ℕ} {m : Manner} {r : _} {x y : List ℕ} (before after : List ℕ) → x ≡ [] → after ≡ before ++ y
-    → IsChart name root m r x y → IsChart name root m r before after
-moved before after none e (chart origins d) = chart origins (elsewhere before after none e d)
+pub moved : {name : ℕ → List ℕ} {root : List ℕ} {names : List (List ℕ)} {m : Manner} {r : _} {x y : List ℕ} (before after : List ℕ) → x ≡ [] → after ≡ before ++ y
+    → IsChart name root names m r x y → IsChart name root names m r before after
+moved before after none e (chart processes d) = chart processes (elsewhere before after none e d)

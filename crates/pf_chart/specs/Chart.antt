@@ -1,5 +1,5 @@
 -- What a chart shows, as its labels.
-use Rattle.std.specs.Prelude.{ℕ, zero, suc, ◌+◌, ◌-◌, ◌*◌, ◌/◌, Bool, true, false, not, ◌&&◌, nat_lt, min, if◌then◌else◌, List, [], ◌∷◌, ◌++◌, Option, Some, None, length, take, drop, flat_map, codes}
+use Rattle.std.specs.Prelude.{ℕ, zero, suc, ◌+◌, ◌-◌, ◌*◌, ◌/◌, Bool, true, false, not, ◌&&◌, nat_lt, min, if◌then◌else◌, List, [], ◌∷◌, ◌++◌, Option, Some, None, length, take, drop, flat_map, slice_index_or, codes}
 use Rattle.std.specs.List.{filter}
 use Rattle.std.specs.Fmt.{decimal}
 use Rattle.pf_model.specs.Channels.{message}
@@ -46,14 +46,28 @@ copies (suc n) labels = copies n labels ++ labels
 abbrev pub head_rows : (rows : ℕ) → ℕ
 head_rows rows = (rows - 1) / 40 + 2
 
--- of a process: the root function, unless it tells who spawned it and in which event
-abbrev pub origin_labels : List ℕ → Option (ℕ × ℕ) → List (List ℕ)
-origin_labels root None = root ∷ []
-origin_labels root (Some spawned) = []
+-- a process of the run: its pid, and by whom and in which event it was spawned; the root by none
+pub record Process : Type 0 where
+  pub pid : ℕ
+  pub spawned : Option (ℕ × ℕ)
+
+-- the name of the function in whose call a process began, by pid; empty where it isn't known
+abbrev pub name_of_start : (names : List (List ℕ)) (pid : ℕ) → List ℕ
+name_of_start names pid = slice_index_or names pid []
+
+-- a process shows this name, where it is known; else the root function, unless it tells who spawned it
+abbrev pub name_or_root : (root name : List ℕ) → Option (ℕ × ℕ) → List (List ℕ)
+name_or_root root [] None = root ∷ []
+name_or_root root [] (Some spawned) = []
+name_or_root root (b ∷ bs) spawned = (b ∷ bs) ∷ []
+
+-- the label of a process: the name of its own function
+abbrev pub origin_labels : (root : List ℕ) (names : List (List ℕ)) → Process → List (List ℕ)
+origin_labels root names p = name_or_root root (name_of_start names p.pid) p.spawned
 
 -- the tooltip and the heads of a process
-abbrev pub process_labels : (rows : ℕ) → List ℕ → Option (ℕ × ℕ) → List (List ℕ)
-process_labels rows root spawned = origin_labels root spawned ++ copies (head_rows rows) (origin_labels root spawned)
+abbrev pub process_labels : (rows : ℕ) (root : List ℕ) (names : List (List ℕ)) → Process → List (List ℕ)
+process_labels rows root names p = origin_labels root names p ++ copies (head_rows rows) (origin_labels root names p)
 
 -- a choice above 0 is marked by a star, as `*2/3` where number 2 of three went
 abbrev pub choice_text : Event → List ℕ
@@ -67,13 +81,13 @@ event_labels name e = twice (label_text name e.label)
 
 -- all labels in their order: the root function in the title; this and the outcome in the words on the document; those of each process; the
 -- choices above 0; the label of each event; and the outcome
-abbrev pub chart_labels : (name : ℕ → List ℕ) (root outcome : List ℕ) (rows : List Event) (origins : List (Option (ℕ × ℕ))) → List (List ℕ)
-chart_labels name root outcome rows origins =
+abbrev pub chart_labels : (name : ℕ → List ℕ) (root : List ℕ) (names : List (List ℕ)) (outcome : List ℕ) (rows : List Event) (processes : List Process) → List (List ℕ)
+chart_labels name root names outcome rows processes =
     (root ∷ root ∷ outcome ∷ [])
-    ++ (flat_map (process_labels (length rows) root) origins
+    ++ (flat_map (process_labels (length rows) root names) processes
     ++ (flat_map choice_labels rows ++ (flat_map (event_labels name) rows ++ twice outcome)))
 
--- after what stood there comes a chart of this report, drawn in this manner, of processes with these origins
-pub data IsChart (name : ℕ → List ℕ) (root : List ℕ) (m : Manner) (r : Report) (before after : List ℕ) : Type 0 where
-  chart : (origins : List (Option (ℕ × ℕ))) → Draws (chart_labels name root (outcome_text name r.outcome) (shown m r) origins) before after
-      → IsChart name root m r before after
+-- after what stood there comes a chart of this report, drawn in this manner, of these processes, whose functions have these names
+pub data IsChart (name : ℕ → List ℕ) (root : List ℕ) (names : List (List ℕ)) (m : Manner) (r : Report) (before after : List ℕ) : Type 0 where
+  chart : (processes : List Process) → Draws (chart_labels name root names (outcome_text name r.outcome) (shown m r) processes) before after
+      → IsChart name root names m r before after

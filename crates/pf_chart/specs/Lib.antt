@@ -1,2 +1,3 @@
 pub mod Chart
+pub mod Origins
 pub mod Words

@@ -5,12 +5,14 @@ ghost use Rattle.pf_terms.specs.Atoms.{name_of};
 ghost use Rattle.pf_model.specs.Reports.{event_of, outcome_of, report_of};
 ghost use Rattle.pf_model.specs.Text.{outcome_text};
 ghost use Rattle.pf_chart.specs.Chart.{IsChart, choice_labels, event_labels, process_labels, twice};
+ghost use Rattle.pf_chart.specs.Origins.{process_of, texts};
 ghost use Rattle.pf_chart.specs.Words.{Draws, is_word};
 
 use crate::events::{put_events, put_numbers};
 use crate::heads::{put_columns, put_spawns};
 use crate::layout::{Layout, layout_of};
 use crate::manner::Manner;
+use crate::origin::Names;
 use crate::rows::{PAGE, Row, first_row, page_of, rows_of};
 use crate::sheet::{GUTTER, Sheet, TOP};
 use crate::strokes::put_arrows;
@@ -146,19 +148,20 @@ fn put_layout(
     alloc: Global,
     svg: &mut Svg,
     atoms: &AtomTable,
-    root: &[u8],
+    names: Names,
     rows: &[Row],
     layout: &Layout,
     sheet: Sheet,
 ) -> Result<(), NoMemory>
     ensures { OnOk result (Draws
-        (flat_map (λ c. process_labels sheet.entry.count root.now c.spawned) layout.now.columns.items
+        (flat_map (λ c. process_labels sheet.entry.count names.entry.root.now (texts names.entry.known.now) (process_of c))
+        layout.now.columns.items
         ++ (flat_map (λ r. choice_labels (event_of r.event.now)) rows.now
         ++ flat_map (λ r. event_labels (name_of atoms.now) (event_of r.event.now)) rows.now))
         svg.old svg.new) }
 {
     put_ground(svg, sheet)?;
-    put_columns(svg, &layout.columns, root, sheet)?;
+    put_columns(svg, &layout.columns, names, sheet)?;
     put_numbers(alloc, svg, rows, sheet)?;
     put_spawns(svg, &layout.columns, sheet)?;
     put_arrows(svg, &layout.traffic.arrows, &layout.columns, sheet)?;
@@ -170,12 +173,12 @@ fn put_document(
     alloc: Global,
     svg: &mut Svg,
     atoms: &AtomTable,
-    root: &[u8],
+    names: Names,
     report: &Report,
     manner: Manner,
 ) -> Result<(), NoMemory>
-    ensures { OnOk result (IsChart (name_of atoms.now) root.now manner (report_of report.now)
-        svg.old svg.new) }
+    ensures { OnOk result (IsChart (name_of atoms.now) names.entry.root.now (texts names.entry.known.now) manner
+        (report_of report.now) svg.old svg.new) }
 {
     let layout = layout_of(alloc, report, manner.compact)?;
     let all_rows = rows_of(alloc, &report.events, manner.compact)?;
@@ -185,27 +188,30 @@ fn put_document(
     let sheet = Sheet::new(processes, &all_rows, above, rows.len());
     let outcome = text_of_outcome(alloc, atoms, report)?;
     svg.open(sheet.width(), sheet.height())?;
-    put_words(svg, root, &outcome, processes, report.events.len())?;
+    put_words(svg, names.root, &outcome, processes, report.events.len())?;
     svg.put(&[Markup(STYLE), Markup(DEFINITIONS)])?;
-    put_layout(alloc, svg, atoms, root, rows, &layout, sheet)?;
+    put_layout(alloc, svg, atoms, names, rows, &layout, sheet)?;
     put_bottom(svg, &outcome, manner.compact, sheet)
 }
 
-/// Puts a report of a run from the function `root` as a message sequence chart: a whole SVG document, after what stood there.
-/// If memory runs out, nothing is put.
+/// Puts a report of a run from the function `root` as a message sequence chart: a whole SVG document, after what stood there. The names
+/// tell by pid in whose call each process began, as `counter/1`; it isn't known where a name is empty or isn't there. If memory runs out,
+/// nothing is put.
 pub fn put_chart(
     alloc: Global,
     out: &mut Vec<u8>,
     atoms: &AtomTable,
     root: &[u8],
+    names: &[Vec<u8>],
     report: &Report,
     manner: Manner,
 ) -> Result<(), NoMemory>
-    ensures put { OnOk result (IsChart (name_of atoms.now) root.now manner (report_of report.now)
-        out.old.items out.new.items) }
+    ensures put { OnOk result (IsChart (name_of atoms.now) root.now (texts names.now) manner
+        (report_of report.now) out.old.items out.new.items) }
     ensures err { OnErr result (out.new.items ≡ out.old.items) }
 {
     let mut svg = Svg::new(alloc);
-    put_document(alloc, &mut svg, atoms, root, report, manner)?;
+    let names = Names { root, known: names };
+    put_document(alloc, &mut svg, atoms, names, report, manner)?;
     put(out, svg.as_bytes())
 }

@@ -1,10 +1,12 @@
 //! Processes on the sheet: heads, lifelines and feet.
 
 ghost use Rattle.std.specs.Prelude.{◌++◌, [], IsTrue, OnOk, flat_map};
-ghost use Rattle.pf_chart.specs.Chart.{copies, head_rows, origin_labels, process_labels};
+ghost use Rattle.pf_chart.specs.Chart.{copies, head_rows, process_labels};
+ghost use Rattle.pf_chart.specs.Origins.{labels_of_origin, process_of, texts};
 ghost use Rattle.pf_chart.specs.Words.{Draws, is_word};
 
 use crate::columns::{Column, column_of};
+use crate::origin::{Names, Origin};
 use crate::sheet::{HEAD_HEIGHT, Sheet, Side, event_number};
 use crate::words::Svg;
 use pf_svg::Part::{Attribute, Label, Markup, Number, Pid, Short};
@@ -28,55 +30,48 @@ fn put_box(svg: &mut Svg, pid: u32, x: u64, y: u64, pitch: u64) -> Result<(), No
     svg.text("pid", (x, y.saturating_add(17)), &[Pid(pid)])
 }
 
-/// Puts whose process it is, below the pid of its head: the root function, or who spawned it.
-fn put_origin(
-    svg: &mut Svg,
-    column: &Column,
-    root: &[u8],
-    x: u64,
-    y: u64,
-    pitch: u64,
-) -> Result<(), NoMemory>
-    ensures { OnOk result (Draws (origin_labels root.now column.now.spawned) svg.old svg.new) }
+/// Puts how a process began, below the pid of its head: its function, or who spawned it where that isn't known.
+fn put_origin(svg: &mut Svg, origin: Origin, x: u64, y: u64, pitch: u64) -> Result<(), NoMemory>
+    ensures { OnOk result (Draws (labels_of_origin origin.entry) svg.old svg.new) }
 {
     let at = (x, y.saturating_add(33));
-    match column.spawned {
-        Some((parent, _)) => svg.text("of", at, &[Markup("by "), Pid(parent)]),
-        None => {
+    match origin {
+        Origin::Root(name) | Origin::Named(name, _, _) => {
             let most = LEAST_OF_NAME.saturating_add((pitch.saturating_sub(64) / 6) as usize);
-            svg.text("of", at, &[Short(root, most)])
+            svg.text("of", at, &[Short(name, most)])
         }
+        Origin::Unnamed(parent, _) => svg.text("of", at, &[Markup("by "), Pid(parent)]),
     }
 }
 
 /// Puts a head that begins at y.
 fn put_head(
     svg: &mut Svg,
-    column: &Column,
-    root: &[u8],
+    pid: u32,
+    origin: Origin,
     x: u64,
     y: u64,
     pitch: u64,
 ) -> Result<(), NoMemory>
-    ensures { OnOk result (Draws (origin_labels root.now column.now.spawned) svg.old svg.new) }
+    ensures { OnOk result (Draws (labels_of_origin origin.entry) svg.old svg.new) }
 {
-    put_box(svg, column.pid, x, y, pitch)?;
-    put_origin(svg, column, root, x, y, pitch)
+    put_box(svg, pid, x, y, pitch)?;
+    put_origin(svg, origin, x, y, pitch)
 }
 
 /// Puts all heads of a process, above the rows, between them and below.
 fn put_heads(
     svg: &mut Svg,
-    column: &Column,
-    root: &[u8],
+    pid: u32,
+    origin: Origin,
     sheet: Sheet,
     x: u64,
 ) -> Result<(), NoMemory>
     ensures { OnOk result (Draws
-        (copies (head_rows sheet.entry.count) (origin_labels root.now column.now.spawned)) svg.old svg.new) }
+        (copies (head_rows sheet.entry.count) (labels_of_origin origin.entry)) svg.old svg.new) }
 {
     for index in 0..sheet.head_rows() {
-        put_head(svg, column, root, x, sheet.head_y(index), sheet.pitch())?;
+        put_head(svg, pid, origin, x, sheet.head_y(index), sheet.pitch())?;
     }
     Ok(())
 }
@@ -129,19 +124,28 @@ fn put_foot(svg: &mut Svg, column: &Column, sheet: Sheet, x: u64) -> Result<(), 
     svg.text("foot", (x, y), &[Markup("waits")])
 }
 
-/// Puts the tooltip of a process: its pid, and its root function or who spawned it.
-fn put_tooltip(svg: &mut Svg, column: &Column, root: &[u8]) -> Result<(), NoMemory>
-    ensures { OnOk result (Draws (origin_labels root.now column.now.spawned) svg.old svg.new) }
+/// Puts the tooltip of a process: its pid and how it began.
+fn put_tooltip(svg: &mut Svg, pid: u32, origin: Origin) -> Result<(), NoMemory>
+    ensures { OnOk result (Draws (labels_of_origin origin.entry) svg.old svg.new) }
 {
-    match column.spawned {
-        Some((parent, row)) => svg.title(&[
-            Pid(column.pid),
+    match origin {
+        Origin::Root(name) => svg.title(&[Pid(pid), Markup(" from "), Label(name)]),
+        Origin::Named(name, parent, event) => svg.title(&[
+            Pid(pid),
+            Markup(" "),
+            Label(name),
             Markup(" spawned by "),
             Pid(parent),
             Markup(" in event "),
-            Number(event_number(row)),
+            Number(event_number(event)),
         ]),
-        None => svg.title(&[Pid(column.pid), Markup(" from "), Label(root)]),
+        Origin::Unnamed(parent, event) => svg.title(&[
+            Pid(pid),
+            Markup(" spawned by "),
+            Pid(parent),
+            Markup(" in event "),
+            Number(event_number(event)),
+        ]),
     }
 }
 
@@ -159,18 +163,20 @@ fn class_of(column: &Column) -> &'static str
 fn put_column(
     svg: &mut Svg,
     column: &Column,
-    root: &[u8],
+    names: Names,
     sheet: Sheet,
     x: u64,
 ) -> Result<(), NoMemory>
-    ensures { OnOk result (Draws (process_labels sheet.entry.count root.now column.now.spawned)
+    ensures { OnOk result (Draws
+        (process_labels sheet.entry.count names.entry.root.now (texts names.entry.known.now) (process_of column.now))
         svg.old svg.new) }
 {
     let pid = Attribute("data-pid", u64::from(column.pid));
+    let origin = names.origin(column);
     svg.group(&[Markup(class_of(column))], &[pid])?;
-    put_tooltip(svg, column, root)?;
+    put_tooltip(svg, column.pid, origin)?;
     put_life(svg, column, sheet, x)?;
-    put_heads(svg, column, root, sheet, x)?;
+    put_heads(svg, column.pid, origin, sheet, x)?;
     put_foot(svg, column, sheet, x)?;
     svg.close_group()
 }
@@ -179,14 +185,15 @@ fn put_column(
 pub(crate) fn put_columns(
     svg: &mut Svg,
     columns: &[Column],
-    root: &[u8],
+    names: Names,
     sheet: Sheet,
 ) -> Result<(), NoMemory>
-    ensures { OnOk result (Draws
-        (flat_map (λ c. process_labels sheet.entry.count root.now c.spawned) columns.now) svg.old svg.new) }
+    ensures { OnOk result (Draws (flat_map
+        (λ c. process_labels sheet.entry.count names.entry.root.now (texts names.entry.known.now) (process_of c)) columns.now)
+        svg.old svg.new) }
 {
     for (index, column) in columns.iter().enumerate() {
-        put_column(svg, column, root, sheet, sheet.x(index))?;
+        put_column(svg, column, names, sheet, sheet.x(index))?;
     }
     Ok(())
 }

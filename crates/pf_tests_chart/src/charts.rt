@@ -1,7 +1,7 @@
 //! Charts of reports that are made by hand. Of three processes column K has its middle at 180 + 200 K, and the row of event N at
 //! 51 + 26 N.
 
-use crate::fixtures::{atom, chart, has_all, spawn, turn};
+use crate::fixtures::{atom, chart, chart_with, has_all, has_none, spawn, turn};
 use pf_terms::{AtomId, AtomTable, Term};
 use pf_trace::{Label, Outcome};
 use std::test::Fail;
@@ -37,6 +37,44 @@ fn a_head_tells_who_spawned_a_process(rt: HostRuntime) -> Result<(), Fail> {
         &[
             "<g class=\"process\" data-pid=\"2\"><title>&lt;2&gt; spawned by &lt;0&gt; in event 2</title>",
             "<text class=\"pid\" x=\"580\" y=\"29\">&lt;2&gt;</text><text class=\"of\" x=\"580\" y=\"45\">by &lt;0&gt;</text>",
+        ],
+    )
+}
+
+#[test]
+fn a_head_shows_the_function_in_whose_call_a_process_began(rt: HostRuntime) -> Result<(), Fail> {
+    let alloc = rt.alloc();
+    let atoms = AtomTable::new(alloc)?;
+    let events = vec![in alloc; turn(0, spawn(1)), turn(1, spawn(2)), turn(0, spawn(3))]?;
+    let text = chart_with(alloc, &atoms, &[b"main/0", b"", b"worker/2"], events)?;
+    has_none(&text, &[">main</text>", ">by &lt;1&gt;</text>"])?;
+    has_all(
+        &text,
+        &[
+            "<title>Run of main</title>",
+            "<g class=\"process\" data-pid=\"0\"><title>&lt;0&gt; from main/0</title>",
+            "<text class=\"of\" x=\"180\" y=\"45\">main/0</text>",
+            "<g class=\"process\" data-pid=\"1\"><title>&lt;1&gt; spawned by &lt;0&gt; in event 1</title>",
+            "<text class=\"of\" x=\"380\" y=\"45\">by &lt;0&gt;</text>",
+            "<g class=\"process\" data-pid=\"2\"><title>&lt;2&gt; worker/2 spawned by &lt;1&gt; in event 2</title>",
+            "<text class=\"of\" x=\"580\" y=\"45\">worker/2</text>",
+            "<text class=\"of\" x=\"780\" y=\"45\">by &lt;0&gt;</text>",
+        ],
+    )
+}
+
+#[test]
+fn names_in_heads_are_escaped_and_shortened(rt: HostRuntime) -> Result<(), Fail> {
+    let alloc = rt.alloc();
+    let atoms = AtomTable::new(alloc)?;
+    let events = vec![in alloc; turn(0, spawn(1))]?;
+    let name = b"'a<b&abcdefghijklmnopqrstuvwxyzabcdefghijklmnopqrstuvwxyz'/1";
+    let text = chart_with(alloc, &atoms, &[b"", name], events)?;
+    has_all(
+        &text,
+        &[
+            "<title>&lt;1&gt; 'a&lt;b&amp;abcdefghijklmnopqrstuvwxyzabcdefghijklmnopqrstuvwxyz'/1 spawned by &lt;0&gt; in event 1</title>",
+            ">'a&lt;b&amp;abcdefghijklmnopqrstuvw...</text>",
         ],
     )
 }

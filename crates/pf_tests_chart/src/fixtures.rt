@@ -86,6 +86,24 @@ pub(crate) fn chart(
     chart_in(alloc, atoms, events, outcome, manner)
 }
 
+/// The same of a run whose processes began in the calls of these functions.
+pub(crate) fn chart_with(
+    alloc: Global,
+    atoms: &AtomTable,
+    names: &[&[u8]],
+    events: Vec<Event>,
+) -> Result<String, Fail> {
+    let manner = Manner {
+        compact: false,
+        page: 1,
+    };
+    let mut owned = Vec::new(alloc);
+    for name in names {
+        owned.push(Vec::from_slice(alloc, name)?)?;
+    }
+    chart_of(alloc, atoms, &owned, events, Outcome::Limit, manner)
+}
+
 /// That a chart has none of these pieces.
 pub(crate) fn has_none(text: &str, pieces: &[&str]) -> Result<(), Fail> {
     for piece in pieces {
@@ -96,10 +114,22 @@ pub(crate) fn has_none(text: &str, pieces: &[&str]) -> Result<(), Fail> {
     Ok(())
 }
 
-/// The chart of a run of `main` in this manner.
+/// The chart of a run of `main` in this manner, of which no more is known.
 pub(crate) fn chart_in(
     alloc: Global,
     atoms: &AtomTable,
+    events: Vec<Event>,
+    outcome: Outcome,
+    manner: Manner,
+) -> Result<String, Fail> {
+    chart_of(alloc, atoms, &[], events, outcome, manner)
+}
+
+/// The chart of a run of `main` in this manner, whose processes began in the calls of these functions.
+fn chart_of(
+    alloc: Global,
+    atoms: &AtomTable,
+    names: &[Vec<u8>],
     events: Vec<Event>,
     outcome: Outcome,
     manner: Manner,
@@ -111,7 +141,7 @@ pub(crate) fn chart_in(
         verdict: None,
     };
     let mut text = Vec::new(alloc);
-    put_chart(alloc, &mut text, atoms, b"main", &report, manner)?;
+    put_chart(alloc, &mut text, atoms, b"main", names, &report, manner)?;
     match String::from_utf8(text) {
         Ok(text) => Ok(text),
         Err(_) => Err(Fail::from("a chart is no UTF-8")),
