@@ -22,7 +22,7 @@ use Rattle.clap.specs.declared.builder.action.ArgAction.TheVariants as action
 use Rattle.clap.specs.declared.builder.value_parser.ValueParser.{ValueParser}
 use Rattle.clap.specs.declared.error.kind.ErrorKind.{ErrorKind}
 use Rattle.clap.specs.declared.error.kind.ErrorKind.TheVariants as kind
-use Rattle.pf_cli.specs.Args.{IsFaultBy, clashes_in, fault_under, hunt_fault, is_shown, one_file_fault, own_fault, pulsefarm, run_fault, status_of_kind, values_fault, words_status}
+use Rattle.pf_cli.specs.Args.{IsFaultBy, clashes_in, fault_under, format_in, hunt_fault, is_shown, one_file_fault, own_fault, pulsefarm, run_fault, status_of_kind, values_fault, words_status, work_fault}
 
 abbrev AllAre : Bool → Kinds → Type 0
 AllAre b [] = Unit {0}
@@ -275,8 +275,11 @@ one_file_shown name rows =
     (either_shown (bytes_eq name (codes "chart")) _ _ run
     (either_shown (bytes_eq name (codes "hunt")) (hunt_fault rows) kind.InvalidValue (hunt_shown rows) refl))
 
+work_shown : (name : Text) (rows : List Row) → is_shown (work_fault name rows) ≡ false
+work_shown name rows = either_shown (bytes_eq name (codes "farm")) kind.InvalidValue _ refl (one_file_shown name rows)
+
 under_shown : (name : Text) (rows : List Row) → is_shown (fault_under name rows) ≡ false
-under_shown name rows = either_shown (bytes_eq name (codes "farm")) kind.InvalidValue _ refl (one_file_shown name rows)
+under_shown name rows = either_shown (is_some (format_in rows)) (work_fault name rows) kind.InvalidValue (work_shown name rows) refl
 
 own_shown : (o : Option (Text × List Row)) → is_shown (own_fault o) ≡ false
 own_shown None = refl

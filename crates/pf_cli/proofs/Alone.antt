@@ -5,7 +5,7 @@ use Rattle.std.specs.Str.{bytes_eq}
 use Rattle.clap.specs.Words.{Text, Row, fault_of, first_of, subcommand_of}
 use Rattle.pf_model.specs.Meaning.{Choices, schedule}
 use Rattle.pf_text.specs.Numbers.{schedule_of}
-use Rattle.pf_cli.specs.Args.{RunArgs, asked, bounds_in, chart_asked, chart_of, choices_named, file_at, guided_in, is_given, number_in, numbers_of, of_command, of_one_file, page_named, placed, property_named, pulsefarm, root_named, run_asked, run_of, schedule_file_of, shrink_of, shrinking_asked, unless_refused, wanted_by, run, chart, shrink}
+use Rattle.pf_cli.specs.Args.{RunArgs, asked, bounds_in, chart_asked, chart_of, choices_named, file_at, guided_in, is_given, number_in, numbers_of, of_command, of_one_file, page_named, placed, property_named, pulsefarm, root_named, run_asked, run_of, schedule_file_of, shrink_of, shrinking_asked, unless_refused, wanted_as, wanted_by, Work, work_of, explain_of, format_in, run, chart, shrink}
 
 alone_word : (text word : Text) → file_at word ≡ None → numbers_of (Some text) word ≡ numbers_of None word
 alone_word text word e = ap (λ (f : Option Text). schedule_of (placed text word f)) e
@@ -48,8 +48,11 @@ alone_one_file text name rows e =
     (alike_either (bytes_eq name (codes "hunt")) _ _ _ _ refl
     (alike_either (bytes_eq name (codes "shrink")) _ _ _ _ (ap (option_map shrink) (alone_shrink text rows e)) refl)))
 
+alone_work : (text name : Text) (rows : List Row) → option_and_then file_at (first_of (codes "schedule") rows) ≡ None → work_of (Some text) name rows ≡ work_of None name rows
+alone_work text name rows e = alike_either (bytes_eq name (codes "farm")) _ _ _ _ refl (alone_one_file text name rows e)
+
 alone_command : (text name : Text) (rows : List Row) → option_and_then file_at (first_of (codes "schedule") rows) ≡ None → of_command (Some text) name rows ≡ of_command None name rows
-alone_command text name rows e = alike_either (bytes_eq name (codes "farm")) _ _ _ _ refl (alone_one_file text name rows e)
+alone_command text name rows e = ap (λ (w : Option Work). wanted_as (format_in rows) (explain_of rows) w) (alone_work text name rows e)
 
 alone_asked : (text : Text) (o : Option (Text × List Row)) → asked (λ name rows. option_and_then file_at (first_of (codes "schedule") rows)) o ≡ None
     → asked (of_command (Some text)) o ≡ asked (of_command None) o

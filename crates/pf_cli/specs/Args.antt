@@ -1,5 +1,5 @@
 -- What the words of the command line ask for.
-use Rattle.std.specs.Prelude.{◌≡◌, ◌⊎◌, ℕ, List, [], ◌∷◌, Option, Some, None, option_map, option_and_then, codes, length, map, Bool, true, false, not, ◌==◌, ◌&&◌, ◌||◌, nat_le, nat_lt, if◌then◌else◌}
+use Rattle.std.specs.Prelude.{◌≡◌, ◌⊎◌, ℕ, List, [], ◌∷◌, Option, Some, None, is_some, option_map, option_and_then, codes, length, map, Bool, true, false, not, ◌==◌, ◌&&◌, ◌||◌, nat_le, nat_lt, if◌then◌else◌}
 use Rattle.std.specs.List.{list_any, before_first, after_first}
 use Rattle.std.specs.Str.{bytes_eq}
 use Rattle.clap.specs.Words.{IsAmong, App, Shape, Rule, Row, Text, all_of, new_app, new_rule, with_rule, with_subcommand, Kinds, first_of, subcommand_of, fault_of}
@@ -11,6 +11,7 @@ use Rattle.pf_model.specs.Meaning.{Choices, seed, schedule, weighted_seed}
 use Rattle.pf_text.specs.Numbers.{number_of, long_number_of, schedule_of}
 use Rattle.pf_cli.specs.Seeds.{seeds_named}
 use Rattle.pf_cli.specs.Span.{time_named}
+use Rattle.pf_cli.specs.Form.{format_named}
 use Rattle.pf_cli.specs.Reach.{Reach, clashes, more_named, names_given, reach_asked, roots_named}
 use Rattle.pf_request.specs.Request as requests
 use Rattle.pf_request.specs.Request.{Request, Kind}
@@ -19,6 +20,7 @@ use Rattle.pf_strategy.specs.declared.strategy.Strategy.{Strategy}
 use Rattle.pf_strategy.specs.declared.strategy.Strategy.TheVariants.{Uniform, Priorities}
 use Rattle.pf_cli.specs.declared.args.Edition.{Edition}
 use Rattle.pf_cli.specs.declared.args.Edition.TheVariants.{First, Second}
+use Rattle.pf_cli.specs.declared.args.Format.{Format}
 use Rattle.pf_cli.specs.declared.args.Weights.{Weights}
 use Rattle.pf_cli.specs.declared.args.Roots.{Roots}
 use Rattle.pf_cli.specs.declared.args.RunArgs as run_code
@@ -29,6 +31,7 @@ use Rattle.pf_cli.specs.declared.args.Sought as sought_code
 use Rattle.pf_cli.specs.declared.args.Sought.TheVariants.{Failure, Outcomes}
 use Rattle.pf_cli.specs.declared.args.Args as args_code
 use Rattle.pf_cli.specs.declared.args.Args.TheVariants.{Run, Hunt, Shrink, Chart, Check, Steps, Farm}
+use Rattle.pf_cli.specs.declared.args.Asked as asked_code
 use Rattle.pf_cli.specs.declared.reading.Reading as reading_code
 use Rattle.pf_cli.specs.declared.reading.Reading.TheVariants as read
 
@@ -86,9 +89,13 @@ weighted_app wanted name =
 abbrev pub one_run_app : (wanted : Bool) → Text → App
 one_run_app wanted name = with_rule (with_rule (weighted_app wanted name) (option_rule (codes "schedule"))) (option_rule (codes "property"))
 
--- `run` wants a root and a limit
+-- the form of what goes out may be named: [--format FORM]
+abbrev pub format_rule : Rule
+format_rule = option_rule (codes "format")
+
+-- `run` wants a root and a limit, and may say more: [--format FORM] [--explain]
 abbrev pub run_app : App
-run_app = one_run_app true (codes "run")
+run_app = with_rule (with_rule (one_run_app true (codes "run")) format_rule) (flag_rule (codes "explain"))
 
 -- `chart` takes the same words, and wants neither; and then [--compact] [--page K]
 abbrev pub chart_app : App
@@ -112,18 +119,26 @@ abbrev pub telling_app : App
 telling_app = with_rule (with_rule working_app (flag_rule (codes "all"))) (option_rule (codes "shrink"))
 
 -- and what is gone over: [--all-roots] [--fail-fast] [--leaks]
-abbrev pub hunt_app : App
-hunt_app =
+abbrev pub reaching_app : App
+reaching_app =
     with_rule (with_rule (with_rule telling_app (flag_rule (codes "all-roots"))) (flag_rule (codes "fail-fast"))) (flag_rule (codes "leaks"))
 
--- shrink [FILE] --root F --limit N [--edition E] --schedule L --property P --runs N
-abbrev pub shrink_app : App
-shrink_app =
+-- and in what form: [--format FORM]
+abbrev pub hunt_app : App
+hunt_app = with_rule reaching_app format_rule
+
+-- what is shrunk: shrink [FILE] --root F --limit N [--edition E] --schedule L --property P --runs N
+abbrev pub shrinking_app : App
+shrinking_app =
     with_rule (with_rule (with_rule (bounded_app file_rule true (codes "shrink")) (required_rule (codes "schedule"))) (required_rule (codes "property"))) (required_rule (codes "runs"))
 
--- check [FILE] [--explain]
+-- and in what form: [--format FORM]
+abbrev pub shrink_app : App
+shrink_app = with_rule shrinking_app format_rule
+
+-- check [FILE] [--explain] [--format FORM]
 abbrev pub check_app : App
-check_app = with_rule (with_rule (new_app (codes "check")) file_rule) (flag_rule (codes "explain"))
+check_app = with_rule (with_rule (with_rule (new_app (codes "check")) file_rule) (flag_rule (codes "explain"))) format_rule
 
 -- steps [FILE]
 abbrev pub steps_app : App
@@ -467,39 +482,57 @@ farm_of rows =
     farm_asked (option_and_then as_workers (number_in (codes "workers") rows)) (option_and_then as_files (all_of (codes "files") rows))
     (is_given (first_of (codes "summary") rows))
 
--- whether a refusal is to be explained
+-- whether more is to be explained
 abbrev pub explain_of : List Row → Bool
 explain_of rows = is_given (first_of (codes "explain") rows)
 
 -- a command asks for a run, for a hunt over seeds, for the shrinking of a schedule, for the chart of a run, for a check that may explain what
 -- it refuses, for the steps that a file lists, or for a farm
-pub data Wanted : Type 0 where
-  run : RunArgs → Wanted
-  hunt : HuntArgs → Wanted
-  shrink : RunArgs → Wanted
-  chart : ChartArgs → Wanted
-  check : (explain : Bool) → Wanted
-  steps : Wanted
-  farm : FarmArgs → Wanted
+pub data Work : Type 0 where
+  run : RunArgs → Work
+  hunt : HuntArgs → Work
+  shrink : RunArgs → Work
+  chart : ChartArgs → Work
+  check : (explain : Bool) → Work
+  steps : Work
+  farm : FarmArgs → Work
 
 -- what a command without runs of its own asks for
-abbrev pub of_other : Text → List Row → Option Wanted
+abbrev pub of_other : Text → List Row → Option Work
 of_other name rows =
     if bytes_eq name (codes "check") then Some (check (explain_of rows))
     else (if bytes_eq name (codes "steps") then Some steps else None)
 
 -- what a command of one file asks for by the values of its options, and by the text of its schedule's file where it is known
-abbrev pub of_one_file : (text : Option Text) → (name : Text) → List Row → Option Wanted
+abbrev pub of_one_file : (text : Option Text) → (name : Text) → List Row → Option Work
 of_one_file text name rows =
     if bytes_eq name (codes "run") then option_map run (run_of text rows)
     else (if bytes_eq name (codes "chart") then option_map chart (chart_of text rows)
     else (if bytes_eq name (codes "hunt") then option_map hunt (hunt_of rows)
     else (if bytes_eq name (codes "shrink") then option_map shrink (shrink_of text rows) else of_other name rows)))
 
--- what the command of this name asks for
-abbrev pub of_command : (text : Option Text) → (name : Text) → List Row → Option Wanted
-of_command text name rows =
+-- the work that the command of this name asks for
+abbrev pub work_of : (text : Option Text) → (name : Text) → List Row → Option Work
+work_of text name rows =
     if bytes_eq name (codes "farm") then option_map farm (farm_of rows) else of_one_file text name rows
+
+-- words ask for work that is told in a form, and maybe explained: the report of a run, or the refusal of a check
+pub record Wanted : Type 0 where
+  pub work : Work
+  pub format : Format
+  pub explain : Bool
+
+abbrev pub wanted_as : Option Format → (explain : Bool) → Option Work → Option Wanted
+wanted_as None explain work = None
+wanted_as (Some format) explain None = None
+wanted_as (Some format) explain (Some work) = Some (record { work = work; format = format; explain = explain })
+
+abbrev pub format_in : List Row → Option Format
+format_in rows = format_named (first_of (codes "format") rows)
+
+-- what the command of this name asks for, and how it is told
+abbrev pub of_command : (text : Option Text) → (name : Text) → List Row → Option Wanted
+of_command text name rows = wanted_as (format_in rows) (explain_of rows) (work_of text name rows)
 
 abbrev pub asked : {T : Type 0} → (Text → List Row → Option T) → Option (Text × List Row) → Option T
 asked read None = None
@@ -575,7 +608,7 @@ view_of_hunt_args a =
 abbrev pub view_of_farm_args : farm_code.FarmArgs → FarmArgs
 view_of_farm_args a = record { workers = a.workers; files = map (λ s. s.now) a.files.items; summary = a.summary }
 
-abbrev pub view_of_args : args_code.Args → Wanted
+abbrev pub view_of_args : args_code.Args → Work
 view_of_args (Run a) = run (view_of_run_args a)
 view_of_args (Hunt a) = hunt (view_of_hunt_args a)
 view_of_args (Chart a) = chart (view_of_chart_args a)
@@ -583,6 +616,9 @@ view_of_args (Shrink a) = shrink (view_of_run_args a)
 view_of_args (Check a) = check a.explain
 view_of_args (Steps a) = steps
 view_of_args (Farm a) = farm (view_of_farm_args a)
+
+abbrev pub view_of_asked : asked_code.Asked → Wanted
+view_of_asked a = record { work = view_of_args a.args; format = a.format; explain = a.explain }
 
 abbrev pub named_file : args_code.Args → Option Text
 named_file (Run a) = option_map (λ s. s.now) a.file
@@ -625,8 +661,12 @@ one_file_fault name rows =
     else (if bytes_eq name (codes "chart") then run_fault rows
     else (if bytes_eq name (codes "hunt") then hunt_fault rows else kind.InvalidValue))
 
+abbrev pub work_fault : Text → List Row → ErrorKind
+work_fault name rows = if bytes_eq name (codes "farm") then kind.InvalidValue else one_file_fault name rows
+
+-- a form that is none comes first
 abbrev pub fault_under : Text → List Row → ErrorKind
-fault_under name rows = if bytes_eq name (codes "farm") then kind.InvalidValue else one_file_fault name rows
+fault_under name rows = if is_some (format_in rows) then work_fault name rows else kind.InvalidValue
 
 abbrev pub own_fault : Option (Text × List Row) → ErrorKind
 own_fault None = kind.InvalidValue
@@ -677,7 +717,7 @@ reading_of None words = reading_by (wanted_by (Some (codes "none")) words) (file
 reading_of (Some text) words = reading_by (wanted_by (Some text) words) (file_of words) None (words_status words)
 
 abbrev pub view_of_reading : reading_code.Reading → Reading
-view_of_reading (read.Args args) = works (view_of_args args) (named_file args)
+view_of_reading (read.Asked asked) = works (view_of_asked asked) (named_file asked.args)
 view_of_reading (read.ScheduleIn file) = reads file.now
 view_of_reading (read.Text text status is_fault) = tells status is_fault
 

@@ -1,4 +1,5 @@
 pub mod Args
+pub mod Form
 pub mod Reach
 pub mod Seeds
 pub mod Span

@@ -32,6 +32,15 @@ impl Edition {
     }
 }
 
+/// In what form a command tells what it finds.
+#[derive(Drop, Clone, Copy)]
+pub enum Format {
+    /// Lines of text.
+    Text,
+    /// A JSON object in place of each line.
+    Json,
+}
+
 /// The weight of a process and that of a channel, each from 1 to 9.
 #[derive(Drop, Clone, Copy)]
 pub(crate) struct Weights {
@@ -189,4 +198,14 @@ impl<'a> Args<'a> {
             Args::Farm(_) => None,
         }
     }
+}
+
+/// What the words ask for, and how it is told.
+#[derive(Drop)]
+pub struct Asked<'a> {
+    pub args: Args<'a>,
+    /// In what form it goes out.
+    pub format: Format,
+    /// Whether more is explained: the report of a run, or the refusal of a check.
+    pub explain: bool,
 }

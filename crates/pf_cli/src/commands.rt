@@ -3,7 +3,7 @@
 ghost use Rattle.std.specs.Prelude.{◌≡◌, IfOk, false, codes};
 ghost use Rattle.clap.specs.Words.{app_of, rule_of, new_app};
 ghost use Rattle.clap.specs.declared.builder.command.Command.TheViews.{out-Command};
-ghost use Rattle.pf_cli.specs.Args.{bare_app, bounded_app, chart_app, check_app, farm_app, file_rule, files_rule, flag_rule, finding_app, hunt_app, judged_app, many_rule, one_file_app, one_run_app, option_rule, pulsefarm, required_rule, rooted_app, run_app, runs_app, seeded_app, shrink_app, steps_app, telling_app, wanted_rule, weighted_app, working_app};
+ghost use Rattle.pf_cli.specs.Args.{bare_app, bounded_app, chart_app, check_app, farm_app, file_rule, files_rule, flag_rule, finding_app, format_rule, hunt_app, judged_app, many_rule, one_file_app, one_run_app, option_rule, pulsefarm, reaching_app, required_rule, rooted_app, run_app, runs_app, seeded_app, shrink_app, shrinking_app, steps_app, telling_app, wanted_rule, weighted_app, working_app};
 
 use clap::{Arg, ArgAction, Command};
 use std::alloc::{AllocError, Global};
@@ -27,6 +27,9 @@ const SEEDS_HELP: &str =
     "Seeds from A to before B; `A..=B` has B too, and `N` is 0..N; each from 0 to 18446744073709551615 [default: 10000; with --for all but the greatest]";
 
 const TIME_HELP: &str = "Time after which the hunt stops and tells what it knows, as 90s, 5m or 2h";
+
+const FORMAT_HELP: &str =
+    "Form of what goes out: `text`, or `json`, an object in place of each line [default: text]";
 
 const ROOT_HELP: &str = "Name of the function that runs first, exported and without arguments";
 
@@ -166,6 +169,13 @@ fn schedule<'a>(alloc: Global) -> Arg<'a>
     option(alloc, "schedule", "L", SCHEDULE_HELP)
 }
 
+fn format<'a>(alloc: Global) -> Arg<'a>
+    ensures rule { rule_of result ≡ format_rule }
+    ensures local { result.global ≡ false }
+{
+    option(alloc, "format", "FORM", FORMAT_HELP)
+}
+
 fn property<'a>(alloc: Global) -> Arg<'a>
     ensures rule { rule_of result ≡ option_rule (codes "property") }
     ensures local { result.global ≡ false }
@@ -262,7 +272,11 @@ pub(crate) fn run_command<'a>(alloc: Global) -> Result<Command<'a>, AllocError>
     ensures local { IfOk result (λ c. (out-Command c).has_globals ≡ false) }
 {
     let about = "Runs a module by a seed or a schedule and reports each turn and delivery";
-    one_run(alloc, "run", about, RUN_USAGE, true)
+    let explain = "Explains the report too";
+    let run = one_run(alloc, "run", about, RUN_USAGE, true)?
+        .arg(format(alloc))?
+        .arg(flag(alloc, "explain", explain))?;
+    Ok(run)
 }
 
 /// `chart`.
@@ -328,20 +342,43 @@ fn telling<'a>(alloc: Global, about: &'a str) -> Result<Command<'a>, AllocError>
     Ok(telling)
 }
 
+/// A hunt without the option of its form.
+fn reaching<'a>(alloc: Global, about: &'a str) -> Result<Command<'a>, AllocError>
+    ensures app { IfOk result (λ c. app_of c ≡ reaching_app) }
+    ensures local { IfOk result (λ c. (out-Command c).has_globals ≡ false) }
+{
+    let roots = "Hunts every exported function without arguments, and tells of each in a line";
+    let fail_fast = "Hunts nothing behind the first root that fails";
+    let leaks = "Lets a seed fail too whose root returned while processes still wait";
+    let reaching = telling(alloc, about)?
+        .arg(flag(alloc, "all-roots", roots))?
+        .arg(flag(alloc, "fail-fast", fail_fast))?
+        .arg(flag(alloc, "leaks", leaks))?;
+    Ok(reaching)
+}
+
 /// `hunt`.
 pub(crate) fn hunt_command<'a>(alloc: Global) -> Result<Command<'a>, AllocError>
     ensures app { IfOk result (λ c. app_of c ≡ hunt_app) }
     ensures local { IfOk result (λ c. (out-Command c).has_globals ≡ false) }
 {
     let about = "Runs a module by many seeds and reports the least that fails a property";
-    let roots = "Hunts every exported function without arguments, and tells of each in a line";
-    let fail_fast = "Hunts nothing behind the first root that fails";
-    let leaks = "Lets a seed fail too whose root returned while processes still wait";
-    let hunt = telling(alloc, about)?
-        .arg(flag(alloc, "all-roots", roots))?
-        .arg(flag(alloc, "fail-fast", fail_fast))?
-        .arg(flag(alloc, "leaks", leaks))?;
+    let hunt = reaching(alloc, about)?.arg(format(alloc))?;
     Ok(hunt)
+}
+
+/// A shrinking without the option of its form.
+fn shrinking<'a>(alloc: Global, about: &'a str) -> Result<Command<'a>, AllocError>
+    ensures app { IfOk result (λ c. app_of c ≡ shrinking_app) }
+    ensures local { IfOk result (λ c. (out-Command c).has_globals ≡ false) }
+{
+    let runs = "Most runs, from 1 to 1,000; that of the given schedule is the first";
+    let source = file(alloc, SOURCE_HELP);
+    let shrinking = bounded(alloc, source, "shrink", about, true)?
+        .arg(required(alloc, "schedule", "L", SCHEDULE_HELP))?
+        .arg(required(alloc, "property", "P", FAILING_HELP))?
+        .arg(required(alloc, "runs", "N", runs))?;
+    Ok(shrinking)
 }
 
 /// `shrink`.
@@ -350,16 +387,12 @@ pub(crate) fn shrink_command<'a>(alloc: Global) -> Result<Command<'a>, AllocErro
     ensures local { IfOk result (λ c. (out-Command c).has_globals ≡ false) }
 {
     let about = "Shrinks a schedule that fails and reports the run of the schedule that is found";
-    let runs = "Most runs, from 1 to 1,000; that of the given schedule is the first";
-    let source = file(alloc, SOURCE_HELP);
-    let shrink = bounded(alloc, source, "shrink", about, true)?
-        .arg(required(alloc, "schedule", "L", SCHEDULE_HELP))?
-        .arg(required(alloc, "property", "P", FAILING_HELP))?
-        .arg(required(alloc, "runs", "N", runs))?;
+    let shrink = shrinking(alloc, about)?.arg(format(alloc))?;
     Ok(shrink)
 }
 
-fn check_command<'a>(alloc: Global) -> Result<Command<'a>, AllocError>
+/// `check`.
+pub(crate) fn check_command<'a>(alloc: Global) -> Result<Command<'a>, AllocError>
     ensures app { IfOk result (λ c. app_of c ≡ check_app) }
     ensures local { IfOk result (λ c. (out-Command c).has_globals ≡ false) }
 {
@@ -367,7 +400,8 @@ fn check_command<'a>(alloc: Global) -> Result<Command<'a>, AllocError>
     let explain = "Shows the line of a refusal too, and tells how to mend it";
     let check = bare(alloc, "check", about)
         .arg(file(alloc, SOURCE_HELP))?
-        .arg(flag(alloc, "explain", explain))?;
+        .arg(flag(alloc, "explain", explain))?
+        .arg(format(alloc))?;
     Ok(check)
 }
 

@@ -4,6 +4,7 @@
 mod args;
 mod commands;
 mod farm;
+mod form;
 mod laws;
 mod parse;
 mod reach;
@@ -14,7 +15,8 @@ mod span;
 mod values;
 
 pub use args::{
-    Args, ChartArgs, CheckArgs, Edition, FarmArgs, HuntArgs, Roots, RunArgs, Sought, StepsArgs,
+    Args, Asked, ChartArgs, CheckArgs, Edition, FarmArgs, Format, HuntArgs, Roots, RunArgs, Sought,
+    StepsArgs,
 };
 pub use laws::{stands_alone, statuses_agree};
 pub use parse::{read_args, status_of_kind};

@@ -4,11 +4,12 @@ ghost use Rattle.std.specs.Prelude.{◌≡◌, ◌⊎◌, true, IfOk, IfErr, map
 ghost use Rattle.clap.specs.Words.{FailsBy, fault_of, subcommand_of, subcommand_rows_of, kind_of, first_of, rows_of, found_of};
 ghost use Rattle.pf_request.specs.Request.{choices_in, may_weigh};
 ghost use Rattle.pf_request.specs.View.{view_of_kind, view_of_request};
-ghost use Rattle.pf_cli.specs.Args.{IsFaultBy, IsFaultOf, chart_of, fault_under, file_named, file_of, file_under, hunt_fault, hunt_of, hunt_of_values, named_file, of_command, of_one_file, of_other, one_file_fault, pulsefarm, request_by, run_fault, run_of, schedule_file_of, shrink_of, status_of_kind, view_of_args, view_of_chart_args, view_of_hunt_args, view_of_run_args, wanted_by, wanted_of};
+ghost use Rattle.pf_cli.specs.Args.{IsFaultBy, IsFaultOf, chart_of, fault_under, file_named, file_of, file_under, hunt_fault, hunt_of, hunt_of_values, named_file, of_command, of_one_file, of_other, one_file_fault, pulsefarm, request_by, run_fault, run_of, schedule_file_of, shrink_of, status_of_kind, view_of_args, view_of_asked, view_of_chart_args, view_of_hunt_args, view_of_run_args, wanted_by, wanted_of, work_fault, work_of};
 
-use crate::args::{Args, ChartArgs, CheckArgs, HuntArgs, RunArgs, StepsArgs, Weights};
+use crate::args::{Args, Asked, ChartArgs, CheckArgs, HuntArgs, RunArgs, StepsArgs, Weights};
 use crate::commands::command;
 use crate::farm::farm_args;
+use crate::form::format;
 use crate::reach::{clash, reach_of};
 use crate::refusals::{Valued, mistake, refuse_both};
 use crate::seeds::seeds;
@@ -341,21 +342,20 @@ fn one_file_args<'a>(
     other_args(alloc, name, rows)
 }
 
-/// What the command of this name asks for by the values of its options, with a text in place of its schedule's file.
-fn command_args<'a>(
+/// The work that the command of this name asks for by the values of its options, with a text in place of its schedule's file.
+fn work_args<'a>(
     alloc: Global,
     name: &str,
     rows: &ArgMatches<'a>,
     text: Option<&str>,
 ) -> Result<Args<'a>, Error>
     ensures ok { IfOk result (λ a.
-        of_command (option_map (λ s. s.now) text.entry) name.now (rows_of (found_of rows.now))
+        work_of (option_map (λ s. s.now) text.entry) name.now (rows_of (found_of rows.now))
         ≡ Some (view_of_args a)) }
     ensures file { IfOk result (λ a. named_file a ≡ file_under name.now (rows_of (found_of rows.now))) }
     ensures err { IfErr result (λ e. (kind_of e ≡ ErrorKind.OutOfMemory)
-        ⊎ ((kind_of e ≡ fault_under name.now (rows_of (found_of rows.now)))
-        × (of_command (option_map (λ s. s.now) text.entry) name.now (rows_of (found_of rows.now))
-        ≡ None))) }
+        ⊎ ((kind_of e ≡ work_fault name.now (rows_of (found_of rows.now)))
+        × (work_of (option_map (λ s. s.now) text.entry) name.now (rows_of (found_of rows.now)) ≡ None))) }
 {
     if name == "farm" {
         return match farm_args(alloc, rows) {
@@ -366,10 +366,40 @@ fn command_args<'a>(
     one_file_args(alloc, name, rows, text)
 }
 
+/// What the command of this name asks for, and how it is told, by the values of its options, with a text in place of its schedule's file.
+fn command_args<'a>(
+    alloc: Global,
+    name: &str,
+    rows: &ArgMatches<'a>,
+    text: Option<&str>,
+) -> Result<Asked<'a>, Error>
+    ensures ok { IfOk result (λ a.
+        of_command (option_map (λ s. s.now) text.entry) name.now (rows_of (found_of rows.now))
+        ≡ Some (view_of_asked a)) }
+    ensures file { IfOk result (λ a. named_file a.args ≡ file_under name.now (rows_of (found_of rows.now))) }
+    ensures err { IfErr result (λ e. (kind_of e ≡ ErrorKind.OutOfMemory)
+        ⊎ ((kind_of e ≡ fault_under name.now (rows_of (found_of rows.now)))
+        × (of_command (option_map (λ s. s.now) text.entry) name.now (rows_of (found_of rows.now))
+        ≡ None))) }
+{
+    let format = match format(alloc, name, rows) {
+        Ok(format) => format,
+        Err(e) => return Err(e),
+    };
+    match work_args(alloc, name, rows, text) {
+        Ok(args) => Ok(Asked {
+            args,
+            format,
+            explain: is_given(rows, "explain"),
+        }),
+        Err(e) => Err(e),
+    }
+}
+
 /// What words ask for, and the file that they name for a schedule.
 #[derive(Drop)]
 pub(crate) struct Found<'a> {
-    pub args: Args<'a>,
+    pub asked: Asked<'a>,
     pub schedule: Option<&'a str>,
 }
 
@@ -380,8 +410,8 @@ pub(crate) fn read_by<'a>(
     text: Option<&str>,
 ) -> Result<Found<'a>, Error>
     ensures ok { IfOk result (λ f. wanted_by (option_map (λ s. s.now) text.entry) (map (λ w. w.now) words.now)
-        ≡ Some (view_of_args f.args)) }
-    ensures file { IfOk result (λ f. named_file f.args ≡ file_of (map (λ w. w.now) words.now)) }
+        ≡ Some (view_of_asked f.asked)) }
+    ensures file { IfOk result (λ f. named_file f.asked.args ≡ file_of (map (λ w. w.now) words.now)) }
     ensures schedule { IfOk result (λ f. option_map (λ s. s.now) f.schedule
         ≡ schedule_file_of (map (λ w. w.now) words.now)) }
     ensures err { IfErr result (λ e. (kind_of e ≡ ErrorKind.OutOfMemory)
@@ -396,21 +426,21 @@ pub(crate) fn read_by<'a>(
     };
     let schedule = named_schedule(rows);
     match command_args(alloc, name, rows, text) {
-        Ok(args) => Ok(Found { args, schedule }),
+        Ok(asked) => Ok(Found { asked, schedule }),
         Err(e) => Err(e),
     }
 }
 
 /// What the words ask for as they stand, the first of which names the program. Words that are refused or ask for help or the version are an
 /// error, which prints its text.
-pub fn read_args<'a>(alloc: Global, words: &'a [&'a str]) -> Result<Args<'a>, Error>
-    ensures ok { IfOk result (λ a. wanted_of (map (λ w. w.now) words.now) ≡ Some (view_of_args a)) }
-    ensures file { IfOk result (λ a. named_file a ≡ file_of (map (λ w. w.now) words.now)) }
+pub fn read_args<'a>(alloc: Global, words: &'a [&'a str]) -> Result<Asked<'a>, Error>
+    ensures ok { IfOk result (λ a. wanted_of (map (λ w. w.now) words.now) ≡ Some (view_of_asked a)) }
+    ensures file { IfOk result (λ a. named_file a.args ≡ file_of (map (λ w. w.now) words.now)) }
     ensures err { IfErr result (λ e. (kind_of e ≡ ErrorKind.OutOfMemory)
         ⊎ IsFaultOf (kind_of e) (map (λ w. w.now) words.now)) }
 {
     match read_by(alloc, words, None) {
-        Ok(found) => Ok(found.args),
+        Ok(found) => Ok(found.asked),
         Err(e) => Err(e),
     }
 }

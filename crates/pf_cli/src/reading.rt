@@ -4,7 +4,7 @@ ghost use Rattle.std.specs.Prelude.{◌≡◌, ◌≢◌, IfOk, map, option_map}
 ghost use Rattle.clap.specs.Words.{kind_of};
 ghost use Rattle.pf_cli.specs.Args.{reading_of, status_of_kind, told, view_of_reading};
 
-use crate::args::Args;
+use crate::args::Asked;
 use crate::parse::{read_by, status_of_kind};
 use clap::Error;
 use clap::error::ErrorKind;
@@ -15,7 +15,7 @@ use std::alloc::Global;
 #[derive(Drop)]
 pub enum Reading<'a> {
     /// They ask for this.
-    Args(Args<'a>),
+    Asked(Asked<'a>),
     /// They ask for work by the schedule in this file, `--schedule @FILE`: its text is read, and then the words once more with it.
     ScheduleIn(&'a str),
     /// They ask for no work: this text is printed, on the standard error where it tells a fault, and the program ends with this status.
@@ -66,6 +66,6 @@ pub fn read<'a>(
     };
     match (schedule, found.schedule) {
         (None, Some(file)) => Ok(Reading::ScheduleIn(file)),
-        _ => Ok(Reading::Args(found.args)),
+        _ => Ok(Reading::Asked(found.asked)),
     }
 }

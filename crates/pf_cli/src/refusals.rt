@@ -4,7 +4,7 @@ ghost use Rattle.std.specs.Prelude.{◌≡◌, ◌⊎◌, IfOk};
 ghost use Rattle.clap.specs.Words.{kind_of};
 
 use crate::commands::{
-    chart_command, command, farm_command, hunt_command, run_command, shrink_command,
+    chart_command, check_command, command, farm_command, hunt_command, run_command, shrink_command,
 };
 use clap::Error;
 use clap::error::ErrorKind;
@@ -30,6 +30,7 @@ pub(crate) enum Valued {
     Hunt,
     Shrink,
     Chart,
+    Check,
     Farm,
 }
 
@@ -47,6 +48,7 @@ fn try_refuse(
         Valued::Hunt => hunt_command(alloc)?.bin_name("pulsefarm hunt")?,
         Valued::Chart => chart_command(alloc)?.bin_name("pulsefarm chart")?,
         Valued::Shrink => shrink_command(alloc)?.bin_name("pulsefarm shrink")?,
+        Valued::Check => check_command(alloc)?.bin_name("pulsefarm check")?,
         Valued::Farm => farm_command(alloc)?.bin_name("pulsefarm farm")?,
     };
     command.error(kind, text)

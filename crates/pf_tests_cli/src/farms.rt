@@ -1,13 +1,18 @@
 //! What the words of `farm` ask for.
 
-use pf_cli::{Args, FarmArgs, read_args, status_of_kind};
+use pf_cli::{Args, Asked, FarmArgs, read_args, status_of_kind};
 use std::alloc::Global;
 use std::test::Fail;
 
 /// What these words ask for, where it is a farm.
 fn farm_of<'a>(alloc: Global, words: &'a [&'a str]) -> Option<FarmArgs<'a>> {
     match read_args(alloc, words) {
-        Ok(Args::Farm(farm)) => Some(farm),
+        Ok(
+            Asked {
+                args: Args::Farm(farm),
+                ..
+            },
+        ) => Some(farm),
         _ => None,
     }
 }

@@ -1,7 +1,9 @@
 //! What the words of `hunt` and of `chart` ask for.
 
 use crate::requests::{is_main, is_seeded};
-use pf_cli::{Args, ChartArgs, Edition, HuntArgs, RunArgs, Sought, read_args, status_of_kind};
+use pf_cli::{
+    Args, Asked, ChartArgs, Edition, HuntArgs, RunArgs, Sought, read_args, status_of_kind,
+};
 use pf_strategy::Strategy;
 use std::alloc::Global;
 use std::test::Fail;
@@ -22,7 +24,12 @@ pub fn hunt_over<'a>(seeds: &'a str, more: &'a str) -> [&'a str; 7] {
 /// What these words ask for, where it is a hunt.
 pub fn hunt_of<'a>(alloc: Global, words: &'a [&'a str]) -> Option<HuntArgs<'a>> {
     match read_args(alloc, words) {
-        Ok(Args::Hunt(hunt)) => Some(hunt),
+        Ok(
+            Asked {
+                args: Args::Hunt(hunt),
+                ..
+            },
+        ) => Some(hunt),
         _ => None,
     }
 }
@@ -326,7 +333,9 @@ fn a_chart_takes_the_words_of_a_run(rt: HostRuntime) {
         "--seed=3",
     ];
     let asked = read_args(rt.alloc(), &words);
-    assert!(rt; matches!(&asked, Ok(Args::Chart(chart)) if returns_of(&chart.run, "a.erl")));
+    assert!(rt;
+        matches!(&asked, Ok(Asked { args: Args::Chart(chart), .. }) if returns_of(&chart.run, "a.erl"))
+    );
 }
 
 /// Whether a chart is of the run of `main` of this file within 100,000 steps, and has this manner.
@@ -341,7 +350,9 @@ fn is_drawn(chart: &ChartArgs, file: &str, compact: bool, page: u32) -> bool {
 fn a_chart_may_have_a_file_and_a_seed_alone(rt: HostRuntime) {
     let words = ["pulsefarm", "chart", "a.erl", "--seed=3"];
     let asked = read_args(rt.alloc(), &words);
-    assert!(rt; matches!(&asked, Ok(Args::Chart(chart)) if is_drawn(chart, "a.erl", false, 1)));
+    assert!(rt;
+        matches!(&asked, Ok(Asked { args: Args::Chart(chart), .. }) if is_drawn(chart, "a.erl", false, 1))
+    );
 }
 
 #[test]
@@ -356,7 +367,7 @@ fn a_chart_has_the_manner_that_it_is_given(rt: HostRuntime) {
     ];
     let asked = read_args(rt.alloc(), &words);
     assert!(rt;
-        matches!(&asked, Ok(Args::Chart(chart)) if is_drawn(chart, "a.erl", true, u32::MAX))
+        matches!(&asked, Ok(Asked { args: Args::Chart(chart), .. }) if is_drawn(chart, "a.erl", true, u32::MAX))
     );
 }
 

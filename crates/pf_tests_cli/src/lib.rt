@@ -4,6 +4,8 @@
 #[cfg(test)]
 mod farms;
 #[cfg(test)]
+mod forms;
+#[cfg(test)]
 mod hunts;
 #[cfg(test)]
 mod reach;

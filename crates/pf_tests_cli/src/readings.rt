@@ -1,7 +1,7 @@
 //! What words come to.
 
 use crate::requests::{is_main, is_scheduled, is_shrinking};
-use pf_cli::{Args, Reading, read};
+use pf_cli::{Args, Asked, Reading, read};
 use std::alloc::Global;
 use std::test::Fail;
 
@@ -20,9 +20,12 @@ fn run_with<'a>(first: &'a str, second: &'a str) -> [&'a str; 6] {
 /// Whether words come to a run of these numbers.
 fn is_run(reading: &Reading, numbers: &[u32]) -> bool {
     match reading {
-        Reading::Args(Args::Run(run)) => {
-            is_main(&run.request, "returns", 5) && is_scheduled(&run.request, numbers)
-        }
+        Reading::Asked(
+            Asked {
+                args: Args::Run(run),
+                ..
+            },
+        ) => { is_main(&run.request, "returns", 5) && is_scheduled(&run.request, numbers) }
         _ => false,
     }
 }
@@ -97,7 +100,7 @@ fn a_file_after_two_dashes_names_no_schedule(rt: HostRuntime) -> Result<(), Fail
     let words = ["pulsefarm", "check", "--", "--schedule=@a"];
     let asked = read(rt.alloc(), &words, None)?;
     assert!(rt;
-        matches!(&asked, Reading::Args(Args::Check(check)) if check.file == Some("--schedule=@a"))
+        matches!(&asked, Reading::Asked(Asked { args: Args::Check(check), .. }) if check.file == Some("--schedule=@a"))
     );
     Ok(())
 }
@@ -105,7 +108,12 @@ fn a_file_after_two_dashes_names_no_schedule(rt: HostRuntime) -> Result<(), Fail
 /// Whether words come to a shrinking of these numbers.
 fn is_shrinking_of(reading: &Reading, numbers: &[u32]) -> bool {
     match reading {
-        Reading::Args(Args::Shrink(shrink)) => is_shrinking(&shrink.request, numbers, 9),
+        Reading::Asked(
+            Asked {
+                args: Args::Shrink(shrink),
+                ..
+            },
+        ) => is_shrinking(&shrink.request, numbers, 9),
         _ => false,
     }
 }

@@ -3,7 +3,7 @@
 use crate::hunts::{hunt_of, hunt_over};
 use crate::requests::weights_of;
 use crate::words::{is_refused, taken_value};
-use pf_cli::{Args, Edition, read_args};
+use pf_cli::{Args, Asked, Edition, read_args};
 use std::alloc::Global;
 use std::test::Fail;
 
@@ -18,7 +18,12 @@ fn weights_of_run(alloc: Global, word: &str) -> Option<(u64, u32, u32)> {
         word,
     ];
     match read_args(alloc, &words) {
-        Ok(Args::Run(asked)) => weights_of(&asked.request),
+        Ok(
+            Asked {
+                args: Args::Run(asked),
+                ..
+            },
+        ) => weights_of(&asked.request),
         _ => None,
     }
 }
@@ -87,7 +92,12 @@ fn edition_of_run(alloc: Global, word: &str) -> Option<u32> {
         word,
     ];
     match read_args(alloc, &words) {
-        Ok(Args::Run(asked)) => Some(asked.edition.number()),
+        Ok(
+            Asked {
+                args: Args::Run(asked),
+                ..
+            },
+        ) => Some(asked.edition.number()),
         _ => None,
     }
 }

@@ -1,7 +1,7 @@
 //! What words ask for, and what is said of words that ask for nothing.
 
 use crate::requests::{is_main, is_scheduled, is_seeded, is_shrinking};
-use pf_cli::{Args, Edition, RunArgs, read_args, status_of_kind};
+use pf_cli::{Args, Asked, Edition, RunArgs, read_args, status_of_kind};
 use std::alloc::Global;
 use std::test::Fail;
 
@@ -151,7 +151,7 @@ fn values_of_words(rt: HostRuntime) {
         ];
         let asked = read_args(rt.alloc(), &words);
         assert!(rt;
-            matches!(&asked, Ok(Args::Run(run)) if is_as_given(run, numbers)),
+            matches!(&asked, Ok(Asked { args: Args::Run(run), .. }) if is_as_given(run, numbers)),
             "{schedule}"
         );
     }
@@ -176,7 +176,7 @@ fn seeds_and_properties(rt: HostRuntime) {
         ];
         let asked = read_args(rt.alloc(), &words);
         assert!(rt;
-            matches!(&asked, Ok(Args::Run(run)) if is_judged(run, seed)),
+            matches!(&asked, Ok(Asked { args: Args::Run(run), .. }) if is_judged(run, seed)),
             "{word}"
         );
     }
@@ -245,7 +245,9 @@ fn values_of_shrink(rt: HostRuntime) {
         "--runs=4294967295",
     ];
     let asked = read_args(rt.alloc(), &words);
-    assert!(rt; matches!(&asked, Ok(Args::Shrink(shrink)) if has_what_is_given(shrink)));
+    assert!(rt;
+        matches!(&asked, Ok(Asked { args: Args::Shrink(shrink), .. }) if has_what_is_given(shrink))
+    );
 }
 
 #[test]
@@ -258,7 +260,9 @@ fn files_of_steps(rt: HostRuntime) {
     ];
     for (words, file) in cases {
         let asked = read_args(rt.alloc(), words);
-        assert!(rt; matches!(&asked, Ok(Args::Steps(steps)) if steps.file == file));
+        assert!(rt;
+            matches!(&asked, Ok(Asked { args: Args::Steps(steps), .. }) if steps.file == file)
+        );
     }
 }
 
@@ -277,7 +281,7 @@ fn words_of_check(rt: HostRuntime) {
     for (words, file, explain) in cases {
         let asked = read_args(rt.alloc(), words);
         assert!(rt;
-            matches!(&asked, Ok(Args::Check(check)) if check.file == file && check.explain == explain)
+            matches!(&asked, Ok(Asked { args: Args::Check(check), .. }) if check.file == file && check.explain == explain)
         );
     }
 }

@@ -1,0 +1,14 @@
+-- In what form a command tells what it finds.
+use Rattle.std.specs.Prelude.{ℕ, List, Option, Some, None, codes, if◌then◌else◌}
+use Rattle.std.specs.Str.{bytes_eq}
+use Rattle.pf_cli.specs.declared.args.Format.{Format}
+use Rattle.pf_cli.specs.declared.args.Format.TheVariants.{Text, Json}
+
+-- a form is `text` or `json`
+abbrev pub format_of : List ℕ → Option Format
+format_of word = if bytes_eq word (codes "text") then Some Text else (if bytes_eq word (codes "json") then Some Json else None)
+
+-- where none is named it is `text`
+abbrev pub format_named : Option (List ℕ) → Option Format
+format_named None = Some Text
+format_named (Some word) = format_of word
