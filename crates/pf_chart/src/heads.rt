@@ -60,13 +60,7 @@ fn put_head(
 }
 
 /// Puts all heads of a process, above the rows, between them and below.
-fn put_heads(
-    svg: &mut Svg,
-    pid: u32,
-    origin: Origin,
-    sheet: Sheet,
-    x: u64,
-) -> Result<(), NoMemory>
+fn put_heads(svg: &mut Svg, pid: u32, origin: Origin, sheet: Sheet, x: u64) -> Result<(), NoMemory>
     ensures { OnOk result (Draws
         (copies (head_rows sheet.entry.count) (labels_of_origin origin.entry)) svg.old svg.new) }
 {

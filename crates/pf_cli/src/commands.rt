@@ -272,7 +272,7 @@ pub(crate) fn run_command<'a>(alloc: Global) -> Result<Command<'a>, AllocError>
     ensures local { IfOk result (λ c. (out-Command c).has_globals ≡ false) }
 {
     let about = "Runs a module by a seed or a schedule and reports each turn and delivery";
-    let explain = "Explains the report too";
+    let explain = "Says on standard error how each process stands when the run is over";
     let run = one_run(alloc, "run", about, RUN_USAGE, true)?
         .arg(format(alloc))?
         .arg(flag(alloc, "explain", explain))?;
