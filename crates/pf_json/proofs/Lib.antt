@@ -1,0 +1,4 @@
+pub mod Behind
+pub mod Pieces
+pub mod Starts
+pub mod Tokens

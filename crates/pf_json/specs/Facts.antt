@@ -1,0 +1,118 @@
+-- The facts that a line of text tells, and the parts of the shapes that lines have.
+use Rattle.std.specs.Prelude.{ℕ, ◌+◌, ◌^◌, ◌==◌, nat_eq, nat_lt, nat_le, Bool, true, false, not, ◌&&◌, if◌then◌else◌, List, [], ◌∷◌, length, take, drop, Option, Some, None, option_map, option_and_then, unwrap_or}
+use Rattle.std.specs.List.{prefix_len, starts_with}
+use Rattle.pf_tokens.specs.Bytes.{is_digit}
+use Rattle.pf_text.specs.Numbers.{is_numeral, long_number_of}
+
+-- a value is a number, a text, or whether something is so
+pub data Value : Type 0 where
+  number : ℕ → Value
+  text : List ℕ → Value
+  truth : Bool → Value
+
+-- a fact has a key and a value
+pub record Fact : Type 0 where
+  pub key : List ℕ
+  pub value : Value
+
+abbrev pub fact : List ℕ → Value → Fact
+fact key value = record { key = key; value = value }
+
+-- ---- the values of texts
+
+abbrev pub value_by : Option ℕ → List ℕ → Value
+value_by None t = text t
+value_by (Some n) t = if nat_lt n (2 ^ 53) then number n else text t
+
+-- digits without a zero before others are a number, if it is below 9,007,199,254,740,992; else a text is itself
+abbrev pub value_of : List ℕ → Value
+value_of t = value_by (long_number_of t) t
+
+abbrev pub is_no_blank : ℕ → Bool
+is_no_blank b = not (b == 32)
+
+abbrev pub said_by : (t : List ℕ) → (n : ℕ) → Fact
+said_by t n = if n == length t then fact t (truth true) else fact (take n t) (value_of (drop (n + 1) t))
+
+-- `WORD REST` tells REST of WORD, and a word alone that it is so
+abbrev pub said : List ℕ → Fact
+said t = said_by t (prefix_len is_no_blank t)
+
+-- ---- shapes
+
+-- a shape is made of parts, which stand behind one another and reach to the line's end
+pub data Part : Type 0 where
+  -- these words
+  words : List ℕ → Part
+  -- these words, or nothing
+  maybe : List ℕ → Part
+  -- a number, told under a key
+  count : (key : List ℕ) → Part
+  -- what stands before the next blank, or the end
+  word : (key : List ℕ) → Part
+  -- the code of a refusal: a capital letter and a number
+  code : (key : List ℕ) → Part
+  -- all the rest, as a text
+  rest : (key : List ℕ) → Part
+  -- all the rest, as a word tells it that stands alone or in front of the others
+  says : Part
+  -- nothing, and yet this is told
+  tells : Fact → Part
+
+-- what follows words at the front of a text
+abbrev pub after : (front t : List ℕ) → Option (List ℕ)
+after front t = if starts_with nat_eq t front then Some (drop (length front) t) else None
+
+-- what follows the first n bytes, of which a fact is told if they are right
+abbrev pub told_if : Bool → Value → (key t : List ℕ) → (n : ℕ) → Option (List ℕ × Option Fact)
+told_if true value key t n = Some (drop n t, Some (fact key value))
+told_if false value key t n = None
+
+abbrev pub is_capital : ℕ → Bool
+is_capital b = nat_le 65 b && nat_le b 90
+
+abbrev pub is_code : List ℕ → Bool
+is_code [] = false
+is_code (b ∷ bs) = is_capital b && is_numeral bs
+
+abbrev pub counted : (key t : List ℕ) → (n : ℕ) → Option (List ℕ × Option Fact)
+counted key t n = told_if (is_numeral (take n t)) (value_of (take n t)) key t n
+
+abbrev pub worded : (key t : List ℕ) → (n : ℕ) → Option (List ℕ × Option Fact)
+worded key t n = told_if (nat_lt 0 n) (text (take n t)) key t n
+
+abbrev pub coded : (key t : List ℕ) → (n : ℕ) → Option (List ℕ × Option Fact)
+coded key t n = told_if (is_code (take n t)) (text (take n t)) key t n
+
+-- what follows a part at the front of a text, and what the part tells; nothing if it doesn't stand there
+abbrev pub step : Part → List ℕ → Option (List ℕ × Option Fact)
+step (words w) t = option_map (λ behind. (behind, None)) (after w t)
+step (maybe w) t = Some (unwrap_or (after w t) t, None)
+step (count key) t = counted key t (prefix_len is_digit t)
+step (word key) t = worded key t (prefix_len is_no_blank t)
+step (code key) t = coded key t (1 + prefix_len is_digit (drop 1 t))
+step (rest key) t = Some ([], Some (fact key (text t)))
+step says t = Some ([], Some (said t))
+step (tells f) t = Some (t, Some f)
+
+abbrev pub with_fact : Option Fact → List Fact → List Fact
+with_fact None fs = fs
+with_fact (Some f) fs = f ∷ fs
+
+abbrev pub none_at_end : List ℕ → Option (List Fact)
+none_at_end [] = Some []
+none_at_end (b ∷ bs) = None
+
+-- the facts of a line that has this shape
+abbrev pub facts_by : List Part → List ℕ → Option (List Fact)
+facts_by [] t = none_at_end t
+facts_by (p ∷ ps) t = option_and_then (λ s. option_map (with_fact s.1) (facts_by ps s.0)) (step p t)
+
+abbrev pub or_else : {T : Type 0} → Option T → Option T → Option T
+or_else None other = other
+or_else (Some x) other = Some x
+
+-- the facts of a line by the first of these shapes that it has
+unfoldable pub facts_by_first : List (List Part) → List ℕ → Option (List Fact)
+facts_by_first [] t = None
+facts_by_first (s ∷ ss) t = or_else (facts_by s t) (facts_by_first ss t)

@@ -1,0 +1,44 @@
+-- The lines of a hunt over several files or roots: a name, and behind `: ` what is told of it.
+use Rattle.std.specs.Prelude.{ℕ, suc, ◌+◌, ◌-◌, ◌==◌, nat_eq, Bool, ◌&&◌, nat_lt, get_or, if◌then◌else◌, List, [], ◌∷◌, ◌++◌, length, take, drop, codes, Option, Some, None, option_map, option_and_then}
+use Rattle.std.specs.List.{starts_with}
+use Rattle.pf_json.specs.Facts.{Fact, fact, text, facts_by_first, or_else}
+use Rattle.pf_json.specs.Shapes.{file_shapes, root_shapes}
+
+abbrev pub start_here : (w t : List ℕ) → Option ℕ
+start_here w t = if starts_with nat_eq t w then Some 0 else None
+
+-- where these words begin last in a text
+abbrev pub last_start : (w t : List ℕ) → Option ℕ
+last_start w [] = None
+last_start w (b ∷ bs) = or_else (option_map (λ n. suc n) (last_start w bs)) (start_here w (b ∷ bs))
+
+-- a root in quotes ends with one
+abbrev pub is_quoted : List ℕ → Bool
+is_quoted name = nat_lt 0 (length name) && get_or name (length name - 1) 0 == 39
+
+-- the blank before a root: the last one, or before a root in quotes the last one that a quote follows which isn't the name's end
+abbrev pub blank_before : List ℕ → Option ℕ
+blank_before name = if is_quoted name then last_start (codes " '") (take (length name - 1) name) else last_start (codes " ") name
+
+abbrev pub of_file : List ℕ → Fact
+of_file name = fact (codes "file") (text name)
+
+-- the file and the root of a name
+abbrev pub of_root : List ℕ → Option (List Fact)
+of_root name = option_map (λ n. of_file (take n name) ∷ fact (codes "root") (text (drop (n + 1) name)) ∷ []) (blank_before name)
+
+abbrev pub both : Option (List Fact) → Option (List Fact) → Option (List Fact)
+both (Some fs) (Some gs) = Some (fs ++ gs)
+both _ _ = None
+
+-- what is told of a root, or of a file
+abbrev pub told_of : (name told : List ℕ) → Option (List Fact)
+told_of name told =
+    or_else (both (of_root name) (facts_by_first root_shapes told)) (both (Some (of_file name ∷ [])) (facts_by_first file_shapes told))
+
+abbrev pub named_at : (line : List ℕ) → (n : ℕ) → Option (List Fact)
+named_at line n = told_of (take n line) (drop (n + 2) line)
+
+-- `a.erl main: seed 0 fails`, `a.erl: E4 at 0`
+abbrev pub named : (line : List ℕ) → Option (List Fact)
+named line = option_and_then (named_at line) (last_start (codes ": ") line)

@@ -1,0 +1,107 @@
+-- The shapes of lines that tell several facts, or one in words of their own.
+use Rattle.std.specs.Prelude.{true, false, List, [], ◌∷◌, codes}
+use Rattle.pf_json.specs.Facts.{Part, fact, number, text, truth, words, maybe, count, word, code, rest, says, tells}
+
+-- ---- lines of a report
+
+-- `0/2 <0> raise badarg`
+abbrev pub event : List Part
+event =
+    count (codes "choice") ∷ words (codes "/") ∷ count (codes "count") ∷ words (codes " ") ∷ word (codes "actor") ∷ words (codes " ")
+    ∷ rest (codes "label") ∷ []
+
+-- `no verdict`, beside `property holds` and `property fails`
+abbrev pub no_verdict : List Part
+no_verdict = words (codes "no verdict") ∷ tells (fact (codes "property") (text (codes "no verdict"))) ∷ []
+
+-- `schedule 0,2,1`: always a text
+abbrev pub schedule : List Part
+schedule = words (codes "schedule ") ∷ rest (codes "schedule") ∷ []
+
+-- ---- lines of a hunt
+
+-- `no failure in 200 seeds`
+abbrev pub no_failure : List Part
+no_failure = tells (fact (codes "failure") (truth false)) ∷ words (codes "no failure in ") ∷ count (codes "seeds") ∷ words (codes " seeds") ∷ []
+
+-- `stopped behind 512 seeds`
+abbrev pub stopped : List Part
+stopped = tells (fact (codes "stopped") (truth true)) ∷ words (codes "stopped behind ") ∷ count (codes "seeds") ∷ words (codes " seeds") ∷ []
+
+-- by how many seeds an outcome is met, the least of them, and the outcome
+abbrev pub by_seeds : List Part
+by_seeds = count (codes "seeds") ∷ words (codes " seeds, least ") ∷ count (codes "least") ∷ words (codes ": ") ∷ says ∷ []
+
+-- `holds 3 seeds, least 0: finished ok`
+abbrev pub row_holds : List Part
+row_holds = tells (fact (codes "property") (text (codes "holds"))) ∷ words (codes "holds ") ∷ by_seeds
+
+-- `fails 2 seeds, least 1: deadlock <0>`
+abbrev pub row_fails : List Part
+row_fails = tells (fact (codes "property") (text (codes "fails"))) ∷ words (codes "fails ") ∷ by_seeds
+
+-- `no verdict 1 seeds, least 7: memory`
+abbrev pub row_without : List Part
+row_without = tells (fact (codes "property") (text (codes "no verdict"))) ∷ words (codes "no verdict ") ∷ by_seeds
+
+-- `2 files, 3 roots: 1 fails, 0 refused`
+abbrev pub summary : List Part
+summary =
+    count (codes "files") ∷ words (codes " file") ∷ maybe (codes "s") ∷ words (codes ", ") ∷ count (codes "roots") ∷ words (codes " root")
+    ∷ maybe (codes "s") ∷ words (codes ": ") ∷ count (codes "fail") ∷ words (codes " fail") ∷ maybe (codes "s") ∷ words (codes ", ")
+    ∷ count (codes "refused") ∷ words (codes " refused") ∷ []
+
+-- ---- refusals
+
+-- `B2`
+abbrev pub refusal : List Part
+refusal = code (codes "refusal") ∷ []
+
+-- `E6 at 41`
+abbrev pub refusal_at : List Part
+refusal_at = code (codes "refusal") ∷ words (codes " at ") ∷ count (codes "at") ∷ []
+
+-- `line 3, column 11`
+abbrev pub position : List Part
+position = words (codes "line ") ∷ count (codes "line") ∷ words (codes ", column ") ∷ count (codes "column") ∷ []
+
+-- `  instead of  X and Y`
+abbrev pub instead : List Part
+instead = words (codes "  instead of  ") ∷ rest (codes "instead") ∷ []
+
+-- `  write       X andalso Y`
+abbrev pub write : List Part
+write = words (codes "  write       ") ∷ rest (codes "write") ∷ []
+
+-- an empty line
+abbrev pub blank : List Part
+blank = tells (fact (codes "blank") (truth true)) ∷ []
+
+abbrev pub shapes : List (List Part)
+shapes =
+    event ∷ no_verdict ∷ schedule ∷ no_failure ∷ stopped ∷ row_holds ∷ row_fails ∷ row_without ∷ summary ∷ refusal ∷ refusal_at ∷ position ∷ instead
+    ∷ write ∷ blank ∷ []
+
+-- ---- what is told behind a name, in a hunt over several files or roots
+
+-- `seed 0 fails`
+abbrev pub seed_fails : List Part
+seed_fails = tells (fact (codes "failure") (truth true)) ∷ words (codes "seed ") ∷ count (codes "seed") ∷ words (codes " fails") ∷ []
+
+-- `stopped behind 512 seeds, no failure`
+abbrev pub stopped_well : List Part
+stopped_well =
+    tells (fact (codes "stopped") (truth true)) ∷ tells (fact (codes "failure") (truth false)) ∷ words (codes "stopped behind ")
+    ∷ count (codes "seeds") ∷ words (codes " seeds, no failure") ∷ []
+
+-- `no exported function without arguments`
+abbrev pub rootless : List Part
+rootless = words (codes "no exported function without arguments") ∷ tells (fact (codes "roots") (number 0)) ∷ []
+
+-- what is told of a root
+abbrev pub root_shapes : List (List Part)
+root_shapes = seed_fails ∷ no_failure ∷ stopped_well ∷ refusal ∷ []
+
+-- what is told of a file
+abbrev pub file_shapes : List (List Part)
+file_shapes = refusal_at ∷ rootless ∷ []

@@ -1,0 +1,15 @@
+//! JSON objects in place of the lines of a text.
+#![tactic(auto)]
+
+mod facts;
+mod laws;
+mod lines;
+mod names;
+mod objects;
+mod parts;
+mod place;
+mod shapes;
+
+pub use laws::in_pieces;
+pub use lines::JsonLines;
+pub use place::Place;

@@ -1,0 +1,140 @@
+//! The lines of a hunt over several files or roots.
+
+ghost use Rattle.std.specs.Prelude.{◌≡◌, ◌<◌, ◌≤◌, ◌+◌, ◌∷◌, ◌++◌, [], IfOk, IfSome, Some, length, option_map};
+ghost use Rattle.pf_json.specs.Facts.{facts_by_first};
+ghost use Rattle.pf_json.specs.Names.{blank_before, both, is_quoted, last_start, named, of_file, of_root, told_of};
+ghost use Rattle.pf_json.specs.Shapes.{file_shapes, root_shapes};
+ghost use Rattle.pf_json.specs.Views.{view_of_fact, views_of};
+
+use crate::facts::{Fact, Value};
+use crate::parts::facts_by_first;
+use crate::shapes::{FILE_SHAPES, ROOT_SHAPES};
+use std::alloc::{AllocError, Global};
+
+/// Where these words begin last in a text.
+fn last_start(words: &[u8], text: &[u8]) -> Option<usize>
+    ensures is { result ≡ last_start words.now text.now }
+    ensures within { IfSome result (λ n. n + length words.now ≤ length text.now) }
+{
+    let mut start = text.len();
+    while start > 0 {
+        start -= 1;
+        if text[start..].starts_with(words) {
+            return Some(start);
+        }
+    }
+    None
+}
+
+/// Whether a name ends with a quote.
+fn is_quoted(name: &[u8]) -> bool
+    ensures { result ≡ is_quoted name.now }
+{
+    matches!(name.last(), Some(b'\''))
+}
+
+/// Where the blank stands that is before the root of a name.
+fn blank_before(name: &[u8]) -> Option<usize>
+    ensures is { result ≡ blank_before name.now }
+    ensures within { IfSome result (λ n. n < length name.now) }
+{
+    if is_quoted(name) {
+        last_start(b" '", &name[..name.len() - 1])
+    } else {
+        last_start(b" ", name)
+    }
+}
+
+/// The file of a name.
+fn of_file(name: &[u8]) -> Fact<'_>
+    ensures { view_of_fact result ≡ of_file name.now }
+{
+    Fact {
+        key: b"file",
+        value: Value::Text(name),
+    }
+}
+
+/// The file and the root of a name.
+fn of_root(name: &[u8]) -> Option<(Fact<'_>, Fact<'_>)>
+    ensures { option_map (λ p. view_of_fact p.0 ∷ view_of_fact p.1 ∷ []) result ≡ of_root name.now }
+{
+    let blank = blank_before(name)?;
+    let root = Fact {
+        key: b"root",
+        value: Value::Text(&name[blank + 1..]),
+    };
+    Some((of_file(&name[..blank]), root))
+}
+
+/// These facts, and behind them those.
+fn joined<'a>(
+    alloc: Global,
+    front: &[Fact<'a>],
+    back: &[Fact<'a>],
+) -> Result<Vec<Fact<'a>>, AllocError>
+    ensures { IfOk result (λ v. views_of v.items ≡ views_of front.now ++ views_of back.now) }
+{
+    let mut facts = Vec::from_slice(alloc, front)?;
+    facts.extend_from_slice(back)?;
+    Ok(facts)
+}
+
+/// What is told of a root.
+fn told_of_root<'a>(
+    alloc: Global,
+    name: &'a [u8],
+    told: &'a [u8],
+) -> Result<Option<Vec<Fact<'a>>>, AllocError>
+    ensures { IfOk result (λ fs. option_map (λ v. views_of v.items) fs
+        ≡ both (of_root name.entry.now) (facts_by_first root_shapes told.entry.now)) }
+{
+    let Some((file, root)) = of_root(name) else {
+        return Ok(None);
+    };
+    let Some(back) = facts_by_first(alloc, &ROOT_SHAPES, told)? else {
+        return Ok(None);
+    };
+    let facts = joined(alloc, &[file, root], &back)?;
+    Ok(Some(facts))
+}
+
+/// What is told of a file.
+fn told_of_file<'a>(
+    alloc: Global,
+    name: &'a [u8],
+    told: &'a [u8],
+) -> Result<Option<Vec<Fact<'a>>>, AllocError>
+    ensures { IfOk result (λ fs. option_map (λ v. views_of v.items) fs
+        ≡ both (Some (of_file name.entry.now ∷ [])) (facts_by_first file_shapes told.entry.now)) }
+{
+    let Some(back) = facts_by_first(alloc, &FILE_SHAPES, told)? else {
+        return Ok(None);
+    };
+    let facts = joined(alloc, &[of_file(name)], &back)?;
+    Ok(Some(facts))
+}
+
+/// What is told of a root or a file.
+fn told_of<'a>(
+    alloc: Global,
+    name: &'a [u8],
+    told: &'a [u8],
+) -> Result<Option<Vec<Fact<'a>>>, AllocError>
+    ensures { IfOk result (λ fs. option_map (λ v. views_of v.items) fs ≡ told_of name.entry.now told.entry.now) }
+{
+    match told_of_root(alloc, name, told)? {
+        Some(facts) => Ok(Some(facts)),
+        None => told_of_file(alloc, name, told),
+    }
+}
+
+/// What a line tells of the name that it begins with.
+pub(crate) fn named(alloc: Global, line: &[u8]) -> Result<Option<Vec<Fact<'_>>>, AllocError>
+    ensures { IfOk result (λ fs. option_map (λ v. views_of v.items) fs ≡ named line.now) }
+{
+    let Some(end) = last_start(b": ", line) else {
+        return Ok(None);
+    };
+    told_of(alloc, &line[..end], &line[end + 2..])
+}
