@@ -1,5 +1,5 @@
 -- What is told of charts, for texts and statuses that are equal to theirs.
-use Rattle.std.proofs.Common.{◌≡◌, ◌<◌, ℕ, zero, List, arith, subst}
+use Rattle.std.proofs.Common.{◌≡◌, ◌<◌, ℕ, zero, List, arith}
 use Rattle.pf_fault.specs.Codes.{code_text}
 use Rattle.pf_fault.specs.declared.code.Code.TheVariants as code
 use Rattle.pf_model.specs.Meaning as meaning
@@ -8,13 +8,8 @@ use Rattle.pf_model.specs.Shrinking.{Found, IsResult, by_schedule, report, shrun
 use Rattle.pf_request.specs.Job.{Job}
 use Rattle.pf_chart.specs.declared.manner.Manner.{Manner}
 use Rattle.pf_command.specs.Answers.{Refuses}
-use Rattle.pf_command.specs.Charts.{Draws, DrawsMeaning, DrawsRun, run_drawn, found_drawn, none_drawn}
+use Rattle.pf_command.specs.Charts.{Draws, DrawsMeaning, run_drawn, found_drawn, none_drawn}
 use Rattle.pf_command.specs.declared.answer.Answer.{Answer}
-
--- what draws the run that a job means
-pub draws_meaning : (j : meaning.Job) (root : List ℕ) (m : Manner) (atoms : List (List ℕ)) (r : Report) (a : Answer) → Means j r → atoms ≡ j.code.atoms
-    → DrawsRun atoms root m r a → DrawsMeaning j root m a
-draws_meaning j root m atoms r a means same drawn = (r, means, subst (λ l. DrawsRun l root m r a) same drawn)
 
 -- a shrinking comes to no report alone
 pub no_report : (j : meaning.Job) (r : Report) → 0 < j.runs → IsResult j (report r) → ⊥
@@ -26,12 +21,12 @@ found_again j _ _ s (smaller k ns fails f r runs choices tells is means) again =
 
 module _ (root : List ℕ) (m : Manner) (j : Job) (a : Answer) where
   pub draws_one_run : j.asked.runs ≡ zero → DrawsMeaning j.asked root m a → Draws root m j a.text.items a.status
-  draws_one_run one (r, means, drawn) = rw drawn.1 (run_drawn r a.text.items (plain r one means) drawn.0)
+  draws_one_run one (r, means, drawn) = rw drawn.2 (run_drawn r drawn.0 a.text.items (plain r one means) drawn.1)
 
   -- the run by the schedule that was found is the one of the result
   pub draws_found : (f : Found) (r : Report) → IsResult j.asked (shrunk_to f r) → DrawsMeaning (by_schedule j.asked f.schedule) root m a
       → Draws root m j a.text.items a.status
-  draws_found f r is (s, means, drawn) = rw drawn.1 (found_drawn f s a.text.items (found_again j.asked f r s is means) drawn.0)
+  draws_found f r is (s, means, drawn) = rw drawn.2 (found_drawn f s drawn.0 a.text.items (found_again j.asked f r s is means) drawn.1)
 
   pub draws_none : IsResult j.asked nothing_fails → Refuses a (code_text code.NothingFails) → Draws root m j a.text.items a.status
   draws_none is told = rw (told.0, told.1) (none_drawn is)

@@ -15,28 +15,51 @@ use crate::serving::Answering;
 use pf_chart::{Manner, put_chart};
 use pf_cli::{ChartArgs, Edition};
 use pf_fault::{Code, NoMemory, OrNoMemory};
-use pf_model::report::Report;
+use pf_model::report::{Event, Report};
 use pf_module::ReadModule;
 use pf_request::Request;
 use pf_sched::{
     Finished, Job, JobResult, Scratch, Silent, report_by_schedule, report_of_run, run_to_end,
 };
-use pf_terms::AtomTable;
+use pf_standings::{KnownRun, names};
 use std::alloc::Global;
 use std::sync::Arc;
 
-/// The chart of a run, with the status of its verdict.
+/// The names of the functions in whose calls the processes of a run began, by pid, as far as they are known.
+fn names_of(
+    alloc: Global,
+    job: &Job,
+    root: &[u8],
+    events: &[Event],
+) -> Result<Vec<Vec<u8>>, NoMemory> {
+    let module = job.module();
+    let Some(root) = module.root(root) else {
+        return Ok(Vec::new(alloc));
+    };
+    let run = KnownRun {
+        module,
+        root,
+        edition: job.edition(),
+        limit: job.limit(),
+        events,
+    };
+    names(alloc, &run)
+}
+
+/// The chart of a run of a job, with the status of its verdict.
 fn draw_run(
     alloc: Global,
-    atoms: &AtomTable,
+    job: &Job,
     root: &[u8],
     manner: Manner,
     run: &Report,
 ) -> Result<Answer, NoMemory>
-    ensures { IfOk result (DrawsRun atoms.now root.now manner (report_of run.now)) }
+    ensures { IfOk result (DrawsRun job.now.asked.code.atoms root.now manner (report_of run.now)) }
 {
+    let names = names_of(alloc, job, root, run.events.as_slice())?;
     let mut text = Vec::new(alloc);
-    put_chart(alloc, &mut text, atoms, root, run, manner)?;
+    let atoms = job.module().atoms();
+    put_chart(alloc, &mut text, atoms, root, names.as_slice(), run, manner)?;
     let status = run_status(run.verdict);
     Ok(Answer { text, status })
 }
@@ -47,7 +70,7 @@ fn draw_one_run(alloc: Global, root: &[u8], manner: Manner, job: &Job) -> Result
     ensures { IfOk result (DrawsMeaning job.now.asked root.now manner) }
 {
     let run = report_of_run(alloc, job, &mut Scratch::new(alloc))?;
-    draw_run(alloc, job.module().atoms(), root, manner, &run)
+    draw_run(alloc, job, root, manner, &run)
 }
 
 /// The chart of a job's run by this schedule, which is made with its events: what is filed has none.
@@ -61,7 +84,7 @@ fn draw_by_schedule(
     ensures { IfOk result (DrawsMeaning (by_schedule job.now.asked schedule.now) root.now manner) }
 {
     let run = report_by_schedule(alloc, job, schedule, &mut Scratch::new(alloc))?;
-    draw_run(alloc, job.module().atoms(), root, manner, &run)
+    draw_run(alloc, job, root, manner, &run)
 }
 
 /// The chart of what a shrinking came to: of the run by the schedule that it found. If the given schedule doesn't fail, that is refused.
