@@ -3,7 +3,7 @@
 ghost use Rattle.pf_model.specs.Limits.{IsEdition};
 
 use crate::ends::{failed_in, raised_in};
-use crate::follow::{chosen, go};
+use crate::follow::{chosen, go, point_of};
 use crate::known::KnownRun;
 use pf_model::report::{Actor, Label};
 use pf_stepper::Point;
@@ -24,7 +24,7 @@ fn last_point(
         let Some(Actor::Process(pid)) = chosen(system, choice) else {
             return Ok(last);
         };
-        last = system.point(pid);
+        last = point_of(system, pid);
         let steps = system.steps();
         if steps >= limit {
             return Ok(last);

@@ -46,9 +46,15 @@ pub(crate) fn go(
     }
 }
 
+/// Where a process stands; none where it has ended.
+pub(crate) fn point_of(system: &System, pid: u32) -> Option<Point> {
+    let (_module, point) = system.point(pid)?;
+    Some(point)
+}
+
 /// The function in whose call a process stands that only begins.
 fn called(system: &System, pid: u32) -> Option<FunctionId> {
-    match system.point(pid) {
+    match point_of(system, pid) {
         Some(Point::Calls(function)) => Some(function),
         _ => None,
     }

@@ -6,10 +6,10 @@ mod failures;
 mod follow;
 mod known;
 mod lines;
+mod processes;
 mod standing;
-mod standings;
 
 pub use known::KnownRun;
 pub use lines::{put_function, put_standing};
+pub use processes::{names, standings};
 pub use standing::{Fate, Standing};
-pub use standings::{names, standings};

@@ -4,7 +4,7 @@ ghost use Rattle.pf_model.specs.Limits.{IsEdition};
 
 use crate::ends::{End, Ended, ended_in};
 use crate::failures::{Failure, failures};
-use crate::follow::{Followed, follow};
+use crate::follow::{Followed, follow, point_of};
 use crate::known::KnownRun;
 use crate::lines::put_function;
 use crate::standing::{Fate, Standing};
@@ -15,7 +15,7 @@ use std::alloc::Global;
 
 /// How a process stands that hasn't ended.
 fn fate_in(system: &System, pid: u32) -> Fate {
-    let point = system.point(pid).unwrap_or(Point::Nowhere);
+    let point = point_of(system, pid).unwrap_or(Point::Nowhere);
     let enabled = system.enabled();
     if enabled.pids().contains(&pid) {
         Fate::Goes(point)
