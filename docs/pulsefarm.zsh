@@ -22,7 +22,7 @@ _pulsefarm_properties() {
 }
 
 _pulsefarm() {
-  local -a commands job weights strategy schedule
+  local -a commands job weights strategy schedule format
   commands=(run hunt shrink chart check steps farm)
   job=(
     '--root[function that runs first]:function:_pulsefarm_roots'
@@ -32,6 +32,7 @@ _pulsefarm() {
   )
   weights='--weights[weights of a process and of a channel]:R\:D: '
   strategy='--strategy[how a seed chooses]:strategy:(pos uniform)'
+  format='--format[lines of text or JSON]:format:(text json)'
   schedule="--schedule[scheduler's numbers]:schedule:_pulsefarm_schedules"
   if ((CURRENT == 2)); then
     compadd $commands help
@@ -47,17 +48,17 @@ _pulsefarm() {
   ((CURRENT--))
   local -a own
   case $command in
-    run) own=($job '--seed[seed]:seed: ' $weights $strategy $schedule) ;;
+    run) own=($job '--seed[seed]:seed: ' $weights $strategy $schedule $format '--explain[explain the report]') ;;
     chart)
       own=($job '--seed[seed]:seed: ' $weights $strategy $schedule '--compact[join send and receive]' '--page[page of 500 rows]:page: ')
       ;;
     hunt)
       own=($job '--seeds[seeds A..B]:seeds: ' '--for[time after which it stops]:time: ' $weights $strategy '--workers[threads]:threads: ' '--all[tell each outcome]'
         '--shrink[shrink within N runs]:runs: ' '--all-roots[hunt every root]' '--fail-fast[end behind the first root that fails]'
-        '--leaks[waiting processes fail too]')
+        '--leaks[waiting processes fail too]' $format)
       ;;
-    shrink) own=($job $schedule '--runs[most runs]:runs: ') ;;
-    check) own=('--explain[tell how to mend a refusal]') ;;
+    shrink) own=($job $schedule '--runs[most runs]:runs: ' $format) ;;
+    check) own=('--explain[tell how to mend a refusal]' $format) ;;
     farm) own=('--workers[threads]:threads: ' '--summary[tell what each worker did]') ;;
   esac
   _arguments $own '(-h --help)'{-h,--help}'[print help]' '*:file:_files'

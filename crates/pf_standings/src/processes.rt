@@ -50,14 +50,18 @@ fn put_fate(standings: &mut Vec<Standing>, pid: u32, fate: Fate) {
 fn put_ends(standings: &mut Vec<Standing>, run: &KnownRun) {
     for event in run.events {
         match ended_in(event) {
-            Some(Ended {
-                pid,
-                end: End::Normal,
-            }) => put_fate(standings, pid, Fate::Normal),
-            Some(Ended {
-                pid,
-                end: End::Killed(from),
-            }) => put_fate(standings, pid, Fate::Killed(from)),
+            Some(
+                Ended {
+                    pid,
+                    end: End::Normal,
+                },
+            ) => put_fate(standings, pid, Fate::Normal),
+            Some(
+                Ended {
+                    pid,
+                    end: End::Killed(from),
+                },
+            ) => put_fate(standings, pid, Fate::Killed(from)),
             _ => {}
         }
     }

@@ -3,6 +3,7 @@
 
 mod args;
 mod escape;
+mod explain;
 mod farm;
 mod folder;
 mod messages;

@@ -4,6 +4,7 @@ ghost use Rattle.std.specs.Prelude.{false};
 ghost use Rattle.pulsefarm.specs.Unread.{TellsText};
 
 use crate::escape::{Shown, without_tip};
+use pf_cli::Format;
 use pf_fault::NoMemory;
 use pf_terms::{Counted, StreamFault};
 use std::io::{self, Write};
@@ -27,6 +28,16 @@ pub fn say(rt: &impl Eprint, text: &str) {
 /// Says that memory ran out.
 pub fn no_memory(rt: &(impl Print + Eprint)) -> u8 {
     let _printed = println!(rt; "{NoMemory}");
+    say(rt, "memory ran out");
+    REFUSED
+}
+
+/// The same, in the form that is asked for.
+pub fn no_memory_in(rt: &(impl Print + Eprint), format: Format) -> u8 {
+    if matches!(format, Format::Text) {
+        return no_memory(rt);
+    }
+    let _printed = println!(rt; "{{\"{NoMemory}\":true}}");
     say(rt, "memory ran out");
     REFUSED
 }

@@ -10,7 +10,7 @@ use crate::messages::{REFUSED, failed, no_memory, say, tell};
 use crate::progress::Line;
 use crate::schedule::{contents, contents_of_input, is_schedule, schedule_in};
 use crate::work::work;
-use pf_cli::{Args, Reading, read};
+use pf_cli::{Asked, Reading, read};
 use pf_fault::NoMemory;
 use pf_terms::{Counted, StreamFault};
 use std::alloc::AllocGlobal;
@@ -74,7 +74,7 @@ fn no_schedule(
 /// Does what is asked for, by a schedule that a file has; its status. The standard input is not both the file and the source.
 fn work_by_schedule<R, I: Read, W: Write, L: Ledger, M: Ledger>(
     rt: &R,
-    args: &Args,
+    asked: &Asked,
     file: &str,
     stdin: &mut Counted<I, L>,
     writer: &mut Counted<W, M>,
@@ -85,14 +85,14 @@ where
     R: Files + Print + Eprint + AllocGlobal + RandomSource + Clock + Threads + Wait + Sync,
     R::File: Send + Drop,
 {
-    if file == "-" && args.file().is_none() {
+    if file == "-" && asked.args.file().is_none() {
         say(
             rt,
             "the source and its schedule can't both be the standard input: name a file of one",
         );
         return REFUSED;
     }
-    work(rt, args, stdin, writer, line, host)
+    work(rt, asked, stdin, writer, line, host)
 }
 
 /// Does what words ask for by the schedule in a file.
@@ -118,7 +118,7 @@ where
         return no_schedule(rt, file, &contents);
     }
     match read(rt.alloc(), words, Some(schedule))? {
-        Reading::Args(args) => Ok(work_by_schedule(rt, &args, file, stdin, writer, line, host)),
+        Reading::Asked(asked) => Ok(work_by_schedule(rt, &asked, file, stdin, writer, line, host)),
         Reading::Text {
             text,
             status,
@@ -150,7 +150,7 @@ where
         stdin.new.failures.total writer.new.failures.total) }
 {
     match read(rt.alloc(), words, None)? {
-        Reading::Args(args) => Ok(work(rt, &args, stdin, writer, line, host)),
+        Reading::Asked(asked) => Ok(work(rt, &asked, stdin, writer, line, host)),
         Reading::Text {
             text,
             status,

@@ -3,15 +3,17 @@
 ghost use Rattle.std.specs.Prelude.{◌≡◌, ◌<◌};
 
 use crate::args::open;
+use crate::explain::say_processes;
 use crate::farm::{Host, farm};
-use crate::messages::{REFUSED, failed, no_memory, no_more_memory, say};
+use crate::messages::{REFUSED, failed, no_memory_in, no_more_memory, say};
 use crate::progress::{Line, Runs, Seeds};
 use crate::suite::{hunt_suite, is_suite};
 use crate::waiting::{Waiting, say_waiting};
 use crate::why::{lacking_of, why};
-use pf_cli::{Args, HuntArgs, RunArgs, Sought};
+use pf_cli::{Args, Asked, Format, HuntArgs, RunArgs, Sought};
 use pf_command::{Chart, Check, MOST_BYTES, Shrink, hunt_source, run_source, serve};
 use pf_fault::{NoMemory, OrNoMemory};
+use pf_json::JsonLines;
 use pf_profile::run_steps;
 use pf_reasons::line_reason;
 use pf_terms::{Counted, StreamFault};
@@ -186,7 +188,7 @@ where
 /// The same with the bytes of a source. If it is refused, or what is asked for of it, standard error says why.
 fn answer_bytes<H, W: Write, L: Ledger, M: Ledger>(
     rt: &H,
-    asked: &Args,
+    asked: &Asked,
     source: Vec<u8>,
     writer: &mut Counted<W, M>,
     line: &Line,
@@ -201,15 +203,17 @@ where
     requires some_reads { 0 < reads.parts }
 {
     let mut reader = Counted::<&[u8], L>::new(source.as_slice(), reads);
-    let answered = answer_source(rt, asked, &mut reader, writer, line, host);
+    let args = &asked.args;
+    let answered = answer_source(rt, args, &mut reader, writer, line, host);
     line.clear();
     let status = answered?;
     // The answer went out: nothing more is said where memory runs out now.
     if status != REFUSED {
-        if let Ok(Some(told)) = lacking_of(rt.alloc(), asked, &source) {
+        if let Ok(Some(told)) = lacking_of(rt.alloc(), args, &source) {
             say(rt, &told);
         }
-    } else if let Ok(told) = why(rt.alloc(), asked, &source) {
+        say_processes(rt, asked, &source);
+    } else if let Ok(told) = why(rt.alloc(), args, &source) {
         say(rt, &told);
     }
     Ok(status)
@@ -218,7 +222,7 @@ where
 /// Does what is asked for between a reader and a writer; the line tells how far a hunt or a shrinking came, and is empty at the end.
 fn answer<H, R: Read, W: Write, L: Ledger, M: Ledger>(
     rt: &H,
-    asked: &Args,
+    asked: &Asked,
     reader: &mut Counted<R, L>,
     writer: &mut Counted<W, M>,
     line: &Line,
@@ -228,7 +232,7 @@ where
     H: Files + Print + Eprint + AllocGlobal + RandomSource + Clock + Threads + Wait + Sync,
     H::File: Send + Drop,
 {
-    match asked {
+    match &asked.args {
         Args::Steps(_) => return answer_all_steps(rt, reader, writer),
         Args::Farm(args) => return farm(rt, args, host, writer),
         _ => {}
@@ -240,7 +244,7 @@ where
 /// The same with what a file holds.
 fn answer_file<H, R: Read + Drop, W: Write, L: Ledger, M: Ledger>(
     rt: &H,
-    asked: &Args,
+    asked: &Asked,
     file: R,
     writer: &mut Counted<W, M>,
     line: &Line,
@@ -259,23 +263,23 @@ where
 }
 
 /// The status of a command, and what is said of its end.
-fn end(rt: &(impl Print + Eprint), asked: &Args, file: Option<&str>, answered: Answered) -> u8 {
+fn end(rt: &(impl Print + Eprint), asked: &Asked, file: Option<&str>, answered: Answered) -> u8 {
     match answered {
         Ok(status) => status,
         Err(OrNoMemory::Fault(fault)) if fault.error().kind() != io::ErrorKind::OutOfMemory => {
             failed(rt, file, &fault)
         }
-        Err(_) => match asked {
+        Err(_) => match &asked.args {
             Args::Steps(_) | Args::Farm(_) => no_more_memory(rt),
-            _ => no_memory(rt),
+            _ => no_memory_in(rt, asked.format),
         },
     }
 }
 
 /// Does what is asked for, with the file that is named or with the standard input; its status.
-pub fn work<R, I: Read, W: Write, L: Ledger, M: Ledger>(
+fn work_by<R, I: Read, W: Write, L: Ledger, M: Ledger>(
     rt: &R,
-    asked: &Args,
+    asked: &Asked,
     stdin: &mut Counted<I, L>,
     writer: &mut Counted<W, M>,
     line: &Line,
@@ -285,13 +289,13 @@ where
     R: Files + Print + Eprint + AllocGlobal + RandomSource + Clock + Threads + Wait + Sync,
     R::File: Send + Drop,
 {
-    if let Args::Hunt(args) = asked {
+    if let Args::Hunt(args) = &asked.args {
         if is_suite(rt, args) {
             let answered = hunt_suite(rt, args, stdin, writer, line);
             return end(rt, asked, None, answered);
         }
     }
-    let Some(name) = asked.file() else {
+    let Some(name) = asked.args.file() else {
         let answered = answer(rt, asked, stdin, writer, line, host);
         return end(rt, asked, None, answered);
     };
@@ -310,4 +314,46 @@ where
         Err(error) => Err(OrNoMemory::Fault(StreamFault::Read(error))),
     };
     end(rt, asked, Some(name), answered)
+}
+
+/// The same, with a JSON object in place of each line that goes out.
+fn work_in_json<R, I: Read, W: Write, L: Ledger, M: Ledger>(
+    rt: &R,
+    asked: &Asked,
+    stdin: &mut Counted<I, L>,
+    inner: &mut W,
+    line: &Line,
+    host: Host,
+    writes: Blank,
+) -> u8
+where
+    R: Files + Print + Eprint + AllocGlobal + RandomSource + Clock + Threads + Wait + Sync,
+    R::File: Send + Drop,
+    requires writes { writes.name ≡ M.name }
+    requires write_parts { writes.parts ≡ M.parts }
+    requires some_writes { 0 < writes.parts }
+{
+    let lines = JsonLines::new(rt.alloc(), inner);
+    let mut writer = Counted::<JsonLines<&mut W>, M>::new(lines, writes);
+    work_by(rt, asked, stdin, &mut writer, line, host)
+}
+
+/// Does what is asked for, in the form that is asked for; its status.
+pub fn work<R, I: Read, W: Write, L: Ledger, M: Ledger>(
+    rt: &R,
+    asked: &Asked,
+    stdin: &mut Counted<I, L>,
+    writer: &mut Counted<W, M>,
+    line: &Line,
+    host: Host,
+) -> u8
+where
+    R: Files + Print + Eprint + AllocGlobal + RandomSource + Clock + Threads + Wait + Sync,
+    R::File: Send + Drop,
+{
+    let inner = match asked.format {
+        Format::Text => return work_by(rt, asked, stdin, writer, line, host),
+        Format::Json => &mut writer.inner,
+    };
+    work_in_json::<R, I, W, L, Brand>(rt, asked, stdin, inner, line, host, Blank::new(1))
 }

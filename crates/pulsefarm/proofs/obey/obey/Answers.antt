@@ -3,9 +3,9 @@ use Rattle.pf_cli.specs.Args.{view_of_reading}
 use Rattle.pulsefarm.proofs.Unread.{reads_not, told_as, works_not}
 use Rattle.pulsefarm.proofs.obey.obey.Goals as goal
 
-pub returns-in-Args : goal.returns-in-Args
-returns-in-Args g c status is_fault e =
-    absurd (works_not _ _ status is_fault (sym (ap view_of_reading c.in-Args.is) ∙ c.in_ok-args.ensures ∙ e))
+pub returns-in-Asked : goal.returns-in-Asked
+returns-in-Asked g c status is_fault e =
+    absurd (works_not _ _ status is_fault (sym (ap view_of_reading c.in-Asked.is) ∙ c.in_ok-args.ensures ∙ e))
 
 pub returns-in-ScheduleIn : goal.returns-in-ScheduleIn
 returns-in-ScheduleIn g c status is_fault e =

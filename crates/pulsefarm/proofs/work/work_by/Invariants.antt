@@ -1,4 +1,4 @@
-use Rattle.pulsefarm.proofs.work.work.Given as goal
+use Rattle.pulsefarm.proofs.work.work_by.Given as goal
 
 -- the ledger of the file is named by its blank
 abbrev pub ghosts-answer_file : goal.ghosts-answer_file
