@@ -14,7 +14,7 @@ pub fn say_processes(rt: &(impl Eprint + AllocGlobal), asked: &Asked, source: &[
     let Ok(text) = explain_run(rt.alloc(), args, source) else {
         return;
     };
-    let Ok(text) = String::from_utf8(text) else {
+    let Ok(text) = String::from_utf8_lossy(rt.alloc(), &text) else {
         return;
     };
     for line in text.lines() {
