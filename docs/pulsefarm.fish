@@ -49,7 +49,7 @@ complete -c pulsefarm -n '__fish_seen_subcommand_from hunt' -l leaks -d 'Waiting
 complete -c pulsefarm -n '__fish_seen_subcommand_from shrink' -l runs -x -d 'Most runs'
 complete -c pulsefarm -n '__fish_seen_subcommand_from chart' -l compact -d 'Join send and receive'
 complete -c pulsefarm -n '__fish_seen_subcommand_from chart' -l page -x -d 'Page of 500 rows'
-complete -c pulsefarm -n '__fish_seen_subcommand_from run' -l explain -d 'Explain the report'
+complete -c pulsefarm -n '__fish_seen_subcommand_from run' -l explain -d 'Say how each process stands at the end'
 complete -c pulsefarm -n '__fish_seen_subcommand_from check' -l explain -d 'Tell how to mend a refusal'
 complete -c pulsefarm -n '__fish_seen_subcommand_from run hunt shrink check' -l format -x -a 'text json' -d 'Lines of text or JSON'
 complete -c pulsefarm -n '__fish_seen_subcommand_from farm' -l summary -d 'Tell what each worker did'

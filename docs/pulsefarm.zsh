@@ -48,7 +48,7 @@ _pulsefarm() {
   ((CURRENT--))
   local -a own
   case $command in
-    run) own=($job '--seed[seed]:seed: ' $weights $strategy $schedule $format '--explain[explain the report]') ;;
+    run) own=($job '--seed[seed]:seed: ' $weights $strategy $schedule $format '--explain[say how each process stands at the end]') ;;
     chart)
       own=($job '--seed[seed]:seed: ' $weights $strategy $schedule '--compact[join send and receive]' '--page[page of 500 rows]:page: ')
       ;;
