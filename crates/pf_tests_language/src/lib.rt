@@ -14,4 +14,6 @@ mod lone_patterns;
 #[cfg(test)]
 mod machine;
 #[cfg(test)]
+mod points;
+#[cfg(test)]
 mod trees;
