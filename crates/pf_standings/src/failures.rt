@@ -11,6 +11,14 @@ use pf_system::System;
 use pf_terms::NoMemory;
 use std::alloc::Global;
 
+/// A point, or the one before it where this is nowhere: a call whose last argument was just worked out has no node of its own then.
+fn placed(point: Option<Point>, before: Option<Point>) -> Option<Point> {
+    match (point, before) {
+        (Some(Point::Nowhere), Some(before)) => Some(before),
+        _ => point,
+    }
+}
+
 /// Makes a turn step by step: the point before its last step.
 fn last_point(
     alloc: Global,
@@ -24,7 +32,7 @@ fn last_point(
         let Some(Actor::Process(pid)) = chosen(system, choice) else {
             return Ok(last);
         };
-        last = point_of(system, pid);
+        last = placed(point_of(system, pid), last);
         let steps = system.steps();
         if steps >= limit {
             return Ok(last);
