@@ -11,15 +11,15 @@ cd "$room" || exit 2
 
 # Runs a root of a source by the words from $3 on, with the word and without, and compares what is said with what is wanted.
 check() {
-  source=$here/$1.erl root=$2
+  file=$here/$1.erl name=$2
   shift 2
-  timeout 60 "$program" run --root "$root" --limit 1000 "$@" "$source" > plain 2> /dev/null < /dev/null
+  timeout 60 "$program" run --root "$name" --limit 1000 "$@" "$file" > plain 2> /dev/null < /dev/null
   before=$?
-  timeout 60 "$program" run --explain --root "$root" --limit 1000 "$@" "$source" > out 2> said < /dev/null
+  timeout 60 "$program" run --explain --root "$name" --limit 1000 "$@" "$file" > out 2> said < /dev/null
   status=$?
   grep '^pulsefarm: <' said | sed 's/^pulsefarm: //' > err
   [ "$status" = "$before" ] && cmp -s plain out && cmp -s wanted err
-  note "$root of $(basename "$source") by $*" $?
+  note "$name of $(basename "$file") by $*" $?
 }
 
 # Each run of the list.
