@@ -64,7 +64,7 @@ runs() {
   printf -- '-module(m).\n-export([main/0]).\nmain() -> {0 - 7, "a", '"'it\\\\'s \"so\"\\\\\\\\n'"'}.\n' > in
   objects 'a term with quotes' 0 '{"choice":0,"count":1,"actor":"<0>","label":"end normal"}
 {"finished":"{-7,[97],'"'it\\\\'s \\\"so\\\"\\\\\\\\n'"'}"}
-{"steps":8}
+{"steps":4}
 {"property":"holds"}' run $job --seed 1
   printf -- '-module(m).\n-export([main/0]).\nmain() -> receive a -> b end.\n' > in
   objects 'a deadlock' 1 '{"choice":0,"count":1,"actor":"<0>","label":"wait"}
