@@ -1,4 +1,5 @@
 pub mod Behind
+pub mod Ends
 pub mod Pieces
 pub mod Starts
 pub mod Tokens

@@ -6,3 +6,4 @@ pub mod Objects
 pub mod Lines
 pub mod Writers
 pub mod Laws
+pub mod Worked

@@ -10,6 +10,6 @@ mod parts;
 mod place;
 mod shapes;
 
-pub use laws::in_pieces;
+pub use laws::{in_pieces, one_for_each};
 pub use lines::JsonLines;
 pub use place::Place;

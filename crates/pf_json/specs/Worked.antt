@@ -1,0 +1,83 @@
+-- Lines of answers, with the facts that they tell.
+use Rattle.std.specs.Prelude.{◌≡◌, true, [], ◌∷◌, codes, refl}
+use Rattle.pf_json.specs.Facts.{fact, facts_by_first, number, text, truth}
+use Rattle.pf_json.specs.Objects.{facts_at, facts_of, next}
+use Rattle.pf_json.specs.declared.place.Place.TheVariants.{Report, Source}
+
+-- ---- a report
+
+pub worked_turn : facts_of (codes "0/2 <0> raise badarg")
+    ≡ fact (codes "choice") (number 0) ∷ fact (codes "count") (number 2) ∷ fact (codes "actor") (text (codes "<0>"))
+    ∷ fact (codes "label") (text (codes "raise badarg")) ∷ []
+unfolding facts_by_first
+worked_turn = refl
+
+pub worked_delivery : facts_of (codes "1/3 <0>-><2> deliver message")
+    ≡ fact (codes "choice") (number 1) ∷ fact (codes "count") (number 3) ∷ fact (codes "actor") (text (codes "<0>-><2>"))
+    ∷ fact (codes "label") (text (codes "deliver message")) ∷ []
+unfolding facts_by_first
+worked_delivery = refl
+
+pub worked_value : facts_of (codes "finished 7") ≡ fact (codes "finished") (number 7) ∷ []
+unfolding facts_by_first
+worked_value = refl
+
+pub worked_term : facts_of (codes "finished {a,7}") ≡ fact (codes "finished") (text (codes "{a,7}")) ∷ []
+unfolding facts_by_first
+worked_term = refl
+
+pub worked_limit : facts_of (codes "limit") ≡ fact (codes "limit") (truth true) ∷ []
+unfolding facts_by_first
+worked_limit = refl
+
+pub worked_largest : facts_of (codes "steps 9007199254740991") ≡ fact (codes "steps") (number 9007199254740991) ∷ []
+unfolding facts_by_first
+worked_largest = refl
+
+pub worked_above : facts_of (codes "seed 9007199254740992") ≡ fact (codes "seed") (text (codes "9007199254740992")) ∷ []
+unfolding facts_by_first
+worked_above = refl
+
+pub worked_verdict : facts_of (codes "no verdict") ≡ fact (codes "property") (text (codes "no verdict")) ∷ []
+unfolding facts_by_first
+worked_verdict = refl
+
+-- ---- a hunt
+
+pub worked_schedule : facts_of (codes "schedule 0") ≡ fact (codes "schedule") (text (codes "0")) ∷ []
+unfolding facts_by_first
+worked_schedule = refl
+
+pub worked_row : facts_of (codes "fails 2 seeds, least 4: deadlock <0>")
+    ≡ fact (codes "property") (text (codes "fails")) ∷ fact (codes "seeds") (number 2) ∷ fact (codes "least") (number 4)
+    ∷ fact (codes "deadlock") (text (codes "<0>")) ∷ []
+unfolding facts_by_first
+worked_row = refl
+
+pub worked_root : facts_of (codes "a.erl 'a: b c': seed 0 fails")
+    ≡ fact (codes "file") (text (codes "a.erl")) ∷ fact (codes "root") (text (codes "'a: b c'")) ∷ fact (codes "failure") (truth true)
+    ∷ fact (codes "seed") (number 0) ∷ []
+unfolding facts_by_first
+worked_root = refl
+
+pub worked_file : facts_of (codes "seed 3 fails: E4 at 0")
+    ≡ fact (codes "file") (text (codes "seed 3 fails")) ∷ fact (codes "refusal") (text (codes "E4")) ∷ fact (codes "at") (number 0) ∷ []
+unfolding facts_by_first
+worked_file = refl
+
+pub worked_summary : facts_of (codes "6 files, 1 root: 1 fails, 2 refused")
+    ≡ fact (codes "files") (number 6) ∷ fact (codes "roots") (number 1) ∷ fact (codes "fail") (number 1) ∷ fact (codes "refused") (number 2) ∷ []
+unfolding facts_by_first
+worked_summary = refl
+
+-- ---- a check
+
+pub worked_refusal : facts_of (codes "E6 at 41") ≡ fact (codes "refusal") (text (codes "E6")) ∷ fact (codes "at") (number 41) ∷ []
+unfolding facts_by_first
+worked_refusal = refl
+
+pub worked_place : next Report (codes "line 3, column 11") ≡ Source
+worked_place = refl
+
+pub worked_source : facts_at Source (codes "ok") ≡ fact (codes "source") (text (codes "ok")) ∷ []
+worked_source = refl
