@@ -50,7 +50,7 @@ lay() {
   install -D -m 644 "$top/docs/pulsefarm.fish" "$1/share/fish/vendor_completions.d/pulsefarm.fish"
   mkdir -p "$docs/docs" "$docs/examples" "$docs/port" "$1/share/pulsefarm"
   cp "$top/README.md" "$docs"
-  cp "$top"/docs/*.md "$top"/docs/*.png "$docs/docs"
+  cp "$top"/docs/*.md "$top"/docs/*.png "$top"/docs/*.svg "$top"/docs/*.json "$docs/docs"
   cp "$top"/examples/*.erl "$top/examples/README.md" "$docs/examples"
   cp -r "$top/examples/many" "$top/examples/ci" "$1/share/pulsefarm"
   find "$1/share/pulsefarm" -name __pycache__ -prune -exec rm -rf {} +
