@@ -52,4 +52,11 @@ for words in '--root missing --limit 10 --seed 0' '--root sum --limit 0 --seed 0
   cmp -s wanted err
   note "run --explain $words" $?
 done
+
+# The heads of a chart have the functions in whose calls processes began, and a tooltip says who spawned them.
+timeout 60 "$program" chart --root main --limit 1000 --seed 0 "$here/counter.erl" > out 2> err < /dev/null
+for words in '>main/0</text>' '>counter/1</text>' '>asks/1</text>' '<title>&lt;1&gt; counter/1 spawned by &lt;0&gt; in event 1</title>'; do
+  grep -qF "$words" out
+  note "the chart has $words" $?
+done
 tell_counts
