@@ -7,4 +7,4 @@ pub unreachable-requires : goal.unreachable-requires
 unreachable-requires g c =
     let words = map (λ w. w.now) c.args.words.now in
     never_reads (wanted_by (Some c.schedule_in-schedule.result.now) words) (file_of words) (words_status words) _
-    (sym (ap view_of_reading c.in-ScheduleIn.is) ∙ c.in_ok-args.ensures)
+    (sym (ap view_of_reading c.in-ScheduleIn.is) ∙ c.in_ok-asked.ensures)
