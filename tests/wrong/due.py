@@ -55,7 +55,7 @@ def hold_back(by_crate, noted):
     """Has changed crates wait for a later gate that would bring more edits than one gate can try."""
     changed = [crate for crate, lines in by_crate.items() if lines[0].why in ("new", "changed")]
     changed.sort(key=lambda it: (noted.crates[it][2] if it in noted.crates else 0, it))
-    left = int(os.environ.get("MOST_CHANGED", 85 * (os.cpu_count() or 1)))
+    left = int(os.environ.get("MOST_CHANGED", 85 * len(os.sched_getaffinity(0))))
     for crate in changed:
         if len(by_crate[crate]) <= left or crate == changed[0]:
             left -= len(by_crate[crate])
