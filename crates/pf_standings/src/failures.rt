@@ -63,26 +63,69 @@ fn last_raised(raised: &[Failure], pid: u32) -> Option<Point> {
     None
 }
 
-/// Makes a run again: who failed in it, and where. One that an action's raise ends stands where it asked for the action.
-pub(crate) fn failures(alloc: Global, run: &KnownRun) -> Result<Vec<Failure>, NoMemory>
+/// Who failed in a run, whose actions raised, in which events, and where.
+#[derive(Drop)]
+pub(crate) struct Notes {
+    pub failed: Vec<Failure>,
+    raised: Vec<Failure>,
+}
+
+impl Notes {
+    /// Makes an event again and notes who failed in it, or whose action raised; whether there was one to make. One that an action's
+    /// raise ends stands where it asked for the action.
+    fn note(
+        &mut self,
+        alloc: Global,
+        run: &KnownRun,
+        system: &mut System,
+        event: usize,
+    ) -> Result<bool, NoMemory> {
+        let Some(told) = run.events.get(event) else {
+            return Ok(false);
+        };
+        let (raising, failing) = (raised_in(told), failed_in(told));
+        if raising.is_none() && failing.is_none() {
+            let mut shown = Label::Waits;
+            return go(alloc, system, told.choice, run.limit, &mut shown);
+        }
+        let point = last_point(alloc, system, told.choice, run.limit)?;
+        if let Some(pid) = raising {
+            self.raised.push(Failure { pid, event, point })?;
+        } else if let Some(pid) = failing {
+            let point = match point {
+                Some(Point::Nowhere) => last_raised(self.raised.as_slice(), pid),
+                point => point,
+            };
+            self.failed.push(Failure { pid, event, point })?;
+        }
+        Ok(true)
+    }
+
+    /// Makes the events of a run again, and notes who failed in them.
+    fn note_all(
+        &mut self,
+        alloc: Global,
+        run: &KnownRun,
+        system: &mut System,
+    ) -> Result<(), NoMemory> {
+        for event in 0..run.events.len() {
+            if !self.note(alloc, run, system, event)? {
+                break;
+            }
+        }
+        Ok(())
+    }
+}
+
+/// Makes a run again: who failed in it, and where.
+pub(crate) fn failures(alloc: Global, run: &KnownRun) -> Result<Notes, NoMemory>
     requires { IsEdition run.now.edition }
 {
     let mut system = System::new(alloc, run.module, run.root, run.edition)?;
-    let (mut found, mut raised) = (Vec::new(alloc), Vec::new(alloc));
-    let mut shown = Label::Waits;
-    for (event, told) in run.events.iter().enumerate() {
-        if let Some(pid) = raised_in(told) {
-            let point = last_point(alloc, &mut system, told.choice, run.limit)?;
-            raised.push(Failure { pid, event, point })?;
-        } else if let Some(pid) = failed_in(told) {
-            let point = match last_point(alloc, &mut system, told.choice, run.limit)? {
-                Some(Point::Nowhere) => last_raised(raised.as_slice(), pid),
-                point => point,
-            };
-            found.push(Failure { pid, event, point })?;
-        } else if !go(alloc, &mut system, told.choice, run.limit, &mut shown)? {
-            break;
-        }
-    }
-    Ok(found)
+    let mut notes = Notes {
+        failed: Vec::new(alloc),
+        raised: Vec::new(alloc),
+    };
+    notes.note_all(alloc, run, &mut system)?;
+    Ok(notes)
 }

@@ -75,21 +75,32 @@ pub(crate) struct Followed {
     pub begun: Vec<Option<FunctionId>>,
 }
 
+impl Followed {
+    /// Makes the events of a run.
+    fn go_through(&mut self, alloc: Global, run: &KnownRun) -> Result<(), NoMemory> {
+        self.begun.push(Some(run.root))?;
+        let mut shown = Label::Waits;
+        for event in run.events {
+            if !go(alloc, &mut self.system, event.choice, run.limit, &mut shown)? {
+                break;
+            }
+            if let Some(pid) = begun_in(&shown) {
+                let function = called(&self.system, pid);
+                self.begun.push(function)?;
+            }
+        }
+        Ok(())
+    }
+}
+
 /// Makes a run again.
 pub(crate) fn follow(alloc: Global, run: &KnownRun) -> Result<Followed, NoMemory>
     requires { IsEdition run.now.edition }
 {
-    let mut system = System::new(alloc, run.module, run.root, run.edition)?;
-    let mut begun = Vec::new(alloc);
-    begun.push(Some(run.root))?;
-    let mut shown = Label::Waits;
-    for event in run.events {
-        if !go(alloc, &mut system, event.choice, run.limit, &mut shown)? {
-            break;
-        }
-        if let Some(pid) = begun_in(&shown) {
-            begun.push(called(&system, pid))?;
-        }
-    }
-    Ok(Followed { system, begun })
+    let mut followed = Followed {
+        system: System::new(alloc, run.module, run.root, run.edition)?,
+        begun: Vec::new(alloc),
+    };
+    followed.go_through(alloc, run)?;
+    Ok(followed)
 }

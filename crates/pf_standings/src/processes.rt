@@ -9,6 +9,7 @@ use crate::known::KnownRun;
 use crate::lines::put_function;
 use crate::standing::{Fate, Standing};
 use pf_stepper::Point;
+use pf_syntax::FunctionId;
 use pf_system::System;
 use pf_terms::NoMemory;
 use std::alloc::Global;
@@ -25,7 +26,7 @@ fn fate_in(system: &System, pid: u32) -> Fate {
 }
 
 /// All processes as those stand that haven't ended.
-fn standing_so_far(alloc: Global, followed: &Followed) -> Result<Vec<Standing>, NoMemory> {
+fn standing_in(alloc: Global, followed: &Followed) -> Result<Vec<Standing>, NoMemory> {
     let mut standings = Vec::new(alloc);
     let mut pid = 0;
     for begun in &followed.begun {
@@ -36,6 +37,14 @@ fn standing_so_far(alloc: Global, followed: &Followed) -> Result<Vec<Standing>, 
         pid = pid.saturating_add(1);
     }
     Ok(standings)
+}
+
+/// All processes of a run as those stand that haven't ended.
+fn standing_so_far(alloc: Global, run: &KnownRun) -> Result<Vec<Standing>, NoMemory>
+    requires { IsEdition run.now.edition }
+{
+    let followed = follow(alloc, run)?;
+    standing_in(alloc, &followed)
 }
 
 /// Puts the fate of a process.
@@ -79,12 +88,28 @@ fn put_failures(standings: &mut Vec<Standing>, failures: &[Failure]) {
 pub fn standings(alloc: Global, run: &KnownRun) -> Result<Vec<Standing>, NoMemory>
     requires { IsEdition run.now.edition }
 {
-    let followed = follow(alloc, run)?;
-    let mut standings = standing_so_far(alloc, &followed)?;
+    let mut standings = standing_so_far(alloc, run)?;
     put_ends(&mut standings, run);
     let failures = failures(alloc, run)?;
-    put_failures(&mut standings, failures.as_slice());
+    put_failures(&mut standings, failures.failed.as_slice());
     Ok(standings)
+}
+
+/// The names of functions of a run's module; an empty one where there is none.
+fn names_of(
+    alloc: Global,
+    run: &KnownRun,
+    functions: &[Option<FunctionId>],
+) -> Result<Vec<Vec<u8>>, NoMemory> {
+    let mut names = Vec::new(alloc);
+    for function in functions {
+        let mut name = Vec::new(alloc);
+        if let Some(function) = function {
+            put_function(&mut name, run.module, *function)?;
+        }
+        names.push(name)?;
+    }
+    Ok(names)
 }
 
 /// The names of the functions in whose calls the processes of a run began, by pid; an empty one where that isn't known.
@@ -92,13 +117,5 @@ pub fn names(alloc: Global, run: &KnownRun) -> Result<Vec<Vec<u8>>, NoMemory>
     requires { IsEdition run.now.edition }
 {
     let followed = follow(alloc, run)?;
-    let mut names = Vec::new(alloc);
-    for begun in &followed.begun {
-        let mut name = Vec::new(alloc);
-        if let Some(function) = begun {
-            put_function(&mut name, run.module, *function)?;
-        }
-        names.push(name)?;
-    }
-    Ok(names)
+    names_of(alloc, run, followed.begun.as_slice())
 }
