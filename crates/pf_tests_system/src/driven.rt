@@ -31,6 +31,22 @@ fn text_of(alloc: Global, module: &Module, report: &Report) -> Result<String, Fa
     }
 }
 
+/// The text of the report of a run that stops here.
+fn told(
+    alloc: Global,
+    module: &Module,
+    system: &System,
+    events: Vec<Event>,
+) -> Result<String, Fail> {
+    let report = Report {
+        events,
+        outcome: system.outcome(alloc)?,
+        steps: system.steps(),
+        verdict: None,
+    };
+    text_of(alloc, module, &report)
+}
+
 /// A run in which the test says who goes, and its events so far.
 #[derive(Drop)]
 pub(crate) struct Driven {
@@ -101,13 +117,7 @@ impl Driven {
             system,
             events,
         } = self;
-        let report = Report {
-            events,
-            outcome: system.outcome(alloc)?,
-            steps: system.steps(),
-            verdict: None,
-        };
-        let text = text_of(alloc, &module, &report)?;
+        let text = told(alloc, &module, &system, events)?;
         Ok((text, system.into_spare()))
     }
 }

@@ -71,18 +71,22 @@ fn slices_by_weights_agree(rt: HostRuntime) -> Result<(), Fail> {
 const TO_ITSELF: &str = "-module(m).\n-export([main/0]).\n\
 main() -> self() ! hi, receive hi -> ok end.\n";
 
+/// The text of its run by these choices.
+fn told_by(alloc: Global, choices: RunChoices) -> Result<String, Fail> {
+    let module = module_of(alloc, TO_ITSELF)?;
+    let job = job_of(alloc, &module, "returns", choices, 1000)?;
+    text_of(alloc, &run_whole(alloc, &job)?)
+}
+
 /// Whether the run by seed 7 and these weights is the run by this schedule. Word 1 of seed 7 is 6 modulo 10.
 fn is_by(alloc: Global, (run, deliver): (u32, u32), schedule: &[u32]) -> Result<bool, Fail> {
-    let module = module_of(alloc, TO_ITSELF)?;
     let weighted = RunChoices::Weighted {
         seed: 7,
         run,
         deliver,
     };
-    let by_weights = job_of(alloc, &module, "returns", weighted, 1000)?;
-    let by_numbers = job_of(alloc, &module, "returns", scheduled(alloc, schedule)?, 1000)?;
-    let told = text_of(alloc, &run_whole(alloc, &by_weights)?)?;
-    let wanted = text_of(alloc, &run_whole(alloc, &by_numbers)?)?;
+    let told = told_by(alloc, weighted)?;
+    let wanted = told_by(alloc, scheduled(alloc, schedule)?)?;
     Ok(told.as_str() == wanted.as_str())
 }
 
@@ -131,13 +135,23 @@ fn ended(
     }
 }
 
-/// How many events a run has, and whether its property holds, that goes on behind 14 events and is over with one more.
-fn over(alloc: Global) -> Result<(usize, Option<bool>), Fail> {
+/// The job of the run in the other order by no number.
+fn job_by_none(alloc: Global, property: &str, limit: u32) -> Result<Arc<Job>, Fail> {
     let module = module_of(alloc, SWAPPED)?;
-    let job = job_of(alloc, &module, "returns", scheduled(alloc, &[])?, 1000)?;
+    job_of(alloc, &module, property, scheduled(alloc, &[])?, limit)
+}
+
+/// The end of a run that goes on behind 14 events and is over with one more.
+fn last_slice(alloc: Global, job: Arc<Job>) -> Result<Finished, Fail> {
     let mut scratch = Scratch::new(alloc);
     let parked = gone(alloc, start(alloc, job)?, &mut scratch, 14)?;
-    let finished = ended(alloc, parked, &mut scratch, 1)?;
+    ended(alloc, parked, &mut scratch, 1)
+}
+
+/// How many events that run has, and whether its property holds.
+fn over(alloc: Global) -> Result<(usize, Option<bool>), Fail> {
+    let job = job_by_none(alloc, "returns", 1000)?;
+    let finished = last_slice(alloc, job)?;
     let report = report_of(&finished)?;
     Ok((report.lines.len(), report.verdict))
 }
@@ -181,8 +195,7 @@ fn said_of(
     property: &str,
     limit: u32,
 ) -> Result<(&'static str, Option<bool>), Fail> {
-    let module = module_of(alloc, SWAPPED)?;
-    let job = job_of(alloc, &module, property, scheduled(alloc, &[])?, limit)?;
+    let job = job_by_none(alloc, property, limit)?;
     said_twice(alloc, &job)
 }
 
@@ -223,8 +236,7 @@ fn cut_by(
 
 /// The first cut of the run into slices, of all that there are, by which it comes to another text. What earlier runs left in the scratch stands there.
 fn other_cut(alloc: Global) -> Result<Option<u32>, Fail> {
-    let module = module_of(alloc, SWAPPED)?;
-    let job = job_of(alloc, &module, "returns", scheduled(alloc, &[])?, 1000)?;
+    let job = job_by_none(alloc, "returns", 1000)?;
     let text = text_of(alloc, &run_whole(alloc, &job)?)?;
     let mut scratch = Scratch::new(alloc);
     for bits in 0..16_384 {
