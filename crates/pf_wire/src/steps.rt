@@ -8,6 +8,7 @@ ghost use Rattle.pf_worlds.specs.Memory.{RespondsTo};
 ghost use Rattle.pf_worlds.specs.Told.{outcome_text};
 ghost use Rattle.pf_worlds.specs.View.{view_of_step};
 ghost use Rattle.pf_workshop.specs.Profile.{ForRight};
+ghost use Rattle.pf_worlds.specs.Workshop.{new_workshop};
 ghost use Rattle.pf_wire.specs.Steps.{last_text, AnswersOne, StepsAnswered, StepsLeaves};
 ghost use Rattle.pf_wire.specs.Turns.{TellsAll, TellsUpTo, TurnsLeave};
 ghost use Rattle.pf_wire.specs.Whole.{whole_text};
@@ -163,6 +164,56 @@ fn answer_due<'a, W: Write, M: Ledger>(
     Ok(Some(Left { rest, number }))
 }
 
+/// Reads and answers by a workshop to which nothing was told yet, a piece at a time.
+fn answer_pieces<R: Read, W: Write, L: Ledger, M: Ledger>(
+    alloc: Global,
+    workshop: &mut Workshop,
+    piece: &mut [u8],
+    reader: &mut Counted<R, L>,
+    writer: &mut Counted<W, M>,
+    ending: &mut Ending,
+) -> Result<u8, OrNoMemory<StreamFault>>
+    requires is_new { workshop.old ≡ new_workshop WORKERS }
+    requires room { 0 < length piece.old }
+    ensures answered { IfOk result (λ status. ForRight (λ p. StepsAnswered p (R.remaining reader.old.inner)
+        (W.contents writer.old.inner) (W.contents writer.new.inner) status)) }
+    ensures taken { (bytes : List ℕ) × (length bytes ≤ MOST_BYTES)
+        × Consumes (R.remaining reader.old.inner) (R.remaining reader.new.inner) bytes }
+    ensures counts { OnOk result ((reader.new.failures.total ≡ reader.old.failures.total)
+        × (writer.new.failures.total ≡ writer.old.failures.total)) }
+    ensures fault { IfErr result (λ e. ForRight (λ p. StepsLeaves p e
+        (R.remaining reader.old.inner) (R.remaining reader.new.inner)
+        (W.contents writer.old.inner) (W.contents writer.new.inner)
+        reader.old.failures.total reader.new.failures.total
+        writer.old.failures.total writer.new.failures.total)) }
+{
+    let mut input = Input::new(alloc);
+    let mut number: u64 = 1;
+    let mut is_over = false;
+    while !is_over {
+        is_over = input.take_piece(reader, piece)?;
+        ending.is_full = input.taken == MOST_BYTES;
+        if input.is_due(is_over) {
+            let Some(left) = answer_due(
+                alloc,
+                workshop,
+                number,
+                &input.bytes,
+                is_over,
+                writer,
+                ending,
+            )?
+            else {
+                return Ok(2);
+            };
+            number = left.number;
+            let rest = Vec::from_slice(alloc, left.rest)?;
+            input.keep(rest);
+        }
+    }
+    Ok(0)
+}
+
 /// Reads at most 64 MiB, piece by piece, answers each command before it waits for more, and gives the status: 2 if a
 /// line is no command, after which nothing is done, and else 0. The workshop of four workers hashes with these
 /// keys, which no answer depends on. The ending is for who says why reading ended.
@@ -187,30 +238,6 @@ pub fn run_steps<R: Read, W: Write, L: Ledger, M: Ledger>(
 {
     let mut room = vec![in alloc; 0u8; ROOM]?;
     let piece = room.as_mut_slice();
-    let mut input = Input::new(alloc);
     let mut workshop = Workshop::new(alloc, keys, WORKERS)?;
-    let mut number: u64 = 1;
-    let mut is_over = false;
-    while !is_over {
-        is_over = input.take_piece(reader, piece)?;
-        ending.is_full = input.taken == MOST_BYTES;
-        if input.is_due(is_over) {
-            let Some(left) = answer_due(
-                alloc,
-                &mut workshop,
-                number,
-                &input.bytes,
-                is_over,
-                writer,
-                ending,
-            )?
-            else {
-                return Ok(2);
-            };
-            number = left.number;
-            let rest = Vec::from_slice(alloc, left.rest)?;
-            input.keep(rest);
-        }
-    }
-    Ok(0)
+    answer_pieces(alloc, &mut workshop, piece, reader, writer, ending)
 }

@@ -2,7 +2,7 @@ use Rattle.std.proofs.Common.{◌≡◌, ◌≤◌, ◌<◌, ◌+◌, ◌-◌, f
 use Rattle.pf_lines.specs.Complete.{is_due}
 use Rattle.pf_wire.specs.declared.steps.TheConstants.{MOST_BYTES}
 use Rattle.pf_wire.proofs.Leaving.{Stands}
-use Rattle.pf_wire.proofs.steps.run_steps.Given as goal
+use Rattle.pf_wire.proofs.steps.answer_pieces.Given as goal
 
 -- what was taken is answered up to what is kept, where nothing is due
 abbrev pub invariant-loop-is_over : goal.invariant-loop-is_over
