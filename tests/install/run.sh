@@ -60,13 +60,13 @@ whole() {
   note "the copy has these crates alone, and is a repository" $?
   printf '%s\n' low left right high pulsefarm | cmp -s - "$FAKE/begun"
   note "each crate is proved once" $?
-  # (by the table each crate takes 100 seconds, and pulsefarm 360: on two processors or more the first chain is 100 + 100 + 100 + 360)
+  # (by the table each crate takes 100 seconds, and pulsefarm 625: on two processors or more the first chain is 100 + 100 + 100 + 625)
   cat > "$room/wanted" << 'END'
-0 of 5 crates, 0 minutes so far, some 11 more
-low proved; 1 of 5 crates, 0 minutes so far, some 9 more
-left proved; 2 of 5 crates, 0 minutes so far, some 9 more
-right proved; 3 of 5 crates, 0 minutes so far, some 8 more
-high proved; 4 of 5 crates, 0 minutes so far, some 6 more
+0 of 5 crates, 0 minutes so far, some 15 more
+low proved; 1 of 5 crates, 0 minutes so far, some 14 more
+left proved; 2 of 5 crates, 0 minutes so far, some 14 more
+right proved; 3 of 5 crates, 0 minutes so far, some 12 more
+high proved; 4 of 5 crates, 0 minutes so far, some 10 more
 pulsefarm proved; 5 of 5 crates, 0 minutes so far, some 0 more
 END
   grep ' crates, ' "$room/err" | cmp -s - "$room/wanted"
@@ -74,7 +74,7 @@ END
   is_tidy "a whole run"
   : > "$FAKE/begun"
   install
-  [ "$status" = 0 ] && [ ! -s "$FAKE/begun" ] && grep -qx 'high is kept; 4 of 5 crates, 0 minutes so far, some 6 more' "$room/err"
+  [ "$status" = 0 ] && [ ! -s "$FAKE/begun" ] && grep -qx 'high is kept; 4 of 5 crates, 0 minutes so far, some 10 more' "$room/err"
   note "what is kept isn't proved again" $?
 }
 
