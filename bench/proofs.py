@@ -35,6 +35,8 @@ def main(crate, count="20"):
     """Checks the crate, and prints a table; returns the exit status of the check."""
     folder = f"crates/{crate}/out/incremental"
     os.chdir(os.path.join(os.path.dirname(os.path.realpath(__file__)), ".."))
+    if not os.path.isdir(f"crates/{crate}"):
+        sys.exit(f"there is no crate {crate}")
     subprocess.run(["rt", "check", "--only="], cwd=f"crates/{crate}", stdout=subprocess.DEVNULL, check=False)
     shutil.rmtree(folder, ignore_errors=True)
     start = time.time()
@@ -47,4 +49,6 @@ def main(crate, count="20"):
 
 
 if __name__ == "__main__":
+    if len(sys.argv) not in (2, 3):
+        sys.exit("usage: proofs.py CRATE [COUNT]")
     sys.exit(main(*sys.argv[1:]))
