@@ -1,9 +1,6 @@
 -- What words come to is told apart.
-use Rattle.std.proofs.Common.{◌≡◌, ◌+◌, ℕ, Bool, true, false, List, Option, None, Some, ap, subst}
-use Rattle.pulsefarm.specs.Unread.{TellsText}
-use Rattle.pf_terms.specs.Streams.{CountsWrite}
-use Rattle.pf_terms.specs.declared.stream.StreamFault.{StreamFault}
-use Rattle.pf_terms.specs.declared.stream.StreamFault.TheVariants.{Read, Write}
+use Rattle.std.proofs.Common.{◌≡◌, ℕ, Bool, true, false, List, Option, None, Some, ap, subst}
+use Rattle.pf_said.specs.Texts.{TellsText}
 use Rattle.clap.specs.Words.{Text}
 use Rattle.pf_cli.specs.Args.{Reading, Wanted, reading_by, reads, tells, works}
 
@@ -42,8 +39,3 @@ pub told_as : (m n : ℕ) (a b : Bool) (given : ℕ) (old new : Option (List ℕ
 told_as m n a b given old new f0 f1 e told =
     subst (λ k. TellsText b k given old new f0 f1) (same_status m n a b e)
     (subst (λ c. TellsText c m given old new f0 f1) (same_fault m n a b e) told)
-
--- a write that failed was counted
-pub counts_write : (e : StreamFault) (m n : ℕ) → CountsWrite e m n → n ≡ m + 1
-counts_write (Read e) m n h = absurd h
-counts_write (Write e) m n h = h

@@ -2,16 +2,16 @@
 
 ghost use Rattle.std.specs.Prelude.{◌≡◌, ◌<◌, ◌≤◌, IfOk, IfSome, Some, length, vec_len};
 
-use crate::args::open;
-use crate::messages::{REFUSED, failed, say};
 use crate::watch::FarmWatch;
-use crate::work::{Answered, random_keys};
+use crate::work::random_keys;
 use pf_cli::FarmArgs;
 use pf_clients::run_farm;
 use pf_farm::{Blanks, MOST_SEATS};
 use pf_farm_names::FarmNames;
 use pf_fault::OrNoMemory;
+use pf_files::{Answered, open};
 use pf_register::NewRegister;
+use pf_said::{REFUSED, failed, say};
 use pf_terms::{Counted, StreamFault};
 use std::alloc::AllocGlobal;
 use std::fs::Files;

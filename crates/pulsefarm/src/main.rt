@@ -2,30 +2,21 @@
 #![tactic(auto)]
 
 mod args;
-mod escape;
-mod explain;
 mod farm;
-mod folder;
-mod messages;
 mod obey;
-mod progress;
 mod schedule;
 mod stack;
-mod suite;
-mod waiting;
 mod watch;
-mod why;
 mod work;
 
 ghost use Rattle.std.specs.Prelude.{◌≡◌, ◌<◌};
 
 use crate::args::given_words;
 use crate::farm::Host;
-use crate::messages::{REFUSED, no_memory};
 use crate::obey::obey;
-use crate::progress::{Clearing, Line};
 use crate::stack::{STACK_BYTES, first_thread_has_stack};
 use pf_fault::NoMemory;
+use pf_said::{Clearing, Line, REFUSED, no_memory};
 use pf_terms::Counted;
 use std::alloc::{AllocGlobal, Global};
 use std::env::Env;

@@ -6,12 +6,11 @@ ghost use Rattle.pf_command.specs.Streams.{streams};
 ghost use Rattle.pulsefarm.specs.Unread.{LeavesUnread};
 
 use crate::farm::Host;
-use crate::messages::{REFUSED, failed, no_memory, say, tell};
-use crate::progress::Line;
 use crate::schedule::{contents, contents_of_input, is_schedule, schedule_in};
 use crate::work::work;
 use pf_cli::{Asked, Reading, read};
 use pf_fault::NoMemory;
+use pf_said::{Line, REFUSED, failed, no_memory, say, tell};
 use pf_terms::{Counted, StreamFault};
 use std::alloc::AllocGlobal;
 use std::fs::Files;
@@ -95,6 +94,33 @@ where
     work(rt, asked, stdin, writer, line, host)
 }
 
+/// Does what words ask for by this schedule, which a file has.
+fn obey_by<R, I: Read, W: Write, L: Ledger, M: Ledger>(
+    rt: &R,
+    words: &[&str],
+    schedule: &str,
+    file: &str,
+    stdin: &mut Counted<I, L>,
+    writer: &mut Counted<W, M>,
+    line: &Line,
+    host: Host,
+) -> Result<u8, NoMemory>
+where
+    R: Files + Print + Eprint + AllocGlobal + RandomSource + Clock + Threads + Wait + Sync,
+    R::File: Send + Drop,
+{
+    let reading = read(rt.alloc(), words, Some(schedule))?;
+    match &reading {
+        Reading::Asked(asked) => Ok(work_by_schedule(rt, asked, file, stdin, writer, line, host)),
+        Reading::Text {
+            text,
+            status,
+            is_fault,
+        } => Ok(tell(rt, text, *status, *is_fault, writer)),
+        Reading::ScheduleIn(_) => unreachable!(),
+    }
+}
+
 /// Does what words ask for by the schedule in a file.
 fn obey_schedule<R, I: Read, W: Write, L: Ledger, M: Ledger>(
     rt: &R,
@@ -117,15 +143,7 @@ where
     if !is_schedule(rt.alloc(), schedule)? {
         return no_schedule(rt, file, &contents);
     }
-    match read(rt.alloc(), words, Some(schedule))? {
-        Reading::Asked(asked) => Ok(work_by_schedule(rt, &asked, file, stdin, writer, line, host)),
-        Reading::Text {
-            text,
-            status,
-            is_fault,
-        } => Ok(tell(rt, &text, status, is_fault, writer)),
-        Reading::ScheduleIn(_) => unreachable!(),
-    }
+    obey_by(rt, words, schedule, file, stdin, writer, line, host)
 }
 
 /// Does what words ask for, the first of which names the program; its status. If they ask for no work, nothing is read, and only their text
@@ -149,13 +167,14 @@ where
         (streams (I.remaining stdin.new.inner) (W.contents writer.new.inner)
         stdin.new.failures.total writer.new.failures.total) }
 {
-    match read(rt.alloc(), words, None)? {
-        Reading::Asked(asked) => Ok(work(rt, &asked, stdin, writer, line, host)),
+    let reading = read(rt.alloc(), words, None)?;
+    match &reading {
+        Reading::Asked(asked) => Ok(work(rt, asked, stdin, writer, line, host)),
         Reading::Text {
             text,
             status,
             is_fault,
-        } => Ok(tell(rt, &text, status, is_fault, writer)),
+        } => Ok(tell(rt, text, *status, *is_fault, writer)),
         Reading::ScheduleIn(file) => obey_schedule(rt, words, file, stdin, writer, line, host),
     }
 }

@@ -1,7 +1,7 @@
 //! Schedules that stand in files, which words name with `@`.
 
-use crate::args::open;
 use pf_fault::{NoMemory, OrNoMemory};
+use pf_files::open;
 use pf_terms::{Counted, StreamFault};
 use pf_text::schedule_of;
 use std::alloc::{AllocGlobal, Global};

@@ -2,20 +2,18 @@
 
 ghost use Rattle.std.specs.Prelude.{◌≡◌, ◌<◌};
 
-use crate::args::open;
-use crate::explain::say_processes;
 use crate::farm::{Host, farm};
-use crate::messages::{REFUSED, failed, no_memory_in, no_more_memory, say};
-use crate::progress::{Line, Runs, Seeds};
-use crate::suite::{hunt_suite, is_suite};
-use crate::waiting::{Waiting, say_waiting};
-use crate::why::{lacking_of, why};
 use pf_cli::{Args, Asked, Format, HuntArgs, RunArgs, Sought};
 use pf_command::{Chart, Check, MOST_BYTES, Shrink, hunt_source, run_source, serve};
 use pf_fault::{NoMemory, OrNoMemory};
+use pf_files::{Answered, hunt_suite, is_suite, open, workers_of};
 use pf_json::JsonLines;
 use pf_profile::run_steps;
 use pf_reasons::line_reason;
+use pf_said::{
+    Line, REFUSED, Runs, Seeds, Waiting, failed, lacking_of, no_memory_in, no_more_memory, say,
+    say_processes, say_waiting, why,
+};
 use pf_terms::{Counted, StreamFault};
 use pf_wire::{Ending, RefusedLine};
 use std::alloc::{AllocGlobal, Global};
@@ -26,11 +24,8 @@ use std::marker::Brand;
 use std::random::RandomSource;
 use std::sync::Wait;
 use std::sync::ledger::{Blank, Ledger};
-use std::thread::{Threads, available_parallelism};
+use std::thread::Threads;
 use std::time::Clock;
-
-/// What the work of a command ends with: a status, or what stopped it.
-pub type Answered = Result<u8, OrNoMemory<StreamFault>>;
 
 /// Keys for tables. They are random, so that no choice of projects or sources makes a table slow.
 pub fn random_keys(rt: &impl RandomSource) -> Result<RandomState, OrNoMemory<StreamFault>> {
@@ -53,15 +48,6 @@ fn answer_steps<R: Read, W: Write, L: Ledger, M: Ledger>(
 ) -> Answered {
     let keys = random_keys(rt)?;
     run_steps(rt.alloc(), keys, reader, writer, ending)
-}
-
-/// How many threads run the seeds of a hunt: those that are named, or one for each of the machine's processors, at most 64.
-pub fn workers_of(rt: &impl Threads, args: &HuntArgs) -> u64 {
-    match (args.workers, available_parallelism(rt)) {
-        (Some(named), _) => u64::from(named),
-        (None, Ok(count)) => u64::try_from(count.get()).unwrap_or(1).min(64),
-        (None, Err(_)) => 1,
-    }
 }
 
 /// The runs that the schedule of a seed may be shrunk within.

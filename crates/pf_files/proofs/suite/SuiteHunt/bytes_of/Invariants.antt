@@ -1,4 +1,4 @@
-use Rattle.pulsefarm.proofs.suite.SuiteHunt.bytes_of.Given as goal
+use Rattle.pf_files.proofs.suite.SuiteHunt.bytes_of.Given as goal
 
 -- the ledger of the file is named by its blank
 abbrev pub ghosts-bytes_in : goal.ghosts-bytes_in

@@ -2,19 +2,14 @@
 
 ghost use Rattle.std.specs.Prelude.{◌≡◌, ◌<◌};
 
-use crate::args::open;
-use crate::escape::Shown;
 use crate::folder::{files_in, is_folder};
-use crate::messages::{REFUSED, failed, say};
-use crate::progress::{Line, Seeds};
-use crate::waiting::Waiting;
-use crate::why::why_of_root;
-use crate::work::{Answered, workers_of};
+use crate::names::open;
 use pf_cli::{HuntArgs, Roots, Sought};
 use pf_command::MOST_BYTES;
 use pf_fault::{NoMemory, OrNoMemory};
 use pf_module::ReadModule;
 use pf_request::Request;
+use pf_said::{Line, REFUSED, Seeds, Shown, Waiting, failed, say, why_of_root};
 use pf_suite::{
     Ending, Hunted, RootEnd, Suite, hunt_root, line_of_refusal, line_of_root, line_of_rootless,
     read_hunted, request_for, root_name,
@@ -25,8 +20,20 @@ use std::fs::Files;
 use std::io::{self, Read, Write};
 use std::marker::Brand;
 use std::sync::ledger::{Blank, Ledger};
-use std::thread::Threads;
+use std::thread::{Threads, available_parallelism};
 use std::time::{Clock, Instant};
+
+/// What the work of a command ends with: a status, or what stopped it.
+pub type Answered = Result<u8, OrNoMemory<StreamFault>>;
+
+/// How many threads run the seeds of a hunt: those that are named, or one for each of the machine's processors, at most 64.
+pub fn workers_of(rt: &impl Threads, args: &HuntArgs) -> u64 {
+    match (args.workers, available_parallelism(rt)) {
+        (Some(named), _) => u64::from(named),
+        (None, Ok(count)) => u64::try_from(count.get()).unwrap_or(1).min(64),
+        (None, Err(_)) => 1,
+    }
+}
 
 /// Whether a hunt goes over several sources or roots: it has several names, or every root, or its name is that of a folder.
 pub fn is_suite(rt: &impl Files, args: &HuntArgs) -> bool {

@@ -1,6 +1,6 @@
 //! The sources of a folder.
 
-use crate::args::read_word;
+use crate::names::read_word;
 use pf_fault::{NoMemory, OrNoMemory};
 use pf_terms::StreamFault;
 use std::alloc::{AllocGlobal, Global};

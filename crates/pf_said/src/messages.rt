@@ -1,7 +1,7 @@
 //! What the program says of words that ask for no work, and of faults.
 
 ghost use Rattle.std.specs.Prelude.{false};
-ghost use Rattle.pulsefarm.specs.Unread.{TellsText};
+ghost use Rattle.pf_said.specs.Texts.{TellsText};
 
 use crate::escape::{Shown, without_tip};
 use pf_cli::Format;

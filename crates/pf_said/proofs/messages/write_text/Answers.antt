@@ -1,6 +1,6 @@
 use Rattle.std.proofs.Common.{inl, inr, refl}
-use Rattle.pulsefarm.proofs.Unread.{counts_write}
-use Rattle.pulsefarm.proofs.messages.write_text.Goals as goal
+use Rattle.pf_said.proofs.Texts.{counts_write}
+use Rattle.pf_said.proofs.messages.write_text.Goals as goal
 
 pub returns-in-Ok : goal.returns-in-Ok
 returns-in-Ok g c = inl (_, refl, c.in-Ok.ensures.written, c.in-Ok.ensures.kept)
