@@ -117,22 +117,22 @@ impl Execution {
         Ok(true)
     }
 
-    /// Goes on by n events, or fewer if the run is over before; whether it is over then.
+    /// Goes on by n events, or fewer if the run is over before; whether it is over then. `shown` is room for what each shows.
     fn advance<T: Trace>(
         &mut self,
         alloc: Global,
         limit: u32,
         turns: u32,
+        shown: &mut Label,
         trace: &mut T,
     ) -> Result<bool, NoMemory>
         ensures { IfOk result (Continues T.Told limit self.old trace.old self.new trace.new turns) }
     {
-        let mut shown = Label::Waits;
         for _ in 0..turns {
             if self.system.steps() >= limit {
                 return Ok(true);
             }
-            if !self.go(alloc, limit, &mut shown, trace)? {
+            if !self.go(alloc, limit, shown, trace)? {
                 return Ok(true);
             }
         }
@@ -150,8 +150,9 @@ impl Execution {
     ) -> Result<bool, NoMemory>
         ensures { IfOk result (Continues T.Told limit self.old trace.old self.new trace.new turns) }
     {
+        let mut shown = Label::Waits;
         self.system.put_spare(scratch.take_spare(alloc));
-        let went = self.advance(alloc, limit, turns, trace);
+        let went = self.advance(alloc, limit, turns, &mut shown, trace);
         scratch.put_spare(self.system.take_spare(alloc));
         went
     }
@@ -169,7 +170,8 @@ impl Execution {
         ensures { OnOk result ((cs : model.Choices) → Executes job.now cs [] self.old
             → IsComplete T.Told job.now cs self.new trace.new) }
     {
-        if !self.advance(alloc, job.limit(), job.limit(), trace)? {
+        let mut shown = Label::Waits;
+        if !self.advance(alloc, job.limit(), job.limit(), &mut shown, trace)? {
             unreachable!();
         }
         Ok(())

@@ -60,7 +60,31 @@ impl Guided {
         Ok(true)
     }
 
-    /// Goes on from the first event to the end: each event is a step at least, so it is over after as many as the limit has steps.
+    /// Goes on from the first event to the end: each event is a step at least, so it is over after as many as the limit has steps. `shown` is
+    /// room for what each shows.
+    fn go_all<T: Trace>(
+        &mut self,
+        alloc: Global,
+        job: &Job,
+        shown: &mut Label,
+        trace: &mut T,
+    ) -> Result<(), NoMemory>
+        ensures { OnOk result ((seed : ℕ) → GoingBy job.now seed [] self.old → T.Told trace.old job.now.asked []
+            → IsCompleteBy T.Told job.now seed self.new trace.new) }
+    {
+        let limit = job.limit();
+        for _ in 0..limit {
+            if self.system.steps() >= limit {
+                return Ok(());
+            }
+            if !self.go(alloc, limit, shown, trace)? {
+                return Ok(());
+            }
+        }
+        Ok(())
+    }
+
+    /// Goes on from the first event to the end.
     pub fn complete<T: Trace>(
         &mut self,
         alloc: Global,
@@ -70,16 +94,7 @@ impl Guided {
         ensures { OnOk result ((seed : ℕ) → GoingBy job.now seed [] self.old → T.Told trace.old job.now.asked []
             → IsCompleteBy T.Told job.now seed self.new trace.new) }
     {
-        let limit = job.limit();
         let mut shown = Label::Waits;
-        for _ in 0..limit {
-            if self.system.steps() >= limit {
-                return Ok(());
-            }
-            if !self.go(alloc, limit, &mut shown, trace)? {
-                return Ok(());
-            }
-        }
-        Ok(())
+        self.go_all(alloc, job, &mut shown, trace)
     }
 }

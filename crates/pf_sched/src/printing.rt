@@ -184,6 +184,35 @@ fn print_rest<W: Write, M: Ledger>(
     Ok(PrintedRun { verdict, waiting })
 }
 
+/// Prints the report of a run from its first event on, as it goes.
+fn print_execution<W: Write, M: Ledger>(
+    alloc: Global,
+    job: &Job,
+    limit: u32,
+    execution: &mut Execution,
+    writer: &mut Counted<W, M>,
+) -> Result<PrintedRun, OrNoMemory<StreamFault>>
+    requires limit { job.now.asked.limit ≡ limit }
+    requires valid { IsValid job.now }
+    requires first { Executes job.now job.now.asked.choices [] execution.old }
+    ensures printed { IfOk result (λ p. HasPrinted job.now p
+        (W.contents writer.old.inner) (W.contents writer.new.inner)) }
+    ensures kept { OnOk result (writer.new.failures.total ≡ writer.old.failures.total) }
+    ensures fault { IfErr result (λ e. HasStopped e job.now
+        (W.contents writer.old.inner) (W.contents writer.new.inner)
+        writer.old.failures.total writer.new.failures.total) }
+{
+    let mut printer = Printer::new(alloc, job);
+    print_events(alloc, job, limit, execution, &mut printer, writer)?;
+    let Printer {
+        pieces,
+        evidence,
+        ..
+    } = printer;
+    let printed = print_rest(alloc, job, execution, pieces, evidence, writer)?;
+    Ok(printed)
+}
+
 /// Prints the report of a job that is one run, as the run goes, and tells its verdict and how many processes still wait though its root
 /// returned. Where a write fails, a beginning of the report went out; where memory runs out, the lines of its first events did. What stands in
 /// the scratch makes no difference.
@@ -203,14 +232,7 @@ pub fn print_run<W: Write, M: Ledger>(
 {
     let limit = job.limit();
     let mut execution = first_execution(alloc, job, scratch.take_spare(alloc))?;
-    let mut printer = Printer::new(alloc, job);
-    print_events(alloc, job, limit, &mut execution, &mut printer, writer)?;
-    let Printer {
-        pieces,
-        evidence,
-        ..
-    } = printer;
-    let printed = print_rest(alloc, job, &execution, pieces, evidence, writer)?;
+    let printed = print_execution(alloc, job, limit, &mut execution, writer);
     scratch.put_spare(execution.system.into_spare());
-    Ok(printed)
+    printed
 }

@@ -1,6 +1,6 @@
 //! Runs made to their end at once: with their events, or without.
 
-ghost use Rattle.std.specs.Prelude.{◌≡◌, ◌≤◌, [], zero, IfOk, List, length, map};
+ghost use Rattle.std.specs.Prelude.{◌≡◌, ◌≤◌, [], ℕ, zero, IfOk, List, length, map};
 ghost use Rattle.pf_model.specs.Meaning as model;
 ghost use Rattle.pf_model.specs.Meaning.{Means};
 ghost use Rattle.pf_model.specs.Reports.{event_of, report_of};
@@ -8,6 +8,7 @@ ghost use Rattle.pf_model.specs.Shrinking.{by_schedule};
 ghost use Rattle.pf_strategy.specs.Runs.{MeansByPriorities};
 ghost use Rattle.pf_sched.specs.Closing.{Closes};
 ghost use Rattle.pf_sched.specs.Evidence.{Shows};
+ghost use Rattle.pf_sched.specs.Guided.{GoingBy};
 ghost use Rattle.pf_sched.specs.Judging.{IsJudged, Judges, JudgesByPriorities};
 ghost use Rattle.pf_sched.specs.Parts.{Executes};
 
@@ -87,6 +88,22 @@ pub(crate) fn judge(
 }
 
 /// The report of a run, from its first event on, by whichever choices.
+fn report_of_execution(
+    alloc: Global,
+    job: &Job,
+    execution: &mut Execution,
+) -> Result<Report, NoMemory>
+    requires { (cs : model.Choices) × Executes job.now cs [] execution.old }
+    ensures { IfOk result (λ r. (cs : model.Choices) → Executes job.now cs [] execution.old
+        → Means (record job.now.asked { choices = cs }) (report_of r)) }
+{
+    let mut events = Vec::new(alloc);
+    execution.complete(alloc, job, &mut events)?;
+    let report = report_of_events(alloc, job, &execution.system, events)?;
+    Ok(report)
+}
+
+/// The same, of which what is spare then comes to a scratch.
 fn report_to_end(
     alloc: Global,
     job: &Job,
@@ -97,11 +114,9 @@ fn report_to_end(
     ensures { IfOk result (λ r. (cs : model.Choices) → Executes job.now cs [] execution
         → Means (record job.now.asked { choices = cs }) (report_of r)) }
 {
-    let mut events = Vec::new(alloc);
-    execution.complete(alloc, job, &mut events)?;
-    let report = report_of_events(alloc, job, &execution.system, events)?;
+    let report = report_of_execution(alloc, job, &mut execution);
     scratch.put_spare(execution.system.into_spare());
-    Ok(report)
+    report
 }
 
 /// The report of a job that is one run. What stands in the scratch makes no difference.
@@ -127,16 +142,47 @@ pub fn report_by_schedule(
     report_to_end(alloc, job, execution, scratch)
 }
 
+/// How the run of a job comes out, from its first event on, of which none is kept.
+fn judge_execution(alloc: Global, job: &Job, execution: &mut Execution) -> Result<Judged, NoMemory>
+    requires { Executes job.now job.now.asked.choices [] execution.old }
+    ensures { IfOk result (λ v. Judges job.now.asked v) }
+{
+    let mut seen = Seen::new(&job.property);
+    execution.complete(alloc, job, &mut seen)?;
+    let judged = judge(alloc, job, &execution.system, seen.evidence)?;
+    Ok(judged)
+}
+
 /// What the report of a job that is one run tells but for its events, of which none is kept. What stands in the scratch makes no difference.
 pub fn judged_run(alloc: Global, job: &Job, scratch: &mut Scratch) -> Result<Judged, NoMemory>
     requires { job.now.asked.runs ≡ zero }
     ensures { IfOk result (λ v. Judges job.now.asked v) }
 {
     let mut execution = first_execution(alloc, job, scratch.take_spare(alloc))?;
-    let mut seen = Seen::new(&job.property);
-    execution.complete(alloc, job, &mut seen)?;
-    let judged = judge(alloc, job, &execution.system, seen.evidence)?;
+    let judged = judge_execution(alloc, job, &mut execution);
     scratch.put_spare(execution.system.into_spare());
+    judged
+}
+
+/// The report of a run by the priorities of a seed, from its first event on.
+fn report_of_guided(alloc: Global, job: &Job, guided: &mut Guided) -> Result<Report, NoMemory>
+    ensures { IfOk result (λ r. (seed : ℕ) → GoingBy job.now seed [] guided.old
+        → MeansByPriorities job.now.asked seed (report_of r)) }
+{
+    let mut events = Vec::new(alloc);
+    guided.complete(alloc, job, &mut events)?;
+    let report = report_of_events(alloc, job, &guided.system, events)?;
+    Ok(report)
+}
+
+/// How that run comes out, of whose events none is kept.
+fn judge_guided(alloc: Global, job: &Job, guided: &mut Guided) -> Result<Judged, NoMemory>
+    ensures { IfOk result (λ v. (seed : ℕ) → GoingBy job.now seed [] guided.old
+        → JudgesByPriorities job.now.asked seed v) }
+{
+    let mut seen = Seen::new(&job.property);
+    guided.complete(alloc, job, &mut seen)?;
+    let judged = judge(alloc, job, &guided.system, seen.evidence)?;
     Ok(judged)
 }
 
@@ -150,11 +196,9 @@ pub fn report_by_priorities(
     ensures { IfOk result (λ r. MeansByPriorities job.now.asked seed (report_of r)) }
 {
     let mut guided = Guided::new(alloc, job, seed, scratch.take_spare(alloc))?;
-    let mut events = Vec::new(alloc);
-    guided.complete(alloc, job, &mut events)?;
-    let report = report_of_events(alloc, job, &guided.system, events)?;
+    let report = report_of_guided(alloc, job, &mut guided);
     scratch.put_spare(guided.system.into_spare());
-    Ok(report)
+    report
 }
 
 /// What that report tells but for its events, of which none is kept. What stands in the scratch makes no difference.
@@ -167,11 +211,9 @@ pub fn judged_by_priorities(
     ensures { IfOk result (λ v. JudgesByPriorities job.now.asked seed v) }
 {
     let mut guided = Guided::new(alloc, job, seed, scratch.take_spare(alloc))?;
-    let mut seen = Seen::new(&job.property);
-    guided.complete(alloc, job, &mut seen)?;
-    let judged = judge(alloc, job, &guided.system, seen.evidence)?;
+    let judged = judge_guided(alloc, job, &mut guided);
     scratch.put_spare(guided.system.into_spare());
-    Ok(judged)
+    judged
 }
 
 /// The choices of the run that a job makes by the priorities of a seed, event by event: by them as a schedule it runs so again. What stands

@@ -1,12 +1,11 @@
-use Rattle.std.proofs.Common.{refl, ap}
-use Rattle.pf_sched.proofs.GuidedRuns.{few_so_far, means}
+use Rattle.std.proofs.Common.{ℕ, []}
+use Rattle.std.proofs.lemmas.Result.{IfOk-weaker}
+use Rattle.pf_sched.specs.Guided.{GoingBy}
+use Rattle.pf_sched.specs.Judging.{JudgesByPriorities}
 use Rattle.pf_sched.proofs.whole.judged_by_priorities.Goals as goal
 
 pub returns : goal.returns
 returns c =
     let j = c.args.job.now in
-    let x = c.complete.new.self in
-    let none = c.new-seen.ensures j.asked (ap (λ k. k.asked.property) c.job.view_is) in
-    let all = c.in_ok-complete.ensures c.args.seed c.in_ok-guided.ensures none in
-    let told = c.in_ok-judged.ensures all.0 (few_so_far j c.args.seed all.0 x all.1) ((refl, all.2.0.1), all.2.1) in
-    (told.0, means j c.args.seed all.0 x all.1 all.3 told.0 told.1, told.2)
+    IfOk-weaker c.judge_guided-judged.result (λ v. (seed : ℕ) → GoingBy j seed [] c.in_ok-guided.guided → JudgesByPriorities j.asked seed v)
+    (JudgesByPriorities j.asked c.args.seed) (λ v told. told c.args.seed c.in_ok-guided.ensures) c.judge_guided-judged.ensures

@@ -1,13 +1,13 @@
-use Rattle.std.proofs.Common.{map, ap, subst}
-use Rattle.pf_model.specs.Reports.{event_of, report_of}
-use Rattle.pf_sched.specs.Closing.{Closes}
-use Rattle.pf_sched.proofs.GuidedRuns.{means}
+use Rattle.std.proofs.Common.{ℕ, []}
+use Rattle.std.proofs.lemmas.Result.{IfOk-weaker}
+use Rattle.pf_model.specs.Reports.{report_of}
+use Rattle.pf_strategy.specs.Runs.{MeansByPriorities}
+use Rattle.pf_sched.specs.Guided.{GoingBy}
 use Rattle.pf_sched.proofs.whole.report_by_priorities.Goals as goal
 
 pub returns : goal.returns
 returns c =
     let j = c.args.job.now in
-    let x = c.complete.new.self in
-    let r = report_of c.in_ok-report.report in
-    let all = c.in_ok-complete.ensures c.args.seed c.in_ok-guided.ensures (ap (map event_of) c.new-events.ensures.items) in
-    means j c.args.seed all.0 x all.1 all.3 r (subst (λ es. Closes j es x.system r) all.2 c.in_ok-report.ensures)
+    IfOk-weaker c.report_of_guided-report.result
+    (λ r. (seed : ℕ) → GoingBy j seed [] c.in_ok-guided.guided → MeansByPriorities j.asked seed (report_of r))
+    (λ r. MeansByPriorities j.asked c.args.seed (report_of r)) (λ r told. told c.args.seed c.in_ok-guided.ensures) c.report_of_guided-report.ensures

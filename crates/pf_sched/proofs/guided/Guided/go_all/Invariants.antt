@@ -1,7 +1,7 @@
 use Rattle.std.proofs.Common.{◌≡◌, ℕ, List, [], length}
 use Rattle.pf_model.specs.Meaning.{Event}
 use Rattle.pf_sched.specs.Guided.{GoingBy}
-use Rattle.pf_sched.proofs.guided.Guided.complete.Given as goal
+use Rattle.pf_sched.proofs.guided.Guided.go_all.Given as goal
 
 -- the run of the same job by the same priorities, and its trace was told one event more for each turn that was made
 abbrev pub invariant-loop : goal.invariant-loop

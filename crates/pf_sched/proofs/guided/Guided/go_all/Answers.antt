@@ -2,7 +2,7 @@ use Rattle.std.proofs.Common.{◌≡◌, zero, ◌-◌, ◌<◌, ◌∷◌, ◌+
 use Rattle.pf_sched.specs.Guided.{IsCompleteBy, MayHaveGoneBy, WentBy}
 use Rattle.pf_sched.proofs.GuidedRuns.{ends_by_limit, next}
 use Rattle.pf_sched.proofs.Traces.{length_last}
-use Rattle.pf_sched.proofs.guided.Guided.complete.Goals as goal
+use Rattle.pf_sched.proofs.guided.Guided.go_all.Goals as goal
 
 pub returns-then-steps-limit : goal.returns-then-steps-limit
 returns-then-steps-limit g c seed first told =

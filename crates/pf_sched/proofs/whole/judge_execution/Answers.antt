@@ -1,10 +1,10 @@
 use Rattle.std.proofs.Common.{refl, ap}
 use Rattle.pf_sched.proofs.Reported.{means}
 use Rattle.pf_sched.proofs.Sliced.{few_so_far}
-use Rattle.pf_sched.proofs.whole.judged_run.Goals as goal
+use Rattle.pf_sched.proofs.whole.judge_execution.Goals as goal
 
 pub complete-requires-clause-first : goal.complete-requires-clause-first
-complete-requires-clause-first c = (c.args.job.now.asked.choices, c.in_ok-execution.ensures)
+complete-requires-clause-first c = (c.args.job.now.asked.choices, c.requires)
 
 pub complete-requires-clause-told : goal.complete-requires-clause-told
 complete-requires-clause-told c = c.new-seen.ensures c.args.job.now.asked (ap (λ k. k.asked.property) c.job.view_is)
@@ -13,6 +13,6 @@ pub returns : goal.returns
 returns c =
     let j = c.args.job.now in
     let x = c.complete.new.self in
-    let all = c.in_ok-complete.ensures j.asked.choices c.in_ok-execution.ensures in
+    let all = c.in_ok-complete.ensures j.asked.choices c.requires in
     let told = c.in_ok-judged.ensures all.0 (few_so_far j j.asked.choices all.0 x all.1) ((refl, all.2.0.1), all.2.1) in
     (told.0, means j j.asked.choices all.0 x all.1 all.3 told.0 told.1.events told.1.outcome told.1.steps told.1.verdict, told.2)

@@ -2,7 +2,7 @@ use Rattle.std.proofs.Common.{map, sym, subst}
 use Rattle.pf_model.specs.Reports.{event_of, report_of}
 use Rattle.pf_sched.specs.Parts.{Executes}
 use Rattle.pf_sched.proofs.Reported.{means}
-use Rattle.pf_sched.proofs.whole.report_to_end.Goals as goal
+use Rattle.pf_sched.proofs.whole.report_of_execution.Goals as goal
 
 pub returns : goal.returns
 returns c cs first =
