@@ -1,9 +1,8 @@
 //! What the words of `hunt` and of `chart` ask for.
 
+use crate::asked::{are_refused, asks, asks_hunt, taken_value};
 use crate::requests::{is_main, is_seeded};
-use pf_cli::{
-    Args, Asked, ChartArgs, Edition, HuntArgs, RunArgs, Sought, read_args, status_of_kind,
-};
+use pf_cli::{Args, ChartArgs, Edition, HuntArgs, RunArgs, Sought};
 use pf_strategy::Strategy;
 use std::alloc::Global;
 use std::test::Fail;
@@ -21,26 +20,6 @@ pub fn hunt_over<'a>(seeds: &'a str, more: &'a str) -> [&'a str; 7] {
     ]
 }
 
-/// What these words ask for, where it is a hunt.
-pub fn hunt_of<'a>(alloc: Global, words: &'a [&'a str]) -> Option<HuntArgs<'a>> {
-    match read_args(alloc, words) {
-        Ok(
-            Asked {
-                args: Args::Hunt(hunt),
-                ..
-            },
-        ) => Some(hunt),
-        _ => None,
-    }
-}
-
-/// The seeds that a hunt is to go over.
-fn seeds_of(alloc: Global, word: &str) -> Option<(u64, u64)> {
-    let words = hunt_over(word, "a.erl");
-    let hunt = hunt_of(alloc, &words)?;
-    Some((hunt.first, hunt.end))
-}
-
 #[test]
 fn seeds_of_a_hunt(rt: HostRuntime) {
     let largest = "--seeds=18446744073709551614..18446744073709551615";
@@ -54,7 +33,14 @@ fn seeds_of_a_hunt(rt: HostRuntime) {
         ("--seeds=5..=5", (5, 6)),
         (last, (0, u64::MAX)),
     ] {
-        assert_eq!(rt; seeds_of(rt.alloc(), word), Some(seeds));
+        assert!(rt;
+            asks_hunt(
+                rt.alloc(),
+                &hunt_over(word, "a.erl"),
+                |hunt| (hunt.first, hunt.end) == seeds
+            ),
+            "{word}"
+        );
     }
 }
 
@@ -69,7 +55,7 @@ fn is_of_defaults(hunt: &HuntArgs) -> bool {
 #[test]
 fn a_hunt_may_have_a_file_alone(rt: HostRuntime) {
     let words = ["pulsefarm", "hunt", "a.erl"];
-    assert!(rt; matches!(&hunt_of(rt.alloc(), &words), Some(hunt) if is_of_defaults(hunt)));
+    assert!(rt; asks_hunt(rt.alloc(), &words, is_of_defaults));
 }
 
 /// Whether a hunt has what it is given, and no more.
@@ -86,14 +72,12 @@ fn is_as_given(hunt: &HuntArgs) -> bool {
 #[test]
 fn a_hunt_has_what_it_is_given(rt: HostRuntime) {
     let words = hunt_over("--seeds=0..10", "a.erl");
-    assert!(rt; matches!(&hunt_of(rt.alloc(), &words), Some(hunt) if is_as_given(hunt)));
+    assert!(rt; asks_hunt(rt.alloc(), &words, is_as_given));
 }
 
-/// The seeds of a hunt for a time, and how many seconds it has; none where the word is refused.
-fn for_a_time(alloc: Global, word: &str) -> Option<(u64, u64, Option<u64>)> {
-    let words = hunt_over(word, "a.erl");
-    let hunt = hunt_of(alloc, &words)?;
-    Some((hunt.first, hunt.end, hunt.time))
+/// Whether a hunt over these seeds has this time, in seconds.
+fn has_time(hunt: &HuntArgs, seeds: (u64, u64), seconds: u64) -> bool {
+    (hunt.first, hunt.end) == seeds && hunt.time == Some(seconds)
 }
 
 #[test]
@@ -105,9 +89,12 @@ fn times_of_a_hunt(rt: HostRuntime) {
         ("--for=2h", 7200),
         ("--for=4294967295h", 15461882262000),
     ] {
-        assert_eq!(rt;
-            for_a_time(rt.alloc(), word),
-            Some((0, u64::MAX, Some(seconds))),
+        assert!(rt;
+            asks_hunt(
+                rt.alloc(),
+                &hunt_over(word, "a.erl"),
+                |hunt| has_time(hunt, (0, u64::MAX), seconds)
+            ),
             "{word}"
         );
     }
@@ -116,101 +103,85 @@ fn times_of_a_hunt(rt: HostRuntime) {
 #[test]
 fn seeds_and_a_time(rt: HostRuntime) {
     let words = hunt_over("--seeds=3..10", "--for=5m");
-    let hunt = hunt_of(rt.alloc(), &words);
-    assert!(rt;
-        matches!(&hunt, Some(hunt) if hunt.first == 3 && hunt.end == 10 && hunt.time == Some(300))
-    );
-}
-
-/// Whether a hunt seeks outcomes, or within how many runs it shrinks; none where the word is refused.
-fn sought(alloc: Global, word: &str) -> Option<(bool, Option<u32>)> {
-    let words = hunt_over("--seeds=0..10", word);
-    let hunt = hunt_of(alloc, &words)?;
-    match hunt.sought {
-        Sought::Outcomes => Some((true, None)),
-        Sought::Failure { runs } => Some((false, runs)),
-    }
+    assert!(rt; asks_hunt(rt.alloc(), &words, |hunt| has_time(hunt, (3, 10), 300)));
 }
 
 #[test]
 fn what_a_hunt_seeks(rt: HostRuntime) {
-    assert_eq!(rt; sought(rt.alloc(), "--all"), Some((true, None)));
-    let shrinking = sought(rt.alloc(), "--shrink=4294967295");
-    assert_eq!(rt; shrinking, Some((false, Some(4294967295))));
-}
-
-/// How many workers a hunt has; none where the word is refused.
-fn workers(alloc: Global, word: &str) -> Option<u32> {
-    let words = hunt_over("--seeds=0..10", word);
-    hunt_of(alloc, &words)?.workers
+    let words = hunt_over("--seeds=0..10", "--all");
+    assert!(rt;
+        asks_hunt(
+            rt.alloc(),
+            &words,
+            |hunt| matches!(hunt.sought, Sought::Outcomes)
+        )
+    );
+    let words = hunt_over("--seeds=0..10", "--shrink=4294967295");
+    assert!(rt;
+        asks_hunt(
+            rt.alloc(),
+            &words,
+            |hunt| matches!(
+                hunt.sought,
+                Sought::Failure {
+                    runs: Some(4294967295)
+                }
+            )
+        )
+    );
 }
 
 #[test]
 fn workers_of_a_hunt(rt: HostRuntime) {
-    assert_eq!(rt; workers(rt.alloc(), "--workers=1"), Some(1));
-    assert_eq!(rt; workers(rt.alloc(), "--workers=64"), Some(64));
-}
-
-/// What is said of words of `hunt` that are refused for this.
-fn refused_hunt(alloc: Global, why: &str) -> Result<String, Fail> {
-    Ok(format!(in alloc;
-        "error: {why}
-
-Usage: pulsefarm hunt [OPTIONS] [FILE]...
-
-For more information, try '--help'.
-"
-    )?)
-}
-
-/// Whether these words are refused for this, with the status 2.
-pub fn is_refused(alloc: Global, words: &[&str], why: &str) -> Result<bool, Fail> {
-    let text = refused_hunt(alloc, why)?;
-    match read_args(alloc, words) {
-        Ok(_) => Ok(false),
-        Err(error) => {
-            let shown = error.to_string(alloc)?;
-            Ok(shown.as_str() == text.as_str() && status_of_kind(error.kind()) == 2)
-        }
+    for (word, workers) in [("--workers=1", 1), ("--workers=64", 64)] {
+        let words = hunt_over("--seeds=0..10", word);
+        assert!(rt;
+            asks_hunt(rt.alloc(), &words, |hunt| hunt.workers == Some(workers)),
+            "{word}"
+        );
     }
 }
 
-/// The first of these values of an option of a hunt, after another word, that isn't refused as it wants something else.
-fn taken_value<'a>(
+/// How `hunt` is used.
+const USAGE_OF_HUNT: &str = "hunt [OPTIONS] [FILE]...";
+
+/// Whether these words of `hunt` are refused for this, with the status 2.
+pub fn is_refused(alloc: Global, words: &[&str], why: &str) -> Result<bool, Fail> {
+    are_refused(alloc, words, why, USAGE_OF_HUNT)
+}
+
+/// The first of these values of an option of a hunt, beside another word, that isn't refused as it wants something else.
+fn taken_by_hunt<'a>(
     alloc: Global,
     other: &str,
-    option: &str,
-    placeholder: &str,
+    option: (&str, &str),
     values: &[&'a str],
     wants: &str,
 ) -> Result<Option<&'a str>, Fail> {
-    for value in values {
-        let word = format!(in alloc; "{option}={value}")?;
-        let why = format!(in alloc;
-            "invalid value '{value}' for '{option} {placeholder}': it wants {wants}"
-        )?;
-        if !is_refused(alloc, &hunt_over(other, &word), &why)? {
-            return Ok(Some(*value));
-        }
-    }
-    Ok(None)
-}
-
-/// How the seeds of a hunt choose with this word; none where it is refused.
-fn strategy(alloc: Global, word: &str) -> Option<Strategy> {
-    let words = hunt_over("--seeds=0..10", word);
-    Some(hunt_of(alloc, &words)?.strategy)
+    let words = [
+        "pulsefarm",
+        "hunt",
+        "--root=main",
+        "--limit=5",
+        "--property=true",
+        other,
+    ];
+    taken_value(alloc, &words, USAGE_OF_HUNT, option, values, wants)
 }
 
 #[test]
 fn strategies_of_a_hunt(rt: HostRuntime) {
     for (word, wanted) in [
-        ("a.erl", Some(Strategy::Priorities)),
-        ("--strategy=pos", Some(Strategy::Priorities)),
-        ("--strategy=uniform", Some(Strategy::Uniform)),
-        ("--weights=9:1", Some(Strategy::Uniform)),
+        ("a.erl", Strategy::Priorities),
+        ("--strategy=pos", Strategy::Priorities),
+        ("--strategy=uniform", Strategy::Uniform),
+        ("--weights=9:1", Strategy::Uniform),
     ] {
-        assert_eq!(rt; strategy(rt.alloc(), word), wanted, "{word}");
+        let words = hunt_over("--seeds=0..10", word);
+        assert!(rt;
+            asks_hunt(rt.alloc(), &words, |hunt| hunt.strategy == wanted),
+            "{word}"
+        );
     }
 }
 
@@ -218,14 +189,8 @@ fn strategies_of_a_hunt(rt: HostRuntime) {
 fn wrong_strategies_are_named(rt: HostRuntime) -> Result<(), Fail> {
     let wants = "`pos` or `uniform`; `pos` beside a seed without weights alone";
     let values = ["", "po", "Pos", "weights"];
-    let taken = taken_value(
-        rt.alloc(),
-        "--seeds=0..5",
-        "--strategy",
-        "<S>",
-        &values,
-        wants,
-    )?;
+    let option = ("--strategy", "<S>");
+    let taken = taken_by_hunt(rt.alloc(), "--seeds=0..5", option, &values, wants)?;
     assert_eq!(rt; taken, None);
     Ok(())
 }
@@ -253,7 +218,7 @@ fn wrong_seeds_are_named(rt: HostRuntime) -> Result<(), Fail> {
         "0..18446744073709551616",
         "0..=18446744073709551615",
     ];
-    let taken = taken_value(rt.alloc(), "a.erl", "--seeds", "<A..B>", &values, wants)?;
+    let taken = taken_by_hunt(rt.alloc(), "a.erl", ("--seeds", "<A..B>"), &values, wants)?;
     assert_eq!(rt; taken, None);
     Ok(())
 }
@@ -263,7 +228,7 @@ fn wrong_times_are_named(rt: HostRuntime) -> Result<(), Fail> {
     let wants =
         "a number of seconds, minutes or hours above 0, without leading zeros, as 90s, 5m or 2h";
     let values = ["", "s", "5", "0s", "05s", "5ms", "5S", "4294967296s"];
-    let taken = taken_value(rt.alloc(), "a.erl", "--for", "<T>", &values, wants)?;
+    let taken = taken_by_hunt(rt.alloc(), "a.erl", ("--for", "<T>"), &values, wants)?;
     assert_eq!(rt; taken, None);
     Ok(())
 }
@@ -272,14 +237,8 @@ fn wrong_times_are_named(rt: HostRuntime) -> Result<(), Fail> {
 fn wrong_workers_are_named(rt: HostRuntime) -> Result<(), Fail> {
     let wants = "a number of threads from 1 to 64, without leading zeros";
     let values = ["", "0", "65", "01", "-1"];
-    let taken = taken_value(
-        rt.alloc(),
-        "--seeds=0..5",
-        "--workers",
-        "<N>",
-        &values,
-        wants,
-    )?;
+    let option = ("--workers", "<N>");
+    let taken = taken_by_hunt(rt.alloc(), "--seeds=0..5", option, &values, wants)?;
     assert_eq!(rt; taken, None);
     Ok(())
 }
@@ -287,14 +246,8 @@ fn wrong_workers_are_named(rt: HostRuntime) -> Result<(), Fail> {
 #[test]
 fn wrong_weights_are_named(rt: HostRuntime) -> Result<(), Fail> {
     let wants = "two numbers R:D from 1 to 9, R of a process and D of a channel";
-    let taken = taken_value(
-        rt.alloc(),
-        "--seeds=0..5",
-        "--weights",
-        "<R:D>",
-        &["3", "0:1", "1:10"],
-        wants,
-    )?;
+    let (option, values) = (("--weights", "<R:D>"), ["3", "0:1", "1:10"]);
+    let taken = taken_by_hunt(rt.alloc(), "--seeds=0..5", option, &values, wants)?;
     assert_eq!(rt; taken, None);
     Ok(())
 }
@@ -317,6 +270,19 @@ fn each_outcome_is_not_sought_with_a_shrinking(rt: HostRuntime) -> Result<(), Fa
     Ok(())
 }
 
+/// Whether words ask for a chart that is as told.
+fn asks_chart<'a, F>(alloc: Global, words: &'a [&'a str], is_so: F) -> bool
+where
+    F: Fn(&ChartArgs<'a>) -> bool + Drop,
+    requires { F.IsAlwaysCallable is_so }
+{
+    asks(
+        alloc,
+        words,
+        |asked| matches!(&asked.args, Args::Chart(chart) if is_so(chart)),
+    )
+}
+
 /// Whether it is a run of `main` of this file by the seed 3, asked whether it returns.
 fn returns_of(run: &RunArgs, file: &str) -> bool {
     run.file == Some(file) && is_main(&run.request, "returns", 5) && is_seeded(&run.request, 3)
@@ -332,10 +298,7 @@ fn a_chart_takes_the_words_of_a_run(rt: HostRuntime) {
         "--limit=5",
         "--seed=3",
     ];
-    let asked = read_args(rt.alloc(), &words);
-    assert!(rt;
-        matches!(&asked, Ok(Asked { args: Args::Chart(chart), .. }) if returns_of(&chart.run, "a.erl"))
-    );
+    assert!(rt; asks_chart(rt.alloc(), &words, |chart| returns_of(&chart.run, "a.erl")));
 }
 
 /// Whether a chart is of the run of `main` of this file within 100,000 steps, and has this manner.
@@ -349,9 +312,12 @@ fn is_drawn(chart: &ChartArgs, file: &str, compact: bool, page: u32) -> bool {
 #[test]
 fn a_chart_may_have_a_file_and_a_seed_alone(rt: HostRuntime) {
     let words = ["pulsefarm", "chart", "a.erl", "--seed=3"];
-    let asked = read_args(rt.alloc(), &words);
     assert!(rt;
-        matches!(&asked, Ok(Asked { args: Args::Chart(chart), .. }) if is_drawn(chart, "a.erl", false, 1))
+        asks_chart(
+            rt.alloc(),
+            &words,
+            |chart| is_drawn(chart, "a.erl", false, 1)
+        )
     );
 }
 
@@ -365,36 +331,22 @@ fn a_chart_has_the_manner_that_it_is_given(rt: HostRuntime) {
         "--seed=3",
         "--page=4294967295",
     ];
-    let asked = read_args(rt.alloc(), &words);
     assert!(rt;
-        matches!(&asked, Ok(Asked { args: Args::Chart(chart), .. }) if is_drawn(chart, "a.erl", true, u32::MAX))
+        asks_chart(
+            rt.alloc(),
+            &words,
+            |chart| is_drawn(chart, "a.erl", true, u32::MAX)
+        )
     );
-}
-
-/// Whether a page of this number is refused, with the status 2.
-fn is_refused_page(alloc: Global, value: &str) -> Result<bool, Fail> {
-    let word = format!(in alloc; "--page={value}")?;
-    let text = format!(in alloc;
-        "error: invalid value '{value}' for '--page <K>': it wants a number from 1 to 4294967295, without leading zeros
-
-Usage: pulsefarm chart [OPTIONS] <--seed <N>|--schedule <L>> [FILE]
-
-For more information, try '--help'.
-"
-    )?;
-    match read_args(alloc, &["pulsefarm", "chart", "--seed=3", &word]) {
-        Ok(_) => Ok(false),
-        Err(error) => {
-            let shown = error.to_string(alloc)?;
-            Ok(shown.as_str() == text.as_str() && status_of_kind(error.kind()) == 2)
-        }
-    }
 }
 
 #[test]
 fn wrong_pages_are_named(rt: HostRuntime) -> Result<(), Fail> {
-    for value in ["", "0", "01", "-1", "4294967296"] {
-        assert!(rt; is_refused_page(rt.alloc(), value)?, "{value}");
-    }
+    let words = ["pulsefarm", "chart", "--seed=3"];
+    let usage = "chart [OPTIONS] <--seed <N>|--schedule <L>> [FILE]";
+    let wants = "a number from 1 to 4294967295, without leading zeros";
+    let values = ["", "0", "01", "-1", "4294967296"];
+    let taken = taken_value(rt.alloc(), &words, usage, ("--page", "<K>"), &values, wants)?;
+    assert_eq!(rt; taken, None);
     Ok(())
 }

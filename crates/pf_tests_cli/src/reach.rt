@@ -1,6 +1,7 @@
 //! What the words of `hunt` go over.
 
-use crate::hunts::{hunt_of, is_refused};
+use crate::asked::asks_hunt;
+use crate::hunts::is_refused;
 use pf_cli::{HuntArgs, Roots};
 use std::alloc::Global;
 use std::test::Fail;
@@ -19,7 +20,11 @@ fn is_plain(hunt: &HuntArgs) -> bool {
 fn a_hunt_may_have_no_name(rt: HostRuntime) {
     let words = ["pulsefarm", "hunt"];
     assert!(rt;
-        matches!(&hunt_of(rt.alloc(), &words), Some(hunt) if has_names(hunt, None, &[]) && is_plain(hunt))
+        asks_hunt(
+            rt.alloc(),
+            &words,
+            |hunt| has_names(hunt, None, &[]) && is_plain(hunt)
+        )
     );
 }
 
@@ -27,42 +32,53 @@ fn a_hunt_may_have_no_name(rt: HostRuntime) {
 fn a_hunt_may_have_several_names(rt: HostRuntime) {
     let words = ["pulsefarm", "hunt", "a", "b", "--seeds=5", "a", "-"];
     assert!(rt;
-        matches!(&hunt_of(rt.alloc(), &words),
-            Some(hunt) if has_names(hunt, Some("a"), &["b", "a", "-"]) && is_plain(hunt))
+        asks_hunt(
+            rt.alloc(),
+            &words,
+            |hunt| has_names(hunt, Some("a"), &["b", "a", "-"]) && is_plain(hunt)
+        )
     );
 }
 
 #[test]
 fn the_first_name_may_be_the_standard_input(rt: HostRuntime) {
     let words = ["pulsefarm", "hunt", "-", "b"];
-    assert!(rt;
-        matches!(&hunt_of(rt.alloc(), &words), Some(hunt) if has_names(hunt, None, &["b"]))
-    );
+    assert!(rt; asks_hunt(rt.alloc(), &words, |hunt| has_names(hunt, None, &["b"])));
 }
 
 #[test]
 fn roots_of_a_hunt(rt: HostRuntime) {
     let every = ["pulsefarm", "hunt", "a", "--all-roots"];
     assert!(rt;
-        matches!(&hunt_of(rt.alloc(), &every), Some(hunt) if matches!(hunt.roots, Roots::Every))
+        asks_hunt(
+            rt.alloc(),
+            &every,
+            |hunt| matches!(hunt.roots, Roots::Every)
+        )
     );
     let named = ["pulsefarm", "hunt", "a", "--root=main"];
     assert!(rt;
-        matches!(&hunt_of(rt.alloc(), &named), Some(hunt) if matches!(hunt.roots, Roots::Named))
+        asks_hunt(
+            rt.alloc(),
+            &named,
+            |hunt| matches!(hunt.roots, Roots::Named)
+        )
     );
-}
-
-/// Whether a hunt of two names with this word ends behind the first root that fails, and whether leaks fail; none where it is refused.
-fn flags(alloc: Global, word: &str) -> Option<(bool, bool)> {
-    let words = ["pulsefarm", "hunt", "a", "b", word];
-    let hunt = hunt_of(alloc, &words)?;
-    Some((hunt.fail_fast, hunt.leaks))
 }
 
 #[test]
 fn flags_of_a_hunt(rt: HostRuntime) {
-    assert_eq!(rt; flags(rt.alloc(), "--fail-fast"), Some((true, false)));
-    assert_eq!(rt; flags(rt.alloc(), "--leaks"), Some((false, true)));
+    for (word, fail_fast, leaks) in [("--fail-fast", true, false), ("--leaks", false, true)] {
+        let words = ["pulsefarm", "hunt", "a", "b", word];
+        assert!(rt;
+            asks_hunt(
+                rt.alloc(),
+                &words,
+                |hunt| hunt.fail_fast == fail_fast && hunt.leaks == leaks
+            ),
+            "{word}"
+        );
+    }
 }
 
 #[test]
@@ -119,7 +135,7 @@ fn words_with(alloc: Global, count: usize, last: &'static str) -> Result<Vec<&'s
 fn a_hunt_has_at_most_4096_names(rt: HostRuntime) -> Result<(), Fail> {
     let alloc = rt.alloc();
     let most = words_with(alloc, 4_095, "b")?;
-    assert!(rt; matches!(&hunt_of(alloc, &most), Some(hunt) if hunt.more.len() == 4_095));
+    assert!(rt; asks_hunt(alloc, &most, |hunt| hunt.more.len() == 4_095));
     let more = words_with(alloc, 4_096, "b")?;
     let why =
         "invalid value 'b' for '[FILE]...': it wants at most 4,096 files, and this is the 4,097th";

@@ -1,31 +1,22 @@
 //! Weights and editions in words.
 
-use crate::hunts::{hunt_of, hunt_over};
+use crate::asked::{asks_hunt, asks_run};
+use crate::hunts::hunt_over;
 use crate::requests::weights_of;
-use crate::words::{is_refused, taken_value};
-use pf_cli::{Args, Asked, Edition, read_args};
-use std::alloc::Global;
+use crate::words::{is_refused, taken_by_run};
+use pf_cli::Edition;
 use std::test::Fail;
 
-/// The seed and the weights of a run by the seed 7 with this word; none where it is refused or has no weights.
-fn weights_of_run(alloc: Global, word: &str) -> Option<(u64, u32, u32)> {
-    let words = [
+/// The words of a run by the seed 7 with one more.
+fn run_with<'a>(word: &'a str) -> [&'a str; 6] {
+    [
         "pulsefarm",
         "run",
         "--root=main",
         "--limit=5",
         "--seed=7",
         word,
-    ];
-    match read_args(alloc, &words) {
-        Ok(
-            Asked {
-                args: Args::Run(asked),
-                ..
-            },
-        ) => weights_of(&asked.request),
-        _ => None,
-    }
+    ]
 }
 
 #[test]
@@ -36,7 +27,15 @@ fn weights_of_runs(rt: HostRuntime) {
         ("--weights=9:1", Some((7, 9, 1))),
         ("--property=true", None),
     ] {
-        assert_eq!(rt; weights_of_run(rt.alloc(), word), weights);
+        let words = run_with(word);
+        assert!(rt;
+            asks_run(
+                rt.alloc(),
+                &words,
+                |run| weights_of(&run.request) == weights
+            ),
+            "{word}"
+        );
     }
 }
 
@@ -47,7 +46,7 @@ fn wrong_weights_are_named(rt: HostRuntime) -> Result<(), Fail> {
     let values = [
         "", "3", "0:1", "1:0", "10:1", "1:10", "a:b", "3:", ":1", "03:1", "3:1:1", "-3:1",
     ];
-    let taken = taken_value(rt.alloc(), &others, "--weights", "<R:D>", &values, wants)?;
+    let taken = taken_by_run(rt.alloc(), &others, ("--weights", "<R:D>"), &values, wants)?;
     assert_eq!(rt; taken, None);
     Ok(())
 }
@@ -67,68 +66,50 @@ fn weights_go_with_a_seed(rt: HostRuntime) -> Result<(), Fail> {
     Ok(())
 }
 
-/// The seed and the weights of a hunt with this word; none where it is refused or has none.
-fn weights_of_hunt(alloc: Global, word: &str) -> Option<(u64, u32, u32)> {
-    let words = hunt_over("--seeds=3..10", word);
-    weights_of(&hunt_of(alloc, &words)?.request)
-}
-
 #[test]
 fn weights_of_hunts(rt: HostRuntime) {
-    assert_eq!(rt;
-        weights_of_hunt(rt.alloc(), "--weights=2:5"),
-        Some((0, 2, 5))
+    let words = hunt_over("--seeds=3..10", "--weights=2:5");
+    assert!(rt;
+        asks_hunt(
+            rt.alloc(),
+            &words,
+            |hunt| weights_of(&hunt.request) == Some((0, 2, 5))
+        )
     );
-}
-
-/// The number of the edition of a run with this word; none where it is refused.
-fn edition_of_run(alloc: Global, word: &str) -> Option<u32> {
-    let words = [
-        "pulsefarm",
-        "run",
-        "--root=main",
-        "--limit=5",
-        "--seed=7",
-        word,
-    ];
-    match read_args(alloc, &words) {
-        Ok(
-            Asked {
-                args: Args::Run(asked),
-                ..
-            },
-        ) => Some(asked.edition.number()),
-        _ => None,
-    }
 }
 
 #[test]
 fn editions_of_runs(rt: HostRuntime) {
     for (word, edition) in [
-        ("--edition=1", Some(1)),
-        ("--edition=2", Some(2)),
-        ("--property=true", Some(1)),
+        ("--edition=1", 1),
+        ("--edition=2", 2),
+        ("--property=true", 1),
     ] {
-        assert_eq!(rt; edition_of_run(rt.alloc(), word), edition);
+        let words = run_with(word);
+        assert!(rt;
+            asks_run(rt.alloc(), &words, |run| run.edition.number() == edition),
+            "{word}"
+        );
     }
-}
-
-/// Whether a hunt with this word is in edition 2.
-fn is_second(alloc: Global, word: &str) -> bool {
-    let words = hunt_over("--seeds=0..10", word);
-    matches!(hunt_of(alloc, &words), Some(hunt) if matches!(hunt.edition, Edition::Second))
 }
 
 #[test]
 fn editions_of_hunts(rt: HostRuntime) {
-    assert!(rt; is_second(rt.alloc(), "--edition=2"));
+    let words = hunt_over("--seeds=0..10", "--edition=2");
+    assert!(rt;
+        asks_hunt(
+            rt.alloc(),
+            &words,
+            |hunt| matches!(hunt.edition, Edition::Second)
+        )
+    );
 }
 
 #[test]
 fn wrong_editions_are_named(rt: HostRuntime) -> Result<(), Fail> {
     let others = ["--root=main", "--limit=5", "--seed=7"];
     let values = ["", "0", "3", "x", "02", "-1"];
-    let taken = taken_value(rt.alloc(), &others, "--edition", "<E>", &values, "1 or 2")?;
+    let taken = taken_by_run(rt.alloc(), &others, ("--edition", "<E>"), &values, "1 or 2")?;
     assert_eq!(rt; taken, None);
     Ok(())
 }

@@ -1,39 +1,14 @@
 //! What words ask for, and what is said of words that ask for nothing.
 
+use crate::asked::{are_refused, asks, asks_run, taken_value};
 use crate::requests::{is_main, is_scheduled, is_seeded, is_shrinking};
-use pf_cli::{Args, Asked, Edition, RunArgs, read_args, status_of_kind};
+use pf_cli::{Args, Edition, RunArgs};
 use std::alloc::Global;
 use std::test::Fail;
 
-const TWO_FILES: &str = "error: unexpected argument 'b' found
-
-Usage: pulsefarm steps [FILE]
-
-For more information, try '--help'.
-";
-
-/// What is said of words of `run` that are refused for this.
-fn refused_run(alloc: Global, why: &str) -> Result<String, Fail> {
-    Ok(format!(in alloc;
-        "error: {why}
-
-Usage: pulsefarm run [OPTIONS] --root <F> --limit <N> <--seed <N>|--schedule <L>> [FILE]
-
-For more information, try '--help'.
-"
-    )?)
-}
-
-/// Whether these words are refused with this text, and the status 2.
-fn are_refused(alloc: Global, words: &[&str], text: &str) -> Result<bool, Fail> {
-    match read_args(alloc, words) {
-        Ok(_) => Ok(false),
-        Err(error) => {
-            let shown = error.to_string(alloc)?;
-            Ok(shown.as_str() == text && status_of_kind(error.kind()) == 2)
-        }
-    }
-}
+/// How `run` is used.
+pub const USAGE_OF_RUN: &str =
+    "run [OPTIONS] --root <F> --limit <N> <--seed <N>|--schedule <L>> [FILE]";
 
 /// Whether these words of `run`, beside a root, are refused for this.
 pub fn is_refused(alloc: Global, words: &[&str; 3], why: &str) -> Result<bool, Fail> {
@@ -45,15 +20,15 @@ pub fn is_refused(alloc: Global, words: &[&str; 3], why: &str) -> Result<bool, F
         words[1],
         words[2],
     ];
-    let text = refused_run(alloc, why)?;
-    are_refused(alloc, &all, &text)
+    are_refused(alloc, &all, why, USAGE_OF_RUN)
 }
 
 #[test]
 fn texts_of_refused_words(rt: HostRuntime) -> Result<(), Fail> {
     let why = "the following required arguments were not provided:\n  --limit <N>";
     assert!(rt; is_refused(rt.alloc(), &["--seed=5", "--property=true", "a"], why)?);
-    assert!(rt; are_refused(rt.alloc(), &["pulsefarm", "steps", "a", "b"], TWO_FILES)?);
+    let (why, usage) = ("unexpected argument 'b' found", "steps [FILE]");
+    assert!(rt; are_refused(rt.alloc(), &["pulsefarm", "steps", "a", "b"], why, usage)?);
     Ok(())
 }
 
@@ -73,25 +48,15 @@ fn one_of_a_seed_and_a_schedule_is_given(rt: HostRuntime) -> Result<(), Fail> {
 }
 
 /// The first of these values of an option of `run`, beside the others, that isn't refused as it wants something else.
-pub fn taken_value<'a>(
+pub fn taken_by_run<'a>(
     alloc: Global,
     others: &[&str; 3],
-    option: &str,
-    placeholder: &str,
+    option: (&str, &str),
     values: &[&'a str],
     wants: &str,
 ) -> Result<Option<&'a str>, Fail> {
-    for value in values {
-        let word = format!(in alloc; "{option}={value}")?;
-        let words = ["pulsefarm", "run", others[0], others[1], others[2], &word];
-        let why = format!(in alloc;
-            "invalid value '{value}' for '{option} {placeholder}': it wants {wants}"
-        )?;
-        if !are_refused(alloc, &words, &refused_run(alloc, &why)?)? {
-            return Ok(Some(*value));
-        }
-    }
-    Ok(None)
+    let words = ["pulsefarm", "run", others[0], others[1], others[2]];
+    taken_value(alloc, &words, USAGE_OF_RUN, option, values, wants)
 }
 
 #[test]
@@ -99,7 +64,7 @@ fn wrong_limits_are_named(rt: HostRuntime) -> Result<(), Fail> {
     let wants = "a number of steps from 1 to 100000, without leading zeros";
     let others = ["--root=main", "--schedule=none", "a"];
     let values = ["007", "+5", "-1", "", "4294967296", "a b"];
-    let taken = taken_value(rt.alloc(), &others, "--limit", "<N>", &values, wants)?;
+    let taken = taken_by_run(rt.alloc(), &others, ("--limit", "<N>"), &values, wants)?;
     assert_eq!(rt; taken, None);
     Ok(())
 }
@@ -109,7 +74,7 @@ fn wrong_schedules_are_named(rt: HostRuntime) -> Result<(), Fail> {
     let wants = "`none`, or numbers from 0 to 4294967295 with commas between them";
     let others = ["--root=main", "--limit=5", "a"];
     let values = ["", "1,02", "1,,2", "all", "-1"];
-    let taken = taken_value(rt.alloc(), &others, "--schedule", "<L>", &values, wants)?;
+    let taken = taken_by_run(rt.alloc(), &others, ("--schedule", "<L>"), &values, wants)?;
     assert_eq!(rt; taken, None);
     Ok(())
 }
@@ -119,7 +84,7 @@ fn wrong_seeds_are_named(rt: HostRuntime) -> Result<(), Fail> {
     let wants = "a number from 0 to 18446744073709551615, without leading zeros";
     let others = ["--root=main", "--limit=5", "a"];
     let values = ["007", "-1", "", "18446744073709551616", "none"];
-    let taken = taken_value(rt.alloc(), &others, "--seed", "<N>", &values, wants)?;
+    let taken = taken_by_run(rt.alloc(), &others, ("--seed", "<N>"), &values, wants)?;
     assert_eq!(rt; taken, None);
     Ok(())
 }
@@ -149,9 +114,8 @@ fn values_of_words(rt: HostRuntime) {
             "--schedule",
             schedule,
         ];
-        let asked = read_args(rt.alloc(), &words);
         assert!(rt;
-            matches!(&asked, Ok(Asked { args: Args::Run(run), .. }) if is_as_given(run, numbers)),
+            asks_run(rt.alloc(), &words, |run| is_as_given(run, numbers)),
             "{schedule}"
         );
     }
@@ -174,51 +138,28 @@ fn seeds_and_properties(rt: HostRuntime) {
             "--seed",
             word,
         ];
-        let asked = read_args(rt.alloc(), &words);
         assert!(rt;
-            matches!(&asked, Ok(Asked { args: Args::Run(run), .. }) if is_judged(run, seed)),
+            asks_run(rt.alloc(), &words, |run| is_judged(run, seed)),
             "{word}"
         );
     }
 }
 
-/// What is said of words of `shrink` that are refused for this.
-fn refused_shrink(alloc: Global, why: &str) -> Result<String, Fail> {
-    Ok(format!(in alloc;
-        "error: {why}
-
-Usage: pulsefarm shrink [OPTIONS] --root <F> --limit <N> --schedule <L> --property <P> --runs <N> [FILE]
-
-For more information, try '--help'.
-"
-    )?)
-}
-
-/// The first of these numbers of runs that isn't refused.
-fn taken_runs<'a>(alloc: Global, values: &[&'a str]) -> Result<Option<&'a str>, Fail> {
-    let wants = "a number of runs from 1 to 1000, without leading zeros";
-    for value in values {
-        let word = format!(in alloc; "--runs={value}")?;
-        let words = [
-            "pulsefarm",
-            "shrink",
-            "--root=main",
-            "--limit=5",
-            "--schedule=none",
-            "--property=true",
-            &word,
-        ];
-        let why = format!(in alloc; "invalid value '{value}' for '--runs <N>': it wants {wants}")?;
-        if !are_refused(alloc, &words, &refused_shrink(alloc, &why)?)? {
-            return Ok(Some(*value));
-        }
-    }
-    Ok(None)
-}
-
 #[test]
 fn wrong_values_of_shrink_are_named(rt: HostRuntime) -> Result<(), Fail> {
-    let taken = taken_runs(rt.alloc(), &["007", "-1", "", "4294967296", "none"])?;
+    let words = [
+        "pulsefarm",
+        "shrink",
+        "--root=main",
+        "--limit=5",
+        "--schedule=none",
+        "--property=true",
+    ];
+    let usage =
+        "shrink [OPTIONS] --root <F> --limit <N> --schedule <L> --property <P> --runs <N> [FILE]";
+    let wants = "a number of runs from 1 to 1000, without leading zeros";
+    let values = ["007", "-1", "", "4294967296", "none"];
+    let taken = taken_value(rt.alloc(), &words, usage, ("--runs", "<N>"), &values, wants)?;
     assert_eq!(rt; taken, None);
     Ok(())
 }
@@ -244,9 +185,12 @@ fn values_of_shrink(rt: HostRuntime) {
         "--property=never:{a, _}",
         "--runs=4294967295",
     ];
-    let asked = read_args(rt.alloc(), &words);
     assert!(rt;
-        matches!(&asked, Ok(Asked { args: Args::Shrink(shrink), .. }) if has_what_is_given(shrink))
+        asks(
+            rt.alloc(),
+            &words,
+            |asked| matches!(&asked.args, Args::Shrink(shrink) if has_what_is_given(shrink))
+        )
     );
 }
 
@@ -259,9 +203,12 @@ fn files_of_steps(rt: HostRuntime) {
         (&["pulsefarm", "steps", "a.txt"], Some("a.txt")),
     ];
     for (words, file) in cases {
-        let asked = read_args(rt.alloc(), words);
         assert!(rt;
-            matches!(&asked, Ok(Asked { args: Args::Steps(steps), .. }) if steps.file == file)
+            asks(
+                rt.alloc(),
+                words,
+                |asked| matches!(&asked.args, Args::Steps(steps) if steps.file == file)
+            )
         );
     }
 }
@@ -279,9 +226,12 @@ fn words_of_check(rt: HostRuntime) {
         ),
     ];
     for (words, file, explain) in cases {
-        let asked = read_args(rt.alloc(), words);
         assert!(rt;
-            matches!(&asked, Ok(Asked { args: Args::Check(check), .. }) if check.file == file && check.explain == explain)
+            asks(
+                rt.alloc(),
+                words,
+                |asked| matches!(&asked.args, Args::Check(check) if check.file == file && check.explain == explain)
+            )
         );
     }
 }

@@ -1,11 +1,10 @@
 //! Each limit of a desk is reached at its number, and passed by one more. Memory is ample: no call may want it.
 
-use crate::told::{described, order_of, source_of};
+use crate::told::{add, described, order_of, source_of, told_by};
 use pf_book::{Book, Reply};
 use pf_request::{Kind, RunChoices};
 use pf_terms::NoMemory;
 use std::alloc::Global;
-use std::hash::RandomState;
 use std::sync::Arc;
 use std::test::Fail;
 
@@ -72,16 +71,22 @@ fn last_told(
     Ok(last)
 }
 
-/// What is told last in each row, which says who makes a call, how many times, and which.
-fn told(rt: &HostRuntime, rows: &[(u32, u32, Ask)]) -> Result<String, Fail> {
-    let alloc = rt.alloc();
-    let mut book = Book::new(alloc, RandomState::new(rt)?);
-    let mut text = String::new(alloc);
+/// Adds what is told last in each row, which says who makes a call, how many times, and which.
+fn tell_rows(
+    alloc: Global,
+    book: &mut Book,
+    rows: &[(u32, u32, Ask)],
+    told: &mut String,
+) -> Result<(), Fail> {
     for &(project, times, ask) in rows {
-        text.push_str(&last_told(alloc, &mut book, project, times, ask)?)?;
-        text.push_str(", ")?;
+        add(told, &last_told(alloc, book, project, times, ask)?)?;
     }
-    Ok(text)
+    Ok(())
+}
+
+/// What is told last in each row.
+fn told(rt: &HostRuntime, rows: &[(u32, u32, Ask)]) -> Result<String, Fail> {
+    told_by(rt, |alloc, book, text| tell_rows(alloc, book, rows, text))
 }
 
 #[test]
@@ -92,7 +97,7 @@ fn a_project_has_16_modules(rt: HostRuntime) -> Result<(), Fail> {
         (1, 1, Ask::Usage),
         (2, 1, Ask::Submit(60)),
     ];
-    let want = "module 16, refused Q1, 16 960 0 0 17, module 1, ";
+    let want = "module 16, refused Q1, 16 960 0 0 17, module 1";
     assert_eq!(rt; told(&rt, &rows)?.as_str(), want);
     Ok(())
 }
@@ -110,8 +115,8 @@ fn a_project_of_edition_2_has_64_modules(rt: HostRuntime) -> Result<(), Fail> {
         (1, 1, Ask::Submit(52)),
         (2, 17, Ask::Submit(52)),
     ];
-    let first = "refused Q1, has edition, module 17, refused B9, refused B8, 17 884 0 0 21, ";
-    let want = format!(in rt.alloc(); "{first}module 64, refused Q1, refused Q1, ")?;
+    let first = "refused Q1, has edition, module 17, refused B9, refused B8, 17 884 0 0 21";
+    let want = format!(in rt.alloc(); "{first}, module 64, refused Q1, refused Q1")?;
     assert_eq!(rt; told(&rt, &rows)?.as_str(), want.as_str());
     Ok(())
 }
@@ -129,8 +134,8 @@ fn a_weight_is_from_1_to_9(rt: HostRuntime) -> Result<(), Fail> {
         (1, 1, Ask::Weigh(1, 9, 100)),
         (1, 1, Ask::Usage),
     ];
-    let first = "module 1, refused B6, refused B7, refused B7, ticket 1, ticket 64, ";
-    let want = format!(in rt.alloc(); "{first}refused B7, refused Q3, 1 60 64 163 70, ")?;
+    let first = "module 1, refused B6, refused B7, refused B7, ticket 1, ticket 64";
+    let want = format!(in rt.alloc(); "{first}, refused B7, refused Q3, 1 60 64 163 70")?;
     assert_eq!(rt; told(&rt, &rows)?.as_str(), want.as_str());
     Ok(())
 }
@@ -143,7 +148,7 @@ fn a_project_has_262144_bytes(rt: HostRuntime) -> Result<(), Fail> {
         (1, 1, Ask::Usage),
         (2, 1, Ask::Submit(0)),
     ];
-    let want = "module 4, refused Q2, 4 262144 0 0 5, refused E4, ";
+    let want = "module 4, refused Q2, 4 262144 0 0 5, refused E4";
     assert_eq!(rt; told(&rt, &rows)?.as_str(), want);
     Ok(())
 }
@@ -156,7 +161,7 @@ fn a_project_has_64_trials(rt: HostRuntime) -> Result<(), Fail> {
         (1, 1, Ask::Order(1)),
         (1, 1, Ask::Usage),
     ];
-    let want = "module 1, ticket 64, refused Q3, 1 60 64 64 66, ";
+    let want = "module 1, ticket 64, refused Q3, 1 60 64 64 66";
     assert_eq!(rt; told(&rt, &rows)?.as_str(), want);
     Ok(())
 }
@@ -171,7 +176,7 @@ fn a_project_has_4000000_steps(rt: HostRuntime) -> Result<(), Fail> {
         (1, 1, Ask::Order(1)),
         (1, 1, Ask::Usage),
     ];
-    let want = "module 1, ticket 39, refused Q4, ticket 40, refused Q4, 1 60 40 4000000 43, ";
+    let want = "module 1, ticket 39, refused Q4, ticket 40, refused Q4, 1 60 40 4000000 43";
     assert_eq!(rt; told(&rt, &rows)?.as_str(), want);
     Ok(())
 }
@@ -184,7 +189,7 @@ fn a_project_has_10000_calls(rt: HostRuntime) -> Result<(), Fail> {
         (1, 1, Ask::Usage),
         (2, 1, Ask::Log),
     ];
-    let want = "9999 calls, refused Q5, refused Q5, 0 calls, ";
+    let want = "9999 calls, refused Q5, refused Q5, 0 calls";
     assert_eq!(rt; told(&rt, &rows)?.as_str(), want);
     Ok(())
 }

@@ -5,6 +5,7 @@ use pf_request::{Kind, Order, Request, ShortBytes, Source};
 use pf_sched::{JobResult, Scratch, Silent, run_to_end};
 use pf_terms::NoMemory;
 use std::alloc::Global;
+use std::hash::RandomState;
 use std::test::Fail;
 
 const SUM: &str = "-module(m). -export([main/0]). main() -> 1 + 2 * 3.";
@@ -101,4 +102,36 @@ pub(crate) fn worked(
             Ok(book.file(project, ticket, finished))
         }
     }
+}
+
+/// Adds to what is told, with a comma between.
+pub(crate) fn add(told: &mut String, what: &str) -> Result<(), Fail> {
+    if !told.is_empty() {
+        told.push_str(", ")?;
+    }
+    told.push_str(what)?;
+    Ok(())
+}
+
+/// Adds whether something is so.
+pub(crate) fn add_whether(told: &mut String, is_so: bool) -> Result<(), Fail> {
+    add(told, if is_so { "true" } else { "false" })
+}
+
+/// Adds a reply in words.
+pub(crate) fn add_reply(alloc: Global, told: &mut String, reply: Reply) -> Result<(), Fail> {
+    add(told, &described(alloc, reply)?)
+}
+
+/// What a story tells that begins with a new book.
+pub(crate) fn told_by<F>(rt: &HostRuntime, story: F) -> Result<String, Fail>
+where
+    F: FnOnce(Global, &mut Book, &mut String) -> Result<(), Fail> + Drop,
+    requires { F.IsAlwaysCallable story }
+{
+    let alloc = rt.alloc();
+    let mut book = Book::new(alloc, RandomState::new(rt)?);
+    let mut told = String::new(alloc);
+    story(alloc, &mut book, &mut told)?;
+    Ok(told)
 }

@@ -116,19 +116,35 @@ fn waits_on(
     }
 }
 
+/// How many tests there were in all behind each of three messages c and one a, whether that is taken, and how many messages are left.
+fn woken_by_four(
+    alloc: Global,
+    machine: &mut Machine,
+    mailbox: &mut Mailbox,
+    pool: &mut Pool<Term>,
+) -> Result<([u64; 4], bool, usize), Fail>
+    requires stands { CanMove machine.old.standing }
+    requires ready { IsAheadOf machine.old mailbox.old }
+{
+    let first = waits_on(alloc, machine, mailbox, pool)?;
+    let second = waits_on(alloc, machine, mailbox, pool)?;
+    let third = waits_on(alloc, machine, mailbox, pool)?;
+    let did = woken(alloc, machine, mailbox, pool, A)?;
+    let takes = matches!(did, Move::Take(Term::Atom(A)));
+    Ok((
+        [first, second, third, mailbox.tests()],
+        takes,
+        mailbox.len(),
+    ))
+}
+
 #[test]
 fn a_woken_machine_tests_what_is_new(rt: HostRuntime) -> Result<(), Fail> {
     let alloc = rt.alloc();
     let mut pool = Pool::new(alloc);
     let mut mailbox = Mailbox::new(alloc);
     let mut machine = receiver(alloc)?;
-    let first = waits_on(alloc, &mut machine, &mut mailbox, &mut pool)?;
-    let second = waits_on(alloc, &mut machine, &mut mailbox, &mut pool)?;
-    let third = waits_on(alloc, &mut machine, &mut mailbox, &mut pool)?;
-    assert_eq!(rt; (first, second, third), (1, 2, 3));
-    let did = woken(alloc, &mut machine, &mut mailbox, &mut pool, A)?;
-    assert!(rt; matches!(did, Move::Take(Term::Atom(A))));
-    assert_eq!(rt; mailbox.tests(), 4);
-    assert_eq!(rt; mailbox.len(), 3);
+    let told = woken_by_four(alloc, &mut machine, &mut mailbox, &mut pool)?;
+    assert_eq!(rt; told, ([1, 2, 3, 4], true, 3));
     Ok(())
 }

@@ -63,16 +63,17 @@ fn count(tally: &mut Tally, response: &Response) {
     }
 }
 
+/// A project submits the race.
+fn submit(alloc: Global, workshop: &mut Workshop, project: u32) -> Result<(), Fail> {
+    let call = Call::Submit(race(alloc)?);
+    workshop.step(alloc, Step::Call { project, call })?;
+    Ok(())
+}
+
 /// A workshop in which a project has submitted the race.
 fn opened(alloc: Global, keys: RandomState, project: u32) -> Result<Workshop, Fail> {
     let mut own = Workshop::new(alloc, keys, WORKERS)?;
-    own.step(
-        alloc,
-        Step::Call {
-            project,
-            call: Call::Submit(race(alloc)?),
-        },
-    )?;
+    submit(alloc, &mut own, project)?;
     Ok(own)
 }
 
@@ -89,8 +90,7 @@ fn all_alone(alloc: Global, keys: RandomState) -> Result<Vec<Workshop>, Fail> {
 fn all_together(alloc: Global, keys: RandomState) -> Result<Workshop, Fail> {
     let mut shared = Workshop::new(alloc, keys, WORKERS)?;
     for project in 0..PROJECTS {
-        let call = Call::Submit(race(alloc)?);
-        shared.step(alloc, Step::Call { project, call })?;
+        submit(alloc, &mut shared, project)?;
     }
     Ok(shared)
 }
@@ -126,25 +126,35 @@ fn agrees(
     Ok(same(&response, &again))
 }
 
-/// The number of the first step that is answered otherwise alone, and how many were done.
-fn first_other(alloc: Global, keys: RandomState) -> Result<(Option<u32>, Tally), Fail> {
-    let mut workshops = Workshops {
-        shared: all_together(alloc, keys)?,
-        alone: all_alone(alloc, keys)?,
-    };
-    let mut aims = Aims::new(alloc)?;
+/// The number of the first step that is answered otherwise alone.
+fn other_step(
+    alloc: Global,
+    workshops: &mut Workshops,
+    aims: &mut Aims,
+    tally: &mut Tally,
+) -> Result<Option<u32>, Fail> {
     let mut words = Words::new();
+    for number in 0..STEPS {
+        if !agrees(alloc, workshops, aims, &mut words, tally)? {
+            return Ok(Some(number));
+        }
+    }
+    Ok(None)
+}
+
+/// The same, and how many were done.
+fn first_other(alloc: Global, keys: RandomState) -> Result<(Option<u32>, Tally), Fail> {
+    let mut aims = Aims::new(alloc)?;
+    let shared = all_together(alloc, keys)?;
+    let alone = all_alone(alloc, keys)?;
+    let mut workshops = Workshops { shared, alone };
     let mut tally = Tally {
         chores: 0,
         stray: 0,
         reports: 0,
     };
-    for number in 0..STEPS {
-        if !agrees(alloc, &mut workshops, &mut aims, &mut words, &mut tally)? {
-            return Ok((Some(number), tally));
-        }
-    }
-    Ok((None, tally))
+    let other = other_step(alloc, &mut workshops, &mut aims, &mut tally)?;
+    Ok((other, tally))
 }
 
 #[test]
