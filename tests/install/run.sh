@@ -60,12 +60,12 @@ whole() {
   note "the copy has these crates alone, and is a repository" $?
   printf '%s\n' low left right high pulsefarm | cmp -s - "$FAKE/begun"
   note "each crate is proved once" $?
-  # (by the table each crate takes 100 seconds, and pulsefarm 625: on two processors or more the first chain is 100 + 100 + 100 + 625)
+  # (by the table each crate takes 100 seconds, and pulsefarm 588: on two processors or more the first chain is 100 + 100 + 100 + 588)
   cat > "$room/wanted" << 'END'
 0 of 5 crates, 0 minutes so far, some 15 more
-low proved; 1 of 5 crates, 0 minutes so far, some 14 more
-left proved; 2 of 5 crates, 0 minutes so far, some 14 more
-right proved; 3 of 5 crates, 0 minutes so far, some 12 more
+low proved; 1 of 5 crates, 0 minutes so far, some 13 more
+left proved; 2 of 5 crates, 0 minutes so far, some 13 more
+right proved; 3 of 5 crates, 0 minutes so far, some 11 more
 high proved; 4 of 5 crates, 0 minutes so far, some 10 more
 pulsefarm proved; 5 of 5 crates, 0 minutes so far, some 0 more
 END
