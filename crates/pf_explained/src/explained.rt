@@ -1,6 +1,20 @@
 //! The lines of the processes of a run.
 
-ghost use Rattle.std.specs.Prelude.{◌≡◌, zero, IfOk, IfSome};
+ghost use Rattle.std.specs.Prelude.{◌≡◌, zero, IfOk, Ok};
+ghost use Rattle.pf_cli.specs.Args.{view_of_run_args};
+ghost use Rattle.pf_model.specs.Limits.{IsEdition};
+ghost use Rattle.pf_model.specs.Reports.{report_of};
+ghost use Rattle.pf_request.specs.Module.{ReadModule};
+ghost use Rattle.pf_explained.specs.Explained.{
+  AreLines,
+  AsksOf,
+  Explains,
+  Finds,
+  IsModuleOf,
+  MeansBy,
+  Tells,
+  TellsRun,
+};
 
 use pf_cli::RunArgs;
 use pf_fault::{NoMemory, OrNoMemory};
@@ -12,26 +26,32 @@ use pf_sched::{Job, Scratch, report_by_priorities, report_of_run};
 use pf_standings::{KnownRun, Standing, put_standing, standings};
 use std::alloc::Global;
 
-/// The job that is asked for of a source of these bytes; none where the source is refused, or what is asked for of it, or a shrinking is.
+/// The job of one run that is asked for of a source of these bytes; none where the source is refused, or what is asked for of it, or a shrinking
+/// is.
 fn job_of(alloc: Global, args: &RunArgs, bytes: Vec<u8>) -> Result<Option<Job>, NoMemory>
-    ensures { IfOk result (λ found. IfSome found (λ job. job.asked.runs ≡ zero)) }
+    ensures { IfOk result (Finds (view_of_run_args args.now) bytes.items) }
 {
     let source = Source::new(alloc, bytes)?;
     let module = match ReadModule::read(alloc, &source) {
         Ok(module) => module,
-        Err(OrNoMemory::Fault(_)) => return Ok(None),
+        Err(OrNoMemory::Fault(_refusal)) => return Ok(None),
         Err(OrNoMemory::NoMemory) => return Err(NoMemory),
     };
-    match Job::new(alloc, module, &args.request, args.edition.number()) {
-        Ok(job) if job.runs() == 0 => Ok(Some(job)),
-        Ok(_) | Err(OrNoMemory::Fault(_)) => Ok(None),
-        Err(OrNoMemory::NoMemory) => Err(NoMemory),
+    let job = match Job::new(alloc, module, &args.request, args.edition.number()) {
+        Ok(job) => job,
+        Err(OrNoMemory::Fault(_refusal)) => return Ok(None),
+        Err(OrNoMemory::NoMemory) => return Err(NoMemory),
+    };
+    if job.runs() > 0 {
+        return Ok(None);
     }
+    Ok(Some(job))
 }
 
 /// The report of the run that is asked for.
-fn report_of(alloc: Global, args: &RunArgs, job: &Job) -> Result<Report, NoMemory>
+fn report_by(alloc: Global, args: &RunArgs, job: &Job) -> Result<Report, NoMemory>
     requires { job.now.asked.runs ≡ zero }
+    ensures { IfOk result (λ r. MeansBy args.now.priorities job.now.asked (report_of r)) }
 {
     let mut scratch = Scratch::new(alloc);
     match args.priorities {
@@ -46,26 +66,38 @@ fn lines_of(
     run: &KnownRun,
     places: &Places,
     standings: &[Standing],
-) -> Result<Vec<u8>, NoMemory> {
+) -> Result<Vec<u8>, NoMemory>
+    ensures { IfOk result (λ text. AreLines run.now places.now standings.now text.items) }
+{
     let mut text = Vec::new(alloc);
-    let mut pid = 0;
     for standing in standings {
-        put_standing(&mut text, run, places, pid, standing)?;
+        put_standing(&mut text, run, places, standing)?;
         text.push(b'\n')?;
-        pid = pid.saturating_add(1);
     }
     Ok(text)
 }
 
+/// The lines of a run's processes, with the places that a source gives.
+fn explain_known(alloc: Global, run: &KnownRun, source: &[u8]) -> Result<Vec<u8>, NoMemory>
+    requires { IsEdition run.now.edition }
+    ensures { IfOk result (λ text. TellsRun run.now source.now text.items) }
+{
+    let places = Places::new(alloc, run.module, source)?;
+    let standings = standings(alloc, run)?;
+    lines_of(alloc, run, &places, standings.as_slice())
+}
+
 /// The lines of a job's run.
 fn explain_job(alloc: Global, args: &RunArgs, job: &Job, source: &[u8]) -> Result<Vec<u8>, NoMemory>
-    requires { job.now.asked.runs ≡ zero }
+    requires runs { job.now.asked.runs ≡ zero }
+    requires asked { (m : ReadModule) × IsModuleOf source.now m × AsksOf (view_of_run_args args.now) m (Ok job.now) }
+    ensures { IfOk result (λ text. Tells job.now.asked args.now.priorities source.now text.items) }
 {
     let module = job.module();
     let Some(root) = module.root(args.request.root.as_slice()) else {
         return Ok(Vec::new(alloc));
     };
-    let report = report_of(alloc, args, job)?;
+    let report = report_by(alloc, args, job)?;
     let run = KnownRun {
         module,
         root,
@@ -73,14 +105,14 @@ fn explain_job(alloc: Global, args: &RunArgs, job: &Job, source: &[u8]) -> Resul
         limit: job.limit(),
         events: report.events.as_slice(),
     };
-    let places = Places::new(alloc, module, source)?;
-    let standings = standings(alloc, &run)?;
-    lines_of(alloc, &run, &places, standings.as_slice())
+    explain_known(alloc, &run, source)
 }
 
 /// What is said of the processes of the run that is asked for of a source: of each, by pid, a line that tells in whose call it began, and how it
-/// stands when the run is over. Nothing is said where the source is refused, or what is asked for of it.
-pub fn explain_run(alloc: Global, args: &RunArgs, source: &[u8]) -> Result<Vec<u8>, NoMemory> {
+/// stands when the run is over. Nothing is said where the source is refused, or what is asked for of it, or where that is a shrinking.
+pub fn explain_run(alloc: Global, args: &RunArgs, source: &[u8]) -> Result<Vec<u8>, NoMemory>
+    ensures { IfOk result (λ text. Explains (view_of_run_args args.now) source.now text.items) }
+{
     let bytes = Vec::from_slice(alloc, source)?;
     match job_of(alloc, args, bytes)? {
         Some(job) => explain_job(alloc, args, &job, source),

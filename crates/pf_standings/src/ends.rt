@@ -1,5 +1,12 @@
 //! Who ended in an event, and how.
 
+ghost use Rattle.std.specs.Prelude.{◌≡◌, ℕ, IfSome, option_map};
+ghost use Rattle.pf_terms.specs.Term.{value_of};
+ghost use Rattle.pf_model.specs.Meaning as model;
+ghost use Rattle.pf_model.specs.Reports.{actor_of, event_of, label_of};
+ghost use Rattle.pf_model.specs.Runs.{channel, process};
+ghost use Rattle.pf_standings.specs.Fates.{EndsItself, EndsSo, is_struck, who_ends};
+
 use pf_model::report::{Actor, Event, Label, Suffix};
 use pf_terms::{AtomId, Term};
 
@@ -20,25 +27,60 @@ pub(crate) struct Ended {
 }
 
 /// By itself, with this reason.
-fn end_with(reason: &Term) -> End {
+fn end_with(reason: &Term) -> End
+    ensures { (p : ℕ) (e : model.Event) → EndsItself p (value_of reason.now) e → EndsSo p result e }
+{
     match reason {
         Term::Atom(AtomId::NORMAL) => End::Normal,
         _ => End::Failed,
     }
 }
 
-/// Who ended in an event, if somebody did.
-pub(crate) fn ended_in(event: &Event) -> Option<Ended> {
-    match (event.actor, &event.label) {
-        (Actor::Process(pid), Label::Ends(reason)) => {
-            let end = end_with(reason);
-            Some(Ended { pid, end })
-        }
-        (Actor::Channel { from, to }, Label::Delivers(_, Suffix::EndingWith(_))) => {
-            let end = End::Killed(from);
-            Some(Ended { pid: to, end })
-        }
+/// A process that ended by itself in a turn that showed this, if it did.
+fn ended_itself(pid: u32, label: &Label) -> Option<Ended>
+    ensures who { option_map (λ x. x.pid) result ≡ who_ends (process pid) (label_of label.now) }
+    ensures how { IfSome result (λ x. (e : model.Event) → e.actor ≡ process pid
+        → e.label ≡ label_of label.now → EndsSo x.pid x.end e) }
+{
+    match label {
+        Label::Ends(reason) => Some(Ended {
+            pid,
+            end: end_with(reason),
+        }),
         _ => None,
+    }
+}
+
+/// Whether a delivery that showed this ended its receiver.
+fn is_struck(label: &Label) -> bool
+    ensures { result ≡ is_struck (label_of label.now) }
+{
+    matches!(label, Label::Delivers(_, Suffix::EndingWith(_)))
+}
+
+/// A process that ended by a delivery that showed this, if it did.
+fn ended_by(from: u32, to: u32, label: &Label) -> Option<Ended>
+    ensures who { option_map (λ x. x.pid) result ≡ who_ends (channel from to) (label_of label.now) }
+    ensures how { IfSome result (λ x. (e : model.Event) → e.actor ≡ channel from to
+        → e.label ≡ label_of label.now → EndsSo x.pid x.end e) }
+{
+    if is_struck(label) {
+        let end = End::Killed(from);
+        Some(Ended { pid: to, end })
+    } else {
+        None
+    }
+}
+
+/// Who ended in an event, if somebody did.
+pub(crate) fn ended_in(event: &Event) -> Option<Ended>
+    ensures who { option_map (λ x. x.pid) result
+        ≡ who_ends (actor_of event.now.actor) (label_of event.now.label) }
+    ensures how { IfSome result (λ x. EndsSo x.pid x.end (event_of event.now)) }
+{
+    match event.actor {
+        Actor::Process(pid) => ended_itself(pid, &event.label),
+        Actor::Channel { from, to } => ended_by(from, to, &event.label),
     }
 }
 

@@ -1,9 +1,17 @@
 //! A run that is made again by the choices of its events.
 
-ghost use Rattle.std.specs.Prelude.{◌≡◌, IfOk, IfSome};
+ghost use Rattle.std.specs.Prelude.{◌≡◌, [], false, IfOk, IfSome, MatchOption, OnOk, Some, option_map, slice_get};
+ghost use Rattle.pf_model.specs.Configuration.{Configuration, is_alive, of};
+ghost use Rattle.pf_model.specs.Deliveries.{woken};
 ghost use Rattle.pf_model.specs.Limits.{IsEdition};
-ghost use Rattle.pf_model.specs.Reports.{actor_of};
+ghost use Rattle.pf_model.specs.Reports.{actor_of, label_of};
+ghost use Rattle.pf_model.specs.Runs.{enabled, start};
+ghost use Rattle.pf_stepper.specs.Points.{IsCalling};
 ghost use Rattle.pf_system.specs.Steps.{MayGo};
+ghost use Rattle.pf_system.specs.View.{view_of_system};
+ghost use Rattle.pf_standings.specs.Fates.{StandsAt, begun_in};
+ghost use Rattle.pf_standings.specs.Followed.{HasGone, IsFollowed};
+ghost use Rattle.pf_standings.specs.Known.{ComesTo, code_of};
 
 use crate::known::KnownRun;
 use pf_model::report::{Actor, Label};
@@ -15,7 +23,9 @@ use std::alloc::Global;
 
 /// The actor at the index of a choice among those who may go.
 pub(crate) fn chosen(system: &System, choice: u32) -> Option<Actor>
-    ensures { IfSome result (λ actor. MayGo (actor_of actor) system.now.standing) }
+    ensures may_go { IfSome result (λ actor. MayGo (actor_of actor) system.now.standing) }
+    ensures chosen { (c : Configuration) → system.now.standing ≡ Some c
+        → option_map actor_of result ≡ slice_get (enabled c) choice }
 {
     let enabled = system.enabled();
     let index = choice as usize;
@@ -33,7 +43,10 @@ pub(crate) fn go(
     choice: u32,
     limit: u32,
     shown: &mut Label,
-) -> Result<bool, NoMemory> {
+) -> Result<bool, NoMemory>
+    ensures { IfOk result (λ went. (c : Configuration) → system.old.standing ≡ Some c
+        → HasGone limit choice c system.old (label_of shown.new) system.new went) }
+{
     if system.steps() >= limit {
         return Ok(false);
     }
@@ -47,13 +60,20 @@ pub(crate) fn go(
 }
 
 /// Where a process stands; none where it has ended.
-pub(crate) fn point_of(system: &System, pid: u32) -> Option<Point> {
+pub(crate) fn point_of(system: &System, pid: u32) -> Option<Point>
+    ensures { (c : Configuration) → system.now.standing ≡ Some c
+        → MatchOption result (is_alive (of c.core pid).state ≡ false)
+        (StandsAt system.now.code (of c.core pid).state) }
+{
     let (_module, point) = system.point(pid)?;
     Some(point)
 }
 
 /// The function in whose call a process stands that only begins.
-fn called(system: &System, pid: u32) -> Option<FunctionId> {
+fn called(system: &System, pid: u32) -> Option<FunctionId>
+    ensures { (c : Configuration) → system.now.standing ≡ Some c
+        → IfSome result (IsCalling (woken (of c.core pid).state)) }
+{
     match point_of(system, pid) {
         Some(Point::Calls(function)) => Some(function),
         _ => None,
@@ -61,32 +81,49 @@ fn called(system: &System, pid: u32) -> Option<FunctionId> {
 }
 
 /// The process that a label tells to have begun.
-fn begun_in(label: &Label) -> Option<u32> {
+fn begun_in(label: &Label) -> Option<u32>
+    ensures { result ≡ begun_in (label_of label.now) }
+{
     match label {
         Label::Spawns { pid, .. } | Label::SpawnsWatched { pid, .. } => Some(*pid),
         _ => None,
     }
 }
 
-/// A run behind its last event, and in whose call each process began, by pid.
+/// A process that began, and the function in whose call it did.
+#[derive(Clone, Copy, Debug, PartialEq, Eq)]
+pub(crate) struct Begun {
+    pub pid: u32,
+    pub function: Option<FunctionId>,
+}
+
+/// A run behind its last event, and its processes, by pid.
 #[derive(Drop)]
 pub(crate) struct Followed {
     pub system: System,
-    pub begun: Vec<Option<FunctionId>>,
+    pub begun: Vec<Begun>,
 }
 
 impl Followed {
     /// Makes the events of a run.
-    fn go_through(&mut self, alloc: Global, run: &KnownRun) -> Result<(), NoMemory> {
-        self.begun.push(Some(run.root))?;
+    fn go_through(&mut self, alloc: Global, run: &KnownRun) -> Result<(), NoMemory>
+        requires system { self.old.system
+            ≡ view_of_system (code_of run.now) 0 (Some (start run.now.root.0 run.now.edition)) }
+        requires none { self.old.begun.items ≡ [] }
+        ensures { OnOk result ((d : Configuration) → ComesTo run.now d → IsFollowed run.now d self.new) }
+    {
+        self.begun.push(Begun {
+            pid: 0,
+            function: Some(run.root),
+        })?;
         let mut shown = Label::Waits;
         for event in run.events {
             if !go(alloc, &mut self.system, event.choice, run.limit, &mut shown)? {
-                break;
+                return Ok(());
             }
             if let Some(pid) = begun_in(&shown) {
                 let function = called(&self.system, pid);
-                self.begun.push(function)?;
+                self.begun.push(Begun { pid, function })?;
             }
         }
         Ok(())
@@ -96,6 +133,7 @@ impl Followed {
 /// Makes a run again.
 pub(crate) fn follow(alloc: Global, run: &KnownRun) -> Result<Followed, NoMemory>
     requires { IsEdition run.now.edition }
+    ensures { IfOk result (λ f. (d : Configuration) → ComesTo run.now d → IsFollowed run.now d f) }
 {
     let mut followed = Followed {
         system: System::new(alloc, run.module, run.root, run.edition)?,

@@ -1,5 +1,23 @@
 //! The lines that tell how processes stand.
 
+ghost use Rattle.std.specs.Prelude.{◌≡◌, ◌++◌, OnOk, Some, option_map, slice_get};
+ghost use Rattle.pf_standings.specs.Known.{events_of};
+ghost use Rattle.pf_standings.specs.Lines.{
+  IsFateText,
+  IsLine,
+  IsNodeAt,
+  IsPointText,
+  Puts,
+  begun_text,
+  call_text,
+  called,
+  function_text,
+  line_text,
+  place_of,
+  place_text,
+  reason_text,
+};
+
 use crate::known::KnownRun;
 use crate::standing::{Fate, Standing};
 use pf_model::report::Label;
@@ -14,7 +32,9 @@ pub fn put_function(
     out: &mut Vec<u8>,
     module: &Module,
     function: FunctionId,
-) -> Result<(), NoMemory> {
+) -> Result<(), NoMemory>
+    ensures { OnOk result (out.new.items ≡ out.old.items ++ function_text «module».now function.0) }
+{
     let Some(found) = module.function(function) else {
         return Ok(());
     };
@@ -24,7 +44,9 @@ pub fn put_function(
 }
 
 /// The node at which a process stands.
-fn node_at(module: &Module, point: Point) -> Option<NodeId> {
+fn node_at(module: &Module, point: Point) -> Option<NodeId>
+    ensures { IsNodeAt «module».now point result }
+{
     match point {
         Point::Before(node) => Some(Places::innermost(module, node, None)),
         Point::Within(node, part) => {
@@ -35,24 +57,58 @@ fn node_at(module: &Module, point: Point) -> Option<NodeId> {
     }
 }
 
-/// The function that a process calls where it stands, if it calls one.
-fn called_at(module: &Module, point: Point) -> Option<FunctionId> {
+/// The function that a process calls where it stands, at this node, if it calls one.
+fn called_at(module: &Module, point: Point, node: Option<NodeId>) -> Option<FunctionId>
+    ensures { option_map (λ f. f.0) result ≡ called «module».now point node }
+{
     if let Point::Calls(function) = point {
         return Some(function);
     }
-    match module.node(node_at(module, point)?) {
+    match module.node(node?) {
         Some(Node::Call(function, _)) => Some(*function),
         _ => None,
     }
 }
 
 /// Puts the function and the line of a place.
-fn put_place(out: &mut Vec<u8>, module: &Module, place: Place) -> Result<(), NoMemory> {
+fn put_place(out: &mut Vec<u8>, module: &Module, place: Place) -> Result<(), NoMemory>
+    ensures { OnOk result (out.new.items ≡ out.old.items ++ place_text «module».now (Some place)) }
+{
     put(out, b" in ")?;
     put_function(out, module, place.function)?;
     if let Some(line) = place.line {
         put(out, b", line ")?;
         put_number(out, u64::from(line))?;
+    }
+    Ok(())
+}
+
+/// Puts the place of the node at which a process stands, if it has one.
+fn put_node(
+    out: &mut Vec<u8>,
+    module: &Module,
+    places: &Places,
+    node: Option<NodeId>,
+) -> Result<(), NoMemory>
+    ensures { OnOk result (out.new.items
+        ≡ out.old.items ++ place_text «module».now (place_of places.now node)) }
+{
+    if let Some(node) = node {
+        if let Some(place) = places.place(node) {
+            put_place(out, module, place)?;
+        }
+    }
+    Ok(())
+}
+
+/// Puts the function that a process calls where it stands, if it calls one.
+fn put_call(out: &mut Vec<u8>, module: &Module, called: Option<FunctionId>) -> Result<(), NoMemory>
+    ensures { OnOk result (out.new.items
+        ≡ out.old.items ++ call_text «module».now (option_map (λ f. f.0) called)) }
+{
+    if let Some(function) = called {
+        put(out, b", at the call of ")?;
+        put_function(out, module, function)?;
     }
     Ok(())
 }
@@ -63,21 +119,19 @@ fn put_point(
     module: &Module,
     places: &Places,
     point: Point,
-) -> Result<(), NoMemory> {
-    if let Some(node) = node_at(module, point) {
-        if let Some(place) = places.place(node) {
-            put_place(out, module, place)?;
-        }
-    }
-    if let Some(function) = called_at(module, point) {
-        put(out, b", at the call of ")?;
-        put_function(out, module, function)?;
-    }
-    Ok(())
+) -> Result<(), NoMemory>
+    ensures { OnOk result (Puts out.old.items out.new.items (IsPointText «module».now places.now point)) }
+{
+    let node = node_at(module, point);
+    put_node(out, module, places, node)?;
+    put_call(out, module, called_at(module, point, node))
 }
 
 /// Puts the reason with which the process of an event ended.
-fn put_reason(out: &mut Vec<u8>, run: &KnownRun, event: usize) -> Result<(), NoMemory> {
+fn put_reason(out: &mut Vec<u8>, run: &KnownRun, event: usize) -> Result<(), NoMemory>
+    ensures { OnOk result (out.new.items ≡ out.old.items
+        ++ reason_text run.now.module.now.value.atoms (slice_get (events_of run.now) event)) }
+{
     let Some(told) = run.events.get(event) else {
         return Ok(());
     };
@@ -89,12 +143,9 @@ fn put_reason(out: &mut Vec<u8>, run: &KnownRun, event: usize) -> Result<(), NoM
 }
 
 /// Puts how a process stands.
-fn put_fate(
-    out: &mut Vec<u8>,
-    run: &KnownRun,
-    places: &Places,
-    fate: Fate,
-) -> Result<(), NoMemory> {
+fn put_fate(out: &mut Vec<u8>, run: &KnownRun, places: &Places, fate: Fate) -> Result<(), NoMemory>
+    ensures { OnOk result (Puts out.old.items out.new.items (IsFateText run.now places.now fate)) }
+{
     let module = run.module;
     match fate {
         Fate::Normal => put(out, b" ended normally"),
@@ -118,18 +169,27 @@ fn put_fate(
     }
 }
 
+/// Puts in whose call a process began, where that is known.
+fn put_begun(out: &mut Vec<u8>, module: &Module, begun: Option<FunctionId>) -> Result<(), NoMemory>
+    ensures { OnOk result (out.new.items ≡ out.old.items ++ begun_text «module».now begun) }
+{
+    if let Some(function) = begun {
+        put(out, b" ")?;
+        put_function(out, module, function)?;
+    }
+    Ok(())
+}
+
 /// Puts the line of a process, without a line end: its pid, in whose call it began, and how it stands.
 pub fn put_standing(
     out: &mut Vec<u8>,
     run: &KnownRun,
     places: &Places,
-    pid: u32,
     standing: &Standing,
-) -> Result<(), NoMemory> {
-    put_pid(out, pid)?;
-    if let Some(function) = standing.begun {
-        put(out, b" ")?;
-        put_function(out, run.module, function)?;
-    }
+) -> Result<(), NoMemory>
+    ensures { OnOk result (Puts out.old.items out.new.items (IsLine run.now places.now standing.now)) }
+{
+    put_pid(out, standing.pid)?;
+    put_begun(out, run.module, standing.begun)?;
     put_fate(out, run, places, standing.fate)
 }

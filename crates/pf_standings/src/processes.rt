@@ -1,21 +1,34 @@
 //! The processes of a run when it is over.
 
+ghost use Rattle.std.specs.Prelude.{◌≡◌, true, IfOk, IfSome, List, Some, length, map};
+ghost use Rattle.pf_model.specs.Configuration.{Configuration, is_alive, of};
 ghost use Rattle.pf_model.specs.Limits.{IsEdition};
+ghost use Rattle.pf_model.specs.Meaning as model;
+ghost use Rattle.pf_standings.specs.Fates.{AreStandings, EndsAt, HasEnded, LivesSo};
+ghost use Rattle.pf_standings.specs.Followed.{AreByPid};
+ghost use Rattle.pf_standings.specs.Known.{ComesTo, events_of};
+ghost use Rattle.pf_standings.specs.Lines.{AreNames, name_text};
+ghost use Rattle.pf_standings.specs.Put.{AreAtEnd, ArePlaced, AreStanding, HasFailed, IsPut, TellEnds};
+ghost use Rattle.pf_standings.specs.declared.standing.Standing.{Standing};
 
 use crate::ends::{End, Ended, ended_in};
 use crate::failures::{Failure, failures};
-use crate::follow::{Followed, follow, point_of};
+use crate::follow::{Begun, Followed, follow, point_of};
 use crate::known::KnownRun;
 use crate::lines::put_function;
 use crate::standing::{Fate, Standing};
 use pf_stepper::Point;
-use pf_syntax::FunctionId;
+use pf_syntax::{FunctionId, Module};
 use pf_system::System;
 use pf_terms::NoMemory;
 use std::alloc::Global;
 
 /// How a process stands that hasn't ended.
-fn fate_in(system: &System, pid: u32) -> Fate {
+fn fate_in(system: &System, pid: u32) -> Fate
+    ensures { (c : Configuration) → system.now.standing ≡ Some c
+        → is_alive (of c.core pid).state ≡ true
+        → LivesSo system.now.code (of c.core pid).state result }
+{
     let point = point_of(system, pid).unwrap_or(Point::Nowhere);
     let enabled = system.enabled();
     if enabled.pids().contains(&pid) {
@@ -26,88 +39,124 @@ fn fate_in(system: &System, pid: u32) -> Fate {
 }
 
 /// All processes as those stand that haven't ended.
-fn standing_in(alloc: Global, followed: &Followed) -> Result<Vec<Standing>, NoMemory> {
+fn standing_in(alloc: Global, followed: &Followed) -> Result<Vec<Standing>, NoMemory>
+    ensures { IfOk result (λ v. (c : Configuration) → followed.now.system.standing ≡ Some c
+        → AreByPid followed.now.begun.items
+        → AreStanding followed.now.system.code c followed.now.begun.items
+        (length followed.now.begun.items) v.items) }
+{
     let mut standings = Vec::new(alloc);
-    let mut pid = 0;
     for begun in &followed.begun {
         standings.push(Standing {
-            begun: *begun,
-            fate: fate_in(&followed.system, pid),
+            pid: begun.pid,
+            begun: begun.function,
+            fate: fate_in(&followed.system, begun.pid),
         })?;
-        pid = pid.saturating_add(1);
     }
     Ok(standings)
 }
 
-/// All processes of a run as those stand that haven't ended.
-fn standing_so_far(alloc: Global, run: &KnownRun) -> Result<Vec<Standing>, NoMemory>
-    requires { IsEdition run.now.edition }
+/// The fate of a process that ended so in the event of this number; where it failed isn't known yet.
+fn fate_by(ended: Ended, event: usize) -> Fate
+    ensures { (es : List model.Event) → EndsAt es ended.pid ended.end event
+        → HasEnded es ended.pid result }
 {
-    let followed = follow(alloc, run)?;
-    standing_in(alloc, &followed)
+    match ended.end {
+        End::Normal => Fate::Normal,
+        End::Failed => Fate::Failed { event, point: None },
+        End::Killed(from) => Fate::Killed(from),
+    }
 }
 
 /// Puts the fate of a process.
-fn put_fate(standings: &mut Vec<Standing>, pid: u32, fate: Fate) {
+fn put_fate(standings: &mut Vec<Standing>, pid: u32, fate: Fate)
+    ensures { IsPut pid fate standings.old.items standings.new.items }
+{
     let index = pid as usize;
     if index < standings.len() {
         standings[index].fate = fate;
     }
 }
 
-/// Puts who ended, but for those that failed.
-fn put_ends(standings: &mut Vec<Standing>, run: &KnownRun) {
-    for event in run.events {
-        match ended_in(event) {
-            Some(
-                Ended {
-                    pid,
-                    end: End::Normal,
-                },
-            ) => put_fate(standings, pid, Fate::Normal),
-            Some(
-                Ended {
-                    pid,
-                    end: End::Killed(from),
-                },
-            ) => put_fate(standings, pid, Fate::Killed(from)),
-            _ => {}
+/// Puts who ended.
+fn put_ends(standings: &mut Vec<Standing>, run: &KnownRun)
+    ensures { TellEnds (events_of run.now) (length (events_of run.now))
+        standings.old.items standings.new.items }
+{
+    for event in 0..run.events.len() {
+        if let Some(ended) = ended_in(&run.events[event]) {
+            put_fate(standings, ended.pid, fate_by(ended, event));
         }
     }
 }
 
-/// Puts who failed.
-fn put_failures(standings: &mut Vec<Standing>, failures: &[Failure]) {
+/// The event in which a process is told to have failed.
+fn failed_at(standings: &[Standing], pid: u32) -> Option<usize>
+    ensures { IfSome result (HasFailed standings.now pid) }
+{
+    match standings.get(pid as usize)?.fate {
+        Fate::Failed { event, point: _ } => Some(event),
+        _ => None,
+    }
+}
+
+/// Puts where those stood that failed.
+fn put_points(standings: &mut Vec<Standing>, failures: &[Failure])
+    ensures { ArePlaced standings.old.items standings.new.items }
+{
     for failure in failures {
         let Failure { pid, event, point } = *failure;
-        put_fate(standings, pid, Fate::Failed { event, point });
+        if failed_at(standings, pid) == Some(event) {
+            put_fate(standings, pid, Fate::Failed { event, point });
+        }
     }
+}
+
+/// All processes of a run as those stand that haven't ended.
+fn standing_so_far(alloc: Global, run: &KnownRun) -> Result<Vec<Standing>, NoMemory>
+    requires { IsEdition run.now.edition }
+    ensures { IfOk result (λ v. (d : Configuration) → ComesTo run.now d → AreAtEnd run.now d v.items) }
+{
+    let followed = follow(alloc, run)?;
+    standing_in(alloc, &followed)
 }
 
 /// The processes of a run when it is over, by pid: the run is made again by its choices, twice.
 pub fn standings(alloc: Global, run: &KnownRun) -> Result<Vec<Standing>, NoMemory>
     requires { IsEdition run.now.edition }
+    ensures { IfOk result (λ v. (d : Configuration) → ComesTo run.now d
+        → AreStandings run.now d v.items) }
 {
     let mut standings = standing_so_far(alloc, run)?;
     put_ends(&mut standings, run);
     let failures = failures(alloc, run)?;
-    put_failures(&mut standings, failures.failed.as_slice());
+    put_points(&mut standings, failures.failed.as_slice());
     Ok(standings)
 }
 
-/// The names of functions of a run's module; an empty one where there is none.
-fn names_of(
+/// The name of a function of a module; an empty one where there is none.
+fn name_of(
     alloc: Global,
-    run: &KnownRun,
-    functions: &[Option<FunctionId>],
-) -> Result<Vec<Vec<u8>>, NoMemory> {
+    module: &Module,
+    function: Option<FunctionId>,
+) -> Result<Vec<u8>, NoMemory>
+    ensures { IfOk result (λ name. name.items ≡ name_text «module».now function) }
+{
+    let mut name = Vec::new(alloc);
+    if let Some(function) = function {
+        put_function(&mut name, module, function)?;
+    }
+    Ok(name)
+}
+
+/// The names of the functions in whose calls processes of a run began; an empty one where there is none.
+fn names_of(alloc: Global, run: &KnownRun, begun: &[Begun]) -> Result<Vec<Vec<u8>>, NoMemory>
+    ensures { IfOk result (λ v. map (λ name. name.items) v.items
+        ≡ map (λ b. name_text run.now.module.now.value b.function) begun.now) }
+{
     let mut names = Vec::new(alloc);
-    for function in functions {
-        let mut name = Vec::new(alloc);
-        if let Some(function) = function {
-            put_function(&mut name, run.module, *function)?;
-        }
-        names.push(name)?;
+    for one in begun {
+        names.push(name_of(alloc, run.module, one.function)?)?;
     }
     Ok(names)
 }
@@ -115,6 +164,8 @@ fn names_of(
 /// The names of the functions in whose calls the processes of a run began, by pid; an empty one where that isn't known.
 pub fn names(alloc: Global, run: &KnownRun) -> Result<Vec<Vec<u8>>, NoMemory>
     requires { IsEdition run.now.edition }
+    ensures { IfOk result (λ v. (d : Configuration) → ComesTo run.now d
+        → AreNames run.now d (map (λ name. name.items) v.items)) }
 {
     let followed = follow(alloc, run)?;
     names_of(alloc, run, followed.begun.as_slice())

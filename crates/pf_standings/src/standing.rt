@@ -21,6 +21,7 @@ pub enum Fate {
 /// A process when its run is over.
 #[derive(Clone, Copy, Debug, PartialEq, Eq)]
 pub struct Standing {
+    pub pid: u32,
     /// The function in whose call it began.
     pub begun: Option<FunctionId>,
     pub fate: Fate,

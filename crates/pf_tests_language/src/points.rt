@@ -124,17 +124,23 @@ fn a_process_waits_before_its_receive(rt: HostRuntime) -> Result<(), Fail> {
     Ok(())
 }
 
-/// Where it stands that asked for an action, and where it stands that ended.
-fn places_of_stops(alloc: Global) -> Result<(&'static str, &'static str), Fail> {
-    let mut asks = begun(alloc, "g() -> 1. f() -> self() ! g().")?;
-    let _act = asked(alloc, &mut asks, &mut no_mail(alloc))?;
-    let mut ends = begun(alloc, "g() -> 1. f() -> g().")?;
-    let _end = ended(alloc, &mut ends, &mut no_mail(alloc))?;
-    Ok((place(&asks).0, place(&ends).0))
+/// Where a process stands that asked for an action.
+fn place_of_action(alloc: Global) -> Result<&'static str, Fail> {
+    let mut machine = begun(alloc, "g() -> 1. f() -> self() ! g().")?;
+    let _act = asked(alloc, &mut machine, &mut no_mail(alloc))?;
+    Ok(place(&machine).0)
+}
+
+/// Where one stands that ended.
+fn place_of_end(alloc: Global) -> Result<&'static str, Fail> {
+    let mut machine = begun(alloc, "g() -> 1. f() -> g().")?;
+    let _end = ended(alloc, &mut machine, &mut no_mail(alloc))?;
+    Ok(place(&machine).0)
 }
 
 #[test]
 fn a_process_that_asks_or_ended_stands_nowhere(rt: HostRuntime) -> Result<(), Fail> {
-    assert_eq!(rt; places_of_stops(rt.alloc())?, ("nowhere", "nowhere"));
+    let places = (place_of_action(rt.alloc())?, place_of_end(rt.alloc())?);
+    assert_eq!(rt; places, ("nowhere", "nowhere"));
     Ok(())
 }

@@ -57,25 +57,31 @@ fn receiver(alloc: Global) -> Result<Machine, NoMemory>
     )
 }
 
+/// What a process does.
+fn name_of(did: &Move) -> &'static str {
+    match did {
+        Move::Take(Term::Atom(A)) => "takes a",
+        Move::Wait => "waits",
+        _ => "another",
+    }
+}
+
 /// What a process that waits for a does first with this message, and how many messages are left.
-fn does(alloc: Global, message: AtomId) -> Result<(Move, usize), Fail> {
+fn does(alloc: Global, message: AtomId) -> Result<(&'static str, usize), Fail> {
     let mut pool = Pool::new(alloc);
     let mut mailbox = Mailbox::new(alloc);
     mailbox.deliver(&mut pool, Term::Atom(message))?;
     let mut machine = receiver(alloc)?;
     let mut did = Move::Pure;
     machine.run(alloc, &mut mailbox, &mut pool, 100, &mut did)?;
-    Ok((did, mailbox.len()))
+    Ok((name_of(&did), mailbox.len()))
 }
 
 #[test]
 fn a_machine_takes_from_a_mailbox(rt: HostRuntime) -> Result<(), Fail> {
-    let (did, left) = does(rt.alloc(), A)?;
-    assert!(rt; matches!(did, Move::Take(Term::Atom(A))));
-    assert_eq!(rt; left, 0);
-    let (did, left) = does(rt.alloc(), C)?;
-    assert!(rt; matches!(did, Move::Wait));
-    assert_eq!(rt; left, 1);
+    for (message, did, left) in [(A, "takes a", 0), (C, "waits", 1)] {
+        assert_eq!(rt; does(rt.alloc(), message)?, (did, left));
+    }
     Ok(())
 }
 

@@ -1,8 +1,14 @@
+use Rattle.std.proofs.Common.{sym, ap, ◌∙◌}
+use Rattle.std.specs.Prelude.{slice_get}
 use Rattle.pf_model.specs.Reports.{actor_of}
 use Rattle.pf_system.specs.Steps.{noted}
 use Rattle.pf_system.proofs.WhoMayGo.{may_go}
 use Rattle.pf_standings.proofs.follow.chosen.Goals as goal
 
-pub returns-then-index-len : goal.returns-then-index-len
-returns-then-index-len c =
+pub returns-then-index-len-clause-may_go : goal.returns-then-index-len-clause-may_go
+returns-then-index-len-clause-may_go c =
     may_go c.args.system.now.standing (noted c.enabled-enabled.result) c.enabled-enabled.ensures.actors c.args.choice (actor_of c.actor.result) c.actor.ensures
+
+pub returns-then-index-len-clause-chosen : goal.returns-then-index-len-clause-chosen
+returns-then-index-len-clause-chosen c d stands =
+    sym (ap (λ xs. slice_get xs c.args.choice) (sym (c.enabled-enabled.ensures.actors d stands)) ∙ c.actor.ensures)

@@ -1,0 +1,110 @@
+-- How the processes of a run stand behind its last event.
+use Rattle.std.specs.Prelude.{◌≡◌, ◌⊎◌, if◌then◌else◌, ℕ, zero, suc, Bool, true, false, List, Option, Some, None, length, slice_get, take}
+use Rattle.pf_terms.specs.Value.{Value}
+use Rattle.pf_terms.specs.Fixed.{normal}
+use Rattle.pf_syntax.specs.Module.{Checked}
+use Rattle.pf_syntax.specs.declared.node.FunctionId.{FunctionId}
+use Rattle.pf_model.specs.Channels.{Signal}
+use Rattle.pf_model.specs.Configuration.{Configuration, of}
+use Rattle.pf_model.specs.Context.{State}
+use Rattle.pf_model.specs.Deliveries.{woken}
+use Rattle.pf_model.specs.Labels.{Label, delivers, ending_with, ends, spawns, spawns_watched}
+use Rattle.pf_model.specs.Meaning.{Event}
+use Rattle.pf_model.specs.Module.{Module, module_of}
+use Rattle.pf_model.specs.Runs.{Actor, process, channel, can_go, is_waiting}
+use Rattle.pf_stepper.specs.Points.{IsCalling, IsPointOf}
+use Rattle.pf_stepper.specs.declared.point.Point.{Point}
+use Rattle.pf_standings.specs.Known.{Comes, code_of, events_of}
+use Rattle.pf_standings.specs.declared.ends.End.{End}
+use Rattle.pf_standings.specs.declared.ends.End.TheVariants as end
+use Rattle.pf_standings.specs.declared.known.KnownRun.{KnownRun}
+use Rattle.pf_standings.specs.declared.standing.Fate.{Fate}
+use Rattle.pf_standings.specs.declared.standing.Fate.TheVariants as fate
+use Rattle.pf_standings.specs.declared.standing.Standing.{Standing}
+
+-- ---- ends
+
+abbrev pub is_end : Label → Bool
+is_end (ends r) = true
+is_end l = false
+
+abbrev pub is_struck : Label → Bool
+is_struck (delivers s (ending_with r)) = true
+is_struck l = false
+
+-- the process that an event ends: of its own, or by the exit signal that is delivered to it
+abbrev pub who_ends : Actor → Label → Option ℕ
+who_ends (process a) l = if is_end l then Some a else None
+who_ends (channel a b) l = if is_struck l then Some b else None
+
+-- a process ended in an event of its own, with this reason
+abbrev pub EndsItself : (p : ℕ) → (reason : Value) → Event → Type 0
+EndsItself p r e = (e.actor ≡ process p) × (e.label ≡ ends r)
+
+-- the exit signal of one process ended another in an event
+abbrev pub EndsAnother : (from p : ℕ) → Event → Type 0
+EndsAnother a p e = (e.actor ≡ channel a p) × ((s : Signal) × (r : Value) × (e.label ≡ delivers s (ending_with r)))
+
+-- a process ended in an event, and so
+abbrev pub EndsSo : (p : ℕ) → End → Event → Type 0
+EndsSo p end.Normal e = EndsItself p normal e
+EndsSo p end.Failed e = (r : Value) × EndsItself p r e × (r ≡ normal → ⊥)
+EndsSo p (end.Killed a) e = EndsAnother a p e
+
+-- in the event of this number
+abbrev pub EndsAt : (es : List Event) (p : ℕ) → End → (n : ℕ) → Type 0
+EndsAt es p x n = (e : Event) × (slice_get es n ≡ Some e) × EndsSo p x e
+
+-- a process ended in one of these events, and how
+abbrev pub HasEnded : (es : List Event) (p : ℕ) → Fate → Type 0
+HasEnded es p fate.Normal = (n : ℕ) × EndsAt es p end.Normal n
+HasEnded es p (fate.Failed n x) = EndsAt es p end.Failed n
+HasEnded es p (fate.Killed a) = (n : ℕ) × EndsAt es p (end.Killed a) n
+HasEnded es p (fate.Waits x) = ⊥
+HasEnded es p (fate.Goes x) = ⊥
+
+-- ---- processes that live
+
+-- a process in this state stands at this point, in the tables of a module that means the same
+abbrev pub StandsAt : Module → State → Point → Type 0
+StandsAt m s x = (c : Checked) × (module_of c ≡ m) × IsPointOf c.tables (woken s) x
+
+-- a process in this state lives, and how
+abbrev pub LivesSo : Module → State → Fate → Type 0
+LivesSo m s fate.Normal = ⊥
+LivesSo m s (fate.Failed n x) = ⊥
+LivesSo m s (fate.Killed a) = ⊥
+LivesSo m s (fate.Waits x) = (is_waiting s ≡ true) × StandsAt m s x
+LivesSo m s (fate.Goes x) = (can_go s ≡ true) × StandsAt m s x
+
+-- ---- begins
+
+abbrev pub begun_in : Label → Option ℕ
+begun_in (spawns linked p) = Some p
+begun_in (spawns_watched p r) = Some p
+begun_in l = None
+
+-- behind the event that began a process it stands at the call of this function
+pub record BeganBy (k : KnownRun) (p : ℕ) (f : FunctionId) : Type 0 where
+  pub number : ℕ
+  pub event : Event
+  pub is : slice_get (events_of k) number ≡ Some event
+  pub begins : begun_in event.label ≡ Some p
+  pub behind : Configuration
+  pub comes : Comes k (take (suc number) (events_of k)) behind
+  pub calls : IsCalling (woken (of behind.core p).state) f
+
+-- the function in whose call a process began, where one is told: the root is called at the start
+abbrev pub Began : KnownRun → (p : ℕ) → Option FunctionId → Type 0
+Began k p None = Unit {0}
+Began k p (Some f) = ((p ≡ zero) × (f ≡ k.root)) ⊎ BeganBy k p f
+
+-- ---- all processes
+
+-- the processes of a run that came to this configuration, by pid: in whose call each began, and how it ended or lives
+pub record AreStandings (k : KnownRun) (d : Configuration) (xs : List Standing) : Type 0 where
+  pub count : length xs ≡ length d.core.processes
+  pub pids : (p : ℕ) (x : Standing) → slice_get xs p ≡ Some x → x.pid ≡ p
+  pub begun : (p : ℕ) (x : Standing) → slice_get xs p ≡ Some x → Began k p x.begun
+  pub fates : (p : ℕ) (x : Standing) → slice_get xs p ≡ Some x
+      → HasEnded (events_of k) p x.fate ⊎ LivesSo (code_of k) (of d.core p).state x.fate

@@ -1,0 +1,27 @@
+-- The run that is known by its events, as the definition has it.
+use Rattle.std.specs.Prelude.{◌≡◌, ℕ, List, map}
+use Rattle.pf_model.specs.Configuration.{Configuration}
+use Rattle.pf_model.specs.Meaning as meaning
+use Rattle.pf_model.specs.Meaning.{Event}
+use Rattle.pf_model.specs.Module.{Module, module_of}
+use Rattle.pf_model.specs.Reports.{event_of}
+use Rattle.pf_model.specs.Runs.{Goes, Picks, Transition, start}
+use Rattle.pf_standings.specs.declared.known.KnownRun.{KnownRun}
+
+abbrev pub code_of : KnownRun → Module
+code_of k = module_of k.module.now.value
+
+abbrev pub events_of : KnownRun → List Event
+events_of k = map event_of k.events.now
+
+-- from the call of the root a run of the module, within the limit and by whichever choices, comes by these events to this configuration
+pub record Comes (k : KnownRun) (es : List Event) (c : Configuration) : Type 0 where
+  pub picks : Picks
+  pub transitions : List Transition
+  pub steps : ℕ
+  pub goes : Goes (code_of k) picks k.limit (start k.root.0 k.edition) transitions c steps
+  pub events : es ≡ map meaning.event_of transitions
+
+-- all its events lead there
+abbrev pub ComesTo : KnownRun → Configuration → Type 0
+ComesTo k d = Comes k (events_of k) d

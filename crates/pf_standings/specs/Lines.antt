@@ -1,0 +1,135 @@
+-- The line of a process.
+use Rattle.std.specs.Prelude.{◌≡◌, ◌++◌, ℕ, suc, List, [], Option, Some, None, codes, map, min, slice_get, ◌^◌, ◌-◌}
+use Rattle.std.specs.Fmt.{decimal}
+use Rattle.pf_terms.specs.Atoms.{name_of}
+use Rattle.pf_syntax.specs.Module.{Checked, tree_at}
+use Rattle.pf_syntax.specs.Tree.{Function, Tree, call}
+use Rattle.pf_syntax.specs.declared.node.FunctionId.{FunctionId}
+use Rattle.pf_syntax.specs.declared.node.NodeId.{NodeId}
+use Rattle.pf_model.specs.Labels.{Label, ends}
+use Rattle.pf_model.specs.Meaning.{Event}
+use Rattle.pf_model.specs.TermText.{atom_text, pid_text, value_text}
+use Rattle.pf_places.specs.Innermost.{StandsAt}
+use Rattle.pf_places.specs.Placed.{place_in}
+use Rattle.pf_places.specs.declared.places.Place.{Place}
+use Rattle.pf_stepper.specs.declared.point.Point.{Point}
+use Rattle.pf_stepper.specs.declared.point.Point.TheVariants as p
+use Rattle.pf_model.specs.Configuration.{Configuration}
+use Rattle.pf_standings.specs.Followed.{AreBegun}
+use Rattle.pf_standings.specs.Known.{events_of}
+use Rattle.pf_standings.specs.declared.follow.Begun.{Begun}
+use Rattle.pf_standings.specs.declared.known.KnownRun.{KnownRun}
+use Rattle.pf_standings.specs.declared.standing.Fate.{Fate}
+use Rattle.pf_standings.specs.declared.standing.Fate.TheVariants as fate
+use Rattle.pf_standings.specs.declared.standing.Standing.{Standing}
+
+-- ---- functions and places
+
+abbrev pub name_with_arity : List (List ℕ) → Option Function → List ℕ
+name_with_arity atoms None = []
+name_with_arity atoms (Some f) = atom_text (name_of atoms f.name) ++ (codes "/" ++ decimal f.arity)
+
+-- the name of a function with its arity, as `counter/1`
+abbrev pub function_text : Checked → ℕ → List ℕ
+function_text m f = name_with_arity m.atoms (slice_get m.functions f)
+
+abbrev pub line_text : Option ℕ → List ℕ
+line_text None = []
+line_text (Some n) = codes ", line " ++ decimal n
+
+-- the function of a place, and its line where it has one
+abbrev pub place_text : Checked → Option Place → List ℕ
+place_text m None = []
+place_text m (Some x) = codes " in " ++ (function_text m x.function.0 ++ line_text x.line)
+
+-- ---- points
+
+-- the node at which a process stands: the innermost of this one, of whose parts none is done, or those up to one are
+abbrev pub IsNodeAt : Checked → Point → Option NodeId → Type 0
+IsNodeAt m (p.Before n) None = ⊥
+IsNodeAt m (p.Before n) (Some x) = StandsAt (tree_at m.tables n.0) 0 (tree_at m.tables x.0)
+IsNodeAt m (p.Within n i) None = ⊥
+IsNodeAt m (p.Within n i) (Some x) = StandsAt (tree_at m.tables n.0) (min (suc i) (2 ^ 32 - 1)) (tree_at m.tables x.0)
+IsNodeAt m (p.Calls f) x = x ≡ None
+IsNodeAt m p.Nowhere x = x ≡ None
+
+abbrev pub called_in : Tree → Option ℕ
+called_in (call f ts) = Some f
+called_in t = None
+
+abbrev pub called_at : Checked → Option NodeId → Option ℕ
+called_at m None = None
+called_at m (Some x) = called_in (tree_at m.tables x.0)
+
+-- the function that is called at a point
+abbrev pub called : Checked → Point → Option NodeId → Option ℕ
+called m (p.Calls f) x = Some f.0
+called m (p.Before n) x = called_at m x
+called m (p.Within n i) x = called_at m x
+called m p.Nowhere x = called_at m x
+
+abbrev pub place_of : List (Option Place) → Option NodeId → Option Place
+place_of places None = None
+place_of places (Some x) = place_in places x.0
+
+abbrev pub call_text : Checked → Option ℕ → List ℕ
+call_text m None = []
+call_text m (Some f) = codes ", at the call of " ++ function_text m f
+
+-- where a process stands, as far as that is known
+abbrev pub IsPointText : Checked → List (Option Place) → Point → List ℕ → Type 0
+IsPointText m places x text =
+    (node : Option NodeId) × IsNodeAt m x node × (text ≡ place_text m (place_of places node) ++ call_text m (called m x node))
+
+-- ---- fates
+
+abbrev pub end_text : List (List ℕ) → Label → List ℕ
+end_text atoms (ends r) = codes " with " ++ value_text (name_of atoms) r
+end_text atoms l = []
+
+-- the reason with which the process of an event ended
+abbrev pub reason_text : List (List ℕ) → Option Event → List ℕ
+reason_text atoms None = []
+reason_text atoms (Some e) = end_text atoms e.label
+
+abbrev pub or_nowhere : Option Point → Point
+or_nowhere None = p.Nowhere
+or_nowhere (Some x) = x
+
+abbrev pub IsBefore : List ℕ → (List ℕ → Type 0) → List ℕ → Type 0
+IsBefore front so text = (back : List ℕ) × so back × (text ≡ front ++ back)
+
+-- how a process stands
+abbrev pub IsFateText : KnownRun → List (Option Place) → Fate → List ℕ → Type 0
+IsFateText k places fate.Normal text = text ≡ codes " ended normally"
+IsFateText k places (fate.Failed n x) text =
+    IsBefore (codes " failed" ++ reason_text k.module.now.value.atoms (slice_get (events_of k) n))
+    (IsPointText k.module.now.value places (or_nowhere x)) text
+IsFateText k places (fate.Killed a) text = text ≡ codes " was ended by an exit signal of " ++ pid_text a
+IsFateText k places (fate.Waits x) text = IsBefore (codes " waits at a receive") (IsPointText k.module.now.value places x) text
+IsFateText k places (fate.Goes x) text = IsBefore (codes " could go on") (IsPointText k.module.now.value places x) text
+
+-- ---- lines
+
+abbrev pub begun_text : Checked → Option FunctionId → List ℕ
+begun_text m None = []
+begun_text m (Some f) = codes " " ++ function_text m f.0
+
+-- a process: its pid, in whose call it began, and how it stands
+abbrev pub IsLine : KnownRun → List (Option Place) → Standing → List ℕ → Type 0
+IsLine k places x text =
+    IsBefore (pid_text x.pid ++ begun_text k.module.now.value x.begun) (IsFateText k places x.fate) text
+
+-- ---- names
+
+abbrev pub name_text : Checked → Option FunctionId → List ℕ
+name_text m None = []
+name_text m (Some f) = function_text m f.0
+
+-- by pid the names of the functions in whose calls the processes began, an empty one where none is told
+abbrev pub AreNames : KnownRun → Configuration → List (List ℕ) → Type 0
+AreNames k d names = (bs : List Begun) × AreBegun k d bs × (names ≡ map (λ b. name_text k.module.now.value b.function) bs)
+
+-- a text that is so was put behind others
+abbrev pub Puts : (old new : List ℕ) → (so : List ℕ → Type 0) → Type 0
+Puts old new so = (text : List ℕ) × so text × (new ≡ old ++ text)

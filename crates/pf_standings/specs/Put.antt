@@ -1,0 +1,59 @@
+-- Standings as they are put together.
+use Rattle.std.specs.Prelude.{◌≡◌, ◌⊎◌, ◌<◌, ◌==◌, if◌then◌else◌, ℕ, true, List, Option, Some, length, slice_get}
+use Rattle.pf_model.specs.Configuration.{Configuration, is_alive, of}
+use Rattle.pf_model.specs.Meaning.{Event}
+use Rattle.pf_model.specs.Module.{Module}
+use Rattle.pf_stepper.specs.declared.point.Point.{Point}
+use Rattle.pf_standings.specs.Fates.{Began, HasEnded, LivesSo, who_ends}
+use Rattle.pf_standings.specs.Known.{code_of}
+use Rattle.pf_standings.specs.declared.follow.Begun.{Begun}
+use Rattle.pf_standings.specs.declared.known.KnownRun.{KnownRun}
+use Rattle.pf_standings.specs.declared.standing.Fate.{Fate}
+use Rattle.pf_standings.specs.declared.standing.Fate.TheVariants as fate
+use Rattle.pf_standings.specs.declared.standing.Standing.{Standing}
+
+-- each of the first n processes has the function in whose call it began, and one that lives its fate
+pub record AreStanding (m : Module) (c : Configuration) (bs : List Begun) (n : ℕ) (xs : List Standing) : Type 0 where
+  pub count : length xs ≡ n
+  pub begun : (p : ℕ) (x : Standing) → slice_get xs p ≡ Some x → (b : Begun) × (slice_get bs p ≡ Some b) × (x.pid ≡ b.pid) × (x.begun ≡ b.function)
+  pub fates : (p : ℕ) (x : Standing) → slice_get xs p ≡ Some x → is_alive (of c.core p).state ≡ true → LivesSo m (of c.core p).state x.fate
+
+-- the same of the run that came to a configuration
+pub record AreAtEnd (k : KnownRun) (d : Configuration) (xs : List Standing) : Type 0 where
+  pub count : length xs ≡ length d.core.processes
+  pub pids : (p : ℕ) (x : Standing) → slice_get xs p ≡ Some x → x.pid ≡ p
+  pub begun : (p : ℕ) (x : Standing) → slice_get xs p ≡ Some x → Began k p x.begun
+  pub fates : (p : ℕ) (x : Standing) → slice_get xs p ≡ Some x → is_alive (of d.core p).state ≡ true → LivesSo (code_of k) (of d.core p).state x.fate
+
+-- the standing of a process was another, of the same pid and function, and the fates are so
+abbrev pub IsOf : (so : Fate → Fate → Type 0) → Option Standing → Standing → Type 0
+IsOf so o y = (x : Standing) × (o ≡ Some x) × (y.pid ≡ x.pid) × (y.begun ≡ x.begun) × so x.fate y.fate
+
+-- standings were these others, each of the same pid and function and with a fate that is so
+pub record Are (so : ℕ → Fate → Fate → Type 0) (xs ys : List Standing) : Type 0 where
+  pub count : length ys ≡ length xs
+  pub each : (p : ℕ) (y : Standing) → slice_get ys p ≡ Some y → IsOf (so p) (slice_get xs p) y
+
+-- one process has this fate, and all others have the one that they had
+abbrev pub IsPut : ℕ → Fate → List Standing → List Standing → Type 0
+IsPut p f = Are (λ q x y. y ≡ (if q == p then f else x))
+
+-- no event below this number ended the process
+abbrev pub NoneBelow : List Event → ℕ → ℕ → Type 0
+NoneBelow es n p = (i : ℕ) (e : Event) → i < n → slice_get es i ≡ Some e → who_ends e.actor e.label ≡ Some p → ⊥
+
+-- whom an event below this number ended has the fate of one that ended, and all others have the one that they had
+abbrev pub TellEnds : List Event → ℕ → List Standing → List Standing → Type 0
+TellEnds es n = Are (λ p x y. HasEnded es p y ⊎ ((y ≡ x) × NoneBelow es n p))
+
+-- the fate is the same but for the point at which a process failed
+abbrev pub IsAlike : Fate → Fate → Type 0
+IsAlike (fate.Failed n x) (fate.Failed m y) = n ≡ m
+IsAlike x y = y ≡ x
+
+abbrev pub ArePlaced : List Standing → List Standing → Type 0
+ArePlaced = Are (λ p x y. IsAlike x y)
+
+-- a process is told to have failed in the event of this number
+abbrev pub HasFailed : List Standing → ℕ → ℕ → Type 0
+HasFailed xs p n = (x : Standing) × (slice_get xs p ≡ Some x) × ((at : Option Point) × (x.fate ≡ fate.Failed n at))
