@@ -60,7 +60,7 @@ pub record Tells (j : meaning.Job) (priorities : Option ℕ) (source text : List
 abbrev pub IsModuleOf : List ℕ → ReadModule → Type 0
 IsModuleOf bytes m = (m.source ≡ bytes) × IsReadAs bytes m
 
--- a run of a module is asked for, or it is refused
+-- what is asked for of a module is this job, or refused for this
 abbrev pub AsksOf : RunArgs → ReadModule → Result Job Code → Type 0
 AsksOf a m = Asks m a.edition a.request
 
@@ -70,8 +70,8 @@ pub data Explains (a : RunArgs) (bytes : List ℕ) : List ℕ → Type 0 where
   source_refused : (code : Code) (offset : ℕ) → Reads bytes (refused code offset) → Explains a bytes []
   job_refused : (m : ReadModule) (code : Code) → IsModuleOf bytes m → AsksOf a m (Err code) → Explains a bytes []
   shrinks : (m : ReadModule) (j : Job) → IsModuleOf bytes m → AsksOf a m (Ok j) → (j.asked.runs ≡ zero → ⊥) → Explains a bytes []
-  told : (m : ReadModule) (j : Job) (text : List ℕ) → IsModuleOf bytes m → AsksOf a m (Ok j) → Tells j.asked a.priorities bytes text
-      → Explains a bytes text
+  told : (m : ReadModule) (j : Job) (text : List ℕ) → IsModuleOf bytes m → AsksOf a m (Ok j) → j.asked.runs ≡ zero
+      → Tells j.asked a.priorities bytes text → Explains a bytes text
 
 -- what is asked for of a source is one run of this job; or there is none, and nothing is said
 abbrev pub Finds : RunArgs → List ℕ → Option Job → Type 0

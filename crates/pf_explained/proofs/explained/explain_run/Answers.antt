@@ -11,4 +11,4 @@ returns-in-Some c =
     let found =
     subst (λ b. Finds a b (Some j)) c.in_ok-bytes.ensures.items
     (subst (Finds a c.in_ok-bytes.bytes.items) c.in-Some.is c.in_ok-job.ensures) in
-    if_ok c.explain_job.result (λ text tells. told found.1.0 j text.items found.1.1 found.1.2 tells) c.explain_job.ensures
+    if_ok c.explain_job.result (λ text tells. told found.1.0 j text.items found.1.1 found.1.2 found.0 tells) c.explain_job.ensures
