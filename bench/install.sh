@@ -44,10 +44,10 @@ chain() {
 import sys
 sys.dont_write_bytecode = True
 sys.path.insert(0, f"{sys.argv[1]}/install")
-import prove
-crates = prove.crates_of(sys.argv[1])
-below, seconds = prove.below_of(crates), prove.seconds_of(crates)
-chains, at, left = prove.chains_of(set(crates), below, seconds), None, set(crates)
+import order
+crates = order.crates_of(sys.argv[1], ["pulsefarm"])
+below, seconds = order.below_of(crates), order.seconds_of(crates)
+chains, at, left = order.chains_of(set(crates), below, seconds), None, set(crates)
 while left:
     at = max(left, key=chains.get)
     print(at)

@@ -16,10 +16,10 @@ import sys
 sys.dont_write_bytecode = True
 top, crates = sys.argv[1:]
 sys.path.insert(0, f"{top}/install")
-import prove
+import order
 with open(crates, encoding="utf-8") as file:
     named = file.read().partition(":")[2].split()
-sys.stdout.writelines(prove.crates_of(top, [it for it in named if os.path.isdir(f"{top}/crates/{it}")]).values())
+sys.stdout.writelines(order.crates_of(top, [it for it in named if os.path.isdir(f"{top}/crates/{it}")]).values())
 END
 cat "$room/below" >> "$room/crates.txt"
 sed 's/[ :].*//' "$room/below" | while read -r crate; do

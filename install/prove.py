@@ -1,16 +1,17 @@
 #!/usr/bin/env python3
 """prove.py TREE: proves the program of TREE and the crates below it, side by side, and leaves the program in crates/pulsefarm/out.
 
-`rt ci` does the work, in a copy that has these crates alone. It takes them in the order of need, first those with the longest chain of others
-behind them, as many at once as processors and memory hold. It keeps each as soon as it is proved, beside the kit, where the gate finds it: so what the gate
-proved on this machine isn't proved again, and a run that was stopped goes on where it was.
+`rt ci` does the work, crate by crate, in a copy that has these crates alone. They go in the order of need, first those with the longest chain of others
+behind them, as many at once as processors and memory hold; the first has half of the processors, as all wait for that chain. `rt` keeps each as soon as it is proved, beside
+the kit, where the gate finds it: so what the gate proved on this machine isn't proved again, and a run that was stopped goes on where it was.
 
 What it is at goes to standard error. Where a crate isn't proved the last 30 lines of its log do too, and the status is 1. Where it is stopped the status
 is 130.
 """
+import glob
 import os
 import re
-import select
+import selectors
 import shutil
 import signal
 import subprocess
@@ -18,10 +19,12 @@ import sys
 import tempfile
 import time
 
+sys.dont_write_bytecode = True
+import order
+
 PROGRAM = "pulsefarm"
 # What a proof and a run of a crate read. (Wrong bodies, in must-fail/, are the gate's.)
 PARTS = ("src", "specs", "proofs", "data", "stdin", "stdout", "args", "status")
-SECONDS_OF_A_NEW_CRATE = 100
 LINES_OF_A_LOG = 30
 PROVED = re.compile(r"rt: (\w+) (proved$|is kept: )")
 NOT_PROVED = re.compile(r"rt: (\w+) NOT PROVED")
@@ -31,80 +34,16 @@ class Stopped(Exception):
     """Somebody stopped the run."""
 
 
-def crates_of(tree, tops=(PROGRAM,)):
-    """Returns the lines of crates.txt for the program, or for the crates TOPS, and for all crates below, by name and in their order."""
-    lines = {}
-    with open(f"{tree}/crates.txt", encoding="utf-8") as file:
-        for line in file:
-            head, colon, _ = line.partition(":")
-            if colon and not line.startswith("#"):
-                lines[head.split()[0]] = line
-    for name in tops:
-        if name not in lines:
-            sys.exit(f"crates.txt has no line of {name}")
-    below = below_of(lines)
-    wanted = set(tops).union(*(below[name] for name in tops))
-    return {name: line for name, line in lines.items() if name in wanted}
-
-
-def below_of(crates):
-    """Returns for each crate the set of all those below it. (Its line names those that its own files cite.)"""
-    found = {}
-
-    def below(name):
-        if name not in found:
-            cited = [it for it in crates[name].partition(":")[2].split() if it in crates]
-            found[name] = set(cited).union(*map(below, cited))
-        return found[name]
-
-    return {name: below(name) for name in crates}
-
-
-def seconds_of(crates):
-    """Returns the seconds of a processor that the proof of each crate is known to take."""
-    known = {}
-    with open(f"{os.path.dirname(os.path.realpath(__file__))}/seconds.txt", encoding="utf-8") as file:
-        for line in file:
-            if not line.startswith("#"):
-                name, seconds = line.split()
-                known[name] = int(seconds)
-    return {name: known.get(name, SECONDS_OF_A_NEW_CRATE) for name in crates}
-
-
-def chains_of(left, below, seconds):
-    """Returns for each crate that is left the seconds of the longest chain of it and of crates above it."""
-    found = {}
-    for crate in sorted(left, key=lambda it: -len(below[it])):
-        found[crate] = seconds[crate] + max((found[it] for it in found if crate in below[it]), default=0)
-    return found
-
-
-def reckoned(left, below, seconds, lanes):
-    """Returns how long the crates that are left take by the table, in seconds: those with the longest chain go first."""
-    chains, running, now = chains_of(left, below, seconds), {}, 0
-    waiting = sorted(left, key=lambda it: -chains[it])
-    while waiting or running:
-        ready = [it for it in waiting if not below[it] & (running.keys() | set(waiting))]
-        for it in ready[: lanes - len(running)]:
-            waiting.remove(it)
-            running[it] = now + seconds[it]
-        first = min(running, key=running.get)
-        now = running.pop(first)
-    return now
-
-
-def lanes():
-    """Returns how many proofs rt runs at once where memory holds them."""
-    fixed = os.environ.get("RT_JOBS", "")
-    return int(fixed) if fixed.isdigit() and int(fixed) else len(os.sched_getaffinity(0))
+class Failed(Exception):
+    """A crate isn't proved: the log of `rt`."""
 
 
 class Progress:
     """How far the proofs are: one line that is written anew on a terminal, else a line for each crate."""
 
-    def __init__(self, crates):
-        self.below, self.seconds, self.left = below_of(crates), seconds_of(crates), set(crates)
-        self.lanes, self.is_terminal, self.last = lanes(), sys.stderr.isatty(), ""
+    def __init__(self, crates, lanes):
+        self.below, self.seconds, self.left = order.below_of(crates), order.seconds_of(crates), set(crates)
+        self.lanes, self.is_terminal, self.last = lanes, sys.stderr.isatty(), ""
         # the seconds until the last crate was proved, and what the table has for them
         self.start, self.took, self.of_table = time.monotonic(), 0, 0
 
@@ -120,7 +59,7 @@ class Progress:
         return time.monotonic() - self.start
 
     def rest(self):
-        return reckoned(self.left, self.below, self.seconds, self.lanes)
+        return order.reckoned(self.left, self.below, self.seconds, self.lanes)
 
     def minutes_left(self):
         """Returns the minutes that are left, by the table and by the pace so far."""
@@ -155,55 +94,120 @@ def copied(tree, crates, room):
                 shutil.copy(one, f"{room}/crates/{name}")
 
 
-def lines_of(running, progress):
-    """Yields the lines that a command writes, as they come, and has the progress told anew meanwhile."""
-    text = b""
-    while True:
-        if not select.select([running.stdout], [], [], 5)[0]:
-            if progress.is_terminal:
-                progress.tell()
-            continue
-        more = os.read(running.stdout.fileno(), 65536)
-        if not more:
-            break
-        *lines, text = (text + more).split(b"\n")
-        yield from (it.decode(errors="replace") for it in lines)
-    if text:
-        yield text.decode(errors="replace")
+class Run:
+    """A run of `rt ci`, of one crate and those below it or of all, and its log since it last began a crate."""
 
+    def __init__(self, room, lane, crate=None, jobs=None):
+        # (with RT_JOBS rt gives a proof one job; where CI is set it takes no names)
+        fixed = {"RT_JOBS": "1"} if crate and jobs == 1 else {}
+        environment = {name: value for name, value in os.environ.items() if name != "CI" or not crate} | fixed
+        words = ["rt", "ci", crate] if crate else ["rt", "ci"]
+        self.lane, self.crate, self.log, self.text = lane, crate, [], b""
+        # (in a group of its own: Ctrl-C is ours to hand on, and rt, which ends at SIGTERM at once, takes all its checks with it)
+        self.process = subprocess.Popen(
+            words, cwd=room, env=environment, stdin=subprocess.DEVNULL, stdout=subprocess.PIPE, stderr=subprocess.STDOUT, start_new_session=True
+        )
 
-def followed(running, progress):
-    """Follows the proofs to their end. Returns the log of what failed, or None where all is proved."""
-    log = []
-    for line in lines_of(running, progress):
+    def goes_on(self, progress):
+        """Takes what it said since, and tells of the crates that are done. Returns whether it goes on."""
+        more = os.read(self.process.stdout.fileno(), 65536)
+        *lines, self.text = (self.text + more).split(b"\n") if more else (self.text, b"")
+        for line in lines:
+            self.take(line.decode(errors="replace"), progress)
+        if not more and self.process.wait():
+            raise Failed(self.log)
+        return bool(more)
+
+    def take(self, line, progress):
         if line.startswith("== "):
-            log = []
-        log.append(line)
+            self.log = []
+        self.log.append(line)
         done = PROVED.match(line)
         if done and done[1] in progress.left:
             progress.is_done(done[1], done[2] != "proved")
         if NOT_PROVED.match(line):
-            return log
-    return log if running.wait() else None
+            raise Failed(self.log)
+
+    def end(self):
+        self.process.terminate()
+        self.process.wait()
 
 
-def proved(room, progress):
-    """Has the proofs run in the copy. Returns the log of what failed, or None where all is proved."""
-    # (in a group of its own: Ctrl-C is ours to hand on, and rt, which ends at SIGTERM at once, takes all its checks with it)
-    running = subprocess.Popen(["rt", "ci"], cwd=room, stdin=subprocess.DEVNULL, stdout=subprocess.PIPE, stderr=subprocess.STDOUT, start_new_session=True)
-    try:
-        return followed(running, progress)
-    finally:
-        running.terminate()
-        running.wait()
-        progress.end()
+class Runs:
+    """The runs that go on."""
+
+    def __init__(self, room, progress):
+        self.room, self.progress, self.selector = room, progress, selectors.DefaultSelector()
+
+    def __enter__(self):
+        return self
+
+    def __exit__(self, *_):
+        for key in list(self.selector.get_map().values()):
+            key.data.end()
+
+    def begin(self, lane, crate=None, jobs=None):
+        run = Run(self.room, lane, crate, jobs)
+        self.selector.register(run.process.stdout, selectors.EVENT_READ, run)
+
+    def lanes(self):
+        return {key.data.lane for key in self.selector.get_map().values()}
+
+    def ended(self):
+        """Waits until some run says something, and yields those that ended."""
+        ready = self.selector.select(5)
+        if not ready and self.progress.is_terminal:
+            self.progress.tell()
+        for key, _ in ready:
+            if not key.data.goes_on(self.progress):
+                self.selector.unregister(key.fileobj)
+                yield key.data
+
+
+def prove_side_by_side(room, crates, lanes, progress):
+    """Has these crates proved, each by a run of its own."""
+    left = order.Order(crates, {name: progress.below[name] & set(crates) for name in crates}, progress.seconds)
+    with Runs(room, progress) as runs:
+        while left.left:
+            for lane in sorted(set(range(len(lanes))) - runs.lanes()):
+                crate = left.next()
+                if crate:
+                    runs.begin(lane, crate, lanes[lane])
+            for run in runs.ended():
+                left.is_done(run.crate)
+
+
+def prove_rest(room, progress):
+    """Has all that isn't kept proved by one run, which leaves the program in the copy."""
+    with Runs(room, progress) as runs:
+        runs.begin(0)
+        while runs.lanes():
+            list(runs.ended())
+
+
+def store():
+    """Returns the folder in which the kit keeps what is proved."""
+    kit = os.path.dirname(os.path.dirname(os.path.realpath(shutil.which("rt"))))
+    return f"{os.path.dirname(kit)}/rattle-kept"
 
 
 def keeps():
     """Returns whether the kit can keep what is proved."""
-    kit = os.path.dirname(os.path.dirname(os.path.realpath(shutil.which("rt"))))
-    store = f"{os.path.dirname(kit)}/rattle-kept"
-    return os.access(store if os.path.exists(store) else os.path.dirname(kit), os.W_OK)
+    return os.access(store() if os.path.exists(store()) else os.path.dirname(store()), os.W_OK)
+
+
+def newest(paths):
+    """Returns when the newest of these files and folders, and of what is in them, was changed."""
+    walked = [f"{at}/{name}" for path in paths for at, folders, files in os.walk(path) for name in [*folders, *files]]
+    return max((os.stat(it).st_mtime for it in [*paths, *walked] if os.path.exists(it)), default=0)
+
+
+def unkept(tree, crates):
+    """Returns the crates but the program of which nothing is kept since they, or crates below, were changed. (Of the others rt itself sees whether they are as they were.)"""
+    changed = {name: newest([f"{tree}/crates/{name}/{part}" for part in PARTS]) for name in crates}
+    below = order.below_of(crates)
+    kept = {name: newest(glob.glob(f"{glob.escape(store())}/proof-{name}-*")) for name in crates}
+    return [name for name in crates if name != PROGRAM and kept[name] < max(changed[it] for it in {name} | below[name])]
 
 
 def take(room, tree):
@@ -218,17 +222,22 @@ def stop(*_):
     raise Stopped
 
 
-def prove(tree):
+def prove(tree, is_kept):
     """Proves the program of the tree and leaves it there. Returns the status."""
-    crates = crates_of(tree)
+    crates, lanes = order.crates_of(tree, [PROGRAM]), order.lanes()
     with tempfile.TemporaryDirectory(prefix="pulsefarm-install-") as room:
         copied(tree, crates, f"{room}/tree")
-        progress = Progress(crates)
+        progress = Progress(crates, lanes)
         progress.tell()
-        log = proved(f"{room}/tree", progress)
-        if log is not None:
-            print("\n".join(log[-LINES_OF_A_LOG:]), file=sys.stderr)
+        try:
+            if is_kept:
+                prove_side_by_side(f"{room}/tree", unkept(tree, crates), lanes, progress)
+            prove_rest(f"{room}/tree", progress)
+        except Failed as failed:
+            progress.end()
+            print("\n".join(failed.args[0][-LINES_OF_A_LOG:]), file=sys.stderr)
             return 1
+        progress.end()
         take(f"{room}/tree", tree)
     return 0
 
@@ -246,7 +255,7 @@ def main(words):
     if not goes_on:
         print("the kit's folder rattle-kept can't be written, so nothing is kept before the end: if this is stopped, it begins anew", file=sys.stderr)
     try:
-        return prove(os.path.abspath(words[0]))
+        return prove(os.path.abspath(words[0]), goes_on)
     except Stopped:
         print("stopped" + ("; what is proved is kept, and the same command goes on from there" if goes_on else ""), file=sys.stderr)
         return 130

@@ -1,68 +1,51 @@
 #!/usr/bin/env python3
-"""What install.sh leaves to the kit's `rt`: that it takes proofs in the order of need, never more at once than there are processors, and first those with the
-longest chain of others behind them. It hands the lanes of `rt ci` tasks that sleep, and prints what isn't so."""
-import importlib.machinery
-import importlib.util
+"""The order of install/: that no crate begins before those that it needs, never more at once than there are lanes, first those with the longest chain of others behind
+them; how many lanes there are; and what is reckoned. It prints what isn't so."""
 import os
-import shutil
 import sys
-import threading
-import time
 
-# By task: those that it waits for, and its work. The longest chain is c, e, g, h; of what then is left, that of b is longer than that of a.
-TASKS = {"a": ("", 1), "b": ("", 2), "c": ("", 3), "d": ("a", 1), "e": ("c", 9), "f": ("b", 1), "g": ("e", 9), "h": ("dfg", 9)}
+sys.path.insert(0, f"{os.path.dirname(os.path.realpath(__file__))}/../../install")
+import order
 
-
-def kit():
-    """Returns the module of `rt`."""
-    loader = importlib.machinery.SourceFileLoader("rt_of_the_kit", os.path.realpath(shutil.which("rt")))
-    made = importlib.util.module_from_spec(importlib.util.spec_from_loader("rt_of_the_kit", loader))
-    loader.exec_module(made)
-    return made
+# By crate: those that it needs, and its seconds. The longest chain is c, e, g, h; of what then is left, that of b is longer than that of a.
+CRATES = {"a": ("", 1), "b": ("", 2), "c": ("", 3), "d": ("a", 1), "e": ("c", 9), "f": ("b", 1), "g": ("e", 9), "h": ("dfg", 9)}
+SECONDS = {name: seconds for name, (_, seconds) in CRATES.items()}
 
 
-def ran(lanes):
-    """Runs the tasks in so many lanes. Returns what began and ended, in order."""
-    notes, lock = [], threading.Lock()
-    os.environ["RT_JOBS"] = str(lanes)
-
-    def call(name):
-        def work(_given, _jobs):
-            with lock:
-                notes.append(("begin", name))
-            time.sleep(0.02 * TASKS[name][1])
-            with lock:
-                notes.append(("end", name))
-            return True
-
-        return work
-
-    tasks = {(name, "proof"): ([(it, "proof") for it in below], work, 1, call(name)) for name, (below, work) in TASKS.items()}
-    kit().in_lanes(tasks)
-    return notes
+def begun(count):
+    """Takes crates in so many lanes, of which each time the one that began first ends. Returns what began beside what."""
+    below = order.below_of({name: f"{name}: {' '.join(needed)}" for name, (needed, _) in CRATES.items()})
+    left, running, found = order.Order(CRATES, below, SECONDS), [], []
+    while left.left:
+        while len(running) < count and (crate := left.next()):
+            found.append((crate, set(left.left)))
+            running.append(crate)
+        left.is_done(running.pop(0))
+    return found
 
 
-def faults(lanes):
+def faults():
     """Yields what isn't as it is to be."""
-    at_once, ended, begun = 0, set(), []
-    for what, name in ran(lanes):
-        at_once += 1 if what == "begin" else -1
-        if what == "end":
-            ended.add(name)
-            continue
-        begun.append(name)
-        if not set(TASKS[name][0]) <= ended:
-            yield f"{lanes} lanes: {name} began before what it needs"
-        if at_once > lanes:
-            yield f"{lanes} lanes: {at_once} at once"
-    if sorted(begun) != sorted(TASKS):
-        yield f"{lanes} lanes: {begun} began"
-    if "c" not in begun[:lanes] or lanes == 1 and "".join(begun) != "cegbadfh":
-        yield f"{lanes} lanes: {begun} began, and not the longest chain first"
+    for count, wanted in ((1, "cegbadfh"), (2, "cbeagdfh"), (3, "cbaefdgh")):
+        taken = begun(count)
+        if "".join(name for name, _ in taken) != wanted:
+            yield f"{count} lanes: {taken} began"
+        for name, left in taken:
+            if left & set(CRATES[name][0]):
+                yield f"{count} lanes: {name} began before what it needs"
+    for processors, gigabytes, wanted in ((1, 24, [1]), (2, 24, [1, 1]), (4, 24, [2, 1, 1]), (16, 64, [4] + [1] * 12), (4, 6, [1, 1]), (4, 1, [1])):
+        if order.lanes_of(processors, gigabytes * 10**9) != wanted:
+            yield f"{processors} processors with {gigabytes} GB have the lanes {order.lanes_of(processors, gigabytes * 10**9)}"
+    below = order.below_of({name: f"{name}: {' '.join(needed)}" for name, (needed, _) in CRATES.items()})
+    # (the chain c, e, g, h has 30 seconds, all crates have 35; in the first of two lanes with more jobs each takes 0.67 of its seconds)
+    for lanes, wanted in (([1], 35), ([1, 1], 30), ([2, 1], 30 * 0.67)):
+        told = order.reckoned(set(CRATES), below, SECONDS, lanes)
+        if abs(told - wanted) > 0.01:
+            yield f"in the lanes {lanes} all is said to take {told} seconds"
 
 
 def main():
-    found = [it for lanes in (1, 2, 3) for it in faults(lanes)]
+    found = list(faults())
     print("\n".join(found))
     return 1 if found else 0
 

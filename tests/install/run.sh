@@ -1,6 +1,6 @@
 #!/bin/sh
 # Installs from a small tree by a `rt` of its own (tests/install/rt): what is proved and in which copy, what is told, and that a run which was stopped
-# goes on where it was, one that fails says why, and nothing is left behind. Then what `install.sh` leaves to the kit's `rt` (lanes.py). Where
+# goes on where it was, one that fails says why, and nothing is left behind. Then the order in which crates are proved (lanes.py). Where
 # no BINARY is named, as at the gate, the tree itself is installed too, from what the gate has proved, and previewed.
 #
 # Usage: run.sh [BINARY]; the program is that of the crate `pulsefarm` where none is named.
@@ -10,12 +10,12 @@ at_gate=$(($# == 0))
 . "$top/tests/compare.sh"
 program=$(realpath "$program")
 export FAKE="${room:?}/fake" TMPDIR="$room/tmp" PYTHONDONTWRITEBYTECODE=1
-unset RT_JOBS MOMENT
+unset RT_JOBS MOMENT CI
 main_job=$(printf '%s\n' '0/1 <0> end normal' 'finished 7' 'steps 4' 'property holds')
 
 # A tree of five crates of the program and one beside them, and a kit whose `rt` is a script.
 lay() {
-  rm -rf "$room/tree" "$room/kit" "$FAKE" "$room/prefix" "$TMPDIR"
+  rm -rf "$room/tree" "$room/kit" "$room/rattle-kept" "$FAKE" "$room/prefix" "$TMPDIR"
   mkdir -p "$room/tree/port" "$room/kit/bin" "$FAKE" "$TMPDIR"
   cp -r "$top/install.sh" "$top/install" "$room/tree"
   printf '%s\n' '# A line that names no crate.' 'low:' 'left: low' 'right may_abort=1: low indexmap' 'high: left right' 'beside: low' \
@@ -35,21 +35,30 @@ lay() {
   : > "$FAKE/begun"
 }
 
-# Runs install.sh over the small tree.
-install() {
-  PATH=$room/kit/bin:$PATH PREFIX=$room/prefix timeout 60 sh "$room/tree/install.sh" > "$room/out" 2> "$room/err"
+# Runs install.sh over the small tree, in so many lanes.
+install_in() {
+  RT_JOBS=$1 PATH=$room/kit/bin:$PATH PREFIX=$room/prefix timeout 60 sh "$room/tree/install.sh" > "$room/out" 2> "$room/err"
   status=$?
+}
+
+# Whether these crates were begun, in this order.
+were_begun() {
+  [ "$(cut -d' ' -f1 "$FAKE/begun" | tr '\n' ' ')" = "$1 " ]
 }
 
 # Whether nothing is left of the copy, and no `rt` runs on.
 is_tidy() {
-  [ -z "$(ls -A "$TMPDIR")" ] && ! kill -0 "$(cat "$FAKE/pid")" 2> /dev/null
-  note "$1: nothing is left behind" $?
+  [ -z "$(ls -A "$TMPDIR")" ]
+  empty=$?
+  while read -r one; do
+    if kill -0 "$one" 2> /dev/null; then empty=1; fi
+  done < "$FAKE/pid"
+  note "$1: nothing is left behind" $empty
 }
 
 whole() {
   lay
-  install
+  install_in 1
   [ "$status" = 0 ] && [ "$(cat "$room/out")" = "$main_job" ]
   note "the main job is run (status $status)" $?
   cmp -s "$room/tree/crates/pulsefarm/out/pulsefarm" "$program" && cmp -s "$room/prefix/bin/pulsefarm" "$program"
@@ -58,12 +67,12 @@ whole() {
   note "the copy has the lines of the program's crates" $?
   ! grep -q 'beside\|must-fail\|^out' "$FAKE/copy" && grep -qx .git "$FAKE/copy" && grep -qx HANDLES "$FAKE/copy"
   note "the copy has these crates alone, and is a repository" $?
-  printf '%s\n' low left right high pulsefarm | cmp -s - "$FAKE/begun"
+  were_begun "low left right high pulsefarm"
   note "each crate is proved once" $?
-  # (by the table each crate takes 100 seconds, and pulsefarm 588: on two processors or more the first chain is 100 + 100 + 100 + 588)
+  # (by the table each crate takes 100 seconds, and pulsefarm 588: one after another 988)
   cat > "$room/wanted" << 'END'
-0 of 5 crates, 0 minutes so far, some 15 more
-low proved; 1 of 5 crates, 0 minutes so far, some 13 more
+0 of 5 crates, 0 minutes so far, some 16 more
+low proved; 1 of 5 crates, 0 minutes so far, some 15 more
 left proved; 2 of 5 crates, 0 minutes so far, some 13 more
 right proved; 3 of 5 crates, 0 minutes so far, some 11 more
 high proved; 4 of 5 crates, 0 minutes so far, some 10 more
@@ -73,15 +82,44 @@ END
   note "crates done of all, minutes so far and minutes left" $?
   is_tidy "a whole run"
   : > "$FAKE/begun"
-  install
+  : > "$FAKE/pid"
+  install_in 1
   [ "$status" = 0 ] && [ ! -s "$FAKE/begun" ] && grep -qx 'high is kept; 4 of 5 crates, 0 minutes so far, some 10 more' "$room/err"
   note "what is kept isn't proved again" $?
+  [ "$(wc -l < "$FAKE/pid")" = 1 ]
+  note "where all is kept there is one run" $?
+  rm -r "$room/rattle-kept/proof-low-0"
+  touch "$room/tree/crates/low/src/lib.rt"
+  : > "$FAKE/begun"
+  install_in 1
+  [ "$status" = 0 ] && were_begun low
+  note "what was changed is proved anew" $?
+}
+
+# Two crates of which neither needs the other are proved at once, by one job each; the longest chain has more.
+side_by_side() {
+  lay
+  MOMENT=1 install_in 2
+  [ "$status" = 0 ] && [ "$(sort "$FAKE/begun" | tr '\n' ' ')" = 'high 1 left 1 low 1 pulsefarm 2 right 1 ' ]
+  note "each crate is proved once in two lanes, by one job" $?
+  [ "$(sed -n '3,4s/ .*//p' "$FAKE/moments" | tr '\n' ' ')" = 'begins begins ' ]
+  note "the two in the middle begin before one of them ends" $?
+  lay
+  CI=true MOMENT=0 install_in ''
+  # (the first of the lanes has more jobs on four processors with 10 GB or more, where RT_JOBS is left as it was)
+  lanes=$(PYTHONPATH=$top/install python3 -c 'import order; print(*order.lanes())')
+  case $lanes in
+    1*) wanted=1 ;;
+    *) wanted= ;;
+  esac
+  [ "$status" = 0 ] && grep -qx "low $wanted" "$FAKE/begun" && grep -qx 'pulsefarm ' "$FAKE/begun"
+  note "the longest chain has the wide lane ($lanes)" $?
 }
 
 # The group of a run gets the signal $1, as by Ctrl-C, while its third crate is proved.
 stopped() {
   lay
-  PATH=$room/kit/bin:$PATH PREFIX=$room/prefix MOMENT=1 setsid sh "$room/tree/install.sh" > "$room/out" 2> "$room/err" &
+  RT_JOBS=1 PATH=$room/kit/bin:$PATH PREFIX=$room/prefix MOMENT=1 setsid sh "$room/tree/install.sh" > "$room/out" 2> "$room/err" &
   group=$!
   while [ "$(wc -l < "$FAKE/begun")" -lt 3 ]; do sleep 0.1; done
   kill -s "$1" -- "-$group"
@@ -92,8 +130,8 @@ stopped() {
   sleep 0.2
   is_tidy "$1"
   : > "$FAKE/begun"
-  install
-  printf '%s\n' right high pulsefarm | cmp -s - "$FAKE/begun"
+  install_in 1
+  were_begun "right high pulsefarm"
   note "it goes on where it was stopped by $1" $?
   [ "$status" = 0 ] && [ "$(cat "$room/out")" = "$main_job" ]
   note "and comes to its end (status $status)" $?
@@ -129,7 +167,7 @@ fails() {
   lay
   echo right > "$FAKE/broken"
   start=$(date +%s)
-  install
+  install_in 2
   [ "$status" = 1 ] && [ $(($(date +%s) - start)) -lt 20 ]
   note "a crate that fails ends it at once (status $status)" $?
   { seq -f 'line %g of its log' 12 40; echo 'rt: right NOT PROVED'; } > "$room/wanted"
@@ -140,7 +178,7 @@ fails() {
   is_tidy "a failure"
   lay
   : > "$FAKE/refusing"
-  install
+  install_in 2
   [ "$status" = 1 ] && grep -qx 'rt: HANDLES is one line' "$room/err"
   note "what rt refuses is told (status $status)" $?
 }
@@ -166,7 +204,7 @@ refusals() {
   [ $? = 1 ] && [ "$(cat "$room/err")" = 'usage: prove.py TREE' ]
   note "no tree" $?
   sed -i '/^pulsefarm/d' "$room/tree/crates.txt"
-  install
+  install_in 1
   [ "$status" = 1 ] && [ "$(cat "$room/err")" = 'crates.txt has no line of pulsefarm' ]
   note "no program" $?
 }
@@ -195,7 +233,7 @@ previews() {
 
 # Each crate of the program stands in the table, and each name in it is that of a crate.
 table() {
-  python3 -c 'import sys; sys.path.insert(0, sys.argv[1]); import prove; print(*prove.crates_of(sys.argv[2]), sep="\n")' "$top/install" "$top" | sort > "$room/sorted"
+  python3 -c 'import sys; sys.path.insert(0, sys.argv[1]); import order; print(*order.crates_of(sys.argv[2], ["pulsefarm"]), sep="\n")' "$top/install" "$top" | sort > "$room/sorted"
   sed -n 's/^\([a-z][a-z_]*\) [0-9][0-9]*$/\1/p' "$top/install/seconds.txt" | sort > "$room/table"
   comm -13 "$room/table" "$room/sorted" > "$room/out"
   sed -n 's/^\([a-z][a-z0-9_]*\).*:.*/\1/p' "$top/crates.txt" | sort | comm -23 "$room/table" - >> "$room/out"
@@ -205,7 +243,7 @@ table() {
 
 lanes() {
   python3 "$top/tests/install/lanes.py" > "$room/out" 2> "$room/err"
-  note "the kit's lanes: order of need, so many at once, the longest chain first" $?
+  note "order of need, so many at once, the longest chain first" $?
 }
 
 # The tree itself, from what the gate has proved: the program is that of the gate, byte by byte.
@@ -244,6 +282,7 @@ if [ "$at_gate" = 1 ]; then
   preview &
 fi
 whole
+side_by_side
 stopped INT
 stopped TERM
 told_to_stop

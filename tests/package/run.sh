@@ -56,7 +56,7 @@ proved_first() {
   : > "$FAKE/begun"
   (unset PROGRAM && PATH=$room/kit/bin:$PATH MOMENT=0 sh "$room/one/package.sh" "$room/proved") > "$room/out" 2> "$room/err"
   note "the program is proved and packed" $?
-  [ "$(tail -n 1 "$FAKE/begun")" = pulsefarm ]
+  [ "$(tail -n 1 "$FAKE/begun" | cut -d' ' -f1)" = pulsefarm ]
   note "it is proved first" $?
   tar -xOf "$(echo "$room"/proved/pulsefarm-*.tar.gz)" --wildcards '*/doc/pulsefarm/BUILD' > "$room/out" 2> "$room/err"
   grep -qx 'proof by rt ci, of this commit' "$room/out" && grep -qx "program $(sha256sum < "$program" | cut -d' ' -f1)" "$room/out"
