@@ -8,6 +8,9 @@ lacking() {
     [ "$(dpkg-query -W -f '${db:Status-Status}' "$package" 2> /dev/null)" = installed ] || echo "$package"
   done
 }
+# (one at a time, as the lists of packages have one lock)
+exec 9< "$0"
+flock 9
 wanted=$(lacking "$@")
 [ -n "$wanted" ] || exit 0
 if [ "$(id -u)" = 0 ] && command -v apt-get > /dev/null; then

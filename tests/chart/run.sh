@@ -15,8 +15,8 @@ find_browser() {
 }
 
 browser=$(find_browser)
-if [ -z "$browser" ] && [ "$(id -u)" = 0 ] && command -v apt-get > /dev/null; then
-  timeout 300 sh -c 'apt-get update && apt-get install -y --no-install-recommends chromium' > "$room/apt" 2>&1
+if [ -z "$browser" ]; then
+  "$top/tests/debian.sh" chromium
   browser=$(find_browser)
 fi
 echo "browser: ${browser:-none}"

@@ -1,16 +1,11 @@
-//! Makes values, names of atoms, a mail list and a mailbox, runs a process by a machine, sends signals, ties processes, and says so in
-//! seven lines. Where a growth is refused it says `NoMemory` and ends with status 2, once it has seen that what refused it is as it was, or for a machine
-//! that it answers so again; else it ends with status 3. The script under tests/refused runs it with each growth refused in
+//! Makes values, names of atoms, a mail list and a mailbox, and says so in four lines. Where a growth is refused it says `NoMemory` and ends with status 2,
+//! once it has seen that what refused it is as it was; else it ends with status 3. The script under tests/refused runs it with each growth refused in
 //! turn.
 #![tactic(auto)]
 
-mod channels;
-mod machine;
 mod mail;
 mod mailbox;
-mod ties;
 
-use crate::machine::Came;
 use pf_fault::OrNoMemory;
 use pf_terms::{AtomId, AtomTable, List, NoMemory, Term, TooLarge, copy, list_of, nodes, tuple_of};
 use std::alloc::Global;
@@ -25,15 +20,11 @@ enum Answer {
     Changed,
 }
 
-/// What the calls made: nodes of a value, spare nodes of a pool, pairs that were taken from a mailbox and messages that it kept, what
-/// came out of a machine's run, signals that were delivered, and signals that told of two ends.
+/// What the calls made: nodes of a value, spare nodes of a pool, pairs that were taken from a mailbox and messages that it kept.
 struct Made {
     nodes: u32,
     spare: usize,
     mail: (u32, usize),
-    came: Came,
-    delivered: u32,
-    told: usize,
 }
 
 impl From<NoMemory> for Answer {
@@ -95,36 +86,18 @@ fn made_all(alloc: Global) -> Result<Made, Answer> {
         nodes: make(alloc)?,
         spare: mail::spare_after(alloc)?,
         mail: mailbox::taken_and_left(alloc)?,
-        came: machine::ran(alloc)?,
-        delivered: channels::delivered(alloc)?,
-        told: ties::told(alloc)?,
     })
 }
 
 fn main(rt: HostRuntime) -> io::Result<ExitCode> {
     match made_all(rt.alloc()) {
         Ok(made) => {
-            let Made {
-                nodes,
-                spare,
-                mail,
-                came,
-                delivered,
-                told,
-            } = made;
+            let Made { nodes, spare, mail } = made;
             let (pairs, left) = mail;
-            let Came {
-                sent,
-                taken,
-                reason,
-            } = came;
             println!(rt; "made {nodes} nodes")?;
             println!(rt; "kept {spare} nodes")?;
             println!(rt; "took {pairs} pairs")?;
             println!(rt; "kept {left} messages")?;
-            println!(rt; "sent {sent} nodes, took {taken}, ended with {reason}")?;
-            println!(rt; "delivered {delivered} signals")?;
-            println!(rt; "told {told} of two ends")?;
             Ok(ExitCode::SUCCESS)
         }
         Err(Answer::Refused) => {
