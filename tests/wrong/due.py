@@ -6,7 +6,7 @@
                                   `waits` or `later`
     due.py TOP note PLAN LOG..    notes by such a plan what the logs of `rt` say
 
-KIT is the kit's name, TURNS (2) how many crates are due in turn, and MOST_EDITS (100) how many edits are due at once of crates that are
+KIT is the kit's name, TURNS (2) how many crates are due in turn, and MOST_EDITS (70) how many edits are due at once of crates that are
 as they were and stand on names that changed below them. All edits of crates that changed themselves count among these; where more
 are due than that, none waits its turn. MOST_CHANGED (85 a processor) is how many edits of changed crates are due at once: crates go
 whole, new ones first and then those that were seen the longest ago, and those that would pass it wait for a later gate."""
@@ -71,7 +71,7 @@ def plan(tree, noted):
     hold_back(by_crate, noted)
     below = [it for lines in by_crate.values() for it in lines if it.why == "below"]
     below.sort(key=lambda it: (noted.edits.get(it.key(), ("", 0))[1], it.crate, it.name))
-    most = int(os.environ.get("MOST_EDITS", "100"))
+    most = int(os.environ.get("MOST_EDITS", "70"))
     own = sum(1 for lines in by_crate.values() for it in lines if it.why in ("new", "changed"))
     for it in below[max(0, most - own) :]:
         it.why = "waits"
