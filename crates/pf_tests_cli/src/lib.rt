@@ -2,20 +2,8 @@
 #![tactic(auto)]
 
 #[cfg(test)]
-mod asked;
-#[cfg(test)]
-mod farms;
-#[cfg(test)]
-mod forms;
-#[cfg(test)]
-mod hunts;
-#[cfg(test)]
-mod reach;
+mod defaults;
 #[cfg(test)]
 mod readings;
 #[cfg(test)]
-mod requests;
-#[cfg(test)]
-mod weights;
-#[cfg(test)]
-mod words;
+mod values;

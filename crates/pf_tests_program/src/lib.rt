@@ -1,13 +1,7 @@
-//! Tests of the program's work: a whole shrinking that is watched, and runs and commands between readers and writers that fail.
+//! Tests of the program's work: commands between a reader and a writer of which a call fails.
 #![tactic(auto)]
 
 #[cfg(test)]
 mod commands;
 #[cfg(test)]
-mod pieces;
-#[cfg(test)]
-mod pipes;
-#[cfg(test)]
-mod runs;
-#[cfg(test)]
-mod shrinkings;
+mod streams;

@@ -1,4 +1,4 @@
-use Rattle.pf_tests_program.proofs.pipes.carry_out.Given as goal
+use Rattle.pf_tests_program.proofs.streams.carry_out.Given as goal
 
 -- each end's ledger is named by its own blank
 abbrev pub ghosts-carry_out_by-L-Ledger : goal.ghosts-carry_out_by-L-Ledger

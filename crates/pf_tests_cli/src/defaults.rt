@@ -1,0 +1,117 @@
+//! What the words of each command ask for that name no more than it wants, or one thing alone.
+
+use pf_cli::{Args, Asked, Edition, Format, HuntArgs, Roots, RunArgs, Sought, read_args};
+use pf_request::{Kind, Request, RunChoices};
+use pf_strategy::Strategy;
+use std::alloc::Global;
+
+/// Words of each command.
+const WORDS: [&[&str]; 7] = [
+    &[
+        "pulsefarm",
+        "run",
+        "--root=main",
+        "--limit=100000",
+        "--seed=3",
+    ],
+    &["pulsefarm", "chart", "--seed=3"],
+    &[
+        "pulsefarm",
+        "shrink",
+        "--root=main",
+        "--limit=100000",
+        "--schedule=none",
+        "--property=returns",
+        "--runs=9",
+    ],
+    &["pulsefarm", "hunt"],
+    &["pulsefarm", "check"],
+    &["pulsefarm", "steps", "-"],
+    &["pulsefarm", "farm", "a", "--workers=1"],
+];
+
+/// Whether it is a request of `main` that wants it to return within 100,000 steps.
+fn is_of_defaults(request: &Request) -> bool {
+    request.root.as_slice() == b"main".as_slice()
+        && request.property.as_slice() == b"returns".as_slice()
+        && request.limit == 100_000
+}
+
+/// Whether it is a run, or a shrinking, of the first edition by its own choices.
+fn is_plain(run: &RunArgs) -> bool {
+    is_of_defaults(&run.request)
+        && matches!(run.edition, Edition::First)
+        && run.priorities.is_none()
+}
+
+fn is_plain_hunt(hunt: &HuntArgs) -> bool {
+    is_of_defaults(&hunt.request)
+        && matches!(hunt.request.kind, Kind::Run(RunChoices::Seed(0)))
+        && matches!(hunt.edition, Edition::First)
+        && hunt.more.is_empty()
+        && (hunt.first, hunt.end) == (0, 10_000)
+        && hunt.time.is_none()
+        && hunt.workers.is_none()
+        && hunt.strategy == Strategy::Priorities
+        && !hunt.fail_fast
+        && !hunt.leaks
+        && matches!(hunt.roots, Roots::Main)
+        && matches!(hunt.sought, Sought::Failure { runs: None })
+}
+
+/// Whether nothing is asked for but what the command wants and its defaults.
+fn has_defaults(args: &Args) -> bool {
+    match args {
+        Args::Run(run) | Args::Shrink(run) => is_plain(run),
+        Args::Chart(chart) => is_plain(&chart.run) && !chart.compact && chart.page == 1,
+        Args::Hunt(hunt) => is_plain_hunt(hunt),
+        Args::Check(check) => !check.explain,
+        Args::Steps(_) => true,
+        Args::Farm(farm) => farm.workers == 1 && !farm.summary,
+    }
+}
+
+/// Whether what is asked for reads the standard input, tells it in text and explains no more.
+fn is_told_plainly(asked: &Asked) -> bool {
+    asked.args.file().is_none() && matches!(asked.format, Format::Text) && !asked.explain
+}
+
+/// Whether these words ask for the defaults of their command.
+fn asks_for_defaults(alloc: Global, words: &[&str]) -> bool {
+    match read_args(alloc, words) {
+        Ok(asked) => has_defaults(&asked.args) && is_told_plainly(&asked),
+        Err(_) => false,
+    }
+}
+
+#[test]
+fn commands_have_their_defaults(rt: HostRuntime) {
+    for words in WORDS {
+        assert!(rt; asks_for_defaults(rt.alloc(), words));
+    }
+}
+
+/// Whether the words of a hunt with this one beside them ask for what it names, of what goes with no other such word.
+fn asks_for_alone(alloc: Global, word: &str) -> bool {
+    match read_args(alloc, &["pulsefarm", "hunt", "a", word]) {
+        Ok(
+            Asked {
+                args: Args::Hunt(hunt),
+                ..
+            },
+        ) => match (hunt.roots, hunt.sought) {
+            (Roots::Every, Sought::Failure { runs: None }) => word == "--all-roots",
+            (Roots::Main, Sought::Outcomes) => word == "--all",
+            (Roots::Main, Sought::Failure { runs: Some(7) }) => word == "--shrink=7",
+            _ => false,
+        },
+        _ => false,
+    }
+}
+
+#[test]
+fn hunts_seek_more_in_one_file(rt: HostRuntime) {
+    for word in ["--all-roots", "--all", "--shrink=7"] {
+        assert!(rt; asks_for_alone(rt.alloc(), word));
+    }
+}

@@ -1,0 +1,204 @@
+//! What the words of each command ask for that name all it takes.
+
+use pf_cli::{
+    Args, Asked, ChartArgs, FarmArgs, Format, HuntArgs, Roots, RunArgs, Sought, read_args,
+    status_of_kind,
+};
+use pf_request::{Kind, Request, RunChoices};
+use pf_strategy::Strategy;
+use std::alloc::Global;
+
+/// Words of each command; a file is called as its command.
+const WORDS: [&[&str]; 7] = [
+    &[
+        "pulsefarm",
+        "run",
+        "run",
+        "--root=f",
+        "--limit=0",
+        "--edition=2",
+        "--seed=7",
+        "--weights=3:1",
+        "--property=never:{a, _}",
+        "--format=json",
+        "--explain",
+    ],
+    &[
+        "pulsefarm",
+        "chart",
+        "--root=f",
+        "--limit",
+        "0",
+        "--edition=2",
+        "--seed=18446744073709551615",
+        "--strategy=pos",
+        "--property",
+        "never:{a, _}",
+        "--compact",
+        "--page=4294967295",
+        "chart",
+    ],
+    &[
+        "pulsefarm",
+        "shrink",
+        "--root=f",
+        "shrink",
+        "--limit=0",
+        "--edition=2",
+        "--schedule=7,0,4294967295",
+        "--property=never:{a, _}",
+        "--runs=4294967295",
+        "--format=json",
+    ],
+    &[
+        "pulsefarm",
+        "hunt",
+        "hunt",
+        "--root=f",
+        "b",
+        "--limit=0",
+        "--edition=2",
+        "--property=never:{a, _}",
+        "--seeds=3..=9",
+        "--for=5m",
+        "--weights=2:5",
+        "--workers=64",
+        "--fail-fast",
+        "--leaks",
+        "--format=json",
+        "-",
+    ],
+    &["pulsefarm", "check", "--explain", "check", "--format=json"],
+    &["pulsefarm", "steps", "--", "--"],
+    &[
+        "pulsefarm",
+        "farm",
+        "--workers=64",
+        "farm",
+        "--summary",
+        "b",
+        "-",
+    ],
+];
+
+/// Whether it is a request of the root `f`, with this property and within 0 steps.
+fn is_request(request: &Request) -> bool {
+    request.root.as_slice() == b"f".as_slice()
+        && request.property.as_slice() == b"never:{a, _}".as_slice()
+        && request.limit == 0
+}
+
+fn is_run(run: &RunArgs) -> bool {
+    run.file == Some("run")
+        && is_request(&run.request)
+        && run.edition.number() == 2
+        && run.priorities.is_none()
+        && matches!(
+            run.request.kind,
+            Kind::Run(RunChoices::Weighted {
+                seed: 7,
+                run: 3,
+                deliver: 1,
+            },)
+        )
+}
+
+fn is_chart(chart: &ChartArgs) -> bool {
+    chart.run.file == Some("chart")
+        && is_request(&chart.run.request)
+        && chart.run.edition.number() == 2
+        && chart.run.priorities == Some(u64::MAX)
+        && matches!(
+            chart.run.request.kind,
+            Kind::Run(RunChoices::Seed(u64::MAX))
+        )
+        && chart.compact
+        && chart.page == u32::MAX
+}
+
+/// Whether it is the shrinking of this schedule within the most runs that a number names.
+fn is_shrinking(kind: &Kind, numbers: &[u32]) -> bool {
+    match kind {
+        Kind::Shrink { schedule, runs } => schedule.as_slice() == numbers && *runs == u32::MAX,
+        Kind::Run(_) => false,
+    }
+}
+
+fn is_shrink(shrink: &RunArgs) -> bool {
+    shrink.file == Some("shrink")
+        && is_request(&shrink.request)
+        && shrink.edition.number() == 2
+        && is_shrinking(&shrink.request.kind, &[7, 0, u32::MAX])
+}
+
+fn is_hunt(hunt: &HuntArgs) -> bool {
+    hunt.file == Some("hunt")
+        && hunt.more.as_slice() == ["b", "-"].as_slice()
+        && is_request(&hunt.request)
+        && hunt.edition.number() == 2
+        && (hunt.first, hunt.end) == (3, 10)
+        && hunt.time == Some(300)
+        && hunt.workers == Some(64)
+        && hunt.strategy == Strategy::Uniform
+        && hunt.fail_fast
+        && hunt.leaks
+        && matches!(hunt.roots, Roots::Named)
+        && matches!(hunt.sought, Sought::Failure { runs: None })
+        && matches!(
+            hunt.request.kind,
+            Kind::Run(RunChoices::Weighted {
+                seed: 0,
+                run: 2,
+                deliver: 5,
+            },)
+        )
+}
+
+fn is_farm(farm: &FarmArgs) -> bool {
+    farm.workers == 64 && farm.summary && farm.files.as_slice() == ["farm", "b", "-"].as_slice()
+}
+
+/// Whether a command asks for what its words name.
+fn is_named(asked: &Asked) -> bool {
+    let is_json = matches!(asked.format, Format::Json);
+    match &asked.args {
+        Args::Run(run) => is_run(run) && is_json && asked.explain,
+        Args::Chart(chart) => is_chart(chart) && !is_json,
+        Args::Shrink(shrink) => is_shrink(shrink) && is_json,
+        Args::Hunt(hunt) => is_hunt(hunt) && is_json,
+        Args::Check(check) => check.file == Some("check") && check.explain && is_json,
+        Args::Steps(steps) => steps.file == Some("--"),
+        Args::Farm(farm) => is_farm(farm) && asked.args.file().is_none(),
+    }
+}
+
+/// Whether these words ask for what they name.
+fn asks_for_it(alloc: Global, words: &[&str]) -> bool {
+    match read_args(alloc, words) {
+        Ok(asked) => is_named(&asked),
+        Err(_) => false,
+    }
+}
+
+#[test]
+fn commands_have_what_their_words_name(rt: HostRuntime) {
+    for words in WORDS {
+        assert!(rt; asks_for_it(rt.alloc(), words));
+    }
+}
+
+/// The status that these words are refused with; 0 where they are taken.
+fn status_of(alloc: Global, words: &[&str]) -> u8 {
+    match read_args(alloc, words) {
+        Ok(_) => 0,
+        Err(error) => status_of_kind(error.kind()),
+    }
+}
+
+#[test]
+fn refused_words_have_the_status_2(rt: HostRuntime) {
+    assert_eq!(rt;
+        status_of(rt.alloc(), &["pulsefarm", "hunt", "--seeds=0"]),
+        2
+    );
+}
