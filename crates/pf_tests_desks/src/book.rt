@@ -1,175 +1,83 @@
-//! Three projects at the book, project 0 among them: each is told what it is told alone.
+//! Each call of a client and each deed of a worker once, at one book.
 
-use crate::told::{
-    SUM_BYTES, add, add_reply, add_whether, described, order_of, submitted, told_by, used, worked,
-};
-use pf_book::Book;
-use pf_request::{Kind, RunChoices, Source};
-use pf_sched::Scratch;
+use pf_book::{Book, Claimed, Reply, Stage};
+use pf_request::{Kind, Order, Request, RunChoices, ShortBytes, Source};
+use pf_sched::{Scratch, Silent, run_to_end};
 use std::alloc::Global;
+use std::hash::RandomState;
 use std::test::Fail;
 
-/// Orders a run within 100 steps, without a schedule.
-fn ordered(alloc: Global, book: &mut Book, project: u32, module: u64) -> Result<String, Fail> {
-    let kind = Kind::Run(RunChoices::schedule(alloc, Vec::new(alloc))?);
-    let order = order_of(alloc, module, kind, 100)?;
-    described(alloc, book.order(alloc, project, order)?)
+const SUM: &[u8] = b"-module(m).\n-export([main/0]).\nmain() -> 1 + 2 * 3.\n";
+
+fn submitted(alloc: Global, book: &mut Book) -> Result<Reply, Fail> {
+    let source = Source::new(alloc, Vec::from_slice(alloc, SUM)?)?;
+    Ok(book.submit(alloc, 3, source)?)
 }
 
-fn fetched(alloc: Global, book: &mut Book, project: u32, ticket: u64) -> Result<String, Fail> {
-    described(alloc, book.fetch(alloc, project, ticket)?)
+fn ordered(alloc: Global, book: &mut Book) -> Result<Reply, Fail> {
+    let request = Request {
+        root: ShortBytes::from_slice(alloc, b"main")?,
+        property: ShortBytes::from_slice(alloc, b"returns")?,
+        kind: Kind::Run(RunChoices::Seed(0)),
+        limit: 100,
+    };
+    Ok(book.order(alloc, 3, Order { module: 1, request })?)
 }
 
-/// What a project is told that submits and orders for the first time.
-fn tell_first(alloc: Global, book: &mut Book, project: u32, told: &mut String) -> Result<(), Fail> {
-    add(told, &used(alloc, book, project)?)?;
-    add(told, &ordered(alloc, book, project, 1)?)?;
-    add(told, &submitted(alloc, book, project, SUM_BYTES)?)?;
-    add(told, &ordered(alloc, book, project, 1)?)?;
-    add(told, &fetched(alloc, book, project, 1)?)
+/// Whether a client is told what it has to be when it submits, orders twice, and asks.
+fn asks(alloc: Global, book: &mut Book) -> Result<[bool; 6], Fail> {
+    Ok([
+        matches!(submitted(alloc, book)?, Reply::Module(1)),
+        matches!(ordered(alloc, book)?, Reply::Ticket(1)),
+        matches!(ordered(alloc, book)?, Reply::Ticket(2)),
+        matches!(book.status(alloc, 3, 2)?, Reply::Stage(Stage::Queued)),
+        matches!(book.edition(alloc, 3, 2)?, Reply::HasEdition),
+        matches!(book.log(alloc, 3)?, Reply::Logged(5)),
+    ])
 }
 
-/// What it is told then, when a worker has run its trial and has nothing more to run.
-fn tell_then(
-    alloc: Global,
-    book: &mut Book,
-    scratch: &mut Scratch,
-    project: u32,
-    told: &mut String,
-) -> Result<(), Fail> {
-    add_whether(told, worked(alloc, book, scratch, project, 1)?)?;
-    add_whether(told, worked(alloc, book, scratch, project, 1)?)?;
-    add(told, &fetched(alloc, book, project, 1)?)?;
-    add(told, &fetched(alloc, book, project, 2)?)?;
-    add(told, &used(alloc, book, project)?)
+/// Whether the trial that was ordered first is claimed and handed back, and is claimed by its ticket, run and filed then.
+fn works(alloc: Global, book: &mut Book) -> Result<[bool; 3], Fail> {
+    let claimed = matches!(
+        book.claim()?,
+        Some(Claimed {
+            project: 3,
+            ticket: 1,
+            ..
+        })
+    );
+    let handed_back = book.hand_back(3, 1);
+    let Some(job) = book.claim_at(3, 1)? else {
+        return Ok([claimed, handed_back, false]);
+    };
+    let finished = run_to_end(alloc, job, &mut Scratch::new(alloc), &mut Silent)?;
+    Ok([claimed, handed_back, book.file(3, 1, finished)])
 }
 
-/// What three projects are told so, one after another, and whether there is more to run for another one.
-fn tell_three(
-    alloc: Global,
-    book: &mut Book,
-    scratch: &mut Scratch,
-    told: &mut String,
-) -> Result<(), Fail> {
-    for project in [0u32, 7, 4294967295] {
-        tell_first(alloc, book, project, told)?;
-    }
-    for project in [4294967295u32, 0, 7] {
-        tell_then(alloc, book, scratch, project, told)?;
-    }
-    add_whether(told, worked(alloc, book, scratch, 1, 1)?)
+/// Whether the client gets what came of it, and gives up all that it holds.
+fn gives_up(alloc: Global, book: &mut Book) -> Result<[bool; 5], Fail> {
+    Ok([
+        matches!(book.fetch(alloc, 3, 1)?, Reply::Result(_)),
+        matches!(book.drop_trial(alloc, 3, 1)?, Reply::GivenUp),
+        matches!(book.drop_trial(alloc, 3, 2)?, Reply::GivenUp),
+        matches!(book.withdraw(alloc, 3, 1)?, Reply::GivenUp),
+        matches!(book.usage(alloc, 3)?, Reply::Usage(_)),
+    ])
 }
 
-fn tell_of_three(alloc: Global, book: &mut Book, told: &mut String) -> Result<(), Fail> {
-    tell_three(alloc, book, &mut Scratch::new(alloc), told)
-}
-
-#[test]
-fn projects_are_told_their_own(rt: HostRuntime) -> Result<(), Fail> {
-    let told = told_by(&rt, tell_of_three)?;
-    let first = "0 0 0 0 0, refused B1, module 1, ticket 1, refused B5";
-    let then = "true, false, 4 steps, refused B3, 1 51 1 100 7";
-    let want = format!(in rt.alloc(); "{first}, {first}, {first}, {then}, {then}, {then}, false")?;
-    assert_eq!(rt; told.as_str(), want.as_str());
-    Ok(())
-}
-
-/// What one project is told in a round with its module and trial of this number, which it gives up then.
-fn tell_round(
-    alloc: Global,
-    book: &mut Book,
-    scratch: &mut Scratch,
-    number: u64,
-    told: &mut String,
-) -> Result<(), Fail> {
-    add(told, &submitted(alloc, book, 0, SUM_BYTES)?)?;
-    add(told, &ordered(alloc, book, 0, number)?)?;
-    add_reply(alloc, told, book.status(alloc, 0, number)?)?;
-    add_whether(told, worked(alloc, book, scratch, 0, number)?)?;
-    add(told, &fetched(alloc, book, 0, number)?)?;
-    add_reply(alloc, told, book.withdraw(alloc, 0, number)?)?;
-    add_reply(alloc, told, book.drop_trial(alloc, 0, number)?)?;
-    add_reply(alloc, told, book.withdraw(alloc, 0, number)?)
-}
-
-/// Whether it is told so as it is to be.
-fn is_round(
-    alloc: Global,
-    book: &mut Book,
-    scratch: &mut Scratch,
-    number: u64,
-) -> Result<bool, Fail> {
-    let mut told = String::new(alloc);
-    tell_round(alloc, book, scratch, number, &mut told)?;
-    let want = format!(in alloc;
-        "module {number}, ticket {number}, queued, true, 4 steps, refused B4, given up, given up"
-    )?;
-    Ok(told.as_str() == want.as_str())
-}
-
-/// How many of 99 rounds are so.
-fn rounds(alloc: Global, book: &mut Book, scratch: &mut Scratch) -> Result<u32, Fail> {
-    let mut count = 0u32;
-    for number in 1..100u64 {
-        if is_round(alloc, book, scratch, number)? {
-            count = count.saturating_add(1);
-        }
-    }
-    Ok(count)
-}
-
-/// Whether all are so, and what is used then.
-fn tell_of_rounds(alloc: Global, book: &mut Book, told: &mut String) -> Result<(), Fail> {
-    add_whether(told, rounds(alloc, book, &mut Scratch::new(alloc))? == 99)?;
-    add(told, &used(alloc, book, 0)?)
+/// What holds of all three, one after another.
+fn told(alloc: Global, book: &mut Book) -> Result<([bool; 6], [bool; 3], [bool; 5]), Fail> {
+    Ok((
+        asks(alloc, book)?,
+        works(alloc, book)?,
+        gives_up(alloc, book)?,
+    ))
 }
 
 #[test]
-fn numbers_are_given_once(rt: HostRuntime) -> Result<(), Fail> {
-    let told = told_by(&rt, tell_of_rounds)?;
-    // Each round has 7 calls: a worker's work is none.
-    assert_eq!(rt; told.as_str(), "true, 0 0 0 0 693");
-    Ok(())
-}
-
-/// A module whose run has one process more with each turn of its root.
-const SPAWNER: &str =
-    "-module(m).\n-export([main/0, f/0, g/0]).\nmain() -> f().\nf() -> spawn(m, g, []), f().\ng() -> ok.\n";
-
-/// Orders a run of that module within 6,000 steps, without a schedule.
-fn spawning(alloc: Global, book: &mut Book) -> Result<String, Fail> {
-    let kind = Kind::Run(RunChoices::schedule(alloc, Vec::new(alloc))?);
-    let order = order_of(alloc, 1, kind, 6_000)?;
-    described(alloc, book.order(alloc, 0, order)?)
-}
-
-/// What a project is told that orders the same before and after it has edition 2, and lets a worker run both then.
-fn tell_editions(
-    alloc: Global,
-    book: &mut Book,
-    scratch: &mut Scratch,
-    told: &mut String,
-) -> Result<(), Fail> {
-    let source = Source::new(alloc, Vec::from_slice(alloc, SPAWNER.as_bytes())?)?;
-    add_reply(alloc, told, book.submit(alloc, 0, source)?)?;
-    add(told, &spawning(alloc, book)?)?;
-    add_reply(alloc, told, book.edition(alloc, 0, 2)?)?;
-    add(told, &spawning(alloc, book)?)?;
-    add_whether(told, worked(alloc, book, scratch, 0, 1)?)?;
-    add_whether(told, worked(alloc, book, scratch, 0, 2)?)?;
-    add(told, &fetched(alloc, book, 0, 1)?)?;
-    add(told, &fetched(alloc, book, 0, 2)?)
-}
-
-fn tell_of_editions(alloc: Global, book: &mut Book, told: &mut String) -> Result<(), Fail> {
-    tell_editions(alloc, book, &mut Scratch::new(alloc), told)
-}
-
-#[test]
-fn a_held_trial_keeps_its_edition(rt: HostRuntime) -> Result<(), Fail> {
-    let told = told_by(&rt, tell_of_editions)?;
-    // A run of edition 1 has at most 256 processes, and one of edition 2 has 1,024.
-    let want = "module 1, ticket 1, has edition, ticket 2, true, true, 1279 steps, 5119 steps";
-    assert_eq!(rt; told.as_str(), want);
+fn each_call_and_each_deed_is_done(rt: HostRuntime) -> Result<(), Fail> {
+    let mut book = Book::new(rt.alloc(), RandomState::new(&rt)?);
+    let told = told(rt.alloc(), &mut book)?;
+    assert_eq!(rt; told, ([true; 6], [true; 3], [true; 5]));
     Ok(())
 }

@@ -1,15 +1,9 @@
-//! Tests of the running farm: trials that overlap, runs that are stolen, and what is left when a farm is closed.
+//! A test of the running farm: trials that overlap, a run that is stolen, and what is left when a farm is closed.
 #![tactic(auto)]
 
 #[cfg(test)]
-mod calls;
-#[cfg(test)]
-mod closed;
-pub mod missed;
+mod four;
 #[cfg(test)]
 mod scene;
 #[cfg(test)]
-mod stolen;
-#[cfg(test)]
-mod together;
-pub mod waiting;
+mod waiting;

@@ -4,13 +4,8 @@ ghost use Rattle.std.specs.Prelude.{◌≡◌, ◌<◌, ◌≤◌, IfOk, Some, l
 ghost use Rattle.pf_farm.specs.Farms.{farm_of};
 ghost use Rattle.pf_farm.specs.Seats.{AllIdle, IsRing};
 
-use crate::missed::Missed;
-use crate::waiting::Mark;
-use pf_farm::{
-    Blanks, ClientSeat, Closing, Farm, Floor, Gate, MOST_SEATS, NoSeat, WorkSeat, work_all,
-};
+use pf_farm::{Blanks, ClientSeat, Closing, Farm, Floor, Gate, MOST_SEATS, WorkSeat, work_all};
 use pf_farm_names::FarmNames;
-use pf_fault::OrNoMemory;
 use pf_register::NewRegister;
 use std::alloc::Global;
 use std::hash::RandomState;
@@ -28,7 +23,10 @@ pub(crate) trait Scene: Gate + Sync {
         rt: &R,
         floor: &Floor<N>,
         seat: &mut ClientSeat<N>,
-    ) -> Result<(), Missed>;
+    );
+
+    /// The farm has been told to stop.
+    fn stopped(&self);
 }
 
 /// A seat for a client of each of these projects.
@@ -36,7 +34,7 @@ fn seated<N: FarmNames>(
     alloc: Global,
     farm: &mut Farm<N>,
     projects: &[u32],
-) -> Result<Vec<ClientSeat<N>>, Missed>
+) -> Result<Vec<ClientSeat<N>>, Fail>
     requires none { farm.old.given ≡ 0 }
     requires few { length projects.now ≤ MOST_SEATS }
     ensures seats { IfOk result (λ v. vec_len v ≡ length projects.now) }
@@ -44,27 +42,9 @@ fn seated<N: FarmNames>(
 {
     let mut seats = Vec::new(alloc);
     'projects: for project in projects {
-        match farm.seat(alloc, *project) {
-            Ok(seat) => seats.push(seat)?,
-            Err(OrNoMemory::Fault(NoSeat)) => return Err(Missed::that("no seat is left")),
-            Err(OrNoMemory::NoMemory) => return Err(Missed::that("memory ran out")),
-        }
+        seats.push(farm.seat(alloc, *project)?)?;
     }
     Ok(seats)
-}
-
-/// Has one client do its part.
-fn client_plays<N: FarmNames, R: Wait, S: Scene>(
-    alloc: Global,
-    rt: &R,
-    floor: &Floor<N>,
-    scene: &S,
-    failed: &Mark,
-    seat: &mut ClientSeat<N>,
-) {
-    if scene.client(alloc, rt, floor, seat).is_err() {
-        failed.set();
-    }
 }
 
 /// Has all clients do their parts side by side. Then the farm stops.
@@ -73,7 +53,6 @@ fn clients_play<N: FarmNames + Send + Sync, R: Threads + Wait + Sync, S: Scene>(
     rt: &R,
     floor: &Floor<N>,
     scene: &S,
-    failed: &Mark,
     seats: &mut [ClientSeat<N>],
 )
     requires { 0 < length seats.old }
@@ -84,9 +63,10 @@ fn clients_play<N: FarmNames + Send + Sync, R: Threads + Wait + Sync, S: Scene>(
         rt,
         seats,
         count,
-        &move |_, seat| client_plays(alloc, rt, floor, scene, failed, seat),
+        &move |_, seat| scene.client(alloc, rt, floor, seat),
     );
     floor.stop(rt);
+    scene.stopped();
 }
 
 /// Has all workers work side by side.
@@ -112,7 +92,6 @@ fn all_play<'a, N: FarmNames + Send + Sync, R: Threads + Wait + Sync, S: Scene>(
     rt: &'a R,
     floor: &'a Floor<N>,
     scene: &'a S,
-    failed: &'a Mark,
     clients: &'a mut [ClientSeat<N>],
     seats: &'a mut [WorkSeat<N>],
 )
@@ -132,7 +111,7 @@ fn all_play<'a, N: FarmNames + Send + Sync, R: Threads + Wait + Sync, S: Scene>(
     let mut play = ||
         requires { 0 < length clients.now }
         ensures { length clients.exit.now ≡ length clients.entry.now }
-    { clients_play(alloc, rt, floor, scene, failed, clients) };
+    { clients_play(alloc, rt, floor, scene, clients) };
     join_mut(rt, &mut work, &mut play);
 }
 
@@ -145,7 +124,7 @@ fn play_by<N: FarmNames + Send + Sync, R: Threads + Wait + Sync, S: Scene>(
     workers: usize,
     projects: &[u32],
     scene: &S,
-) -> Result<Closing, Missed>
+) -> Result<Closing, Fail>
     requires opened { (blanks.opened.name ≡ N.opened) × (blanks.opened.parts ≡ N.workers) }
     requires ended { (blanks.ended.name ≡ N.ended) × (blanks.ended.parts ≡ N.workers) }
     requires calls { (blanks.calls.name ≡ N.calls) × (blanks.calls.parts ≡ N.seats) }
@@ -157,14 +136,9 @@ fn play_by<N: FarmNames + Send + Sync, R: Threads + Wait + Sync, S: Scene>(
 {
     let (mut farm, mut seats) = Farm::<N>::open(alloc, keys, blanks, workers)?;
     let mut clients = seated(alloc, &mut farm, projects)?;
-    let failed = Mark::new();
     let floor = farm.floor();
-    all_play(alloc, rt, floor, scene, &failed, &mut clients, &mut seats);
-    let closing = farm.close(clients, seats);
-    if failed.count() > 0 {
-        return Err(Missed::that("a client failed"));
-    }
-    Ok(closing)
+    all_play(alloc, rt, floor, scene, &mut clients, &mut seats);
+    Ok(farm.close(clients, seats))
 }
 
 /// Plays a scene.
@@ -186,8 +160,5 @@ pub(crate) fn play<R: Threads + Wait + Sync, S: Scene>(
         claims: NewRegister::new(alloc)?,
         receipts: NewRegister::new(alloc)?,
     };
-    match play_by::<Brand, R, S>(alloc, rt, keys, blanks, workers, projects, scene) {
-        Ok(closing) => Ok(closing),
-        Err(missed) => Err(Fail::from(missed.what)),
-    }
+    play_by::<Brand, R, S>(alloc, rt, keys, blanks, workers, projects, scene)
 }

@@ -1,11 +1,5 @@
-//! Tests of workshops: a worked list of steps, and scripts of many projects and workers against each project alone.
+//! A test of workshops: one run goes from worker to worker.
 #![tactic(auto)]
 
-#[cfg(test)]
-mod aims;
-#[cfg(test)]
-mod alone;
-#[cfg(test)]
-mod deeds;
 #[cfg(test)]
 mod worked;

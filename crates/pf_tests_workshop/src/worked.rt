@@ -1,96 +1,70 @@
 //! A worked list of steps: one run goes from worker to worker.
 
-use crate::deeds::{order_by, race};
-use pf_request::{Call, Chore, Step};
+use pf_request::{Call, Chore, Kind, Order, Request, RunChoices, ShortBytes, Source, Step};
 use pf_workshop::{Response, Workshop};
 use std::alloc::Global;
 use std::hash::RandomState;
 use std::test::Fail;
 
-/// Each chore about trial 1 of project 7: the worker, the chore, and what is answered to it.
-const WORKED: [(u32, Chore, &str); 16] = [
-    (0, Chore::File, "not now"),
-    (0, Chore::Claim, "done"),
-    (1, Chore::Claim, "not now"),
-    (0, Chore::Slice { turns: 0 }, "not now"),
-    (0, Chore::Slice { turns: 2 }, "done"),
-    (0, Chore::File, "not now"),
-    (0, Chore::Park, "done"),
-    (0, Chore::Slice { turns: 1 }, "not now"),
-    (3, Chore::Steal { from: 3 }, "not now"),
-    (3, Chore::Steal { from: 0 }, "done"),
-    (0, Chore::TakeUp, "not now"),
-    (3, Chore::Slice { turns: 100 }, "done"),
-    (3, Chore::Slice { turns: 1 }, "not now"),
-    (3, Chore::Park, "not now"),
-    (4, Chore::Claim, "not now"),
-    (3, Chore::File, "done"),
+/// A run of five events.
+const ECHO: &[u8] =
+    b"-module(m).\n-export([main/0]).\nmain() -> self() ! on, receive on -> ok end.\n";
+
+/// Each chore about trial 1 of project 7, and its worker. All can be done.
+const CHORES: [(u32, Chore); 11] = [
+    (0, Chore::Claim),
+    (0, Chore::Slice { turns: 2 }),
+    (0, Chore::Park),
+    (0, Chore::TakeUp),
+    (0, Chore::Slice { turns: 1 }),
+    (0, Chore::Park),
+    (63, Chore::Steal { from: 0 }),
+    (63, Chore::GiveBack),
+    (3, Chore::Claim),
+    (3, Chore::Slice { turns: 100 }),
+    (3, Chore::File),
 ];
 
-/// After a drop a hand-back is stray, and the worker is free.
-const STRAY: [(u32, Chore, &str); 2] = [
-    (3, Chore::GiveBack, "stray"),
-    (3, Chore::GiveBack, "not now"),
-];
-
-fn word_of(response: &Response) -> &'static str {
-    match response {
-        Response::Reply(_) => "reply",
-        Response::Done => "done",
-        Response::Stray => "stray",
-        Response::NotNow => "not now",
-    }
+/// Project 7 submits the module and orders its run.
+fn order(alloc: Global, workshop: &mut Workshop) -> Result<(), Fail> {
+    let source = Source::new(alloc, Vec::from_slice(alloc, ECHO)?)?;
+    workshop.call(alloc, 7, Call::Submit(source))?;
+    let request = Request {
+        root: ShortBytes::from_slice(alloc, b"main")?,
+        property: ShortBytes::from_slice(alloc, b"returns")?,
+        kind: Kind::Run(RunChoices::Seed(1)),
+        limit: 1000,
+    };
+    let call = Call::Order(Order { module: 1, request });
+    workshop.step(alloc, Step::Call { project: 7, call })?;
+    Ok(())
 }
 
-/// The index of the first chore that is answered otherwise.
-fn first_other(
-    alloc: Global,
-    workshop: &mut Workshop,
-    ticket: u64,
-    chores: &[(u32, Chore, &str)],
-) -> Result<Option<usize>, Fail> {
-    for (index, (worker, chore, wanted)) in chores.iter().enumerate() {
-        let response = workshop.chore(alloc, *worker, 7, ticket, *chore)?;
-        if word_of(&response) != *wanted {
+/// The index of the first chore that isn't done.
+fn first_undone(alloc: Global, workshop: &mut Workshop) -> Result<Option<usize>, Fail> {
+    for (index, &(worker, chore)) in CHORES.iter().enumerate() {
+        let step = Step::Chore {
+            worker,
+            project: 7,
+            ticket: 1,
+            chore,
+        };
+        if !matches!(workshop.step(alloc, step)?, Response::Done) {
             return Ok(Some(index));
         }
     }
     Ok(None)
 }
 
-/// A workshop of four workers in which project 7 has ordered two runs of the race.
-fn ordered(alloc: Global, keys: RandomState) -> Result<Workshop, Fail> {
-    let mut workshop = Workshop::new(alloc, keys, 4)?;
-    let calls = [
-        Call::Submit(race(alloc)?),
-        Call::Order(order_by(alloc, 1)?),
-        Call::Order(order_by(alloc, 2)?),
-    ];
-    for call in calls {
-        workshop.step(alloc, Step::Call { project: 7, call })?;
-    }
-    Ok(workshop)
+/// The same in a workshop of 64 workers in which the run is ordered.
+fn undone(alloc: Global, keys: RandomState) -> Result<Option<usize>, Fail> {
+    let mut workshop = Workshop::new(alloc, keys, 64)?;
+    order(alloc, &mut workshop)?;
+    first_undone(alloc, &mut workshop)
 }
 
 #[test]
 fn a_run_goes_from_worker_to_worker(rt: HostRuntime) -> Result<(), Fail> {
-    let alloc = rt.alloc();
-    let mut workshop = ordered(alloc, RandomState::new(&rt)?)?;
-    assert_eq!(rt; first_other(alloc, &mut workshop, 1, &WORKED)?, None);
-    Ok(())
-}
-
-/// The trial of ticket 2 is claimed and dropped, and then given back twice.
-fn stray_other(alloc: Global, keys: RandomState) -> Result<Option<usize>, Fail> {
-    let mut workshop = ordered(alloc, keys)?;
-    workshop.claim(alloc, 3, 7, 2)?;
-    workshop.call(alloc, 7, Call::DropTrial(2))?;
-    first_other(alloc, &mut workshop, 2, &STRAY)
-}
-
-#[test]
-fn what_was_dropped_is_stray(rt: HostRuntime) -> Result<(), Fail> {
-    let other = stray_other(rt.alloc(), RandomState::new(&rt)?)?;
-    assert_eq!(rt; other, None);
+    assert_eq!(rt; undone(rt.alloc(), RandomState::new(&rt)?)?, None);
     Ok(())
 }
