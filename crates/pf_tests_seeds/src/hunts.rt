@@ -97,7 +97,8 @@ fn failing<R: Threads + Sync>(
     alloc: Global,
     hunt: &Hunt,
 ) -> Result<Option<(u64, Option<bool>)>, Fail> {
-    let searched = first_failing(rt, alloc, hunt, 0, 40, false, 3, &mut NOTHING)?;
+    let mut watch = NOTHING;
+    let searched = first_failing(rt, alloc, hunt, 0, 40, false, 3, &mut watch)?;
     match &searched.failure {
         Some(failure) => Ok(Some((failure.seed, failure.report.verdict))),
         None => Ok(None),
