@@ -1,9 +1,5 @@
-//! Tests of hunts over seeds: by one worker and by several.
+//! Tests of hunts over seeds by several workers.
 #![tactic(auto)]
 
 #[cfg(test)]
 mod hunts;
-#[cfg(test)]
-mod jobs;
-#[cfg(test)]
-mod leaks;

@@ -2,16 +2,6 @@
 #![tactic(auto)]
 
 #[cfg(test)]
-mod asked;
-#[cfg(test)]
-mod driven;
-#[cfg(test)]
-mod refusals;
-#[cfg(test)]
-mod shrinkings;
-#[cfg(test)]
-mod slices;
+mod jobs;
 #[cfg(test)]
 mod turns;
-#[cfg(test)]
-mod written;
