@@ -1,19 +1,9 @@
-//! Tests of the crates of the language: trees and modules by hand, the reader of tokens, and the machine.
+//! Tests of the crates of the language: the machine's points, an action that is answered, and a long source on a small stack.
 #![tactic(auto)]
 
-#[cfg(test)]
-mod by_hand;
-#[cfg(test)]
-mod drive;
-#[cfg(test)]
-mod ends;
-#[cfg(test)]
-mod forms;
-#[cfg(test)]
-mod lone_patterns;
 #[cfg(test)]
 mod machine;
 #[cfg(test)]
 mod points;
 #[cfg(test)]
-mod trees;
+mod stacks;

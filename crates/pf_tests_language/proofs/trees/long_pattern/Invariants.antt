@@ -1,6 +1,0 @@
-use Rattle.std.proofs.Common.{◌<◌, length}
-use Rattle.pf_tests_language.proofs.trees.long_pattern.Given as goal
-
--- the top stands
-abbrev pub invariant-loop : goal.invariant-loop
-invariant-loop l = l.top.0 < length l.module.tables.patterns
