@@ -1,13 +1,5 @@
-//! Tests of printed values: texts that are read and printed again, texts that are refused, limits, and writers that fail.
+//! Tests of printed values: a text that is read and printed again, one that is refused, and a writer that fails.
 #![tactic(auto)]
 
 #[cfg(test)]
-mod fixtures;
-#[cfg(test)]
-mod limits;
-#[cfg(test)]
-mod parts;
-#[cfg(test)]
 mod texts;
-#[cfg(test)]
-mod writers;

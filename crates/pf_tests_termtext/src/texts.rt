@@ -1,171 +1,60 @@
-//! Texts that are printed of values, and texts that are not.
+//! A text that is read and printed again, one that is refused, and a writer that fails.
 
-use crate::fixtures::{is_refused, print_failing, table};
+ghost use Rattle.std.specs.Prelude.{◌≡◌, ◌<◌};
+
 use pf_fault::OrNoMemory;
-use pf_terms::{AtomId, AtomTable, List, Term, equal, list_of, tuple_of};
-use pf_termtext::{NoTerm, read};
+use pf_terms::{AtomTable, Counted, FailAt, Term};
+use pf_termtext::{NoTerm, print, read};
 use std::alloc::Global;
+use std::marker::Brand;
+use std::sync::ledger::{Blank, Ledger};
 use std::test::Fail;
 
-/// What is printed of values, a text a line.
-const PRINTED: &str = r#"{a,[1,-2]}
-0
-7
--1
-10
-9223372036854775807
--9223372036854775808
-a
-maybe
-a@Z_9
-true
-'EXIT'
-''
-'A'
-'case'
-'odd name'
-'9a'
-'it\'s\n\ta\\b'
-'x"y'
-'é'
-[]
-{}
-[[],{},[[]]]
-{a,{b,[a,'A'],{}},-3}
-[97,98]"#;
-
-/// What is printed of no value, or only of one with a process, a reference or an atom that the table lacks. The
-/// first line is empty.
-const REFUSED: &str = r#"
-<0>
-#Ref<0>
-{a,<0>}
-[#Ref<3>]
- 1
-1 
-[1, 2]
-a % b
--0
-007
-00
--01
-+1
---1
--
-- 1
--a
-9223372036854775808
--9223372036854775809
-99999999999999999999999999
--99999999999999999999999999
-1_0
-1a
-1.5
-$a
-"ab"
-'a'
-'maybe'
-case
-c
-'C'
-A
-_
-?MODULE
-'odd\sname'
-'x\"y'
-'it's\n\ta\\b'
-'A
-'
-'A\
-'A\'
-'\A'
+/// How many bytes of the text go out to a writer of which this call fails, or none if it is another text, and whether all is well.
+fn print_by<L: Ledger>(
+    alloc: Global,
+    term: &Term,
+    atoms: &AtomTable,
+    failing: u64,
+    blank: Blank,
+) -> (Option<usize>, bool)
+    requires name { blank.name ≡ L.name }
+    requires parts { blank.parts ≡ L.parts }
+    requires some { 0 < blank.parts }
 {
-[
+    let out = FailAt::new(Vec::new(alloc), failing);
+    let mut writer = Counted::<FailAt<Vec<u8>>, L>::new(out, blank);
+    let is_well = print(alloc, term, atoms, &mut writer).is_ok();
+    let Counted { inner, .. } = writer;
+    let FailAt { inner: out, .. } = inner;
+    (TEXT.starts_with(&out).then_some(out.len()), is_well)
 }
-]
-{a
-{a]
-[a}
-{,a}
-{a,}
-[a,,b]
-[1,2]3
-{}{}
-[a|b]
-a."#;
+
+fn printed(alloc: Global, term: &Term, atoms: &AtomTable, failing: u64) -> (Option<usize>, bool) {
+    print_by::<Brand>(alloc, term, atoms, failing, Blank::new(1))
+}
+
+/// A text with a part of each kind that can be read.
+const TEXT: &[u8] = b"{a,'it\\'s\\n\\ta\\\\b',[1,-2],-9223372036854775808,[],{}}";
 
 #[test]
-fn printed_texts_are_read_and_printed_again(rt: HostRuntime) -> Result<(), Fail> {
-    let alloc = rt.alloc();
-    let atoms = table(alloc)?;
-    for text in PRINTED.as_bytes().split(|byte| *byte == b'\n') {
-        let term = read(alloc, text, &atoms)?;
-        let printed = print_failing(alloc, &term, &atoms, 0);
-        assert_eq!(rt; printed.out.as_slice(), text);
-        assert!(rt; printed.answer.is_ok());
-    }
+fn a_text_is_read_and_printed_again(rt: HostRuntime) -> Result<(), Fail> {
+    let mut atoms = AtomTable::new(rt.alloc())?;
+    atoms.enter(rt.alloc(), b"a")?;
+    atoms.enter(rt.alloc(), b"it's\n\ta\\b")?;
+    let term = read(rt.alloc(), TEXT, &atoms)?;
+    assert!(rt; printed(rt.alloc(), &term, &atoms, 0) == (Some(TEXT.len()), true));
+    assert!(rt; printed(rt.alloc(), &term, &atoms, 1) == (Some(0), false));
     Ok(())
 }
 
 #[test]
-fn other_texts_are_refused(rt: HostRuntime) -> Result<(), Fail> {
-    let alloc = rt.alloc();
-    let atoms = table(alloc)?;
-    for text in REFUSED.as_bytes().split(|byte| *byte == b'\n') {
-        assert!(rt; is_refused(alloc, text, &atoms));
-    }
-    // A line end stands in quotes as an escape alone.
-    for text in [
-        b"1\n".as_slice(),
-        b"'it\\'s\n\\ta\\\\b'",
-        b"'it\\'s\\n\ta\\\\b'",
-    ] {
-        assert!(rt; is_refused(alloc, text, &atoms));
-    }
-    let code = format!(in alloc; "{}", NoTerm)?;
-    assert_eq!(rt; code.as_str(), "X1");
-    Ok(())
-}
-
-/// `{a,[1,-2]}`, where `a` is this atom.
-fn pair(alloc: Global, a: AtomId) -> Result<Term, Fail> {
-    let numbers = list_of(alloc, vec![in alloc; Term::Int(1), Term::Int(-2)]?)?;
-    let mut items = Vec::new(alloc);
-    items.push(Term::Atom(a))?;
-    items.push(Term::List(numbers))?;
-    Ok(tuple_of(alloc, items)?)
-}
-
-#[test]
-fn a_text_gives_its_value(rt: HostRuntime) -> Result<(), Fail> {
-    let alloc = rt.alloc();
-    let mut atoms = AtomTable::new(alloc)?;
-    let a = atoms.enter(alloc, b"a")?;
-    assert!(rt; equal(&read(alloc, b"{a,[1,-2]}", &atoms)?, &pair(alloc, a)?));
-    assert!(rt; equal(&read(alloc, b"[]", &atoms)?, &Term::List(List::Nil)));
-    assert!(rt;
-        equal(
-            &read(alloc, b"-9223372036854775808", &atoms)?,
-            &Term::Int(i64::MIN)
-        )
+fn a_text_with_a_blank_is_refused(rt: HostRuntime) -> Result<(), Fail> {
+    let atoms = AtomTable::new(rt.alloc())?;
+    let is_refused = matches!(
+        read(rt.alloc(), b"[1, 2]", &atoms),
+        Err(OrNoMemory::Fault(NoTerm))
     );
-    assert!(rt; equal(&read(alloc, b"true", &atoms)?, &Term::Atom(AtomId::TRUE)));
-    Ok(())
-}
-
-#[test]
-fn atoms_are_those_of_the_table(rt: HostRuntime) -> Result<(), Fail> {
-    let alloc = rt.alloc();
-    let mut atoms = AtomTable::new(alloc)?;
-    assert!(rt; is_refused(alloc, b"late", &atoms));
-    assert!(rt; is_refused(alloc, b"'Late'", &atoms));
-    let late = atoms.enter(alloc, b"late")?;
-    assert!(rt; equal(&read(alloc, b"late", &atoms)?, &Term::Atom(late)));
-    assert!(rt;
-        matches!(
-            read(alloc, b"later", &atoms),
-            Err(OrNoMemory::Fault(NoTerm))
-        )
-    );
+    assert!(rt; is_refused);
     Ok(())
 }
