@@ -78,24 +78,22 @@ const STEPS: [(&[u32], bool); 11] = [
     (&[0, 0], false),
 ];
 
-/// Goes by the steps as long as they give the next schedule, and says how many did.
-fn go(hunt: &mut Hunt) -> usize {
-    for (taken, (schedule, fails)) in STEPS.iter().enumerate() {
+/// Goes by such steps as long as they give the next schedule, and says how many did.
+fn go(hunt: &mut Hunt, steps: &[(&[u32], bool)]) -> usize {
+    for (taken, (schedule, fails)) in steps.iter().enumerate() {
         match hunt.next() {
             Some(next) if next == *schedule => {}
             _ => return taken,
         }
         hunt.told(*fails);
     }
-    STEPS.len()
+    steps.len()
 }
 
 #[test]
 fn a_search_ends_where_no_candidate_fails(rt: HostRuntime) -> Result<(), Fail> {
     let mut hunt = Hunt::new(vec![in rt.alloc(); 0, 0, 0, 3]?, 12);
-    let gone = go(&mut hunt);
-    assert_eq!(rt; gone, 11);
-    let found = hunt.next().is_none() && hunt.found() == Some((&[0, 1], true));
-    assert!(rt; found);
+    let gone = go(&mut hunt, &STEPS);
+    assert!(rt; gone == 11 && hunt.next().is_none() && hunt.found() == Some((&[0, 1], true)));
     Ok(())
 }

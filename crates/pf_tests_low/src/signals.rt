@@ -160,16 +160,21 @@ const CALLS: [(Call, (u32, u32), u64); 24] = [
     (Call::End, (3, 3), 1),
 ];
 
+/// The first of the calls that comes to something else.
+fn first_other(ties: &mut Ties, alloc: Global) -> Result<Option<usize>, Fail> {
+    for (at, (call, ends, number)) in CALLS.iter().enumerate() {
+        if !ask(ties, alloc, *call, *ends, *number)? {
+            return Ok(Some(at));
+        }
+    }
+    Ok(None)
+}
+
 #[test]
 fn ties_are_made_and_given_up(rt: HostRuntime) -> Result<(), Fail> {
     let mut ties = Ties::new(rt.alloc());
     ties.open(rt.alloc(), None)?;
     ties.open(rt.alloc(), None)?;
-    for (at, (call, ends, number)) in CALLS.iter().enumerate() {
-        assert!(rt;
-            ask(&mut ties, rt.alloc(), *call, *ends, *number)?,
-            "call {at}"
-        );
-    }
+    assert_eq!(rt; first_other(&mut ties, rt.alloc())?, None);
     Ok(())
 }
