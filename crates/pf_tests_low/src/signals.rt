@@ -117,15 +117,20 @@ fn meet(
     if to as usize >= ties.len() {
         return Err(Fail::from("no such process"));
     }
-    let reason = Term::Atom(AtomId::KILL);
     match call {
         Call::OnLink => ties.on_link(alloc, from, to)?,
         Call::OnUnlink => ties.on_unlink(from, to),
         Call::OnMonitor => ties.on_monitor(alloc, from, to, number)?,
         Call::OnDemonitor => ties.on_demonitor(to, number),
         Call::OnDown => return Ok(ties.on_down(to, number)),
-        Call::End => return Ok(ties.ended(alloc, to, &reason)?.len() as u64 == number),
-        _ => return Ok(matches!(ties.on_exit_signal(from, to, true, reason), Fate::Message)),
+        Call::End => {
+            let told = ties.ended(alloc, to, &Term::Atom(AtomId::KILL))?;
+            return Ok(told.len() as u64 == number);
+        }
+        _ => {
+            let fate = ties.on_exit_signal(from, to, true, Term::Atom(AtomId::KILL));
+            return Ok(matches!(fate, Fate::Message));
+        }
     }
     Ok(true)
 }
