@@ -1,11 +1,9 @@
-//! Tests of charts.
+//! Tests of charts of reports that are made by hand.
 #![tactic(auto)]
 
 #[cfg(test)]
 mod charts;
 #[cfg(test)]
-mod fixtures;
+mod reports;
 #[cfg(test)]
-mod manners;
-#[cfg(test)]
-mod signals;
+mod scenes;

@@ -3,24 +3,14 @@
 #![tactic(auto)]
 
 #[cfg(test)]
-mod atoms;
-#[cfg(test)]
-mod channels;
-#[cfg(test)]
 mod choices;
-#[cfg(test)]
-mod cutting;
 #[cfg(test)]
 mod mail;
 #[cfg(test)]
-mod priorities;
+mod requests;
 #[cfg(test)]
-mod quota;
-#[cfg(test)]
-mod searches;
+mod signals;
 #[cfg(test)]
 mod streams;
-#[cfg(test)]
-mod ties;
 #[cfg(test)]
 mod values;

@@ -1,27 +1,25 @@
-//! Readers and writers that count their failed calls: short writes, writes of nothing, calls that fail, and readers that never end.
+//! Readers and writers that count their failed calls: short writes, a write of nothing, and calls that fail.
 
 ghost use Rattle.std.specs.Prelude.{◌≡◌, ◌<◌};
 
-use pf_fault::OrNoMemory;
 use pf_terms::{Counted, FailAt, StreamFault};
 use std::alloc::Global;
 use std::io;
-use std::io::{ErrorKind, Read, Write};
+use std::io::{ErrorKind, Write};
 use std::marker::Brand;
 use std::sync::ledger::{Blank, Ledger};
 use std::test::Fail;
 
-/// A writer that takes at most `most` bytes a call, and `room` bytes in all.
+/// A writer that takes at most 3 bytes a call, and `room` bytes in all.
 #[derive(Drop)]
 struct Narrow {
     taken: Vec<u8>,
-    most: usize,
     room: usize,
 }
 
 impl Write for Narrow {
     fn write(&mut self, buf: &[u8]) -> io::Result<usize> {
-        let n = buf.len().min(self.most).min(self.room);
+        let n = buf.len().min(3).min(self.room);
         if self.taken.extend_from_slice(&buf[..n]).is_err() {
             return Err(io::Error::from(ErrorKind::OutOfMemory));
         }
@@ -34,131 +32,86 @@ impl Write for Narrow {
     }
 }
 
-/// A reader that gives the byte `x` for ever.
-#[derive(Drop)]
-struct Endless;
-
-impl Read for Endless {
-    fn read(&mut self, buf: &mut [u8]) -> io::Result<usize> {
-        for byte in buf.iter_mut() {
-            *byte = b'x';
-        }
-        Ok(buf.len())
-    }
-}
-
-fn put_by<W: Write + Drop, L: Ledger>(
-    inner: W,
-    blank: Blank,
-    text: &[u8],
-) -> (W, Result<(), StreamFault>)
-    requires name { blank.name ≡ L.name }
-    requires parts { blank.parts ≡ L.parts }
-    requires some { 0 < blank.parts }
-{
-    let mut writer = Counted::<W, L>::new(inner, blank);
-    let answer = writer.put(text);
-    let Counted { inner, .. } = writer;
-    (inner, answer)
-}
-
-fn put<W: Write + Drop>(inner: W, text: &[u8]) -> (W, Result<(), StreamFault>) {
-    put_by::<W, Brand>(inner, Blank::new(1), text)
-}
-
-fn take_by<R: Read + Drop, L: Ledger>(
-    alloc: Global,
-    inner: R,
-    blank: Blank,
-    limit: usize,
-) -> Result<Vec<u8>, OrNoMemory<StreamFault>>
-    requires name { blank.name ≡ L.name }
-    requires parts { blank.parts ≡ L.parts }
-    requires some { 0 < blank.parts }
-{
-    let mut reader = Counted::<R, L>::new(inner, blank);
-    reader.take_front(alloc, limit)
-}
-
-fn take<R: Read + Drop>(
-    alloc: Global,
-    inner: R,
-    limit: usize,
-) -> Result<Vec<u8>, OrNoMemory<StreamFault>> {
-    take_by::<R, Brand>(alloc, inner, Blank::new(1), limit)
-}
-
 const TEXT: &[u8] = b"0/1 <0> wait";
 
-/// A writer that takes at most 3 bytes a call, and n in all.
-fn narrow_writer(alloc: Global, room: usize) -> Narrow {
-    Narrow {
-        taken: Vec::new(alloc),
-        most: 3,
-        room,
+/// How many bytes of the text go out, and of which kind the fault is, if there is one.
+fn put_by<L: Ledger>(narrow: Narrow, at: u64, blank: Blank) -> (usize, Option<ErrorKind>)
+    requires name { blank.name ≡ L.name }
+    requires parts { blank.parts ≡ L.parts }
+    requires some { 0 < blank.parts }
+{
+    let mut writer = Counted::<FailAt<Narrow>, L>::new(FailAt::new(narrow, at), blank);
+    let kind = match writer.put(TEXT) {
+        Ok(()) => None,
+        Err(fault) => Some(fault.error().kind()),
+    };
+    let Counted { inner, .. } = writer;
+    let FailAt { inner, .. } = inner;
+    (
+        if TEXT.starts_with(&inner.taken) {
+            inner.taken.len()
+        } else {
+            0
+        },
+        kind,
+    )
+}
+
+/// The same of a writer with so much room, of which this call fails; none does where it is 0.
+fn put(alloc: Global, room: usize, at: u64) -> (usize, Option<ErrorKind>) {
+    let taken = Vec::new(alloc);
+    put_by::<Brand>(Narrow { taken, room }, at, Blank::new(1))
+}
+
+#[test]
+fn what_goes_out_is_a_beginning(rt: HostRuntime) {
+    for (room, at, wanted) in [
+        (99, 0, (12, None)),
+        (5, 0, (5, Some(ErrorKind::WriteZero))),
+        (99, 1, (0, Some(ErrorKind::Other))),
+        (99, 2, (3, Some(ErrorKind::Other))),
+        (99, 4, (9, Some(ErrorKind::Other))),
+        (99, 5, (12, None)),
+    ] {
+        assert!(rt; put(rt.alloc(), room, at) == wanted);
     }
 }
 
-#[test]
-fn short_writes_go_on(rt: HostRuntime) {
-    let (end, answer) = put(narrow_writer(rt.alloc(), 99), TEXT);
-    assert!(rt; answer.is_ok() && end.taken.as_slice() == TEXT);
-}
-
-#[test]
-fn a_write_of_nothing_is_a_fault(rt: HostRuntime) {
-    let (end, answer) = put(narrow_writer(rt.alloc(), 5), TEXT);
-    let is_fault = matches!(answer, Err(StreamFault::Write(e)) if e.kind() == ErrorKind::WriteZero);
-    assert!(rt; is_fault && end.taken.as_slice() == b"0/1 <".as_slice());
-}
-
-/// What goes out where this call of the writer fails, and whether all is well.
-fn put_failing(alloc: Global, at: u64) -> (Vec<u8>, bool) {
-    let (end, answer) = put(FailAt::new(narrow_writer(alloc, 99), at), TEXT);
-    let FailAt { inner, .. } = end;
-    let Narrow { taken, .. } = inner;
-    (taken, answer.is_ok())
-}
-
-#[test]
-fn a_failing_call_leaves_a_beginning(rt: HostRuntime) {
-    for (at, count) in [(1, 0), (2, 3), (3, 6), (9, 12)] {
-        let (taken, is_well) = put_failing(rt.alloc(), at);
-        assert!(rt;
-            taken.as_slice() == &TEXT[..count] && is_well == (at == 9),
-            "call {at}"
-        );
-    }
-}
-
-/// How many bytes are read of n at the most, where this call of the reader fails; none where one does.
-fn count(alloc: Global, fails_at: u64, limit: usize) -> Option<usize> {
-    match take(alloc, FailAt::new(Endless, fails_at), limit) {
+/// How many bytes are read of an input, n at the most, where this call of the reader fails; none where it comes to that.
+fn take_by<L: Ledger>(
+    alloc: Global,
+    input: &[u8],
+    at: u64,
+    limit: usize,
+    blank: Blank,
+) -> Option<usize>
+    requires name { blank.name ≡ L.name }
+    requires parts { blank.parts ≡ L.parts }
+    requires some { 0 < blank.parts }
+{
+    let mut reader = Counted::<FailAt<&[u8]>, L>::new(FailAt::new(input, at), blank);
+    match reader.take_front(alloc, limit) {
         Ok(bytes) => Some(bytes.len()),
         Err(_) => None,
     }
 }
 
-#[test]
-fn a_reader_is_read_to_the_limit(rt: HostRuntime) {
-    assert_eq!(rt; count(rt.alloc(), 0, 65_537), Some(65_537));
-    assert_eq!(rt; count(rt.alloc(), 3, 65_537), None);
+fn take(alloc: Global, input: &[u8], at: u64, limit: usize) -> Option<usize> {
+    take_by::<Brand>(alloc, input, at, limit, Blank::new(1))
 }
 
-/// Whether just these bytes are read of a text of six, n at the most.
-fn reads(alloc: Global, limit: usize, wanted: &[u8]) -> bool {
-    match take(alloc, b"ok.yes".as_slice(), limit) {
-        Ok(bytes) => bytes.as_slice() == wanted,
-        Err(_) => false,
-    }
-}
-
+// A call asks for 4,096 bytes at the most.
 #[test]
-fn a_reader_is_read_to_its_end(rt: HostRuntime) {
-    for (limit, count) in [(0, 0), (2, 2), (6, 6), (99, 6)] {
-        assert!(rt;
-            reads(rt.alloc(), limit, &b"ok.yes"[..count]),
-            "{limit} bytes at most"
-        );
+fn a_reader_is_read_to_its_end_or_to_the_limit(rt: HostRuntime) {
+    let input = [b'x'; 9_000];
+    for (at, limit, wanted) in [
+        (0, 99_999, Some(9_000)),
+        (0, 4_097, Some(4_097)),
+        (1, 0, Some(0)),
+        (3, 4_097, Some(4_097)),
+        (2, 4_097, None),
+        (4, 99_999, None),
+    ] {
+        assert!(rt; take(rt.alloc(), &input, at, limit) == wanted);
     }
 }

@@ -1,4 +1,4 @@
 use Rattle.pf_tests_low.proofs.streams.take.Given as goal
 
 abbrev pub ghosts-take_by : goal.ghosts-take_by
-ghosts-take_by g a = record { name = a.blank.name; parts = a.blank.parts }
+ghosts-take_by a = record { name = a.blank.name; parts = a.blank.parts }

@@ -1,0 +1,144 @@
+//! Reports that are made by hand.
+
+use pf_model::Signal;
+use pf_terms::{AtomId, Term};
+use pf_trace::{Actor, Event, Label, Outcome, Report, Suffix};
+use std::alloc::Global;
+use std::test::Fail;
+
+/// What a process does, or what comes of a signal.
+pub(crate) enum Did {
+    Spawns(u32),
+    SpawnsLinked(u32),
+    SpawnsWatched(u32),
+    Links(u32),
+    /// A `demonitor` of reference 0 that flushes.
+    Flushes,
+    Sends(u32, i64),
+    Takes(i64),
+    TakesAtom(AtomId),
+    Waits,
+    Ends(AtomId),
+    Delivers(i64),
+    Drops(i64),
+    /// The link comes to who has ended.
+    MissesLink,
+    LinkComes,
+    /// An exit by link becomes a message.
+    ExitComes,
+    /// The down by reference 0 comes.
+    DownComes,
+}
+
+/// How a run ends.
+pub(crate) enum Ends {
+    AtLimit,
+    WithoutMemory,
+    With(AtomId),
+    InDeadlock(&'static [u32]),
+}
+
+/// A report: of each event its choice, who acts and what is told, and behind these so many references that the root makes.
+pub(crate) struct Told {
+    pub(crate) events: &'static [(u32, Actor, Did)],
+    pub(crate) references: u64,
+    pub(crate) ends: Ends,
+}
+
+fn label(did: &Did) -> Label {
+    match did {
+        Did::Spawns(pid) => Label::Spawns {
+            linked: false,
+            pid: *pid,
+        },
+        Did::SpawnsLinked(pid) => Label::Spawns {
+            linked: true,
+            pid: *pid,
+        },
+        Did::SpawnsWatched(pid) => Label::SpawnsWatched {
+            pid: *pid,
+            reference: 0,
+        },
+        Did::Links(pid) => Label::Links(*pid),
+        Did::Flushes => Label::Demonitors {
+            flushes: true,
+            reference: 0,
+        },
+        Did::Sends(to, number) => Label::Sends {
+            to: *to,
+            message: Term::Int(*number),
+        },
+        Did::Takes(number) => Label::Takes(Term::Int(*number)),
+        Did::TakesAtom(atom) => Label::Takes(Term::Atom(*atom)),
+        Did::Waits => Label::Waits,
+        Did::Ends(reason) => Label::Ends(Term::Atom(*reason)),
+        _ => comes(did),
+    }
+}
+
+/// What comes of a signal.
+fn comes(did: &Did) -> Label {
+    let (signal, suffix) = match did {
+        Did::Delivers(number) => (Signal::Message(Term::Int(*number)), Suffix::TookEffect),
+        Did::Drops(number) => (Signal::Message(Term::Int(*number)), Suffix::Dropped),
+        Did::MissesLink => (Signal::Link, Suffix::NoProcess),
+        Did::DownComes => (
+            Signal::Down(0, Term::Atom(AtomId::NORMAL)),
+            Suffix::TookEffect,
+        ),
+        Did::ExitComes => {
+            let reason = Term::Atom(AtomId::KILL);
+            let by_link = true;
+            (Signal::Exit { by_link, reason }, Suffix::AsMessage)
+        }
+        _ => (Signal::Link, Suffix::TookEffect),
+    };
+    Label::Delivers(signal, suffix)
+}
+
+fn events(alloc: Global, told: &Told) -> Result<Vec<Event>, Fail> {
+    let mut events = Vec::new(alloc);
+    for (choice, actor, did) in told.events {
+        events.push(Event {
+            choice: *choice,
+            count: 3,
+            actor: *actor,
+            label: label(did),
+        })?;
+    }
+    Ok(events)
+}
+
+/// Adds so many references that the root makes.
+fn add_references(events: &mut Vec<Event>, count: u64) -> Result<(), Fail> {
+    for number in 0..count {
+        events.push(Event {
+            choice: 0,
+            count: 1,
+            actor: Actor::Process(0),
+            label: Label::MakesReference(number),
+        })?;
+    }
+    Ok(())
+}
+
+fn outcome(alloc: Global, ends: &Ends) -> Result<Outcome, Fail> {
+    Ok(match ends {
+        Ends::AtLimit => Outcome::Limit,
+        Ends::WithoutMemory => Outcome::Memory,
+        Ends::With(atom) => Outcome::Finished(Term::Atom(*atom)),
+        Ends::InDeadlock(waiting) => Outcome::Deadlock(Vec::from_slice(alloc, *waiting)?),
+    })
+}
+
+pub(crate) fn report(alloc: Global, told: &Told) -> Result<Report, Fail> {
+    let outcome = outcome(alloc, &told.ends)?;
+    let mut events = events(alloc, told)?;
+    add_references(&mut events, told.references)?;
+    Ok(Report {
+        events,
+        outcome,
+        steps: 1,
+        verdict: None,
+    })
+}

@@ -1,0 +1,185 @@
+//! Channels and ties: each public call once.
+
+use pf_channels::Channels;
+use pf_model::Signal;
+use pf_terms::{AtomId, Term};
+use pf_ties::{Fate, Ties};
+use std::alloc::Global;
+use std::test::Fail;
+
+/// Opens two senders, and sends 4 and 5 from the first to the second.
+fn send_two(alloc: Global, channels: &mut Channels) -> Result<(), Fail> {
+    for _ in 0..2 {
+        if channels.senders() < 2 {
+            channels.open(alloc)?;
+        }
+    }
+    for n in [4, 5] {
+        if channels.senders() > 0 {
+            channels.send(alloc, 0, 1, Signal::Message(Term::Int(n)))?;
+        }
+    }
+    Ok(())
+}
+
+/// The number of the message that is delivered from the first sender to the second.
+fn next(channels: &mut Channels) -> Option<i64> {
+    match channels.deliver(0, 1)? {
+        Signal::Message(Term::Int(n)) => Some(n),
+        _ => None,
+    }
+}
+
+#[test]
+fn signals_of_a_pair_keep_their_order(rt: HostRuntime) -> Result<(), Fail> {
+    let mut channels = Channels::new(rt.alloc());
+    send_two(rt.alloc(), &mut channels)?;
+    let mut heads = Vec::new(rt.alloc());
+    channels.put_heads(&mut heads)?;
+    assert!(rt;
+        channels.len() == 1 && channels.head(0) == (0, 1) && heads.as_slice() == [(0, 1)].as_slice()
+    );
+    assert!(rt;
+        (
+            next(&mut channels),
+            next(&mut channels),
+            next(&mut channels)
+        ) == (Some(4), Some(5), None)
+    );
+    Ok(())
+}
+
+/// The name that is given.
+const NAME: AtomId = AtomId(100);
+
+/// A call that one process makes of another, or a signal that comes from one to another.
+#[derive(Clone, Copy)]
+enum Call {
+    Open,
+    OpenWatched,
+    MakeReference,
+    Link,
+    Unlink,
+    Monitor,
+    Demonitor,
+    SetFlag,
+    Register,
+    Whereis,
+    Unregister,
+    Lives,
+    OnLink,
+    OnUnlink,
+    OnMonitor,
+    OnDemonitor,
+    OnDown,
+    OnExit,
+    End,
+}
+
+/// Whether a call comes to what is wanted: to yes, to this process and to this reference.
+fn ask(
+    ties: &mut Ties,
+    alloc: Global,
+    call: Call,
+    ends: (u32, u32),
+    number: u64,
+) -> Result<bool, Fail> {
+    let (from, to) = ends;
+    if from as usize >= ties.len() || ties.len() >= 1_024 || ties.next_reference() >= 1_000 {
+        return Err(Fail::from("no such process"));
+    }
+    Ok(match call {
+        Call::Open => ties.open(alloc, Some(from))? == to,
+        Call::OpenWatched => ties.open_watched(alloc, from)? == (to, number),
+        Call::MakeReference => ties.make_reference() == number,
+        Call::Link => ties.link(alloc, from, to)?,
+        Call::Unlink => ties.unlink(from, to),
+        Call::Monitor => ties.monitor(alloc, from, to)? == number,
+        Call::Demonitor => ties.demonitor(from, number) == Some(to),
+        Call::SetFlag => !ties.set_flag(from, true),
+        Call::Register => ties.register(alloc, NAME, from).is_ok(),
+        Call::Whereis => ties.whereis(NAME) == Some(from),
+        Call::Unregister => ties.unregister(NAME).is_ok(),
+        Call::Lives => ties.lives(from),
+        _ => return meet(ties, alloc, call, ends, number),
+    })
+}
+
+/// The same of a signal that comes, of which an exit becomes a message, and of an end, where so many signals go out.
+fn meet(
+    ties: &mut Ties,
+    alloc: Global,
+    call: Call,
+    ends: (u32, u32),
+    number: u64,
+) -> Result<bool, Fail> {
+    let (from, to) = ends;
+    if to as usize >= ties.len() {
+        return Err(Fail::from("no such process"));
+    }
+    match call {
+        Call::OnLink => ties.on_link(alloc, from, to)?,
+        Call::OnUnlink => ties.on_unlink(from, to),
+        Call::OnMonitor => ties.on_monitor(alloc, from, to, number)?,
+        Call::OnDemonitor => ties.on_demonitor(to, number),
+        Call::OnDown => return Ok(ties.on_down(to, number)),
+        Call::End => {
+            let told = ties.ended(alloc, to, &Term::Atom(AtomId::KILL))?;
+            return Ok(told.len() as u64 == number);
+        }
+        _ => {
+            let fate = ties.on_exit_signal(from, to, true, Term::Atom(AtomId::KILL));
+            return Ok(matches!(fate, Fate::Message));
+        }
+    }
+    Ok(true)
+}
+
+/// Calls among two processes and those that they open, with what each comes to.
+const CALLS: [(Call, (u32, u32), u64); 24] = [
+    (Call::Open, (0, 2), 0),
+    (Call::OpenWatched, (1, 3), 0),
+    (Call::MakeReference, (0, 0), 1),
+    (Call::Link, (0, 1), 0),
+    (Call::OnLink, (0, 1), 0),
+    (Call::Monitor, (0, 1), 2),
+    (Call::OnMonitor, (0, 1), 2),
+    (Call::Monitor, (0, 2), 3),
+    (Call::OnMonitor, (0, 2), 3),
+    (Call::Demonitor, (0, 2), 3),
+    (Call::OnDemonitor, (0, 2), 3),
+    (Call::SetFlag, (0, 0), 0),
+    (Call::Register, (1, 1), 0),
+    (Call::Whereis, (1, 1), 0),
+    (Call::Lives, (1, 1), 0),
+    // An exit by the link, and a down by reference 2.
+    (Call::End, (1, 1), 2),
+    (Call::OnExit, (1, 0), 0),
+    (Call::OnDown, (1, 0), 2),
+    (Call::Register, (0, 0), 0),
+    (Call::Unregister, (0, 0), 0),
+    (Call::Unlink, (0, 2), 0),
+    (Call::OnUnlink, (0, 2), 0),
+    (Call::End, (2, 2), 0),
+    // The down of who was watched from its begin.
+    (Call::End, (3, 3), 1),
+];
+
+/// The first of the calls that comes to something else.
+fn first_other(ties: &mut Ties, alloc: Global) -> Result<Option<usize>, Fail> {
+    for (at, (call, ends, number)) in CALLS.iter().enumerate() {
+        if !ask(ties, alloc, *call, *ends, *number)? {
+            return Ok(Some(at));
+        }
+    }
+    Ok(None)
+}
+
+#[test]
+fn ties_are_made_and_given_up(rt: HostRuntime) -> Result<(), Fail> {
+    let mut ties = Ties::new(rt.alloc());
+    ties.open(rt.alloc(), None)?;
+    ties.open(rt.alloc(), None)?;
+    assert_eq!(rt; first_other(&mut ties, rt.alloc())?, None);
+    Ok(())
+}
