@@ -49,12 +49,14 @@ fn a_text_is_read_and_printed_again(rt: HostRuntime) -> Result<(), Fail> {
 }
 
 #[test]
-fn a_text_with_a_blank_is_refused(rt: HostRuntime) -> Result<(), Fail> {
+fn texts_of_no_value_are_refused(rt: HostRuntime) -> Result<(), Fail> {
     let atoms = AtomTable::new(rt.alloc())?;
-    let is_refused = matches!(
-        read(rt.alloc(), b"[1, 2]", &atoms),
-        Err(OrNoMemory::Fault(NoTerm))
-    );
-    assert!(rt; is_refused);
+    for text in ["[1, 2]", "<0>", "b"] {
+        let is_refused = matches!(
+            read(rt.alloc(), text.as_bytes(), &atoms),
+            Err(OrNoMemory::Fault(NoTerm))
+        );
+        assert!(rt; is_refused);
+    }
     Ok(())
 }
