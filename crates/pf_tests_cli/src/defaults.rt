@@ -1,4 +1,4 @@
-//! What the words of each command ask for that name no more than it wants, or one thing alone.
+//! What the words of each command ask for that name no more than it wants.
 
 use pf_cli::{Args, Asked, Edition, Format, HuntArgs, Roots, RunArgs, Sought, read_args};
 use pf_request::{Kind, Request, RunChoices};
@@ -88,30 +88,5 @@ fn asks_for_defaults(alloc: Global, words: &[&str]) -> bool {
 fn commands_have_their_defaults(rt: HostRuntime) {
     for words in WORDS {
         assert!(rt; asks_for_defaults(rt.alloc(), words));
-    }
-}
-
-/// Whether the words of a hunt with this one beside them ask for what it names, of what goes with no other such word.
-fn asks_for_alone(alloc: Global, word: &str) -> bool {
-    match read_args(alloc, &["pulsefarm", "hunt", "a", word]) {
-        Ok(
-            Asked {
-                args: Args::Hunt(hunt),
-                ..
-            },
-        ) => match (hunt.roots, hunt.sought) {
-            (Roots::Every, Sought::Failure { runs: None }) => word == "--all-roots",
-            (Roots::Main, Sought::Outcomes) => word == "--all",
-            (Roots::Main, Sought::Failure { runs: Some(7) }) => word == "--shrink=7",
-            _ => false,
-        },
-        _ => false,
-    }
-}
-
-#[test]
-fn hunts_seek_more_in_one_file(rt: HostRuntime) {
-    for word in ["--all-roots", "--all", "--shrink=7"] {
-        assert!(rt; asks_for_alone(rt.alloc(), word));
     }
 }
