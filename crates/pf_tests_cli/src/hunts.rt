@@ -1,61 +1,65 @@
 //! What single words of a hunt ask for.
 
-use pf_cli::{Args, HuntArgs, Roots, Sought, read_args};
-use std::alloc::Global;
+use crate::readings::{Wanted, come_to};
+use pf_cli::{Args, HuntArgs, Roots, Sought};
 
-/// Words that go with no other of them.
-const ALONE: [&str; 3] = ["--all-roots", "--all", "--shrink=7"];
-
-/// Whether a hunt goes over every root, seeks each outcome, or shrinks within 7 runs, where this word names it and else not.
-fn is_named_by(hunt: &HuntArgs, word: &str) -> bool {
-    matches!(hunt.roots, Roots::Every) == (word == "--all-roots")
-        && matches!(hunt.sought, Sought::Outcomes) == (word == "--all")
-        && matches!(hunt.sought, Sought::Failure { runs: Some(7) }) == (word == "--shrink=7")
+/// What a word of a hunt asks for beside the defaults.
+#[derive(Clone, Copy)]
+pub enum Named {
+    /// Every root.
+    Roots,
+    /// Each outcome.
+    Outcomes,
+    /// The least seed that fails, whose schedule is shrunk within 7 runs.
+    Shrinking,
+    /// The seeds from the first to before the second, for so many seconds if any.
+    Span(u64, u64, Option<u64>),
 }
 
-/// A word, and the first seed, the one before which the hunt ends, and the seconds that it comes to.
-const SPANS: [(&str, u64, u64, Option<u64>); 8] = [
-    ("--seeds=7..1000", 7, 1000, None),
-    ("--seeds=5..=5", 5, 6, None),
-    ("--seeds=0..=18446744073709551614", 0, u64::MAX, None),
-    ("--seeds=18446744073709551615", 0, u64::MAX, None),
-    ("--for=90s", 0, u64::MAX, Some(90)),
-    ("--for=5m", 0, u64::MAX, Some(300)),
-    ("--for=2h", 0, u64::MAX, Some(7200)),
-    ("--for=4294967295h", 0, u64::MAX, Some(15461882262000)),
+const CASES: [(&str, Named); 11] = [
+    ("--all-roots", Named::Roots),
+    ("--all", Named::Outcomes),
+    ("--shrink=7", Named::Shrinking),
+    ("--seeds=7..1000", Named::Span(7, 1000, None)),
+    ("--seeds=5..=5", Named::Span(5, 6, None)),
+    (
+        "--seeds=0..=18446744073709551614",
+        Named::Span(0, u64::MAX, None),
+    ),
+    (
+        "--seeds=18446744073709551615",
+        Named::Span(0, u64::MAX, None),
+    ),
+    ("--for=90s", Named::Span(0, u64::MAX, Some(90))),
+    ("--for=5m", Named::Span(0, u64::MAX, Some(300))),
+    ("--for=2h", Named::Span(0, u64::MAX, Some(7200))),
+    (
+        "--for=4294967295h",
+        Named::Span(0, u64::MAX, Some(15461882262000)),
+    ),
 ];
 
-/// Whether a hunt is over these seeds, and for so many seconds if any.
-fn is_over(hunt: &HuntArgs, first: u64, end: u64, time: Option<u64>) -> bool {
-    hunt.first == first && hunt.end == end && hunt.time == time
+/// Whether a hunt has what a word names.
+fn has(hunt: &HuntArgs, named: Named) -> bool {
+    match named {
+        Named::Roots => matches!(hunt.roots, Roots::Every),
+        Named::Outcomes => matches!(hunt.sought, Sought::Outcomes),
+        Named::Shrinking => matches!(hunt.sought, Sought::Failure { runs: Some(7) }),
+        Named::Span(first, end, time) => {
+            hunt.first == first && hunt.end == end && hunt.time == time
+        }
+    }
 }
 
-/// Whether these words ask for a hunt that goes over what this word names.
-fn asks_alone(alloc: Global, word: &str) -> bool {
-    match read_args(alloc, &["pulsefarm", "hunt", "a", word]) {
-        Ok(asked) => matches!(&asked.args, Args::Hunt(hunt) if is_named_by(hunt, word)),
-        Err(_) => false,
-    }
+/// Whether it is a hunt that has what a word names.
+pub fn hunts(args: &Args, named: Named) -> bool {
+    matches!(args, Args::Hunt(hunt) if has(hunt, named))
 }
 
 #[test]
-fn words_that_go_with_no_other(rt: HostRuntime) {
-    for word in ALONE {
-        assert!(rt; asks_alone(rt.alloc(), word));
-    }
-}
-
-/// Whether this word asks for a hunt over these seeds, and for so many seconds if any.
-fn asks_over(alloc: Global, word: &str, first: u64, end: u64, time: Option<u64>) -> bool {
-    match read_args(alloc, &["pulsefarm", "hunt", "a", word]) {
-        Ok(asked) => matches!(&asked.args, Args::Hunt(hunt) if is_over(hunt, first, end, time)),
-        Err(_) => false,
-    }
-}
-
-#[test]
-fn seeds_and_times_of_hunts(rt: HostRuntime) {
-    for (word, first, end, time) in SPANS {
-        assert!(rt; asks_over(rt.alloc(), word, first, end, time));
+fn hunts_have_what_one_word_names(rt: HostRuntime) {
+    for (word, named) in CASES {
+        let words = ["pulsefarm", "hunt", "a", word];
+        assert!(rt; come_to(rt.alloc(), &words, Wanted::Hunt(named)));
     }
 }
