@@ -1,9 +1,9 @@
-//! What the words of each command ask for that name no more than it wants, or one thing alone.
+//! What the words of each command ask for that name no more than it wants.
 
-use pf_cli::{Args, Asked, Edition, Format, HuntArgs, Roots, RunArgs, Sought, read_args};
+use crate::readings::{Wanted, come_to};
+use pf_cli::{Args, Asked, Edition, Format, HuntArgs, Roots, RunArgs, Sought};
 use pf_request::{Kind, Request, RunChoices};
 use pf_strategy::Strategy;
-use std::alloc::Global;
 
 /// Words of each command.
 const WORDS: [&[&str]; 7] = [
@@ -38,7 +38,7 @@ fn is_of_defaults(request: &Request) -> bool {
 }
 
 /// Whether it is a run, or a shrinking, of the first edition by its own choices.
-fn is_plain(run: &RunArgs) -> bool {
+fn is_plain_run(run: &RunArgs) -> bool {
     is_of_defaults(&run.request)
         && matches!(run.edition, Edition::First)
         && run.priorities.is_none()
@@ -62,8 +62,8 @@ fn is_plain_hunt(hunt: &HuntArgs) -> bool {
 /// Whether nothing is asked for but what the command wants and its defaults.
 fn has_defaults(args: &Args) -> bool {
     match args {
-        Args::Run(run) | Args::Shrink(run) => is_plain(run),
-        Args::Chart(chart) => is_plain(&chart.run) && !chart.compact && chart.page == 1,
+        Args::Run(run) | Args::Shrink(run) => is_plain_run(run),
+        Args::Chart(chart) => is_plain_run(&chart.run) && !chart.compact && chart.page == 1,
         Args::Hunt(hunt) => is_plain_hunt(hunt),
         Args::Check(check) => !check.explain,
         Args::Steps(_) => true,
@@ -71,47 +71,17 @@ fn has_defaults(args: &Args) -> bool {
     }
 }
 
-/// Whether what is asked for reads the standard input, tells it in text and explains no more.
-fn is_told_plainly(asked: &Asked) -> bool {
-    asked.args.file().is_none() && matches!(asked.format, Format::Text) && !asked.explain
-}
-
-/// Whether these words ask for the defaults of their command.
-fn asks_for_defaults(alloc: Global, words: &[&str]) -> bool {
-    match read_args(alloc, words) {
-        Ok(asked) => has_defaults(&asked.args) && is_told_plainly(&asked),
-        Err(_) => false,
-    }
+/// Whether these are the defaults of a command, whose file is the standard input, which tells in text and explains no more.
+pub fn is_plain(asked: &Asked) -> bool {
+    has_defaults(&asked.args)
+        && asked.args.file().is_none()
+        && matches!(asked.format, Format::Text)
+        && !asked.explain
 }
 
 #[test]
 fn commands_have_their_defaults(rt: HostRuntime) {
     for words in WORDS {
-        assert!(rt; asks_for_defaults(rt.alloc(), words));
-    }
-}
-
-/// Whether the words of a hunt with this one beside them ask for what it names, of what goes with no other such word.
-fn asks_for_alone(alloc: Global, word: &str) -> bool {
-    match read_args(alloc, &["pulsefarm", "hunt", "a", word]) {
-        Ok(
-            Asked {
-                args: Args::Hunt(hunt),
-                ..
-            },
-        ) => match (hunt.roots, hunt.sought) {
-            (Roots::Every, Sought::Failure { runs: None }) => word == "--all-roots",
-            (Roots::Main, Sought::Outcomes) => word == "--all",
-            (Roots::Main, Sought::Failure { runs: Some(7) }) => word == "--shrink=7",
-            _ => false,
-        },
-        _ => false,
-    }
-}
-
-#[test]
-fn hunts_seek_more_in_one_file(rt: HostRuntime) {
-    for word in ["--all-roots", "--all", "--shrink=7"] {
-        assert!(rt; asks_for_alone(rt.alloc(), word));
+        assert!(rt; come_to(rt.alloc(), words, Wanted::Defaults));
     }
 }

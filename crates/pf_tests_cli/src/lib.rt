@@ -4,6 +4,8 @@
 #[cfg(test)]
 mod defaults;
 #[cfg(test)]
+mod hunts;
+#[cfg(test)]
 mod readings;
 #[cfg(test)]
 mod values;

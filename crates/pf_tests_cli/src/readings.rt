@@ -1,11 +1,87 @@
 //! What words come to.
 
-use pf_cli::{Args, Reading, read};
+use crate::defaults::is_plain;
+use crate::hunts::{Named, hunts};
+use crate::values::is_named;
+use pf_cli::{Args, Asked, Reading, read, read_args, status_of_kind};
 use pf_request::{Kind, RunChoices};
 use std::alloc::Global;
 
+/// What words are to come to.
+#[derive(Clone, Copy)]
+pub enum Wanted<'a> {
+    /// The values that the words of each command name.
+    Values,
+    /// The defaults of a command.
+    Defaults,
+    /// A hunt that has what one word names.
+    Hunt(Named),
+    /// A run by the schedule 7, 0.
+    Scheduled,
+    /// The schedule in this file.
+    ScheduleIn(&'a str),
+    /// This text, and a status that tells of a fault unless it is 0.
+    Text(&'a str, u8),
+}
+
+/// Whether it is a run by the schedule 7, 0.
+fn is_scheduled(args: &Args) -> bool {
+    match args {
+        Args::Run(run) => match &run.request.kind {
+            Kind::Run(RunChoices::Schedule(given)) => given.as_slice() == [7, 0].as_slice(),
+            _ => false,
+        },
+        _ => false,
+    }
+}
+
+/// Whether this is asked for.
+fn is_asked(asked: &Asked, wanted: Wanted) -> bool {
+    match wanted {
+        Wanted::Values => is_named(asked),
+        Wanted::Defaults => is_plain(asked),
+        Wanted::Hunt(named) => hunts(&asked.args, named),
+        Wanted::Scheduled => is_scheduled(&asked.args),
+        _ => false,
+    }
+}
+
+/// Whether it is a text with a status.
+fn is_text(wanted: Wanted, text: &str, status: u8, is_fault: bool) -> bool {
+    match wanted {
+        Wanted::Text(told, end) => text == told && status == end && is_fault == (end != 0),
+        _ => false,
+    }
+}
+
+/// Whether it is what is wanted.
+fn is_so(reading: &Reading, wanted: Wanted) -> bool {
+    match reading {
+        Reading::Asked(asked) => is_asked(asked, wanted),
+        Reading::ScheduleIn(file) => matches!(wanted, Wanted::ScheduleIn(name) if *file == name),
+        Reading::Text {
+            text,
+            status,
+            is_fault,
+        } => is_text(wanted, text, *status, *is_fault),
+    }
+}
+
+/// Whether these words, with this text for the schedule in a file if any is known, come to what is wanted.
+fn come_with(alloc: Global, words: &[&str], schedule: Option<&str>, wanted: Wanted) -> bool {
+    match read(alloc, words, schedule) {
+        Ok(reading) => is_so(&reading, wanted),
+        Err(_) => false,
+    }
+}
+
+/// Whether these words come to what is wanted.
+pub fn come_to(alloc: Global, words: &[&str], wanted: Wanted) -> bool {
+    come_with(alloc, words, None, wanted)
+}
+
 /// The words of a run whose schedule stands in a file.
-const WORDS: [&str; 5] = [
+const SCHEDULED: [&str; 5] = [
     "pulsefarm",
     "run",
     "--root=main",
@@ -13,64 +89,40 @@ const WORDS: [&str; 5] = [
     "--schedule=@a b.txt",
 ];
 
-/// Whether these words want the schedule in this file to be read.
-fn wants(alloc: Global, words: &[&str], name: &str) -> bool {
-    match read(alloc, words, None) {
-        Ok(Reading::ScheduleIn(file)) => file == name,
-        _ => false,
-    }
-}
-
-/// Whether it is a run by a schedule of these numbers.
-fn is_run_by(args: &Args, numbers: &[u32]) -> bool {
-    match args {
-        Args::Run(run) => match &run.request.kind {
-            Kind::Run(RunChoices::Schedule(given)) => given.as_slice() == numbers,
-            _ => false,
-        },
-        _ => false,
-    }
-}
-
-/// Whether these words, with this text in place of the file of their schedule, come to a run by these numbers.
-fn come_to(alloc: Global, words: &[&str], text: &str, numbers: &[u32]) -> bool {
-    match read(alloc, words, Some(text)) {
-        Ok(Reading::Asked(asked)) => is_run_by(&asked.args, numbers),
-        _ => false,
-    }
-}
-
 #[test]
 fn a_file_of_a_schedule_is_read_first(rt: HostRuntime) {
-    assert!(rt; wants(rt.alloc(), &WORDS, "a b.txt"));
-    assert!(rt; come_to(rt.alloc(), &WORDS, "7,0", &[7, 0]));
+    let alloc = rt.alloc();
+    assert!(rt; come_to(alloc, &SCHEDULED, Wanted::ScheduleIn("a b.txt")));
+    assert!(rt; come_with(alloc, &SCHEDULED, Some("7,0"), Wanted::Scheduled));
 }
 
-/// Whether these words come to this text, with this status, and it tells a fault unless that is 0.
-fn are_told(alloc: Global, words: &[&str], told: &str, wanted: u8) -> bool {
-    match read(alloc, words, None) {
-        Ok(
-            Reading::Text {
-                text,
-                status,
-                is_fault,
-            },
-        ) => text.as_str() == told && status == wanted && is_fault == (wanted != 0),
-        _ => false,
-    }
-}
+/// Words without work.
+const VERSION: [&str; 2] = ["pulsefarm", "--version"];
+
+const TWO_FILES: [&str; 4] = ["pulsefarm", "steps", "a", "b"];
+
+const REFUSED: &str =
+    "error: unexpected argument 'b' found\n\nUsage: pulsefarm steps [FILE]\n\nFor more information, try '--help'.\n";
 
 #[test]
 fn words_without_work_come_to_a_text(rt: HostRuntime) {
-    let fault =
-        "error: unexpected argument 'b' found\n\nUsage: pulsefarm steps [FILE]\n\nFor more information, try '--help'.\n";
-    assert!(rt;
-        are_told(
-            rt.alloc(),
-            &["pulsefarm", "--version"],
-            "pulsefarm 0.1.0\n",
-            0
-        )
-    );
-    assert!(rt; are_told(rt.alloc(), &["pulsefarm", "steps", "a", "b"], fault, 2));
+    let alloc = rt.alloc();
+    assert!(rt; come_to(alloc, &VERSION, Wanted::Text("pulsefarm 0.1.0\n", 0)));
+    assert!(rt; come_to(alloc, &TWO_FILES, Wanted::Text(REFUSED, 2)));
+}
+
+/// The status that these words are refused with; none where they ask for work.
+fn status_of(alloc: Global, words: &[&str]) -> Option<u8> {
+    match read_args(alloc, words) {
+        Ok(_) => None,
+        Err(error) => Some(status_of_kind(error.kind())),
+    }
+}
+
+#[test]
+fn words_that_stand_alone_ask_for_work_or_have_a_status(rt: HostRuntime) {
+    let alloc = rt.alloc();
+    assert_eq!(rt; status_of(alloc, &["pulsefarm", "steps", "a"]), None);
+    assert_eq!(rt; status_of(alloc, &VERSION), Some(0));
+    assert_eq!(rt; status_of(alloc, &TWO_FILES), Some(2));
 }

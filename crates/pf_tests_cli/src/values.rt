@@ -1,12 +1,9 @@
 //! What the words of each command ask for that name all it takes.
 
-use pf_cli::{
-    Args, Asked, ChartArgs, FarmArgs, Format, HuntArgs, Roots, RunArgs, Sought, read_args,
-    status_of_kind,
-};
+use crate::readings::{Wanted, come_to};
+use pf_cli::{Args, Asked, ChartArgs, FarmArgs, Format, HuntArgs, Roots, RunArgs, Sought};
 use pf_request::{Kind, Request, RunChoices};
 use pf_strategy::Strategy;
-use std::alloc::Global;
 
 /// Words of each command; a file is called as its command.
 const WORDS: [&[&str]; 7] = [
@@ -159,7 +156,7 @@ fn is_farm(farm: &FarmArgs) -> bool {
 }
 
 /// Whether a command asks for what its words name.
-fn is_named(asked: &Asked) -> bool {
+pub fn is_named(asked: &Asked) -> bool {
     let is_json = matches!(asked.format, Format::Json);
     match &asked.args {
         Args::Run(run) => is_run(run) && is_json && asked.explain,
@@ -172,33 +169,9 @@ fn is_named(asked: &Asked) -> bool {
     }
 }
 
-/// Whether these words ask for what they name.
-fn asks_for_it(alloc: Global, words: &[&str]) -> bool {
-    match read_args(alloc, words) {
-        Ok(asked) => is_named(&asked),
-        Err(_) => false,
-    }
-}
-
 #[test]
 fn commands_have_what_their_words_name(rt: HostRuntime) {
     for words in WORDS {
-        assert!(rt; asks_for_it(rt.alloc(), words));
+        assert!(rt; come_to(rt.alloc(), words, Wanted::Values));
     }
-}
-
-/// The status that these words are refused with; 0 where they are taken.
-fn status_of(alloc: Global, words: &[&str]) -> u8 {
-    match read_args(alloc, words) {
-        Ok(_) => 0,
-        Err(error) => status_of_kind(error.kind()),
-    }
-}
-
-#[test]
-fn refused_words_have_the_status_2(rt: HostRuntime) {
-    assert_eq!(rt;
-        status_of(rt.alloc(), &["pulsefarm", "hunt", "--seeds=0"]),
-        2
-    );
 }

@@ -1,17 +1,25 @@
 //! Whole commands: what goes out, and what is left if a call of the reader or of the writer fails.
 
-use crate::streams::{Ended, Failing, carry_out};
-use pf_cli::read_args;
+use crate::streams::{Ended, Failing, Worked, carry_out};
+use pf_cli::{Args, read_args};
 use std::alloc::Global;
 use std::hash::RandomState;
 use std::test::Fail;
 
-/// The words of a command, its input, and what goes out where no call fails.
+/// A command, and what goes out.
 #[derive(Clone, Copy)]
 struct Case {
     words: &'static [&'static str],
     input: &'static str,
+    /// What goes out where no call fails, and with which status.
     out: &'static str,
+    status: u8,
+    /// How many bytes go out before the end of the input is read.
+    answered: usize,
+    /// How many writes there are, of 7 bytes each but the last.
+    writes: u64,
+    /// How many bytes go out before the last of them.
+    written: usize,
 }
 
 const RUN: Case = Case {
@@ -24,6 +32,10 @@ const RUN: Case = Case {
     ],
     input: "-module(m).\n-export([main/0]).\nmain() -> 1 + 2 * 3.\n",
     out: "0/1 <0> end normal\nfinished 7\nsteps 4\nproperty holds\n",
+    status: 0,
+    answered: 0,
+    writes: 8,
+    written: 49,
 };
 
 const SHRINK: Case = Case {
@@ -38,6 +50,10 @@ const SHRINK: Case = Case {
     ],
     input: "-module(m).\n-export([main/0]).\nmain() -> receive x -> ok end.\n",
     out: "schedule none\ncomplete\n0/1 <0> wait\ndeadlock <0>\nsteps 2\nproperty fails\n",
+    status: 1,
+    answered: 0,
+    writes: 11,
+    written: 70,
 };
 
 /// Two projects with one module, an order of each, and one trial that is run.
@@ -51,47 +67,76 @@ claim 0 1 1\nclaim 0 2 1\nslice 0 1 1 9\nfile 0 1 1\nfetch 1 1\nfetch 2 1\nfetch
 p1 usage 1 52 1 100 2\np2 usage 1 52 1 100 2\nw0 done\nw0 not now N2\nw0 done\nw0 done\n\
 p1 report 4\n0/1 <0> end normal\nfinished 7\nsteps 4\nproperty holds\n\
 p2 refused B5\np2 refused B3\nw4 not now N2\n",
+    status: 0,
+    answered: 237,
+    writes: 34,
+    written: 231,
 };
 
-/// Whether the first n bytes go out, and the work ends so, where calls fail.
+/// Whether the work ended so, and the first n bytes of the text went out.
+fn is_left(worked: &Worked, ended: Ended, text: &str, count: usize) -> bool {
+    worked.ended == ended && worked.out.len() == count && text.as_bytes().starts_with(&worked.out)
+}
+
+/// Whether the work of a case, where these calls fail, ends so when the first n bytes have gone out.
 fn leaves(
     alloc: Global,
     keys: RandomState,
+    args: &Args,
     case: &Case,
     failing: Failing,
-    count: usize,
     ended: Ended,
+    count: usize,
 ) -> bool {
+    let worked = carry_out(alloc, keys, args, case.input.as_bytes(), failing);
+    is_left(&worked, ended, case.out, count)
+}
+
+/// Whether all goes out where no call fails, and else a beginning. One read gives the whole input and one its end, so that a third can't fail.
+fn is_answered(alloc: Global, keys: RandomState, args: &Args, case: &Case) -> bool {
+    let none = Failing {
+        read: 3,
+        write: case.writes.saturating_add(1),
+    };
+    let read = Failing { read: 2, write: 0 };
+    let write = Failing {
+        read: 0,
+        write: case.writes,
+    };
+    let all = case.out.len();
+    leaves(
+        alloc,
+        keys,
+        args,
+        case,
+        none,
+        Ended::Status(case.status),
+        all,
+    ) && leaves(alloc, keys, args, case, read, Ended::NotRead, case.answered)
+        && leaves(
+            alloc,
+            keys,
+            args,
+            case,
+            write,
+            Ended::NotWritten,
+            case.written,
+        )
+}
+
+/// Whether the words of a case ask for what is answered so.
+fn is_done(alloc: Global, keys: RandomState, case: &Case) -> bool {
     match read_args(alloc, case.words) {
-        Ok(asked) => {
-            let worked = carry_out(alloc, keys, &asked.args, case.input.as_bytes(), failing);
-            worked.ended == ended
-                && worked.out.len() == count
-                && case.out.as_bytes().starts_with(&worked.out)
-        }
+        Ok(asked) => is_answered(alloc, keys, &asked.args, case),
         Err(_) => false,
     }
 }
 
-// One call gives the whole input and one its end, so a third is none that could fail. What goes out is gathered, and leaves by 7 bytes a call.
-const CALLS: [(Case, u64, u64, usize, Ended); 9] = [
-    (RUN, 3, 9, 53, Ended::Status(0)),
-    (RUN, 2, 0, 0, Ended::NotRead),
-    (RUN, 0, 8, 49, Ended::NotWritten),
-    (SHRINK, 3, 12, 72, Ended::Status(1)),
-    (SHRINK, 2, 0, 0, Ended::NotRead),
-    (SHRINK, 0, 11, 70, Ended::NotWritten),
-    (STEPS, 3, 35, 237, Ended::Status(0)),
-    (STEPS, 2, 0, 237, Ended::NotRead),
-    (STEPS, 0, 34, 231, Ended::NotWritten),
-];
-
 #[test]
 fn calls_that_fail_leave_a_beginning(rt: HostRuntime) -> Result<(), Fail> {
     let keys = RandomState::new(&rt)?;
-    for (case, read, write, count, ended) in CALLS {
-        let failing = Failing { read, write };
-        assert!(rt; leaves(rt.alloc(), keys, &case, failing, count, ended));
+    for case in [RUN, SHRINK, STEPS] {
+        assert!(rt; is_done(rt.alloc(), keys, &case));
     }
     Ok(())
 }
