@@ -28,7 +28,7 @@ const CHORES: [(u32, Chore); 11] = [
 /// Project 7 submits the module and orders its run.
 fn order(alloc: Global, workshop: &mut Workshop) -> Result<(), Fail> {
     let source = Source::new(alloc, Vec::from_slice(alloc, ECHO)?)?;
-    workshop.call(alloc, 7, Call::Submit(source))?;
+    drop(workshop.call(alloc, 7, Call::Submit(source))?);
     let request = Request {
         root: ShortBytes::from_slice(alloc, b"main")?,
         property: ShortBytes::from_slice(alloc, b"returns")?,
@@ -36,8 +36,12 @@ fn order(alloc: Global, workshop: &mut Workshop) -> Result<(), Fail> {
         limit: 1000,
     };
     let call = Call::Order(Order { module: 1, request });
-    workshop.step(alloc, Step::Call { project: 7, call })?;
+    drop(workshop.step(alloc, Step::Call { project: 7, call })?);
     Ok(())
+}
+
+fn is_done(response: Response) -> bool {
+    matches!(response, Response::Done)
 }
 
 /// The index of the first chore that isn't done.
@@ -49,7 +53,7 @@ fn first_undone(alloc: Global, workshop: &mut Workshop) -> Result<Option<usize>,
             ticket: 1,
             chore,
         };
-        if !matches!(workshop.step(alloc, step)?, Response::Done) {
+        if !is_done(workshop.step(alloc, step)?) {
             return Ok(Some(index));
         }
     }
