@@ -32,7 +32,7 @@ const TURNS: [(usize, usize); 11] = [
 /// More steps than the talk takes.
 const ENOUGH: u32 = 1000;
 
-/// Of those that may go number `index` goes; how many may. What is spare is taken away meanwhile.
+/// Of those that may go number `index` goes; how many may.
 fn go(alloc: Global, system: &mut System, index: usize) -> Result<usize, Fail> {
     let enabled = system.enabled();
     let count = enabled.len();
@@ -40,18 +40,19 @@ fn go(alloc: Global, system: &mut System, index: usize) -> Result<usize, Fail> {
         return Err(Fail::from("so many may not go"));
     }
     let actor = enabled.actor(index);
-    let spare = system.take_spare(alloc);
-    system.pass(alloc, actor, ENOUGH, &mut Label::Cut)?;
-    system.put_spare(spare);
+    let mut shown = Label::Cut;
+    system.pass(alloc, actor, ENOUGH, &mut shown)?;
     Ok(count)
 }
 
-/// Whether as many as stated may go in each turn of the talk, and its last lines are these.
+/// Whether as many as stated may go in each turn of the talk, for which what is spare is taken away, and its last lines are these.
 fn talks(alloc: Global, module: &Module, system: &mut System) -> Result<bool, Fail> {
     for (index, count) in TURNS {
+        let spare = system.take_spare(alloc);
         if go(alloc, system, index)? != count {
             return Ok(false);
         }
+        system.put_spare(spare);
     }
     let outcome = system.outcome(alloc)?;
     let mut text = Vec::new(alloc);
