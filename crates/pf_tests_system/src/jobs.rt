@@ -1,6 +1,5 @@
 //! Jobs that are run whole, slice by slice, and with their events.
 
-use crate::turns::TALK;
 use pf_module::ReadModule;
 use pf_request::{Kind, Request, RunChoices, ShortBytes, Source};
 use pf_sched::{
@@ -11,6 +10,11 @@ use pf_trace::{put_report, put_written};
 use std::alloc::Global;
 use std::sync::Arc;
 use std::test::Fail;
+
+/// The root hands its pid to a child and waits for the answer.
+const TALK: &str = "-module(m).\n-export([main/0, kid/0]).\n\
+main() -> P = spawn(m, kid, []), P ! self(), receive X -> X end.\n\
+kid() -> receive From -> From ! done end.\n";
 
 /// The choices of the talk.
 const CHOICES: [u32; 11] = [0, 0, 1, 1, 0, 0, 0, 1, 0, 0, 0];

@@ -1,7 +1,5 @@
-//! Tests of the system of processes, driven turn by turn, and of the scheduler.
+//! Tests of the scheduler, and so of the system of processes whose turns it makes.
 #![tactic(auto)]
 
 #[cfg(test)]
 mod jobs;
-#[cfg(test)]
-mod turns;
