@@ -1,5 +1,8 @@
 //! Where a machine stands in the code of a module that was read.
 
+ghost use Rattle.std.specs.Prelude.{IfOk};
+ghost use Rattle.pf_stepper.specs.Turns.{CanMove};
+
 use pf_check::read;
 use pf_nodes::Pool;
 use pf_stepper::{Machine, Move, PlainInbox, Point, Room};
@@ -37,20 +40,26 @@ fn place(machine: &Machine) -> (&'static str, Option<u32>) {
     }
 }
 
-/// Where a process stands after so many steps, or at the move that stops it before. It begins at the second function of a source, and has
-/// the message 3.
+/// A process at the call of the second function of a source, which takes no argument.
+pub(crate) fn begun(alloc: Global, source: &str) -> Result<Machine, Fail>
+    ensures { IfOk result (λ m. CanMove m.standing) }
+{
+    let whole = format!(in alloc; "-module(m). {source}")?;
+    let module = Arc::new(alloc, read(alloc, whole.as_bytes())?)?;
+    let args = SmallVec::new(alloc);
+    Ok(Machine::new(0, module, FunctionId(1), args, Room::new(alloc))?)
+}
+
+/// Where a process that has the message 3 stands after so many steps, or at the move that stops it before.
 fn place_after(
     alloc: Global,
     source: &str,
     steps: u32,
 ) -> Result<(&'static str, Option<u32>), Fail> {
-    let source = format!(in alloc; "-module(m). {source}")?;
-    let module = Arc::new(alloc, read(alloc, source.as_bytes())?)?;
-    let args = SmallVec::new(alloc);
-    let mut machine = Machine::new(0, module, FunctionId(1), args, Room::new(alloc))?;
     let mut inbox = PlainInbox {
         messages: vec![in alloc; Term::Int(3)]?,
     };
+    let mut machine = begun(alloc, source)?;
     let mut pool = Pool::new(alloc);
     machine.run(alloc, &mut inbox, &mut pool, steps, &mut Move::Pure)?;
     Ok(place(&machine))
@@ -103,8 +112,9 @@ const STOPS: [(&str, u32, &str, Option<u32>); 20] = [
 
 #[test]
 fn a_process_stands_at_its_node(rt: HostRuntime) -> Result<(), Fail> {
-    for (source, steps, form, part) in STOPS {
-        assert_eq!(rt; place_after(rt.alloc(), source, steps)?, (form, part));
+    for (source, steps, form, part) in &STOPS {
+        let found = place_after(rt.alloc(), source, *steps)?;
+        assert!(rt; found == (*form, *part));
     }
     Ok(())
 }

@@ -47,9 +47,10 @@ fn woken(
     mailbox.deliver(pool, Term::Int(1))?;
     let mut did = Move::Pure;
     machine.run(alloc, &mut mailbox, pool, 100, &mut did)?;
-    let Move::Wait = did else {
-        return Err(Fail::from("the process doesn't wait"));
-    };
+    match did {
+        Move::Wait => {}
+        _ => return Err(Fail::from("the process doesn't wait")),
+    }
     let mut mailbox = repacked(alloc, mailbox, pool)?;
     mailbox.deliver(pool, Term::Int(3))?;
     machine.run(alloc, &mut mailbox, pool, 100, &mut did)?;
