@@ -1,22 +1,11 @@
 //! Charts of the reports, and the pieces that they have to have.
 
 use crate::reports::report;
-use crate::scenes::{LONG, ODD, SCENES, Scene};
+use crate::scenes::{NAME, SCENES, Scene};
 use pf_chart::{Manner, put_chart};
 use pf_terms::AtomTable;
 use std::alloc::Global;
 use std::test::Fail;
-
-/// The table with the atoms of two names.
-fn table(alloc: Global) -> Result<AtomTable, Fail> {
-    let mut atoms = AtomTable::new(alloc)?;
-    atoms.enter(alloc, LONG.as_bytes())?;
-    if atoms.len() > 100 {
-        return Err(Fail::from("there are many atoms"));
-    }
-    atoms.enter(alloc, ODD)?;
-    Ok(atoms)
-}
 
 fn owned(alloc: Global, names: &[&[u8]]) -> Result<Vec<Vec<u8>>, Fail> {
     let mut owned = Vec::new(alloc);
@@ -26,21 +15,15 @@ fn owned(alloc: Global, names: &[&[u8]]) -> Result<Vec<Vec<u8>>, Fail> {
     Ok(owned)
 }
 
-/// The chart of a run of `main`.
-fn chart(alloc: Global, scene: &Scene) -> Result<String, Fail> {
-    let atoms = table(alloc)?;
-    let names = owned(alloc, scene.names)?;
-    let report = report(alloc, &scene.told)?;
+/// Puts the chart of a run of `main`.
+fn put(alloc: Global, text: &mut Vec<u8>, atoms: &AtomTable, scene: &Scene) -> Result<(), Fail> {
     let manner = Manner {
         compact: scene.is_compact,
         page: 1,
     };
-    let mut text = Vec::new(alloc);
-    put_chart(alloc, &mut text, &atoms, b"main", &names, &report, manner)?;
-    match String::from_utf8(text) {
-        Ok(text) => Ok(text),
-        Err(_) => Err(Fail::from("a chart is no UTF-8")),
-    }
+    let names = owned(alloc, scene.names)?;
+    let report = report(alloc, &scene.told)?;
+    Ok(put_chart(alloc, text, atoms, b"main", &names, &report, manner)?)
 }
 
 /// The first of these pieces that a text has, or the first that it lacks.
@@ -53,12 +36,23 @@ fn first_that(text: &str, has: bool, pieces: &'static [&'static str]) -> Option<
     None
 }
 
+/// What is amiss in a chart: a piece that it lacks, or one that it may not have.
+fn amiss(alloc: Global, atoms: &AtomTable, scene: &Scene) -> Result<Option<&'static str>, Fail> {
+    let mut text = Vec::new(alloc);
+    put(alloc, &mut text, atoms, scene)?;
+    let text = std::str::from_utf8(&text)?;
+    match first_that(text, false, scene.pieces) {
+        None => Ok(first_that(text, true, scene.others)),
+        lacking => Ok(lacking),
+    }
+}
+
 #[test]
 fn charts_have_their_pieces(rt: HostRuntime) -> Result<(), Fail> {
+    let mut atoms = AtomTable::new(rt.alloc())?;
+    atoms.enter(rt.alloc(), NAME)?;
     for scene in &SCENES {
-        let text = chart(rt.alloc(), scene)?;
-        assert_eq!(rt; first_that(&text, false, scene.pieces), None);
-        assert_eq!(rt; first_that(&text, true, scene.others), None);
+        assert_eq!(rt; amiss(rt.alloc(), &atoms, scene)?, None);
     }
     Ok(())
 }

@@ -14,14 +14,11 @@ pub(crate) struct Scene {
     pub(crate) others: &'static [&'static str],
 }
 
-pub(crate) const LONG: &str =
-    "abcdefghijklmnopqrstuvwxyzabcdefghijklmnopqrstuvwxyzabcdefghijklmnopqrstuvwxyz";
+/// The name of the atom that a run makes: long, and with bytes that a document can't have.
+pub(crate) const NAME: &[u8] =
+    b"a&b<\xe9\x01\"abcdefghijklmnopqrstuvwxyzabcdefghijklmnopqrstuvwxyzabcdefghijklmnopqrstuvwxyz";
 
-const LONG_ATOM: AtomId = AtomId(20);
-
-pub(crate) const ODD: &[u8] = b"a&b<\xe9\x01\"";
-
-const ODD_ATOM: AtomId = AtomId(21);
+const ATOM: AtomId = AtomId(20);
 
 const ROOT: Actor = Actor::Process(0);
 
@@ -222,26 +219,21 @@ const NAMES: Scene = Scene {
 /// Heads stand again after 40 rows and at the foot. What is long is shortened, and whole in its tooltip; labels are escaped.
 const LONG_RUN: Scene = Scene {
     told: Told {
-        events: &[
-            (0, ROOT, Did::TakesAtom(LONG_ATOM)),
-            (0, ROOT, Did::TakesAtom(ODD_ATOM)),
-        ],
-        references: 39,
-        ends: Ends::With(LONG_ATOM),
+        events: &[(0, ROOT, Did::TakesAtom(ATOM))],
+        references: 40,
+        ends: Ends::With(ATOM),
     },
     is_compact: false,
     names: &[],
     pieces: &[
-        "<title>receive abcdefghijklmnopqrstuvwxyzabcdefghijklmnopqrstuvwxyzabcdefghijklmnopqrstuvwxyz</title>",
-        ">receive abcdefghijklmnopqrstuvwx...</text>",
-        "<title>receive 'a&amp;b&lt;&#233;&#65533;&quot;'</title>",
-        ">receive 'a&amp;b&lt;&#233;&#65533;&quot;'</text>",
+        "<title>receive 'a&amp;b&lt;&#233;&#65533;&quot;abcdefghijklmnopqrstuvwxyzabcdefghijklmnopqrstuvwxyzabcdefghijklmnopqrstuvwxyz'</title>",
+        ">receive 'a&amp;b&lt;&#233;&#65533;&quot;abcdefghijklmnop...</text>",
         "data-event=\"40\" transform=\"translate(180 1091)\">",
         "<text class=\"pid\" x=\"180\" y=\"1127\">&lt;0&gt;</text><text class=\"of\" x=\"180\" y=\"1143\">main</text>",
         "data-event=\"41\" transform=\"translate(180 1169)\">",
         "<text class=\"pid\" x=\"180\" y=\"1225\">&lt;0&gt;</text><text class=\"of\" x=\"180\" y=\"1241\">main</text>",
-        "<title>finished abcdefghijklmnopqrstuvwxyzabcdefghijklmnopqrstuvwxyzabcdefghijklmnopqrstuvwxyz</title>",
-        ">finished abcdefghijklmnopqrstuvwxyzabcdefghijklmnopqrstuvwxyzabcde...</text>",
+        "<title>finished 'a&amp;b&lt;&#233;&#65533;&quot;abcdefghijklmnopqrstuvwxyzabcdefghijklmnopqrstuvwxyzabcdefghijklmnopqrstuvwxyz'</title>",
+        ">finished 'a&amp;b&lt;&#233;&#65533;&quot;abcdefghijklmnopqrstuvwxyzabcdefghijklmnopqrstuvw...</text>",
     ],
     others: &["class=\"page\""],
 };
