@@ -47,12 +47,27 @@ fn amiss(alloc: Global, atoms: &AtomTable, scene: &Scene) -> Result<Option<&'sta
     }
 }
 
+/// What is amiss in the first chart that isn't as it has to be.
+fn first_amiss(alloc: Global, atoms: &AtomTable) -> Result<Option<&'static str>, Fail> {
+    for scene in &SCENES {
+        let amiss = amiss(alloc, atoms, scene)?;
+        if amiss.is_some() {
+            return Ok(amiss);
+        }
+    }
+    Ok(None)
+}
+
+/// The table with the atom that a run makes.
+fn table(alloc: Global) -> Result<AtomTable, Fail> {
+    let mut atoms = AtomTable::new(alloc)?;
+    atoms.enter(alloc, NAME)?;
+    Ok(atoms)
+}
+
 #[test]
 fn charts_have_their_pieces(rt: HostRuntime) -> Result<(), Fail> {
-    let mut atoms = AtomTable::new(rt.alloc())?;
-    atoms.enter(rt.alloc(), NAME)?;
-    for scene in &SCENES {
-        assert_eq!(rt; amiss(rt.alloc(), &atoms, scene)?, None);
-    }
+    let atoms = table(rt.alloc())?;
+    assert_eq!(rt; first_amiss(rt.alloc(), &atoms)?, None);
     Ok(())
 }
