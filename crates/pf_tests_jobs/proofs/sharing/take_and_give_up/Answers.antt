@@ -2,7 +2,7 @@ use Rattle.std.proofs.Common.{◌≡◌, ◌≤◌, ◌+◌, ℕ, Bool, true, Li
 use Rattle.std.specs.Str.{bytes_eq}
 use Rattle.std.proofs.lemmas.Slice.Eq.{bytes_eq-Decides}
 use Rattle.pf_store.specs.Sources.{Kept, HeldOnceMore, holders}
-use Rattle.pf_tests_desks.proofs.sharing.take_and_give_up.Goals as goal
+use Rattle.pf_tests_jobs.proofs.sharing.take_and_give_up.Goals as goal
 
 -- who was counted once more holds the source
 held_then : (source : List ℕ) (k k' : Kept) → HeldOnceMore source k k' → 1 ≤ holders k' source
