@@ -16,6 +16,7 @@ use std::alloc::Global;
 use std::hash::RandomState;
 use std::sync::Wait;
 use std::test::Fail;
+use std::thread::Threads;
 
 /// One event.
 const SUM: &[u8] = b"-module(m).\n-export([main/0]).\nmain() -> 1 + 2 * 3.\n";
@@ -24,25 +25,42 @@ const SUM: &[u8] = b"-module(m).\n-export([main/0]).\nmain() -> 1 + 2 * 3.\n";
 const ENDLESS: &[u8] = b"-module(m).\n-export([main/0]).\n\
 main() -> self() ! on, receive on -> main() end.\n";
 
-/// Submits a module, and orders so many trials of it. One of `ENDLESS` has more than four slices of 256 events.
+/// Makes a call; whether what it is told is the result of a trial.
+fn call<N: FarmNames, R: Wait>(
+    alloc: Global,
+    rt: &R,
+    floor: &Floor<N>,
+    seat: &mut ClientSeat<N>,
+    call: Call,
+) -> Result<bool, NoMemory> {
+    let reply = floor.call(alloc, rt, seat, call)?;
+    Ok(matches!(reply, Reply::Result(_)))
+}
+
+/// The order of a run of module 1 by a seed. One of `ENDLESS` has more than four slices of 256 events.
+fn order_by(alloc: Global, seed: u64) -> Result<Call, NoMemory> {
+    let request = Request {
+        root: ShortBytes::from_slice(alloc, b"main")?,
+        property: ShortBytes::from_slice(alloc, b"true")?,
+        kind: Kind::Run(RunChoices::Seed(seed)),
+        limit: 2_000,
+    };
+    Ok(Call::Order(Order { module: 1, request }))
+}
+
+/// Submits a module, and orders so many trials of it.
 fn begin<N: FarmNames, R: Wait>(
     alloc: Global,
     rt: &R,
     floor: &Floor<N>,
     seat: &mut ClientSeat<N>,
     source: &[u8],
-    trials: u32,
+    trials: u64,
 ) -> Result<(), NoMemory> {
     let source = Source::new(alloc, Vec::from_slice(alloc, source)?)?;
-    floor.call(alloc, rt, seat, Call::Submit(source))?;
+    call(alloc, rt, floor, seat, Call::Submit(source))?;
     for seed in 0..trials {
-        let request = Request {
-            root: ShortBytes::from_slice(alloc, b"main")?,
-            property: ShortBytes::from_slice(alloc, b"true")?,
-            kind: Kind::Run(RunChoices::Seed(u64::from(seed))),
-            limit: 2_000,
-        };
-        floor.call(alloc, rt, seat, Call::Order(Order { module: 1, request }))?;
+        call(alloc, rt, floor, seat, order_by(alloc, seed)?)?;
     }
     Ok(())
 }
@@ -162,7 +180,7 @@ impl Four {
     ) -> Result<(), NoMemory> {
         begin(alloc, rt, floor, seat, ENDLESS, 1)?;
         floor.wait_done(rt, seat, 1);
-        if let Reply::Result(_) = floor.call(alloc, rt, seat, Call::Fetch(1))? {
+        if call(alloc, rt, floor, seat, Call::Fetch(1))? {
             self.first_fetched.set();
         }
         Ok(())
@@ -192,7 +210,7 @@ impl Four {
         self.wait(&self.first_slices, 1);
         begin(alloc, rt, floor, seat, SUM, 1)?;
         self.wait(&self.third_begun, 1);
-        floor.call(alloc, rt, seat, Call::DropTrial(1))?;
+        call(alloc, rt, floor, seat, Call::DropTrial(1))?;
         floor.wait_done(rt, seat, 1);
         self.third_dropped.set();
         Ok(())
@@ -232,13 +250,22 @@ fn ended_well(rows: &[Row<Job>]) -> bool {
     rows.len() > 3
 }
 
+/// Whether the scene is played, and each claim has ended as it has to.
+fn is_played<R: Threads + Wait + Sync>(
+    alloc: Global,
+    rt: &R,
+    keys: RandomState,
+    scene: &Four,
+) -> Result<bool, Fail> {
+    let closing = play(alloc, rt, keys, 2, &[1, 2, 3, 4], scene)?;
+    Ok(ended_well(&closing.rows))
+}
+
 #[test]
 fn a_run_is_stolen_one_is_dropped_and_some_are_handed_back(rt: HostRuntime) -> Result<(), Fail> {
     let scene = Four::new();
-    let keys = RandomState::new(&rt)?;
-    let closing = play(rt.alloc(), &rt, keys, 2, &[1, 2, 3, 4], &scene)?;
+    let ended = is_played(rt.alloc(), &rt, RandomState::new(&rt)?, &scene)?;
     let sliced = scene.first_slices.count() > 1;
-    let ended = ended_well(&closing.rows);
-    assert_eq!(rt; (sliced, ended, scene.missed.count()), (true, true, 0));
+    assert!(rt; ended && sliced && scene.missed.count() == 0);
     Ok(())
 }
