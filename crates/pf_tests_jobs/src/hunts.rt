@@ -41,7 +41,25 @@ fn request_of(alloc: Global, property: &str) -> Result<Request, Fail> {
     })
 }
 
-/// The hunt of a source, with a module for each of three workers.
+/// The hunt of a request of a module, with a module for each of three workers.
+fn hunt_in(
+    alloc: Global,
+    module: &ReadModule,
+    request: &Request,
+    strategy: Strategy,
+    leaks: bool,
+) -> Result<Hunt, Fail> {
+    let job = Job::new(alloc, module.share()?, request, 1)?;
+    let others = other_jobs(alloc, &job, module, request, 3)?;
+    Ok(Hunt {
+        job,
+        others,
+        strategy,
+        leaks,
+    })
+}
+
+/// The hunt of a source.
 fn hunt_of(
     alloc: Global,
     source: &str,
@@ -51,17 +69,7 @@ fn hunt_of(
 ) -> Result<Hunt, Fail> {
     let request = request_of(alloc, property)?;
     let module = module_of(alloc, source)?;
-    let job = Job::new(alloc, module.share()?, &request, 1)?;
-    let others = other_jobs(alloc, &job, &module, &request, 3)?;
-    if others.len() != 2 {
-        return Err(Fail::from("two workers have no module of their own"));
-    }
-    Ok(Hunt {
-        job,
-        others,
-        strategy,
-        leaks,
-    })
+    hunt_in(alloc, &module, &request, strategy, leaks)
 }
 
 /// How many seeds a hunt told of at last; the leak that it told, by its seed and its processes, and how often. It is to stop behind twenty seeds.
@@ -165,6 +173,7 @@ const ENDS: [(bool, u64, u64); 2] = [(true, 40, 30), (false, 60, 50)];
 fn a_hunt_stops_where_it_is_told_to_and_tells_its_leak_once(rt: HostRuntime) -> Result<(), Fail> {
     let alloc = rt.alloc();
     let hunt = hunt_of(alloc, TWO_WAIT, "nodeadlock", Strategy::Uniform, false)?;
+    assert_eq!(rt; hunt.others.len(), 2);
     for (may_stop, end, seeds) in ENDS {
         let wanted = (end, seeds, (10, 2), 1);
         assert_eq!(rt; searched(&rt, alloc, &hunt, may_stop)?, wanted);
