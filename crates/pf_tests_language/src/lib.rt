@@ -1,4 +1,4 @@
-//! Tests of the crates of the language: the machine's points, an action that is answered, and a long source on a small stack.
+//! Tests of the crates of the language: the points of a machine, one step of it, and a long pattern on a small stack.
 #![tactic(auto)]
 
 #[cfg(test)]
