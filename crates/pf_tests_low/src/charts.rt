@@ -26,36 +26,23 @@ fn put(alloc: Global, text: &mut Vec<u8>, atoms: &AtomTable, scene: &Scene) -> R
     Ok(put_chart(alloc, text, atoms, b"main", &names, &report, manner)?)
 }
 
-/// The first of these pieces that a text has, or the first that it lacks.
-fn first_that(text: &str, has: bool, pieces: &'static [&'static str]) -> Option<&'static str> {
+/// That a text has each of these pieces, or has none of them.
+fn holds(text: &str, has: bool, pieces: &[&str]) -> Result<(), Fail> {
     for piece in pieces {
-        if text.contains(*piece) == has {
-            return Some(*piece);
+        if text.contains(*piece) != has {
+            return Err(Fail::new(format_args!("amiss in a chart: {piece}")));
         }
     }
-    None
+    Ok(())
 }
 
-/// What is amiss in a chart: a piece that it lacks, or one that it may not have.
-fn amiss(alloc: Global, atoms: &AtomTable, scene: &Scene) -> Result<Option<&'static str>, Fail> {
+/// That the chart of a scene is as it has to be.
+fn look(alloc: Global, atoms: &AtomTable, scene: &Scene) -> Result<(), Fail> {
     let mut text = Vec::new(alloc);
     put(alloc, &mut text, atoms, scene)?;
     let text = std::str::from_utf8(&text)?;
-    match first_that(text, false, scene.pieces) {
-        None => Ok(first_that(text, true, scene.others)),
-        lacking => Ok(lacking),
-    }
-}
-
-/// What is amiss in the first chart that isn't as it has to be.
-fn first_amiss(alloc: Global, atoms: &AtomTable) -> Result<Option<&'static str>, Fail> {
-    for scene in &SCENES {
-        let amiss = amiss(alloc, atoms, scene)?;
-        if amiss.is_some() {
-            return Ok(amiss);
-        }
-    }
-    Ok(None)
+    holds(text, true, scene.pieces)?;
+    holds(text, false, scene.others)
 }
 
 /// The table with the atom that a run makes.
@@ -68,6 +55,8 @@ fn table(alloc: Global) -> Result<AtomTable, Fail> {
 #[test]
 fn charts_have_their_pieces(rt: HostRuntime) -> Result<(), Fail> {
     let atoms = table(rt.alloc())?;
-    assert_eq!(rt; first_amiss(rt.alloc(), &atoms)?, None);
+    for scene in &SCENES {
+        look(rt.alloc(), &atoms, scene)?;
+    }
     Ok(())
 }

@@ -38,7 +38,7 @@ const TWO_TO_ROOT: Actor = Actor::Channel { from: 2, to: 0 };
 
 const TWO_TO_ONE: Actor = Actor::Channel { from: 2, to: 1 };
 
-pub(crate) const SCENES: [Scene; 7] = [ARROWS, ENDS, DEADLOCK, COMPACT, NAMES, LONG_RUN, EMPTY];
+pub(crate) static SCENES: [Scene; 7] = [ARROWS, ENDS, DEADLOCK, COMPACT, NAMES, LONG_RUN, EMPTY];
 
 /// Messages that arrive, one that is dropped, and three that are on their way at the end: to the right, to the left and to oneself.
 const ARROWS: Scene = Scene {
