@@ -1,9 +1,15 @@
-//! A test of the running farm: trials that overlap, a run that is stolen, and what is left when a farm is closed.
+//! Tests of the running farm: trials that overlap, runs that are stolen, and what is left when a farm is closed.
 #![tactic(auto)]
 
 #[cfg(test)]
-mod four;
+mod calls;
+#[cfg(test)]
+mod closed;
+pub mod missed;
 #[cfg(test)]
 mod scene;
 #[cfg(test)]
-mod waiting;
+mod stolen;
+#[cfg(test)]
+mod together;
+pub mod waiting;

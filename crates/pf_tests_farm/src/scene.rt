@@ -4,8 +4,13 @@ ghost use Rattle.std.specs.Prelude.{◌≡◌, ◌<◌, ◌≤◌, IfOk, Some, l
 ghost use Rattle.pf_farm.specs.Farms.{farm_of};
 ghost use Rattle.pf_farm.specs.Seats.{AllIdle, IsRing};
 
-use pf_farm::{Blanks, ClientSeat, Closing, Farm, Floor, Gate, MOST_SEATS, WorkSeat, work_all};
+use crate::missed::Missed;
+use crate::waiting::Mark;
+use pf_farm::{
+    Blanks, ClientSeat, Closing, Farm, Floor, Gate, MOST_SEATS, NoSeat, WorkSeat, work_all,
+};
 use pf_farm_names::FarmNames;
+use pf_fault::OrNoMemory;
 use pf_register::NewRegister;
 use std::alloc::Global;
 use std::hash::RandomState;
@@ -23,10 +28,7 @@ pub(crate) trait Scene: Gate + Sync {
         rt: &R,
         floor: &Floor<N>,
         seat: &mut ClientSeat<N>,
-    );
-
-    /// The farm has been told to stop.
-    fn stopped(&self);
+    ) -> Result<(), Missed>;
 }
 
 /// A seat for a client of each of these projects.
@@ -34,7 +36,7 @@ fn seated<N: FarmNames>(
     alloc: Global,
     farm: &mut Farm<N>,
     projects: &[u32],
-) -> Result<Vec<ClientSeat<N>>, Fail>
+) -> Result<Vec<ClientSeat<N>>, Missed>
     requires none { farm.old.given ≡ 0 }
     requires few { length projects.now ≤ MOST_SEATS }
     ensures seats { IfOk result (λ v. vec_len v ≡ length projects.now) }
@@ -42,9 +44,27 @@ fn seated<N: FarmNames>(
 {
     let mut seats = Vec::new(alloc);
     'projects: for project in projects {
-        seats.push(farm.seat(alloc, *project)?)?;
+        match farm.seat(alloc, *project) {
+            Ok(seat) => seats.push(seat)?,
+            Err(OrNoMemory::Fault(NoSeat)) => return Err(Missed::that("no seat is left")),
+            Err(OrNoMemory::NoMemory) => return Err(Missed::that("memory ran out")),
+        }
     }
     Ok(seats)
+}
+
+/// Has one client do its part.
+fn client_plays<N: FarmNames, R: Wait, S: Scene>(
+    alloc: Global,
+    rt: &R,
+    floor: &Floor<N>,
+    scene: &S,
+    failed: &Mark,
+    seat: &mut ClientSeat<N>,
+) {
+    if scene.client(alloc, rt, floor, seat).is_err() {
+        failed.set();
+    }
 }
 
 /// Has all clients do their parts side by side. Then the farm stops.
@@ -53,6 +73,7 @@ fn clients_play<N: FarmNames + Send + Sync, R: Threads + Wait + Sync, S: Scene>(
     rt: &R,
     floor: &Floor<N>,
     scene: &S,
+    failed: &Mark,
     seats: &mut [ClientSeat<N>],
 )
     requires { 0 < length seats.old }
@@ -63,10 +84,9 @@ fn clients_play<N: FarmNames + Send + Sync, R: Threads + Wait + Sync, S: Scene>(
         rt,
         seats,
         count,
-        &move |_, seat| scene.client(alloc, rt, floor, seat),
+        &move |_, seat| client_plays(alloc, rt, floor, scene, failed, seat),
     );
     floor.stop(rt);
-    scene.stopped();
 }
 
 /// Has all workers work side by side.
@@ -92,6 +112,7 @@ fn all_play<'a, N: FarmNames + Send + Sync, R: Threads + Wait + Sync, S: Scene>(
     rt: &'a R,
     floor: &'a Floor<N>,
     scene: &'a S,
+    failed: &'a Mark,
     clients: &'a mut [ClientSeat<N>],
     seats: &'a mut [WorkSeat<N>],
 )
@@ -111,7 +132,7 @@ fn all_play<'a, N: FarmNames + Send + Sync, R: Threads + Wait + Sync, S: Scene>(
     let mut play = ||
         requires { 0 < length clients.now }
         ensures { length clients.exit.now ≡ length clients.entry.now }
-    { clients_play(alloc, rt, floor, scene, clients) };
+    { clients_play(alloc, rt, floor, scene, failed, clients) };
     join_mut(rt, &mut work, &mut play);
 }
 
@@ -124,7 +145,7 @@ fn play_by<N: FarmNames + Send + Sync, R: Threads + Wait + Sync, S: Scene>(
     workers: usize,
     projects: &[u32],
     scene: &S,
-) -> Result<Closing, Fail>
+) -> Result<Closing, Missed>
     requires opened { (blanks.opened.name ≡ N.opened) × (blanks.opened.parts ≡ N.workers) }
     requires ended { (blanks.ended.name ≡ N.ended) × (blanks.ended.parts ≡ N.workers) }
     requires calls { (blanks.calls.name ≡ N.calls) × (blanks.calls.parts ≡ N.seats) }
@@ -136,9 +157,14 @@ fn play_by<N: FarmNames + Send + Sync, R: Threads + Wait + Sync, S: Scene>(
 {
     let (mut farm, mut seats) = Farm::<N>::open(alloc, keys, blanks, workers)?;
     let mut clients = seated(alloc, &mut farm, projects)?;
+    let failed = Mark::new();
     let floor = farm.floor();
-    all_play(alloc, rt, floor, scene, &mut clients, &mut seats);
-    Ok(farm.close(clients, seats))
+    all_play(alloc, rt, floor, scene, &failed, &mut clients, &mut seats);
+    let closing = farm.close(clients, seats);
+    if failed.count() > 0 {
+        return Err(Missed::that("a client failed"));
+    }
+    Ok(closing)
 }
 
 /// Plays a scene.
@@ -160,5 +186,8 @@ pub(crate) fn play<R: Threads + Wait + Sync, S: Scene>(
         claims: NewRegister::new(alloc)?,
         receipts: NewRegister::new(alloc)?,
     };
-    play_by::<Brand, R, S>(alloc, rt, keys, blanks, workers, projects, scene)
+    match play_by::<Brand, R, S>(alloc, rt, keys, blanks, workers, projects, scene) {
+        Ok(closing) => Ok(closing),
+        Err(missed) => Err(Fail::from(missed.what)),
+    }
 }

@@ -1,5 +1,6 @@
 //! Marks that one thread sets and another waits for, so long and no longer.
 
+use crate::missed::Missed;
 use std::sync::atomic::{AtomicU64, Ordering};
 use std::thread;
 
@@ -8,29 +9,29 @@ const MOST_TURNS: u64 = 100_000_000;
 
 /// A mark.
 #[derive(Drop)]
-pub(crate) struct Mark {
+pub struct Mark {
     count: AtomicU64,
 }
 
 impl Mark {
-    pub(crate) fn new() -> Mark {
+    pub fn new() -> Mark {
         Mark {
             count: AtomicU64::new(0),
         }
     }
 
     /// Sets it once more; how often it was set before.
-    pub(crate) fn set(&self) -> u64 {
+    pub fn set(&self) -> u64 {
         self.count.fetch_add(1, Ordering::SeqCst)
     }
 
     /// How often it was set.
-    pub(crate) fn count(&self) -> u64 {
+    pub fn count(&self) -> u64 {
         self.count.load(Ordering::SeqCst)
     }
 
     /// Waits until it was set so often; whether it was.
-    pub(crate) fn wait(&self, times: u64) -> bool {
+    pub fn wait(&self, times: u64) -> bool {
         for _ in 0..MOST_TURNS {
             if self.count() >= times {
                 return true;
@@ -38,5 +39,21 @@ impl Mark {
             thread::yield_now();
         }
         false
+    }
+
+    /// The same, where it has to be.
+    pub fn wait_for(&self, what: &'static str) -> Result<(), Missed> {
+        if self.wait(1) {
+            Ok(())
+        } else {
+            Err(Missed::that(what))
+        }
+    }
+}
+
+/// Lets other threads go on for so many turns.
+pub fn rest(turns: u32) {
+    for _ in 0..turns {
+        thread::yield_now();
     }
 }

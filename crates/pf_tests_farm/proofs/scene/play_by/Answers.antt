@@ -3,8 +3,8 @@ use Rattle.std.proofs.lemmas.List.{take_at}
 use Rattle.pf_farm.specs.Seats.{IsRing}
 use Rattle.pf_tests_farm.proofs.scene.play_by.Goals as goal
 
-pub close-requires-clause-ring : goal.close-requires-clause-ring
-close-requires-clause-ring g c =
+pub close-closing-requires-clause-ring : goal.close-closing-requires-clause-ring
+close-closing-requires-clause-ring g c =
     let s = c.all_play.new.seats in
     let was = c.in_ok-farm.seats in
     let ring : IsRing was.items = search rules in

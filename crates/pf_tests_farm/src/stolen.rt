@@ -1,0 +1,126 @@
+//! A run that one worker parks goes on at another.
+
+ghost use Rattle.pf_sched.specs.Slices.{Sliced};
+
+use crate::calls::{SPAWNING, SUM, fetch, order, submit};
+use crate::missed::Missed;
+use crate::scene::{Scene, play};
+use crate::waiting::Mark;
+use pf_farm::{ClientSeat, Floor, Gate};
+use pf_farm_names::FarmNames;
+use pf_sched::{Parked, Scratch, Slice, run_slice};
+use std::alloc::Global;
+use std::hash::RandomState;
+use std::sync::Wait;
+use std::test::Fail;
+
+/// The trial of project 1 is long, those of projects 2 and 3 are short. The first and the third are held in their first slices until the second is ordered. The second is
+/// held until the first was fetched, and the third until the second has begun: so the first was parked by one worker, and went on at the other.
+#[derive(Drop)]
+struct OneIsStolen {
+    first_slices: Mark,
+    third_begun: Mark,
+    second_ordered: Mark,
+    second_begun: Mark,
+    first_fetched: Mark,
+    out_of_order: Mark,
+}
+
+impl Gate for OneIsStolen {
+    fn slice<R: Wait>(
+        &self,
+        alloc: Global,
+        _rt: &R,
+        project: u32,
+        _ticket: u64,
+        parked: Parked,
+        scratch: &mut Scratch,
+        turns: u32,
+    ) -> Slice {
+        match project {
+            1 => {
+                if self.first_slices.set() == 0 {
+                    self.second_ordered.wait(1);
+                } else if self.second_begun.count() == 0 {
+                    self.out_of_order.set();
+                }
+            }
+            2 => {
+                self.second_begun.set();
+                self.first_fetched.wait(1);
+            }
+            _ => {
+                self.third_begun.set();
+                self.second_begun.wait(1);
+            }
+        }
+        run_slice(alloc, parked, scratch, turns)
+    }
+}
+
+impl OneIsStolen {
+    /// The long trial, which is fetched while the second is held.
+    fn first<N: FarmNames, R: Wait>(
+        &self,
+        alloc: Global,
+        rt: &R,
+        floor: &Floor<N>,
+        seat: &mut ClientSeat<N>,
+    ) -> Result<(), Missed> {
+        submit(alloc, rt, floor, seat, SPAWNING)?;
+        let ticket = order(alloc, rt, floor, seat, 1, 1, 2_000)?;
+        floor.wait_done(rt, seat, ticket);
+        fetch(alloc, rt, floor, seat, ticket)?;
+        self.first_fetched.set();
+        Ok(())
+    }
+}
+
+impl Scene for OneIsStolen {
+    fn client<N: FarmNames, R: Wait>(
+        &self,
+        alloc: Global,
+        rt: &R,
+        floor: &Floor<N>,
+        seat: &mut ClientSeat<N>,
+    ) -> Result<(), Missed> {
+        let project = seat.project();
+        if project == 1 {
+            return self.first(alloc, rt, floor, seat);
+        }
+        submit(alloc, rt, floor, seat, SUM)?;
+        if project == 2 {
+            self.third_begun.wait_for("the third trial doesn't begin")?;
+        } else {
+            self.first_slices.wait_for("the long trial doesn't begin")?;
+        }
+        let ticket = order(alloc, rt, floor, seat, 1, 1, 100)?;
+        if project == 2 {
+            self.second_ordered.set();
+        }
+        floor.wait_done(rt, seat, ticket);
+        fetch(alloc, rt, floor, seat, ticket)?;
+        Ok(())
+    }
+}
+
+#[test]
+fn gate_steal(rt: HostRuntime) -> Result<(), Fail> {
+    let scene = OneIsStolen {
+        first_slices: Mark::new(),
+        third_begun: Mark::new(),
+        second_ordered: Mark::new(),
+        second_begun: Mark::new(),
+        first_fetched: Mark::new(),
+        out_of_order: Mark::new(),
+    };
+    let keys = RandomState::new(&rt)?;
+    let closing = play(rt.alloc(), &rt, keys, 2, &[1, 2, 3], &scene)?;
+    assert_eq!(rt; closing.rows.len(), 3);
+    assert!(rt;
+        scene.first_slices.count() > 1,
+        "the long trial has several slices"
+    );
+    assert_eq!(rt; scene.out_of_order.count(), 0);
+    Ok(())
+}

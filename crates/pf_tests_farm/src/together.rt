@@ -1,0 +1,111 @@
+//! Two trials of two projects run at the same time: neither ends before both have begun, and the one that began first waits until the other was fetched.
+
+ghost use Rattle.pf_sched.specs.Slices.{Sliced};
+
+use crate::calls::{SUM, await_done, fetch, order, status, submit};
+use crate::missed::Missed;
+use crate::scene::{Scene, play};
+use crate::waiting::Mark;
+use pf_book::Stage;
+use pf_farm::{ClientSeat, Floor, Gate};
+use pf_farm_names::FarmNames;
+use pf_sched::{Parked, Scratch, Slice, run_slice};
+use std::alloc::Global;
+use std::hash::RandomState;
+use std::sync::Wait;
+use std::test::Fail;
+
+/// What is known of one project's trial.
+#[derive(Drop)]
+struct Side {
+    begun: Mark,
+    answered: Mark,
+    fetched: Mark,
+}
+
+impl Side {
+    fn new() -> Side {
+        Side {
+            begun: Mark::new(),
+            answered: Mark::new(),
+            fetched: Mark::new(),
+        }
+    }
+}
+
+#[derive(Drop)]
+struct TwoTrials {
+    begun: Mark,
+    first: Side,
+    second: Side,
+}
+
+impl TwoTrials {
+    /// The side of a project, and the other one.
+    fn sides(&self, project: u32) -> (&Side, &Side) {
+        if project == 1 {
+            (&self.first, &self.second)
+        } else {
+            (&self.second, &self.first)
+        }
+    }
+}
+
+impl Gate for TwoTrials {
+    fn slice<R: Wait>(
+        &self,
+        alloc: Global,
+        _rt: &R,
+        project: u32,
+        _ticket: u64,
+        parked: Parked,
+        scratch: &mut Scratch,
+        turns: u32,
+    ) -> Slice {
+        let (own, other) = self.sides(project);
+        let is_first = self.begun.set() == 0;
+        own.begun.set();
+        own.answered.wait(1);
+        if is_first {
+            other.fetched.wait(1);
+        }
+        run_slice(alloc, parked, scratch, turns)
+    }
+}
+
+impl Scene for TwoTrials {
+    /// Its trial is running when it is asked for first, and done some time.
+    fn client<N: FarmNames, R: Wait>(
+        &self,
+        alloc: Global,
+        rt: &R,
+        floor: &Floor<N>,
+        seat: &mut ClientSeat<N>,
+    ) -> Result<(), Missed> {
+        let side = self.sides(seat.project()).0;
+        submit(alloc, rt, floor, seat, SUM)?;
+        let ticket = order(alloc, rt, floor, seat, 1, 1, 100)?;
+        side.begun.wait_for("the trial doesn't begin")?;
+        if status(alloc, rt, floor, seat, ticket)? != Stage::Running {
+            return Err(Missed::that("the trial isn't running"));
+        }
+        side.answered.set();
+        await_done(alloc, rt, floor, seat, ticket)?;
+        fetch(alloc, rt, floor, seat, ticket)?;
+        side.fetched.set();
+        Ok(())
+    }
+}
+
+#[test]
+fn gate_two_trials(rt: HostRuntime) -> Result<(), Fail> {
+    let scene = TwoTrials {
+        begun: Mark::new(),
+        first: Side::new(),
+        second: Side::new(),
+    };
+    let keys = RandomState::new(&rt)?;
+    let closing = play(rt.alloc(), &rt, keys, 2, &[1, 2], &scene)?;
+    assert_eq!(rt; closing.rows.len(), 2);
+    Ok(())
+}
