@@ -6,7 +6,5 @@ there() {
   command -v erl > /dev/null && command -v erlc > /dev/null && ls /usr/lib/erlang/lib/stdlib-*/src/lists.erl /usr/lib/erlang/lib/syntax_tools-*/ebin > /dev/null 2>&1
 }
 there && exit 0
-if [ "$(id -u)" = 0 ] && command -v apt-get > /dev/null; then
-  timeout 300 sh -c 'apt-get update && apt-get install -y --no-install-recommends erlang-base erlang-syntax-tools erlang-src' > /dev/null 2>&1
-fi
+"$(dirname "$0")/../debian.sh" erlang-base erlang-syntax-tools erlang-src
 there
