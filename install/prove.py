@@ -8,6 +8,7 @@ the kit, where the gate finds it: so what the gate proved on this machine isn't 
 What it is at goes to standard error. Where a crate isn't proved the last 30 lines of its log do too, and the status is 1. Where it is stopped the status
 is 130.
 """
+import contextlib
 import glob
 import os
 import re
@@ -36,6 +37,10 @@ class Stopped(Exception):
 
 class Failed(Exception):
     """A crate isn't proved: the log of `rt`."""
+
+
+class NotKept(Exception):
+    """A run proved again what another had proved: `rt` keeps nothing, as where the disk is full."""
 
 
 class Progress:
@@ -125,6 +130,8 @@ class Run:
         done = PROVED.match(line)
         if done and done[1] in progress.left:
             progress.is_done(done[1], done[2] != "proved")
+        elif done and done[2] == "proved" and self.crate:
+            raise NotKept
         if NOT_PROVED.match(line):
             raise Failed(self.log)
 
@@ -231,7 +238,8 @@ def prove(tree, is_kept):
         progress.tell()
         try:
             if is_kept:
-                prove_side_by_side(f"{room}/tree", unkept(tree, crates), lanes, progress)
+                with contextlib.suppress(NotKept):
+                    prove_side_by_side(f"{room}/tree", unkept(tree, crates), lanes, progress)
             prove_rest(f"{room}/tree", progress)
         except Failed as failed:
             progress.end()

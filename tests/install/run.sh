@@ -116,6 +116,17 @@ side_by_side() {
   note "the longest chain has the wide lane ($lanes)" $?
 }
 
+# Where nothing is kept, as on a full disk, one run proves all, once the second run of a crate has told so.
+forgetful() {
+  lay
+  : > "$FAKE/forgets"
+  install_in 1
+  [ "$status" = 0 ] && [ "$(cat "$room/out")" = "$main_job" ] && [ "$(grep -c '^low ' "$FAKE/begun")" = 3 ] &&
+    [ "$(tail -n 5 "$FAKE/begun" | cut -d' ' -f1 | tr '\n' ' ')" = 'low left right high pulsefarm ' ]
+  note "where nothing is kept one run proves all (status $status)" $?
+  is_tidy "a run that keeps nothing"
+}
+
 # The group of a run gets the signal $1, as by Ctrl-C, while its third crate is proved.
 stopped() {
   lay
@@ -283,6 +294,7 @@ if [ "$at_gate" = 1 ]; then
 fi
 whole
 side_by_side
+forgetful
 stopped INT
 stopped TERM
 told_to_stop
