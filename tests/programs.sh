@@ -22,7 +22,7 @@ lines() {
 }
 
 seen=
-# What each says and its status stand in the room, the seconds that it took too.
+# What each says stands in the room, and its status with the seconds that it took.
 # (the words of `sh -c` are its own)
 # shellcheck disable=SC2016
 lines | xargs -P "$(nproc)" -L 1 sh -c 'room=$0
@@ -36,6 +36,7 @@ failed=0
 for script in tests/*/run.sh; do
   name=$(basename "$(dirname "$script")")
   status=
+  seconds=
   [ ! -e "$room/$name.status" ] || read -r status seconds < "$room/$name.status"
   echo "== $script, ${seconds:-no} seconds"
   [ ! -e "$room/$name" ] || cat "$room/$name"
