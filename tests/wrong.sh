@@ -19,9 +19,9 @@
 # contracts of what is called. One that changes anything but the body of a function has all that its crate reaches.
 #
 # Where the own sum of a crate changed, all its edits are due; but a gate takes no more than MOST_CHANGED edits of changed crates, 85 a
-# processor: crates go whole, new ones first and then those that were seen the longest ago, and the others wait. Where only the sum below did, those
-# edits are due whose own sums changed, the ones first that were seen the longest ago, until MOST_EDITS (70) are due with those of
-# changed crates. Where no more than that are due, all edits of the TURNS (2) crates that were seen the longest ago.
+# processor: crates go whole, new ones first and then those that were seen the longest ago, and the others wait. Where only the sum
+# below did, those edits are due whose own sums changed, the ones first that were seen the longest ago, until MOST_EDITS (70) are due
+# with those of changed crates. Where there is room among these, all edits of the TURNS (2) crates that were seen the longest ago are due in turn.
 #
 # What was seen refused is noted in tests/wrong.seen, a line a crate: its name, its own sum, its sum below, the second at which it was
 # seen, and how many wrong bodies it has; and in tests/wrong.edits, a line an edit: its crate and name, its sum, and the second at which

@@ -7,9 +7,10 @@
     due.py TOP note PLAN LOG..    notes by such a plan what the logs of `rt` say
 
 KIT is the kit's name, TURNS (2) how many crates are due in turn, and MOST_EDITS (70) how many edits are due at once of crates that are
-as they were and stand on names that changed below them. All edits of crates that changed themselves count among these; where more
-are due than that, none waits its turn. MOST_CHANGED (85 a processor) is how many edits of changed crates are due at once: crates go
-whole, new ones first and then those that were seen the longest ago, and those that would pass it wait for a later gate."""
+as they were. All edits of crates that changed themselves count among these; then come those that stand on names that changed below
+them; and then crates in turn, each whole, until one has no room: the first has where nothing else is due. MOST_CHANGED (85 a
+processor) is how many edits of changed crates are due at once: crates go whole, new ones first and then those that were seen the
+longest ago, and those that would pass it wait for a later gate."""
 import os
 import re
 import sys
@@ -77,8 +78,11 @@ def plan(tree, noted):
         it.why = "waits"
     rest = [crate for crate, lines in by_crate.items() if all(it.why == "seen" for it in lines)]
     rest.sort(key=lambda it: (noted.crates[it][2], it))
-    turns = int(os.environ.get("TURNS", "2")) if own + len(below) <= most else 0
-    for crate in rest[:turns]:
+    count = own + len(below)
+    for crate in rest[: int(os.environ.get("TURNS", "2"))]:
+        count += len(by_crate[crate])
+        if most < count and count != len(by_crate[crate]):
+            break
         for it in by_crate[crate]:
             it.why = "turn"
     # A crate whose sum below changed while no edit's did gets its line anew.

@@ -266,6 +266,12 @@ same "an edit of a contract" "$(due | grep mid)" "mid 2 of 5, $below a_contract 
 start_anew
 sed -i 's/^\(top .* \)[0-9]* 2$/\15 2/; s/^\(low .* \)[0-9]* 1$/\16 1/' tests/wrong.seen
 same "in turn" "$(TURNS=1 tests/wrong.sh due | sed '$d')" "top 2 of 2, in turn"
+same "two in turn" "$(TURNS=2 MOST_EDITS=3 tests/wrong.sh due | sed '$d')" "$(printf 'low 1 of 1, in turn\ntop 2 of 2, in turn')"
+same "no room for the second in turn" "$(TURNS=2 MOST_EDITS=2 tests/wrong.sh due | sed '$d')" "top 2 of 2, in turn"
+same "the first in turn has room" "$(TURNS=2 MOST_EDITS=1 tests/wrong.sh due | sed '$d')" "top 2 of 2, in turn"
+sed -i 's/^lonely = 7/lonely = 8/' "$numbers"
+same "room beside others" "$(TURNS=2 MOST_EDITS=3 tests/wrong.sh due | sed '$d')" "$(printf 'low 1 of 1, changed\ntop 2 of 2, in turn')"
+same "no room beside others" "$(TURNS=2 MOST_EDITS=2 tests/wrong.sh due | sed '$d')" "low 1 of 1, changed"
 
 # Those that wait: the oldest first, and a crate keeps its line until all were tried.
 start_anew
