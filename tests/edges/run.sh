@@ -152,59 +152,13 @@ files_that_are_not_read() {
   ended 'standard input that is a folder' 2 '' "pulsefarm: the input can't be read: Is a directory (os error 21)\n"
 }
 
-usage='\n\nUsage: pulsefarm run [OPTIONS] --root <F> --limit <N> <--seed <N>|--schedule <L>> [FILE]\n'
 more="\nFor more information, try '--help'.\n"
 
-number='a number of steps from 1 to 100000, without leading zeros'
-numbers='`none`, or numbers from 0 to 4294967295 with commas between them'
-runs='a number of runs from 1 to 1000, without leading zeros'
-seed='a number from 0 to 18446744073709551615, without leading zeros'
-weights='two numbers R:D from 1 to 9, R of a process and D of a channel'
-
+# How words are refused stands in `tests/words`; here is a refusal without a usage, and what is no text.
 words() {
   : > in
-  run run --root main --limit 007 --schedule none
-  ended 'leading zeros of a limit' 2 '' "pulsefarm: invalid value '007' for '--limit <N>': it wants $number$usage$more"
-  run run --root main --limit 5 --schedule 1,,2
-  ended 'empty number of a schedule' 2 '' "pulsefarm: invalid value '1,,2' for '--schedule <L>': it wants $numbers$usage$more"
-  run run --root main --limit -1 --schedule none
-  ended 'negative limit' 2 '' "pulsefarm: -1 is out of range: no number here is below 0$usage$more"
-  run run --root main --limit=-1 --schedule none
-  ended 'negative limit in one word' 2 '' "pulsefarm: invalid value '-1' for '--limit <N>': it wants $number$usage$more"
-  run run --root main --limit 5
-  ended 'neither a seed nor a schedule' 2 '' "pulsefarm: one of '--seed <N>' and '--schedule <L>' is wanted$usage$more"
-  run run --root main --limit 5 --seed 7 --schedule none
-  ended 'a seed and a schedule' 2 '' "pulsefarm: the argument '--seed <N>' cannot be used with '--schedule <L>'$usage$more"
-  run run --root main --limit 5 --seed 007
-  ended 'leading zeros of a seed' 2 '' "pulsefarm: invalid value '007' for '--seed <N>': it wants $seed$usage$more"
-  run run --root main --limit 5 --seed 18446744073709551616
-  ended 'seed past 64 bits' 2 '' "pulsefarm: invalid value '18446744073709551616' for '--seed <N>': it wants $seed$usage$more"
-  run run --root main --limit 5 --seed 7 --weights 0:1
-  ended 'weight of 0' 2 '' "pulsefarm: invalid value '0:1' for '--weights <R:D>': it wants $weights$usage$more"
-  run run --root main --limit 5 --schedule none --weights 3:1
-  ended 'weights of a schedule' 2 '' "pulsefarm: the argument '--weights <R:D>' cannot be used with '--schedule <L>'$usage$more"
-  run run --root main --limit 5 --seed 7 --edition 3
-  ended 'edition past 2' 2 '' "pulsefarm: invalid value '3' for '--edition <E>': it wants 1 or 2$usage$more"
-  run run --root main --limit 5 --seed 7 --property true --property true
-  ended 'two properties' 2 '' "pulsefarm: the argument '--property <P>' cannot be used multiple times$usage$more"
   run run --root main --limit 5 --seed 7 --property
   ended 'property without a value' 2 '' "pulsefarm: a value is required for '--property <P>' but none was supplied\n$more"
-  shrink='\n\nUsage: pulsefarm shrink [OPTIONS] --root <F> --limit <N> --schedule <L> --property <P> --runs <N> [FILE]\n'
-  # Where words are missing, or one isn't known, the usage names those that are wanted alone.
-  wanted='\n\nUsage: pulsefarm shrink --root <F> --limit <N> --schedule <L> --property <P> --runs <N> [FILE]\n'
-  shrunk='shrink --root main --limit 5 --property true'
-  # The words in `$shrunk` have no blanks in them.
-  # shellcheck disable=SC2086
-  {
-    run $shrunk --schedule none --runs 4294967296
-    ended 'runs past 32 bits' 2 '' "pulsefarm: invalid value '4294967296' for '--runs <N>': it wants $runs$shrink$more"
-    run $shrunk --schedule 1,,2 --runs 5
-    ended 'empty number of a schedule to shrink' 2 '' "pulsefarm: invalid value '1,,2' for '--schedule <L>': it wants $numbers$shrink$more"
-    run $shrunk --runs 5
-    ended 'no schedule to shrink' 2 '' "pulsefarm: the following required arguments were not provided:\n  --schedule <L>$wanted$more"
-    run $shrunk --schedule none --runs 5 --seed 7
-    ended 'a seed to shrink' 2 '' "pulsefarm: unexpected argument '--seed' found\n\n  tip: a similar argument exists: '--schedule'$wanted$more"
-  }
   run steps "$(printf -- '--\033[1m\377')"
   check 'odd bytes in a word' test "$status" = 2
   check 'odd bytes in a word' grep -qF -e '--\x1b[1m\xff' err
