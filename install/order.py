@@ -99,14 +99,21 @@ def lanes():
     return lanes_of(len(os.sched_getaffinity(0)), free)
 
 
-def reckoned(left, below, seconds, lanes_there):
-    """Returns how long the crates that are left take in these lanes by the table, in seconds."""
-    order, running, now = Order(left, below, seconds), {}, 0
+def seconds_by(jobs, seconds):
+    """Returns how long a proof of so many seconds by one job takes by these."""
+    return seconds * (BY_MORE_JOBS if jobs > 1 else 1)
+
+
+def reckoned(left, below, seconds, lanes_there, begun):
+    """Returns how long the crates that are left take in these lanes by the table, in seconds. By lane `begun` has the seconds that a crate there still takes, and it."""
+    order, running, now = Order(left, below, seconds), dict(begun), 0
+    for _, crate in begun.values():
+        order.waiting.remove(crate)
     while order.left:
         for lane in [it for it in range(len(lanes_there)) if it not in running]:
             crate = order.next()
             if crate:
-                running[lane] = now + seconds[crate] * (BY_MORE_JOBS if lanes_there[lane] > 1 else 1), crate
+                running[lane] = now + seconds_by(lanes_there[lane], seconds[crate]), crate
         first = min(running, key=running.get)
         now, crate = running.pop(first)
         order.is_done(crate)

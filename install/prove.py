@@ -49,27 +49,41 @@ class Progress:
     def __init__(self, crates, lanes):
         self.below, self.seconds, self.left = order.below_of(crates), order.seconds_of(crates), set(crates)
         self.lanes, self.is_terminal, self.last = lanes, sys.stderr.isatty(), ""
-        # the seconds until the last crate was proved, and what the table has for them
-        self.start, self.took, self.of_table = time.monotonic(), 0, 0
+        self.start = time.monotonic()
+        # by lane: the crate that is proved there, and since when
+        self.running = {}
+        # the seconds that the proofs took which were timed, and what the table has for them
+        self.took, self.of_table = 0, 0
 
-    def is_done(self, crate, is_kept):
-        before = self.rest()
+    def begins(self, lane, crate):
+        self.running[lane] = crate, time.monotonic()
+
+    def is_done(self, lane, crate, is_kept):
+        if lane in self.running:
+            running, began = self.running.pop(lane)
+            if not is_kept:
+                self.took += time.monotonic() - began
+                self.of_table += self.seconds_in(lane, crate)
+            if running != crate:
+                self.begins(lane, running)
         self.left.discard(crate)
-        if not is_kept:
-            self.took, self.of_table = self.seconds_so_far(), self.of_table + before - self.rest()
         self.last = f"{crate} {'is kept' if is_kept else 'proved'}; "
         self.tell()
+
+    def seconds_in(self, lane, crate):
+        return order.seconds_by(self.lanes[lane], self.seconds[crate])
 
     def seconds_so_far(self):
         return time.monotonic() - self.start
 
-    def rest(self):
-        return order.reckoned(self.left, self.below, self.seconds, self.lanes)
-
     def minutes_left(self):
-        """Returns the minutes that are left, by the table and by the pace so far."""
-        pace = self.took / self.of_table if min(self.took, self.of_table) > 60 else 1
-        return max(self.rest() * pace - (self.seconds_so_far() - self.took), 0) / 60
+        """Returns the minutes that are left, by the table, by the pace so far, and by how long what is proved now has taken."""
+        pace = self.took / self.of_table if self.took > 60 else 1
+        now = time.monotonic()
+        running = {
+            lane: (max(self.seconds_in(lane, crate) - (now - began) / pace, 0), crate) for lane, (crate, began) in self.running.items()
+        }
+        return order.reckoned(self.left, self.below, self.seconds, self.lanes, running) * pace / 60
 
     def tell(self):
         of = len(self.below)
@@ -129,7 +143,7 @@ class Run:
         self.log.append(line)
         done = PROVED.match(line)
         if done and done[1] in progress.left:
-            progress.is_done(done[1], done[2] != "proved")
+            progress.is_done(self.lane, done[1], done[2] != "proved")
         elif done and done[2] == "proved" and self.crate:
             raise NotKept
         if NOT_PROVED.match(line):
@@ -155,6 +169,8 @@ class Runs:
 
     def begin(self, lane, crate=None, jobs=None):
         run = Run(self.room, lane, crate, jobs)
+        if crate:
+            self.progress.begins(lane, crate)
         self.selector.register(run.process.stdout, selectors.EVENT_READ, run)
 
     def lanes(self):
@@ -187,6 +203,10 @@ def prove_side_by_side(room, crates, lanes, progress):
 def prove_rest(room, progress):
     """Has all that isn't kept proved by one run, which leaves the program in the copy."""
     with Runs(room, progress) as runs:
+        # (of a run over several crates it isn't known which it is at)
+        progress.running = {}
+        if progress.left == {PROGRAM}:
+            progress.begins(0, PROGRAM)
         runs.begin(0)
         while runs.lanes():
             list(runs.ended())

@@ -1,11 +1,14 @@
 #!/usr/bin/env python3
 """The order of install/: that no crate begins before those that it needs, never more at once than there are lanes, first those with the longest chain of others behind
-them; how many lanes there are; and what is reckoned. It prints what isn't so."""
+them; how many lanes there are; what is reckoned; and what is told at a pace that isn't the table's. It prints what isn't so."""
+import contextlib
+import io
 import os
 import sys
 
 sys.path.insert(0, f"{os.path.dirname(os.path.realpath(__file__))}/../../install")
 import order
+import prove
 
 # By crate: those that it needs, and its seconds. The longest chain is c, e, g, h; of what then is left, that of b is longer than that of a.
 CRATES = {"a": ("", 1), "b": ("", 2), "c": ("", 3), "d": ("a", 1), "e": ("c", 9), "f": ("b", 1), "g": ("e", 9), "h": ("dfg", 9)}
@@ -24,6 +27,25 @@ def begun(count):
     return found
 
 
+def faults_of_pace():
+    """Yields what is told amiss of two crates of 100 seconds by the table, one after the other."""
+    now = 0
+    prove.time.monotonic = lambda: now
+    # (at half of the table's pace the second takes 200 seconds; one that was kept says nothing of the pace)
+    for is_kept, lasts in ((False, 200), (True, 100)):
+        now = 0
+        progress = prove.Progress({"low": "low:", "high": "high: low"}, [1])
+        progress.begins(0, "low")
+        now = 200
+        with contextlib.redirect_stderr(io.StringIO()):
+            progress.is_done(0, "low", is_kept)
+        for begun, wanted in ((None, lasts), (0, lasts), (50, lasts - 50), (300, 0)):
+            if begun is not None:
+                progress.running, now = {0: ("high", 200)}, 200 + begun
+            if abs(progress.minutes_left() * 60 - wanted) > 0.01:
+                yield f"{begun} seconds after the second began {progress.minutes_left() * 60} are said to be left, and not {wanted}"
+
+
 def faults():
     """Yields what isn't as it is to be."""
     for count, wanted in ((1, "cegbadfh"), (2, "cbeagdfh"), (3, "cbaefdgh")):
@@ -39,13 +61,17 @@ def faults():
     below = order.below_of({name: f"{name}: {' '.join(needed)}" for name, (needed, _) in CRATES.items()})
     # (the chain c, e, g, h has 30 seconds, all crates have 35; in the first of two lanes with more jobs each takes 0.67 of its seconds)
     for lanes, wanted in (([1], 35), ([1, 1], 30), ([2, 1], 30 * 0.67)):
-        told = order.reckoned(set(CRATES), below, SECONDS, lanes)
+        told = order.reckoned(set(CRATES), below, SECONDS, lanes, {})
         if abs(told - wanted) > 0.01:
             yield f"in the lanes {lanes} all is said to take {told} seconds"
+    # (a and c are done, e takes 4 seconds more in the first lane, and b 1 more in the second: e, g and h are the longest)
+    told = order.reckoned(set("bdefgh"), below, SECONDS, [1, 1], {0: (4, "e"), 1: (1, "b")})
+    if told != 4 + 9 + 9:
+        yield f"what is left beside two crates that began is said to take {told} seconds"
 
 
 def main():
-    found = list(faults())
+    found = [*faults(), *faults_of_pace()]
     print("\n".join(found))
     return 1 if found else 0
 
