@@ -26,7 +26,8 @@
 # What was seen refused is noted in tests/wrong.seen, a line a crate: its name, its own sum, its sum below, the second at which it was
 # seen, and how many wrong bodies it has; and in tests/wrong.edits, a line an edit: its crate and name, its sum, and the second at which
 # it was seen. A crate keeps its line until all of its edits are seen with the sums that they have now. One with an edit that can't be
-# read, or isn't refused, loses its line, and the run fails.
+# read, or isn't refused, loses its line, and the run fails. A refusal at no goal of a source, for a name that a proof file has, say, shows
+# nothing of a contract: a new wrong body that is refused so fails the run, and an old one isn't noted and stays due until it is changed.
 #
 # LANES (the processors) is how many crates are tried at once.
 set -uo pipefail

@@ -124,27 +124,33 @@ def read_plan(path):
     return by_crate
 
 
+def is_form_alone(said):
+    """Returns whether an edit was refused only since a proof file names what it took away, or by a limit of the prover: no goal of a source failed."""
+    return ": refused, as it must be (only" in said
+
+
 def note_crate(noted, crate, lines, log):
-    """Notes of a crate what the log says of the edits that were tried, and returns whether all were refused."""
+    """Notes of a crate what the log says of the edits that were tried, and returns whether all were refused, and each new one at a goal."""
     if lines[0].why == "later":
         return True
     tried = [it for it in lines if it.why not in LEFT]
     said = {it[1]: it[0] for it in re.finditer(rf"^(?:rt: )?must-fail ({crate}/[^ :]+): .*$", log, re.M)}
     refused = [it for it in tried if ": refused, as it must be" in said.get(it.key(), "")]
-    # Such a refusal shows little of a contract: the edit is to be mended.
-    for it in refused:
-        if ": refused, as it must be (only" in said[it.key()]:
-            print(said[it.key()][:200])
-    if len(refused) < len(tried):
+    # Such a refusal shows nothing of a contract. The edit isn't noted, so it stays due until it is changed.
+    by_form = [it for it in refused if is_form_alone(said[it.key()])]
+    for it in by_form:
+        print(f"no goal of a source failed: {said[it.key()][:200]}")
+    is_new = any(it.key() not in noted.edits for it in by_form)
+    if len(refused) < len(tried) or is_new:
         noted.drop(crate)
-        print(f"{crate}: FAILED: {len(refused)} of {len(tried)} wrong bodies refused")
+        print(f"{crate}: FAILED: {len(refused) - len(by_form)} of {len(tried)} wrong bodies refused at a goal")
         for it in tried:
             if it not in refused:
                 print(said.get(it.key(), f"must-fail {it.key()}: not tried"))
         return False
-    settle(noted, crate, lines, tried)
+    settle(noted, crate, lines, [it for it in tried if it not in by_form])
     if tried:
-        print(f"{crate}: {len(tried)} wrong bodies refused")
+        print(f"{crate}: {len(tried)} wrong bodies refused" + (f", {len(by_form)} of them by form alone" if by_form else ""))
     return True
 
 

@@ -1,6 +1,6 @@
 #!/usr/bin/env bash
 # Tests tests/wrong.sh over three small crates, of which nothing is proved: an `rt` that stands in for the prover refuses each wrong
-# body but those that `$stand_in/passing` names.
+# body but those that `$stand_in/passing` names, and those that `$stand_in/by_form` names only by the form of a proof.
 set -u
 export LC_ALL=C
 here=$(cd "$(dirname "$0")" && pwd)
@@ -20,7 +20,9 @@ version) cat "$stand_in/kit" ;;
 must-fail)
   for edit in crates/"$2"/must-fail/*.edit; do
     name=$2/$(basename "$edit")
-    if grep -qx "$name" "$stand_in/passing"; then says="NOT REFUSED: it is still proved"; else says="refused, as it must be: src/lib.rt:1:1: error"; fi
+    says="refused, as it must be: src/lib.rt:1:1: error"
+    if grep -qx "$name" "$stand_in/passing"; then says="NOT REFUSED: it is still proved"; fi
+    if grep -qx "$name" "$stand_in/by_form"; then says="refused, as it must be (only because a proof file names what the edit took away)"; fi
     echo "rt: must-fail $name: $says"
   done
   ;;
@@ -181,6 +183,7 @@ start_anew() {
   printf '# The crates.\nlow:\nmid: low\ntop tests_may=Threads: mid\n' > crates.txt
   echo "a kit" > "$room/kit"
   : > "$room/passing"
+  : > "$room/by_form"
   cp "$room/seen" "$room/edits" tests/ 2> /dev/null && mv tests/seen tests/wrong.seen && mv tests/edits tests/wrong.edits
 }
 
@@ -333,6 +336,20 @@ tests/wrong.sh > "$room/out" && status=0 || status=$?
 same "one is not refused" "$status $(tail -n 1 "$room/out")" "1 1 crates passed, 1 failed"
 same "it is told" "$(grep -c 'mid/two_is_one.edit: NOT REFUSED' "$room/out")" 1
 same "its crate loses its line" "$(due)" "mid 4 of 4, new"
+
+# A new wrong body has to fail at a goal of a source; an old one that doesn't stays due until it is changed.
+start_anew
+sed -i 's/requires { 0 < n }/requires { 1 < n }/' "$low"
+echo mid/two_is_one.edit > "$room/by_form"
+tests/wrong.sh > "$room/out" && status=0 || status=$?
+same "an old one is refused by form alone" "$status $(tail -n 1 "$room/out")" "0 2 crates passed, 0 failed"
+same "it is reported" "$(grep -c 'no goal of a source failed: .*mid/two_is_one.edit' "$room/out")" 1
+same "it stays due" "$(due)" "mid 1 of 4, $below two_is_one"
+start_anew
+printf 'file: src/lib.rt\nold: fn same(n: u32)\nnew: fn same(m: u32)\n' > crates/mid/wrong/a_contract.edit
+echo mid/a_contract.edit > "$room/by_form"
+tests/wrong.sh mid > "$room/out" && status=0 || status=$?
+same "a new one is refused by form alone" "$status $(tail -n 1 "$room/out")" "1 0 crates passed, 1 failed"
 
 # Each edit must apply.
 start_anew
