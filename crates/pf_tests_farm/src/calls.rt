@@ -123,7 +123,7 @@ pub(crate) fn await_done<N: FarmNames, R: Wait>(
         if status(alloc, rt, floor, seat, ticket)? == Stage::Done {
             return Ok(());
         }
-        rest(1_000);
+        rest(20_000);
     }
     Err(Missed::that("a trial isn't done"))
 }

@@ -6,9 +6,11 @@ use crate::calls::{ENDLESS, SENDERS, fetch, give_up, order, submit};
 use crate::missed::Missed;
 use crate::scene::{Scene, play};
 use crate::waiting::Mark;
+use pf_book::{Refusal, Reply};
 use pf_farm::{ClientSeat, Closing, Floor, Gate};
 use pf_farm_names::FarmNames;
 use pf_ledger::End;
+use pf_quota::Refusal as Limit;
 use pf_request::Call;
 use pf_sched::{Parked, Scratch, Slice, run_slice};
 use std::alloc::Global;
@@ -66,6 +68,8 @@ struct Plays {
     play: Play,
     slices: Mark,
     dropped: Mark,
+    /// Calls that were refused since the log is full.
+    refused: Mark,
 }
 
 impl Plays {
@@ -74,7 +78,25 @@ impl Plays {
             play,
             slices: Mark::new(),
             dropped: Mark::new(),
+            refused: Mark::new(),
         }
+    }
+
+    /// Calls so often that two clients of one project fill its log.
+    fn calls<N: FarmNames, R: Wait>(
+        &self,
+        alloc: Global,
+        rt: &R,
+        floor: &Floor<N>,
+        seat: &mut ClientSeat<N>,
+    ) -> Result<(), Missed> {
+        for _ in 0..6_000u32 {
+            let reply = floor.call(alloc, rt, seat, Call::Log)?;
+            if let Reply::Refused(Refusal::PastLimit(Limit::Calls)) = reply {
+                self.refused.set();
+            }
+        }
+        Ok(())
     }
 
     fn trials<N: FarmNames, R: Wait>(
@@ -145,12 +167,7 @@ impl Scene for Plays {
                     Err(Missed::that("the trials don't begin"))
                 }
             }
-            Play::Full => {
-                for _ in 0..6_000u32 {
-                    floor.call(alloc, rt, seat, Call::Log)?;
-                }
-                Ok(())
-            }
+            Play::Full => self.calls(alloc, rt, floor, seat),
         }
     }
 }
@@ -186,6 +203,8 @@ fn two_seats_may_have_one_project(rt: HostRuntime) -> Result<(), Fail> {
         closing.seats.iter().any(|seat| seat.is_full),
         "one seat met the full log"
     );
+    // Of the 12,000 calls the log had room for 10,000.
+    assert_eq!(rt; scene.refused.count(), 2_000);
     Ok(())
 }
 

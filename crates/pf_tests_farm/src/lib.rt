@@ -9,6 +9,8 @@ pub mod missed;
 #[cfg(test)]
 mod scene;
 #[cfg(test)]
+mod seats;
+#[cfg(test)]
 mod stolen;
 #[cfg(test)]
 mod together;

@@ -32,7 +32,7 @@ pub(crate) trait Scene: Gate + Sync {
 }
 
 /// A seat for a client of each of these projects.
-fn seated<N: FarmNames>(
+pub(crate) fn seated<N: FarmNames>(
     alloc: Global,
     farm: &mut Farm<N>,
     projects: &[u32],
@@ -167,6 +167,19 @@ fn play_by<N: FarmNames + Send + Sync, R: Threads + Wait + Sync, S: Scene>(
     Ok(closing)
 }
 
+/// Unused ledgers and registers for a farm of at most 64 workers and 4,096 seats.
+pub(crate) fn blanks(alloc: Global) -> Result<Blanks, Fail>
+    ensures { IfOk result (λ b. (b.opened.parts ≡ 65) × (b.ended.parts ≡ 65) × (b.calls.parts ≡ 4_097)) }
+{
+    Ok(Blanks {
+        opened: Blank::new(65),
+        ended: Blank::new(65),
+        calls: Blank::new(4_097),
+        claims: NewRegister::new(alloc)?,
+        receipts: NewRegister::new(alloc)?,
+    })
+}
+
 /// Plays a scene.
 pub(crate) fn play<R: Threads + Wait + Sync, S: Scene>(
     alloc: Global,
@@ -179,13 +192,7 @@ pub(crate) fn play<R: Threads + Wait + Sync, S: Scene>(
     requires workers { (0 < workers) × (workers < 65) }
     requires few { (0 < length projects.now) × (length projects.now ≤ MOST_SEATS) }
 {
-    let blanks = Blanks {
-        opened: Blank::new(65),
-        ended: Blank::new(65),
-        calls: Blank::new(4_097),
-        claims: NewRegister::new(alloc)?,
-        receipts: NewRegister::new(alloc)?,
-    };
+    let blanks = blanks(alloc)?;
     match play_by::<Brand, R, S>(alloc, rt, keys, blanks, workers, projects, scene) {
         Ok(closing) => Ok(closing),
         Err(missed) => Err(Fail::from(missed.what)),

@@ -2,11 +2,15 @@
 
 use pf_book::{Book, Reply};
 use pf_request::{Kind, Order, Request, RunChoices, ShortBytes, Source};
+use pf_sched::{Finished, Job, Scratch, Silent, run_to_end};
 use std::alloc::Global;
 use std::hash::RandomState;
+use std::sync::Arc;
 use std::test::Fail;
 
 const SUM: &[u8] = b"-module(m).\n-export([main/0]).\nmain() -> 1 + 2 * 3.\n";
+
+const DIFFERENCE: &[u8] = b"-module(m).\n-export([main/0]).\nmain() -> 1 - 2.\n";
 
 /// Whether a reply is of the kind that this word names.
 fn is(reply: Reply, kind: &str) -> bool {
@@ -24,19 +28,19 @@ fn is(reply: Reply, kind: &str) -> bool {
     word == kind
 }
 
-fn submitted(alloc: Global, book: &mut Book) -> Result<Reply, Fail> {
-    let source = Source::new(alloc, Vec::from_slice(alloc, SUM)?)?;
-    Ok(book.submit(alloc, 3, source)?)
+fn submitted(alloc: Global, book: &mut Book, project: u32, source: &[u8]) -> Result<Reply, Fail> {
+    let source = Source::new(alloc, Vec::from_slice(alloc, source)?)?;
+    Ok(book.submit(alloc, project, source)?)
 }
 
-fn ordered(alloc: Global, book: &mut Book) -> Result<Reply, Fail> {
+fn ordered(alloc: Global, book: &mut Book, project: u32) -> Result<Reply, Fail> {
     let request = Request {
         root: ShortBytes::from_slice(alloc, b"main")?,
         property: ShortBytes::from_slice(alloc, b"returns")?,
         kind: Kind::Run(RunChoices::Seed(0)),
         limit: 100,
     };
-    Ok(book.order(alloc, 3, Order { module: 1, request })?)
+    Ok(book.order(alloc, project, Order { module: 1, request })?)
 }
 
 /// Whether the one trial is claimed, and claimed by its ticket once it was handed back.
@@ -48,8 +52,8 @@ fn is_claimed(book: &mut Book) -> Result<bool, Fail> {
 /// Whether a client is told what it has to be of its submission, its order and the status of its trial.
 fn begins(alloc: Global, book: &mut Book) -> Result<bool, Fail> {
     Ok(
-        is(submitted(alloc, book)?, "module")
-            & is(ordered(alloc, book)?, "ticket")
+        is(submitted(alloc, book, 3, SUM)?, "module")
+            & is(ordered(alloc, book, 3)?, "ticket")
             & is(book.status(alloc, 3, 1)?, "stage"),
     )
 }
@@ -76,5 +80,38 @@ fn each_call_is_answered(rt: HostRuntime) -> Result<(), Fail> {
     let mut book = Book::new(rt.alloc(), RandomState::new(&rt)?);
     let told = is_told(rt.alloc(), &mut book)?;
     assert!(rt; told);
+    Ok(())
+}
+
+/// The job of a project's first trial, a run of this source's `main`, once it is claimed.
+fn claimed(alloc: Global, book: &mut Book, project: u32, source: &[u8]) -> Result<Arc<Job>, Fail> {
+    submitted(alloc, book, project, source)?;
+    ordered(alloc, book, project)?;
+    match book.claim_at(project, 1)? {
+        Some(job) => Ok(job),
+        None => Err(Fail::from("the trial isn't queued")),
+    }
+}
+
+fn run(alloc: Global, job: &Arc<Job>) -> Result<Finished, Fail> {
+    let mut scratch = Scratch::new(alloc);
+    Ok(run_to_end(alloc, Arc::try_clone(job)?, &mut scratch, &mut Silent)?)
+}
+
+/// Whether the result of project 3's trial is filed under the equal ticket of project 4, then under its own, and then once more.
+fn filings(alloc: Global, book: &mut Book) -> Result<[bool; 3], Fail> {
+    let job = claimed(alloc, book, 3, SUM)?;
+    claimed(alloc, book, 4, DIFFERENCE)?;
+    let elsewhere = book.file(4, 1, run(alloc, &job)?);
+    let own = book.file(3, 1, run(alloc, &job)?);
+    let again = book.file(3, 1, run(alloc, &job)?);
+    Ok([elsewhere, own, again])
+}
+
+#[test]
+fn a_result_is_filed_once_and_under_its_own_trial(rt: HostRuntime) -> Result<(), Fail> {
+    let mut book = Book::new(rt.alloc(), RandomState::new(&rt)?);
+    let filed = filings(rt.alloc(), &mut book)?;
+    assert_eq!(rt; filed, [false, true, false]);
     Ok(())
 }

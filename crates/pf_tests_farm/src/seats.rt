@@ -1,0 +1,48 @@
+//! How many seats a farm gives.
+
+ghost use Rattle.std.specs.Prelude.{◌≡◌, ◌<◌, Some};
+
+use crate::missed::Missed;
+use crate::scene::{blanks, seated};
+use pf_farm::{Blanks, Farm, MOST_SEATS, NoSeat};
+use pf_farm_names::FarmNames;
+use pf_fault::OrNoMemory;
+use std::alloc::Global;
+use std::hash::RandomState;
+use std::marker::Brand;
+use std::test::Fail;
+
+/// Whether a farm that gave 4,096 seats refuses one more, for want of a seat and not of memory.
+fn refuses_one_more<N: FarmNames>(
+    alloc: Global,
+    keys: RandomState,
+    blanks: Blanks,
+) -> Result<bool, Missed>
+    requires opened { (blanks.opened.name ≡ N.opened) × (blanks.opened.parts ≡ N.workers) }
+    requires ended { (blanks.ended.name ≡ N.ended) × (blanks.ended.parts ≡ N.workers) }
+    requires calls { (blanks.calls.name ≡ N.calls) × (blanks.calls.parts ≡ N.seats) }
+    requires claims { N.claims ≡ Some blanks.claims }
+    requires receipts { N.receipts ≡ Some blanks.receipts }
+    requires workers { 1 < N.workers }
+    requires seats { MOST_SEATS < N.seats }
+{
+    let (mut farm, _works) = Farm::<N>::open(alloc, keys, blanks, 1)?;
+    let _seats = seated(alloc, &mut farm, &[7; 4_096])?;
+    match farm.seat(alloc, 7) {
+        Err(OrNoMemory::Fault(NoSeat)) => Ok(true),
+        Err(OrNoMemory::NoMemory) => Err(Missed::that("memory ran out")),
+        Ok(_) => Ok(false),
+    }
+}
+
+#[test]
+fn the_seat_after_the_last_is_refused(rt: HostRuntime) -> Result<(), Fail> {
+    let alloc = rt.alloc();
+    let keys = RandomState::new(&rt)?;
+    let blanks = blanks(alloc)?;
+    match refuses_one_more::<Brand>(alloc, keys, blanks) {
+        Ok(refused) => assert!(rt; refused),
+        Err(missed) => return Err(Fail::from(missed.what)),
+    }
+    Ok(())
+}
