@@ -18,12 +18,9 @@ use Rattle.pf_nodes.specs.Mail.{Mail}
 use Rattle.pf_stepper.specs.MicroSteps.{Picked}
 use Rattle.pf_stepper.specs.Selected.{TakesMessage, TakesNothing}
 use Rattle.pf_stepper.proofs.Scans.{Passed, takes_at, takes_none}
-use Rattle.pf_mailbox.specs.Searches.{Passes, PicksMarked, SeesNone}
-use Rattle.pf_mailbox.specs.Tests.{awaited, risen, tested}
+use Rattle.pf_mailbox.specs.Searches.{Passes, TestsMarked, SeesNone}
+use Rattle.pf_mailbox.specs.Tests.{awaited, tested}
 use Rattle.pf_mailbox.proofs.Tested.{NoneIn, none_before, to_list, to_indices, count_to, count_rest}
-
-pub risen_more : (t a : ℕ) → risen (risen t a) 1 ≡ risen t (a + 1)
-risen_more t a = omega arith
 
 module _ (m : Checked) (own base : ℕ) (env : List Term) (l : List Clause) (old new : Mail Term) (e : new.items ≡ old.items)
     (before : FitsNone (module_of m) own (awaited m base env l) (take old.mark (map value_of old.items))) (p : Passes m own (awaited m base env l) old new.mark) where
@@ -49,7 +46,7 @@ module _ (m : Checked) (own base : ℕ) (env : List Term) (l : List Clause) (old
         count_rest (module_of m) own (awaited m base env l) old.items old.mark (omega (arith, end, p.on)) (λ k x low below at. p.all k x low (omega (arith, end, below)) at)
         ∙ ap (λ n. n - old.mark) (sym end)
 
-  module _ (env' : List Term) (body : Operand) (s : PicksMarked m own base env l env' new body) (x : Term) (at : slice_get new.items new.mark ≡ Some x) where
+  module _ (env' : List Term) (body : Operand) (s : TestsMarked m own base env l env' new (Some body)) (x : Term) (at : slice_get new.items new.mark ≡ Some x) where
     value_is : value_of s.message ≡ value_of x
     value_is = ap value_of (same_Some s.message x (sym s.there ∙ at))
 

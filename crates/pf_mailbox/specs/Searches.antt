@@ -1,5 +1,5 @@
 -- What a search for a message finds.
-use Rattle.std.specs.Prelude.{◌≡◌, ℕ, ◌<◌, ◌≤◌, List, length, slice_get, Option, Some, None}
+use Rattle.std.specs.Prelude.{◌≡◌, ℕ, ◌+◌, ◌<◌, ◌≤◌, List, length, slice_get, Option, Some, None, Result, Ok, Err}
 use Rattle.pf_terms.specs.Term.{value_of}
 use Rattle.pf_terms.specs.declared.term.Term.{Term}
 use Rattle.pf_syntax.specs.Tree.{Clauses}
@@ -17,11 +17,16 @@ pub record Passes (m : Checked) (own : ℕ) (ks : Clauses) (l : Mail Term) (to :
   pub on : l.mark ≤ to
   pub all : (k : ℕ) (x : Term) → l.mark ≤ k → k < to → slice_get l.items k ≡ Some x → picked (module_of m) own ks (value_of x) ≡ None
 
--- a clause picks the message at the mark
-pub record PicksMarked (m : Checked) (own base : ℕ) (before : List Term) (l : List Clause) (after' : List Term) (list : Mail Term) (body : Operand) : Type 0 where
+-- what the test of the message at the mark answers: the body of the first clause that picks it, or none
+pub record TestsMarked (m : Checked) (own base : ℕ) (before : List Term) (l : List Clause) (after' : List Term) (list : Mail Term) (o : Option Operand) : Type 0 where
   pub message : Term
   pub there : slice_get list.items list.mark ≡ Some message
-  pub picks : Picked m base before after' (Some body) (picked (module_of m) own (awaited m base before l) (value_of message))
+  pub picks : Picked m base before after' o (picked (module_of m) own (awaited m base before l) (value_of message))
+
+-- where the mark is after a test: at the message that is picked, or past it
+abbrev pub mark_after : Option Operand → ℕ → ℕ
+mark_after (Some body) mark = mark
+mark_after None mark = mark + 1
 
 -- the mark is at the end, and no slot was changed
 pub record SeesNone (before after' : List Term) (list : Mail Term) : Type 0 where
@@ -29,5 +34,11 @@ pub record SeesNone (before after' : List Term) (list : Mail Term) : Type 0 wher
   pub slots : after' ≡ before
 
 abbrev pub Sought : Checked → ℕ → ℕ → List Term → List Clause → List Term → Mail Term → Option Operand → Type 0
-Sought m own base before l after' list (Some body) = PicksMarked m own base before l after' list body
+Sought m own base before l after' list (Some body) = TestsMarked m own base before l after' list (Some body)
 Sought m own base before l after' list None = SeesNone before after' list
+
+-- one test for each message that the mark passed, and one for the message that is picked
+abbrev pub tests_of : {E : Type 0} → Result (Option Operand) E → (passed : ℕ) → ℕ
+tests_of (Ok (Some body)) passed = passed + 1
+tests_of (Ok None) passed = passed
+tests_of (Err e) passed = passed

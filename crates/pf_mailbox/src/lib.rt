@@ -5,6 +5,7 @@ mod flush;
 mod mailbox;
 mod packed;
 mod search;
+mod testing;
 
 pub use mailbox::Mailbox;
 pub use packed::PackedMail;

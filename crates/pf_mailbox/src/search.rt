@@ -1,19 +1,20 @@
 //! The search for a message that a `receive` takes, from the mark on.
 
-ghost use Rattle.std.specs.Prelude.{◌≡◌, ◌≤◌, length, IfOk};
-ghost use Rattle.pf_mailbox.specs.Searches.{Passes, Sought};
-ghost use Rattle.pf_mailbox.specs.Tests.{awaited};
+ghost use Rattle.std.specs.Prelude.{◌≡◌, ◌-◌, ◌≤◌, length, IfOk};
+ghost use Rattle.pf_mailbox.specs.Searches.{Passes, Sought, tests_of};
+ghost use Rattle.pf_mailbox.specs.Tests.{awaited, risen};
 
+use crate::testing::test_marked;
 use pf_nodes::MailList;
-use pf_stepper::choose;
 use pf_syntax::{Clause, Module, Operand};
 use pf_terms::{NoMemory, Term};
 use std::alloc::Global;
 
 /// Moves the mark to the first message that some clause picks, and answers the body of that clause, whose bindings come
-/// onto the activation that begins at `base`.
+/// onto the activation that begins at `base`. Each test counts, so that a message that is tested twice counts twice.
 pub(crate) fn search(
     list: &mut MailList<Term>,
+    tests: &mut u64,
     alloc: Global,
     code: &Module,
     clauses: &[Clause],
@@ -27,12 +28,14 @@ pub(crate) fn search(
         (awaited code.now base env.old.items clauses.now) list.old list.new.mark }
     ensures sought { IfOk result
         (Sought code.now own base env.old.items clauses.now env.new.items list.new) }
+    ensures counted { tests.new ≡ risen tests.old (tests_of result (list.new.mark - list.old.mark)) }
 {
-    while let Some(message) = list.marked() {
-        if let Some(body) = choose(alloc, code, clauses, message, env, base, own)? {
+    // Only a count that is read is known to have 64 bits.
+    let _range = *tests;
+    while list.marked().is_some() {
+        if let Some(body) = test_marked(list, tests, alloc, code, clauses, env, base, own)? {
             return Ok(Some(body));
         }
-        list.pass();
     }
     Ok(None)
 }

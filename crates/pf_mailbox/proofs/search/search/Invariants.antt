@@ -1,15 +1,16 @@
 use Rattle.std.proofs.Common.{◌≡◌, ◌-◌, length}
 use Rattle.pf_mailbox.specs.Searches.{Passes}
-use Rattle.pf_mailbox.specs.Tests.{awaited}
+use Rattle.pf_mailbox.specs.Tests.{awaited, risen}
 use Rattle.pf_mailbox.proofs.search.search.Given as goal
 
-abbrev pub invariant-loop-message : goal.invariant-loop-message
-invariant-loop-message l =
+abbrev pub invariant-loop-alloc : goal.invariant-loop-alloc
+invariant-loop-alloc l =
     record {
       items : l.list.items ≡ l.fn.list.items;
       slots : l.env.items ≡ l.fn.env.items;
       passed : Passes l.code l.own (awaited l.code l.base l.fn.env.items l.clauses) l.fn.list l.list.mark;
+      counted : l.tests ≡ risen l.fn.tests (l.list.mark - l.fn.list.mark);
     }
 
-abbrev pub decreases-loop-message : goal.decreases-loop-message
-decreases-loop-message l = length l.list.items - l.list.mark
+abbrev pub decreases-loop-alloc : goal.decreases-loop-alloc
+decreases-loop-alloc l = length l.list.items - l.list.mark

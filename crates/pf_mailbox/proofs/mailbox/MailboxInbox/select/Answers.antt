@@ -1,7 +1,7 @@
-use Rattle.std.proofs.Common.{◌≡◌, ◌-◌, ◌∙◌, sym, ap, arith}
+use Rattle.std.proofs.Common.{◌∙◌, sym, ap}
 use Rattle.std.proofs.lemmas.Option.{slice_get_within}
 use Rattle.pf_mailbox.specs.Tests.{risen}
-use Rattle.pf_mailbox.proofs.Selecting.{all_tested, nothing, risen_more, still, takes, tested_to}
+use Rattle.pf_mailbox.proofs.Selecting.{all_tested, nothing, still, takes, tested_to}
 use Rattle.pf_mailbox.proofs.mailbox.MailboxInbox.select.Goals as goal
 
 pub returns-in_err-body-clause-still : goal.returns-in_err-body-clause-still
@@ -24,12 +24,10 @@ returns-in_default-clause-selected c =
 pub returns-in_default-clause-tests : goal.returns-in_default-clause-tests
 returns-in_default-clause-tests c =
     let before = rw (← c.self.view_is) at c.requires.ready in let s = c.search-picked in
-    let more : c.mark.result - c.mark-start.result ≡ s.new.list.mark - c.self.inside.list.mark = omega (arith, c.mark.ensures.position, c.mark-start.ensures.position) in
     rw (← c.self.view_is)
-    (c.counted-self-inside.ensures
+    ((rw (c.in_ok-body.was, c.in_default.is) at s.ensures.counted)
     ∙ ap (risen c.self.inside.tests)
-    (more
-    ∙ sym (all_tested c.args.code.now c.args.own c.args.base c.args.env.now.items c.args.clauses.now c.self.inside.list s.new.list s.ensures.items before s.ensures.passed
+    (sym (all_tested c.args.code.now c.args.own c.args.base c.args.env.now.items c.args.clauses.now c.self.inside.list s.new.list s.ensures.items before s.ensures.passed
     s.new.env.items (rw c.in_default.is at c.in_ok-body.ensures.sought))))
 
 pub take_marked-requires : goal.take_marked-requires
@@ -48,10 +46,8 @@ returns-clause-selected c =
 pub returns-clause-tests : goal.returns-clause-tests
 returns-clause-tests c =
     let before = rw (← c.self.view_is) at c.requires.ready in let s = c.search-picked in let t = c.take_marked in
-    let more : c.mark.result - c.mark-start.result ≡ s.new.list.mark - c.self.inside.list.mark = omega (arith, c.mark.ensures.position, c.mark-start.ensures.position) in
     rw (← c.self.view_is)
-    (c.counted-self-inside-2.ensures ∙ ap (λ n. risen n 1) (c.counted-self-inside.ensures ∙ ap (risen c.self.inside.tests) more)
-    ∙ risen_more c.self.inside.tests (s.new.list.mark - c.self.inside.list.mark)
+    ((rw (c.in_ok-body.was, c.in-Some.is) at s.ensures.counted)
     ∙ ap (risen c.self.inside.tests)
     (sym (tested_to c.args.code.now c.args.own c.args.base c.args.env.now.items c.args.clauses.now c.self.inside.list s.new.list s.ensures.items before s.ensures.passed
     s.new.env.items c.in-Some.body (rw c.in-Some.is at c.in_ok-body.ensures.sought) t.result t.ensures.item)))
