@@ -1,5 +1,5 @@
 -- Reports whose events are written: their lines stand for the events.
-use Rattle.std.specs.Prelude.{◌≡◌, ◌++◌, ℕ, Bool, List, Option, map, flat_map, codes}
+use Rattle.std.specs.Prelude.{◌≡◌, ◌++◌, ◌<◌, ℕ, Bool, List, Option, length, map, flat_map, codes}
 use Rattle.std.specs.Fmt.{decimal}
 use Rattle.std.specs.Io.KnownBytes.{Appends}
 use Rattle.pf_fault.specs.declared.fault.OrNoMemory.{OrNoMemory}
@@ -57,6 +57,14 @@ gone_from p = map (λ s. event_of s.value) p.gone.items
 -- all events that were told
 abbrev pub all_told : Pieces → List Event
 all_told p = gone_from p ++ told_so_far p.lines
+
+-- the bytes of the lines that wait
+abbrev pub waiting : Pieces → List ℕ
+waiting p = p.lines.text.items
+
+-- fewer bytes wait than a piece has
+abbrev pub IsShort : Pieces → Type 0
+IsShort p = length (waiting p) < 65536
 
 -- the lines that waited went out, or they wait on
 abbrev pub GoesOut : (name : ℕ → List ℕ) → (old new : Pieces) → (written_old written_new : Option (List ℕ)) → Type 0

@@ -3,7 +3,8 @@
 ghost use Rattle.std.specs.Prelude.{◌≡◌, ◌++◌, ◌∷◌, [], List, ℕ, OnOk, length};
 ghost use Rattle.pf_terms.specs.Atoms.{name_of};
 ghost use Rattle.pf_model.specs.Reports.{event_of};
-ghost use Rattle.pf_model.specs.Text.{report_text};
+ghost use Rattle.pf_model.specs.TermText.{line};
+ghost use Rattle.pf_model.specs.Text.{event_text, report_text};
 ghost use Rattle.pf_trace.specs.Written.{AreWritten, AreWrittenSoFar, end_text, events_of, told_so_far, report_in};
 
 use crate::event_lines::EventLines;
@@ -50,6 +51,8 @@ impl LinesSoFar {
     /// Adds the line of an event.
     pub fn add(&mut self, atoms: &AtomTable, event: &Event) -> Result<(), NoMemory>
         ensures event { OnOk result (told_so_far self.new ≡ told_so_far self.old ++ event_of event.now ∷ []) }
+        ensures text { OnOk result (self.new.text.items ≡ self.old.text.items
+            ++ line (event_text (name_of atoms.now) (event_of event.now))) }
         ensures line { OnOk result (AreWrittenSoFar (name_of atoms.now) self.old
             → AreWrittenSoFar (name_of atoms.now) self.new) }
     {

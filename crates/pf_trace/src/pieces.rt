@@ -5,7 +5,9 @@ ghost use Rattle.std.specs.Io.KnownBytes.{Appends};
 ghost use Rattle.pf_terms.specs.Atoms.{name_of};
 ghost use Rattle.pf_terms.specs.Streams.{LeavesFront};
 ghost use Rattle.pf_model.specs.Reports.{event_of, outcome_of};
-ghost use Rattle.pf_trace.specs.Written.{AreWrittenSoFar, GoesOut, gone_from, last_lines, lines_text, told_so_far};
+ghost use Rattle.pf_model.specs.TermText.{line};
+ghost use Rattle.pf_model.specs.Text.{event_text};
+ghost use Rattle.pf_trace.specs.Written.{AreWrittenSoFar, GoesOut, IsShort, gone_from, last_lines, lines_text, told_so_far, waiting};
 
 use crate::lines::LinesSoFar;
 use crate::report::put_last_lines;
@@ -34,6 +36,7 @@ impl Pieces {
         ensures gone { gone_from result ≡ [] }
         ensures waiting { told_so_far result.lines ≡ [] }
         ensures written { (name : ℕ → List ℕ) → AreWrittenSoFar name result.lines }
+        ensures short { IsShort result }
     {
         Pieces {
             gone: Vec::new(alloc),
@@ -41,11 +44,13 @@ impl Pieces {
         }
     }
 
-    /// Adds the line of an event. None goes out.
+    /// Adds the line of an event, and so as many bytes to those that wait. None goes out.
     pub fn add(&mut self, atoms: &AtomTable, event: &Event) -> Result<(), NoMemory>
         ensures gone { self.new.gone ≡ self.old.gone }
         ensures event { OnOk result (told_so_far self.new.lines
             ≡ told_so_far self.old.lines ++ event_of event.now ∷ []) }
+        ensures held { OnOk result (waiting self.new
+            ≡ waiting self.old ++ line (event_text (name_of atoms.now) (event_of event.now))) }
         ensures line { OnOk result (AreWrittenSoFar (name_of atoms.now) self.old.lines
             → AreWrittenSoFar (name_of atoms.now) self.new.lines) }
     {
@@ -64,6 +69,7 @@ impl Pieces {
             LeavesFront e (lines_text name (told_so_far self.old.lines))
             (W.contents writer.old.inner) (W.contents writer.new.inner)
             writer.old.failures.total writer.new.failures.total) }
+        ensures none_waits { OnOk result (waiting self.new ≡ []) }
     {
         self.gone.append(&mut self.lines.told)?;
         writer.put(&self.lines.text)?;
@@ -71,7 +77,7 @@ impl Pieces {
         Ok(())
     }
 
-    /// Has the lines that wait go out if they make a piece.
+    /// Has the lines that wait go out if they make a piece: each piece has 65,536 bytes or more, and fewer wait on.
     pub fn print_full<W: Write, M: Ledger>(
         &mut self,
         writer: &mut Counted<W, M>,
@@ -83,6 +89,8 @@ impl Pieces {
             LeavesFront e (lines_text name (told_so_far self.old.lines))
             (W.contents writer.old.inner) (W.contents writer.new.inner)
             writer.old.failures.total writer.new.failures.total) }
+        ensures short { OnOk result (IsShort self.new) }
+        ensures piece { IsShort self.old → (self.new ≡ self.old) × (writer.new ≡ writer.old) }
     {
         if self.lines.text.len() < PIECE_BYTES {
             return Ok(());

@@ -6,7 +6,7 @@ ghost use Rattle.pf_terms.specs.Atoms.{name_of};
 ghost use Rattle.pf_model.specs.Meaning.{Report as ReportOf};
 ghost use Rattle.pf_model.specs.Reports.{event_of, report_of};
 ghost use Rattle.pf_model.specs.Text.{report_text};
-ghost use Rattle.pf_trace.specs.Written.{HasGoneOut, StopsShort};
+ghost use Rattle.pf_trace.specs.Written.{HasGoneOut, IsShort, StopsShort};
 
 use crate::pieces::Pieces;
 use pf_fault::OrNoMemory;
@@ -16,7 +16,7 @@ use std::alloc::Global;
 use std::io::Write;
 use std::sync::ledger::Ledger;
 
-/// Writes the lines of events, but for the last of them, which wait.
+/// Writes the lines of events, but for the last of them, which wait. After each event fewer than 65,536 bytes wait.
 fn print_events<W: Write, M: Ledger>(
     alloc: Global,
     events: &[Event],
@@ -25,6 +25,7 @@ fn print_events<W: Write, M: Ledger>(
 ) -> Result<Pieces, OrNoMemory<StreamFault>>
     ensures out { IfOk result (λ p. HasGoneOut (name_of atoms.now) (map event_of events.now) p
         (W.contents writer.old.inner) (W.contents writer.new.inner)) }
+    ensures short { IfOk result (λ p. IsShort p) }
     ensures kept { OnOk result (writer.new.failures.total ≡ writer.old.failures.total) }
     ensures fault { IfErr result (λ e. (r : ReportOf) → r.events ≡ map event_of events.now
         → StopsShort e (name_of atoms.now) r

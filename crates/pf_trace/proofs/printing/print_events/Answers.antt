@@ -75,5 +75,6 @@ loop-event-preserved g c =
             (sym (lines_of_both name gone out.0) ∙ ap (lines_text name) (sym (out.1 ∙ ap (λ v. map (λ s. event_of s.value) v.items ++ out.0) c.in_ok-add.ensures.gone)))
             (appends_both _ _ _ (lines_text name gone) (lines_text name out.0) l.invariant.out.2 out.4),
       );
+      short = c.in_ok-print_full.ensures.short;
       kept = c.in_ok-print_full.ensures.kept ∙ l.invariant.kept;
     }
