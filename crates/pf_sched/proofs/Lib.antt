@@ -10,6 +10,7 @@ pub mod Reported
 pub mod Sliced
 pub mod Tries
 pub mod Hunted
+pub mod One
 pub mod Ended
 pub mod Shrunk
 pub mod Printed

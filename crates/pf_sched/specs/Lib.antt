@@ -6,6 +6,7 @@ pub mod Waiting
 pub mod Evidence
 pub mod Traces
 pub mod Events
+pub mod One
 pub mod Parts
 pub mod InParked
 pub mod InWhole

@@ -1,3 +1,4 @@
 pub mod Longer
 pub mod Replayed
 pub mod OneRun
+pub mod SomeRun
