@@ -1,0 +1,9 @@
+//! The laws that the limits of sources, values and runs are the numbers that users are told: functions with empty bodies, whose contracts are
+//! the laws.
+#![tactic(auto)]
+
+mod runs;
+mod sources;
+
+pub use runs::{process_limits_are, run_limits_are};
+pub use sources::{source_limits_are, value_limits_are};
