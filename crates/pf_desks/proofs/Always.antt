@@ -1,12 +1,13 @@
--- What each call and each step of a worker keeps is true of each desk after all steps.
+-- What each call and each step of a worker keeps is true of each desk after all steps, and after each legal history.
 use Rattle.std.proofs.Common.{◌≡◌, ℕ, ◌==◌, Bool, true, false, List, [], ◌∷◌, Option, Some, None, refl, sym, subst}
 use Rattle.std.specs.Prelude.{if◌then◌else◌}
 use Rattle.pf_request.specs.Calls.{Call}
 use Rattle.pf_request.specs.Job.{Job}
-use Rattle.pf_desks.specs.Desk.{Profile, Desk, no_desk, State, queued, running, done, Entry, claimed, filed, handed_back, Mark, held_at}
+use Rattle.pf_desks.specs.Desk.{Profile, Desk, no_desk, State, queued, running, done, Entry, called, claimed, filed, handed_back, Mark, held_at}
 use Rattle.pf_desks.specs.Calls.{after_call, with_entry}
 use Rattle.pf_desks.specs.Work.{is_queued, is_running, after_claim, after_file, after_back, with_state, result_marked, Work, claim, file, hand_back, worker_step}
 use Rattle.pf_desks.specs.World.{World, Step, client, worker, desk_at, put_desk, worked, step}
+use Rattle.pf_desks.specs.History.{Follows, IsLegal}
 use Rattle.pf_desks.specs.Legality.{after_steps}
 use Rattle.pf_desks.proofs.Isolated.{desk_placed}
 
@@ -38,6 +39,16 @@ module _ (p : Profile) (P : Desk → Type 0) (by_call : (d : Desk) (c : Call) �
 
   pub always : P no_desk → (q : ℕ) (ss : List Step) → P (desk_at q (after_steps p [] ss))
   always h q ss = kept_from [] ss (λ r. h) q
+
+  by_note : (d k : Desk) (e : Entry) → Follows p d e k → P d → P k
+  by_note d k (called c r) h x = subst P (sym h.2) (by_call d c x)
+  by_note d k (claimed t) h x = by_work d k (claim t) h x
+  by_note d k (filed t m) h x = by_work d k (file t m) h x
+  by_note d k (handed_back t) h x = by_work d k (hand_back t) h x
+
+  pub along : (d : Desk) (es : List Entry) (d' : Desk) → IsLegal p d es d' → P d → P d'
+  along d [] d' h x = subst P h x
+  along d (e ∷ es) d' h x = along h.0 es d' h.2 (by_note d h.0 e h.1 x)
 
 -- what is noted of the work of workers
 pub data OfWork : Entry → Type 0 where

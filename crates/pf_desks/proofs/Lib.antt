@@ -5,4 +5,5 @@ pub mod Sums
 pub mod Always
 pub mod Within
 pub mod Numbered
+pub mod Trials
 pub mod Jobs

@@ -1,4 +1,4 @@
--- The numbers that a project is told count up.
+-- The numbers that a project is told count up, and so do those that a legal history notes.
 use Rattle.std.proofs.Common.{◌≡◌, ℕ, zero, suc, ◌+◌, Bool, true, false, List, [], ◌∷◌, length, Option, Some, None, refl, sym, subst, ◌∙◌}
 use Rattle.std.specs.Prelude.{filter_map, Result, Ok, Err, if◌then◌else◌, unwrap_or}
 use Rattle.std.specs.List.{cons_option}
@@ -10,11 +10,12 @@ use Rattle.pf_quota.specs.declared.charges.Charge.TheVariants as charge
 use Rattle.pf_request.specs.Calls.{Call, submit, order, fetch, status, drop_trial, withdraw, usage, log, edition}
 use Rattle.pf_request.specs.Job.{Job}
 use Rattle.pf_request.specs.Module.{ReadModule}
-use Rattle.pf_desks.specs.Desk.{Profile, Desk, no_desk, Entry, State, queued, running, done, Trial, Reading, readable, faulty, Reply, ticket, has_edition, refused, job_ordered, held_at, with_held}
+use Rattle.pf_desks.specs.Desk.{Profile, Desk, no_desk, Entry, called, claimed, filed, handed_back, State, queued, running, done, Trial, Reading, readable, faulty, Reply, ticket, has_edition, refused, job_ordered, held_at, with_held}
 use Rattle.pf_desks.specs.Calls.{within_limits, passed_by, submitted, with_job, ordered, fetched, stage_told, dropped, users_of, withdrawn, in_edition, answered, noted, after_call, reply_to}
-use Rattle.pf_desks.specs.Work.{Work, worker_step}
-use Rattle.pf_desks.specs.World.{Step, client, worker, all_answers, told, own_steps, replies_along}
-use Rattle.pf_desks.specs.Numbers.{number_in, ticket_in, CountUp}
+use Rattle.pf_desks.specs.Work.{Work, claim, file, hand_back, worker_step}
+use Rattle.pf_desks.specs.History.{Follows, IsLegal, replies_noted}
+use Rattle.pf_desks.specs.World.{Step, client, worker, all_answers, own_steps, replies_along}
+use Rattle.pf_desks.specs.Numbers.{number_in, ticket_in, CountUp, TellEachOnce, LegalHistoriesTellEachOnce, NoNumberTwice}
 use Rattle.pf_desks.proofs.Isolated.{isolated}
 use Rattle.pf_desks.proofs.Always.{OfWork, moved, moves}
 
@@ -111,7 +112,7 @@ count_on k k' None ns h rest = subst (λ n. CountUp (n + 1) ns) h rest
 count_on k k' (Some n) ns h rest = (h.0, subst (λ x. CountUp (x + 1) ns) h.1 rest)
 
 module _ (p : Profile) where
-  numbers_along : (d : Desk) (ss : List Step) → CountUp (length d.modules + 1) (filter_map number_in (replies_along p d ss))
+  pub numbers_along : (d : Desk) (ss : List Step) → CountUp (length d.modules + 1) (filter_map number_in (replies_along p d ss))
   numbers_along d [] = tt
   numbers_along d (client q c ∷ ss) =
       count_on (length d.modules) (length (after_call p d c).modules) (number_in (reply_to p d c)) (filter_map number_in (replies_along p (after_call p d c) ss))
@@ -120,7 +121,7 @@ module _ (p : Profile) where
       let d' : Desk = unwrap_or (worker_step p d k) d in
       subst (λ n. CountUp (n + 1) (filter_map number_in (replies_along p d' ss))) (work_tells_none p d k).0 (numbers_along d' ss)
 
-  tickets_along : (d : Desk) (ss : List Step) → CountUp (length d.trials + 1) (filter_map ticket_in (replies_along p d ss))
+  pub tickets_along : (d : Desk) (ss : List Step) → CountUp (length d.trials + 1) (filter_map ticket_in (replies_along p d ss))
   tickets_along d [] = tt
   tickets_along d (client q c ∷ ss) =
       count_on (length d.trials) (length (after_call p d c).trials) (ticket_in (reply_to p d c)) (filter_map ticket_in (replies_along p (after_call p d c) ss))
@@ -129,10 +130,36 @@ module _ (p : Profile) where
       let d' : Desk = unwrap_or (worker_step p d k) d in
       subst (λ n. CountUp (n + 1) (filter_map ticket_in (replies_along p d' ss))) (work_tells_none p d k).1 (tickets_along d' ss)
 
-pub counted : (p : Profile) (q : ℕ) (ss : List Step)
-    → CountUp 1 (filter_map number_in (told q ss (all_answers p ss))) × CountUp 1 (filter_map ticket_in (told q ss (all_answers p ss)))
+  -- what each note tells
+  note_tells : (d k : Desk) (c : Call) (r : Reply) → Follows p d (called c r) k
+      → Tells (length d.modules) (number_in r) (length k.modules) × Tells (length d.trials) (ticket_in r) (length k.trials)
+  note_tells d k c r h = subst (TellsNext d) (λ i. (sym h.2 i, sym h.1 i)) (call_tells p d c)
+
+  none_told : (d k : Desk) (w : Work) → worker_step p d w ≡ Some k → Told (length d.modules) (length d.trials) k
+  none_told d k w h = moves p (Told (length d.modules) (length d.trials)) (move_tells_none (length d.modules) (length d.trials)) d k w h (refl, refl)
+
+  abbrev TellOn : ℕ → ℕ → List Entry → Type 0
+  TellOn n t es = CountUp (n + 1) (filter_map number_in (replies_noted es)) × CountUp (t + 1) (filter_map ticket_in (replies_noted es))
+
+  told_on : (d k : Desk) (w : Work) (es : List Entry) → worker_step p d w ≡ Some k → TellOn (length k.modules) (length k.trials) es → TellOn (length d.modules) (length d.trials) es
+  told_on d k w es h rest = let same = none_told d k w h in subst (λ (x : ℕ × ℕ). TellOn x.0 x.1 es) (λ i. (same.0 i, same.1 i)) rest
+
+  pub history_tells : (d : Desk) (es : List Entry) (d' : Desk) → IsLegal p d es d' → TellOn (length d.modules) (length d.trials) es
+  history_tells d [] d' h = (tt, tt)
+  history_tells d (called c r ∷ es) d' h =
+      let tells = note_tells d h.0 c r h.1 in
+      let rest = history_tells h.0 es d' h.2 in (
+        count_on (length d.modules) (length h.0.modules) (number_in r) (filter_map number_in (replies_noted es)) tells.0 rest.0,
+        count_on (length d.trials) (length h.0.trials) (ticket_in r) (filter_map ticket_in (replies_noted es)) tells.1 rest.1,
+      )
+  history_tells d (claimed t ∷ es) d' h = told_on d h.0 (claim t) es h.1 (history_tells h.0 es d' h.2)
+  history_tells d (filed t m ∷ es) d' h = told_on d h.0 (file t m) es h.1 (history_tells h.0 es d' h.2)
+  history_tells d (handed_back t ∷ es) d' h = told_on d h.0 (hand_back t) es h.1 (history_tells h.0 es d' h.2)
+
+pub legal_counted : LegalHistoriesTellEachOnce
+legal_counted p d h = history_tells p no_desk d.history d h
+
+pub counted : NoNumberTwice
 counted p q ss =
-    let own = own_steps q ss (all_answers p ss) in (
-      subst (λ (rs : List Reply). CountUp 1 (filter_map number_in rs)) (sym (isolated p q ss)) (numbers_along p no_desk own),
-      subst (λ (rs : List Reply). CountUp 1 (filter_map ticket_in rs)) (sym (isolated p q ss)) (tickets_along p no_desk own),
-    )
+    let own = own_steps q ss (all_answers p ss) in
+    subst TellEachOnce (sym (isolated p q ss)) (numbers_along p no_desk own, tickets_along p no_desk own)

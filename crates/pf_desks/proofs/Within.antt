@@ -25,12 +25,13 @@ use Rattle.pf_desks.specs.Desk.{Profile, Desk, no_desk, Entry, called, State, qu
 use Rattle.pf_desks.specs.Calls.{calls_in, usage_in, within_limits, passed_by, submitted, with_job, ordered, dropped, users_of, withdrawn, is_edition, in_edition, answered, noted, after_call}
 use Rattle.pf_desks.specs.Work.{in_state, with_state}
 use Rattle.pf_desks.specs.World.{Step, desk_at}
+use Rattle.pf_desks.specs.History.{IsLegalDesk}
 use Rattle.pf_desks.specs.Legality.{after_steps}
 use Rattle.pf_desks.specs.Limits.{IsInLimits}
 use Rattle.pf_desks.proofs.Held.{gap}
-use Rattle.pf_desks.proofs.Histories.{call_notes}
+use Rattle.pf_desks.proofs.Histories.{call_notes, legal}
 use Rattle.pf_desks.proofs.Sums.{calls_more, calls_worked, module_charged, module_refunded, trial_charged, trial_refunded, trial_same, held_trial}
-use Rattle.pf_desks.proofs.Always.{OfWork, moved, moves, always}
+use Rattle.pf_desks.proofs.Always.{OfWork, moved, moves, along}
 
 -- ---- charges that aren't refused
 
@@ -187,5 +188,8 @@ move_keeps d t f e of k = (
 no_desk_keeps : Keeps no_desk
 no_desk_keeps = (omega arith, record { modules = omega arith; bytes = omega arith; trials = omega arith; steps = omega arith; calls = omega arith })
 
+pub legal_within : (p : Profile) (d : Desk) → IsLegalDesk p d → IsInLimits d
+legal_within p d h = (along p Keeps (λ k c x. call_keeps p k x c) (moves p Keeps move_keeps) no_desk d.history d h no_desk_keeps).1
+
 pub within : (p : Profile) (q : ℕ) (ss : List Step) → IsInLimits (desk_at q (after_steps p [] ss))
-within p q ss = (always p Keeps (λ d c k. call_keeps p d k c) (moves p Keeps move_keeps) no_desk_keeps q ss).1
+within p q ss = legal_within p (desk_at q (after_steps p [] ss)) (legal p q ss)

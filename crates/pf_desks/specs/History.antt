@@ -1,6 +1,6 @@
 -- Legal histories: what a desk noted, replayed on an empty desk, gives its own replies.
 use Rattle.std.specs.Prelude.{◌≡◌, List, [], ◌∷◌, Some}
-use Rattle.pf_desks.specs.Desk.{Profile, Desk, no_desk, Entry, called, claimed, filed, handed_back}
+use Rattle.pf_desks.specs.Desk.{Profile, Desk, no_desk, Reply, Entry, called, claimed, filed, handed_back}
 use Rattle.pf_desks.specs.Calls.{HasRoom, reply_to, after_call}
 use Rattle.pf_desks.specs.Work.{claim, file, hand_back, worker_step}
 
@@ -20,3 +20,19 @@ IsLegal p d (e ∷ es) d' = (k : Desk) × Follows p d e k × IsLegal p k es d'
 -- the desk is what its history makes of an empty one, and the history is legal
 abbrev pub IsLegalDesk : Profile → Desk → Type 0
 IsLegalDesk p d = IsLegal p no_desk d.history d
+
+-- the calls that a history notes with their replies, in order
+abbrev pub calls_noted : List Entry → List Entry
+calls_noted [] = []
+calls_noted (called c r ∷ es) = called c r ∷ calls_noted es
+calls_noted (claimed t ∷ es) = calls_noted es
+calls_noted (filed t m ∷ es) = calls_noted es
+calls_noted (handed_back t ∷ es) = calls_noted es
+
+-- the replies alone
+abbrev pub replies_noted : List Entry → List Reply
+replies_noted [] = []
+replies_noted (called c r ∷ es) = r ∷ replies_noted es
+replies_noted (claimed t ∷ es) = replies_noted es
+replies_noted (filed t m ∷ es) = replies_noted es
+replies_noted (handed_back t ∷ es) = replies_noted es

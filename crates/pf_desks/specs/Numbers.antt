@@ -1,6 +1,7 @@
 -- The numbers that a project is told.
 use Rattle.std.specs.Prelude.{◌≡◌, ℕ, ◌+◌, List, [], ◌∷◌, filter_map, Option, Some, None}
-use Rattle.pf_desks.specs.Desk.{Profile, Reply, number, ticket}
+use Rattle.pf_desks.specs.Desk.{Profile, Desk, Reply, number, ticket}
+use Rattle.pf_desks.specs.History.{IsLegalDesk, replies_noted}
 use Rattle.pf_desks.specs.World.{Step, all_answers, told}
 
 -- the module's number that a reply tells
@@ -18,8 +19,15 @@ abbrev pub CountUp : ℕ → List ℕ → Type 0
 CountUp n [] = Unit {0}
 CountUp n (m ∷ ms) = (m ≡ n) × CountUp (n + 1) ms
 
+-- the modules' numbers that these replies tell are 1, 2, 3 and so on, and so are their tickets
+abbrev pub TellEachOnce : List Reply → Type 0
+TellEachOnce rs = CountUp 1 (filter_map number_in rs) × CountUp 1 (filter_map ticket_in rs)
+
+-- no legal history notes a number or a ticket twice, whatever was given up
+abbrev pub LegalHistoriesTellEachOnce : Type 0
+LegalHistoriesTellEachOnce = (p : Profile) (d : Desk) → IsLegalDesk p d → TellEachOnce (replies_noted d.history)
+
 -- whatever steps there are, from the world in which no desk is open, the modules' numbers that a project is told are 1, 2, 3 and so on, and
 -- so are its tickets: none is told twice, whatever was given up
 abbrev pub NoNumberTwice : Type 0
-NoNumberTwice = (p : Profile) (q : ℕ) (ss : List Step)
-    → CountUp 1 (filter_map number_in (told q ss (all_answers p ss))) × CountUp 1 (filter_map ticket_in (told q ss (all_answers p ss)))
+NoNumberTwice = (p : Profile) (q : ℕ) (ss : List Step) → TellEachOnce (told q ss (all_answers p ss))

@@ -2,7 +2,7 @@
 use Rattle.std.specs.Prelude.{◌≡◌, ℕ, Bool, true, false, ◌==◌, if◌then◌else◌, List, [], ◌∷◌, ◌++◌, Option, Some, None, unwrap_or}
 use Rattle.pf_request.specs.Calls.{Call}
 use Rattle.pf_desks.specs.Desk.{Profile, Desk, no_desk, Reply}
-use Rattle.pf_desks.specs.Calls.{HasRoom, reply_to, after_call}
+use Rattle.pf_desks.specs.Calls.{reply_to, after_call}
 use Rattle.pf_desks.specs.Work.{Work, worker_step}
 
 -- a client of a project makes a call, or a worker does something for it
@@ -101,23 +101,3 @@ alone p q ss = replies_along p no_desk (own_steps q ss (all_answers p ss))
 -- isolation: whatever steps there are, of however many projects and in whatever order, a project is told what it is told alone
 abbrev pub Isolation : Type 0
 Isolation = (p : Profile) (q : ℕ) (ss : List Step) → told q ss (all_answers p ss) ≡ alone p q ss
-
--- ---- where growths are refused
-
--- a growth may be refused in a call for which the log has room, and in work that can be done
-abbrev pub MayGrow : Profile → World → Step → Type 0
-MayGrow p w (client q c) = HasRoom (desk_at q w)
-MayGrow p w (worker q k) = happened (step p w (worker q k)).1 ≡ true
-
--- AnswersStep p w s x w': in a world a step is answered so, and leads to a world. Where a growth was refused it is answered by none, and
--- changes nothing
-abbrev pub AnswersStep : Profile → World → Step → Option Answer → World → Type 0
-AnswersStep p w s (Some a) w' = ◌≡◌ {A = World × Answer} (step p w s) (w', a)
-AnswersStep p w s None w' = MayGrow p w s × (w' ≡ w)
-
--- from a world, some steps are answered in turn
-abbrev pub AnswersInTurn : Profile → World → List Step → List (Option Answer) → Type 0
-AnswersInTurn p w [] [] = Unit {0}
-AnswersInTurn p w [] (x ∷ xs) = ⊥
-AnswersInTurn p w (s ∷ ss) [] = ⊥
-AnswersInTurn p w (s ∷ ss) (x ∷ xs) = (w' : World) × AnswersStep p w s x w' × AnswersInTurn p w' ss xs

@@ -2,8 +2,8 @@
 
 ghost use Rattle.pf_desks.specs.World.{Isolation};
 ghost use Rattle.pf_desks.specs.Legality.{Legality};
-ghost use Rattle.pf_desks.specs.Limits.{StaysInLimits};
-ghost use Rattle.pf_desks.specs.Numbers.{NoNumberTwice};
+ghost use Rattle.pf_desks.specs.Limits.{LegalDesksAreInLimits, StaysInLimits};
+ghost use Rattle.pf_desks.specs.Numbers.{LegalHistoriesTellEachOnce, NoNumberTwice};
 ghost use Rattle.pf_desks.specs.Jobs.{TicketsStay};
 
 /// Isolation: for every list of steps, of any length, in any order and of any number of projects, a project is
@@ -16,6 +16,19 @@ pub fn isolation()
 /// history is legal.
 pub fn legality()
     ensures { Legality }
+{}
+
+/// Limits of legal desks: each desk whose history is legal is within its limits, whoever made its calls and did its work.
+/// Each desk of a workshop is one (`legality` of `pf_worlds`), and so is each that a closed farm leaves (the clause `legal`
+/// of `Closing::note_count` of `pf_hall`): so it holds of the desks of `steps` and of `farm` alike.
+pub fn legal_desks_are_in_limits()
+    ensures { LegalDesksAreInLimits }
+{}
+
+/// Numbers of legal histories: the modules' numbers that a legal history notes are 1, 2, 3 and so on, and so are its
+/// tickets. None is told twice, in `steps` or in `farm`, whose histories are legal.
+pub fn legal_histories_tell_each_once()
+    ensures { LegalHistoriesTellEachOnce }
 {}
 
 /// Limits: for every list of steps, what each project's desk uses passes none of the limits of its edition.

@@ -5,14 +5,14 @@ use Rattle.std.proofs.lemmas.List.Elements.{All-nil, All-head, All-tail}
 use Rattle.pf_request.specs.Calls.{Call}
 use Rattle.pf_desks.specs.Desk.{Profile, Desk, no_desk, Reply, Entry, called, claimed, filed, handed_back, marked_whole, marked_memory}
 use Rattle.pf_desks.specs.Calls.{after_call}
-use Rattle.pf_desks.specs.History.{IsLegal}
+use Rattle.pf_desks.specs.History.{IsLegal, replies_noted}
 use Rattle.pf_worlds.specs.Chores.{Chore, claiming, filing, giving_back}
 use Rattle.pf_worlds.specs.Steps.{worker_does}
 use Rattle.pf_worlds.specs.Alone.{at_desk}
 use Rattle.pf_worlds.specs.Laws.{Settles}
 use Rattle.pf_worlds.proofs.Isolated.{desk_done}
 use Rattle.pf_worlds.proofs.Final.{IsLike, final, like_call, like_chore}
-use Rattle.pf_histories.specs.Notes.{NotForMemory, NoneForMemory, calls_of, replies_of}
+use Rattle.pf_histories.specs.Notes.{NotForMemory, NoneForMemory, calls_of}
 
 module _ (p : Profile) where
   -- the desk after some calls, where no worker does anything
@@ -36,7 +36,7 @@ module _ (p : Profile) where
   like_work d k e t w h l = subst (λ (x : Desk). IsLike p x e) h (like_chore p d e 0 0 t w l)
 
   abbrev pub IsAlong : Desk → Desk → List Entry → Type 0
-  IsAlong d e es = IsLike p d (after_calls e (calls_of es)) × AreFinal (calls_of es) (replies_of es) (finals e (calls_of es))
+  IsAlong d e es = IsLike p d (after_calls e (calls_of es)) × AreFinal (calls_of es) (replies_noted es) (finals e (calls_of es))
 
   like_along : (d e : Desk) (es : List Entry) (d' : Desk) → NoneForMemory es → IsLegal p d es d' → IsLike p d e → IsAlong d' e es
   like_along d e [] d' m h l = (subst (λ (x : Desk). IsLike p x e) h l, tt)

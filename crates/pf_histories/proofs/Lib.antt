@@ -1,3 +1,5 @@
 pub mod Alike
 pub mod Meant
 pub mod Settled
+pub mod Asked
+pub mod Orders

@@ -9,7 +9,8 @@ use Rattle.pf_request.specs.Calls.{fetch}
 use Rattle.pf_request.specs.Job.{Job}
 use Rattle.pf_desks.specs.Desk.{Profile, State, queued, running, done, Trial, Desk, no_desk, result, Entry, called, held_at}
 use Rattle.pf_desks.specs.Calls.{passed_by, within_limits, result_in, fetched, noted, reply_to}
-use Rattle.pf_desks.specs.History.{Follows, IsLegal}
+use Rattle.pf_desks.specs.History.{IsLegal}
+use Rattle.pf_desks.proofs.Histories.{split}
 use Rattle.pf_worlds.proofs.Effects.{all_at}
 use Rattle.pf_worlds.proofs.Final.{IsLike}
 use Rattle.pf_histories.specs.Notes.{NotForMemory, NoneForMemory, calls_of}
@@ -19,7 +20,7 @@ use Rattle.pf_histories.proofs.Alike.{after_calls, along}
 -- ---- a report is of a trial that is done
 
 -- a trial is held, and this came of it
-abbrev IsDone : Option Trial → List (List ℕ) → Result → Type 0
+abbrev pub IsDone : Option Trial → List (List ℕ) → Result → Type 0
 IsDone o atoms r = (n : ℕ) × (j : Job) × (o ≡ Some (record { module_number = n; job = j; state = done r })) × (atoms ≡ j.asked.code.atoms)
 
 of_fetched : (o : Option Trial) (atoms : List (List ℕ)) (r : Result) → fetched o ≡ result atoms r → IsDone o atoms r
@@ -36,7 +37,7 @@ of_fetched (Some t) atoms r h = by t.state refl h
       cc,
     )
 
-of_reply : (p : Profile) (d : Desk) (t : ℕ) (atoms : List (List ℕ)) (r : Result) → reply_to p d (fetch t) ≡ result atoms r
+pub of_reply : (p : Profile) (d : Desk) (t : ℕ) (atoms : List (List ℕ)) (r : Result) → reply_to p d (fetch t) ≡ result atoms r
     → IsDone (held_at d.trials t) atoms r
 of_reply p d t atoms r h = by (passed_by d charge.Call) h
   where
@@ -48,7 +49,7 @@ of_reply p d t atoms r h = by (passed_by d charge.Call) h
 
 module _ (p : Profile) where
   -- what came of a trial that is done is what its job means
-  abbrev IsMeantState : Job → State → Type 0
+  abbrev pub IsMeantState : Job → State → Type 0
   IsMeantState j queued = Unit {0}
   IsMeantState j running = Unit {0}
   IsMeantState j (done r) = r ≡ p.meaning j.asked
@@ -76,13 +77,6 @@ pub reports_are_meant : ReportsAreMeant
 reports_are_meant p d t atoms r legal m h = meant p d (after_calls p no_desk (calls_of d.history)) t atoms r (along p d.history d m legal).0 h
 
 -- ---- each report of a history
-
--- the desks before and behind an entry
-split : (p : Profile) (d d' : Desk) (before after : List Entry) (x : Entry) → IsLegal p d (before ++ x ∷ after) d'
-    → (k : Desk) × (k' : Desk) × IsLegal p d before k × Follows p k x k'
-split p d d' [] after x h = (d, h.0, refl, h.1)
-split p d d' (y ∷ before) after x h =
-    let rest : _ = split p h.0 d' before after x h.2 in (rest.0, rest.1, (h.0, h.1, rest.2), rest.3)
 
 none_before : (before after : List Entry) → NoneForMemory (before ++ after) → NoneForMemory before
 none_before [] after m = All-nil _

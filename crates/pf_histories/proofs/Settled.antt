@@ -2,8 +2,9 @@
 use Rattle.std.proofs.Common.{List, [], ◌∷◌, sym, ◌∙◌, subst}
 use Rattle.pf_request.specs.Calls.{Call}
 use Rattle.pf_desks.specs.Desk.{Profile, no_desk, Reply}
+use Rattle.pf_desks.specs.History.{replies_noted}
 use Rattle.pf_worlds.specs.Laws.{AgreeWhereSettled}
-use Rattle.pf_histories.specs.Notes.{calls_of, replies_of}
+use Rattle.pf_histories.specs.Notes.{calls_of}
 use Rattle.pf_histories.specs.Laws.{SettledHistories}
 use Rattle.pf_histories.proofs.Alike.{finals, AreFinal, along}
 
@@ -24,6 +25,6 @@ module _ (p : Profile) where
 
 pub settled_histories : SettledHistories
 settled_histories p d e legal legal_too m m_too h =
-    agree p (calls_of d.history) (replies_of d.history) (replies_of e.history) (finals p no_desk (calls_of d.history)) (along p d.history d m legal).1 (
-    subst (λ (cs : List Call). AreFinal p cs (replies_of e.history) (finals p no_desk cs)) (sym h) (along p e.history e m_too legal_too).1
+    agree p (calls_of d.history) (replies_noted d.history) (replies_noted e.history) (finals p no_desk (calls_of d.history)) (along p d.history d m legal).1 (
+    subst (λ (cs : List Call). AreFinal p cs (replies_noted e.history) (finals p no_desk cs)) (sym h) (along p e.history e m_too legal_too).1
     )

@@ -4,10 +4,10 @@ use Rattle.pf_model.specs.Shrinking.{Result}
 use Rattle.pf_request.specs.Calls.{fetch}
 use Rattle.pf_desks.specs.Desk.{Profile, Trial, Desk, no_desk, Entry, called, result, held_at, marked_whole}
 use Rattle.pf_desks.specs.Calls.{reply_to}
-use Rattle.pf_desks.specs.History.{IsLegal, IsLegalDesk}
+use Rattle.pf_desks.specs.History.{IsLegal, IsLegalDesk, replies_noted}
 use Rattle.pf_desks.specs.Work.{result_marked}
 use Rattle.pf_worlds.specs.Laws.{AgreeWhereSettled}
-use Rattle.pf_histories.specs.Notes.{NoneForMemory, calls_of, replies_of}
+use Rattle.pf_histories.specs.Notes.{NoneForMemory, calls_of}
 
 -- a ticket's trial is held, and this is what its job means, with the names of the job's atoms
 abbrev pub IsMeant : Profile → Desk → (ticket : ℕ) → (atoms : List (List ℕ)) → Result → Type 0
@@ -34,4 +34,4 @@ abbrev pub SettledHistories : Type 0
 SettledHistories =
     (p : Profile) (d e : Desk) → IsLegalDesk p d → IsLegalDesk p e → NoneForMemory d.history → NoneForMemory e.history
     → calls_of d.history ≡ calls_of e.history
-    → AgreeWhereSettled (calls_of d.history) (replies_of d.history) (replies_of e.history)
+    → AgreeWhereSettled (calls_of d.history) (replies_noted d.history) (replies_noted e.history)

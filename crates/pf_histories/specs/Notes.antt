@@ -1,7 +1,7 @@
--- What a history notes: its calls and their replies, and that no file of it bears the mark of memory.
+-- What a history notes: its calls, and that no file of it bears the mark of memory.
 use Rattle.std.specs.Prelude.{◌≢◌, ℕ, List, [], ◌∷◌, All}
 use Rattle.pf_request.specs.Calls.{Call}
-use Rattle.pf_desks.specs.Desk.{Reply, Entry, called, claimed, filed, handed_back, marked_memory}
+use Rattle.pf_desks.specs.Desk.{Entry, called, claimed, filed, handed_back, marked_memory}
 
 -- an entry isn't a file with the mark of memory
 abbrev pub NotForMemory : Entry → Type 0
@@ -18,11 +18,3 @@ calls_of (called c r ∷ es) = c ∷ calls_of es
 calls_of (claimed t ∷ es) = calls_of es
 calls_of (filed t m ∷ es) = calls_of es
 calls_of (handed_back t ∷ es) = calls_of es
-
--- the replies to them, in the same order
-abbrev pub replies_of : List Entry → List Reply
-replies_of [] = []
-replies_of (called c r ∷ es) = r ∷ replies_of es
-replies_of (claimed t ∷ es) = replies_of es
-replies_of (filed t m ∷ es) = replies_of es
-replies_of (handed_back t ∷ es) = replies_of es

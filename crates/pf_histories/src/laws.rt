@@ -2,6 +2,7 @@
 //! workers' notes stand anywhere in it. No law promises that a trial is ever filed.
 
 ghost use Rattle.pf_histories.specs.Laws.{ReportsAreMeant, NotedReportsAreMeant, SettledHistories};
+ghost use Rattle.pf_histories.specs.Orders.{ReportsAreOfTheirOrders};
 
 /// Reports: at every legal desk with no file marked for memory, what a `fetch` is told is what the job of its trial means.
 pub fn reports_are_meant()
@@ -12,6 +13,13 @@ pub fn reports_are_meant()
 /// trial means, at the desk of the entries before it.
 pub fn noted_reports_are_meant()
     ensures { NotedReportsAreMeant }
+{}
+
+/// Orders: the result that a `fetch` of a ticket is told is what the job means for which the order asked that was told this
+/// ticket: of the source that was submitted as its module, as it is read, and of its root, property, choices, limit and
+/// runs, in the edition that the desk had then. A file of another trial may bear the mark of memory.
+pub fn reports_are_of_their_orders()
+    ensures { ReportsAreOfTheirOrders }
 {}
 
 /// Settled: two legal desks with no file marked for memory, whose histories note the same calls in the same order, were

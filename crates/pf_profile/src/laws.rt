@@ -1,6 +1,7 @@
 //! Laws of the definitions: functions with empty bodies, whose contracts are the laws.
 
 ghost use Rattle.pf_workshop.specs.Profile.{IsRight};
+ghost use Rattle.pf_profile.specs.Orders.{ReportsAreOfTheLanguage};
 ghost use Rattle.pf_profile.specs.Profile.{run_profile};
 
 /// The profile of the language is right: it reads a source as the rules of reading do, bytes are the property that their text says, and a
@@ -8,4 +9,10 @@ ghost use Rattle.pf_profile.specs.Profile.{run_profile};
 /// The job has the events of its run, or of all runs that its shrinking makes.
 pub fn profile_is_right()
     ensures { IsRight run_profile }
+{}
+
+/// Orders: in a legal history the result that a `fetch` of a ticket is told is the one that the language gives to the job for
+/// which the order asked that was told this ticket, unless memory ran out for its trial.
+pub fn reports_are_of_the_language()
+    ensures { ReportsAreOfTheLanguage }
 {}

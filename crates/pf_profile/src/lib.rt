@@ -4,5 +4,5 @@
 mod laws;
 mod steps;
 
-pub use laws::profile_is_right;
+pub use laws::{profile_is_right, reports_are_of_the_language};
 pub use steps::run_steps;

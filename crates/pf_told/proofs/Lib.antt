@@ -2,3 +2,4 @@ pub mod Lists
 pub mod Trials
 pub mod Drops
 pub mod Tells
+pub mod Points

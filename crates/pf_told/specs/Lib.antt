@@ -3,3 +3,4 @@ pub mod Notes
 pub mod Claims
 pub mod Gone
 pub mod Told
+pub mod Points

@@ -7,11 +7,12 @@ use Rattle.pf_desks.specs.Legality.{after_steps}
 use Rattle.pf_desks.specs.Work.{Work, claim, file, hand_back, claim_step, file_step, back_step, worker_step}
 use Rattle.pf_desks.specs.World.{World, Step, client, worker, desk_at, worked, step}
 use Rattle.pf_desks.proofs.Histories as histories
+use Rattle.pf_desks.proofs.Within.{legal_within}
 use Rattle.pf_worlds.specs.Workshop.{RunProfile, Progress, going, over, ClaimedRun, Hand, Deque, Workshop, new_workshop}
 use Rattle.pf_worlds.specs.Chores.{Chore, claiming, slicing, parking, taking_up, stealing, filing, giving_back, Response, Effect, MOST_PARKED, is_run_of, is_going, hand_emptied, file_effect, free_effect, busy_effect, chore_effect}
 use Rattle.pf_worlds.specs.Steps.{WorkshopStep, client_calls, worker_does, deque_owner, with_effect, effect_of, take_step}
 use Rattle.pf_worlds.specs.Memory.{refused_in, RespondsTo, RespondsInTurn}
-use Rattle.pf_worlds.specs.Laws.{LegalityAmongWorkers}
+use Rattle.pf_worlds.specs.Laws.{LegalityAmongWorkers, LimitsAmongWorkers}
 use Rattle.pf_worlds.proofs.Effects.{from_some, where_so, where_claimed, where_from_deque, where_done}
 
 module _ (p : RunProfile) where
@@ -87,7 +88,7 @@ module _ (p : RunProfile) where
           where_done (IsWorkEffect (desk_at r s.desks)) p s w r t k e i (λ hand rs x y done. chore_work r t k (desk_at r s.desks) hand rs e done)
           ) h
 
-  refused_desks : (s : Workshop) (x : WorkshopStep) → (refused_in s x).desks ≡ s.desks
+  pub refused_desks : (s : Workshop) (x : WorkshopStep) → (refused_in s x).desks ≡ s.desks
   refused_desks s (client_calls r c) = refl
   refused_desks s (worker_does w r t claiming) = refl
   refused_desks s (worker_does w r t (slicing n)) = refl
@@ -111,3 +112,6 @@ pub legal : LegalityAmongWorkers
 legal p n q xs ans s to =
     let reached : IsReached p s.desks = reached_from p (new_workshop n) s xs ans to ([], refl) in
     subst (λ (w : World). IsLegalDesk p.profile (desk_at q w)) (sym reached.1) (histories.legal p.profile q reached.0)
+
+pub limits : LimitsAmongWorkers
+limits p n q xs ans s to = legal_within p.profile (desk_at q s.desks) (legal p n q xs ans s to)

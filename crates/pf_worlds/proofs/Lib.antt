@@ -9,3 +9,5 @@ pub mod Deleted
 pub mod Legal
 pub mod InTurn
 pub mod OfTrials
+pub mod Numbers
+pub mod Noted

@@ -4,6 +4,8 @@ use Rattle.pf_fault.specs.declared.code.Code.TheVariants as code
 use Rattle.pf_request.specs.Calls.{Call, status, fetch}
 use Rattle.pf_desks.specs.Desk.{Reply, refused}
 use Rattle.pf_desks.specs.History.{IsLegalDesk}
+use Rattle.pf_desks.specs.Limits.{IsInLimits}
+use Rattle.pf_desks.specs.Numbers.{TellEachOnce}
 use Rattle.pf_desks.specs.World.{desk_at}
 use Rattle.pf_worlds.specs.Workshop.{RunProfile, Workshop, new_workshop}
 use Rattle.pf_worlds.specs.Chores.{Response}
@@ -59,3 +61,13 @@ abbrev pub LegalityAmongWorkers : Type 0
 LegalityAmongWorkers =
     (p : RunProfile) (n q : ℕ) (xs : List WorkshopStep) (ans : List (Option Response)) (s : Workshop)
     → RespondsInTurn p (new_workshop n) xs ans s → IsLegalDesk p.profile (desk_at q s.desks)
+
+-- whatever steps there are, and wherever growths are refused, the desk of each project is within its limits
+abbrev pub LimitsAmongWorkers : Type 0
+LimitsAmongWorkers =
+    (p : RunProfile) (n q : ℕ) (xs : List WorkshopStep) (ans : List (Option Response)) (s : Workshop)
+    → RespondsInTurn p (new_workshop n) xs ans s → IsInLimits (desk_at q s.desks)
+
+-- whatever steps there are, no number of a module is told to a project twice, and no ticket
+abbrev pub NumbersAmongWorkers : Type 0
+NumbersAmongWorkers = (p : RunProfile) (n q : ℕ) (xs : List WorkshopStep) → TellEachOnce (heard q xs (all_responses p n xs))

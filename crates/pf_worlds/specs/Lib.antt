@@ -9,3 +9,4 @@ pub mod Encoding
 pub mod Worked
 pub mod View
 pub mod Told
+pub mod Noted

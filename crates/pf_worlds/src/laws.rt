@@ -1,8 +1,10 @@
 //! Laws of the definitions: functions with empty bodies, whose contracts are the laws. None of them promises that a
 //! trial is ever claimed or run to its end.
 
-ghost use Rattle.pf_worlds.specs.Laws.{AnsweredInTurn, DeletionOfOthers, IsolationAmongWorkers, LegalityAmongWorkers, SettledReplies};
+ghost use Rattle.pf_worlds.specs.Laws.{AnsweredInTurn, DeletionOfOthers, IsolationAmongWorkers, LegalityAmongWorkers};
+ghost use Rattle.pf_worlds.specs.Laws.{LimitsAmongWorkers, NumbersAmongWorkers, SettledReplies};
 ghost use Rattle.pf_worlds.specs.Jobs.{JobsAmongWorkers};
+ghost use Rattle.pf_worlds.specs.Noted.{HistoriesNoteTheCalls};
 ghost use Rattle.pf_worlds.specs.Worked.{WorkedSteps, WorkedTexts};
 
 /// Isolation: for every list of steps, of any length, in any order and of any number of workers and projects, a
@@ -32,6 +34,26 @@ pub fn settled()
 /// is over is filed is what a step says, and no history.
 pub fn legality()
     ensures { LegalityAmongWorkers }
+{}
+
+/// Notes: for every list of steps, wherever growths are refused, the history of a project's desk notes its calls with the
+/// replies that they got, in their order, as many as a log holds. So what a law says of a legal history it says of what
+/// clients are told.
+pub fn histories_note_the_calls()
+    ensures { HistoriesNoteTheCalls }
+{}
+
+/// Limits: for every list of steps, wherever growths are refused, what each project's desk uses passes none of the limits
+/// of its edition. It is the law of legal desks of `pf_desks`, by legality.
+pub fn limits()
+    ensures { LimitsAmongWorkers }
+{}
+
+/// Numbers: for every list of steps, the modules' numbers that a project hears are 1, 2, 3 and so on, and so are its
+/// tickets. It speaks of lists in which no growth is refused; of what the histories of others note the law of legal
+/// histories of `pf_desks` does.
+pub fn numbers()
+    ensures { NumbersAmongWorkers }
 {}
 
 /// Jobs: for every list of steps, wherever growths are refused, each run that a worker holds or has parked is of the job
