@@ -156,7 +156,8 @@ many_lines() {
   done
 }
 
-# Runs of more than a slice are parked, and go on: each ends as it does alone. What the workers did is told at the end.
+# Runs of more than a slice are parked, and go on: each ends as it does alone. What the workers did is told at the end: each run has two slices, so it is parked once, and
+# one worker has nobody to steal from.
 parked_runs() {
   names=''
   : > wanted
@@ -171,10 +172,13 @@ parked_runs() {
     # shellcheck disable=SC2086
     farm 0 "$workers" $names --summary
     awk -v workers="$workers" '
-      /^pulsefarm: worker [0-9]+: [0-9]+ claims, [0-9]+ steals, [0-9]+ parks, [0-9]+ hand-backs$/ { lines++; claims += $4; parks += $8; backs += $10; next }
+      /^pulsefarm: worker [0-9]+: [0-9]+ claims, [0-9]+ steals, [0-9]+ parks, [0-9]+ hand-backs$/ { lines++; claims += $4; steals += $6; parks += $8; backs += $10; next }
       /^pulsefarm: [0-9]+\.[0-9][0-9][0-9] s$/ { seconds++; next }
       { other++ }
-      END { exit !(lines == workers && claims == 24 && parks >= 24 && backs == 0 && seconds == 1 && other == 0) }' err
+      END {
+        shared = workers == 1 ? steals == 0 : steals <= parks
+        exit !(lines == workers && claims == 24 && parks == 24 && shared && backs == 0 && seconds == 1 && other == 0)
+      }' err
     note "the summary of $workers" $?
   done
 }

@@ -1,73 +1,98 @@
--- What was pushed is what was popped, what was stolen, and what the deque holds, each as often.
-use Rattle.std.specs.Prelude.{ℕ, ◌+◌, ◌≤◌, ◌≡◌, Bool, true, false, List, [], ◌∷◌, ◌++◌, length}
+-- What was pushed is what was popped and what was stolen, each in its order, and then what the deque holds.
+use Rattle.std.specs.Prelude.{ℕ, zero, suc, ◌≡◌, ◌⊎◌, Bool, true, false, List, [], ◌∷◌, ◌++◌, map, Option, Some, None}
 use mathlib.Core.Option.{some}
 use lib.ListN.{get_elem?}
 use Rattle.pf_deques.specs.declared.part.Part.{Part}
 
 module _ {T : Type 0} where
-  -- the weights of some items, added up
-  abbrev pub weigh : (T → ℕ) → List T → ℕ
-  weigh h [] = 0
-  weigh h (x ∷ xs) = h x + weigh h xs
+  -- each item of these went left or right, in order: so both are what they were, each as often
+  abbrev pub IsDealt : (items left right : List T) → Type 0
+  IsDealt [] left right = (left ≡ []) × (right ≡ [])
+  IsDealt (x ∷ xs) left right =
+      ((rest : List T) × (left ≡ x ∷ rest) × IsDealt xs rest right) ⊎ ((rest : List T) × (right ≡ x ∷ rest) × IsDealt xs left rest)
 
-  -- however items are weighed, what was pushed weighs what was popped, stolen and is held
-  abbrev pub AddsUp : List T → List T → List T → List T → Type 0
-  AddsUp pushed popped stolen items = (h : T → ℕ) → weigh h pushed ≡ weigh h popped + weigh h stolen + weigh h items
+  -- ---- what a deque holds
 
-  -- what was pushed was popped or stolen, each as often
-  abbrev pub AreEven : List T → List T → List T → Type 0
-  AreEven pushed popped stolen = (h : T → ℕ) → weigh h pushed ≡ weigh h popped + weigh h stolen
+  abbrev pub marks : ℕ → List (Option T)
+  marks zero = []
+  marks (suc n) = None ∷ marks n
+
+  -- items, and behind them marks, which are its owner's alone
+  abbrev pub entries : List T → ℕ → List (Option T)
+  entries items n = map Some items ++ marks n
+
+  -- ---- what its owner learns
+
+  -- the deque was found empty: all that was pushed was popped or stolen, and where the owner is the thief too, this was stolen
+  abbrev pub IsFoundEmpty : (steals : Bool) → (pushed popped own : List T) → Type 0
+  IsFoundEmpty steals pushed popped own = (stolen : List T) × IsDealt pushed popped stolen × (steals ≡ true → stolen ≡ own)
+
+  -- this item was the first: all that was pushed before it was popped or stolen
+  abbrev pub IsFirst : (steals : Bool) → (pushed popped own : List T) → T → Type 0
+  IsFirst steals pushed popped own x =
+      (before : List T) × (behind : List T) × (stolen : List T) × (pushed ≡ before ++ x ∷ behind) × IsDealt before popped stolen × (steals ≡ true → stolen ≡ own)
 
   -- ---- parts
 
-  abbrev pub part : Bool → Bool → List T → List T → List T → Part T
-  part owns steals pushed popped stolen = record { owns = owns; steals = steals; pushed = pushed; popped = popped; stolen = stolen }
-
-  abbrev pub owner_part : List T → List T → Part T
-  owner_part pushed popped = part true false pushed popped []
-
-  abbrev pub thief_part : List T → Part T
-  thief_part stolen = part false true [] [] stolen
-
-  abbrev pub whole_part : List T → List T → List T → Part T
-  whole_part pushed popped stolen = part true true pushed popped stolen
-
   -- both ends, of a deque through which nothing went yet
   abbrev pub first_part : Part T
-  first_part = whole_part [] [] []
+  first_part = record { owns = true; steals = true; sealed = false; drained = true; pushed = []; popped = []; stolen = [] }
 
   abbrev pub no_part : Part T
-  no_part = part false false [] [] []
+  no_part = record { owns = false; steals = false; sealed = false; drained = false; pushed = []; popped = []; stolen = [] }
+
+  abbrev pub thief_part : List T → Part T
+  thief_part stolen = record no_part { steals = true; stolen = stolen }
+
+  -- what is left to the owner where another steals
+  abbrev pub owner_part : Part T → Part T
+  owner_part v = record v { steals = false; stolen = [] }
+
+  -- the owner's part with the thief's
+  abbrev pub both_parts : Part T → Part T → Part T
+  both_parts v w = record v { steals = true; stolen = w.stolen }
 
   -- ---- steps
 
-  abbrev pub HasPushed : Part T → List T → Part T → Type 0
-  HasPushed v xs w = w ≡ part v.owns v.steals (v.pushed ++ xs) v.popped v.stolen
+  -- an item is pushed, so the deque isn't drained; or a mark, and no item is pushed from then on
+  abbrev pub HasPushed : Part T → List (Option T) → Part T → Type 0
+  HasPushed v [] w = w ≡ v
+  HasPushed v (None ∷ xs) w = w ≡ record v { sealed = true }
+  HasPushed v (Some x ∷ xs) w = w ≡ record v { drained = false; pushed = v.pushed ++ x ∷ [] }
 
-  abbrev pub HasPopped : Part T → List T → Part T → Type 0
-  HasPopped v xs w = w ≡ part v.owns v.steals v.pushed (v.popped ++ xs) v.stolen
+  -- the first item is popped; or a mark, and the deque is drained
+  abbrev pub HasPopped : Part T → List (Option T) → Part T → Type 0
+  HasPopped v [] w = w ≡ v
+  HasPopped v (None ∷ xs) w = (w ≡ record v { drained = true }) × IsFoundEmpty v.steals v.pushed v.popped v.stolen
+  HasPopped v (Some x ∷ xs) w = (w ≡ record v { popped = v.popped ++ x ∷ [] }) × IsFirst v.steals v.pushed v.popped v.stolen x
 
-  abbrev pub HasStolen : Part T → List T → Part T → Type 0
-  HasStolen v xs w = w ≡ part v.owns v.steals v.pushed v.popped (v.stolen ++ xs)
+  abbrev pub FindsNothing : Part T → Type 0
+  FindsNothing v = IsFoundEmpty v.steals v.pushed v.popped v.stolen
 
-  -- what is left over was popped, and there was no more of it than had been pushed
-  abbrev pub HasTakenOut : Part T → List T → Part T → Type 0
-  HasTakenOut v xs w = HasPopped v xs w × (length (v.popped ++ xs) + length v.stolen ≤ length v.pushed)
+  -- the first item is stolen; or a mark, which changes nothing
+  abbrev pub HasStolen : Part T → List (Option T) → Part T → Type 0
+  HasStolen v [] w = w ≡ v
+  HasStolen v (None ∷ xs) w = w ≡ v
+  HasStolen v (Some x ∷ xs) w = w ≡ record v { stolen = v.stolen ++ x ∷ [] }
 
-  -- nothing is left
-  abbrev pub IsSpent : Part T → Type 0
-  IsSpent v = AreEven v.pushed v.popped v.stolen
+  -- whoever has both ends of a drained deque knows that all was popped or stolen
+  abbrev pub IsSpent : Part T → List (Option T) → Type 0
+  IsSpent v items = v.drained ≡ true → IsDealt v.pushed v.popped v.stolen
 
   -- ---- the rule
 
-  -- one holder at most owns and knows what was pushed and popped, and one at most steals and knows what was stolen
-  abbrev pub Knows : ℕ → ℕ → List T → List T → List T → ℕ → Part T → Type 0
-  Knows owner thief pushed popped stolen holder v =
-      (v.owns ≡ true → (holder ≡ owner) × (v.pushed ≡ pushed) × (v.popped ≡ popped))
+  -- one holder at most owns: it knows what was pushed and popped, and that no mark is there unless it sealed the deque, and no item if that is drained. One at most
+  -- steals, and knows what was stolen
+  abbrev pub Knows : (owner thief : ℕ) → (pushed popped stolen held : List T) → (count : ℕ) → (holder : ℕ) → Part T → Type 0
+  Knows owner thief pushed popped stolen held count holder v =
+      (v.owns ≡ true → (holder ≡ owner) × (v.pushed ≡ pushed) × (v.popped ≡ popped) × (v.sealed ≡ false → count ≡ 0) × (v.drained ≡ true → held ≡ []))
       × (v.steals ≡ true → (holder ≡ thief) × (v.stolen ≡ stolen))
 
-  abbrev pub IsBalanced : List T → List (Part T) → Type 0
-  IsBalanced items holders =
-      (owner : ℕ) × (thief : ℕ) × (pushed : List T) × (popped : List T) × (stolen : List T)
-      × AddsUp pushed popped stolen items
-      × ((holder : ℕ) (v : Part T) → get_elem? holders holder ≡ some v → Knows owner thief pushed popped stolen holder v)
+  -- what was pushed is what was popped or stolen, in order, and then what is held
+  abbrev pub IsInOrder : List (Option T) → List (Part T) → Type 0
+  IsInOrder items holders =
+      (owner : ℕ) × (thief : ℕ) × (pushed : List T) × (popped : List T) × (stolen : List T) × (taken : List T) × (held : List T) × (count : ℕ)
+      × (items ≡ entries held count)
+      × (pushed ≡ taken ++ held)
+      × IsDealt taken popped stolen
+      × ((holder : ℕ) (v : Part T) → get_elem? holders holder ≡ some v → Knows owner thief pushed popped stolen held count holder v)

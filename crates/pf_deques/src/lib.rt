@@ -3,7 +3,5 @@
 
 mod ends;
 mod part;
-mod whole;
 
-pub use ends::{Owner, Thief, open};
-pub use whole::Whole;
+pub use ends::{Owner, Thief, open, open_alone};

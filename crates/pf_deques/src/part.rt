@@ -1,66 +1,68 @@
 //! The part that the holder of a deque's end has in it, and the steps that change it.
 
-use crossbeam_deque::protocol::{Join, Outcome, Protocol, Split};
+use crossbeam_deque::protocol::{Join, Lesson, Outcome, Protocol, Split};
 use std::collections::LinkedList;
 
-/// What a holder may do, and what it pushed, popped and stole. No value of it is made.
+/// What a holder may do, whether it pushed a mark, whether it knows that nothing is left, and what it pushed, popped and stole. No value of it is made.
 pub struct Part<T> {
     pub owns: bool,
     pub steals: bool,
+    pub sealed: bool,
+    pub drained: bool,
     pub pushed: LinkedList<T>,
     pub popped: LinkedList<T>,
     pub stolen: LinkedList<T>,
 }
 
-/// The rule of a deque: what was pushed is what was popped, what was stolen and what is held, each as often.
-pub struct Balanced;
+/// The rule of a deque: what was pushed is what was popped or stolen, in order, and then what is held.
+pub struct InOrder;
 
-impl<T> Protocol<T, Part<T>> for Balanced {
-    ghost use Rattle.pf_deques.specs.Parts.{first_part, no_part, IsBalanced};
+impl<T> Protocol<Option<T>, Part<T>> for InOrder {
+    ghost use Rattle.pf_deques.specs.Parts.{first_part, no_part, IsInOrder};
 
-    ghost holds = { IsBalanced };
+    ghost holds = { IsInOrder };
 
     ghost first = { first_part };
 
     ghost guest = { no_part };
 }
 
-/// The owner pushed.
+/// The owner pushed an item, or a mark.
 pub struct Pushed;
 
-impl<T> Outcome<T, Part<T>> for Pushed {
+impl<T> Outcome<Option<T>, Part<T>> for Pushed {
     ghost use Rattle.pf_deques.specs.Parts.{HasPushed};
 
     ghost then = { HasPushed };
 }
 
-/// The owner popped.
+/// The owner popped an item, or a mark, or found nothing.
 pub struct Popped;
 
-impl<T> Outcome<T, Part<T>> for Popped {
-    ghost use Rattle.pf_deques.specs.Parts.{HasPopped};
+impl<T> Outcome<Option<T>, Part<T>> for Popped {
+    ghost use Rattle.pf_deques.specs.Parts.{FindsNothing, HasPopped};
 
     ghost then = { HasPopped };
+
+    ghost empty = { FindsNothing };
 }
 
-/// The thief stole.
+/// The thief stole an item, or a mark.
 pub struct Stolen;
 
-impl<T> Outcome<T, Part<T>> for Stolen {
+impl<T> Outcome<Option<T>, Part<T>> for Stolen {
     ghost use Rattle.pf_deques.specs.Parts.{HasStolen};
 
     ghost then = { HasStolen };
 }
 
-/// One who has both ends took out what was left, or found nothing.
-pub struct LeftOver;
+/// What whoever has both ends knows of a drained deque.
+pub struct Spent;
 
-impl<T> Outcome<T, Part<T>> for LeftOver {
-    ghost use Rattle.pf_deques.specs.Parts.{HasTakenOut, IsSpent};
+impl<T> Lesson<Option<T>, Part<T>> for Spent {
+    ghost use Rattle.pf_deques.specs.Parts.{IsSpent};
 
-    ghost then = { HasTakenOut };
-
-    ghost empty = { IsSpent };
+    ghost fact = { IsSpent };
 }
 
 /// The two ends part, or come together again.
@@ -69,15 +71,15 @@ pub struct Ends;
 impl<T> Split<Part<T>> for Ends {
     ghost use Rattle.pf_deques.specs.Parts.{owner_part, thief_part};
 
-    ghost left = { λ v. owner_part v.pushed v.popped };
+    ghost left = { owner_part };
 
     ghost right = { λ v. thief_part v.stolen };
 }
 
 impl<T> Join<Part<T>> for Ends {
-    ghost use Rattle.pf_deques.specs.Parts.{no_part, whole_part};
+    ghost use Rattle.pf_deques.specs.Parts.{no_part, both_parts};
 
-    ghost both = { λ v w. whole_part v.pushed v.popped w.stolen };
+    ghost both = { both_parts };
 
     ghost spent = { no_part };
 }

@@ -28,7 +28,7 @@ module _ (N : RattleType) (g : names.Ghosts N.Denot) where
   held_run_send = search (hall.open_claim_send, sched.parked_send, sendable) depth 30
 
   pub work_seat_send : IsSend (WorkSeat.the_row N g)
-  work_seat_send = search (held_run_send, owner.the_send, thief.the_send, share.the_send, tally.the_field_send, sendable) depth 30
+  work_seat_send = search (held_run_send, owner.the_send, thief.the_send, share.the_send, tally.the_field_send, heap.crosses, sendable) depth 30
 
   -- ---- the floor
 

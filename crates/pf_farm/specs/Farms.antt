@@ -1,5 +1,5 @@
 -- What contracts see of a farm.
-use Rattle.std.specs.Prelude.{◌≡◌, ⊤, ℕ}
+use Rattle.std.specs.Prelude.{◌≡◌, ◌<◌, ℕ}
 use Rattle.pf_fault.specs.declared.fault.OrNoMemory.{OrNoMemory}
 use Rattle.pf_fault.specs.declared.fault.OrNoMemory.TheVariants.{Fault, NoMemory}
 use Rattle.pf_farm.specs.declared.farm.NoSeat.{NoSeat}
@@ -13,7 +13,7 @@ pub record FarmView : Type 0 where
 abbrev pub farm_of : (workers given : ℕ) → FarmView
 farm_of workers given = record { workers = workers; given = given }
 
--- a seat is refused where as many were given as may be, or memory ran out
+-- a seat is refused where as many were given as may be; memory runs out only where fewer were
 abbrev pub LacksSeat : OrNoMemory NoSeat → FarmView → Type 0
 LacksSeat (Fault e) f = f.given ≡ MOST_SEATS
-LacksSeat NoMemory f = ⊤
+LacksSeat NoMemory f = f.given < MOST_SEATS

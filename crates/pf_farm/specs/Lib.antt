@@ -1,2 +1,3 @@
 pub mod Farms
+pub mod Floors
 pub mod Seats

@@ -1,11 +1,11 @@
 //! A farm from its opening to its end.
 
-ghost use Rattle.std.specs.Prelude.{◌≡◌, ℕ, ◌+◌, ◌<◌, ◌≤◌, List, [], ◌++◌, Some, false, length, map, vec_len, IfOk, IfErr};
+ghost use Rattle.std.specs.Prelude.{◌≡◌, ◌+◌, ◌<◌, ◌≤◌, [], Some, false, length, map, vec_len, IfOk, IfErr};
 ghost use Rattle.pf_ledger.specs.Rows.{HaveEnded};
-ghost use Rattle.pf_deques.specs.Parts.{AreEven};
 ghost use Rattle.pf_book.specs.Profile.{ForRight};
 ghost use Rattle.pf_told.specs.Told.{IsTold};
 ghost use Rattle.pf_hall.specs.Clients.{all_receipts, closed_as, empty_client, AreFull, AreTheCalls};
+ghost use Rattle.pf_deques.specs.Views.{stolen_by};
 ghost use Rattle.pf_farm.specs.Farms.{farm_of, LacksSeat};
 ghost use Rattle.pf_farm.specs.Seats.{IsRing, AllIdle, IsSpent, seat_at};
 
@@ -14,7 +14,7 @@ use crate::held::HeldRun;
 use crate::seat::WorkSeat;
 use crate::tally::WorkTally;
 use pf_book::Reply;
-use pf_deques::{Owner, Thief, Whole};
+use pf_deques::{Owner, Thief};
 use pf_farm_names::{CallLedger, EndedLedger, FarmNames, OpenedLedger};
 use pf_fault::OrNoMemory;
 use pf_hall::{ClientSeat, ClosedSeat, Closing, Hall};
@@ -87,8 +87,8 @@ impl<N: FarmNames> Model for Farm<N> {
 }
 
 impl<N: FarmNames> Farm<N> {
-    /// A farm of so many workers, with a seat for each: each steals from the next one's deque, and the last from the first one's. It hashes with these keys, and has given
-    /// no seat to a client.
+    /// A farm of so many workers, with a seat for each: each steals from the next one's deque, and the last from the first one's; one alone steals from nobody. It hashes
+    /// with these keys, and has given no seat to a client.
     pub fn open(
         alloc: Global,
         keys: RandomState,
@@ -116,7 +116,7 @@ impl<N: FarmNames> Farm<N> {
         let (all_opened, mut opened) = opened.open::<OpenedLedger<N>>();
         let (all_ended, mut ended) = ended.open::<EndedLedger<N>>();
         let (logged, calls) = calls.open::<CallLedger<N>>();
-        let seats = ring_of_seats(alloc, &mut opened, &mut ended, workers)?;
+        let seats = all_seats(alloc, &mut opened, &mut ended, workers)?;
         let hall = Hall::new(alloc, keys, all_opened, all_ended, logged, claims, receipts);
         let farm = Farm {
             floor: Floor::new(hall),
@@ -160,9 +160,9 @@ impl<N: FarmNames> Farm<N> {
         &self.floor
     }
 
-    /// Closes the farm, with the seats of all its clients and of all its workers, each of which has returned. Runs that are parked still are handed back. No claim is open
-    /// then, the ledger tells what the histories tell, and what was pushed to a deque was popped or stolen, each as often. The receipts of the clients are those of all calls
-    /// that the histories note, each once.
+    /// Closes the farm, with the seats of all its clients and of all its workers, each of which has returned. No claim is open then, the ledger tells what the histories
+    /// tell, and what was pushed to a deque was popped or stolen, each in order and so as often. The receipts of the clients are those of all calls that the histories note,
+    /// each once.
     pub fn close(self, clients: Vec<ClientSeat<N>>, seats: Vec<WorkSeat<N>>) -> Closing
         requires clients { vec_len clients ≡ self.given }
         requires all { vec_len seats ≡ self.workers }
@@ -184,14 +184,15 @@ impl<N: FarmNames> Farm<N> {
             given: _,
             closed,
         } = self;
-        let mut hall = floor.into_hall();
-        gather(&mut hall, &mut opened, &mut ended, seats);
-        hall.settle(&mut opened, &mut ended, calls, clients, closed)
+        gather(&mut opened, &mut ended, seats);
+        floor
+            .into_hall()
+            .settle(&mut opened, &mut ended, calls, clients, closed)
     }
 }
 
-/// A ring of idle seats, each with a part of each ledger.
-fn ring_of_seats<N: FarmNames>(
+/// The idle seats of so many workers, each with a part of each ledger.
+fn all_seats<N: FarmNames>(
     alloc: Global,
     opened: &mut Share<OpenedLedger<N>>,
     ended: &mut Share<EndedLedger<N>>,
@@ -207,14 +208,40 @@ fn ring_of_seats<N: FarmNames>(
     ensures ended { IfOk result (λ _. (ended.new.parts + workers ≡ ended.old.parts)
         × (ended.new.amount ≡ ended.old.amount)) }
 {
+    if workers > 1 {
+        return ring_of_seats(alloc, opened, ended, workers);
+    }
+    let own = pf_deques::open_alone(alloc, FIRST_ROOM)?;
+    let mut seats = Vec::new(alloc);
+    seats.push(seat(opened, ended, own, None))?;
+    Ok(seats)
+}
+
+/// A ring of idle seats, of two at least, each with a part of each ledger.
+fn ring_of_seats<N: FarmNames>(
+    alloc: Global,
+    opened: &mut Share<OpenedLedger<N>>,
+    ended: &mut Share<EndedLedger<N>>,
+    workers: usize,
+) -> Result<Vec<WorkSeat<N>>, NoMemory>
+    requires some { 1 < workers }
+    requires parts { (workers < opened.old.parts) × (workers < ended.old.parts) }
+    ensures len { IfOk result (λ v. vec_len v ≡ workers) }
+    ensures ring { IfOk result (λ v. IsRing v.items) }
+    ensures idle { IfOk result (λ v. AllIdle v.items) }
+    ensures opened { IfOk result (λ _. (opened.new.parts + workers ≡ opened.old.parts)
+        × (opened.new.amount ≡ opened.old.amount)) }
+    ensures ended { IfOk result (λ _. (ended.new.parts + workers ≡ ended.old.parts)
+        × (ended.new.amount ≡ ended.old.amount)) }
+{
     let mut seats = Vec::new(alloc);
     let (mut owner, first) = pf_deques::open(alloc, FIRST_ROOM)?;
     for i in 1..workers {
         let (own, next) = pf_deques::open(alloc, FIRST_ROOM)?;
-        seats.push(seat(opened, ended, owner, next))?;
+        seats.push(seat(opened, ended, owner, Some(next)))?;
         owner = own;
     }
-    seats.push(seat(opened, ended, owner, first))?;
+    seats.push(seat(opened, ended, owner, Some(first)))?;
     Ok(seats)
 }
 
@@ -223,11 +250,10 @@ fn seat<N: FarmNames>(
     opened: &mut Share<OpenedLedger<N>>,
     ended: &mut Share<EndedLedger<N>>,
     own: Owner<HeldRun<N>>,
-    next: Thief<HeldRun<N>>,
+    next: Option<Thief<HeldRun<N>>>,
 ) -> WorkSeat<N>
     requires parts { (1 < opened.old.parts) × (1 < ended.old.parts) }
-    requires own { (own.1 ≡ []) × (own.2 ≡ []) }
-    requires next { next.1 ≡ [] }
+    requires none { (own.pushed ≡ []) × (own.popped ≡ []) × (stolen_by next ≡ []) }
     ensures seat { result ≡ seat_at own next }
     ensures opened { (opened.new.parts + 1 ≡ opened.old.parts) × (opened.new.amount ≡ opened.old.amount) }
     ensures ended { (ended.new.parts + 1 ≡ ended.old.parts) × (ended.new.amount ≡ ended.old.amount) }
@@ -239,13 +265,13 @@ fn seat<N: FarmNames>(
         ended: ended.split_off(1, 0),
         busy: false,
         ahead: 0,
+        filed: 0,
         tally: WorkTally::default(),
     }
 }
 
-/// Takes in all seats from the last to the first, and hands back all runs that are parked.
+/// Takes in all seats from the last to the first, and gives up their deques, in which nothing is left.
 fn gather<N: FarmNames>(
-    hall: &mut Hall<N>,
     opened: &mut Share<OpenedLedger<N>>,
     ended: &mut Share<EndedLedger<N>>,
     seats: Vec<WorkSeat<N>>,
@@ -253,7 +279,6 @@ fn gather<N: FarmNames>(
     requires some { 0 < vec_len seats }
     requires ring { IsRing seats.items }
     requires idle { AllIdle seats.items }
-    requires parts { 0 < ended.old.parts }
     ensures opened { opened.new.parts ≡ opened.old.parts + vec_len seats }
     ensures ended { ended.new.parts ≡ ended.old.parts + vec_len seats }
     ensures even { opened.new.amount + ended.old.amount ≡ ended.new.amount + opened.old.amount }
@@ -264,26 +289,25 @@ fn gather<N: FarmNames>(
         let (mut owner, thief) = take_in(last, opened, ended);
         'seats: while let Some(seat) = seats.pop() {
             let (own, next) = take_in(seat, opened, ended);
-            clear(hall, ended, owner, next);
+            owner.close(next);
             owner = own;
         }
-        clear(hall, ended, owner, thief);
+        owner.close(thief);
     }
 }
 
-/// Takes in a seat's shares. Its two ends are left.
+/// Takes in a seat's shares. Its ends are left.
 fn take_in<N: FarmNames>(
     seat: WorkSeat<N>,
     opened: &mut Share<OpenedLedger<N>>,
     ended: &mut Share<EndedLedger<N>>,
-) -> (Owner<HeldRun<N>>, Thief<HeldRun<N>>)
+) -> (Owner<HeldRun<N>>, Option<Thief<HeldRun<N>>>)
     requires { seat.busy ≡ false }
-    ensures owner { result.0 ≡ (seat.own, seat.pushed, seat.popped) }
-    ensures thief { result.1 ≡ (seat.next, seat.stolen) }
+    ensures ends { result ≡ (seat.own, seat.next) }
     ensures opened { opened.new.parts ≡ opened.old.parts + 1 }
     ensures ended { ended.new.parts ≡ ended.old.parts + 1 }
-    ensures amounts { opened.new.amount + ended.old.amount + length seat.popped + length seat.stolen
-        ≡ ended.new.amount + opened.old.amount + length seat.pushed }
+    ensures amounts { opened.new.amount + ended.old.amount + length seat.own.popped + length (stolen_by seat.next)
+        ≡ ended.new.amount + opened.old.amount + length seat.own.pushed }
 {
     let WorkSeat {
         own,
@@ -292,29 +316,10 @@ fn take_in<N: FarmNames>(
         ended: less,
         busy: _,
         ahead: _,
+        filed: _,
         tally: _,
     } = seat;
     opened.merge(more);
     ended.merge(less);
     (own, next)
-}
-
-/// Hands back all runs that are parked in a deque. What was pushed was popped or stolen then, each as often.
-fn clear<N: FarmNames>(
-    hall: &mut Hall<N>,
-    ended: &mut Share<EndedLedger<N>>,
-    owner: Owner<HeldRun<N>>,
-    thief: Thief<HeldRun<N>>,
-)
-    requires ends { owner.0 ≡ thief.0 }
-    requires parts { 0 < ended.old.parts }
-    ensures parts { ended.new.parts ≡ ended.old.parts }
-    ensures amount { ended.new.amount + length owner.2 + length thief.1 ≡ ended.old.amount + length owner.1 }
-    ensures even { (last : List ℕ) × AreEven owner.1 (owner.2 ++ last) thief.1 }
-{
-    let mut whole = Whole::of(owner, thief);
-    'clears: while let Some(run) = whole.pop() {
-        let (claim, _) = run.into_parts();
-        hall.hand_back(ended, claim);
-    }
 }

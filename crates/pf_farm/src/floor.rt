@@ -1,8 +1,13 @@
 //! What all threads of a farm share.
 
-ghost use Rattle.std.specs.Prelude.{◌≡◌, true, false, is_some, IfOk, OnErr};
-ghost use Rattle.pf_hall.specs.Clients.{GetsReceipt};
-ghost use Rattle.pf_farm.specs.Seats.{SameEnds};
+ghost use Rattle.std.specs.Prelude.{◌≡◌, true, false, is_some, IfOk, OnErr, option_map};
+ghost use Rattle.pf_desks.specs.Calls.{stage_of};
+ghost use Rattle.pf_desks.specs.Desk.{held_at};
+ghost use Rattle.pf_desks.specs.World.{desk_at};
+ghost use Rattle.pf_book.specs.View.{view_of_stage};
+ghost use Rattle.pf_hall.specs.Clients.{GetsReceipt, StaysFull};
+ghost use Rattle.pf_farm.specs.Floors.{must_wait, IsOver};
+ghost use Rattle.pf_farm.specs.Seats.{HasFiled, IsAsBefore};
 
 use crate::seat::WorkSeat;
 use crate::waiting::{SLOTS, Waiting, slot_of};
@@ -37,14 +42,34 @@ impl<N: FarmNames> Shared<N> {
         self.moves = self.moves.wrapping_add(1);
     }
 
-    /// Whether the trial of a project's ticket waits for a worker, or one has it, while the farm goes on.
-    fn is_undone(&self, project: u32, ticket: u64) -> bool {
-        !self.stopped
-            && matches!(
-                self.hall.stage(project, ticket),
-                Some(Stage::Queued | Stage::Running)
-            )
+    /// How far the trial of a project's ticket is, and whether the farm stops.
+    fn look(&self, project: u32, ticket: u64) -> LastSeen
+        ensures stage { option_map view_of_stage result.stage
+            ≡ option_map (λ t. stage_of t.state) (held_at (desk_at project self.now.hall.desks).trials ticket) }
+        ensures stops { result.stops ≡ self.now.stopped }
+    {
+        LastSeen {
+            stage: self.hall.stage(project, ticket),
+            stops: self.stopped,
+        }
     }
+
+    /// Whether the trial of a project's ticket waits for a worker, or one has it, while the farm goes on.
+    fn is_undone(&self, project: u32, ticket: u64) -> bool
+        ensures { result ≡ must_wait
+            (option_map (λ t. stage_of t.state) (held_at (desk_at project self.now.hall.desks).trials ticket))
+            self.now.stopped }
+    {
+        let seen = self.look(project, ticket);
+        !seen.stops && matches!(seen.stage, Some(Stage::Queued | Stage::Running))
+    }
+}
+
+/// What a client saw last that waited for a trial: how far this was, if it was held, and whether the farm stopped.
+#[derive(Clone, Copy, Debug, PartialEq, Eq)]
+pub struct LastSeen {
+    pub stage: Option<Stage>,
+    pub stops: bool,
 }
 
 /// What all threads share: the hall under its lock, and what they wait for. Workers wait for trials that are queued and runs that are parked, and clients for trials that
@@ -94,8 +119,8 @@ impl<N: FarmNames> Floor<N> {
         hall
     }
 
-    /// Answers a client's call at its seat, in one hold of the lock. A call that is logged has a receipt then, with the reply that is answered. After running out of memory
-    /// nothing has changed.
+    /// Answers a client's call at its seat, in one hold of the lock. A call that is logged has a receipt then, with the reply that is answered. One for which the log has no
+    /// room is refused, and each call of a seat that is full is. After running out of memory nothing has changed.
     pub fn call<R: Wait>(
         &self,
         alloc: Global,
@@ -105,6 +130,7 @@ impl<N: FarmNames> Floor<N> {
     ) -> Result<Reply, NoMemory>
         ensures project { seat.new.project ≡ seat.old.project }
         ensures receipt { IfOk result (λ r. GetsReceipt call r seat.old seat.new) }
+        ensures full { StaysFull seat.old seat.new result }
         ensures err { OnErr result (seat.new ≡ seat.old) }
     {
         let mut shared = self.shared.lock(rt);
@@ -122,8 +148,10 @@ impl<N: FarmNames> Floor<N> {
         Ok(reply)
     }
 
-    /// Waits until the trial of a ticket of the seat's project is done, or isn't held; or until the farm stops.
-    pub fn wait_done<R: Wait>(&self, rt: &R, seat: &ClientSeat<N>, ticket: u64) {
+    /// Waits until the trial of a ticket of the seat's project is done, or isn't held; or until the farm stops. Tells what it saw last.
+    pub fn wait_done<R: Wait>(&self, rt: &R, seat: &ClientSeat<N>, ticket: u64) -> LastSeen
+        ensures { result.stops ≡ false → IsOver result.stage }
+    {
         let project = seat.project();
         let slot = slot_of(project);
         let mut shared = self.shared.lock(rt);
@@ -134,6 +162,7 @@ impl<N: FarmNames> Floor<N> {
             |shared| shared.is_undone(project, ticket),
         );
         shared.clients.leave(slot);
+        shared.look(project, ticket)
     }
 
     /// Has all workers return, once their runs are filed or handed back.
@@ -172,7 +201,7 @@ impl<N: FarmNames> Floor<N> {
         seat: &mut WorkSeat<N>,
     ) -> Result<Option<ClaimedTrial<N>>, NoMemory>
         requires { seat.old.busy ≡ false }
-        ensures ends { SameEnds seat.old seat.new }
+        ensures same { IsAsBefore seat.old seat.new }
         ensures busy { IfOk result (λ o. seat.new.busy ≡ is_some o) }
         ensures err { OnErr result (seat.new.busy ≡ false) }
     {
@@ -187,7 +216,7 @@ impl<N: FarmNames> Floor<N> {
         seat: &mut WorkSeat<N>,
     ) -> Result<Option<ClaimedTrial<N>>, NoMemory>
         requires { seat.old.busy ≡ false }
-        ensures ends { SameEnds seat.old seat.new }
+        ensures same { IsAsBefore seat.old seat.new }
         ensures busy { IfOk result (λ o. seat.new.busy ≡ is_some o) }
         ensures err { OnErr result (seat.new.busy ≡ false) }
     {
@@ -209,7 +238,7 @@ impl<N: FarmNames> Floor<N> {
     )
         requires busy { seat.old.busy ≡ true }
         requires job { claim.1.job.value ≡ finished.job }
-        ensures ends { SameEnds seat.old seat.new }
+        ensures filed { HasFiled seat.old seat.new }
         ensures idle { seat.new.busy ≡ false }
     {
         let project = claim.claim().project;
@@ -227,7 +256,7 @@ impl<N: FarmNames> Floor<N> {
         claim: OpenClaim<N, Job>,
     )
         requires { seat.old.busy ≡ true }
-        ensures ends { SameEnds seat.old seat.new }
+        ensures same { IsAsBefore seat.old seat.new }
         ensures idle { seat.new.busy ≡ false }
     {
         let mut shared = self.shared.lock(rt);

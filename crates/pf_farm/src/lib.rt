@@ -11,7 +11,7 @@ mod waiting;
 mod workers;
 
 pub use farm::{Blanks, Farm, MOST_SEATS, NoSeat};
-pub use floor::Floor;
+pub use floor::{Floor, LastSeen};
 pub use gate::{Direct, Gate};
 pub use seat::WorkSeat;
 pub use tally::WorkTally;

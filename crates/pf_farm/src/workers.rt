@@ -1,7 +1,7 @@
 //! The work of one worker.
 
 ghost use Rattle.std.specs.Prelude.{◌≡◌, ◌<◌, true, false, length, is_some, IfOk, OnErr, OnOk};
-ghost use Rattle.pf_farm.specs.Seats.{AllIdle, IsRing, SameEnds};
+ghost use Rattle.pf_farm.specs.Seats.{AllIdle, IsAsBefore, IsIdle, IsNotLost, IsRing, SameEnds};
 
 use crate::floor::Floor;
 use crate::gate::Gate;
@@ -29,7 +29,7 @@ pub fn work<N: FarmNames, G: Gate, R: Wait>(
 )
     requires { seat.old.busy ≡ false }
     ensures ends { SameEnds seat.old seat.new }
-    ensures idle { seat.new.busy ≡ false }
+    ensures idle { IsIdle seat.new }
 {
     let mut scratch = Scratch::new(alloc);
     'works: for _ in rt.forever() {
@@ -65,23 +65,26 @@ pub fn work_all<N: FarmNames + Sync + Send, G: Gate + Sync, R: Threads + Wait + 
     let work_one = move |_: usize, seat: &mut WorkSeat<N>|
         requires { seat.now.busy ≡ false }
         ensures ends { SameEnds seat.entry.now seat.exit.now }
-        ensures idle { seat.exit.now.busy ≡ false }
+        ensures idle { IsIdle seat.exit.now }
     { work(alloc, rt, floor, seat, gate) };
     for_each_mut(rt, seats, count, &work_one);
 }
 
-/// Hands back all runs that are parked.
+/// Hands back all runs that are parked, until it is known that none is left.
 fn clear<N: FarmNames, R: Wait>(rt: &R, floor: &Floor<N>, seat: &mut WorkSeat<N>)
     requires { seat.old.busy ≡ false }
     ensures ends { SameEnds seat.old seat.new }
-    ensures idle { seat.new.busy ≡ false }
+    ensures idle { IsIdle seat.new }
 {
     'clears: for _ in rt.forever() {
-        let Some(run) = seat.pop() else {
+        if let Some(run) = seat.pop() {
+            let (claim, _) = run.into_parts();
+            floor.hand_back(rt, seat, claim);
+        } else if seat.is_drained() {
             break;
-        };
-        let (claim, _) = run.into_parts();
-        floor.hand_back(rt, seat, claim);
+        } else {
+            seat.mark();
+        }
     }
 }
 
@@ -93,7 +96,7 @@ fn next_run<N: FarmNames, R: Wait>(
     seat: &mut WorkSeat<N>,
 ) -> Result<Option<HeldRun<N>>, NoMemory>
     requires { seat.old.busy ≡ false }
-    ensures ends { SameEnds seat.old seat.new }
+    ensures same { IsAsBefore seat.old seat.new }
     ensures busy { IfOk result (λ o. seat.new.busy ≡ is_some o) }
     ensures err { OnErr result (seat.new.busy ≡ false) }
 {
@@ -114,7 +117,7 @@ fn other_run<N: FarmNames, R: Wait>(
     seat: &mut WorkSeat<N>,
 ) -> Option<HeldRun<N>>
     requires { seat.old.busy ≡ false }
-    ensures ends { SameEnds seat.old seat.new }
+    ensures same { IsAsBefore seat.old seat.new }
     ensures busy { seat.new.busy ≡ is_some result }
 {
     if let Ok(Some(claimed)) = floor.claim_after_park(rt, seat) {
@@ -133,7 +136,7 @@ fn claimed_run<N: FarmNames, R: Wait>(
     seat: &mut WorkSeat<N>,
 ) -> Result<Option<HeldRun<N>>, NoMemory>
     requires { seat.old.busy ≡ false }
-    ensures ends { SameEnds seat.old seat.new }
+    ensures same { IsAsBefore seat.old seat.new }
     ensures busy { IfOk result (λ o. seat.new.busy ≡ is_some o) }
     ensures err { OnErr result (seat.new.busy ≡ false) }
 {
@@ -152,7 +155,7 @@ fn begun<N: FarmNames, R: Wait>(
     claimed: ClaimedTrial<N>,
 ) -> Result<HeldRun<N>, NoMemory>
     requires { seat.old.busy ≡ true }
-    ensures ends { SameEnds seat.old seat.new }
+    ensures same { IsAsBefore seat.old seat.new }
     ensures ok { OnOk result (seat.new.busy ≡ true) }
     ensures err { OnErr result (seat.new.busy ≡ false) }
 {
@@ -194,7 +197,7 @@ fn run_on<N: FarmNames, G: Gate, R: Wait>(
     floor.hand_back(rt, seat, claim);
 }
 
-/// A slice of a run, and the run with which the worker goes on: the same where it can't be parked, or else another one, if there is one.
+/// A slice of a run, and the run with which the worker goes on: the same where it can't be parked, or else another one, if there is one. A run that is over is filed.
 fn sliced<N: FarmNames, G: Gate, R: Wait>(
     alloc: Global,
     rt: &R,
@@ -207,6 +210,7 @@ fn sliced<N: FarmNames, G: Gate, R: Wait>(
     requires { seat.old.busy ≡ true }
     ensures ends { SameEnds seat.old seat.new }
     ensures busy { seat.new.busy ≡ is_some result }
+    ensures kept { IsNotLost run seat.old seat.new result }
 {
     let (claim, parked) = run.into_parts();
     let project = claim.claim().project;

@@ -4,13 +4,14 @@ use Rattle.std.specs.Prelude.{nat_lt}
 use Rattle.std.specs.Option.{option_map}
 use Rattle.std.proofs.lemmas.Bool.Decides.{nat_tests}
 use Rattle.pf_fault.specs.declared.code.Code.{Code}
+use Rattle.pf_fault.specs.declared.code.Code.TheVariants as code
 use Rattle.pf_quota.specs.Checks.{Check, check}
 use Rattle.pf_quota.specs.Refusals.{code_of}
 use Rattle.pf_quota.specs.declared.refusals.Refusal.TheVariants.{Calls}
 use Rattle.pf_quota.specs.declared.refusals.TheConstants.{MOST_CALLS}
 use Rattle.pf_request.specs.Calls.{Call}
 use Rattle.pf_desks.specs.Calls.{calls_in, HasRoom, within_limits, answered, noted, reply_to, after_call}
-use Rattle.pf_desks.specs.Desk.{Profile, Desk, no_desk, Entry, Mark, called, claimed, filed, handed_back, held_at}
+use Rattle.pf_desks.specs.Desk.{Profile, Desk, no_desk, Entry, Mark, called, claimed, filed, handed_back, held_at, refused}
 use Rattle.pf_desks.specs.History.{Follows, IsLegal, IsLegalDesk}
 use Rattle.pf_desks.specs.Work.{is_queued, is_running, after_claim, after_file, after_back}
 use Rattle.pf_desks.proofs.Always.{where_so}
@@ -84,6 +85,18 @@ module _ (d : Desk) where
       by : (b : Bool) → nat_lt MOST_CALLS (calls_in d.history + 1) ≡ b → past b ≡ None → calls_in d.history + 1 ≤ MOST_CALLS
       by true e h = absurd (cc)
       by false e h = grind (arith, nat_tests)
+
+  -- a log that is full has no room
+  pub full_below : MOST_CALLS ≤ calls_in d.history → ¬ (HasRoom d)
+  full_below most room = omega (arith, most, below_room room)
+
+  -- where the log is full the call is refused for that
+  pub full_refused : (p : Profile) (c : Call) → MOST_CALLS ≤ calls_in d.history → reply_to p d c ≡ refused code.TooManyCalls
+  full_refused p c most = by (nat_lt MOST_CALLS (calls_in d.history + 1)) refl
+    where
+      by : (b : Bool) → nat_lt MOST_CALLS (calls_in d.history + 1) ≡ b → (within_limits d (past b) (noted c (answered p d c))).1 ≡ refused code.TooManyCalls
+      by true e = refl
+      by false e = absurd (grind (arith, nat_tests))
 
   -- where the log is full the desk stays
   pub full_stays : (p : Profile) (c : Call) → MOST_CALLS ≤ calls_in d.history → after_call p d c ≡ d

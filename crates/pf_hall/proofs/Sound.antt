@@ -1,12 +1,13 @@
 -- Halls stay sound.
 use Rattle.std.proofs.Common.{◌≡◌, ℕ, ◌+◌, ◌≤◌, ◌==◌, Bool, true, false, List, [], ◌∷◌, ◌++◌, length, Option, Some, None, refl, sym, ap, ◌∙◌, subst, ⊎_elim}
-use Rattle.std.specs.Prelude.{Ok, if◌then◌else◌, All, slice_get, slice_set}
+use Rattle.std.specs.Prelude.{Result, Ok, Err, if◌then◌else◌, All, slice_get, slice_set}
 use Rattle.std.specs.Bool.{OnFalse}
 use Rattle.std.specs.declared.alloc.Global.{Global}
 use Rattle.std.specs.declared.sync.Arc.{Arc}
 use Rattle.std.proofs.lemmas.List.Elements.{All-nil, All-push, All-set}
 use Rattle.std.proofs.lemmas.Option.{slice_get_within, get_or_from_slice_get}
 use Rattle.pf_fault.specs.declared.code.Code.TheVariants as code
+use Rattle.pf_fault.specs.declared.memory.NoMemory.{NoMemory}
 use Rattle.pf_model.specs.Shrinking.{nothing_fails}
 use Rattle.pf_quota.specs.declared.refusals.TheConstants.{MOST_CALLS}
 use Rattle.pf_request.specs.declared.call.Call as call_code
@@ -38,11 +39,11 @@ use Rattle.pf_told.specs.Told.{IsToldAt, IsTold, AreOfTheirJobs}
 use Rattle.pf_told.proofs.Lists.{same_by, self_is}
 use Rattle.pf_told.proofs.Tells.{told_none, told_where, other_opened, other_ended, told_call, told_claim, told_filed, told_back, told_stray, open_gone}
 use Rattle.pf_receipts.specs.Receipts.{receipt_of, of_project}
-use Rattle.pf_hall.specs.Clients.{Told, calls_noted, IsLogged}
+use Rattle.pf_hall.specs.Clients.{Told, calls_noted, IsLogged, IsOneTooMany}
 use Rattle.pf_hall.specs.Hall.{IsSound, end_or_stray}
 use Rattle.pf_hall.proofs.Language.{for_one}
 use Rattle.pf_hall.proofs.Logged.{logged_none, as_many_logged, logged_same, logged_more}
-use Rattle.pf_hall.proofs.Noted.{noted_claim, noted_file, noted_back, noted_call, counted_call, full_stays}
+use Rattle.pf_hall.proofs.Noted.{noted_claim, noted_file, noted_back, noted_call, counted_call, full_below, full_refused, full_stays}
 
 -- some profile: that tickets stay depends on none
 abbrev any_profile : Profile
@@ -149,6 +150,20 @@ module _ (rows : List (Row Job)) (log : List Told) (w w' : World) (q : ℕ) (c :
   pub sound_full : MOST_CALLS ≤ calls_in mine.history → KeepsAllTickets w w' → IsSound rows log w'
   sound_full full keeps = at_next log keeps (λ p right.
       logged_same log w (s.0 p right).1 q (next p) (ap (λ (d : Desk). calls_noted d.history) (full_stays mine p (view_of_call c) full)))
+
+  refused_full : MOST_CALLS ≤ calls_in mine.history → IsOneTooMany (Ok r)
+  refused_full full = for_one (λ p right. sym (told_so p right) ∙ full_refused mine p (view_of_call c) full)
+
+-- ---- calls for which the log has no room
+
+module _ (rows : List (Row Job)) (log : List Told) (w w' : World) (q : ℕ) (c : call_code.Call) (s : IsSound rows log w) (full : MOST_CALLS ≤ calls_in (desk_at q w).history) where
+  pub sound_past : (r : Result Reply NoMemory) → Answers w q (view_of_call c) r w' → KeepsAllTickets w w' → IsSound rows log w'
+  sound_past (Ok r) a keeps = sound_full rows log w w' q c r a s full keeps
+  sound_past (Err e) a keeps = absurd (full_below (desk_at q w) full a.0)
+
+  pub refused_past : (r : Result Reply NoMemory) → Answers w q (view_of_call c) r w' → IsOneTooMany r
+  refused_past (Ok r) a = refused_full rows log w w' q c r a s full
+  refused_past (Err e) a = full_below (desk_at q w) full a.0
 
 -- ---- claims
 

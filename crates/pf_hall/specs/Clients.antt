@@ -1,10 +1,13 @@
 -- What clients were told, and the histories of the desks.
-use Rattle.std.specs.Prelude.{◌≡◌, ◌⊎◌, ℕ, Bool, true, false, List, [], ◌∷◌, ◌++◌, map, All}
+use Rattle.std.specs.Prelude.{◌≡◌, ◌⊎◌, ℕ, Bool, true, false, List, [], ◌∷◌, ◌++◌, map, All, Result, Ok, Err}
+use Rattle.pf_fault.specs.declared.code.Code.TheVariants as code
+use Rattle.pf_fault.specs.declared.memory.NoMemory.{NoMemory}
 use Rattle.pf_request.specs.declared.call.Call as call_code
 use Rattle.pf_request.specs.View.{view_of_call}
 use Rattle.pf_quota.specs.declared.refusals.TheConstants.{MOST_CALLS}
 use Rattle.pf_desks.specs.Calls.{calls_in}
-use Rattle.pf_desks.specs.Desk.{Entry, called, claimed, filed, handed_back}
+use Rattle.pf_desks.specs.Desk.{Profile, Entry, called, claimed, filed, handed_back, refused}
+use Rattle.pf_desks.specs.History.{IsLegalDesk}
 use Rattle.pf_desks.specs.World.{World, desk_at}
 use Rattle.pf_book.specs.declared.reply.Reply as reply_code
 use Rattle.pf_book.specs.View.{view_of_reply}
@@ -47,9 +50,26 @@ AreTheCalls rs w = (log : List Told) × EachOnce rs log × IsLogged log w
 
 -- ---- one call
 
--- the seat has one receipt more, of this call and its reply; or the log of its project is full, and the call wasn't logged
+-- the seat with one receipt more
+abbrev pub with_receipt : ClientView → Told → ClientView
+with_receipt s r = record s { receipts = s.receipts ++ r ∷ [] }
+
+-- the seat, of a project whose log is full
+abbrev pub full_seat : ClientView → ClientView
+full_seat s = record s { is_full = true }
+
+-- a call is refused, since there are too many for the log; memory doesn't run out in it
+abbrev pub IsOneTooMany : Result reply_code.Reply NoMemory → Type 0
+IsOneTooMany (Ok r) = view_of_reply r ≡ refused code.TooManyCalls
+IsOneTooMany (Err e) = ⊥
+
+-- the seat has one receipt more, of this call and its reply; or the log of its project is full, and the call is refused for that and isn't logged
 abbrev pub GetsReceipt : (call : call_code.Call) → (reply : reply_code.Reply) → (was is : ClientView) → Type 0
-GetsReceipt c r s s' = ((n : ℕ) × (s'.receipts ≡ s.receipts ++ receipt_of s.project n c r ∷ [])) ⊎ ((s'.is_full ≡ true) × (s'.receipts ≡ s.receipts))
+GetsReceipt c r s s' = ((n : ℕ) × (s' ≡ with_receipt s (receipt_of s.project n c r))) ⊎ ((s' ≡ full_seat s) × IsOneTooMany (Ok r))
+
+-- a seat that is full stays as it is, and each call of it is refused
+abbrev pub StaysFull : (was is : ClientView) → Result reply_code.Reply NoMemory → Type 0
+StaysFull s s' r = s.is_full ≡ true → (s' ≡ s) × IsOneTooMany r
 
 -- ---- seats that are closed
 
@@ -61,6 +81,10 @@ all_receipts (s ∷ ss) = s.told.receipts.items ++ all_receipts ss
 -- what is left of each of these seats
 abbrev pub closed_as : ClosedSeat → ClientView
 closed_as s = record { project = s.told.project; receipts = s.told.receipts.items; is_full = s.is_full }
+
+-- the history of each seat's project is legal: replayed on an empty desk it gives the desk, and its own replies
+abbrev pub AreLegal : Profile → List ClosedSeat → World → Type 0
+AreLegal p ss w = All (λ s. IsLegalDesk p (desk_at s.told.project w)) ss
 
 -- the project of each seat that is full has as many calls as a log holds
 abbrev pub AreFull : List ClosedSeat → World → Type 0

@@ -8,7 +8,7 @@ ghost use Rattle.pf_desks.specs.History.{IsLegalDesk};
 ghost use Rattle.pf_desks.specs.World.{desk_at};
 ghost use Rattle.pf_book.specs.Profile.{ForRight};
 ghost use Rattle.pf_receipts.specs.Receipts.{gathering_of};
-ghost use Rattle.pf_hall.specs.Clients.{all_receipts, closed_as, AreFull, IsLogged};
+ghost use Rattle.pf_hall.specs.Clients.{all_receipts, closed_as, AreFull, AreLegal, IsLogged};
 
 use crate::client::{ClientSeat, ClosedSeat};
 use pf_book::{Book, Reply};
@@ -33,6 +33,15 @@ impl Closing {
         ensures legal { ForRight (λ p. IsLegalDesk p (desk_at project self.now.book)) }
     {
         self.book.note_count(project)
+    }
+
+    /// Looks up the desk of each seat's project, whose history is legal.
+    pub fn look_up(&self)
+        ensures { ForRight (λ p. AreLegal p self.now.seats.items self.now.book) }
+    {
+        'seats: for seat in &self.seats {
+            self.note_count(seat.told.project);
+        }
     }
 
     /// How many calls the history of a project notes.

@@ -1,7 +1,7 @@
 //! The book of all desks, and beside it the ledger of all claims and the log of all calls.
 
-ghost use Rattle.std.specs.Prelude.{◌≡◌, ◌+◌, ◌<◌, ◌≤◌, ◌++◌, [], ◌∷◌, length, map, slice_get, slice_set, Some, None, Ok, IfOk, IfSome, IfNone, OnErr, option_map};
-ghost use Rattle.std.specs.Bool.{OnFalse};
+ghost use Rattle.std.specs.Prelude.{◌≡◌, ◌+◌, ◌<◌, ◌≤◌, ◌⊎◌, ◌++◌, [], ◌∷◌, true, false, length, map, slice_get, slice_set, Some, None, Ok, IfOk, IfSome, IfNone, OnErr, option_map};
+ghost use Rattle.std.specs.Bool.{OnFalse, OnTrue};
 ghost use Rattle.pf_request.specs.View.{view_of_call};
 ghost use Rattle.pf_quota.specs.declared.refusals.TheConstants.{MOST_CALLS};
 ghost use Rattle.pf_desks.specs.Calls.{calls_in, stage_of};
@@ -14,7 +14,7 @@ ghost use Rattle.pf_book.specs.Profile.{ForRight};
 ghost use Rattle.pf_told.specs.Gone.{IsGone};
 ghost use Rattle.pf_told.specs.Told.{IsTold};
 ghost use Rattle.std.specs.Vec.{vec_len, vec_capacity};
-ghost use Rattle.pf_hall.specs.Clients.{all_receipts, closed_as, empty_client, AreFull, AreTheCalls, GetsReceipt};
+ghost use Rattle.pf_hall.specs.Clients.{all_receipts, closed_as, empty_client, full_seat, AreFull, AreTheCalls, GetsReceipt, IsOneTooMany, StaysFull};
 ghost use Rattle.pf_hall.specs.Hall.{no_hall, end_or_stray, NoneIsQueued};
 
 use crate::claimed::ClaimedTrial;
@@ -103,7 +103,7 @@ impl<N: FarmNames> Hall<N> {
     }
 
     /// Answers a client's call on the desk of its seat's project, and notes it there with its reply, of which the seat has a receipt then. A call for which the log has no
-    /// room is refused and not noted, and the seat is full. After running out of memory nothing has changed.
+    /// room is refused and not noted, and the seat is full: from then on each call of it is refused, and memory doesn't run out. Where it does nothing has changed.
     pub fn call(
         &mut self,
         alloc: Global,
@@ -114,12 +114,13 @@ impl<N: FarmNames> Hall<N> {
         ensures rows { self.new.rows ≡ self.old.rows }
         ensures project { seat.new.project ≡ seat.old.project }
         ensures receipt { IfOk result (λ r. GetsReceipt call r seat.old seat.new) }
+        ensures full { StaysFull seat.old seat.new result }
         ensures err { OnErr result (seat.new ≡ seat.old) }
     {
-        let project = seat.project();
-        if self.book.call_count(project) >= MOST_CALLS {
+        if !self.has_room(seat) {
             return self.call_full(alloc, seat, call);
         }
+        let project = seat.project();
         seat.seat.make_room()?;
         let asked = Snapshot::of(&call);
         let reply = self.book.call(alloc, project, call)?;
@@ -128,25 +129,34 @@ impl<N: FarmNames> Hall<N> {
         Ok(reply)
     }
 
-    /// The same where the log of the project is full.
+    /// Whether the log of a seat's project has room for one call more. A seat that is full knows that it hasn't.
+    fn has_room(&self, seat: &ClientSeat<N>) -> bool
+        ensures room { OnTrue result ((seat.now.is_full ≡ false)
+            × (calls_in (desk_at seat.now.project self.now.desks).history < MOST_CALLS)) }
+        ensures full { OnFalse result ((seat.now.is_full ≡ true)
+            ⊎ (MOST_CALLS ≤ calls_in (desk_at seat.now.project self.now.desks).history)) }
+    {
+        !seat.is_full && self.book.call_count(seat.project()) < MOST_CALLS
+    }
+
+    /// The same where the log of the project has no room.
     fn call_full(
         &mut self,
         alloc: Global,
         seat: &mut ClientSeat<N>,
         call: Call,
     ) -> Result<Reply, NoMemory>
-        requires { MOST_CALLS ≤ calls_in (desk_at seat.old.project self.old.desks).history }
+        requires { (seat.old.is_full ≡ true)
+            ⊎ (MOST_CALLS ≤ calls_in (desk_at seat.old.project self.old.desks).history) }
         ensures answer { Answers self.old.desks seat.old.project (view_of_call call) result self.new.desks }
         ensures rows { self.new.rows ≡ self.old.rows }
-        ensures project { seat.new.project ≡ seat.old.project }
-        ensures receipt { IfOk result (λ r. GetsReceipt call r seat.old seat.new) }
-        ensures err { OnErr result (seat.new ≡ seat.old) }
+        ensures seat { seat.new ≡ full_seat seat.old }
+        ensures reply { IsOneTooMany result }
     {
         let project = seat.project();
-        let reply = self.book.call(alloc, project, call)?;
         self.calls.show(&mut seat.seat);
         seat.is_full = true;
-        Ok(reply)
+        self.book.call(alloc, project, call)
     }
 
     /// Claims some trial that is queued, which is running then; none only if no trial of any desk is queued. After running out of memory nothing

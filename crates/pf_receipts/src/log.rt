@@ -87,6 +87,7 @@ impl<N: FarmNames, C, A> CallLog<N, C, A> {
         ensures project { seat.new.project ≡ seat.old.project }
         ensures receipts { seat.new.receipts ≡ seat.old.receipts }
         ensures seen { seat.new.seen ≡ self.old }
+        ensures before { StartsWith self.old seat.old.seen }
         ensures same { self.new ≡ self.old }
     {
         self.register.show(&mut seat.token);

@@ -1,6 +1,6 @@
 //! The seats of clients.
 
-ghost use Rattle.std.specs.Prelude.{◌≡◌, true, false, [], OnOk};
+ghost use Rattle.std.specs.Prelude.{◌≡◌, true, false, [], OnOk, OnErr};
 ghost use Rattle.pf_receipts.specs.Receipts.{empty_seat};
 
 use crate::receipt::Receipt;
@@ -83,6 +83,7 @@ impl<N: FarmNames, C, A> Seat<N, C, A> {
         ensures receipts { self.new.receipts ≡ self.old.receipts }
         ensures seen { self.new.seen ≡ self.old.seen }
         ensures room { OnOk result (self.new.has_room ≡ true) }
+        ensures full { OnErr result (self.old.has_room ≡ false) }
     {
         self.has_room = false;
         self.receipts.reserve(1)?;
