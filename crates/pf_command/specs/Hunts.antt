@@ -13,7 +13,8 @@ use Rattle.pf_request.specs.Job.{Job}
 use Rattle.pf_sched.specs.Asked.{Asks}
 use Rattle.pf_strategy.specs.declared.strategy.Strategy.{Strategy}
 use Rattle.pf_strategy.specs.declared.strategy.Strategy.TheVariants.{Uniform, Priorities}
-use Rattle.pf_seeds.specs.Hunts.{ComesTo, FirstFailing, Tallies}
+use Rattle.pf_seeds.specs.Hunts.{FirstFailing, SearchedTo, Tallies}
+use Rattle.pf_seeds.specs.Notices.{Notice, SearchNotices, TallyNotices}
 use Rattle.pf_seeds.specs.Rows.{Row}
 use Rattle.pf_seeds.specs.Views.{failure_of}
 use Rattle.pf_cli.specs.Args.{HuntArgs, RunArgs, Sought, failure, outcomes}
@@ -85,56 +86,77 @@ row_text name x =
 abbrev pub rows_status : List Row → ℕ
 rows_status rows = if list_any (λ x. is_failure x.verdict) rows then 1 else 0
 
--- TellsSought h bytes j sought text status: what is told of the runs of a job by the seeds, by what is sought, if the source has these bytes
-pub data TellsSought (h : HuntArgs) (bytes : List ℕ) (j : Job) : Sought → List ℕ → ℕ → Type 0 where
+-- of the seeds to before c this is the least whose run fails, with the report of its run, or none; and the observer of the hunt receives these notices
+abbrev pub IsLeast : HuntArgs → Job → List Notice → (c : ℕ) → Option (ℕ × Report) → Type 0
+IsLeast h j ns c x =
+    FirstFailing h.leaks h.strategy j.asked h.seeds.0 c x × SearchNotices h.strategy j.asked (may_stop h) h.seeds.0 h.seeds.1 c x ns
+
+-- TellsSought h bytes j notices sought text status: what is told of the runs of a job by the seeds, by what is sought, if the source has these bytes
+-- and the observer receives these notices
+pub data TellsSought (h : HuntArgs) (bytes : List ℕ) (j : Job) (ns : List Notice) : Sought → List ℕ → ℕ → Type 0 where
   -- no run fails of the seeds that it came to
-  none_fails : (runs : Option ℕ) (c : ℕ) → ComesTo (may_stop h) h.seeds.1 c → FirstFailing h.leaks h.strategy j.asked h.seeds.0 c None
-      → TellsSought h bytes j (failure runs) (front_text h c ++ none_text (c - h.seeds.0)) 0
+  none_fails : (runs : Option ℕ) (c : ℕ) → SearchedTo (may_stop h) h.seeds.0 h.seeds.1 c → IsLeast h j ns c None
+      → TellsSought h bytes j ns (failure runs) (front_text h c ++ none_text (c - h.seeds.0)) 0
   -- the least seed whose run fails, the choices of that run, and its report
-  seed_fails : (s : ℕ) (r : Report) → FirstFailing h.leaks h.strategy j.asked h.seeds.0 h.seeds.1 (Some (s, r))
-      → TellsSought h bytes j (failure None) (seed_text s h.strategy (choices_of r) ++ report_text (names_of j) r) 1
+  seed_fails : (s : ℕ) (r : Report) → IsLeast h j ns h.seeds.1 (Some (s, r))
+      → TellsSought h bytes j ns (failure None) (seed_text s h.strategy (choices_of r) ++ report_text (names_of j) r) 1
   -- or, if memory ran out within the report, the lines of its first events that went out by then, and that it did
-  seed_cut : (s : ℕ) (r : Report) (es rest : List Event) → FirstFailing h.leaks h.strategy j.asked h.seeds.0 h.seeds.1 (Some (s, r)) → r.events ≡ es ++ rest
-      → TellsSought h bytes j (failure None) (seed_text s h.strategy (choices_of r) ++ cut_text (names_of j) es) 2
+  seed_cut : (s : ℕ) (r : Report) (es rest : List Event) → IsLeast h j ns h.seeds.1 (Some (s, r)) → r.events ≡ es ++ rest
+      → TellsSought h bytes j ns (failure None) (seed_text s h.strategy (choices_of r) ++ cut_text (names_of j) es) 2
   -- or what the shrinking of these choices is answered with
-  seed_shrunk : (s : ℕ) (r : Report) (runs : ℕ) (text : List ℕ) (status : ℕ) → FirstFailing h.leaks h.strategy j.asked h.seeds.0 h.seeds.1 (Some (s, r))
+  seed_shrunk : (s : ℕ) (r : Report) (runs : ℕ) (text : List ℕ) (status : ℕ) → IsLeast h j ns h.seeds.1 (Some (s, r))
       → Answers (shrinking_of h (choices_of r) runs) bytes text status
-      → TellsSought h bytes j (failure (Some runs)) (seed_text s h.strategy (choices_of r) ++ text) status
+      → TellsSought h bytes j ns (failure (Some runs)) (seed_text s h.strategy (choices_of r) ++ text) status
   -- or, if memory ran out within the shrinking, that it did
-  seed_alone : (s : ℕ) (r : Report) (runs : ℕ) → FirstFailing h.leaks h.strategy j.asked h.seeds.0 h.seeds.1 (Some (s, r))
-      → TellsSought h bytes j (failure (Some runs)) (seed_text s h.strategy (choices_of r) ++ no_memory_text) 2
+  seed_alone : (s : ℕ) (r : Report) (runs : ℕ) → IsLeast h j ns h.seeds.1 (Some (s, r))
+      → TellsSought h bytes j ns (failure (Some runs)) (seed_text s h.strategy (choices_of r) ++ no_memory_text) 2
   -- the strategy, and each outcome that is met by the seeds that it came to
-  tallied : (c : ℕ) (rows : List Row) → ComesTo (may_stop h) h.seeds.1 c → Tallies h.strategy j.asked h.seeds.0 c rows
-      → TellsSought h bytes j outcomes (front_text h c ++ strategy_text h.strategy ++ flat_map (row_text (names_of j)) rows) (rows_status rows)
+  tallied : (c : ℕ) (rows : List Row) → SearchedTo (may_stop h) h.seeds.0 h.seeds.1 c → Tallies h.strategy j.asked h.seeds.0 c rows
+      → TallyNotices h.strategy j.asked (may_stop h) h.seeds.0 h.seeds.1 c ns
+      → TellsSought h bytes j ns outcomes (front_text h c ++ strategy_text h.strategy ++ flat_map (row_text (names_of j)) rows) (rows_status rows)
 
--- a source of these bytes, of whose runs by many seeds this is sought, is answered with this text and this status
-abbrev pub SoughtAnswers : HuntArgs → Sought → (bytes text : List ℕ) → ℕ → Type 0
-SoughtAnswers h sought bytes = AnswersBy (AsksFor h sought) (λ j. TellsSought h bytes j sought) bytes
+-- SoughtAnswers h sought bytes notices text status: a source of these bytes, of whose runs by many seeds this is sought, is answered with this text and
+-- this status, and the observer of the hunt receives these notices
+pub data SoughtAnswers (h : HuntArgs) (sought : Sought) (bytes : List ℕ) : List Notice → List ℕ → ℕ → Type 0 where
+  -- something is refused, so that nothing is hunted
+  refused : (text : List ℕ) (status : ℕ) → AnswersBy (AsksFor h sought) (λ j t s. ⊥) bytes text status → SoughtAnswers h sought bytes [] text status
+  -- the job is hunted
+  hunted : (m : ReadModule) (j : Job) (ns : List Notice) (text : List ℕ) (status : ℕ) → IsModuleOf bytes m → AsksFor h sought m (Ok j)
+      → TellsSought h bytes j ns sought text status → SoughtAnswers h sought bytes ns text status
 
+-- a source of these bytes, whose runs by many seeds are asked for, is answered with this text and this status, while the observer receives these notices
+abbrev pub HuntNotifies : HuntArgs → List Notice → (bytes text : List ℕ) → ℕ → Type 0
+HuntNotifies h ns bytes text status = SoughtAnswers h h.sought bytes ns text status
+
+-- and is so answered
 abbrev pub HuntAnswers : HuntArgs → (bytes text : List ℕ) → ℕ → Type 0
-HuntAnswers h = SoughtAnswers h h.sought
+HuntAnswers h bytes text status = (ns : List Notice) × HuntNotifies h ns bytes text status
 
 -- ---- what a hunt comes to before it is told
 
 -- what may be said of the end of a hunt over the runs of a source's job: its answer; or, where a run fails, that
-abbrev pub MaySay : HuntArgs → (bytes : List ℕ) → HuntEnd → List ℕ → ℕ → Type 0
-MaySay h bytes (Told a) text status = (text ≡ a.text.items) × (status ≡ a.status)
-MaySay h bytes (Found f) text status = TellsSought h bytes f.job (failure f.runs) text status
+abbrev pub MaySay : HuntArgs → (bytes : List ℕ) → List Notice → HuntEnd → List ℕ → ℕ → Type 0
+MaySay h bytes ns (Told a) text status = (text ≡ a.text.items) × (status ≡ a.status)
+MaySay h bytes ns (Found f) text status = TellsSought h bytes f.job ns (failure f.runs) text status
 
 -- it is a run that fails, the first of the module of the source, or an answer
-abbrev pub IsFound : HuntArgs → (bytes : List ℕ) → HuntEnd → Type 0
-IsFound h bytes (Told a) = Unit {0}
-IsFound h bytes (Found f) =
-    IsModuleOf bytes f.«module» × FirstFailing h.leaks h.strategy f.job.asked h.seeds.0 h.seeds.1 (Some (failure_of f.failure))
+abbrev pub IsFound : HuntArgs → (bytes : List ℕ) → List Notice → HuntEnd → Type 0
+IsFound h bytes ns (Told a) = Unit {0}
+IsFound h bytes ns (Found f) = IsModuleOf bytes f.«module» × IsLeast h f.job ns h.seeds.1 (Some (failure_of f.failure))
 
 -- whatever may be said of it is told of the runs of this job
-abbrev pub TellsAs : HuntArgs → (bytes : List ℕ) → Job → Sought → HuntEnd → Type 0
-TellsAs h bytes j sought x =
-    IsFound h bytes x × ((text : List ℕ) (status : ℕ) → MaySay h bytes x text status → TellsSought h bytes j sought text status)
+abbrev pub TellsAs : HuntArgs → (bytes : List ℕ) → Job → Sought → HuntEnd → List Notice → Type 0
+TellsAs h bytes j sought x ns =
+    IsFound h bytes ns x × ((text : List ℕ) (status : ℕ) → MaySay h bytes ns x text status → TellsSought h bytes j ns sought text status)
 
 -- so a source of these bytes may be answered
-abbrev pub EndsAs : HuntArgs → Sought → (bytes : List ℕ) → HuntEnd → Type 0
-EndsAs h sought bytes x = IsFound h bytes x × ((text : List ℕ) (status : ℕ) → MaySay h bytes x text status → SoughtAnswers h sought bytes text status)
+abbrev pub EndsAs : HuntArgs → Sought → (bytes : List ℕ) → HuntEnd → List Notice → Type 0
+EndsAs h sought bytes x ns =
+    IsFound h bytes ns x × ((text : List ℕ) (status : ℕ) → MaySay h bytes ns x text status → SoughtAnswers h sought bytes ns text status)
+
+-- of each source whose module this is
+abbrev pub OfEach : ReadModule → (so : (bytes : List ℕ) → List Notice → Type 0) → List Notice → Type 0
+OfEach m so ns = (bytes : List ℕ) → IsModuleOf bytes m → so bytes ns
 
 -- ---- the code's own words
 

@@ -7,11 +7,11 @@ ghost use Rattle.std.specs.Io.KnownBytes.{Appends};
 ghost use Rattle.pf_terms.specs.Streams.{AppendsFront, CountsWrite};
 ghost use Rattle.pf_model.specs.Reports.{report_of};
 ghost use Rattle.pf_model.specs.Text.{schedule_text};
-ghost use Rattle.pf_seeds.specs.Hunts.{FirstFailing};
+ghost use Rattle.pf_seeds.specs.Notices.{Notice};
 ghost use Rattle.pf_seeds.specs.Views.{failure_of};
 ghost use Rattle.pf_cli.specs.Args.{failure, view_of_hunt_args};
 ghost use Rattle.pf_command.specs.Answers.{Answers, IsModuleOf};
-ghost use Rattle.pf_command.specs.Hunts.{IsFound, MaySay, TellsReport, TellsShrinking, TellsSought, choices_of, seed_text, shrinking_of, strategy_text};
+ghost use Rattle.pf_command.specs.Hunts.{IsFound, IsLeast, MaySay, TellsReport, TellsShrinking, TellsSought, choices_of, seed_text, shrinking_of, strategy_text};
 ghost use Rattle.pf_command.specs.Streams.{Prints};
 ghost use Rattle.pf_command.specs.Waiting.{Adds, after_commas};
 
@@ -223,10 +223,9 @@ fn print_found<W: Write, M: Ledger>(
     observer: &mut impl Observer,
     writer: &mut Counted<W, M>,
 ) -> Result<u8, StreamFault>
-    ensures { (bytes : List ℕ) → IsModuleOf bytes found.«module»
-        → FirstFailing args.now.leaks args.now.strategy found.job.asked args.now.first args.now.end
-        (Some (failure_of found.failure))
-        → Prints (TellsSought (view_of_hunt_args args.now) bytes found.job (failure found.runs))
+    ensures { (bytes : List ℕ) (ns : List Notice) → IsModuleOf bytes found.«module»
+        → IsLeast (view_of_hunt_args args.now) found.job ns args.now.end (Some (failure_of found.failure))
+        → Prints (TellsSought (view_of_hunt_args args.now) bytes found.job ns (failure found.runs))
         (W.contents writer.old.inner) (W.contents writer.new.inner)
         writer.old.failures.total writer.new.failures.total result }
 {
@@ -251,8 +250,8 @@ pub(crate) fn print_end<W: Write, M: Ledger>(
     observer: &mut impl Observer,
     writer: &mut Counted<W, M>,
 ) -> Result<u8, StreamFault>
-    ensures { (bytes : List ℕ) → IsFound (view_of_hunt_args args.now) bytes end
-        → Prints (MaySay (view_of_hunt_args args.now) bytes end)
+    ensures { (bytes : List ℕ) (ns : List Notice) → IsFound (view_of_hunt_args args.now) bytes ns end
+        → Prints (MaySay (view_of_hunt_args args.now) bytes ns end)
         (W.contents writer.old.inner) (W.contents writer.new.inner)
         writer.old.failures.total writer.new.failures.total result }
 {

@@ -1,9 +1,10 @@
 //! What a source is answered with whose runs by many seeds are asked for.
 
-ghost use Rattle.std.specs.Prelude.{IfErr, IfOk, OnOk};
+ghost use Rattle.std.specs.Prelude.{IfErr, IfOk, Ok, OnOk};
+ghost use Rattle.pf_seeds.specs.Notices.{HearsSome};
 ghost use Rattle.pf_cli.specs.Args.{view_of_hunt_args};
-ghost use Rattle.pf_command.specs.Hunts.{EndsAs, HuntAnswers};
-ghost use Rattle.pf_command.specs.Streams.{Answered, Leaves, NoneFailed, Sends, Takes, streams};
+ghost use Rattle.pf_command.specs.Hunts.{EndsAs, HuntAnswers, HuntNotifies};
+ghost use Rattle.pf_command.specs.Streams.{Answered, Leaves, NoneFailed, Prints, Sends, Takes, streams};
 
 use crate::answer::{read_source, refused_at};
 use crate::ending::{HuntEnd, print_end};
@@ -12,6 +13,7 @@ use crate::serving::MOST_BYTES;
 use pf_cli::HuntArgs;
 use pf_fault::{NoMemory, OrNoMemory};
 use pf_sched::Observer;
+use pf_seeds::HuntObserver;
 use pf_terms::{Counted, StreamFault};
 use std::alloc::Global;
 use std::io::{Read, Write};
@@ -19,15 +21,16 @@ use std::sync::ledger::Ledger;
 use std::thread::Threads;
 
 /// What it comes to for a source of these bytes, by the given number of workers: an answer, or a run that fails.
-fn end_of_hunt<T: Threads + Sync>(
+fn end_of_hunt<T: Threads + Sync, S: HuntObserver>(
     rt: &T,
     alloc: Global,
     args: &HuntArgs,
     bytes: Vec<u8>,
     workers: u64,
-    seeds: &mut impl pf_seeds::HuntObserver,
+    seeds: &mut S,
 ) -> Result<HuntEnd, NoMemory>
-    ensures { IfOk result (EndsAs (view_of_hunt_args args.now) (view_of_hunt_args args.now).sought bytes.items) }
+    ensures { IfOk result (λ x. HearsSome S.Heard seeds.old
+        (EndsAs (view_of_hunt_args args.now) (view_of_hunt_args args.now).sought bytes.items x) seeds.new) }
 {
     match read_source(alloc, bytes) {
         Ok(module) => hunt_module(rt, alloc, args, module, workers, seeds),
@@ -40,34 +43,39 @@ fn end_of_hunt<T: Threads + Sync>(
 }
 
 /// Prints what a source of these bytes is answered with, by the given number of workers.
-fn print_hunt<W: Write, M: Ledger, T: Threads + Sync>(
+fn print_hunt<W: Write, M: Ledger, T: Threads + Sync, S: HuntObserver>(
     rt: &T,
     alloc: Global,
     args: &HuntArgs,
     bytes: Vec<u8>,
     workers: u64,
     writer: &mut Counted<W, M>,
-    seeds: &mut impl pf_seeds::HuntObserver,
+    seeds: &mut S,
     observer: &mut impl Observer,
 ) -> Result<u8, OrNoMemory<StreamFault>>
-    ensures { Sends (HuntAnswers (view_of_hunt_args args.now) bytes.items)
+    ensures sent { Sends (HuntAnswers (view_of_hunt_args args.now) bytes.items)
         (W.contents writer.old.inner) (W.contents writer.new.inner)
         writer.old.failures.total writer.new.failures.total result }
+    ensures heard { IfOk result (λ status. HearsSome S.Heard seeds.old
+        (λ ns. Prints (HuntNotifies (view_of_hunt_args args.now) ns bytes.items)
+        (W.contents writer.old.inner) (W.contents writer.new.inner)
+        writer.old.failures.total writer.new.failures.total (Ok status)) seeds.new) }
 {
     let end = end_of_hunt(rt, alloc, args, bytes, workers, seeds)?;
     Ok(print_end(alloc, args, end, observer, writer)?)
 }
 
 /// Answers a source whose runs by many seeds are asked for, by n workers: reads at most one byte more than a source may have, writes a
-/// text and gives the status. Who watches is told how many seeds are done, and the observer receives the progress of a shrinking.
-pub fn hunt_source<R: Read, W: Write, L: Ledger, M: Ledger, T: Threads + Sync>(
+/// text and gives the status. The observer of the seeds receives how far the hunt came and the least leak, and answers how it goes on; the
+/// other observer receives the progress of a shrinking.
+pub fn hunt_source<R: Read, W: Write, L: Ledger, M: Ledger, T: Threads + Sync, S: HuntObserver>(
     rt: &T,
     alloc: Global,
     reader: &mut Counted<R, L>,
     args: &HuntArgs,
     workers: u64,
     writer: &mut Counted<W, M>,
-    seeds: &mut impl pf_seeds::HuntObserver,
+    seeds: &mut S,
     observer: &mut impl Observer,
 ) -> Result<u8, OrNoMemory<StreamFault>>
     ensures answered { IfOk result (λ status. Answered (HuntAnswers (view_of_hunt_args args.now))
@@ -75,6 +83,12 @@ pub fn hunt_source<R: Read, W: Write, L: Ledger, M: Ledger, T: Threads + Sync>(
         reader.old.failures.total writer.old.failures.total)
         (streams (R.remaining reader.new.inner) (W.contents writer.new.inner)
         reader.new.failures.total writer.new.failures.total) status) }
+    ensures heard { IfOk result (λ status. HearsSome S.Heard seeds.old
+        (λ ns. Answered (HuntNotifies (view_of_hunt_args args.now) ns)
+        (streams (R.remaining reader.old.inner) (W.contents writer.old.inner)
+        reader.old.failures.total writer.old.failures.total)
+        (streams (R.remaining reader.new.inner) (W.contents writer.new.inner)
+        reader.new.failures.total writer.new.failures.total) status) seeds.new) }
     ensures counts { OnOk result (NoneFailed
         (streams (R.remaining reader.old.inner) (W.contents writer.old.inner)
         reader.old.failures.total writer.old.failures.total)

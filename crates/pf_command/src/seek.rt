@@ -4,10 +4,11 @@ ghost use Rattle.std.specs.Prelude.{◌≡◌, ◌-◌, ◌++◌, [], List, ℕ,
 ghost use Rattle.std.specs.List.{list_any};
 ghost use Rattle.pf_model.specs.Shrinking.{is_failure};
 ghost use Rattle.pf_sched.specs.Asked.{IsRefusal};
+ghost use Rattle.pf_seeds.specs.Notices.{HearsSome};
 ghost use Rattle.pf_seeds.specs.Views.{row_of};
 ghost use Rattle.pf_cli.specs.Args.{failure, outcomes, view_of_hunt_args};
 ghost use Rattle.pf_command.specs.Answers.{Answers, AsksOf, IsModuleOf, names_of, run_args};
-ghost use Rattle.pf_command.specs.Hunts.{AsksFor, EndsAs, MayShrink, SoughtAnswers, TellsAs, TellsSought};
+ghost use Rattle.pf_command.specs.Hunts.{AsksFor, EndsAs, MayShrink, OfEach, SoughtAnswers, TellsAs, TellsSought};
 ghost use Rattle.pf_command.specs.Hunts.{front_text, none_text, row_text, shrinking_of, strategy_text};
 
 use crate::answer::{Answer, refused_by_code};
@@ -20,7 +21,7 @@ use pf_fault::{NoMemory, OrNoMemory};
 use pf_module::ReadModule;
 use pf_request::{Kind, Request, ShortBytes};
 use pf_sched::{Job, JobRefusal, Observer};
-use pf_seeds::{Hunt, Searched, Tally, first_failing, other_jobs, tally_all};
+use pf_seeds::{Hunt, HuntObserver, Searched, Tally, first_failing, other_jobs, tally_all};
 use std::alloc::Global;
 use std::sync::Arc;
 use std::thread::Threads;
@@ -145,7 +146,7 @@ fn workers_of(args: &HuntArgs, workers: u64) -> u64 {
 }
 
 /// What it comes to if the least seed that fails is sought, by the given number of workers.
-fn seek_failure<T: Threads + Sync>(
+fn seek_failure<T: Threads + Sync, S: HuntObserver>(
     rt: &T,
     alloc: Global,
     args: &HuntArgs,
@@ -153,10 +154,10 @@ fn seek_failure<T: Threads + Sync>(
     job: Job,
     runs: Option<u32>,
     workers: u64,
-    seeds: &mut impl pf_seeds::HuntObserver,
+    seeds: &mut S,
 ) -> Result<HuntEnd, NoMemory>
-    ensures { IfOk result (λ x. (bytes : List ℕ) → IsModuleOf bytes «module»
-        → TellsAs (view_of_hunt_args args.now) bytes job (failure runs) x) }
+    ensures { IfOk result (λ x. HearsSome S.Heard seeds.old (OfEach «module»
+        (λ bytes. TellsAs (view_of_hunt_args args.now) bytes job (failure runs) x)) seeds.new) }
 {
     let others = other_jobs(
         alloc,
@@ -188,17 +189,17 @@ fn seek_failure<T: Threads + Sync>(
 }
 
 /// What it comes to for a module if the least seed that fails is sought.
-fn hunt_failure<T: Threads + Sync>(
+fn hunt_failure<T: Threads + Sync, S: HuntObserver>(
     rt: &T,
     alloc: Global,
     args: &HuntArgs,
     module: ReadModule,
     runs: Option<u32>,
     workers: u64,
-    seeds: &mut impl pf_seeds::HuntObserver,
+    seeds: &mut S,
 ) -> Result<HuntEnd, NoMemory>
-    ensures { IfOk result (λ x. (bytes : List ℕ) → IsModuleOf bytes «module»
-        → EndsAs (view_of_hunt_args args.now) (failure runs) bytes x) }
+    ensures { IfOk result (λ x. HearsSome S.Heard seeds.old (OfEach «module»
+        (λ bytes. EndsAs (view_of_hunt_args args.now) (failure runs) bytes x)) seeds.new) }
 {
     match job_of(alloc, args, &module, runs) {
         Ok(job) => seek_failure(rt, alloc, args, module, job, runs, workers, seeds),
@@ -232,17 +233,17 @@ fn write_rows(
 }
 
 /// The answer if each outcome is sought, by the given number of workers.
-fn seek_outcomes<T: Threads + Sync>(
+fn seek_outcomes<T: Threads + Sync, S: HuntObserver>(
     rt: &T,
     alloc: Global,
     args: &HuntArgs,
     module: ReadModule,
     job: Job,
     workers: u64,
-    seeds: &mut impl pf_seeds::HuntObserver,
+    seeds: &mut S,
 ) -> Result<Answer, NoMemory>
-    ensures { IfOk result (λ a. (bytes : List ℕ)
-        → TellsSought (view_of_hunt_args args.now) bytes job outcomes a.text.items a.status) }
+    ensures { IfOk result (λ a. HearsSome S.Heard seeds.old (λ ns. (bytes : List ℕ)
+        → TellsSought (view_of_hunt_args args.now) bytes job ns outcomes a.text.items a.status) seeds.new) }
 {
     let others = other_jobs(
         alloc,
@@ -265,16 +266,16 @@ fn seek_outcomes<T: Threads + Sync>(
 }
 
 /// The answer to a module if each outcome is sought.
-fn hunt_outcomes<T: Threads + Sync>(
+fn hunt_outcomes<T: Threads + Sync, S: HuntObserver>(
     rt: &T,
     alloc: Global,
     args: &HuntArgs,
     module: ReadModule,
     workers: u64,
-    seeds: &mut impl pf_seeds::HuntObserver,
+    seeds: &mut S,
 ) -> Result<Answer, NoMemory>
-    ensures { IfOk result (λ a. (bytes : List ℕ) → IsModuleOf bytes «module»
-        → SoughtAnswers (view_of_hunt_args args.now) outcomes bytes a.text.items a.status) }
+    ensures { IfOk result (λ a. HearsSome S.Heard seeds.old (OfEach «module»
+        (λ bytes ns. SoughtAnswers (view_of_hunt_args args.now) outcomes bytes ns a.text.items a.status)) seeds.new) }
 {
     match Job::new(alloc, module.share()?, &args.request, args.edition.number()) {
         Ok(job) => seek_outcomes(rt, alloc, args, module, job, workers, seeds),
@@ -284,16 +285,16 @@ fn hunt_outcomes<T: Threads + Sync>(
 }
 
 /// What it comes to for a module, by the given number of workers.
-pub(crate) fn hunt_module<T: Threads + Sync>(
+pub(crate) fn hunt_module<T: Threads + Sync, S: HuntObserver>(
     rt: &T,
     alloc: Global,
     args: &HuntArgs,
     module: ReadModule,
     workers: u64,
-    seeds: &mut impl pf_seeds::HuntObserver,
+    seeds: &mut S,
 ) -> Result<HuntEnd, NoMemory>
-    ensures { IfOk result (λ x. (bytes : List ℕ) → IsModuleOf bytes «module»
-        → EndsAs (view_of_hunt_args args.now) (view_of_hunt_args args.now).sought bytes x) }
+    ensures { IfOk result (λ x. HearsSome S.Heard seeds.old (OfEach «module»
+        (λ bytes. EndsAs (view_of_hunt_args args.now) (view_of_hunt_args args.now).sought bytes x)) seeds.new) }
 {
     match args.sought {
         Sought::Failure { runs } => hunt_failure(rt, alloc, args, module, runs, workers, seeds),

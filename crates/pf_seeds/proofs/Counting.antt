@@ -181,6 +181,10 @@ module _ (w : Strategy) (j : Job) where
       subst (Tallies w j a (suc b)) (sym (joined_more xs ys (met b r)))
       (and_seed b (joined xs ys) r (omega arith) (parts_are_the_whole a c b xs ys l m h t) n)
 
+  -- the rows of what came after joined those so far
+  pub rows_on : (a c b : ℕ) (xs ys all : List Row) → a ≤ c → c ≤ b → Tallies w j a c xs → Tallies w j c b ys → all ≡ joined xs ys → Tallies w j a b all
+  rows_on a c b xs ys all l k t u e = subst (Tallies w j a b) (sym e) (parts_are_the_whole a c b xs ys l k t u)
+
   pub each_is_counted : (a b : ℕ) (rows : List Row) → Tallies w j a b rows → counted rows ≡ b - a
   each_is_counted a _ _ (no_seed b l) = omega arith
   each_is_counted a _ _ (and_seed b rows r l t m) =

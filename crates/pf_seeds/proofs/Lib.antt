@@ -1,8 +1,10 @@
 pub mod Firsts
 pub mod Leaking
 pub mod Counting
+pub mod Failing
 pub mod Indices
 pub mod Placing
 pub mod Finding
 pub mod Crossing
 pub mod Stopping
+pub mod Hearing

@@ -51,7 +51,7 @@ pub data Tallies (w : Strategy) (j : Job) (a : ℕ) : (b : ℕ) → List Row →
 
 -- ---- how far
 
--- ComesTo may_stop b c: a hunt that is to end before b came to before c: to its end, or less far if it may stop
-abbrev pub ComesTo : (may_stop : Bool) → (b c : ℕ) → Type 0
-ComesTo true b c = c ≤ b
-ComesTo false b c = c ≡ b
+-- SearchedTo may_stop a b c: a hunt over the seeds from a to before b came to before c: to its end; or, if it may stop, less far, but past its first seed
+pub data SearchedTo (may_stop : Bool) (a b : ℕ) : (c : ℕ) → Type 0 where
+  to_end : SearchedTo may_stop a b b
+  less_far : (c : ℕ) → may_stop ≡ true → a < c → c < b → SearchedTo may_stop a b c

@@ -6,4 +6,5 @@ pub mod RowHashes
 pub mod Places
 pub mod Views
 pub mod Known
+pub mod Notices
 pub mod Laws

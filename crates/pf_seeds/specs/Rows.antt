@@ -3,6 +3,7 @@ use Rattle.std.specs.Prelude.{ℕ, ◌+◌, Bool, true, false, ◌&&◌, nat_eq,
 use Rattle.std.specs.Cmp.Lexicographic.{pointwise}
 use Rattle.pf_terms.specs.Value.{same}
 use Rattle.pf_model.specs.Meaning.{Report}
+use Rattle.pf_model.specs.Shrinking.{is_failure}
 use Rattle.pf_model.specs.Properties.{Outcome, finished, ended, deadlock, limit, memory}
 
 -- an outcome with the verdict of the property, by how many seeds it was met, and the least of these
@@ -57,3 +58,11 @@ joined xs (y ∷ ys) = joined (with_row xs y) ys
 abbrev pub counted : List Row → ℕ
 counted [] = 0
 counted (x ∷ xs) = x.count + counted xs
+
+-- how many of the seeds that a row counts, or that rows count in all, fail the property
+abbrev pub failures_of : Row → ℕ
+failures_of x = if is_failure x.verdict then x.count else 0
+
+abbrev pub failures_in : List Row → ℕ
+failures_in [] = 0
+failures_in (x ∷ xs) = failures_of x + failures_in xs

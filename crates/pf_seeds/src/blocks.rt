@@ -1,12 +1,16 @@
 //! Hunts over ranges of any length, block by block, so that they end soon if a run fails.
 
-ghost use Rattle.std.specs.Prelude.{◌≡◌, ◌≤◌, ◌<◌, IfOk, true};
-ghost use Rattle.pf_seeds.specs.Hunts.{ComesTo};
+ghost use Rattle.std.specs.Prelude.{◌≡◌, ◌≤◌, ◌<◌, IfOk, OnErr, option_map};
+ghost use Rattle.pf_seeds.specs.Hunts.{SearchedTo};
 ghost use Rattle.pf_seeds.specs.Known.{CountsAll, Finds};
+ghost use Rattle.pf_seeds.specs.Notices.{CutNotices, Ends, HasFailures, Hears, HearsSome, SearchNotices, Searches, TallyNotices};
+ghost use Rattle.pf_seeds.specs.Notices.{has_none, leak_notice, stops};
+ghost use Rattle.pf_seeds.specs.Views.{failure_of, leak_of};
 
 use crate::failure::Searched;
 use crate::leak::{Leak, earlier};
-use crate::observer::{HuntObserver, Pace};
+use crate::observer::HuntObserver;
+use crate::pace::Pace;
 use crate::seeded::Hunt;
 use crate::tallied::Tallied;
 use crate::tally::Tally;
@@ -35,22 +39,27 @@ fn next_size(each: u64, pace: Pace) -> u64 {
     }
 }
 
-/// Whether a hunt that has seeds left stops here.
+/// Whether this answer ends a hunt that has seeds left.
 fn stops(may_stop: bool, pace: Pace) -> bool
-    ensures { result ≡ true → may_stop ≡ true }
+    ensures { result ≡ stops may_stop pace }
 {
-    may_stop && matches!(pace, Pace::Stop)
+    match pace {
+        Pace::Stop => may_stop,
+        Pace::Longer | Pace::Same => false,
+    }
 }
 
 /// Tells an observer of a leak, if there is one.
-fn tell_leak(leak: Option<Leak>, observer: &mut impl HuntObserver) {
+fn tell_leak<O: HuntObserver>(leak: Option<Leak>, observer: &mut O)
+    ensures { Hears O.Heard observer.old (leak_notice (option_map leak_of leak)) observer.new }
+{
     if let Some(leak) = leak {
         observer.leak(leak);
     }
 }
 
 /// The least seed that fails, block by block.
-fn search_blocks<R: Threads + Sync>(
+fn search_blocks<R: Threads + Sync, O: HuntObserver>(
     rt: &R,
     alloc: Global,
     hunt: &Hunt,
@@ -58,10 +67,13 @@ fn search_blocks<R: Threads + Sync>(
     end: u64,
     may_stop: bool,
     workers: u64,
-    observer: &mut impl HuntObserver,
+    observer: &mut O,
 ) -> Result<Searched, NoMemory>
     ensures known { IfOk result (λ s. Finds hunt.now from s.end s) }
-    ensures reach { IfOk result (λ s. ComesTo may_stop end s.end) }
+    ensures reach { IfOk result (λ s. SearchedTo may_stop from end s.end) }
+    ensures heard { IfOk result (λ s. HearsSome O.Heard observer.old
+        (Searches may_stop from end s.end (option_map failure_of s.failure)) observer.new) }
+    ensures cut { OnErr result (HearsSome O.Heard observer.old (CutNotices has_none may_stop from end) observer.new) }
 {
     let team = Team {
         first: 0,
@@ -94,7 +106,7 @@ fn search_blocks<R: Threads + Sync>(
 /// The least seed from a first to before an end whose run fails, by the given number of workers, and the least of those up to it whose
 /// root returned while processes still waited, of which the observer is told. It is told, too, how far the hunt came; if the hunt may
 /// stop, it does so once the observer says it, and what is known is told.
-pub fn first_failing<R: Threads + Sync>(
+pub fn first_failing<R: Threads + Sync, O: HuntObserver>(
     rt: &R,
     alloc: Global,
     hunt: &Hunt,
@@ -102,10 +114,14 @@ pub fn first_failing<R: Threads + Sync>(
     end: u64,
     may_stop: bool,
     workers: u64,
-    observer: &mut impl HuntObserver,
+    observer: &mut O,
 ) -> Result<Searched, NoMemory>
     ensures known { IfOk result (λ s. Finds hunt.now from s.end s) }
-    ensures reach { IfOk result (λ s. ComesTo may_stop end s.end) }
+    ensures reach { IfOk result (λ s. SearchedTo may_stop from end s.end) }
+    ensures heard { IfOk result (λ s. HearsSome O.Heard observer.old
+        (SearchNotices hunt.now.strategy hunt.now.job.asked may_stop from end s.end (option_map failure_of s.failure))
+        observer.new) }
+    ensures cut { OnErr result (HearsSome O.Heard observer.old (CutNotices has_none may_stop from end) observer.new) }
 {
     let searched = search_blocks(rt, alloc, hunt, from, end, may_stop, workers, observer)?;
     tell_leak(searched.leak, observer);
@@ -113,7 +129,7 @@ pub fn first_failing<R: Threads + Sync>(
 }
 
 /// The rows, block by block.
-fn tally_blocks<R: Threads + Sync>(
+fn tally_blocks<R: Threads + Sync, O: HuntObserver>(
     rt: &R,
     alloc: Global,
     hunt: &Hunt,
@@ -121,10 +137,14 @@ fn tally_blocks<R: Threads + Sync>(
     end: u64,
     may_stop: bool,
     workers: u64,
-    observer: &mut impl HuntObserver,
+    observer: &mut O,
 ) -> Result<Tallied, NoMemory>
     ensures known { IfOk result (λ t. CountsAll hunt.now from t.end t) }
-    ensures reach { IfOk result (λ t. ComesTo may_stop end t.end) }
+    ensures reach { IfOk result (λ t. SearchedTo may_stop from end t.end) }
+    ensures heard { IfOk result (λ t. HearsSome O.Heard observer.old
+        (Ends (HasFailures hunt.now.strategy hunt.now.job.asked from) may_stop from end t.end) observer.new) }
+    ensures cut { OnErr result (HearsSome O.Heard observer.old
+        (CutNotices (HasFailures hunt.now.strategy hunt.now.job.asked from) may_stop from end) observer.new) }
 {
     let team = Team {
         first: 0,
@@ -156,7 +176,7 @@ fn tally_blocks<R: Threads + Sync>(
 /// The rows of the runs by the seeds from a first to before an end, by the given number of workers, and the least of these whose root
 /// returned while processes still waited, of which the observer is told. It is told, too, how far the hunt came; if the hunt may stop, it
 /// does so once the observer says it, and the rows are those of the seeds that were run.
-pub fn tally_all<R: Threads + Sync>(
+pub fn tally_all<R: Threads + Sync, O: HuntObserver>(
     rt: &R,
     alloc: Global,
     hunt: &Hunt,
@@ -164,10 +184,14 @@ pub fn tally_all<R: Threads + Sync>(
     end: u64,
     may_stop: bool,
     workers: u64,
-    observer: &mut impl HuntObserver,
+    observer: &mut O,
 ) -> Result<Tallied, NoMemory>
     ensures known { IfOk result (λ t. CountsAll hunt.now from t.end t) }
-    ensures reach { IfOk result (λ t. ComesTo may_stop end t.end) }
+    ensures reach { IfOk result (λ t. SearchedTo may_stop from end t.end) }
+    ensures heard { IfOk result (λ t. HearsSome O.Heard observer.old
+        (TallyNotices hunt.now.strategy hunt.now.job.asked may_stop from end t.end) observer.new) }
+    ensures cut { OnErr result (HearsSome O.Heard observer.old
+        (CutNotices (HasFailures hunt.now.strategy hunt.now.job.asked from) may_stop from end) observer.new) }
 {
     let tallied = tally_blocks(rt, alloc, hunt, from, end, may_stop, workers, observer)?;
     tell_leak(tallied.leak, observer);

@@ -4,7 +4,7 @@ ghost use Rattle.std.specs.Prelude.{◌≡◌};
 ghost use Rattle.pf_model.specs.Meaning.{Report};
 ghost use Rattle.pf_sched.specs.Judging.{IsJudged};
 ghost use Rattle.pf_seeds.specs.Rows as rows;
-ghost use Rattle.pf_seeds.specs.Rows.{met};
+ghost use Rattle.pf_seeds.specs.Rows.{failures_of, met};
 ghost use Rattle.pf_seeds.specs.Views.{row_of};
 
 use crate::hash::HashedOutcome;
@@ -48,5 +48,15 @@ impl Row {
         ensures { result ≡ rows.is_like (row_of self.now) (row_of other.now) }
     {
         same_verdict(self.verdict, other.verdict) && self.outcome.is(&other.outcome)
+    }
+
+    /// How many of its runs failed.
+    pub(crate) fn failures(&self) -> u64
+        ensures { result ≡ failures_of (row_of self.now) }
+    {
+        match self.verdict {
+            Some(false) => self.count,
+            _ => 0,
+        }
     }
 }

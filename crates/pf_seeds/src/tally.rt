@@ -25,7 +25,7 @@ fn chosen(is_like: bool, index: usize, before: Option<usize>) -> Option<usize>
 
 impl Tally {
     ghost use Rattle.std.specs.Prelude.{◌≡◌, ◌+◌, ◌<◌, ◌^◌, ◌++◌, ◌∷◌, OnOk, [], MatchOption, length};
-    ghost use Rattle.pf_seeds.specs.Rows.{counted, joined, with_row};
+    ghost use Rattle.pf_seeds.specs.Rows.{counted, failures_in, joined, with_row};
     ghost use Rattle.pf_seeds.specs.Views.{IsFirstLike, NoneBefore, row_of, rows_of};
 
     /// No row.
@@ -77,13 +77,15 @@ impl Tally {
         }
     }
 
-    /// How many runs failed, for whoever watches.
-    pub(crate) fn failures(&self) -> u64 {
-        let mut count = 0u64;
+    /// How many of the runs failed.
+    #[tactic(auto, using(crate::proofs::Failing::next_row))]
+    pub(crate) fn failures(&self) -> u64
+        requires { counted (rows_of self.now) < 2 ^ 64 }
+        ensures { result ≡ failures_in (rows_of self.now) }
+    {
+        let mut count = 0;
         for row in &self.rows {
-            if matches!(row.verdict, Some(false)) {
-                count = count.saturating_add(row.count);
-            }
+            count += row.failures();
         }
         count
     }

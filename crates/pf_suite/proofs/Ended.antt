@@ -1,27 +1,35 @@
 -- How the hunt of a job ended, of whose seeds something is known.
-use Rattle.std.proofs.Common.{◌≡◌, ◌<◌, ◌-◌, ℕ, Bool, true, false, List, Some, None, refl, subst, arith}
-use Rattle.std.specs.Prelude.{is_some}
+use Rattle.std.proofs.Common.{◌≡◌, ◌-◌, ℕ, Bool, List, [], Some, None, refl, subst}
+use Rattle.std.specs.Prelude.{Result, Ok, Err, OnErr, is_some}
 use Rattle.pf_model.specs.Meaning.{Report}
 use Rattle.pf_request.specs.Job.{Job}
-use Rattle.pf_seeds.specs.Hunts as so
-use Rattle.pf_seeds.specs.Hunts.{ComesTo}
-use Rattle.pf_seeds.proofs.Firsts.{in_first}
-use Rattle.pf_seeds.proofs.Stopping.{no_further}
+use Rattle.pf_seeds.specs.Hunts.{SearchedTo, less_far, to_end}
+use Rattle.pf_seeds.specs.Notices.{CutNotices, HearsSome, Notice, begins, has_none}
+use Rattle.pf_seeds.proofs.Hearing.{hears_none}
+use Rattle.pf_seeds.proofs.Stopping.{over_where_found}
 use Rattle.pf_cli.specs.Args.{HuntArgs}
-use Rattle.pf_suite.specs.Ends.{IsLeast, JobEnds, fails, none_fails, stopped}
+use Rattle.pf_suite.specs.Ends.{IsLeast, JobEnds, Notifies, fails, none_fails, stopped}
 use Rattle.pf_suite.specs.declared.end.RootEnd.TheVariants.{Fails, NoFailure, Stopped}
 
--- a hunt that isn't at its end may stop before
-stops_before : (may_stop : Bool) (b c : ℕ) → ComesTo may_stop b c → (c ≡ b → ⊥) → (may_stop ≡ true) × (c < b)
-stops_before true b c l n = (refl, omega (arith, l, n))
-stops_before false b c e n = absurd (n e)
+module _ (h : HuntArgs) (j : Job) (ns : List Notice) where
+  pub ends_failing : (c s : ℕ) (r : Report) → IsLeast h j c (Some (s, r)) → Notifies h j c (Some (s, r)) ns → JobEnds h j (Fails s) ns
+  ends_failing c s r least told =
+      let e = over_where_found (is_some h.time) h.seeds.0 h.seeds.1 c (s, r) told.0 told.2 in
+      fails s r ns (subst (λ b. IsLeast h j b (Some (s, r))) e least) (subst (λ b. Notifies h j b (Some (s, r)) ns) e told)
 
-module _ (h : HuntArgs) (j : Job) (c : ℕ) (reach : ComesTo (is_some h.time) h.seeds.1 c) where
-  pub ends_failing : (s : ℕ) (r : Report) → IsLeast h j c (Some (s, r)) → JobEnds h j (Fails s)
-  ends_failing s r least = fails s r (in_first (so.fails h.leaks) h.strategy j.asked h.seeds.0 c h.seeds.1 (s, r) (no_further (is_some h.time) h.seeds.1 c reach) least)
+  pub ends_whole : (c : ℕ) → c ≡ h.seeds.1 → IsLeast h j c None → Notifies h j c None ns → JobEnds h j (NoFailure (h.seeds.1 - h.seeds.0)) ns
+  ends_whole c e least told = none_fails ns (subst (λ b. IsLeast h j b None) e least) (subst (λ b. Notifies h j b None ns) e told)
 
-  pub ends_whole : c ≡ h.seeds.1 → IsLeast h j c None → JobEnds h j (NoFailure (h.seeds.1 - h.seeds.0))
-  ends_whole e least = none_fails (subst (λ b. IsLeast h j b None) e least)
+  pub ends_stopped : (c : ℕ) → SearchedTo (is_some h.time) h.seeds.0 h.seeds.1 c → (c ≡ h.seeds.1 → ⊥) → IsLeast h j c None → Notifies h j c None ns
+      → JobEnds h j (Stopped (c - h.seeds.0)) ns
+  ends_stopped _ to_end n least told = absurd (n refl)
+  ends_stopped _ (less_far c may past before) n least told = stopped c ns may past before least told
 
-  pub ends_stopped : (c ≡ h.seeds.1 → ⊥) → IsLeast h j c None → JobEnds h j (Stopped (c - h.seeds.0))
-  ends_stopped n least = let s = stops_before (is_some h.time) h.seeds.1 c reach n in stopped c s.0 s.1 least
+-- no seed was run before memory ran out
+pub cut_at_once : {T : Type 0} (Heard : T → List Notice → Type 0) (may_stop : Bool) (a b : ℕ) (o : T) → HearsSome Heard o (CutNotices has_none may_stop a b) o
+cut_at_once Heard may_stop a b o = ([], (a, begins), hears_none Heard o)
+
+-- what is known is so where memory ran out
+pub at_err : {T E : Type 0} {P : Type 0} (r : Result T E) → P → OnErr r P
+at_err (Ok x) p = tt
+at_err (Err e) p = p

@@ -1,13 +1,14 @@
 //! The hunt of one root of a module.
 
-ghost use Rattle.std.specs.Prelude.{◌≡◌, IfOk, Ok, MatchResult, is_some, option_map};
+ghost use Rattle.std.specs.Prelude.{◌≡◌, IfOk, List, Ok, OnErr, MatchResult, is_some, option_map};
 ghost use Rattle.pf_request.specs.Job as jobs;
 ghost use Rattle.pf_request.specs.View.{view_of_request};
 ghost use Rattle.pf_sched.specs.Asked.{Asks, IsRefusal};
-ghost use Rattle.pf_seeds.specs.Hunts.{ComesTo};
+ghost use Rattle.pf_seeds.specs.Hunts.{SearchedTo};
+ghost use Rattle.pf_seeds.specs.Notices.{CutNotices, HearsSome, Notice, has_none};
 ghost use Rattle.pf_seeds.specs.Views.{failure_of};
 ghost use Rattle.pf_cli.specs.Args.{view_of_hunt_args};
-ghost use Rattle.pf_suite.specs.Ends.{IsLeast, JobEnds, RootEnds, request_for};
+ghost use Rattle.pf_suite.specs.Ends.{IsLeast, JobEnds, Notifies, RootEnds, request_for};
 
 use crate::end::RootEnd;
 use pf_cli::HuntArgs;
@@ -51,10 +52,11 @@ fn job_for(
 
 /// How the hunt of a job ended, of whose seeds this is known.
 fn end_of(args: &HuntArgs, searched: &Searched) -> RootEnd
-    ensures { (j : jobs.Job)
+    ensures { (j : jobs.Job) (ns : List Notice)
         → IsLeast (view_of_hunt_args args.now) j searched.now.end (option_map failure_of searched.now.failure)
-        → ComesTo (is_some args.now.time) args.now.end searched.now.end
-        → JobEnds (view_of_hunt_args args.now) j result }
+        → SearchedTo (is_some args.now.time) args.now.first args.now.end searched.now.end
+        → Notifies (view_of_hunt_args args.now) j searched.now.end (option_map failure_of searched.now.failure) ns
+        → JobEnds (view_of_hunt_args args.now) j result ns }
 {
     match &searched.failure {
         Some(failure) => RootEnd::Fails { seed: failure.seed },
@@ -68,7 +70,7 @@ fn end_of(args: &HuntArgs, searched: &Searched) -> RootEnd
 }
 
 /// How the hunt of the job of a root ends, by the given number of workers.
-fn hunt_job<T: Threads + Sync>(
+fn hunt_job<T: Threads + Sync, O: HuntObserver>(
     rt: &T,
     alloc: Global,
     args: &HuntArgs,
@@ -76,9 +78,12 @@ fn hunt_job<T: Threads + Sync>(
     root: &[u8],
     job: Job,
     workers: u64,
-    observer: &mut impl HuntObserver,
+    observer: &mut O,
 ) -> Result<RootEnd, NoMemory>
-    ensures { IfOk result (JobEnds (view_of_hunt_args args.now) job) }
+    ensures ends { IfOk result (λ e. HearsSome O.Heard observer.old
+        (JobEnds (view_of_hunt_args args.now) job e) observer.new) }
+    ensures cut { OnErr result (HearsSome O.Heard observer.old
+        (CutNotices has_none (is_some args.now.time) args.now.first args.now.end) observer.new) }
 {
     let request = request_for(alloc, args, root)?;
     let most = workers.min(args.end.saturating_sub(args.first));
@@ -96,18 +101,21 @@ fn hunt_job<T: Threads + Sync>(
     Ok(end_of(args, &searched))
 }
 
-/// How the hunt of a root of a module ends, by the given number of workers. Who watches is told how many seeds are done; if the hunt is one
-/// for a time, it ends once the observer says it, and never before a first block of seeds.
-pub fn hunt_root<T: Threads + Sync>(
+/// How the hunt of a root of a module ends, by the given number of workers, and what is reported to the observer on the way. If the hunt is
+/// one for a time, it ends once the observer says it, and never before a first block of seeds.
+pub fn hunt_root<T: Threads + Sync, O: HuntObserver>(
     rt: &T,
     alloc: Global,
     args: &HuntArgs,
     module: &ReadModule,
     root: &[u8],
     workers: u64,
-    observer: &mut impl HuntObserver,
+    observer: &mut O,
 ) -> Result<RootEnd, NoMemory>
-    ensures { IfOk result (RootEnds (view_of_hunt_args args.now) root.now «module».now) }
+    ensures ends { IfOk result (λ e. HearsSome O.Heard observer.old
+        (RootEnds (view_of_hunt_args args.now) root.now «module».now e) observer.new) }
+    ensures cut { OnErr result (HearsSome O.Heard observer.old
+        (CutNotices has_none (is_some args.now.time) args.now.first args.now.end) observer.new) }
 {
     match job_for(alloc, args, module, root) {
         Ok(job) => hunt_job(rt, alloc, args, module, root, job, workers, observer),

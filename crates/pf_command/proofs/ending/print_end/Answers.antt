@@ -5,20 +5,20 @@ use Rattle.pf_command.specs.Streams.{Prints}
 use Rattle.pf_command.proofs.ending.print_end.Goals as goal
 
 pub returns-in-Told : goal.returns-in-Told
-returns-in-Told g c bytes found =
+returns-in-Told g c bytes ns found =
     let h = view_of_hunt_args c.args.args.now in
     subst
     (λ x.
-    Prints (MaySay h bytes x) (g.W.Write.contents c.args.writer.now.inner) (g.W.Write.contents c.print_answer.new.writer.inner) c.args.writer.now.failures.total
+    Prints (MaySay h bytes ns x) (g.W.Write.contents c.args.writer.now.inner) (g.W.Write.contents c.print_answer.new.writer.inner) c.args.writer.now.failures.total
     c.print_answer.new.writer.failures.total c.print_answer.result)
     (sym c.in-Told.is) c.print_answer.ensures
 
 pub returns-in-Found : goal.returns-in-Found
-returns-in-Found g c bytes found =
+returns-in-Found g c bytes ns found =
     let h = view_of_hunt_args c.args.args.now in
-    let one = subst (IsFound h bytes) c.in-Found.is found in
+    let one = subst (IsFound h bytes ns) c.in-Found.is found in
     subst
     (λ x.
-    Prints (MaySay h bytes x) (g.W.Write.contents c.args.writer.now.inner) (g.W.Write.contents c.print_found.new.writer.inner) c.args.writer.now.failures.total
+    Prints (MaySay h bytes ns x) (g.W.Write.contents c.args.writer.now.inner) (g.W.Write.contents c.print_found.new.writer.inner) c.args.writer.now.failures.total
     c.print_found.new.writer.failures.total c.print_found.result)
-    (sym c.in-Found.is) (c.print_found.ensures bytes one.0 one.1)
+    (sym c.in-Found.is) (c.print_found.ensures bytes ns one.0 one.1)

@@ -9,43 +9,43 @@ use Rattle.pf_command.proofs.Streaming.{prints_after, printed_fault}
 use Rattle.pf_command.proofs.ending.print_found.Goals as goal
 
 pub returns-in_err-print_seed : goal.returns-in_err-print_seed
-returns-in_err-print_seed g c bytes of least =
+returns-in_err-print_seed g c bytes ns of least =
     let h = view_of_hunt_args c.args.args.now in
     let f = c.args.found in
     let s = f.failure.seed in
     let r = report_of f.failure.report in
     let head = seed_text s h.strategy (choices_of r) in
-    let m = may_be_told h bytes f.job s r f.runs least in
-    printed_fault (TellsSought h bytes f.job (failure f.runs)) _ _ _ _ c.from_residual.result c.in_err-print_seed.field-0.0 c.from_residual.ensures
+    let m = may_be_told h bytes f.job ns s r f.runs least in
+    printed_fault (TellsSought h bytes f.job ns (failure f.runs)) _ _ _ _ c.from_residual.result c.in_err-print_seed.field-0.0 c.from_residual.ensures
     (head ++ m.0, m.1, m.2, front_of_more _ _ head m.0 c.in_err-print_seed.ensures.front, c.in_err-print_seed.ensures.counted)
 
 pub returns-in-Some : goal.returns-in-Some
-returns-in-Some g c bytes of least =
+returns-in-Some g c bytes ns of least =
     let h = view_of_hunt_args c.args.args.now in
     let f = c.args.found in
     let s = f.failure.seed in
     let r = report_of f.failure.report in
     let printed =
-    prints_after (TellsShrinking h bytes r c.in-Some.runs) (TellsSought h bytes f.job (failure (Some c.in-Some.runs))) (seed_text s h.strategy (choices_of r)) _ _ _ _ _ _
+    prints_after (TellsShrinking h bytes r c.in-Some.runs) (TellsSought h bytes f.job ns (failure (Some c.in-Some.runs))) (seed_text s h.strategy (choices_of r)) _ _ _ _ _ _
     c.print_shrunk.result c.in_ok-print_seed.ensures.written c.in_ok-print_seed.ensures.kept
-    (λ t k tells. tells_shrinking h bytes f.job s r c.in-Some.runs t k least tells) (c.print_shrunk.ensures bytes of) in
+    (λ t k tells. tells_shrinking h bytes f.job ns s r c.in-Some.runs t k least tells) (c.print_shrunk.ensures bytes of) in
     subst
     (λ o.
-    Prints (TellsSought h bytes f.job (failure o)) (g.W.Write.contents c.args.writer.now.inner) (g.W.Write.contents c.print_shrunk.new.writer.inner)
+    Prints (TellsSought h bytes f.job ns (failure o)) (g.W.Write.contents c.args.writer.now.inner) (g.W.Write.contents c.print_shrunk.new.writer.inner)
     c.args.writer.now.failures.total c.print_shrunk.new.writer.failures.total c.print_shrunk.result)
     (sym c.in-Some.is) printed
 
 pub returns : goal.returns
-returns g c bytes of least =
+returns g c bytes ns of least =
     let h = view_of_hunt_args c.args.args.now in
     let f = c.args.found in
     let s = f.failure.seed in
     let r = report_of f.failure.report in
     let printed =
-    prints_after (TellsReport f.job r) (TellsSought h bytes f.job (failure None)) (seed_text s h.strategy (choices_of r)) _ _ _ _ _ _
-    c.print_failure.result c.in_ok-print_seed.ensures.written c.in_ok-print_seed.ensures.kept (λ t k tells. tells_report h bytes f.job s r t k least tells) c.print_failure.ensures in
+    prints_after (TellsReport f.job r) (TellsSought h bytes f.job ns (failure None)) (seed_text s h.strategy (choices_of r)) _ _ _ _ _ _
+    c.print_failure.result c.in_ok-print_seed.ensures.written c.in_ok-print_seed.ensures.kept (λ t k tells. tells_report h bytes f.job ns s r t k least tells) c.print_failure.ensures in
     subst
     (λ o.
-    Prints (TellsSought h bytes f.job (failure o)) (g.W.Write.contents c.args.writer.now.inner) (g.W.Write.contents c.print_failure.new.writer.inner)
+    Prints (TellsSought h bytes f.job ns (failure o)) (g.W.Write.contents c.args.writer.now.inner) (g.W.Write.contents c.print_failure.new.writer.inner)
     c.args.writer.now.failures.total c.print_failure.new.writer.failures.total c.print_failure.result)
     (sym c.in-None.is) printed

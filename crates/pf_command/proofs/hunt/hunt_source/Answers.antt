@@ -1,19 +1,47 @@
+use Rattle.std.proofs.Common.{Ok}
+use Rattle.std.proofs.lemmas.Result.{IfOk-weaker}
+use Rattle.pf_seeds.specs.Notices.{HearsSome}
+use Rattle.pf_seeds.proofs.Hearing.{hears_weaker}
 use Rattle.pf_cli.specs.Args.{view_of_hunt_args}
-use Rattle.pf_command.specs.Hunts.{HuntAnswers}
+use Rattle.pf_command.specs.Hunts.{HuntAnswers, HuntNotifies}
+use Rattle.pf_command.specs.Streams.{Answered, Prints, streams}
 use Rattle.pf_command.proofs.Streaming.{answered, leaves, none_failed}
 use Rattle.pf_command.proofs.hunt.hunt_source.Goals as goal
 
 pub returns-clause-answered : goal.returns-clause-answered
 returns-clause-answered g c =
     answered (HuntAnswers (view_of_hunt_args c.args.args.now)) c.in_ok-source.source.items (g.R.Read.remaining c.args.reader.now.inner) (g.R.Read.remaining c.take_front.new.self.inner) _ _ _ _ _ _ c.in_ok-source.ensures.front c.in_ok-source.ensures.kept
-    c.print_hunt.result c.print_hunt.ensures
+    c.print_hunt.result c.print_hunt.ensures.sent
 
 pub returns-clause-counts : goal.returns-clause-counts
 returns-clause-counts g c =
     none_failed (HuntAnswers (view_of_hunt_args c.args.args.now)) c.in_ok-source.source.items (g.R.Read.remaining c.args.reader.now.inner) (g.R.Read.remaining c.take_front.new.self.inner) _ _ _ _ _ _ c.in_ok-source.ensures.front c.in_ok-source.ensures.kept
-    c.print_hunt.result c.print_hunt.ensures
+    c.print_hunt.result c.print_hunt.ensures.sent
 
 pub returns-clause-fault : goal.returns-clause-fault
 returns-clause-fault g c =
     leaves (HuntAnswers (view_of_hunt_args c.args.args.now)) c.in_ok-source.source.items (g.R.Read.remaining c.args.reader.now.inner) (g.R.Read.remaining c.take_front.new.self.inner) _ _ _ _ _ _ c.in_ok-source.ensures.front c.in_ok-source.ensures.kept
-    c.print_hunt.result c.print_hunt.ensures
+    c.print_hunt.result c.print_hunt.ensures.sent
+
+pub returns-clause-heard : goal.returns-clause-heard
+returns-clause-heard g c =
+    let h = view_of_hunt_args c.args.args.now in
+    let bytes = c.in_ok-source.source.items in
+    let old = c.args.seeds.now in
+    let new = c.print_hunt.new.seeds in
+    let heard = g.S.HuntObserver.Heard in
+    let u0 = g.R.Read.remaining c.args.reader.now.inner in
+    let u1 = g.R.Read.remaining c.take_front.new.self.inner in
+    let w0 = g.W.Write.contents c.args.writer.now.inner in
+    let w1 = g.W.Write.contents c.print_hunt.new.writer.inner in
+    let m0 = c.args.reader.now.failures.total in
+    let m1 = c.take_front.new.self.failures.total in
+    let n0 = c.args.writer.now.failures.total in
+    let n1 = c.print_hunt.new.writer.failures.total in
+    IfOk-weaker c.print_hunt.result (λ s. HearsSome heard old (λ ns. Prints (HuntNotifies h ns bytes) w0 w1 n0 n1 (Ok s)) new)
+    (λ s. HearsSome heard old (λ ns. Answered (HuntNotifies h ns) (streams u0 w0 m0 n0) (streams u1 w1 m1 n1) s) new)
+    (λ s.
+    hears_weaker heard (λ ns. Prints (HuntNotifies h ns bytes) w0 w1 n0 n1 (Ok s))
+    (λ ns. Answered (HuntNotifies h ns) (streams u0 w0 m0 n0) (streams u1 w1 m1 n1) s) old new
+    (λ ns k. answered (HuntNotifies h ns) bytes u0 u1 w0 w1 m0 m1 n0 n1 c.in_ok-source.ensures.front c.in_ok-source.ensures.kept (Ok s) k))
+    c.print_hunt.ensures.heard

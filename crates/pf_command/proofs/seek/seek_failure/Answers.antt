@@ -1,29 +1,44 @@
 use Rattle.std.proofs.Common.{◌∙◌, subst}
 use Rattle.std.specs.Prelude.{option_map}
-use Rattle.pf_seeds.specs.Hunts.{ComesTo, FirstFailing, fails}
+use Rattle.pf_seeds.specs.Hunts.{FirstFailing, SearchedTo}
+use Rattle.pf_seeds.specs.Notices.{SearchNotices}
 use Rattle.pf_seeds.specs.Views.{failure_of}
-use Rattle.pf_seeds.proofs.Firsts.{in_first}
-use Rattle.pf_seeds.proofs.Stopping.{no_further}
+use Rattle.pf_cli.specs.Args.{view_of_hunt_args}
 use Rattle.pf_command.specs.Hunts.{none_fails}
+use Rattle.pf_command.proofs.Found.{least_of_all, none_so_far}
 use Rattle.pf_command.proofs.seek.seek_failure.Goals as goal
 
 pub returns : goal.returns
-returns g c bytes of =
+returns g c =
     let args = c.args.args.now in
+    let h = view_of_hunt_args args in
     let j = c.args.job in
     let found = c.in_ok-failure in
     let end = found.field-0.end in
+    let may = c.may_stop-may_stop in
+    let heard = found.ensures.heard in
     let known = subst (λ f. FirstFailing args.leaks args.strategy j.asked args.first end (option_map failure_of f)) c.in-Some.is found.ensures.known.failure in
-    let least = in_first (fails args.leaks) args.strategy j.asked args.first end args.end _ (no_further _ args.end end found.ensures.reach) known in
-    ((of, least), λ t s say. say)
+    let told = subst (λ f. SearchNotices args.strategy j.asked may.result args.first args.end end (option_map failure_of f) heard.0) c.in-Some.is heard.1 in (
+      heard.0,
+      (λ bytes of. ((of, least_of_all h bytes j heard.0 may.result end (failure_of c.in-Some.failure) may.ensures known told), λ t s say. say)),
+      heard.2,
+    )
 
 pub returns-in_default : goal.returns-in_default
-returns-in_default g c bytes of =
+returns-in_default g c =
     let args = c.args.args.now in
+    let h = view_of_hunt_args args in
     let j = c.args.job in
     let found = c.in_ok-failure in
     let end = found.field-0.end in
+    let may = c.may_stop-may_stop in
+    let heard = found.ensures.heard in
     let none = subst (λ f. FirstFailing args.leaks args.strategy j.asked args.first end (option_map failure_of f)) c.in_default.is found.ensures.known.failure in
-    let reach = subst (λ b. ComesTo b args.end end) c.may_stop-may_stop.ensures found.ensures.reach in
-    let is = c.in_ok-write_none.ensures in
-    (tt, λ t s say. rw (say.0 ∙ is.0, say.1 ∙ is.1) (none_fails c.args.runs end reach none))
+    let told = subst (λ f. SearchNotices args.strategy j.asked may.result args.first args.end end (option_map failure_of f) heard.0) c.in_default.is heard.1 in
+    let reach = subst (λ b. SearchedTo b args.first args.end end) may.ensures found.ensures.reach in
+    let is = c.in_ok-write_none.ensures in (
+      heard.0,
+      (λ bytes of.
+          (tt, λ t s say. rw (say.0 ∙ is.0, say.1 ∙ is.1) (none_fails c.args.runs end reach (none_so_far h bytes j heard.0 may.result end may.ensures none told)))),
+      heard.2,
+    )

@@ -3,8 +3,10 @@ use Rattle.std.specs.Prelude.{if◌then◌else◌}
 use Rattle.std.specs.List.{list_any}
 use Rattle.std.proofs.lemmas.Result.{IfOk-weaker}
 use Rattle.pf_model.specs.Shrinking.{is_failure}
-use Rattle.pf_seeds.specs.Hunts.{ComesTo}
+use Rattle.pf_seeds.specs.Hunts.{SearchedTo}
+use Rattle.pf_seeds.specs.Notices.{HearsSome, TallyNotices}
 use Rattle.pf_seeds.specs.Views.{row_of, rows_in}
+use Rattle.pf_seeds.proofs.Hearing.{hears_weaker}
 use Rattle.pf_cli.specs.Args.{outcomes, view_of_hunt_args}
 use Rattle.pf_command.specs.Answers.{names_of}
 use Rattle.pf_command.specs.Hunts.{TellsSought, front_text, row_text, strategy_text}
@@ -17,12 +19,21 @@ returns g c =
     let j = c.args.job in
     let end = c.in_ok-tallied.tallied.end in
     let rows = c.in_ok-tallied.tallied.tally.rows.items in
-    let reach = subst (λ b. ComesTo b h.seeds.1 end) c.may_stop-may_stop.ensures c.in_ok-tallied.ensures.reach in
+    let may = c.may_stop-may_stop in
+    let heard = g.S.HuntObserver.Heard in
+    let old = c.args.seeds.now in
+    let new = c.tally_all.new.observer in
+    let reach = subst (λ b. SearchedTo b h.seeds.0 h.seeds.1 end) may.ensures c.in_ok-tallied.ensures.reach in
     IfOk-weaker c.write_rows.result
     (λ a. (a.text.items ≡ front_text h end ++ strategy_text h.strategy ++ flat_map (λ x. row_text (names_of j) (row_of x)) rows)
     × (a.status ≡ (if list_any (λ x. is_failure x.verdict) rows then 1 else 0)))
-    (λ a. (bytes : List ℕ) → TellsSought h bytes j outcomes a.text.items a.status)
-    (λ a is bytes.
-    tells_rows h bytes j end (rows_in rows) a reach c.in_ok-tallied.ensures.known.rows
+    (λ a. HearsSome heard old (λ ns. (bytes : List ℕ) → TellsSought h bytes j ns outcomes a.text.items a.status) new)
+    (λ a is.
+    hears_weaker heard (TallyNotices h.strategy j.asked may.result h.seeds.0 h.seeds.1 end)
+    (λ ns. (bytes : List ℕ) → TellsSought h bytes j ns outcomes a.text.items a.status) old new
+    (λ ns told bytes.
+    tells_rows h bytes j ns end (rows_in rows) a reach c.in_ok-tallied.ensures.known.rows
+    (subst (λ b. TallyNotices h.strategy j.asked b h.seeds.0 h.seeds.1 end ns) may.ensures told)
     (is.0 ∙ ap (λ t. front_text h end ++ strategy_text h.strategy ++ t) (texts_are (names_of j) rows), is.1 ∙ ap (λ b. if b then 1 else 0) (fails_are rows)))
+    c.in_ok-tallied.ensures.heard)
     c.write_rows.ensures

@@ -1,16 +1,20 @@
 use Rattle.std.proofs.Common.{◌≡◌, ◌⊎◌, ◌≤◌, ◌-◌}
 use Rattle.std.specs.Prelude.{option_map}
 use Rattle.pf_seeds.specs.Hunts.{FirstLeaking, Tallies}
+use Rattle.pf_seeds.specs.Notices.{GoesOn, HasFailures, HearsSome}
 use Rattle.pf_seeds.specs.Views.{leak_of, rows_of}
 use Rattle.pf_seeds.proofs.blocks.tally_blocks.Given as goal
 
--- the runs before are counted, and the least of them that leaks is known
+-- the runs before are counted, the least of them that leaks is known, and the observer received how many they are and fail
 abbrev pub invariant-loop-at : goal.invariant-loop-at
 invariant-loop-at g l = record {
   behind : l.from ≤ l.at;
   within : (l.at ≡ l.from) ⊎ (l.at ≤ l.end);
   rows : Tallies l.hunt.strategy l.hunt.job.asked l.from l.at (rows_of l.tally);
   leak : FirstLeaking l.hunt.strategy l.hunt.job.asked l.from l.at (option_map leak_of l.leak);
+  heard :
+      HearsSome g.O.HuntObserver.Heard l.fn.observer (GoesOn (HasFailures l.hunt.strategy l.hunt.job.asked l.from) l.may_stop l.from l.end l.at)
+      l.observer;
 }
 
 abbrev pub decreases-loop-at : goal.decreases-loop-at

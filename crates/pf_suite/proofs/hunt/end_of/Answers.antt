@@ -3,27 +3,30 @@ use Rattle.std.specs.Prelude.{option_map}
 use Rattle.pf_model.specs.Reports.{report_of}
 use Rattle.pf_seeds.specs.Views.{failure_of}
 use Rattle.pf_cli.specs.Args.{view_of_hunt_args}
-use Rattle.pf_suite.specs.Ends.{IsLeast}
+use Rattle.pf_suite.specs.Ends.{IsLeast, Notifies}
 use Rattle.pf_suite.proofs.Ended.{ends_failing, ends_stopped, ends_whole}
 use Rattle.pf_suite.proofs.hunt.end_of.Goals as goal
 
 pub returns-in-Some : goal.returns-in-Some
-returns-in-Some c j least reach =
+returns-in-Some c j ns least reach told =
     let h = view_of_hunt_args c.args.args.now in
+    let end = c.args.searched.now.end in
     let f = c.in-Some.failure in
-    ends_failing h j c.args.searched.now.end reach f.seed (report_of f.report)
-    (subst (λ o. IsLeast h j c.args.searched.now.end (option_map failure_of o)) c.in-Some.is least)
+    ends_failing h j ns end f.seed (report_of f.report) (subst (λ o. IsLeast h j end (option_map failure_of o)) c.in-Some.is least)
+    (subst (λ o. Notifies h j end (option_map failure_of o) ns) c.in-Some.is told)
 
 pub returns-in-None : goal.returns-in-None
-returns-in-None c j least reach =
+returns-in-None c j ns least reach told =
     let h = view_of_hunt_args c.args.args.now in
     let end = c.args.searched.now.end in
     rw c.saturating_sub.ensures
-    (ends_whole h j end reach c.if-searched-args.true (subst (λ o. IsLeast h j end (option_map failure_of o)) c.in-None.is least))
+    (ends_whole h j ns end c.if-searched-args.true (subst (λ o. IsLeast h j end (option_map failure_of o)) c.in-None.is least)
+    (subst (λ o. Notifies h j end (option_map failure_of o) ns) c.in-None.is told))
 
 pub returns-in-None-2 : goal.returns-in-None-2
-returns-in-None-2 c j least reach =
+returns-in-None-2 c j ns least reach told =
     let h = view_of_hunt_args c.args.args.now in
     let end = c.args.searched.now.end in
     rw c.saturating_sub-in-None-2.ensures
-    (ends_stopped h j end reach c.if-searched-args.false (subst (λ o. IsLeast h j end (option_map failure_of o)) c.in-None-2.is least))
+    (ends_stopped h j ns end reach c.if-searched-args.false (subst (λ o. IsLeast h j end (option_map failure_of o)) c.in-None-2.is least)
+    (subst (λ o. Notifies h j end (option_map failure_of o) ns) c.in-None-2.is told))
