@@ -90,7 +90,7 @@ impl<W> JsonLines<W> {
 impl<W: Write> Write for JsonLines<W> {
     ghost use Rattle.std.specs.Prelude.{◌≡◌, IfOk, OnErr, OnOk, None, length};
     ghost use Rattle.std.specs.Io.{WritesAtMost};
-    ghost use Rattle.std.specs.Io.KnownBytes.{Appends, WriteAppends};
+    ghost use Rattle.std.specs.Io.KnownBytes.{Appends, Keeps, WriteAppends};
     ghost use Rattle.pf_terms.specs.Streams.{AppendsFront};
     ghost use Rattle.pf_json.specs.Lines.{held_behind, objects_from};
     ghost use Rattle.pf_json.specs.Writers.{held_by};
@@ -112,7 +112,12 @@ impl<W: Write> Write for JsonLines<W> {
         Ok(buf.len())
     }
 
-    fn flush(&mut self) -> io::Result<()> {
+    /// Flushes the inner writer: what is held stays, since its line may go on, and nothing goes out that wasn't written.
+    fn flush(&mut self) -> io::Result<()>
+        ensures bytes { Keeps None None }
+        ensures held { held_by self.new ≡ held_by self.old }
+        ensures kept { Keeps (W.contents self.old.inner) (W.contents self.new.inner) }
+    {
         self.inner.flush()
     }
 }
