@@ -2,7 +2,7 @@
 
 ghost use Rattle.std.specs.Prelude.{◌≡◌, ◌-◌, ◌≤◌, length, IfOk};
 ghost use Rattle.pf_mailbox.specs.Searches.{Passes, Sought, tests_of};
-ghost use Rattle.pf_mailbox.specs.Tests.{awaited, risen};
+ghost use Rattle.pf_mailbox.specs.Tests.{awaited};
 
 use crate::testing::test_marked;
 use pf_nodes::MailList;
@@ -11,10 +11,10 @@ use pf_terms::{NoMemory, Term};
 use std::alloc::Global;
 
 /// Moves the mark to the first message that some clause picks, and answers the body of that clause, whose bindings come
-/// onto the activation that begins at `base`. Each test counts, so that a message that is tested twice counts twice.
+/// onto the activation that begins at `base`. Each test that is made counts, and so a message that is tested twice counts twice.
 pub(crate) fn search(
     list: &mut MailList<Term>,
-    tests: &mut u64,
+    made: &mut usize,
     alloc: Global,
     code: &Module,
     clauses: &[Clause],
@@ -22,18 +22,19 @@ pub(crate) fn search(
     base: usize,
     own: u32,
 ) -> Result<Option<Operand>, NoMemory>
-    requires { base ≤ length env.old.items }
+    requires slots { base ≤ length env.old.items }
+    requires none_made { made.old ≡ 0 }
     ensures items { list.new.items ≡ list.old.items }
     ensures passed { Passes code.now own
         (awaited code.now base env.old.items clauses.now) list.old list.new.mark }
     ensures sought { IfOk result
         (Sought code.now own base env.old.items clauses.now env.new.items list.new) }
-    ensures counted { tests.new ≡ risen tests.old (tests_of result (list.new.mark - list.old.mark)) }
+    ensures counted { made.new ≡ tests_of result (list.new.mark - list.old.mark) }
 {
-    // Only a count that is read is known to have 64 bits.
-    let _range = *tests;
+    // There are no more messages than a count has room for.
+    let _all = list.len();
     while list.marked().is_some() {
-        if let Some(body) = test_marked(list, tests, alloc, code, clauses, env, base, own)? {
+        if let Some(body) = test_marked(list, made, alloc, code, clauses, env, base, own)? {
             return Ok(Some(body));
         }
     }

@@ -1,8 +1,7 @@
 //! The test of one message, which is where tests are counted.
 
-ghost use Rattle.std.specs.Prelude.{◌≡◌, ◌<◌, ◌≤◌, None, length, IfOk, OnErr, OnOk};
+ghost use Rattle.std.specs.Prelude.{◌≡◌, ◌+◌, ◌-◌, ◌^◌, ◌<◌, ◌≤◌, None, length, IfOk, OnErr, OnOk};
 ghost use Rattle.pf_mailbox.specs.Searches.{TestsMarked, mark_after};
-ghost use Rattle.pf_mailbox.specs.Tests.{risen};
 
 use pf_nodes::MailList;
 use pf_stepper::choose;
@@ -16,7 +15,7 @@ use std::alloc::Global;
 #[inline(always)]
 pub(crate) fn test_marked(
     list: &mut MailList<Term>,
-    tests: &mut u64,
+    made: &mut usize,
     alloc: Global,
     code: &Module,
     clauses: &[Clause],
@@ -25,20 +24,21 @@ pub(crate) fn test_marked(
     own: u32,
 ) -> Result<Option<Operand>, NoMemory>
     requires slots { base ≤ length env.old.items }
+    requires room { made.old < 2 ^ 64 - 1 }
     requires there { list.old.mark < length list.old.items }
-    ensures counted { OnOk result (tests.new ≡ risen tests.old 1) }
+    ensures counted { OnOk result (made.new ≡ made.old + 1) }
     ensures items { list.new.items ≡ list.old.items }
     ensures mark { IfOk result (λ o. list.new.mark ≡ mark_after o list.old.mark) }
     ensures tested { IfOk result
         (TestsMarked code.now own base env.old.items clauses.now env.new.items list.old) }
     ensures stays { IfOk result (λ o. o ≡ None → env.new.items ≡ env.old.items) }
-    ensures stopped { OnErr result ((tests.new ≡ tests.old) × (list.new ≡ list.old)) }
+    ensures stopped { OnErr result ((made.new ≡ made.old) × (list.new ≡ list.old)) }
 {
     let Some(message) = list.marked() else {
         unreachable!();
     };
     let picked = choose(alloc, code, clauses, message, env, base, own)?;
-    *tests = tests.saturating_add(1);
+    *made += 1;
     if picked.is_none() {
         list.pass();
     }

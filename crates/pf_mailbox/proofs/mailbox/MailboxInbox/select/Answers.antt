@@ -25,7 +25,7 @@ pub returns-in_default-clause-tests : goal.returns-in_default-clause-tests
 returns-in_default-clause-tests c =
     let before = rw (← c.self.view_is) at c.requires.ready in let s = c.search-picked in
     rw (← c.self.view_is)
-    ((rw (c.in_ok-body.was, c.in_default.is) at s.ensures.counted)
+    (c.counted-self-inside.ensures ∙ ap (risen c.self.inside.tests) (rw (c.in_ok-body.was, c.in_default.is) at s.ensures.counted)
     ∙ ap (risen c.self.inside.tests)
     (sym (all_tested c.args.code.now c.args.own c.args.base c.args.env.now.items c.args.clauses.now c.self.inside.list s.new.list s.ensures.items before s.ensures.passed
     s.new.env.items (rw c.in_default.is at c.in_ok-body.ensures.sought))))
@@ -47,7 +47,7 @@ pub returns-clause-tests : goal.returns-clause-tests
 returns-clause-tests c =
     let before = rw (← c.self.view_is) at c.requires.ready in let s = c.search-picked in let t = c.take_marked in
     rw (← c.self.view_is)
-    ((rw (c.in_ok-body.was, c.in-Some.is) at s.ensures.counted)
+    (c.counted-self-inside.ensures ∙ ap (risen c.self.inside.tests) (rw (c.in_ok-body.was, c.in-Some.is) at s.ensures.counted)
     ∙ ap (risen c.self.inside.tests)
     (sym (tested_to c.args.code.now c.args.own c.args.base c.args.env.now.items c.args.clauses.now c.self.inside.list s.new.list s.ensures.items before s.ensures.passed
     s.new.env.items c.in-Some.body (rw c.in-Some.is at c.in_ok-body.ensures.sought) t.result t.ensures.item)))
