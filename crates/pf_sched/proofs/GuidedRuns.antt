@@ -3,7 +3,7 @@ use Rattle.std.proofs.Common.{◌≡◌, inr, ℕ, suc, ◌+◌, ◌-◌, ◌<�
 use Rattle.std.specs.Prelude.{slice_get}
 use Rattle.std.proofs.lemmas.List.{length-map}
 use Rattle.std.proofs.lemmas.Option.{same_Some}
-use Rattle.pf_model.specs.Module.{Module}
+use Rattle.pf_model.specs.Module.{Module, module_of}
 use Rattle.pf_model.specs.Configuration.{Configuration}
 use Rattle.pf_model.specs.Meaning.{Event, Report, event_of, outcome_of}
 use Rattle.pf_model.specs.Properties.{Outcome, verdict}
@@ -49,7 +49,7 @@ module _ (j : Job) (seed : ℕ) where
   c = start j.asked.root j.asked.edition
 
   -- before the first
-  pub begins : (x : Guided) → x.system.code ≡ m → x.system.standing ≡ Some c → x.system.steps ≡ 0 → priorities_in x ≡ first seed → GoingBy j seed [] x
+  pub begins : (x : Guided) → module_of x.system.checked ≡ m → x.system.standing ≡ Some c → x.system.steps ≡ 0 → priorities_in x ≡ first seed → GoingBy j seed [] x
   begins x k e z p =
       record {
         transitions = [];
@@ -70,7 +70,7 @@ module _ (j : Job) (seed : ℕ) where
       record {
         transitions = g.transitions ++ t ∷ [];
         last = p.passed.after;
-        code = ap (λ z. z.code) p.becomes ∙ g.code;
+        code = ap (λ z. module_of z.checked) p.becomes ∙ g.code;
         stands = ap (λ z. z.standing) p.becomes;
         goes =
             subst (λ q. GoesBy m (first seed) limit c (g.transitions ++ t ∷ []) p.passed.after x'.system.steps q) (ap (λ z. z.1) w.chooses)
@@ -103,8 +103,8 @@ module _ (j : Job) (seed : ℕ) where
       passes : Passes m (suc (limit - s.steps - 1)) g.last e.actor p.passed
       passes =
           subst (λ z. Passes z (suc (limit - s.steps - 1)) g.last e.actor p.passed) g.code
-          (subst (λ z. Passes s.code (suc (limit - s.steps - 1)) z e.actor p.passed) from_last
-          (subst (λ n. Passes s.code n p.before e.actor p.passed) left p.passes))
+          (subst (λ z. Passes (module_of s.checked) (suc (limit - s.steps - 1)) z e.actor p.passed) from_last
+          (subst (λ n. Passes (module_of s.checked) n p.before e.actor p.passed) left p.passes))
 
       longer : GoesBy m (first seed) limit c (g.transitions ++ t ∷ []) p.passed.after (s.steps + p.passed.used) (later (priorities_in x) g.last)
       longer =

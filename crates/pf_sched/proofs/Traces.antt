@@ -7,7 +7,7 @@ use Rattle.pf_choice.specs.Choices as choice
 use Rattle.pf_choice.specs.Choices.{Chooses, IsAt}
 use Rattle.pf_choice.specs.Chosen.{Profile, chosen}
 use Rattle.pf_choice.specs.declared.choices.Choices.{Choices}
-use Rattle.pf_model.specs.Module.{Module}
+use Rattle.pf_model.specs.Module.{Module, module_of}
 use Rattle.pf_model.specs.Configuration.{Configuration}
 use Rattle.pf_model.specs.Channels.{heads}
 use Rattle.pf_model.specs.Meaning.{Event, event_of, picks}
@@ -30,7 +30,7 @@ length_last (y ∷ xs) x = let e = length_last xs x in omega arith
 
 module _ (m : Module) (f : Profile) (ws : Words) (limit : ℕ) (c : Configuration) where
   -- before the first
-  pub begins : (x : Execution) → x.system.code ≡ m → x.system.standing ≡ Some c → x.system.steps ≡ 0 → IsAt pcg32 ws 0 x.choices
+  pub begins : (x : Execution) → module_of x.system.checked ≡ m → x.system.standing ≡ Some c → x.system.steps ≡ 0 → IsAt pcg32 ws 0 x.choices
       → choice.profile_of x.choices ≡ f → Going m f ws limit c [] x
   begins x k e z at same =
       record {
@@ -52,7 +52,7 @@ module _ (m : Module) (f : Profile) (ws : Words) (limit : ℕ) (c : Configuratio
       record {
         transitions = g.transitions ++ t ∷ [];
         last = p.passed.after;
-        code = ap (λ z. z.code) p.becomes ∙ g.code;
+        code = ap (λ z. module_of z.checked) p.becomes ∙ g.code;
         stands = ap (λ z. z.standing) p.becomes;
         goes = subst (Goes m (picks f ws) limit c (g.transitions ++ t ∷ []) p.passed.after) steps longer;
         within = let u = p.within in let z = ap (λ y. y.steps) p.becomes in omega arith;
@@ -87,8 +87,8 @@ module _ (m : Module) (f : Profile) (ws : Words) (limit : ℕ) (c : Configuratio
       passes : Passes m (suc (limit - s.steps - 1)) g.last e.actor p.passed
       passes =
           subst (λ z. Passes z (suc (limit - s.steps - 1)) g.last e.actor p.passed) g.code
-          (subst (λ z. Passes s.code (suc (limit - s.steps - 1)) z e.actor p.passed) from_last
-          (subst (λ n. Passes s.code n p.before e.actor p.passed) left p.passes))
+          (subst (λ z. Passes (module_of s.checked) (suc (limit - s.steps - 1)) z e.actor p.passed) from_last
+          (subst (λ n. Passes (module_of s.checked) n p.before e.actor p.passed) left p.passes))
 
       longer : Goes m (picks f ws) limit c (g.transitions ++ t ∷ []) p.passed.after (s.steps + p.passed.used)
       longer =

@@ -4,6 +4,7 @@ use Rattle.rand_pcg.specs.Pcg.{pcg32}
 use Rattle.rand_pcg.specs.Lcg.{Lcg}
 use Rattle.pf_model.specs.Configuration.{Configuration}
 use Rattle.pf_model.specs.Meaning as meaning
+use Rattle.pf_model.specs.Module.{module_of}
 use Rattle.pf_model.specs.Runs.{enabled, start, Stops, Transition}
 use Rattle.pf_request.specs.Job.{Job}
 use Rattle.pf_priorities.specs.Priorities.{State, choice, first, state_of}
@@ -34,7 +35,7 @@ MayHaveGoneBy Told left c x t false x' t' = (enabled c ≡ []) × (x' ≡ x) × 
 pub record GoingBy (j : Job) (seed : ℕ) (es : List meaning.Event) (x : Guided) : Type 0 where
   pub transitions : List Transition
   pub last : Configuration
-  pub code : x.system.code ≡ j.asked.code
+  pub code : module_of x.system.checked ≡ j.asked.code
   pub stands : x.system.standing ≡ Some last
   pub goes : GoesBy j.asked.code (first seed) j.asked.limit (start j.asked.root j.asked.edition) transitions last x.system.steps (priorities_in x)
   pub within : x.system.steps ≤ j.asked.limit

@@ -6,7 +6,7 @@ use Rattle.pf_choice.specs.Choices as choice
 use Rattle.pf_choice.specs.Choices.{Chooses, IsAt}
 use Rattle.pf_choice.specs.Chosen.{Profile}
 use Rattle.pf_choice.specs.declared.choices.Choices.{Choices}
-use Rattle.pf_model.specs.Module.{Module}
+use Rattle.pf_model.specs.Module.{Module, module_of}
 use Rattle.pf_model.specs.Configuration.{Configuration}
 use Rattle.pf_model.specs.Labels.{Label}
 use Rattle.pf_model.specs.Reports.{actor_of}
@@ -54,7 +54,7 @@ MayHaveGone Told left c x t false x' t' = (enabled c ≡ []) × (x' ≡ x) × (t
 pub record Going (m : Module) (p : Profile) (ws : Words) (limit : ℕ) (c : Configuration) (es : List meaning.Event) (x : Execution) : Type 0 where
   pub transitions : List Transition
   pub last : Configuration
-  pub code : x.system.code ≡ m
+  pub code : module_of x.system.checked ≡ m
   pub stands : x.system.standing ≡ Some last
   pub goes : Goes m (picks p ws) limit c transitions last x.system.steps
   pub within : x.system.steps ≤ limit

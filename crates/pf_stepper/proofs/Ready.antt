@@ -27,8 +27,8 @@ use Rattle.pf_stepper.specs.declared.advance.Advance.TheVariants as a
 use Rattle.pf_stepper.specs.declared.machine.Standing.TheVariants as stood
 use Rattle.pf_stepper.proofs.Outer.{advanced_goes, process_goes}
 
-abbrev machine_at : Module → ℕ → State → MachineView
-machine_at m own x = record { own = own; code = m; standing = goes x }
+abbrev machine_at : Checked → ℕ → State → MachineView
+machine_at m own x = record { own = own; checked = m; standing = goes x }
 
 not_spent : (x : State) → goes x ≡ spent → ⊥
 not_spent x e = absurd cc
@@ -63,38 +63,38 @@ module _ (m : Module) (own : ℕ) where
       let e = stays_at k p q s (contracts_going q r c) fs ks h in
       absurd (not_awaiting r fs ks g (one_next p r (awaits fs ks) (subst (λ z. Contracts m own z r) e c) h))
 
-  module _ (ready : Receive → Type 0) where
-    awaited_at : (x : State) (ks : Clauses) (t : StandsAt (machine_at m own x) ks) → Contracts m own (goes_on x) (awaits t.frames ks)
-    awaited_at x ks t = subst (λ y. Contracts m own (goes_on y) (awaits t.frames ks)) (sym (same_going x t.state t.stood)) t.next
+module _ (m : Checked) (own : ℕ) (ready : Receive → Type 0) where
+  awaited_at : (x : State) (ks : Clauses) (t : StandsAt (machine_at m own x) ks) → Contracts (module_of m) own (goes_on x) (awaits t.frames ks)
+  awaited_at x ks t = subst (λ y. Contracts (module_of m) own (goes_on y) (awaits t.frames ks)) (sym (same_going x t.state t.stood)) t.next
 
-    stands_at : (x : State) (fs : List Frame) (ks : Clauses) → Contracts m own (goes_on x) (awaits fs ks) → StandsAt (machine_at m own x) ks
-    stands_at x fs ks c = record { state = x; frames = fs; stood = refl; next = c }
+  stands_at : (x : State) (fs : List Frame) (ks : Clauses) → Contracts (module_of m) own (goes_on x) (awaits fs ks) → StandsAt (machine_at m own x) ks
+  stands_at x fs ks c = record { state = x; frames = fs; stood = refl; next = c }
 
-    -- it stays ready on the way
-    pub ready_later : (j : ℕ) (x y : State) → Steps m own j (goes_on x) (goes_on y) → IsReadyAhead ready (machine_at m own x) → IsReadyAhead ready (machine_at m own y)
-    ready_later j x y s h r c =
-        h r (record {
-          lives = not_spent x;
-          only = λ ks t.
-              let k = awaited_at x ks t in
-              let e = stays_at j (goes_on x) (goes_on y) s tt t.frames ks k in
-              c.only ks (stands_at y t.frames ks (subst (λ z. Contracts m own z (awaits t.frames ks)) (sym e) k));
-        })
+  -- it stays ready on the way
+  pub ready_later : (j : ℕ) (x y : State) → Steps (module_of m) own j (goes_on x) (goes_on y) → IsReadyAhead ready (machine_at m own x) → IsReadyAhead ready (machine_at m own y)
+  ready_later j x y s h r c =
+      h r (record {
+        lives = not_spent x;
+        only = λ ks t.
+            let k = awaited_at x ks t in
+            let e = stays_at (module_of m) own j (goes_on x) (goes_on y) s tt t.frames ks k in
+            c.only ks (stands_at y t.frames ks (subst (λ z. Contracts (module_of m) own z (awaits t.frames ks)) (sym e) k));
+      })
 
-    -- at a `receive` it is ready for this
-    pub ready_at : (x : State) (fs : List Frame) (ks : Clauses) → Contracts m own (goes_on x) (awaits fs ks) → IsReadyAhead ready (machine_at m own x) → ready (receive_of m own ks)
-    ready_at x fs ks k h =
-        h (receive_of m own ks) (record {
-          lives = not_spent x;
-          only = λ ls t. ap (receive_of m own) (same_awaited fs t.frames ks ls (one_next (goes_on x) (awaits fs ks) (awaits t.frames ls) k (awaited_at x ls t)));
-        })
+  -- at a `receive` it is ready for this
+  pub ready_at : (x : State) (fs : List Frame) (ks : Clauses) → Contracts (module_of m) own (goes_on x) (awaits fs ks) → IsReadyAhead ready (machine_at m own x) → ready (receive_of (module_of m) own ks)
+  ready_at x fs ks k h =
+      h (receive_of (module_of m) own ks) (record {
+        lives = not_spent x;
+        only = λ ls t. ap (receive_of (module_of m) own) (same_awaited fs t.frames ks ls (one_next (module_of m) own (goes_on x) (awaits fs ks) (awaits t.frames ls) k (awaited_at x ls t)));
+      })
 
-    -- elsewhere for whatever comes
-    pub ready_elsewhere : (x : State) → ((fs : List Frame) (ks : Clauses) → Contracts m own (goes_on x) (awaits fs ks) → ⊥) → IsReadyAhead ready (machine_at m own x) → IsReadyForAll ready
-    ready_elsewhere x n h r = h r (record { lives = not_spent x; only = λ ks t. absurd (n t.frames ks (awaited_at x ks t)) })
+  -- elsewhere for whatever comes
+  pub ready_elsewhere : (x : State) → ((fs : List Frame) (ks : Clauses) → Contracts (module_of m) own (goes_on x) (awaits fs ks) → ⊥) → IsReadyAhead ready (machine_at m own x) → IsReadyForAll ready
+  ready_elsewhere x n h r = h r (record { lives = not_spent x; only = λ ks t. absurd (n t.frames ks (awaited_at x ks t)) })
 
-    pub ready_waiting : (x : State) (fs : List Frame) (ks : Clauses) → Contracts m own (goes_on x) (awaits fs ks) → ready (receive_of m own ks) → IsReadyAhead ready (machine_at m own x)
-    ready_waiting x fs ks k h r c = subst ready (sym (c.only ks (stands_at x fs ks k))) h
+  pub ready_waiting : (x : State) (fs : List Frame) (ks : Clauses) → Contracts (module_of m) own (goes_on x) (awaits fs ks) → ready (receive_of (module_of m) own ks) → IsReadyAhead ready (machine_at m own x)
+  ready_waiting x fs ks k h r c = subst ready (sym (c.only ks (stands_at x fs ks k))) h
 
 -- ready for whatever comes, so also ahead
 pub ready_anyhow : (ready : Receive → Type 0) (s : MachineView) → IsReadyForAll ready → IsReadyAhead ready s
@@ -121,13 +121,13 @@ module _ (ready : Receive → Type 0) (m : Checked) (own : ℕ) where
         let g = advanced_goes m own left q s r d in (
           g.0,
           subst (λ p. AdvancedFrom m own p s r) g.1 d,
-          ready_later (module_of m) own ready j x g.0 (subst (Steps (module_of m) own j (goes_on x)) g.1 k) h,
+          ready_later m own ready j x g.0 (subst (Steps (module_of m) own j (goes_on x)) g.1 k) h,
         )
 
     ran_ready : (r : Advance) → RanFrom m own left (goes_on x) s r used → IsReadyToSettle ready m own s r
     ran_ready (a.Changed y) k =
         let q = process_goes m.tables s.env.items s.operands.items s.base s.frames.items y in
-        subst Before (sym q.1) (ready_later (module_of m) own ready left x q.0 (subst (Steps (module_of m) own left (goes_on x)) q.1 k.1) h)
+        subst Before (sym q.1) (ready_later m own ready left x q.0 (subst (Steps (module_of m) own left (goes_on x)) q.1 k.1) h)
     ran_ready (a.Sends w) k = last (a.Sends w) k.0 k.1 k.4 k.5
     ran_ready (a.Asks act) k = last (a.Asks act) k.0 k.1 k.4 k.5
     ran_ready (a.Awaits n) k = last (a.Awaits n) k.0 k.1 k.4 k.5
@@ -154,22 +154,22 @@ module _ (ready : Receive → Type 0) (m : Checked) (own : ℕ) where
     no_asking gs act x c fs ks k = let d = one_next (module_of m) own (goes_on x) (asks gs act) (awaits fs ks) c k in absurd cc
 
     pub ready_sending : (w : Term) → IsReadyToSettle ready m own s (a.Sends w) → IsReadyForAll ready
-    ready_sending w h = ready_elsewhere (module_of m) own ready h.0 (no_asking _ _ h.0 h.1.0) h.2
+    ready_sending w h = ready_elsewhere m own ready h.0 (no_asking _ _ h.0 h.1.0) h.2
 
     pub ready_asking : (act : _) → IsReadyToSettle ready m own s (a.Asks act) → IsReadyForAll ready
-    ready_asking act h = ready_elsewhere (module_of m) own ready h.0 (no_asking _ _ h.0 h.1.0) h.2
+    ready_asking act h = ready_elsewhere m own ready h.0 (no_asking _ _ h.0 h.1.0) h.2
 
     pub ready_returned : (v : Term) → IsReadyToSettle ready m own s (a.Returned v) → IsReadyForAll ready
-    ready_returned v h = ready_elsewhere (module_of m) own ready h.0 (no_return v h.0 h.1) h.2
+    ready_returned v h = ready_elsewhere m own ready h.0 (no_return v h.0 h.1) h.2
 
     pub ready_ended : (e : Term) → IsReadyToSettle ready m own s (a.Ended e) → IsReadyForAll ready
-    ready_ended e h = ready_elsewhere (module_of m) own ready h.0 (no_end e h.0 h.1) h.2
+    ready_ended e h = ready_elsewhere m own ready h.0 (no_end e h.0 h.1) h.2
 
     pub ready_awaiting : (n : NodeId) (ks : Clauses) → ks ≡ clauses_in (tree_at m.tables n.0) → IsReadyToSettle ready m own s (a.Awaits n)
         → ready (receive_of (module_of m) own (sub_clauses (activation s.env.items s.base) ks))
     ready_awaiting n ks e h =
         subst (λ ls. ready (receive_of (module_of m) own (sub_clauses (activation s.env.items s.base) ls))) (sym e)
-        (ready_at (module_of m) own ready h.0 _ _ h.1.0 h.2)
+        (ready_at m own ready h.0 _ _ h.1.0 h.2)
 
     -- at a `receive` that found nothing, over the same slots
     pub ready_after_wait : (env' : List Term) (ready' : Receive → Type 0) (n : NodeId) (ks : Clauses) → ks ≡ clauses_in (tree_at m.tables n.0) → IsReadyToSettle ready m own s (a.Awaits n)
@@ -178,4 +178,4 @@ module _ (ready : Receive → Type 0) (m : Checked) (own : ℕ) where
     ready_after_wait env' ready' n ks e h same r =
         let k = subst (λ ls. ready' (receive_of (module_of m) own (sub_clauses (activation s.env.items s.base) ls))) e r in
         subst (λ xs. IsReadyAhead ready' (going m own (process_of m.tables xs s.operands.items s.base s.frames.items (f.Eval (part.Node n))))) (sym same)
-        (subst (λ p. IsReadyAhead ready' (going m own p)) (sym h.1.1) (ready_waiting (module_of m) own ready' h.0 _ _ h.1.0 k))
+        (subst (λ p. IsReadyAhead ready' (going m own p)) (sym h.1.1) (ready_waiting m own ready' h.0 _ _ h.1.0 k))

@@ -6,8 +6,7 @@ use Rattle.pf_terms.specs.Value.{Value, Values, list, none}
 use Rattle.pf_terms.specs.Encoding.{coded_value, coded_values}
 use Rattle.pf_syntax.specs.Tree.{Tree, lit, tuple, op, call, builtin, match, bind, case}
 use Rattle.pf_syntax.specs.Encoding.{coded_tree}
-use Rattle.pf_syntax.specs.Module.{coded_function}
-use Rattle.pf_model.specs.Module.{Module}
+use Rattle.pf_syntax.specs.Module.{coded_checked}
 use Rattle.pf_model.specs.Context.{Frame, element_of, first_of, tail_of, left_of, right_of, negation, and_also_of, or_else_of, argument_of, builtin_argument_of, match_of, bind_of, case_of, receiver_of, message_of, running, waiting, ending, ended, returned, failed}
 use Rattle.pf_stepper.specs.MachineView.{Standing, spent, goes, asking, over, MachineView}
 
@@ -125,12 +124,7 @@ coded_standing =
     code_by _ (coded⊎ coded_tree (coded⊎ coded_tree (coded⊎ coded_value (coded⊎ coded_value (coded⊎ coded_value (coded⊎ (coded_list coded_frame) coded_ℕ))))))
     parts_of standing_from standing_again
 
-abbrev pub coded_module : Coded Module
-coded_module =
-    code_by _ (coded× coded_ℕ (coded× (coded_list (coded_list coded_ℕ)) (coded_list coded_function)))
-    (λ c. (c.name, (c.atoms, c.functions))) (λ p. record { name = p.0; atoms = p.1.0; functions = p.1.1 }) (λ _. refl)
-
 abbrev pub coded_machine_view : Coded MachineView
 coded_machine_view =
-    code_by _ (coded× coded_ℕ (coded× coded_module coded_standing))
-    (λ s. (s.own, (s.code, s.standing))) (λ p. record { own = p.0; code = p.1.0; standing = p.1.1 }) (λ _. refl)
+    code_by _ (coded× coded_ℕ (coded× coded_checked coded_standing))
+    (λ s. (s.own, (s.checked, s.standing))) (λ p. record { own = p.0; checked = p.1.0; standing = p.1.1 }) (λ _. refl)

@@ -1,6 +1,5 @@
 -- What the fields of a machine stand for, and what is true of them.
 use Rattle.pf_syntax.specs.Module.{Checked}
-use Rattle.pf_model.specs.Module.{module_of}
 use Rattle.pf_model.specs.Context.{Move, goes_on, asks, awaits, returns}
 use Rattle.pf_stepper.specs.View.{holes_of}
 use Rattle.pf_stepper.specs.MachineView.{MachineView, spent, goes, asking, over}
@@ -25,7 +24,7 @@ standing_in m stack s.Over = over
 standing_in m stack s.Spent = spent
 
 abbrev pub view_of_machine : Inside → MachineView
-view_of_machine a = record { own = a.own; code = module_of a.module.value; standing = standing_in a.module.value a.stack a.standing }
+view_of_machine a = record { own = a.own; checked = a.module.value; standing = standing_in a.module.value a.stack a.standing }
 
 abbrev pub SoundIn : Stack → Standing → Type 0
 SoundIn stack (s.Goes x) = IsSound stack x

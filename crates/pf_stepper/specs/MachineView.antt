@@ -2,7 +2,7 @@
 use Rattle.std.specs.Prelude.{ℕ, List}
 use Rattle.pf_terms.specs.Value.{Values}
 use Rattle.pf_syntax.specs.Tree.{call, no_trees}
-use Rattle.pf_model.specs.Module.{Module}
+use Rattle.pf_syntax.specs.Module.{Checked}
 use Rattle.pf_model.specs.Context.{State, running, Frame, after_values}
 
 -- how a machine stands: memory ran out; its process goes on from a state, or waits for the answer to an action, which goes into these
@@ -13,15 +13,15 @@ pub data Standing : Type 0 where
   asking : List Frame → Standing
   over : Standing
 
--- a machine: its pid, the module that it runs, and how it stands
+-- a machine: its pid, the checked module that it runs, and how it stands
 pub record MachineView : Type 0 where
   pub own : ℕ
-  pub code : Module
+  pub checked : Checked
   pub standing : Standing
 
 abbrev pub standing_so : MachineView → Standing → MachineView
-standing_so s x = record { own = s.own; code = s.code; standing = x }
+standing_so s x = record { own = s.own; checked = s.checked; standing = x }
 
 -- a machine at the call of a function with these arguments
-abbrev pub at_call : ℕ → Module → ℕ → Values → MachineView
-at_call own m f vs = record { own = own; code = m; standing = goes (running (call f (after_values vs no_trees))) }
+abbrev pub at_call : ℕ → Checked → ℕ → Values → MachineView
+at_call own m f vs = record { own = own; checked = m; standing = goes (running (call f (after_values vs no_trees))) }

@@ -2,7 +2,7 @@
 use Rattle.std.specs.Prelude.{◌≡◌, ◌⊎◌, ℕ, List, [], ◌∷◌, ◌++◌}
 use Rattle.pf_terms.specs.Value.{Values}
 use Rattle.pf_terms.specs.declared.term.Term.{Term}
-use Rattle.pf_syntax.specs.Tree.{Tree, lit, var, call}
+use Rattle.pf_syntax.specs.Tree.{Tree, lit, var, neg, call}
 use Rattle.pf_syntax.specs.Module.{Tables, tree_at}
 use Rattle.pf_syntax.specs.declared.node.FunctionId.{FunctionId}
 use Rattle.pf_syntax.specs.declared.node.NodeId.{NodeId}
@@ -11,7 +11,7 @@ use Rattle.pf_syntax.specs.declared.node.Operand.TheVariants as part
 use Rattle.pf_patterns.specs.Fit.{Scope}
 use Rattle.pf_patterns.specs.Substitution.{sub}
 use Rattle.pf_model.specs.Context.{Frame as Hole, fill, literals, State, running, waiting, ending, ended}
-use Rattle.pf_stepper.specs.Lookups.{applied_to}
+use Rattle.pf_stepper.specs.Lookups.{applied_to, pairing_in, pairing_of}
 use Rattle.pf_stepper.specs.View.{hole_of}
 use Rattle.pf_stepper.specs.MachineView.{Standing, spent, goes, asking, over}
 use Rattle.pf_stepper.specs.declared.frame.Callee.{Callee}
@@ -49,6 +49,18 @@ part_of (k.Argument g n done) = done
 part_of (k.Match n done) = 0
 part_of (k.Bind n done) = 0
 part_of (k.Case n) = 0
+
+-- the node of a frame is what the frame waits at, where its hole doesn't come from there: a minus, or what takes two operands so
+abbrev pub IsAtNode : Tables → Kind → Type 0
+IsAtNode t (k.BinaryLeft n) = Unit {0}
+IsAtNode t (k.BinaryRight b n) = pairing_in (tree_at t n.0) ≡ pairing_of b
+IsAtNode t (k.BinaryAfterSlot b x n) = pairing_in (tree_at t n.0) ≡ pairing_of b
+IsAtNode t (k.Negation n) = (a : Tree) × (tree_at t n.0 ≡ neg a)
+IsAtNode t (k.Shortcut d n) = Unit {0}
+IsAtNode t (k.Argument g n done) = Unit {0}
+IsAtNode t (k.Match n done) = Unit {0}
+IsAtNode t (k.Bind n done) = Unit {0}
+IsAtNode t (k.Case n) = Unit {0}
 
 -- where the innermost of these frames waits, nowhere where there is none
 abbrev pub waits_in : List Frame → Point

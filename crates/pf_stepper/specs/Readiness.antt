@@ -34,12 +34,12 @@ pub record StandsAt (s : MachineView) (ks : Clauses) : Type 0 where
   pub state : State
   pub frames : List Frame
   pub stood : s.standing ≡ goes state
-  pub next : Contracts s.code s.own (goes_on state) (awaits frames ks)
+  pub next : Contracts (module_of s.checked) s.own (goes_on state) (awaits frames ks)
 
 -- this may be the next `receive` of a machine that has memory: if it stands at one, it is this
 pub record MayComeTo (s : MachineView) (r : Receive) : Type 0 where
   pub lives : s.standing ≡ spent → ⊥
-  pub only : (ks : Clauses) → StandsAt s ks → r ≡ receive_of s.code s.own ks
+  pub only : (ks : Clauses) → StandsAt s ks → r ≡ receive_of (module_of s.checked) s.own ks
 
 -- ready for the `receive` at which the machine stands; where it stands at none, for whatever comes; once memory ran out, for nothing
 abbrev pub IsReadyAhead : (Receive → Type 0) → MachineView → Type 0

@@ -32,11 +32,11 @@ AdvanceIsSound s (a.Ended r) = Unit {0}
 
 -- a machine of this process
 abbrev pub going : Checked → ℕ → Next → MachineView
-going m own p = record { own = own; code = module_of m; standing = standing_by p }
+going m own p = record { own = own; checked = m; standing = standing_by p }
 
 -- ready for what a machine that is left so comes to next
 abbrev pub IsReadyAfter : (Receive → Type 0) → Checked → ℕ → Stack → Standing → Type 0
-IsReadyAfter ready m own s x = IsReadyAhead ready (record { own = own; code = module_of m; standing = standing_in m s x })
+IsReadyAfter ready m own s x = IsReadyAhead ready (record { own = own; checked = m; standing = standing_in m s x })
 
 -- ready for what comes after the contractions; or for what came to the last move
 abbrev pub IsReadyToSettle : (Receive → Type 0) → Checked → ℕ → Stack → Advance → Type 0

@@ -50,7 +50,7 @@ impl Stack {
             Some(other) => pair_up(alloc, code, binary, value, other, &mut self.operands),
             None => {
                 self.operands.push(value)?;
-                self.wait(Kind::BinaryRight(binary, id))?;
+                self.wait(code, Kind::BinaryRight(binary, id))?;
                 Ok(MicroStep::Silent(Focus::Eval(right)))
             }
         }
@@ -195,7 +195,7 @@ impl Stack {
                     return Ok(MicroStep::Contracted(Focus::Raised(reason)));
                 }
                 if done + 1 < patterns.len() {
-                    self.wait(Kind::Match(id, done + 1))?;
+                    self.wait(code, Kind::Match(id, done + 1))?;
                     Ok(MicroStep::Contracted(Focus::Value(value)))
                 } else {
                     Ok(MicroStep::Contracted(Focus::Value(value)))
@@ -228,7 +228,7 @@ impl Stack {
                     let reason = tagged(alloc, AtomId::BADMATCH, &value)?;
                     return Ok(MicroStep::Contracted(Focus::Raised(reason)));
                 }
-                self.wait(Kind::Bind(id, done + 1))?;
+                self.wait(code, Kind::Bind(id, done + 1))?;
                 Ok(MicroStep::Contracted(Focus::Value(value)))
             }
         }

@@ -9,6 +9,7 @@ ghost use Rattle.pf_stepper.specs.Lookups.{clauses_in, left_index, paired, pairi
 ghost use Rattle.pf_stepper.specs.declared.frame.Binary.TheVariants as binary;
 ghost use Rattle.pf_stepper.specs.declared.frame.Kind.TheVariants as kind;
 ghost use Rattle.pf_patterns.specs.Slots.{activation};
+ghost use Rattle.pf_stepper.specs.Points.{IsAtNode};
 ghost use Rattle.pf_stepper.specs.View.{keeps};
 ghost use Rattle.pf_stepper.specs.MicroSteps.{CanEvaluate, Descended, IsMicroStep};
 
@@ -206,7 +207,7 @@ impl Stack {
     {
         match self.left_in_scope(left, right) {
             Some(index) => {
-                self.wait(Kind::BinaryAfterSlot(binary, index, id))?;
+                self.wait(code, Kind::BinaryAfterSlot(binary, index, id))?;
                 Ok(MicroStep::Silent(Focus::Eval(right)))
             }
             None => self.descend(alloc, code, own, Kind::BinaryLeft(id), left),
@@ -266,7 +267,7 @@ impl Stack {
                 Ok(MicroStep::Contracted(chosen(alloc, &value, body)?))
             }
             None => {
-                self.wait(Kind::Case(id))?;
+                self.wait(code, Kind::Case(id))?;
                 Ok(MicroStep::Silent(Focus::Eval(part)))
             }
         }
@@ -284,6 +285,7 @@ impl Stack {
     ) -> Result<MicroStep, NoMemory>
         requires sound { CanEvaluate self.old }
         requires keeps { keeps kind ≡ 0 }
+        requires at { IsAtNode code.now.tables kind }
         ensures { IfOk result (λ t. Descended code.now own self.old kind part self.new t) }
     {
         self.descend(alloc, code, own, kind, part)
@@ -301,6 +303,7 @@ impl Stack {
     ) -> Result<MicroStep, NoMemory>
         requires sound { CanEvaluate self.old }
         requires keeps { keeps kind ≡ 0 }
+        requires at { IsAtNode code.now.tables kind }
         ensures { IfOk result (λ t. Descended code.now own self.old kind part self.new t) }
     {
         match self.operand(code, part)? {
@@ -309,7 +312,7 @@ impl Stack {
                 self.fill(alloc, code, own, frame, value)
             }
             None => {
-                self.wait(kind)?;
+                self.wait(code, kind)?;
                 Ok(MicroStep::Silent(Focus::Eval(part)))
             }
         }

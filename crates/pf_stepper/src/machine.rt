@@ -2,7 +2,6 @@
 
 ghost use Rattle.std.specs.Prelude.{◌≡◌, IfOk, IsErr, OnErr, OnOk};
 ghost use Rattle.pf_terms.specs.Term.{values_of};
-ghost use Rattle.pf_model.specs.Module.{module_of};
 ghost use Rattle.pf_stepper.specs.MachineView.{at_call, spent, standing_so};
 ghost use Rattle.pf_stepper.specs.Points.{IsPointAt};
 ghost use Rattle.pf_stepper.specs.Readiness.{IsReadyAhead};
@@ -174,7 +173,7 @@ impl Machine {
         room: Room,
     ) -> Result<Machine, NoMemory>
         ensures { IfOk result (λ m.
-            m ≡ at_call own (module_of «module».value) function.0 (values_of args.items)) }
+            m ≡ at_call own «module».value function.0 (values_of args.items)) }
     {
         let count = args.len();
         let stack = room.stacks(args)?;
@@ -204,10 +203,10 @@ impl Machine {
         self.own
     }
 
-    /// Where the process stands, and the module in whose code that is.
+    /// Where the process stands, and its module, in whose code that is.
     pub fn point(&self) -> (&Module, Point)
-        ensures code { module_of result.0.now ≡ self.now.code }
-        ensures point { IsPointAt result.0.now.tables self.now.standing result.1 }
+        ensures own { result.0.now ≡ self.now.checked }
+        ensures point { IsPointAt self.now.checked.tables self.now.standing result.1 }
     {
         let point = match &self.standing {
             Standing::Goes(focus) => self.stack.point(focus),

@@ -65,7 +65,7 @@ impl Stack {
                 Some(value) => self.operands.push(value)?,
                 None => {
                     let done = noted(count)?;
-                    self.wait(Kind::Argument(callee, id, done))?;
+                    self.wait(code, Kind::Argument(callee, id, done))?;
                     return Ok(MicroStep::Silent(Focus::Eval(argument)));
                 }
             }

@@ -8,6 +8,7 @@ ghost use Rattle.pf_patterns.specs.Operands.{IsOperand};
 ghost use Rattle.pf_patterns.specs.Slots.{activation};
 ghost use Rattle.pf_stepper.specs.Lane.{under};
 ghost use Rattle.pf_stepper.specs.Lookups.{value_at};
+ghost use Rattle.pf_stepper.specs.Points.{IsAtNode};
 ghost use Rattle.pf_stepper.specs.Sound.{frame_for, top_end};
 
 use crate::frame::{Frame, Kind};
@@ -115,9 +116,10 @@ impl Stack {
         }
     }
 
-    /// Such a frame on the stack.
+    /// Such a frame on the stack, at a node of this code.
     #[inline(never)]
-    pub(crate) fn wait(&mut self, kind: Kind) -> Result<(), NoMemory>
+    pub(crate) fn wait(&mut self, code: &Module, kind: Kind) -> Result<(), NoMemory>
+        requires { IsAtNode code.now.tables kind }
         ensures ok { OnOk result (self.new.frames.items
             ≡ self.old.frames.items ++ frame_for kind self.old.base (length self.old.env.items) ∷ []) }
         ensures env { self.new.env ≡ self.old.env }
@@ -131,7 +133,8 @@ impl Stack {
 
     /// The same without a call where there is room.
     #[inline(always)]
-    pub(crate) fn hold(&mut self, kind: Kind) -> Result<(), NoMemory>
+    pub(crate) fn hold(&mut self, code: &Module, kind: Kind) -> Result<(), NoMemory>
+        requires { IsAtNode code.now.tables kind }
         ensures ok { OnOk result (self.new.frames.items
             ≡ self.old.frames.items ++ frame_for kind self.old.base (length self.old.env.items) ∷ []) }
         ensures env { self.new.env ≡ self.old.env }

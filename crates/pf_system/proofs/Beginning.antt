@@ -6,6 +6,7 @@ use Rattle.pf_terms.specs.Fixed.{undef}
 use Rattle.pf_terms.specs.declared.term.Term.{Term}
 use Rattle.pf_terms.specs.declared.term.Term.TheVariants as term
 use Rattle.pf_syntax.specs.Tree.{call}
+use Rattle.pf_syntax.specs.Module.{Checked}
 use Rattle.pf_ops.specs.Reasons.{ending_reason}
 use Rattle.pf_model.specs.Actions as actions
 use Rattle.pf_model.specs.Actions.{start_of}
@@ -23,18 +24,18 @@ pub start_at : (m : Module) (home name : ℕ) (vs : Values) (n : ℕ) (o : Optio
 start_at m home name vs n o e h = ap (λ k. actions.begun (home_function m home name k) vs) (sym e) ∙ ap (λ z. actions.begun z vs) (sym h)
 
 -- at the call of a function
-pub begins_running : (m : Module) (own f : ℕ) (vs : Values) (s : State) (k : MachineView) → k ≡ at_call own m f vs → s ≡ running (call f (literals vs))
+pub begins_running : (m : Checked) (own f : ℕ) (vs : Values) (s : State) (k : MachineView) → k ≡ at_call own m f vs → s ≡ running (call f (literals vs))
     → LifeBegins m own s (life.Lives k false)
 begins_running m own f vs s k e q =
     record {
       sound = λ mail h. ((running (call f (literals vs)), ap (λ z. z.standing) e, refl), h k);
-      is_of = (ap (λ z. z.own) e, ap (λ z. z.code) e);
+      is_of = (ap (λ z. z.own) e, ap (λ z. z.checked) e);
       state = ap (λ z. state_in z.standing) e ∙ sym q;
       goes = ap can_go q;
     }
 
 -- about to end
-pub begins_ending : (m : Module) (own : ℕ) (t : Term) (s : State) → s ≡ ending (ending_reason undef) → value_of t ≡ ending_reason undef
+pub begins_ending : (m : Checked) (own : ℕ) (t : Term) (s : State) → s ≡ ending (ending_reason undef) → value_of t ≡ ending_reason undef
     → LifeBegins m own s (life.Ends t)
 begins_ending m own t s q e =
     record {

@@ -1,7 +1,6 @@
 -- Processes of which the slot of one is changed.
 use Rattle.std.proofs.Common.{◌≡◌, ℕ, zero, suc, ◌+◌, ◌<◌, ◌≤◌, true, false, List, [], ◌∷◌, Option, Some, refl, sym, ap, ◌∙◌, subst, arith, length, map, slice_set}
 use Rattle.std.specs.Prelude.{slice_get}
-use Rattle.pf_model.specs.Module.{Module, module_of}
 use Rattle.pf_model.specs.Maps.{with_number, without_number}
 use Rattle.pf_model.specs.Configuration.{Process, Core, of, with_process, process_at}
 use Rattle.pf_model.specs.Runs.{can_go, numbers_of}
@@ -11,12 +10,13 @@ use Rattle.pf_ties.proofs.Followed.{none_changed}
 use Rattle.pf_stepper.specs.MachineView.{Standing}
 use Rattle.pf_system.specs.Bodies.{process_body, bodies_of}
 use Rattle.pf_system.specs.Slots.{slot_body, SlotIsSound, SlotsAreSound, SlotIsLeft}
-use Rattle.pf_system.specs.Processes.{Represents, RepresentsBut, IsLeftAt, module_in, bodies_in, core_of}
+use Rattle.pf_system.specs.Processes.{Represents, RepresentsBut, IsLeftAt, checked_in, bodies_in, core_of}
 use Rattle.pf_system.specs.declared.slot.Slot.{Slot}
 use Rattle.pf_system.specs.declared.processes.Processes.{Processes}
 use Rattle.pf_system.proofs.Bodies.{set_map, set_length, set_twice, core_again, bodies_changed, length_of, ties_length}
 use Rattle.pf_system.proofs.Ready.{numbers_in, by_bodies, gone_in, woken_in}
 use Rattle.std.proofs.lemmas.List.{length-map}
+use Rattle.pf_syntax.specs.Module.{Checked}
 
 -- ---- lists
 
@@ -42,14 +42,14 @@ body_get zero (p ∷ ps) (x ∷ ss) s e h =
 body_get (suc a) (p ∷ ps) (x ∷ ss) s e h =
     let k : map process_body ps ≡ map slot_body ss = cc in body_get a ps ss s k h
 
-pub sound_at : (m : Module) (n a : ℕ) (ss : List Slot) (s : Slot) → SlotsAreSound m n ss → slice_get ss a ≡ Some s → SlotIsSound m (n + a) s
+pub sound_at : (m : Checked) (n a : ℕ) (ss : List Slot) (s : Slot) → SlotsAreSound m n ss → slice_get ss a ≡ Some s → SlotIsSound m (n + a) s
 sound_at m n a [] s h e = absurd (cc)
 sound_at m n zero (x ∷ ss) s h e =
     let k : n ≡ n + zero = omega arith in subst (λ j. SlotIsSound m j s) k (subst (SlotIsSound m n) (some_is x s e) h.0)
 sound_at m n (suc a) (x ∷ ss) s h e =
     let k : suc n + a ≡ n + suc a = omega arith in subst (λ j. SlotIsSound m j s) k (sound_at m (suc n) a ss s h.1 e)
 
-pub sound_set : (m : Module) (n a : ℕ) (ss : List Slot) (s : Slot) → SlotsAreSound m n ss → SlotIsSound m (n + a) s → SlotsAreSound m n (slice_set ss a s)
+pub sound_set : (m : Checked) (n a : ℕ) (ss : List Slot) (s : Slot) → SlotsAreSound m n ss → SlotIsSound m (n + a) s → SlotsAreSound m n (slice_set ss a s)
 sound_set m n a [] s h k = tt
 sound_set m n zero (x ∷ ss) s h k = let e : n + zero ≡ n = omega arith in (subst (λ j. SlotIsSound m j s) e k, h.1)
 sound_set m n (suc a) (x ∷ ss) s h k =
@@ -83,10 +83,10 @@ module _ (w w' : Processes) (c : Core) (a : ℕ) (s' : Slot) where
         ready = r ∙ h.ready;
         slots = λ x k.
             let j : a ≡ zero + a = omega arith in
-            let g : SlotIsSound (module_in w) (zero + a) x = subst (λ z. SlotIsSound (module_in w) z x) j (subst (λ z. SlotIsSound (module_of z.module.value) a x) m k) in
+            let g : SlotIsSound (checked_in w) (zero + a) x = subst (λ z. SlotIsSound (checked_in w) z x) j (subst (λ z. SlotIsSound z.module.value a x) m k) in
             let d : slice_set w'.slots.items a x ≡ slice_set w.slots.items a x = ap (λ ss. slice_set ss a x) e ∙ set_twice a w.slots.items s' x in
-            subst (λ ss. SlotsAreSound (module_in w') zero ss) (sym d)
-            (subst (λ z. SlotsAreSound (module_of z.module.value) zero (slice_set w.slots.items a x)) (sym m) (sound_set (module_in w) zero a w.slots.items x h.slots g));
+            subst (λ ss. SlotsAreSound (checked_in w') zero ss) (sym d)
+            (subst (λ z. SlotsAreSound z.module.value zero (slice_set w.slots.items a x)) (sym m) (sound_set (checked_in w) zero a w.slots.items x h.slots g));
         room = record {
           rows = subst (λ k. length c.processes ≤ length k.channels) (sym b) h.room.rows;
           few = h.room.few;
@@ -95,12 +95,12 @@ module _ (w w' : Processes) (c : Core) (a : ℕ) (s' : Slot) where
         };
       }
 
-  pub left_at : (x : Standing) → SlotIsLeft (module_in w) a x s' → a < length w.slots.items → w'.slots.items ≡ slice_set w.slots.items a s' → w'.basis ≡ w.basis → IsLeftAt w' a x s'
+  pub left_at : (x : Standing) → SlotIsLeft (checked_in w) a x s' → a < length w.slots.items → w'.slots.items ≡ slice_set w.slots.items a s' → w'.basis ≡ w.basis → IsLeftAt w' a x s'
   left_at x h l e m =
-      record { at = ap (λ ss. slice_get ss a) e ∙ get_set a w.slots.items s' l; leaves = subst (λ z. SlotIsLeft (module_of z.module.value) a x s') (sym m) h }
+      record { at = ap (λ ss. slice_get ss a) e ∙ get_set a w.slots.items s' l; leaves = subst (λ z. SlotIsLeft z.module.value a x s') (sym m) h }
 
   -- the process has its slot again
-  pub put_back : (p : Process) → RepresentsBut w c a → process_body p ≡ slot_body s' → process_ties p ≡ process_ties (of c a) → SlotIsSound (module_in w) a s'
+  pub put_back : (p : Process) → RepresentsBut w c a → process_body p ≡ slot_body s' → process_ties p ≡ process_ties (of c a) → SlotIsSound (checked_in w) a s'
       → w'.slots.items ≡ slice_set w.slots.items a s' → w'.shared ≡ w.shared → w'.basis ≡ w.basis
       → w'.ready ≡ numbers_of can_go zero (with_process c a p).processes → Represents w' (with_process c a p)
   put_back p h y t k e b m r =
@@ -110,8 +110,8 @@ module _ (w w' : Processes) (c : Core) (a : ℕ) (s' : Slot) where
             ∙ sym (ap (map slot_body) e ∙ set_map slot_body a w.slots.items s');
         ties = none_changed c a p t ∙ h.ties ∙ ap (λ z. z.ties) (sym b);
         ready = r;
-        slots = subst (λ ss. SlotsAreSound (module_in w') zero ss) (sym e)
-            (subst (λ z. SlotsAreSound (module_of z.module.value) zero (slice_set w.slots.items a s')) (sym m) (h.slots s' k));
+        slots = subst (λ ss. SlotsAreSound (checked_in w') zero ss) (sym e)
+            (subst (λ z. SlotsAreSound z.module.value zero (slice_set w.slots.items a s')) (sym m) (h.slots s' k));
         room = record {
           rows = let q = subst (λ z. length c.processes ≤ length z.channels) (sym b) h.room.rows in omega arith;
           few = let q = h.room.few in omega arith;

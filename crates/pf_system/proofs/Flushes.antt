@@ -3,7 +3,6 @@ use Rattle.std.proofs.Common.{◌≡◌, ℕ, zero, ◌≤◌, Bool, true, false
 use Rattle.std.specs.Prelude.{slice_get}
 use Rattle.pf_terms.specs.Value.{Value, ref}
 use Rattle.pf_terms.specs.Fixed.{badarg}
-use Rattle.pf_model.specs.Module.{module_of}
 use Rattle.pf_model.specs.Maps.{got}
 use Rattle.pf_model.specs.Contraction as asked
 use Rattle.pf_model.specs.Configuration.{Process, Core, of, with_process}
@@ -15,7 +14,7 @@ use Rattle.pf_ties.specs.Laws.{ties_of}
 use Rattle.pf_ties.proofs.Followed.{none_changed}
 use Rattle.pf_system.specs.Bodies.{process_body, bodies_of}
 use Rattle.pf_system.specs.Slots.{slot_body, SlotIsSound, SlotsAreSound}
-use Rattle.pf_system.specs.Processes.{RepresentsBut, module_in, bodies_in}
+use Rattle.pf_system.specs.Processes.{RepresentsBut, checked_in, module_in, bodies_in}
 use Rattle.pf_system.specs.Acts.{Answer, Answers, CarriesOut, ActedIn, ActsIn, KeepsSlot, FlushesIn}
 use Rattle.pf_system.specs.declared.slot.Slot.{Slot}
 use Rattle.pf_system.specs.declared.processes.Processes.{Processes}
@@ -41,9 +40,9 @@ flush_stands n k d w w' s' e b r m h =
       ready = r ∙ h.ready ∙ sym (numbers_kept can_go zero d.processes n p refl);
       slots = λ t z.
           let q : slice_set w'.slots.items n t ≡ slice_set w.slots.items n t = ap (λ ss. slice_set ss n t) e ∙ set_twice n w.slots.items s' t in
-          let y = h.slots t (subst (λ v. SlotIsSound (module_of v.module.value) n t) m z) in
-          subst (λ ss. SlotsAreSound (module_in w') zero ss) (sym q)
-          (subst (λ v. SlotsAreSound (module_of v.module.value) zero (slice_set w.slots.items n t)) (sym m) y);
+          let y = h.slots t (subst (λ v. SlotIsSound v.module.value n t) m z) in
+          subst (λ ss. SlotsAreSound (checked_in w') zero ss) (sym q)
+          (subst (λ v. SlotsAreSound v.module.value zero (slice_set w.slots.items n t)) (sym m) y);
       room = record {
         rows = let v = subst (λ z. length d.processes ≤ length z.channels) (sym b) h.room.rows in omega arith;
         few = let v = h.room.few in omega arith;

@@ -5,7 +5,7 @@ use Rattle.pf_terms.specs.Value.{Value}
 use Rattle.pf_terms.specs.Term.{value_of}
 use Rattle.pf_terms.specs.declared.term.Term.{Term}
 use Rattle.pf_syntax.specs.Tree.{lit}
-use Rattle.pf_model.specs.Module.{Module}
+use Rattle.pf_syntax.specs.Module.{Checked}
 use Rattle.pf_model.specs.Context.{fill, State, running, waiting, ending, ended, returned, failed, asks, awaits, returns, at_value}
 use Rattle.pf_model.specs.Channels.{with_senders}
 use Rattle.pf_model.specs.Configuration.{Core, leaving, of, with_state, posted}
@@ -25,7 +25,7 @@ use Rattle.pf_stepper.specs.declared.machine.Move.TheVariants as v
 use Rattle.pf_mailbox.specs.MailView.{MailView}
 use Rattle.pf_system.specs.Bodies.{body}
 use Rattle.pf_system.specs.Slots.{SlotIsLeft, PutsIn, StandsAs, state_in, waiting_if, end_of}
-use Rattle.pf_system.specs.Processes.{Represents, RepresentsBut, IsLeftAt, Done, Shown, EndsProcess, module_in}
+use Rattle.pf_system.specs.Processes.{Represents, RepresentsBut, IsLeftAt, Done, Shown, EndsProcess, checked_in, module_in}
 use Rattle.pf_system.specs.Acts.{ShowsAct}
 use Rattle.pf_system.specs.Settled.{SettlesAs, LastStep, WaitsIn, cut_in}
 use Rattle.pf_system.specs.declared.slot.Life.{Life}
@@ -47,7 +47,7 @@ set_back n [] x e = absurd (cc)
 set_back zero (y ∷ xs) x e = let k : y ≡ x = cc in ap (λ z. z ∷ xs) k
 set_back (suc n) (y ∷ xs) x e = ap (λ z. y ∷ z) (set_back n xs x e)
 
-life_puts : (m : Module) (own : ℕ) (t : State) (l : Life) (mail : MailView) → SlotIsLeft m own (goes t) (slot_with l mail) → can_go t ≡ true
+life_puts : (m : Checked) (own : ℕ) (t : State) (l : Life) (mail : MailView) → SlotIsLeft m own (goes t) (slot_with l mail) → can_go t ≡ true
     → PutsIn m own (body t mail.messages) (slot_with l mail)
 life_puts m own t (life.Lives k w) mail h e =
     record {
@@ -62,7 +62,7 @@ module _ (w : Processes) (c : Core) (a : ℕ) (x : Standing) (s : Slot) (but : R
   goes_in : (t : State) → x ≡ goes t → can_go t ≡ true → Represents w (in_state c a t s.mailbox.messages)
   goes_in t e g =
       goes_again w w c a s t s.mailbox.messages but can g
-      (life_puts (module_in w) a t s.life s.mailbox (subst (λ z. SlotIsLeft (module_in w) a z s) e left.leaves) g)
+      (life_puts (checked_in w) a t s.life s.mailbox (subst (λ z. SlotIsLeft (checked_in w) a z s) e left.leaves) g)
       (set_back a w.slots.items s left.at, refl, refl) refl
 
   quiet_channels : (t : State) (vs : List Value) → w.shared.channels ≡ posted a [] (with_senders (length (in_state c a t vs).processes) w.shared.channels)
@@ -108,7 +108,7 @@ module _ (w : Processes) (c : Core) (a : ℕ) (x : Standing) (s : Slot) (but : R
         record {
           deed = d;
           last = λ n. act n tr (asks h.frames (act_of z)) d h.step refl;
-          shown = k c h.frames s but can (record { at = left.at; leaves = subst (λ q. SlotIsLeft (module_in w) a q s) h.stands left.leaves }) h.kept;
+          shown = k c h.frames s but can (record { at = left.at; leaves = subst (λ q. SlotIsLeft (checked_in w) a q s) h.stands left.leaves }) h.kept;
         }
     act_last l z (waiting tr) k h = absurd h.step
     act_last l z (ending r) k h = absurd h.step
@@ -117,7 +117,7 @@ module _ (w : Processes) (c : Core) (a : ℕ) (x : Standing) (s : Slot) (but : R
     wait_last : (l : Label) (y : State) → label_of l ≡ label.waits → WaitsIn a w w' → WaitsOn (module_in w) a y (of c a).mailbox x s.mailbox.messages → LastStep y c a w l w'
     wait_last l (running tr) q k h =
         let f = stays_at (module_in w) a tr h.frames h.clauses h.step in
-        let g = k c tr s but can (record { at = left.at; leaves = subst (λ z. SlotIsLeft (module_in w) a z s) h.stands left.leaves }) h.kept in
+        let g = k c tr s but can (record { at = left.at; leaves = subst (λ z. SlotIsLeft (checked_in w) a z s) h.stands left.leaves }) h.kept in
         record {
           deed = received c a h.frames h.clauses None;
           last = λ n. act n tr (awaits h.frames h.clauses) (received c a h.frames h.clauses None) h.step

@@ -1,8 +1,8 @@
 -- Who waits, and what the root came to.
 use Rattle.std.proofs.Common.{◌≡◌, ℕ, zero, suc, ◌+◌, ◌<◌, Bool, true, false, List, [], ◌∷◌, ◌++◌, if◌then◌else◌, refl, sym, ap, ◌∙◌, subst, arith, length, map, take, get_or}
 use Rattle.std.proofs.lemmas.List.{take_more, length-take-le, length-map}
+use Rattle.pf_syntax.specs.Module.{Checked}
 use Rattle.pf_model.specs.Context.{State}
-use Rattle.pf_model.specs.Module.{Module}
 use Rattle.pf_model.specs.Runs.{is_waiting, numbers_of}
 use Rattle.pf_system.specs.Bodies.{Body}
 use Rattle.pf_system.specs.Slots.{slot_body, state_of, SlotIsSound, SlotsAreSound}
@@ -43,7 +43,7 @@ waiting_more ss i s h same b e =
     ∙ ap (λ t. numbers_in is_waiting zero (map slot_body (take i ss)) ++ (if t then i ∷ [] else [])) (sym e)
 
 -- each slot is sound
-pub sound_at : (m : Module) (n : ℕ) (ss : List Slot) (i : ℕ) (s : Slot) → SlotsAreSound m n ss → i < length ss → get_or ss i s ≡ s → SlotIsSound m (n + i) s
+pub sound_at : (m : Checked) (n : ℕ) (ss : List Slot) (i : ℕ) (s : Slot) → SlotsAreSound m n ss → i < length ss → get_or ss i s ≡ s → SlotIsSound m (n + i) s
 sound_at m n [] i s h k e = absurd (omega arith)
 sound_at m n (x ∷ ss) zero s h k e = let z : n ≡ n + zero = omega arith in subst (λ own. SlotIsSound m own s) z (subst (SlotIsSound m n) e h.0)
 sound_at m n (x ∷ ss) (suc i) s h k e = let z : suc n + i ≡ n + suc i = omega arith in subst (λ own. SlotIsSound m own s) z (sound_at m (suc n) ss i s h.1 (omega arith) e)

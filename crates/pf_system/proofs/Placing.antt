@@ -1,7 +1,7 @@
 -- A message that comes to a process.
 use Rattle.std.proofs.Common.{◌≡◌, ℕ, zero, ◌+◌, ◌<◌, Bool, true, false, Some, if◌then◌else◌, refl, sym, ap, ◌∙◌, subst, arith, length, slice_set, slice_get}
 use Rattle.pf_terms.specs.Value.{Value}
-use Rattle.pf_model.specs.Module.{Module}
+use Rattle.pf_syntax.specs.Module.{Checked}
 use Rattle.pf_model.specs.Context.{State, running, waiting, ending, ended}
 use Rattle.pf_model.specs.Maps.{with_number}
 use Rattle.pf_model.specs.Configuration.{Process, Core, of, with_process, is_alive}
@@ -10,7 +10,7 @@ use Rattle.pf_model.specs.Runs.{can_go, is_waiting, numbers_of}
 use Rattle.pf_ties.specs.Laws.{process_ties}
 use Rattle.pf_system.specs.Bodies.{with_one}
 use Rattle.pf_system.specs.Slots.{state_of, slot_body, SlotIsSound, PutsIn}
-use Rattle.pf_system.specs.Processes.{Represents, RepresentsBut, module_in}
+use Rattle.pf_system.specs.Processes.{Represents, RepresentsBut, checked_in}
 use Rattle.pf_system.specs.declared.slot.Slot.{Slot}
 use Rattle.pf_system.specs.declared.processes.Processes.{Processes}
 use Rattle.pf_system.specs.Placed.{Places}
@@ -24,7 +24,7 @@ stands_but w c a h l =
       bodies = λ x. ap (λ bs. slice_set bs a x) h.bodies;
       ties = h.ties;
       ready = h.ready;
-      slots = λ s k. let e : a ≡ zero + a = omega arith in sound_set (module_in w) zero a w.slots.items s h.slots (subst (λ j. SlotIsSound (module_in w) j s) e k);
+      slots = λ s k. let e : a ≡ zero + a = omega arith in sound_set (checked_in w) zero a w.slots.items s h.slots (subst (λ j. SlotIsSound (checked_in w) j s) e k);
       room = h.room;
     }
 
@@ -58,18 +58,18 @@ module _ (w w' : Processes) (b : ℕ) (v : Value) (s s' : Slot) where
       r ∙ h.ready ∙ sym (numbers_kept can_go zero c.processes b (with_message (of c b) v) (stays (of c b).state (sym e)))
 
   pub placed : (t : Bool) → slice_get w.slots.items b ≡ Some s
-      → ((m : Module) (own : ℕ) → SlotIsSound m own s → PutsIn m own (with_one v (slot_body s)) s')
-      → ((m : Module) (own : ℕ) → SlotIsSound m own s → t ≡ is_waiting (state_of s.life))
+      → ((m : Checked) (own : ℕ) → SlotIsSound m own s → PutsIn m own (with_one v (slot_body s)) s')
+      → ((m : Checked) (own : ℕ) → SlotIsSound m own s → t ≡ is_waiting (state_of s.life))
       → w'.slots.items ≡ slice_set w.slots.items b s' → w'.shared ≡ w.shared → w'.basis ≡ w.basis
       → w'.ready ≡ (if t then with_number b w.ready else w.ready) → Places b v w w'
   placed t at puts waits e k m r c h alive =
       let l = get_within b w.slots.items s at in
       let y = body_at w c b s h at in
       let pid : zero + b ≡ b = omega arith in
-      let sound = subst (λ j. SlotIsSound (module_in w) j s) pid (sound_at (module_in w) zero b w.slots.items s h.slots at) in
-      let put = puts (module_in w) b sound in
+      let sound = subst (λ j. SlotIsSound (checked_in w) j s) pid (sound_at (checked_in w) zero b w.slots.items s h.slots at) in
+      let put = puts (checked_in w) b sound in
       let n : b < length c.processes = omega (arith, slots_length w c h) in
-      let q : t ≡ is_waiting (of c b).state = waits (module_in w) b sound ∙ ap (λ z. is_waiting z.state) (sym y) in
+      let q : t ≡ is_waiting (of c b).state = waits (checked_in w) b sound ∙ ap (λ z. is_waiting z.state) (sym y) in
       record {
         stands = put_back w w' c b s' (with_message (of c b) v) (stands_but w c b h l) (ap (with_one v) y ∙ sym put.is) (message_ties (of c b) v) put.sound
             e k m (ready_so c t h n q r);

@@ -7,7 +7,7 @@ use Rattle.pf_terms.specs.Term.{value_of}
 use Rattle.pf_ops.specs.Guards.{truth_of}
 use Rattle.pf_syntax.specs.Tree.{Tree}
 use Rattle.pf_model.specs.Maps.{put, without, has, with_number, without_number}
-use Rattle.pf_model.specs.Module.{Module, module_of}
+use Rattle.pf_model.specs.Module.{Module}
 use Rattle.pf_model.specs.Contraction as asked
 use Rattle.pf_model.specs.Contraction.{Act}
 use Rattle.pf_model.specs.Channels.{Signal, Channels, with_senders}
@@ -25,7 +25,7 @@ use Rattle.pf_stepper.specs.declared.act.Act.{Act as Asked}
 use Rattle.pf_stepper.specs.declared.act.Act.TheVariants as a
 use Rattle.pf_system.specs.Bodies.{Body, body, process_body, bodies_of}
 use Rattle.pf_system.specs.Slots.{slot_body, SlotIsSound, SlotsAreSound, AnswersIn, PutsIn, LifeIsLeft, SlotIsLeft}
-use Rattle.pf_system.specs.Processes.{Represents, RepresentsBut, module_in, bodies_in}
+use Rattle.pf_system.specs.Processes.{Represents, RepresentsBut, checked_in, module_in, bodies_in}
 use Rattle.pf_system.specs.Acts.{Answer, Answers, CarriesOut, ActsAs, ActedIn, ActsIn, IsBetween, KeepsLife, KeepsSlot, ShowsAct}
 use Rattle.pf_system.specs.Settled.{WaitsIn}
 use Rattle.pf_system.specs.declared.slot.Life.{Life}
@@ -37,6 +37,7 @@ use Rattle.pf_system.proofs.Ready.{numbers_alike, numbers_kept}
 use Rattle.pf_system.proofs.Rows.{enough_senders, posted_length}
 use Rattle.pf_system.proofs.Changed.{put_back, goes_no_more}
 use Rattle.std.proofs.lemmas.List.{length-map}
+use Rattle.pf_syntax.specs.Module.{Checked}
 
 -- ---- actions that make no process, and take no message out, keep all bodies
 
@@ -132,8 +133,8 @@ between n c d w w' e t y s q f k =
       ties = t;
       ready = q ∙ k.ready ∙ numbers_alike can_go zero c d (sym e.0);
       slots = λ t z.
-          subst (λ v. SlotsAreSound (module_in w') zero (slice_set v.items n t)) (sym s)
-          (subst (λ v. SlotsAreSound (module_of v.module.value) zero (slice_set w.slots.items n t)) (sym f) (k.slots t (subst (λ v. SlotIsSound (module_of v.module.value) n t) f z)));
+          subst (λ v. SlotsAreSound (checked_in w') zero (slice_set v.items n t)) (sym s)
+          (subst (λ v. SlotsAreSound v.module.value zero (slice_set w.slots.items n t)) (sym f) (k.slots t (subst (λ v. SlotIsSound v.module.value n t) f z)));
       room = record {
         rows = omega arith;
         few = let v = k.room.few in omega arith;
@@ -212,7 +213,7 @@ module _ (w w' : Processes) (c : Core) (n : ℕ) (s' : Slot) (state : State) (ma
   Changes = (w'.slots.items ≡ slice_set w.slots.items n s') × (w'.shared ≡ w.shared) × (w'.basis ≡ w.basis)
 
   -- a process that could go still can
-  pub goes_again : RepresentsBut w c n → can_go (of c n).state ≡ true → can_go state ≡ true → PutsIn (module_in w) n (body state mail) s' → Changes → w'.ready ≡ w.ready
+  pub goes_again : RepresentsBut w c n → can_go (of c n).state ≡ true → can_go state ≡ true → PutsIn (checked_in w) n (body state mail) s' → Changes → w'.ready ≡ w.ready
       → Represents w' (in_state c n state mail)
   goes_again h can g p e r =
       put_back w w' c n s' (record (of c n) { state = state; mailbox = mail }) h (sym p.is)
@@ -220,7 +221,7 @@ module _ (w w' : Processes) (c : Core) (n : ℕ) (s' : Slot) (state : State) (ma
       (r ∙ h.ready ∙ sym (numbers_kept can_go zero c.processes n (record (of c n) { state = state; mailbox = mail }) (g ∙ sym can)))
 
   -- it can go no more, but lives
-  pub waits_now : RepresentsBut w c n → n < length c.processes → is_alive state ≡ is_alive (of c n).state → can_go state ≡ false → PutsIn (module_in w) n (body state mail) s'
+  pub waits_now : RepresentsBut w c n → n < length c.processes → is_alive state ≡ is_alive (of c n).state → can_go state ≡ false → PutsIn (checked_in w) n (body state mail) s'
       → Changes → w'.ready ≡ without_number n w.ready → Represents w' (in_state c n state mail)
   waits_now h l lives g p e r =
       put_back w w' c n s' (record (of c n) { state = state; mailbox = mail }) h (sym p.is) (ties_alive (of c n) state mail lives) p.sound e.0 e.1 e.2
@@ -237,7 +238,7 @@ none_sent w w' c d n e h b =
 -- ---- an action and its answer
 
 -- the machine stands as it did
-left_still : (m : Module) (own : ℕ) (x : Standing) (s s' : Slot) → KeepsLife s s' → SlotIsLeft m own x s → SlotIsLeft m own x s'
+left_still : (m : Checked) (own : ℕ) (x : Standing) (s s' : Slot) → KeepsLife s s' → SlotIsLeft m own x s → SlotIsLeft m own x s'
 left_still m own x s s' k h = subst (λ l. LifeIsLeft m own x l s'.mailbox) (sym k.life) (by s.life h)
   where
     by : (l : Life) → LifeIsLeft m own x l s.mailbox → LifeIsLeft m own x l s'.mailbox
@@ -246,7 +247,7 @@ left_still m own x s s' k h = subst (λ l. LifeIsLeft m own x l s'.mailbox) (sym
     by (life.Ended e) h = h
 
 pub shows_act : (n : ℕ) (x : Act) (w w1 w' : Processes) (r : Answer) (s1 s' : Slot) → ActsIn n x w r w1 → KeepsSlot n w w1 → slice_get w1.slots.items n ≡ Some s1
-    → ((m : Module) (own : ℕ) (fs : _) → SlotIsLeft m own (asking fs) s1 → AnswersIn m own fs (told_of r.value) s1 s')
+    → ((m : Checked) (own : ℕ) (fs : _) → SlotIsLeft m own (asking fs) s1 → AnswersIn m own fs (told_of r.value) s1 s')
     → w'.slots.items ≡ slice_set w1.slots.items n s' → w'.shared ≡ w1.shared → w'.ready ≡ w1.ready → w'.basis ≡ w1.basis → ShowsAct n x w r.label w'
 shows_act n x w w1 w' r s1 s' h keeps at ans e b q f c fs s but can left mail =
     let g = h c but in
@@ -256,11 +257,11 @@ shows_act n x w w1 w' r s1 s' h keeps at ans e b q f c fs s but can left mail =
     let same : k.0 ≡ s1 = slot_is k.0 s1 (sym k.1 ∙ at) in
     let state = answered fs v.answer in
     let own_mail : s1.mailbox.messages ≡ (of d n).mailbox = g.mail s s1 left.at at mail in
-    let there : SlotIsLeft (module_in w1) n (asking fs) s1 =
-    subst (λ z. SlotIsLeft (module_of z.module.value) n (asking fs) s1) (sym g.basis)
-    (subst (SlotIsLeft (module_in w) n (asking fs)) same (left_still (module_in w) n (asking fs) s k.0 k.2 left.leaves)) in
-    let puts0 = ans (module_in w1) n fs there in
-    let puts : PutsIn (module_in w1) n (body state (of d n).mailbox) s' =
+    let there : SlotIsLeft (checked_in w1) n (asking fs) s1 =
+    subst (λ z. SlotIsLeft z.module.value n (asking fs) s1) (sym g.basis)
+    (subst (SlotIsLeft (checked_in w) n (asking fs)) same (left_still (checked_in w) n (asking fs) s k.0 k.2 left.leaves)) in
+    let puts0 = ans (checked_in w1) n fs there in
+    let puts : PutsIn (checked_in w1) n (body state (of d n).mailbox) s' =
     record { sound = puts0.sound; is = puts0.is ∙ ap (λ z. body (answered fs z) s1.mailbox.messages) g.answers.value ∙ ap (body state) own_mail } in
     let can' : can_go (of d n).state ≡ true = ap can_go g.state ∙ can in
     let i : length (with_state d n state).processes ≡ length d.processes = set_length n d.processes _ in
@@ -287,13 +288,13 @@ but_there w c n h =
     let l = h.there in omega arith
 
 pub waits_in : (n : ℕ) (w w' : Processes) (s1 s' : Slot) → slice_get w.slots.items n ≡ Some s1
-    → ((m : Module) (own : ℕ) (t : Tree) → SlotIsLeft m own (goes (running t)) s1 → PutsIn m own (body (waiting t) s1.mailbox.messages) s')
+    → ((m : Checked) (own : ℕ) (t : Tree) → SlotIsLeft m own (goes (running t)) s1 → PutsIn m own (body (waiting t) s1.mailbox.messages) s')
     → w'.slots.items ≡ slice_set w.slots.items n s' → w'.shared ≡ w.shared → w'.basis ≡ w.basis → w'.ready ≡ without_number n w.ready → WaitsIn n w w'
 waits_in n w w' s1 s' at ans e b f q c t s but can left mail =
     let same : s1 ≡ s = slot_is s1 s (sym at ∙ left.at) in
-    let puts0 = ans (module_in w) n t (subst (SlotIsLeft (module_in w) n (goes (running t))) (sym same) left.leaves) in
+    let puts0 = ans (checked_in w) n t (subst (SlotIsLeft (checked_in w) n (goes (running t))) (sym same) left.leaves) in
     let own_mail : s1.mailbox.messages ≡ (of c n).mailbox = ap (λ z. z.mailbox.messages) same ∙ mail in
-    let puts : PutsIn (module_in w) n (body (waiting t) (of c n).mailbox) s' = record { sound = puts0.sound; is = puts0.is ∙ ap (body (waiting t)) own_mail } in
+    let puts : PutsIn (checked_in w) n (body (waiting t) (of c n).mailbox) s' = record { sound = puts0.sound; is = puts0.is ∙ ap (body (waiting t)) own_mail } in
     let i : length (with_state c n (waiting t)).processes ≡ length c.processes = set_length n c.processes _ in
     record {
       stands = waits_now w w' c n s' (waiting t) (of c n).mailbox but (but_there w c n but) (sym (alive_going (of c n).state can)) refl puts (e, b, f) q;

@@ -2,7 +2,6 @@
 use Rattle.std.proofs.Common.{◌≡◌, ℕ, zero, ◌<◌, ◌≤◌, List, [], refl, sym, ap, ◌∙◌, subst, arith, length, map, slice_set}
 use Rattle.std.specs.Prelude.{Result}
 use Rattle.pf_terms.specs.declared.term.Term.{Term}
-use Rattle.pf_model.specs.Module.{module_of}
 use Rattle.pf_model.specs.Maps.{without_number}
 use Rattle.pf_model.specs.Context.{ended}
 use Rattle.pf_model.specs.Channels.{Signal}
@@ -15,7 +14,7 @@ use Rattle.pf_ties.specs.Laws.{ties_of}
 use Rattle.pf_ties.proofs.Followed.{follow_ends}
 use Rattle.pf_system.specs.Bodies.{body, process_body}
 use Rattle.pf_system.specs.Slots.{slot_body, end_of, SlotIsSound, SlotsAreSound}
-use Rattle.pf_system.specs.Processes.{Represents, RepresentsBut, Done, EndsProcess, module_in, bodies_in}
+use Rattle.pf_system.specs.Processes.{Represents, RepresentsBut, Done, EndsProcess, checked_in, bodies_in}
 use Rattle.pf_system.specs.declared.slot.Slot.{Slot}
 use Rattle.pf_system.specs.declared.processes.Processes.{Processes}
 use Rattle.pf_system.proofs.Bodies.{set_map, set_length, bodies_changed, bodies_same, ties_length}
@@ -31,10 +30,10 @@ done_so w w' a d h n e m =
 
 -- processes of which nothing but ties and channels is changed
 module _ (w w' : Processes) (c : Core) (slots : w'.slots.items ≡ w.slots.items) (ready : w'.ready ≡ w.ready) (basis : w'.basis ≡ w.basis) where
-  kept_slots : Represents w c → SlotsAreSound (module_in w') zero w'.slots.items
+  kept_slots : Represents w c → SlotsAreSound (checked_in w') zero w'.slots.items
   kept_slots h =
-      subst (λ ss. SlotsAreSound (module_in w') zero ss) (sym slots)
-      (subst (λ z. SlotsAreSound (module_of z.module.value) zero w.slots.items) (sym basis) h.slots)
+      subst (λ ss. SlotsAreSound (checked_in w') zero ss) (sym slots)
+      (subst (λ z. SlotsAreSound z.module.value zero w.slots.items) (sym basis) h.slots)
 
   pub rows_more : Represents w c → ties_of c ≡ w'.shared.ties → length w.shared.channels ≤ length w'.shared.channels → Represents w' c
   rows_more h t n =
@@ -94,8 +93,8 @@ module _ (w w' : Processes) (a : ℕ) (e : Result Term Term) (s' : Slot) (ss : L
             ∙ sym (ap (map slot_body) slots ∙ set_map slot_body a w.slots.items s');
         ties = follow_ends.ended c a x ∙ ap (λ z. ties.ended z a) h.ties ∙ sym t;
         ready = r ∙ ap (without_number a) h.ready ∙ sym (goes_no_more c a p size refl);
-        slots = subst (λ z. SlotsAreSound (module_in w') zero z) (sym slots)
-            (subst (λ z. SlotsAreSound (module_of z.module.value) zero (slice_set w.slots.items a s')) (sym m) (h.slots s' (sound (module_in w))));
+        slots = subst (λ z. SlotsAreSound (checked_in w') zero z) (sym slots)
+            (subst (λ z. SlotsAreSound z.module.value zero (slice_set w.slots.items a s')) (sym m) (h.slots s' (sound (checked_in w))));
         room = record {
           rows = omega arith;
           few = omega arith;

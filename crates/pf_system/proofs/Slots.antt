@@ -5,7 +5,8 @@ use Rattle.pf_terms.specs.Value.{Value}
 use Rattle.pf_terms.specs.Term.{value_of}
 use Rattle.pf_terms.specs.declared.term.Term.{Term}
 use Rattle.pf_syntax.specs.Tree.{Tree}
-use Rattle.pf_model.specs.Module.{Module}
+use Rattle.pf_syntax.specs.Module.{Checked}
+use Rattle.pf_model.specs.Module.{module_of}
 use Rattle.pf_model.specs.Context.{Frame, State, running, waiting, ending, goes_on}
 use Rattle.pf_model.specs.Runs.{can_go}
 use Rattle.pf_model.specs.Turns.{answered}
@@ -35,7 +36,7 @@ pub can_move : (w : Bool) (x : Standing) → StandsAs w x → CanMove x
 can_move true x s = subst CanMove (sym s.1) tt
 can_move false x s = subst CanMove (sym s.1) tt
 
-pub ran_machine : (m : Module) (own left : ℕ) (k k' : MachineView) (w : Bool) (mail mail' : MailView) (move : Move) (used : ℕ)
+pub ran_machine : (m : Checked) (own left : ℕ) (k k' : MachineView) (w : Bool) (mail mail' : MailView) (move : Move) (used : ℕ)
     → can_go (waiting_if w (state_in k.standing)) ≡ true → SlotIsSound m own (slot_with (life.Lives k w) mail)
     → RunsTurn left k mail.messages move k' used mail'.messages → IsAheadOf k' mail'
     → RanInSlot m own left (slot_with (life.Lives k w) mail) move used (slot_with (life.Lives k' w) mail')
@@ -43,16 +44,16 @@ ran_machine m own left k k' w mail mail' move used can h r ahead =
     let f = never_waits w k.standing h.ready.0 can in
     let e : waiting_if w (state_in k.standing) ≡ r.state = ap (λ z. waiting_if z (state_in k.standing)) f ∙ ap state_in r.stood in
     let own_is : k'.own ≡ own = ap (λ z. z.own) r.rest ∙ h.is_of.0 in
-    let module_is : k'.code ≡ m = ap (λ z. z.code) r.rest ∙ h.is_of.1 in
+    let module_is : k'.checked ≡ m = ap (λ z. z.checked) r.rest ∙ h.is_of.1 in
     record {
       standing = k'.standing;
-      ran = subst (λ z. Ran m own left z mail.messages move k'.standing used mail'.messages) (sym e)
-          (subst (λ z. Ran z own left r.state mail.messages move k'.standing used mail'.messages) h.is_of.1
-          (subst (λ z. Ran k.code z left r.state mail.messages move k'.standing used mail'.messages) h.is_of.0 r.ran));
+      ran = subst (λ z. Ran (module_of m) own left z mail.messages move k'.standing used mail'.messages) (sym e)
+          (subst (λ z. Ran (module_of z) own left r.state mail.messages move k'.standing used mail'.messages) h.is_of.1
+          (subst (λ z. Ran (module_of k.checked) z left r.state mail.messages move k'.standing used mail'.messages) h.is_of.0 r.ran));
       leaves = (refl, (own_is, module_is), f, ahead);
     }
 
-pub ran_to_end : (m : Module) (own left : ℕ) (r r' : Term) (mail : MailView) → 0 < left → value_of r' ≡ value_of r
+pub ran_to_end : (m : Checked) (own left : ℕ) (r r' : Term) (mail : MailView) → 0 < left → value_of r' ≡ value_of r
     → RanInSlot m own left (slot_with (life.Ends r) mail) (v.End (Err r')) 1 (slot_with (life.Ends r) mail)
 ran_to_end m own left r r' mail l e =
     record {
@@ -91,7 +92,7 @@ can_go_on : (fs : List Frame) (r : Result Value Value) → can_go (answered fs r
 can_go_on fs (Ok x) = refl
 can_go_on fs (Err x) = refl
 
-answered_machine : (m : Module) (own : ℕ) (fs : List Frame) (k k' : MachineView) (w : Bool) (mail : MailView) (r : Result Term Term)
+answered_machine : (m : Checked) (own : ℕ) (fs : List Frame) (k k' : MachineView) (w : Bool) (mail : MailView) (r : Result Term Term)
     → SlotIsLeft m own (asking fs) (slot_with (life.Lives k w) mail) → Answered k r k'
     → AnswersIn m own fs (told_of r) (slot_with (life.Lives k w) mail) (slot_with (life.Lives k' w) mail)
 answered_machine m own fs k k' w mail r h e =
@@ -100,17 +101,17 @@ answered_machine m own fs k k' w mail r h e =
     record {
       sound = record {
         ready = (stands, ahead_anyhow k k' fs mail h.0 h.3);
-        is_of = (ap (λ z. z.own) e ∙ h.1.0, ap (λ z. z.code) e ∙ h.1.1);
+        is_of = (ap (λ z. z.own) e ∙ h.1.0, ap (λ z. z.checked) e ∙ h.1.1);
       };
       is = ap (λ z. body (waiting_if z (state_in k'.standing)) mail.messages) h.2 ∙ ap (λ z. body (state_in z) mail.messages) x;
     }
 
 pub answered_slot : (k k' : MachineView) (w : Bool) (mail : MailView) (r : Result Term Term) → Answered k r k'
-    → (m : Module) (own : ℕ) (fs : List Frame) → SlotIsLeft m own (asking fs) (slot_with (life.Lives k w) mail)
+    → (m : Checked) (own : ℕ) (fs : List Frame) → SlotIsLeft m own (asking fs) (slot_with (life.Lives k w) mail)
     → AnswersIn m own fs (told_of r) (slot_with (life.Lives k w) mail) (slot_with (life.Lives k' w) mail)
 answered_slot k k' w mail r e m own fs h = answered_machine m own fs k k' w mail r h e
 
-pub waiting_slot : (k : MachineView) (w : Bool) (mail : MailView) (m : Module) (own : ℕ) (t : Tree)
+pub waiting_slot : (k : MachineView) (w : Bool) (mail : MailView) (m : Checked) (own : ℕ) (t : Tree)
     → SlotIsLeft m own (goes (running t)) (slot_with (life.Lives k w) mail) → PutsIn m own (body (waiting t) mail.messages) (slot_with (life.Lives k true) mail)
 waiting_slot k w mail m own t h =
     record {
@@ -119,13 +120,13 @@ waiting_slot k w mail m own t h =
     }
 
 -- a process without a machine asks for nothing, and doesn't wait
-pub asks_none : (l : Life) (mail : MailView) → ((k : MachineView) (w : Bool) → l ≡ life.Lives k w → ⊥) → (m : Module) (own : ℕ) (fs : List Frame)
+pub asks_none : (l : Life) (mail : MailView) → ((k : MachineView) (w : Bool) → l ≡ life.Lives k w → ⊥) → (m : Checked) (own : ℕ) (fs : List Frame)
     → SlotIsLeft m own (asking fs) (slot_with l mail) → ⊥
 asks_none (life.Lives k w) mail n m own fs h = n k w refl
 asks_none (life.Ends r) mail n m own fs h = asking_not_over fs h
 asks_none (life.Ended e) mail n m own fs h = asking_not_over fs h
 
-pub waits_none : (l : Life) (mail : MailView) → ((k : MachineView) (w : Bool) → l ≡ life.Lives k w → ⊥) → (m : Module) (own : ℕ) (s : State)
+pub waits_none : (l : Life) (mail : MailView) → ((k : MachineView) (w : Bool) → l ≡ life.Lives k w → ⊥) → (m : Checked) (own : ℕ) (s : State)
     → SlotIsLeft m own (goes s) (slot_with l mail) → ⊥
 waits_none (life.Lives k w) mail n m own s h = n k w refl
 waits_none (life.Ends r) mail n m own s h = goes_not_over s h

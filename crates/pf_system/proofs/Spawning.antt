@@ -4,7 +4,6 @@ use Rattle.std.specs.Prelude.{Ok, slice_get}
 use Rattle.std.proofs.lemmas.Bool.Decides.{nat_tests}
 use Rattle.pf_terms.specs.Value.{Value, Values, atom, list, pid}
 use Rattle.pf_terms.specs.Fixed.{undefined, badarg, system_limit}
-use Rattle.pf_model.specs.Module.{Module, module_of}
 use Rattle.pf_model.specs.Maps.{put, with_number}
 use Rattle.pf_model.specs.Contraction as asked
 use Rattle.pf_model.specs.Contraction.{Bond, unbound, linking, watching}
@@ -22,7 +21,7 @@ use Rattle.pf_ties.proofs.Followed.{follow_actions}
 use Rattle.pf_stepper.specs.Turns.{told_of}
 use Rattle.pf_system.specs.Bodies.{Body, body, process_body, bodies_of}
 use Rattle.pf_system.specs.Slots.{slot_body, SlotIsSound, SlotsAreSound}
-use Rattle.pf_system.specs.Processes.{RepresentsBut, module_in, bodies_in}
+use Rattle.pf_system.specs.Processes.{RepresentsBut, checked_in, module_in, bodies_in}
 use Rattle.pf_system.specs.Acts.{Answer, Answers, ActedIn, ActsIn, KeepsSlot, LifeBegins, Opens, OpensProcess, Tells, opened_by}
 use Rattle.pf_system.specs.declared.slot.Life.{Life}
 use Rattle.pf_system.specs.declared.slot.Slot.{Slot}
@@ -34,13 +33,14 @@ use Rattle.pf_system.proofs.Ready.{numbers_in, by_bodies, more_in}
 use Rattle.pf_system.proofs.Rows.{senders_length}
 use Rattle.pf_system.proofs.Settling.{but_there, keeps_slot, raised_in, slot_is, alive_going}
 use Rattle.std.proofs.lemmas.List.{length-map}
+use Rattle.pf_syntax.specs.Module.{Checked}
 
 pub get_front : {A : Type 0} (n : ℕ) (xs ys : List A) → n < length xs → slice_get (xs ++ ys) n ≡ slice_get xs n
 get_front n [] ys l = absurd (omega arith)
 get_front zero (x ∷ xs) ys l = refl
 get_front (suc n) (x ∷ xs) ys l = get_front n xs ys (omega arith)
 
-sound_more : (m : Module) (n : ℕ) (ss : List Slot) (s : Slot) → SlotsAreSound m n ss → SlotIsSound m (n + length ss) s → SlotsAreSound m n (ss ++ s ∷ [])
+sound_more : (m : Checked) (n : ℕ) (ss : List Slot) (s : Slot) → SlotsAreSound m n ss → SlotIsSound m (n + length ss) s → SlotsAreSound m n (ss ++ s ∷ [])
 sound_more m n [] s h k = let e : n + zero ≡ n = omega arith in (subst (λ z. SlotIsSound m z s) e k, tt)
 sound_more m n (x ∷ ss) s h k =
     let j : ℕ = length ss in
@@ -83,7 +83,7 @@ body_front n c d b l e = by n c.processes d.processes l e
     by (suc n) (p ∷ ps) (q ∷ qs) l e = by n ps qs (omega arith) (cc)
 
 module _ (a : ℕ) (bond : Bond) (w w' : Processes) (l : Life) (r : Answer) (c : Core) (s : State)
-    (but : RepresentsBut w c a) (few : length w.slots.items < w.basis.most) (h : LifeBegins (module_in w) (length w.slots.items) s l)
+    (but : RepresentsBut w c a) (few : length w.slots.items < w.basis.most) (h : LifeBegins (checked_in w) (length w.slots.items) s l)
     (o : Opens (opened_by bond a w.shared.ties) w l w') where
   abbrev after : Core
   after = after_spawn c a bond s
@@ -127,14 +127,14 @@ module _ (a : ℕ) (bond : Bond) (w w' : Processes) (l : Life) (r : Answer) (c :
             o.ready ∙ ap (with_number n) (but.ready ∙ by_bodies can_go zero c.processes) ∙ ap (λ k. with_number k (numbers_in can_go zero (bodies_of c))) (sym z)
             ∙ sym (by_bodies can_go zero after.processes ∙ ap (numbers_in can_go zero) (spawn_bodies c a s bond) ∙ more_in can_go zero (bodies_of c) (body s []) h.goes);
         slots = λ t k.
-            let i : SlotIsSound (module_in w) a t = subst (λ z. SlotIsSound (module_of z.module.value) a t) o.basis k in
+            let i : SlotIsSound (checked_in w) a t = subst (λ z. SlotIsSound z.module.value a t) o.basis k in
             let y : zero + length (slice_set w.slots.items a t) ≡ n = omega (arith, set_length a w.slots.items t) in
-            let x : SlotIsSound (module_in w) (zero + length (slice_set w.slots.items a t)) new_slot =
-            subst (λ z. SlotIsSound (module_in w) z new_slot) (sym y) (record { ready = h.sound o.slots.0 o.slots.2; is_of = h.is_of }) in
-            let v = sound_more (module_in w) zero (slice_set w.slots.items a t) new_slot (but.slots t i) x in
+            let x : SlotIsSound (checked_in w) (zero + length (slice_set w.slots.items a t)) new_slot =
+            subst (λ z. SlotIsSound (checked_in w) z new_slot) (sym y) (record { ready = h.sound o.slots.0 o.slots.2; is_of = h.is_of }) in
+            let v = sound_more (checked_in w) zero (slice_set w.slots.items a t) new_slot (but.slots t i) x in
             let q : slice_set w'.slots.items a t ≡ slice_set w.slots.items a t ++ new_slot ∷ [] =
             ap (λ z. slice_set z a t) o.slots.3 ∙ set_front a w.slots.items (new_slot ∷ []) t but.there in
-            subst (λ z. SlotsAreSound (module_of z.module.value) zero (slice_set w'.slots.items a t)) (sym o.basis) (subst (SlotsAreSound (module_in w) zero) (sym q) v);
+            subst (λ z. SlotsAreSound z.module.value zero (slice_set w'.slots.items a t)) (sym o.basis) (subst (SlotsAreSound (checked_in w) zero) (sym q) v);
         room = record {
           rows =
               let j = senders_length (n + 1) w.shared.channels in let k = j.1 in let i = ap length o.channels in omega arith;
@@ -240,7 +240,7 @@ module _ (a : ℕ) (bond : Bond) (w : Processes) (r : Answer) (home function arg
         subst (λ t. ActedIn c (if t then gives (after_spawn c a bond s) [] (given_for bond j c.next_reference) (shown_for bond j c.next_reference) else raising c system_limit) a w r w) (sym lt)
         (raised_in a w r c system_limit (k c) but))
 
-    pub spawns_so : (w' : Processes) (l : Life) → length w.slots.items < w.basis.most → LifeBegins (module_in w) (length w.slots.items) (start_of (module_in w) h n vs) l
+    pub spawns_so : (w' : Processes) (l : Life) → length w.slots.items < w.basis.most → LifeBegins (checked_in w) (length w.slots.items) (start_of (module_in w) h n vs) l
         → OpensProcess bond a w l r w' → Spawns w'
     spawns_so w' l few begins o =
         reaches w' (λ c but. spawned_in a bond w w' l r c (start_of (module_in w) h n vs) but few begins o.opens o.tells)

@@ -2,7 +2,8 @@
 use Rattle.std.proofs.Common.{◌≡◌, ◌⊎◌, inl, inr, ℕ, zero, suc, ◌+◌, ◌==◌, ◌≤◌, Bool, true, false, List, [], ◌∷◌, ◌++◌, Some, None, if◌then◌else◌, refl, sym, ap, ◌∙◌, subst, arith, length, map}
 use Rattle.pf_terms.specs.Value.{none}
 use Rattle.pf_syntax.specs.Tree.{call, no_trees}
-use Rattle.pf_model.specs.Module.{Module, module_of}
+use Rattle.pf_syntax.specs.Module.{Checked}
+use Rattle.pf_model.specs.Module.{module_of}
 use Rattle.pf_model.specs.Context.{running}
 use Rattle.pf_model.specs.Limits.{most_processes}
 use Rattle.pf_model.specs.Maps.{with_number}
@@ -18,7 +19,7 @@ use Rattle.pf_system.specs.View.{view_of_system}
 use Rattle.pf_system.specs.Acts.{Opens}
 use Rattle.pf_system.specs.Slots.{SlotIsSound, SlotsAreSound, slot_body, state_in}
 use Rattle.pf_system.specs.Steps.{IsAmong, RunsModule, PassesTo}
-use Rattle.pf_system.specs.Processes.{Represents, Turned, module_in, core_of, configuration_of}
+use Rattle.pf_system.specs.Processes.{Represents, Turned, checked_in, core_of, configuration_of}
 use Rattle.pf_system.specs.declared.slot.Life.TheVariants as life
 use Rattle.pf_system.specs.declared.slot.Slot.{Slot}
 use Rattle.pf_system.specs.declared.processes.Processes.{Processes}
@@ -75,10 +76,10 @@ can_go_of a c h = by (in_either (process a) (map process ps) (map (λ h. channel
 
 -- ---- a turn
 
-pub turn_kept : (m : Module) (w w' : Processes) (c : Core) (a left used : ℕ) (l : Label) → RunsModule m w → Turned c a left w l used w' → RunsModule m w'
+pub turn_kept : (m : Checked) (w w' : Processes) (c : Core) (a left used : ℕ) (l : Label) → RunsModule m w → Turned c a left w l used w' → RunsModule m w'
 turn_kept m w w' c a left used l k h = kept_after m w w' h.deed.left.core k h.shown.done.stands h.shown.done.basis
 
-pub turn_passes : (m : Module) (w w' : Processes) (k a left used : ℕ) (l : Label) → RunsModule m w → Turned (core_of w) a left w l used w'
+pub turn_passes : (m : Checked) (w w' : Processes) (k a left used : ℕ) (l : Label) → RunsModule m w → Turned (core_of w) a left w l used w'
     → PassesTo left (view_of_system m k (Some (configuration_of w))) (process a) (label_of l) used (view_of_system m (k + used) (Some (configuration_of w')))
 turn_passes m w w' k a left used l i h =
     let d = h.deed in
@@ -89,7 +90,7 @@ turn_passes m w w' k a left used l i h =
       before = configuration_of w;
       passed = p;
       was = refl;
-      passes = subst (λ z. Passes z left (configuration_of w) (process a) p) i.code (turn a used d h.turn);
+      passes = subst (λ z. Passes (module_of z) left (configuration_of w) (process a) p) i.code (turn a used d h.turn);
       becomes = ap (λ c. view_of_system m (k + used) (Some c)) e;
       label = h.shown.label;
       counts = refl;
@@ -113,7 +114,7 @@ pub record IsEmpty (w : Processes) : Type 0 where
   pub channels : w.shared.channels ≡ []
   pub ready : w.ready ≡ []
 
-module _ (w w' : Processes) (k : MachineView) (root : ℕ) (none' : IsEmpty w) (at : k ≡ at_call 0 (module_in w) root none)
+module _ (w w' : Processes) (k : MachineView) (root : ℕ) (none' : IsEmpty w) (at : k ≡ at_call 0 (checked_in w) root none)
     (o : Opens (opened w.shared.ties None) w (life.Lives k false) w') (edition : ℕ) (most : w.basis.most ≡ most_processes edition) where
   abbrev first : Slot
   first = record { life = life.Lives k false; mailbox = o.slots.0 }
@@ -127,11 +128,11 @@ module _ (w w' : Processes) (k : MachineView) (root : ℕ) (none' : IsEmpty w) (
   stood : k.standing ≡ goes (running (call root no_trees))
   stood = ap (λ z. z.standing) at
 
-  first_is_sound : SlotIsSound (module_in w') zero first
+  first_is_sound : SlotIsSound (checked_in w') zero first
   first_is_sound =
       record {
         ready = ((running (call root no_trees), stood, refl), o.slots.2 k);
-        is_of = (ap (λ z. z.own) at, ap (λ z. z.code) at ∙ ap (λ z. module_of z.module.value) (sym o.basis));
+        is_of = (ap (λ z. z.own) at, ap (λ z. z.checked) at ∙ ap (λ z. z.module.value) (sym o.basis));
       }
 
   pub begins : Represents w' (start root edition).core
@@ -141,7 +142,7 @@ module _ (w w' : Processes) (k : MachineView) (root : ℕ) (none' : IsEmpty w) (
             ∙ ap (λ z. record { state = running (call root no_trees); mailbox = z } ∷ []) o.slots.1);
         ties = sym (o.tied ∙ ap (λ z. opened z None) none'.ties);
         ready = o.ready ∙ ap (λ z. with_number (length z) w.ready) none'.slots ∙ ap (with_number 0) none'.ready;
-        slots = subst (SlotsAreSound (module_in w') zero) (sym one_slot) (first_is_sound, tt);
+        slots = subst (SlotsAreSound (checked_in w') zero) (sym one_slot) (first_is_sound, tt);
         room = record {
           rows = let e = ap length one_row in omega arith;
           few = omega arith;
@@ -150,10 +151,10 @@ module _ (w w' : Processes) (k : MachineView) (root : ℕ) (none' : IsEmpty w) (
         };
       }
 
-  pub begins_kept : (m : Module) → module_in w ≡ m → RunsModule m w'
-  begins_kept m e = record { stands = stands_itself w' (start root edition).core begins; code = ap (λ z. module_of z.module.value) o.basis ∙ e }
+  pub begins_kept : (m : Checked) → checked_in w ≡ m → RunsModule m w'
+  begins_kept m e = record { stands = stands_itself w' (start root edition).core begins; code = ap (λ z. z.module.value) o.basis ∙ e }
 
-  pub begins_so : (m : Module) → view_of_system m 0 (Some (configuration_of w')) ≡ view_of_system m 0 (Some (start root edition))
+  pub begins_so : (m : Checked) → view_of_system m 0 (Some (configuration_of w')) ≡ view_of_system m 0 (Some (start root edition))
   begins_so m =
       ap (λ c. view_of_system m 0 (Some (both c w'.shared.channels))) (again w' (start root edition).core begins)
       ∙ ap (λ cs. view_of_system m 0 (Some (both (start root edition).core cs))) one_row

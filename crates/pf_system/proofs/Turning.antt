@@ -3,6 +3,7 @@ use Rattle.std.proofs.Common.{◌≡◌, ℕ, zero, suc, ◌+◌, ◌<◌, ◌�
 use Rattle.std.specs.Prelude.{slice_get}
 use Rattle.pf_terms.specs.Value.{Value}
 use Rattle.pf_syntax.specs.Tree.{Tree}
+use Rattle.pf_syntax.specs.Module.{Checked}
 use Rattle.pf_model.specs.Module.{Module, module_of}
 use Rattle.pf_model.specs.Context as index
 use Rattle.pf_model.specs.Context.{Frame, State, running, waiting, ending, ended, goes_on, asks, awaits, moved, Moves, at_value, at_index}
@@ -23,7 +24,7 @@ use Rattle.pf_stepper.proofs.Before.{steps_before, turn_behind}
 use Rattle.pf_stepper.specs.declared.machine.Move.{Move}
 use Rattle.pf_stepper.specs.declared.machine.Move.TheVariants as v
 use Rattle.pf_system.specs.Slots.{state_of, LifeAsks, LifeIsLeft, LifeIsReady, RanInSlot, SlotIsSound}
-use Rattle.pf_system.specs.Processes.{Represents, IsShaped, Shown, Turned, module_in}
+use Rattle.pf_system.specs.Processes.{Represents, IsShaped, Shown, Turned, checked_in, module_in}
 use Rattle.pf_system.specs.Settled.{AsksFor, Settles, SettlesAs, LastStep, cut_in}
 use Rattle.pf_system.specs.declared.slot.Life.{Life}
 use Rattle.pf_system.specs.declared.slot.Life.TheVariants as life
@@ -84,10 +85,10 @@ slot_there w c a h e = let k = in_range a c.processes e in let l = slots_length 
 
 module _ (w : Processes) (c : Core) (a : ℕ) (s : Slot) (h : Represents w c) (at : slice_get w.slots.items a ≡ Some s) where
   pub slot_ready : LifeIsReady s.life s.mailbox
-  slot_ready = (sound_at (module_in w) zero a w.slots.items s h.slots at).ready
+  slot_ready = (sound_at (checked_in w) zero a w.slots.items s h.slots at).ready
 
-  pub slot_sound : SlotIsSound (module_in w) a s
-  slot_sound = let e : zero + a ≡ a = omega arith in subst (λ z. SlotIsSound (module_in w) z s) e (sound_at (module_in w) zero a w.slots.items s h.slots at)
+  pub slot_sound : SlotIsSound (checked_in w) a s
+  slot_sound = let e : zero + a ≡ a = omega arith in subst (λ z. SlotIsSound (checked_in w) z s) e (sound_at (checked_in w) zero a w.slots.items s h.slots at)
 
   pub slot_can : can_go (of c a).state ≡ true → can_go (state_of s.life) ≡ true
   slot_can e = ap (λ z. can_go z.state) (sym (body_at w c a s h at)) ∙ e
@@ -110,13 +111,13 @@ module _ (w : Processes) (c : Core) (a : ℕ) (s : Slot) (h : Represents w c) (a
         within = subst (λ z. z.most ≤ MOST_PROCESSES) (sym m) h.room.within;
       }
 
-asks_in : (m : Module) (own : ℕ) (x : Standing) (l : Life) (mail : MailView) (fs : List Frame) → LifeIsLeft m own x l mail → x ≡ asking fs → LifeAsks l
+asks_in : (m : Checked) (own : ℕ) (x : Standing) (l : Life) (mail : MailView) (fs : List Frame) → LifeIsLeft m own x l mail → x ≡ asking fs → LifeAsks l
 asks_in m own x (life.Lives k w) mail fs h e = subst CanAnswer (sym (h.0 ∙ e)) tt
 asks_in m own x (life.Ends r) mail fs h e = tt
 asks_in m own x (life.Ended r) mail fs h e = tt
 
 -- a machine that asked for an action waits for the answer
-pub asks_for : (m : Module) (own left used : ℕ) (s s1 : Slot) (move : Move) → RanInSlot m own left s move used s1 → AsksFor move s1
+pub asks_for : (m : Checked) (own left used : ℕ) (s s1 : Slot) (move : Move) → RanInSlot m own left s move used s1 → AsksFor move s1
 asks_for m own left used s s1 (v.Action act) r = asks_in m own r.standing s1.life s1.mailbox r.ran.last.frames r.leaves r.ran.last.stands
 asks_for m own left used s s1 v.Pure r = tt
 asks_for m own left used s s1 (v.Take t) r = tt
@@ -170,7 +171,7 @@ module _ (w w1 w' : Processes) (c : Core) (a left used : ℕ) (l : Label) (e : w
   turned_by (v.End z) r k = last_so (v.End z) r (k r.middle (moved_from r.middle (v.End z) r.last))
 
 pub turned : (w w1 w' : Processes) (c : Core) (a left used : ℕ) (s s1 : Slot) (move : Move) (l : Label) → Represents w c → can_go (of c a).state ≡ true
-    → slice_get w.slots.items a ≡ Some s → RanInSlot (module_in w) a left s move used s1 → w1.slots.items ≡ slice_set w.slots.items a s1 → w1.shared ≡ w.shared
+    → slice_get w.slots.items a ≡ Some s → RanInSlot (checked_in w) a left s move used s1 → w1.slots.items ≡ slice_set w.slots.items a s1 → w1.shared ≡ w.shared
     → w1.ready ≡ w.ready → w1.basis ≡ w.basis → SettlesAs a move w1 l w' → Turned c a left w l used w'
 turned w w1 w' c a left used s s1 move l h can at r e b q f k =
     let n = get_within a w.slots.items s at in

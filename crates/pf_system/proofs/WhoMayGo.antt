@@ -3,6 +3,7 @@ use Rattle.std.proofs.Common.{◌≡◌, zero, suc, ℕ, ◌+◌, ◌<◌, List,
 use Rattle.std.specs.Prelude.{slice_get}
 use Rattle.std.proofs.lemmas.List.{length-append, length-map}
 use Rattle.std.proofs.lemmas.Option.{same_Some}
+use Rattle.pf_model.specs.Module.{module_of}
 use Rattle.pf_model.specs.Channels.{heads}
 use Rattle.pf_model.specs.Configuration.{Configuration}
 use Rattle.pf_model.specs.Labels.{Label}
@@ -31,7 +32,7 @@ delivers_within left a b s s' l h p =
       within = omega arith;
     }
   where
-    further : (q : Passed) → Passes s.code 1 p.before (channel a b) q → Passes s.code left p.before (channel a b) q
+    further : (q : Passed) → Passes (module_of s.checked) 1 p.before (channel a b) q → Passes (module_of s.checked) left p.before (channel a b) q
     further _ (delivery _ _ x cs e) = delivery a b x cs e
 
 -- what stands among those that are noted may go

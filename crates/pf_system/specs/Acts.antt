@@ -1,6 +1,7 @@
 -- What the actions of a process do.
 use Rattle.std.specs.Prelude.{◌≡◌, ◌<◌, ◌≤◌, ℕ, ◌+◌, true, List, [], ◌∷◌, ◌++◌, Option, Some, None, Result, Ok, length, slice_get, if◌then◌else◌, ◌==◌}
 use Rattle.pf_terms.specs.declared.term.Term.{Term}
+use Rattle.pf_syntax.specs.Module.{Checked}
 use Rattle.pf_model.specs.Maps.{with_number}
 use Rattle.pf_model.specs.Context.{Frame, State}
 use Rattle.pf_model.specs.Runs.{can_go}
@@ -122,7 +123,7 @@ abbrev pub home_function : Module → (home name arity : ℕ) → Option ℕ
 home_function m home name arity = if home == m.name then exported_as m name arity else None
 
 -- a process of this pid begins in a state in which it can go
-pub record LifeBegins (m : Module) (own : ℕ) (s : State) (l : Life) : Type 0 where
+pub record LifeBegins (m : Checked) (own : ℕ) (s : State) (l : Life) : Type 0 where
   pub sound : (mail : MailView) → ((k : MachineView) → IsAheadOf k mail) → LifeIsReady l mail
   pub is_of : LifeIsOf m own l
   pub state : state_of l ≡ s

@@ -9,7 +9,7 @@ use Rattle.pf_syntax.specs.Encoding.{coded_tree}
 use Rattle.pf_model.specs.Context.{State, running, waiting, ending, ended, returned, failed}
 use Rattle.pf_model.specs.Configuration.{Process, Core, Configuration}
 use Rattle.pf_channels.specs.Encoding.{coded_channels}
-use Rattle.pf_stepper.specs.Encoding.{coded_module}
+use Rattle.pf_syntax.specs.Module.{coded_checked}
 use Rattle.pf_system.specs.View.{SystemView, view_of_system}
 
 -- running; waiting; ending; ended with a value; ended with a reason
@@ -62,5 +62,5 @@ coded_configuration =
 
 abbrev pub coded_system_view : Coded SystemView
 coded_system_view =
-    code_by _ (coded× coded_module (coded× coded_ℕ (coded_option coded_configuration)))
-    (λ s. (s.code, (s.steps, s.standing))) (λ p. view_of_system p.0 p.1.0 p.1.1) (λ _. refl)
+    code_by _ (coded× coded_checked (coded× coded_ℕ (coded_option coded_configuration)))
+    (λ s. (s.checked, (s.steps, s.standing))) (λ p. view_of_system p.0 p.1.0 p.1.1) (λ _. refl)

@@ -1,6 +1,7 @@
 -- What the processes of a run stand for.
 use Rattle.std.specs.Prelude.{◌≡◌, ◌<◌, ◌≤◌, ℕ, zero, List, Option, Some, None, Result, map, length, slice_get, slice_set}
 use Rattle.pf_terms.specs.declared.term.Term.{Term}
+use Rattle.pf_syntax.specs.Module.{Checked}
 use Rattle.pf_model.specs.Module.{Module, module_of}
 use Rattle.pf_model.specs.Channels.{Signal, Channels, taken, with_senders}
 use Rattle.pf_model.specs.Configuration.{Core, Configuration, Left, of, posted}
@@ -18,8 +19,11 @@ use Rattle.pf_system.specs.Slots.{slot_body, SlotIsSound, SlotsAreSound, SlotIsL
 use Rattle.pf_system.specs.declared.slot.Slot.{Slot}
 use Rattle.pf_system.specs.declared.processes.Processes.{Processes}
 
+abbrev pub checked_in : Processes → Checked
+checked_in w = w.basis.module.value
+
 abbrev pub module_in : Processes → Module
-module_in w = module_of w.basis.module.value
+module_in w = module_of (checked_in w)
 
 abbrev pub bodies_in : Processes → List Body
 bodies_in w = map slot_body w.slots.items
@@ -42,7 +46,7 @@ pub record Represents (w : Processes) (c : Core) : Type 0 where
   pub bodies : bodies_of c ≡ bodies_in w
   pub ties : ties_of c ≡ w.shared.ties
   pub ready : w.ready ≡ numbers_of can_go zero c.processes
-  pub slots : SlotsAreSound (module_in w) zero w.slots.items
+  pub slots : SlotsAreSound (checked_in w) zero w.slots.items
   pub room : IsRoomy w c
 
 -- the same, but for the body of process a, which stands in a slot of its own
@@ -51,13 +55,13 @@ pub record RepresentsBut (w : Processes) (c : Core) (a : ℕ) : Type 0 where
   pub bodies : (b : Body) → slice_set (bodies_of c) a b ≡ slice_set (bodies_in w) a b
   pub ties : ties_of c ≡ w.shared.ties
   pub ready : w.ready ≡ numbers_of can_go zero c.processes
-  pub slots : (s : Slot) → SlotIsSound (module_in w) a s → SlotsAreSound (module_in w) zero (slice_set w.slots.items a s)
+  pub slots : (s : Slot) → SlotIsSound (checked_in w) a s → SlotsAreSound (checked_in w) zero (slice_set w.slots.items a s)
   pub room : IsRoomy w c
 
 -- the machine of process a ran, and stands so over these messages
 pub record IsLeftAt (w : Processes) (a : ℕ) (x : Standing) (s : Slot) : Type 0 where
   pub at : slice_get w.slots.items a ≡ Some s
-  pub leaves : SlotIsLeft (module_in w) a x s
+  pub leaves : SlotIsLeft (checked_in w) a x s
 
 -- ---- what one step of an actor does
 

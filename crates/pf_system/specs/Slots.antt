@@ -5,7 +5,8 @@ use Rattle.pf_terms.specs.Term.{value_of}
 use Rattle.pf_terms.specs.Fixed.{undefined}
 use Rattle.pf_terms.specs.declared.term.Term.{Term}
 use Rattle.pf_syntax.specs.Tree.{Tree}
-use Rattle.pf_model.specs.Module.{Module}
+use Rattle.pf_syntax.specs.Module.{Checked}
+use Rattle.pf_model.specs.Module.{module_of}
 use Rattle.pf_model.specs.Context.{Frame, State, running, waiting, ending, ended, End, returned, failed}
 use Rattle.pf_model.specs.Turns.{answered}
 use Rattle.pf_model.specs.Runs.{can_go}
@@ -54,8 +55,8 @@ StandsAs true x = (t : Tree) × (x ≡ goes (running t))
 StandsAs false x = (s : State) × (x ≡ goes s) × (can_go s ≡ true)
 
 -- it is the process of this pid, and runs this module
-abbrev pub IsOf : Module → ℕ → MachineView → Type 0
-IsOf m own k = (k.own ≡ own) × (k.code ≡ m)
+abbrev pub IsOf : Checked → ℕ → MachineView → Type 0
+IsOf m own k = (k.own ≡ own) × (k.checked ≡ m)
 
 -- its machine may go on over its mailbox
 abbrev pub LifeIsReady : Life → MailView → Type 0
@@ -63,35 +64,35 @@ LifeIsReady (life.Lives machine waits) mail = StandsAs waits machine.standing ×
 LifeIsReady (life.Ends r) mail = Unit {0}
 LifeIsReady (life.Ended e) mail = Unit {0}
 
-abbrev pub LifeIsOf : Module → ℕ → Life → Type 0
+abbrev pub LifeIsOf : Checked → ℕ → Life → Type 0
 LifeIsOf m own (life.Lives machine waits) = IsOf m own machine
 LifeIsOf m own (life.Ends r) = Unit {0}
 LifeIsOf m own (life.Ended e) = Unit {0}
 
-pub record SlotIsSound (m : Module) (own : ℕ) (s : Slot) : Type 0 where
+pub record SlotIsSound (m : Checked) (own : ℕ) (s : Slot) : Type 0 where
   pub ready : LifeIsReady s.life s.mailbox
   pub is_of : LifeIsOf m own s.life
 
 -- the slots from pid n on
-abbrev pub SlotsAreSound : Module → ℕ → List Slot → Type 0
+abbrev pub SlotsAreSound : Checked → ℕ → List Slot → Type 0
 SlotsAreSound m n [] = Unit {0}
 SlotsAreSound m n (s ∷ ss) = SlotIsSound m n s × SlotsAreSound m (suc n) ss
 
 -- ---- a slot in the midst of a turn
 
 -- a machine ran and stands so; a process that had no machine is at its end
-abbrev pub LifeIsLeft : Module → ℕ → Standing → Life → MailView → Type 0
+abbrev pub LifeIsLeft : Checked → ℕ → Standing → Life → MailView → Type 0
 LifeIsLeft m own x (life.Lives machine waits) mail = (machine.standing ≡ x) × IsOf m own machine × (waits ≡ false) × IsAheadOf machine mail
 LifeIsLeft m own x (life.Ends r) mail = x ≡ over
 LifeIsLeft m own x (life.Ended e) mail = x ≡ over
 
-abbrev pub SlotIsLeft : Module → ℕ → Standing → Slot → Type 0
+abbrev pub SlotIsLeft : Checked → ℕ → Standing → Slot → Type 0
 SlotIsLeft m own x s = LifeIsLeft m own x s.life s.mailbox
 
 -- the process of a slot ran up to this move
-pub record RanInSlot (m : Module) (own left : ℕ) (s : Slot) (move : Move) (used : ℕ) (s' : Slot) : Type 0 where
+pub record RanInSlot (m : Checked) (own left : ℕ) (s : Slot) (move : Move) (used : ℕ) (s' : Slot) : Type 0 where
   pub standing : Standing
-  pub ran : Ran m own left (state_of s.life) s.mailbox.messages move standing used s'.mailbox.messages
+  pub ran : Ran (module_of m) own left (state_of s.life) s.mailbox.messages move standing used s'.mailbox.messages
   pub leaves : SlotIsLeft m own standing s'
 
 -- a machine of the slot waits for an answer
@@ -101,10 +102,10 @@ LifeAsks (life.Ends r) = Unit {0}
 LifeAsks (life.Ended e) = Unit {0}
 
 -- a sound slot with this body
-pub record PutsIn (m : Module) (own : ℕ) (b : Body) (s : Slot) : Type 0 where
+pub record PutsIn (m : Checked) (own : ℕ) (b : Body) (s : Slot) : Type 0 where
   pub sound : SlotIsSound m own s
   pub is : slot_body s ≡ b
 
 -- an answer goes into the frames of the action that a slot asked for
-abbrev pub AnswersIn : Module → ℕ → List Frame → Result Value Value → Slot → Slot → Type 0
+abbrev pub AnswersIn : Checked → ℕ → List Frame → Result Value Value → Slot → Slot → Type 0
 AnswersIn m own fs r s s' = PutsIn m own (body (answered fs r) s.mailbox.messages) s'

@@ -1,12 +1,13 @@
 -- What a turn and a delivery do to a system.
 use Rattle.std.specs.Prelude.{◌≡◌, ◌≤◌, ℕ, zero, ◌+◌, Bool, true, false, List, ◌∷◌, ◌++◌, Option, Some, None, map}
-use Rattle.pf_model.specs.Module.{Module, module_of}
+use Rattle.pf_syntax.specs.Module.{Checked}
+use Rattle.pf_model.specs.Module.{module_of}
 use Rattle.pf_model.specs.Labels.{Label}
 use Rattle.pf_model.specs.Channels.{heads}
 use Rattle.pf_model.specs.Configuration.{Configuration}
 use Rattle.pf_model.specs.Runs.{Actor, process, channel, Passed, Passes, enabled, can_go, numbers_of}
 use Rattle.pf_system.specs.View.{SystemView, view_of_system}
-use Rattle.pf_system.specs.Processes.{module_in, core_of, configuration_of, Represents}
+use Rattle.pf_system.specs.Processes.{checked_in, core_of, configuration_of, Represents}
 use Rattle.pf_system.specs.declared.enabled.Enabled.{Enabled}
 use Rattle.pf_system.specs.declared.system.System.TheInside.{Inside}
 use Rattle.pf_system.specs.declared.processes.Processes.{Processes}
@@ -34,8 +35,8 @@ pub record PassesTo (left : ℕ) (s : SystemView) (x : Actor) (l : Label) (used 
   pub before : Configuration
   pub passed : Passed
   pub was : s.standing ≡ Some before
-  pub passes : Passes s.code left before x passed
-  pub becomes : s' ≡ view_of_system s.code (s.steps + used) (Some passed.after)
+  pub passes : Passes (module_of s.checked) left before x passed
+  pub becomes : s' ≡ view_of_system s.checked (s.steps + used) (Some passed.after)
   pub label : l ≡ passed.label
   pub counts : used ≡ passed.used
   pub within : used ≤ left
@@ -47,12 +48,12 @@ unless_spent true c = None
 unless_spent false c = Some c
 
 abbrev pub view_of_inside : Inside → SystemView
-view_of_inside s = view_of_system (module_of s.module.value) s.steps (unless_spent s.spent (configuration_of s.processes))
+view_of_inside s = view_of_system s.module.value s.steps (unless_spent s.spent (configuration_of s.processes))
 
 -- processes that represent their own core, and run this module
-pub record RunsModule (m : Module) (w : Processes) : Type 0 where
+pub record RunsModule (m : Checked) (w : Processes) : Type 0 where
   pub stands : Represents w (core_of w)
-  pub code : module_in w ≡ m
+  pub code : checked_in w ≡ m
 
 abbrev pub IsValid : Inside → Type 0
-IsValid s = s.spent ≡ false → RunsModule (module_of s.module.value) s.processes
+IsValid s = s.spent ≡ false → RunsModule s.module.value s.processes

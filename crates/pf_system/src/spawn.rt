@@ -70,7 +70,7 @@ fn begun(
     name: AtomId,
     arguments: &List,
 ) -> Result<Life, NoMemory>
-    ensures { IfOk result (λ l. LifeBegins (module_of «module».now.value) pid
+    ensures { IfOk result (λ l. LifeBegins «module».now.value pid
         (start_of (module_of «module».now.value) home.0 name.0 (elements_of arguments.now)) l) }
 {
     let items = elements(alloc, arguments)?;

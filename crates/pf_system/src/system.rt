@@ -4,7 +4,6 @@ ghost use Rattle.std.specs.Prelude.{◌≡◌, ◌-◌, ◌<◌, ◌≤◌, fals
 ghost use Rattle.std.specs.Prelude.{IfOk, IfSome, IsErr, MatchOption, OnErr, OnOk};
 ghost use Rattle.pf_model.specs.Configuration.{is_alive, of};
 ghost use Rattle.pf_model.specs.Deliveries.{woken};
-ghost use Rattle.pf_model.specs.Module.{module_of};
 ghost use Rattle.pf_model.specs.Limits.{IsEdition};
 ghost use Rattle.pf_model.specs.Meaning.{outcome_of as outcome_where};
 ghost use Rattle.pf_model.specs.Reports.{actor_of, label_of, outcome_of};
@@ -67,7 +66,7 @@ impl System {
     ) -> Result<System, NoMemory>
         requires { IsEdition edition }
         ensures { IfOk result (λ s.
-            s ≡ view_of_system (module_of «module».now.value) 0 (Some (start root.0 edition))) }
+            s ≡ view_of_system «module».now.value 0 (Some (start root.0 edition))) }
     {
         System::new_in(alloc, module, root, edition, Spare::new(alloc))
     }
@@ -82,7 +81,7 @@ impl System {
     ) -> Result<System, NoMemory>
         requires { IsEdition edition }
         ensures { IfOk result (λ s.
-            s ≡ view_of_system (module_of «module».now.value) 0 (Some (start root.0 edition))) }
+            s ≡ view_of_system «module».now.value 0 (Some (start root.0 edition))) }
     {
         let shared = Arc::try_clone(module)?;
         let room = spare.room(alloc);
@@ -135,13 +134,13 @@ impl System {
         }
     }
 
-    /// Where a process stands, and the module in whose code that is; none where there is none of this pid, it has ended, or memory
-    /// ran out.
+    /// Where a process stands, and the module of the system, in whose code that is; none where there is none of this pid, it has
+    /// ended, or memory ran out.
     pub fn point(&self, pid: u32) -> Option<(&Module, Point)>
-        ensures code { IfSome result (λ x. module_of x.0.now ≡ self.now.code) }
+        ensures own { IfSome result (λ x. x.0.now ≡ self.now.checked) }
         ensures point { (c : _) → self.now.standing ≡ Some c
             → MatchOption result (is_alive (of c.core pid).state ≡ false)
-            (λ x. IsPointOf x.0.now.tables (woken (of c.core pid).state) x.1) }
+            (λ x. IsPointOf self.now.checked.tables (woken (of c.core pid).state) x.1) }
         ensures spent { IfSome result (λ x. self.now.standing ≡ None → ⊥) }
     {
         if self.spent {
@@ -178,7 +177,7 @@ impl System {
         requires left { self.old.steps < limit }
         ensures passed { IfOk result (λ used. PassesTo (limit - self.old.steps)
             self.old (process pid) (label_of shown.new) used self.new) }
-        ensures spent { OnErr result (self.new ≡ view_of_system self.old.code self.old.steps None) }
+        ensures spent { OnErr result (self.new ≡ view_of_system self.old.checked self.old.steps None) }
         ensures refused { self.old.standing ≡ None → IsErr result }
     {
         if self.spent {
@@ -205,7 +204,7 @@ impl System {
         requires left { self.old.steps < limit }
         ensures passed { OnOk result
             (PassesTo 1 self.old (channel from to) (label_of shown.new) 1 self.new) }
-        ensures spent { OnErr result (self.new ≡ view_of_system self.old.code self.old.steps None) }
+        ensures spent { OnErr result (self.new ≡ view_of_system self.old.checked self.old.steps None) }
         ensures refused { self.old.standing ≡ None → IsErr result }
     {
         if self.spent {

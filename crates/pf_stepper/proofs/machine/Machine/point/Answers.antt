@@ -12,4 +12,4 @@ returns-clause-point c =
       | in-Asking-2 w ↦ w.point-is ∙ stands_nowhere i.stack i.standing w.in-Asking.is
       | in-Asking-3 w ↦ w.point-is ∙ stands_nowhere i.stack i.standing w.in-Asking.is
     ] in
-    rw (← c.self.view_is, c.deref.ensures) (stands_as i.module.value i.stack i.standing c.match-self.point so)
+    rw (← c.self.view_is) (stands_as i.module.value i.stack i.standing c.match-self.point so)

@@ -1,5 +1,4 @@
 use Rattle.std.proofs.Common.{ap, ◌∙◌, ◌≡◌, subst, sym}
-use Rattle.pf_model.specs.Module.{module_of}
 use Rattle.pf_stepper.specs.MachineView.{MachineView}
 use Rattle.pf_stepper.specs.Readiness.{IsReadyAhead}
 use Rattle.pf_stepper.specs.Inner.{standing_in}
@@ -12,7 +11,7 @@ use Rattle.pf_stepper.proofs.machine.Machine.run.Goals as goal
 pub returns-clause-ran : goal.returns-clause-ran
 returns-clause-ran g c =
     let i = c.self.inside in
-    let before : Standing → MachineView = λ x. record { own = i.own; code = module_of i.module.value; standing = standing_in i.module.value i.stack x } in
+    let before : Standing → MachineView = λ x. record { own = i.own; checked = i.module.value; standing = standing_in i.module.value i.stack x } in
     let stood_so : before (stood.Goes c.in-Goes.focus) ≡ c.args.self.now = ap before c.in-Goes.ensures.value ∙ c.self.view_is in
     let ran = rw c.deref.ensures at c.in_ok-used.ensures in
     let settled = rw c.deref-2.ensures at c.in_ok-settle.ensures.settled in
@@ -22,7 +21,7 @@ pub settle-requires-clause-ready : goal.settle-requires-clause-ready
 settle-requires-clause-ready g c =
     let i = c.self.inside in
     let ready = g.I.Inbox.IsReady c.args.inbox.now in
-    let before : Standing → MachineView = λ x. record { own = i.own; code = module_of i.module.value; standing = standing_in i.module.value i.stack x } in
+    let before : Standing → MachineView = λ x. record { own = i.own; checked = i.module.value; standing = standing_in i.module.value i.stack x } in
     let stood_so : before (stood.Goes c.in-Goes.focus) ≡ c.args.self.now = ap before c.in-Goes.ensures.value ∙ c.self.view_is in
     let ahead = subst (IsReadyAhead ready) (sym stood_so) c.requires.ready in
     let ran = rw c.deref.ensures at c.in_ok-used.ensures in

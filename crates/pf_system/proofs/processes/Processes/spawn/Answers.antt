@@ -4,7 +4,7 @@ use Rattle.pf_terms.specs.Term.{value_of, elements_of}
 use Rattle.pf_model.specs.Actions.{start_of}
 use Rattle.pf_stepper.specs.Acts.{bond_of}
 use Rattle.pf_system.specs.Acts.{LifeBegins, answer}
-use Rattle.pf_system.specs.Processes.{module_in}
+use Rattle.pf_system.specs.Processes.{checked_in, module_in}
 use Rattle.pf_system.proofs.Acting.{not_atom}
 use Rattle.pf_system.proofs.Beginning.{not_list}
 use Rattle.pf_system.proofs.Settling.{keeps_slot}
@@ -60,7 +60,7 @@ returns-clause-acts c =
     let life = c.in_ok-life.life in
     let n : c.len-new.result ≡ length w.slots.items = omega (arith, c.len-new.ensures) in
     let few : length w.slots.items < w.basis.most = omega (arith, c.len.ensures, c.if-len-self.false) in
-    let begins = subst (λ k. LifeBegins (module_in w) k (start_of (module_in w) c.in-Atom.home.0 c.in-Atom-function.name.0 vs) life) n c.in_ok-life.ensures in
+    let begins = subst (λ k. LifeBegins (checked_in w) k (start_of (module_in w) c.in-Atom.home.0 c.in-Atom-function.name.0 vs) life) n c.in_ok-life.ensures in
     IfOk-weaker c.open_by.result _ _
     (λ v h. spawns_so x.pid (bond_of x.bond) w (answer v c.open_by.new.shown) (value_of x.home) (value_of x.function) (value_of x.arguments) c.in-Atom.home.0 c.in-Atom-function.name.0 vs
     (ap value_of c.in-Atom.is) (ap value_of c.in-Atom-function.is) (ap value_of c.in-List.is) c.open_by.new.self life few begins

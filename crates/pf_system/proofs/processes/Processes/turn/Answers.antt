@@ -1,7 +1,7 @@
 use Rattle.std.proofs.Common.{refl, arith}
 use Rattle.std.specs.Vec.{with_item}
 use Rattle.std.proofs.lemmas.Option.{slice_get_read}
-use Rattle.pf_system.specs.Processes.{module_in, core_of}
+use Rattle.pf_system.specs.Processes.{checked_in, core_of}
 use Rattle.pf_system.specs.declared.processes.Processes.{Processes}
 use Rattle.pf_system.proofs.Turning.{asks_for, slot_can, slot_ready, slot_sound, slot_there, still_shaped, turned}
 use Rattle.pf_system.proofs.Changed.{get_set}
@@ -43,11 +43,11 @@ settle-requires-clause-can c =
     let s = c.index_mut-slot.result.now in
     let l = slot_there w (core_of w) a c.requires.sound c.requires.enabled in
     let at = slice_get_read w.slots.items _ a s refl l c.index_mut-slot.ensures.value in
-    let r = c.in_ok-used.ensures (module_in w) a (slot_sound w (core_of w) a s c.requires.sound at) in
+    let r = c.in_ok-used.ensures (checked_in w) a (slot_sound w (core_of w) a s c.requires.sound at) in
     record {
       slot = c.run.new.self;
       at = get_set a w.slots.items c.run.new.self l;
-      asks = asks_for (module_in w) a c.args.left c.in_ok-used.used s c.run.new.self c.run.new.did r;
+      asks = asks_for (checked_in w) a c.args.left c.in_ok-used.used s c.run.new.self c.run.new.did r;
     }
 
 pub returns : goal.returns
@@ -58,7 +58,7 @@ returns c =
     let s1 = c.run.new.self in
     let l = slot_there w (core_of w) a c.requires.sound c.requires.enabled in
     let at = slice_get_read w.slots.items _ a s refl l c.index_mut-slot.ensures.value in
-    let r = c.in_ok-used.ensures (module_in w) a (slot_sound w (core_of w) a s c.requires.sound at) in
+    let r = c.in_ok-used.ensures (checked_in w) a (slot_sound w (core_of w) a s c.requires.sound at) in
     let w1 : Processes = record w { slots = with_item w.slots a s1; spare = record w.spare { pool = c.run.new.pool } } in
     turned w w1 c.settle.new.self (core_of w) a c.args.left c.in_ok-used.used s s1 c.run.new.did c.settle.new.shown c.requires.sound c.requires.enabled
     at r refl refl refl refl c.in_ok-settle.ensures

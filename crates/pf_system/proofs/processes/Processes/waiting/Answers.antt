@@ -2,7 +2,7 @@ use Rattle.std.proofs.Common.{◌≡◌, ◌<◌, ◌+◌, zero, length, map, ta
 use Rattle.std.proofs.lemmas.List.{take_all}
 use Rattle.pf_model.specs.Runs.{is_waiting}
 use Rattle.pf_system.specs.Slots.{slot_body}
-use Rattle.pf_system.specs.Processes.{module_in}
+use Rattle.pf_system.specs.Processes.{checked_in}
 use Rattle.pf_system.proofs.Ready.{numbers_in}
 use Rattle.pf_system.proofs.Outcomes.{waiting_more, nothing_behind, numbers_of_processes, sound_at}
 use Rattle.pf_system.proofs.processes.Processes.waiting.Goals as goal
@@ -16,8 +16,8 @@ loop-pid-preserved c =
     let s = c.slot-item.result in
     let within : i < length ss = let l = ap length c.deref-slot-items.ensures.value in omega (arith, c.loop-pid-test.true) in
     let same : get_or ss i s ≡ s = ap (λ l. get_or l i s) (sym c.deref-slot-items.ensures.value) ∙ sym c.slot-item.is in
-    let sound = sound_at (module_in w) zero ss i s c.requires.slots within same in
-    let more = waiting_more ss i s within same c.is_waiting.result (c.is_waiting.ensures (module_in w) (zero + i) sound) in
+    let sound = sound_at (checked_in w) zero ss i s c.requires.slots within same in
+    let more = waiting_more ss i s within same c.is_waiting.result (c.is_waiting.ensures (checked_in w) (zero + i) sound) in
     let before = numbers_in is_waiting zero (map slot_body (take i ss)) in
     elim c.if-is_waiting.branch [
       | then-is_waiting+in_ok-push b ↦

@@ -1,5 +1,4 @@
 use Rattle.std.proofs.Common.{◌+◌, Some, sym, subst, arith}
-use Rattle.pf_model.specs.Module.{module_of}
 use Rattle.pf_model.specs.Runs.{channel}
 use Rattle.pf_model.specs.Reports.{label_of}
 use Rattle.pf_system.specs.View.{view_of_system}
@@ -13,7 +12,7 @@ pub deliver-requires-clause-there : goal.deliver-requires-clause-there
 deliver-requires-clause-there c =
     let f = c.self.inside in
     let d = configuration_of f.processes in
-    let v = unspent c.args.self.now (module_of f.module.value) f.steps f.spent d c.self.view_is c.if-self.false in
+    let v = unspent c.args.self.now f.module.value f.steps f.spent d c.self.view_is c.if-self.false in
     has_signal c.args.from c.args.to d (subst (λ s. MayGo (channel c.args.from c.args.to) s.standing) v c.requires.enabled)
 
 pub overflow_add-self : goal.overflow_add-self
@@ -23,13 +22,13 @@ overflow_add-self c =
 
 pub invariant_of-self-2 : goal.invariant_of-self-2
 invariant_of-self-2 c e =
-    still_kept (module_of c.self.inside.module.value) c.self.inside.processes c.deliver.new.self c.args.from c.args.to c.deliver.new.shown
+    still_kept c.self.inside.module.value c.self.inside.processes c.deliver.new.self c.args.from c.args.to c.deliver.new.shown
     (c.self.invariant c.if-self.false) c.in_ok-deliver.ensures
 
 pub returns-clause-passed : goal.returns-clause-passed
 returns-clause-passed c =
     let f = c.self.inside in
-    let m = module_of f.module.value in
+    let m = f.module.value in
     let d = configuration_of f.processes in
     let e = configuration_of c.deliver.new.self in
     let x = channel c.args.from c.args.to in

@@ -1,5 +1,4 @@
 use Rattle.std.proofs.Common.{◌≡◌, ◌+◌, ◌-◌, Some, sym, ap, ◌∙◌, subst, arith}
-use Rattle.pf_model.specs.Module.{module_of}
 use Rattle.pf_model.specs.Runs.{process}
 use Rattle.pf_model.specs.Reports.{label_of}
 use Rattle.pf_system.specs.View.{view_of_system}
@@ -14,7 +13,7 @@ turn-requires-clause-sound c = (c.self.invariant c.if-self.false).stands
 
 pub turn-requires-clause-enabled : goal.turn-requires-clause-enabled
 turn-requires-clause-enabled c =
-    let m = module_of c.self.inside.module.value in
+    let m = c.self.inside.module.value in
     let w : Processes = c.self.inside.processes in
     let v : c.args.self.now ≡ view_of_system m c.self.inside.steps (Some (configuration_of w)) =
     sym c.self.view_is ∙ ap (λ t. view_of_system m c.self.inside.steps (unless_spent t (configuration_of w))) c.if-self.false in
@@ -30,12 +29,12 @@ overflow_add-self c =
 
 pub invariant_of-self-2 : goal.invariant_of-self-2
 invariant_of-self-2 c e =
-    turn_kept (module_of c.self.inside.module.value) c.self.inside.processes c.turn.new.self (core_of c.self.inside.processes) c.args.pid
+    turn_kept c.self.inside.module.value c.self.inside.processes c.turn.new.self (core_of c.self.inside.processes) c.args.pid
     (c.args.limit - c.self.inside.steps) c.in_ok-used.used c.turn.new.shown (c.self.invariant c.if-self.false) c.in_ok-used.ensures
 
 pub returns-clause-passed : goal.returns-clause-passed
 returns-clause-passed c =
-    let m = module_of c.self.inside.module.value in
+    let m = c.self.inside.module.value in
     let w : Processes = c.self.inside.processes in
     let w' : Processes = c.turn.new.self in
     let k = c.self.inside.steps in
