@@ -16,6 +16,7 @@ use Rattle.pf_strategy.specs.Runs.{MeansByPriorities}
 use Rattle.pf_standings.specs.Fates.{AreStandings}
 use Rattle.pf_standings.specs.Known.{ComesTo, code_of, events_of}
 use Rattle.pf_standings.specs.Lines.{IsLine}
+use Rattle.pf_standings.specs.Noted.{TellPoints}
 use Rattle.pf_standings.specs.declared.known.KnownRun.{KnownRun}
 use Rattle.pf_standings.specs.declared.standing.Standing.{Standing}
 
@@ -44,6 +45,7 @@ pub record TellsRun (k : KnownRun) (source text : List ℕ) : Type 0 where
   pub are_places : ArePlaces k.module.now.value source places
   pub standings : List Standing
   pub stand : (d : Configuration) → ComesTo k d → AreStandings k d standings
+  pub points : TellPoints (events_of k) standings
   pub lines : AreLines k places standings text
 
 -- the same of the run that a job means

@@ -1,28 +1,30 @@
 -- A run is made again event by event.
 use Rattle.std.proofs.Common.{◌≡◌, inl, inr, ◌+◌, ◌-◌, ◌<◌, ◌≤◌, ℕ, zero, suc, true, false, List, [], ◌∷◌, ◌++◌, length, map, take, Option, Some, None, refl, sym, ap, ◌∙◌, subst, arith}
-use Rattle.std.specs.Prelude.{IfSome, get_or, option_map, slice_get}
+use Rattle.std.specs.Prelude.{IfSome, MatchOption, get_or, option_map, slice_get}
 use Rattle.std.proofs.lemmas.List.{length-map, take-map}
 use Rattle.std.proofs.lemmas.Option.{same_Some, slice_get-map, slice_get-get_or}
+use Rattle.pf_syntax.specs.Module.{Checked}
 use Rattle.pf_syntax.specs.declared.node.FunctionId.{FunctionId}
 use Rattle.pf_model.specs.Configuration.{Configuration, of}
-use Rattle.pf_model.specs.Deliveries.{woken}
+use Rattle.pf_model.specs.Context.{State}
 use Rattle.pf_model.specs.Labels.{Label}
 use Rattle.pf_model.specs.Meaning as meaning
 use Rattle.pf_model.specs.Meaning.{Event}
-use Rattle.pf_model.specs.Module.{Module}
+use Rattle.pf_model.specs.Module.{Module, module_of}
 use Rattle.pf_model.specs.Reports.{event_of}
 use Rattle.pf_model.specs.declared.report.Event.{Event as Coded}
 use Rattle.pf_model.specs.Runs.{Passes, Transition, enabled, start}
 use Rattle.pf_model.proofs.Turned.{pass_only}
-use Rattle.pf_stepper.specs.Points.{IsCalling}
+use Rattle.pf_stepper.specs.declared.point.Point.{Point}
+use Rattle.pf_stepper.specs.declared.point.Point.TheVariants as point
 use Rattle.pf_system.specs.Steps.{PassesTo}
 use Rattle.pf_system.specs.View.{SystemView, view_of_system}
 use Rattle.pf_system.proofs.Bodies.{more_length}
-use Rattle.pf_standings.specs.Fates.{Began, begun_in}
+use Rattle.pf_standings.specs.Fates.{Began, IsCalled, IsNoCall, StandsAt, begun_in}
 use Rattle.pf_standings.specs.Followed.{AreBegun, HasGone, IsFollowed}
 use Rattle.pf_standings.specs.declared.follow.Begun.{Begun}
 use Rattle.pf_standings.specs.declared.follow.Followed.{Followed}
-use Rattle.pf_standings.specs.Known.{Comes, ComesTo, code_of, events_of}
+use Rattle.pf_standings.specs.Known.{Comes, ComesTo, checked_of, code_of, events_of}
 use Rattle.pf_standings.specs.declared.known.KnownRun.{KnownRun}
 use Rattle.pf_standings.proofs.Lives.{IsNext, as_many, pass_begins, pass_count}
 use Rattle.pf_standings.proofs.Marked.{Behind, Marked, at_end, behind, front, here}
@@ -50,7 +52,7 @@ at_pushed P (z ∷ xs) x h k (suc p) y e = at_pushed (λ q. P (suc q)) xs x (λ 
 pub record At (k : KnownRun) (d : Configuration) (h : ComesTo k d) (i : ℕ) (s : SystemView) (fs : List Begun) : Type 0 where
   pub here : Configuration
   pub marked : Marked (code_of k) d h.picks k.limit (start k.root.0 k.edition) h.transitions h.steps i here s.steps
-  pub code : s.code ≡ code_of k
+  pub module_is : s.checked ≡ checked_of k
   pub stands : s.standing ≡ Some here
   pub begun : AreBegun k here fs
 
@@ -63,14 +65,14 @@ root_began k zero b e = subst (λ z. (z.pid ≡ zero) × Began k zero z.function
 root_began k (suc p) b e = absurd (cc)
 
 pub at_start : (k : KnownRun) (d : Configuration) (h : ComesTo k d) (s : SystemView) (fs : List Begun)
-    → s ≡ view_of_system (code_of k) 0 (Some (start k.root.0 k.edition)) → fs ≡ root_of k ∷ [] → At k d h 0 s fs
+    → s ≡ view_of_system (checked_of k) 0 (Some (start k.root.0 k.edition)) → fs ≡ root_of k ∷ [] → At k d h 0 s fs
 at_start k d h s fs e g =
     record {
       here = start k.root.0 k.edition;
       marked =
           subst (Marked (code_of k) d h.picks k.limit (start k.root.0 k.edition) h.transitions h.steps zero (start k.root.0 k.edition)) (sym (ap (λ z. z.steps) e))
           (here h.picks k.limit (start k.root.0 k.edition) h.transitions h.steps h.goes);
-      code = ap (λ z. z.code) e;
+      module_is = ap (λ z. z.checked) e;
       stands = ap (λ z. z.standing) e;
       begun = subst (AreBegun k (start k.root.0 k.edition)) (sym g) (record { count = refl; pids = λ p b q. (root_began k p b q).0; each = λ p b q. (root_began k p b q).1 });
     }
@@ -119,9 +121,9 @@ module _ (k : KnownRun) (d : Configuration) (h : ComesTo k d) (i : ℕ) (s : Sys
 
     as_it_passes : Passes m (k.limit - s.steps) a.here t.actor passes.passed
     as_it_passes =
-        subst (λ z. Passes z (k.limit - s.steps) a.here t.actor passes.passed) a.code
-        (subst (λ z. Passes s.code (k.limit - s.steps) z t.actor passes.passed) before
-        (subst (λ z. Passes s.code (k.limit - s.steps) passes.before z passes.passed) actor passes.passes))
+        subst (λ z. Passes (module_of z) (k.limit - s.steps) a.here t.actor passes.passed) a.module_is
+        (subst (λ z. Passes (module_of s.checked) (k.limit - s.steps) z t.actor passes.passed) before
+        (subst (λ z. Passes (module_of s.checked) (k.limit - s.steps) passes.before z passes.passed) actor passes.passes))
 
     same : passes.passed ≡ b.passed
     same =
@@ -167,14 +169,14 @@ module _ (k : KnownRun) (d : Configuration) (h : ComesTo k d) (i : ℕ) (s : Sys
 
     there : (gs : List Begun) → AreBegun k after gs → At k d h (suc i) s' gs
     there gs g =
-        record { here = after; marked = next; code = ap (λ z. z.code) passes.becomes ∙ a.code; stands = stands; begun = g }
+        record { here = after; marked = next; module_is = ap (λ z. z.checked) passes.becomes ∙ a.module_is; stands = stands; begun = g }
 
     -- where no process began
     pub none_began : begun_in l ≡ None → At k d h (suc i) s' fs
     none_began n = there fs (record { count = a.begun.count ∙ sym (count ∙ ap (λ o. as_many o (length a.here.core.processes)) n); pids = a.begun.pids; each = a.begun.each })
 
     -- where one began, of which it is told in whose call
-    pub one_began : (pid : ℕ) (f : Option FunctionId) → begun_in l ≡ Some pid → IfSome f (IsCalling (woken (of after.core pid).state))
+    pub one_began : (pid : ℕ) (f : Option FunctionId) → begun_in l ≡ Some pid → IsCalled s'.checked (of after.core pid).state f
         → At k d h (suc i) s' (fs ++ record { pid = pid; function = f } ∷ [])
     one_began pid f n calls =
         let it : Begun = record { pid = pid; function = f } in
@@ -182,15 +184,17 @@ module _ (k : KnownRun) (d : Configuration) (h : ComesTo k d) (i : ℕ) (s : Sys
         (record {
           count = more_length fs it ∙ ap suc a.begun.count ∙ sym (count ∙ ap (λ o. as_many o (length a.here.core.processes)) n);
           pids = at_pushed (λ p b. b.pid ≡ p) fs it a.begun.pids its_pid;
-          each = at_pushed (λ p b. Began k p b.function) fs it a.begun.each (began f calls);
+          each = at_pushed (λ p b. Began k p b.function) fs it a.begun.each began;
         })
       where
         its_pid : pid ≡ length fs
         its_pid = subst (λ o. IfSome o (λ p. p ≡ length a.here.core.processes)) n is_next ∙ sym a.begun.count
 
-        began : (g : Option FunctionId) → IfSome g (IsCalling (woken (of after.core pid).state)) → Began k (length fs) g
-        began None c = tt
-        began (Some g) c =
+        its_module : s'.checked ≡ checked_of k
+        its_module = ap (λ z. z.checked) passes.becomes ∙ a.module_is
+
+        began : Began k (length fs) f
+        began =
             inr (record {
               number = i;
               event = e;
@@ -198,8 +202,13 @@ module _ (k : KnownRun) (d : Configuration) (h : ComesTo k d) (i : ℕ) (s : Sys
               begins = ap begun_in event_shows ∙ n ∙ ap (λ z. Some z) its_pid;
               behind = after;
               comes = comes;
-              calls = subst (λ z. IsCalling (woken (of after.core z).state) g) its_pid c;
+              calls = subst (λ z. IsCalled (checked_of k) (of after.core z).state f) its_pid (subst (λ z. IsCalled z (of after.core pid).state f) its_module calls);
             })
+
+-- the function that is called where a process stands
+pub called_of : (m : Checked) (s : State) (x : Point) (o : Option FunctionId) → MatchOption o (IsNoCall x) (λ f. x ≡ point.Calls f) → StandsAt m s x → IsCalled m s o
+called_of m s x None h at = inr (x, at, h)
+called_of m s x (Some f) h at = subst (StandsAt m s) h at
 
 -- the event at an index
 pub event_in : (es : List Coded) (i : ℕ) (e : Coded) → i < length es → slice_get (map event_of es) i ≡ Some (event_of (get_or es i e))
@@ -217,7 +226,7 @@ followed k d h i f a few most =
     let all : i ≡ length h.transitions = omega (arith, count) in
     let same = at_last k d h i f.system f.begun.items a all in
     record {
-      code = a.code;
+      module_is = a.module_is;
       stands = a.stands ∙ ap (λ z. Some z) same;
       begun = subst (λ z. AreBegun k z f.begun.items) same a.begun;
     }

@@ -7,3 +7,4 @@ pub mod Survivors
 pub mod Putting
 pub mod Struck
 pub mod Texts
+mod Noting

@@ -2,15 +2,15 @@
 use Rattle.std.proofs.Common.{◌≡◌, ◌⊎◌, ◌<◌, inl, inr, ℕ, suc, true, List, [], ◌∷◌, ◌++◌, Some, Result, Ok, Err, length, sym, ap, ◌∙◌, subst, arith}
 use Rattle.std.specs.Prelude.{IfOk, get_or, option_map, slice_get}
 use Rattle.std.proofs.lemmas.Option.{slice_get-get_or, slice_get-map, slice_get_within}
+use Rattle.pf_syntax.specs.Module.{Checked}
 use Rattle.pf_model.specs.Configuration.{Configuration, is_alive, of}
 use Rattle.pf_model.specs.Context.{State}
 use Rattle.pf_model.specs.Meaning as meaning
 use Rattle.pf_model.specs.Meaning.{Event}
-use Rattle.pf_model.specs.Module.{Module}
 use Rattle.pf_system.proofs.Bodies.{more_length}
 use Rattle.pf_standings.specs.Fates.{AreStandings, Began, EndsAt, HasEnded, LivesSo}
 use Rattle.pf_standings.specs.Followed.{AreByPid, IsFollowed}
-use Rattle.pf_standings.specs.Known.{ComesTo, code_of, events_of}
+use Rattle.pf_standings.specs.Known.{ComesTo, checked_of, code_of, events_of}
 use Rattle.pf_standings.specs.Put.{AreAtEnd, ArePlaced, AreStanding, IsAlike, NoneBelow, TellEnds}
 use Rattle.pf_standings.specs.declared.follow.Begun.{Begun}
 use Rattle.pf_standings.specs.declared.follow.Followed.{Followed}
@@ -31,7 +31,7 @@ pub item_at : {X : Type 0} (xs ys : List X) (i : ℕ) (d : X) → xs ≡ ys → 
 item_at xs ys i d e l = ap (λ zs. slice_get zs i) (sym e) ∙ slice_get-get_or xs i d l
 
 -- one more stands
-pub one_more : (m : Module) (c : Configuration) (fs : List Begun) (i : ℕ) (b : Begun) (xs : List Standing) (x : Standing)
+pub one_more : (m : Checked) (c : Configuration) (fs : List Begun) (i : ℕ) (b : Begun) (xs : List Standing) (x : Standing)
     → AreByPid fs → AreStanding m c fs i xs → slice_get fs i ≡ Some b → x.pid ≡ b.pid → x.begun ≡ b.function → (is_alive (of c.core b.pid).state ≡ true → LivesSo m (of c.core b.pid).state x.fate)
     → AreStanding m c fs (suc i) (xs ++ x ∷ [])
 one_more m c fs i b xs x pids h is pid same lives =
@@ -47,13 +47,13 @@ one_more m c fs i b xs x pids h is pid same lives =
 
 -- behind the last event
 pub at_end : (k : KnownRun) (d : Configuration) (f : Followed) (xs : List Standing) → IsFollowed k d f
-    → AreStanding f.system.code d f.begun.items (length f.begun.items) xs → AreAtEnd k d xs
+    → AreStanding f.system.checked d f.begun.items (length f.begun.items) xs → AreAtEnd k d xs
 at_end k d f xs g h =
     record {
       count = h.count ∙ g.begun.count;
       pids = λ p x s. let q = h.begun p x s in q.2 ∙ g.begun.pids p q.0 q.1;
       begun = λ p x s. let q = h.begun p x s in subst (Began k p) (sym q.3) (g.begun.each p q.0 q.1);
-      fates = λ p x s l. subst (λ m. LivesSo m (of d.core p).state x.fate) g.code (h.fates p x s l);
+      fates = λ p x s l. subst (λ m. LivesSo m (of d.core p).state x.fate) g.module_is (h.fates p x s l);
     }
 
 -- ---- all processes
@@ -71,7 +71,7 @@ alike_ended es p (fate.Failed n a) (fate.Waits b) e h = subst (HasEnded es p) (s
 alike_ended es p (fate.Failed n a) (fate.Goes b) e h = subst (HasEnded es p) (sym e) h
 
 -- nor to how one lives
-alike_lives : (m : Module) (s : State) (y z : Fate) → IsAlike y z → LivesSo m s y → LivesSo m s z
+alike_lives : (m : Checked) (s : State) (y z : Fate) → IsAlike y z → LivesSo m s y → LivesSo m s z
 alike_lives m s fate.Normal z e h = absurd h
 alike_lives m s (fate.Killed a) z e h = absurd h
 alike_lives m s (fate.Failed n a) z e h = absurd h
@@ -105,10 +105,10 @@ module _ (k : KnownRun) (d : Configuration) (h : ComesTo k d) where
     where
       by : (p : ℕ) (x : Standing) (y z : Fate) → slice_get xs p ≡ Some x → IsAlike y z
           → HasEnded (events_of k) p y ⊎ ((y ≡ x.fate) × NoneBelow (events_of k) (length (events_of k)) p)
-          → HasEnded (events_of k) p z ⊎ LivesSo (code_of k) (of d.core p).state z
+          → HasEnded (events_of k) p z ⊎ LivesSo (checked_of k) (of d.core p).state z
       by p x y z at e (inl ended) = inl (alike_ended (events_of k) p y z e ended)
       by p x y z at e (inr r) =
           let within = slice_get_within xs p x at in
           let count = a.count in
           let alive = lives_on (code_of k) h.picks k.limit k.root.0 k.edition h.transitions d h.steps h.goes p (none_ends p r.1) (omega arith) in
-          inr (alike_lives (code_of k) (of d.core p).state y z e (subst (LivesSo (code_of k) (of d.core p).state) (sym r.0) (a.fates p x at alive)))
+          inr (alike_lives (checked_of k) (of d.core p).state y z e (subst (LivesSo (checked_of k) (of d.core p).state) (sym r.0) (a.fates p x at alive)))

@@ -5,16 +5,16 @@ use Rattle.pf_terms.specs.Fixed.{normal}
 use Rattle.pf_syntax.specs.Module.{Checked}
 use Rattle.pf_syntax.specs.declared.node.FunctionId.{FunctionId}
 use Rattle.pf_model.specs.Channels.{Signal}
-use Rattle.pf_model.specs.Configuration.{Configuration, of}
+use Rattle.pf_model.specs.Configuration.{Configuration, is_alive, of}
 use Rattle.pf_model.specs.Context.{State}
 use Rattle.pf_model.specs.Deliveries.{woken}
 use Rattle.pf_model.specs.Labels.{Label, delivers, ending_with, ends, spawns, spawns_watched}
 use Rattle.pf_model.specs.Meaning.{Event}
-use Rattle.pf_model.specs.Module.{Module, module_of}
 use Rattle.pf_model.specs.Runs.{Actor, process, channel, can_go, is_waiting}
 use Rattle.pf_stepper.specs.Points.{IsCalling, IsPointOf}
 use Rattle.pf_stepper.specs.declared.point.Point.{Point}
-use Rattle.pf_standings.specs.Known.{Comes, code_of, events_of}
+use Rattle.pf_stepper.specs.declared.point.Point.TheVariants as point
+use Rattle.pf_standings.specs.Known.{Comes, checked_of, events_of}
 use Rattle.pf_standings.specs.declared.ends.End.{End}
 use Rattle.pf_standings.specs.declared.ends.End.TheVariants as end
 use Rattle.pf_standings.specs.declared.known.KnownRun.{KnownRun}
@@ -65,12 +65,12 @@ HasEnded es p (fate.Goes x) = ⊥
 
 -- ---- processes that live
 
--- a process in this state stands at this point, in the tables of a module that means the same
-abbrev pub StandsAt : Module → State → Point → Type 0
-StandsAt m s x = (c : Checked) × (module_of c ≡ m) × IsPointOf c.tables (woken s) x
+-- a process in this state stands at this point, in the tables of its module
+abbrev pub StandsAt : Checked → State → Point → Type 0
+StandsAt m s x = IsPointOf m.tables (woken s) x
 
 -- a process in this state lives, and how
-abbrev pub LivesSo : Module → State → Fate → Type 0
+abbrev pub LivesSo : Checked → State → Fate → Type 0
 LivesSo m s fate.Normal = ⊥
 LivesSo m s (fate.Failed n x) = ⊥
 LivesSo m s (fate.Killed a) = ⊥
@@ -84,20 +84,29 @@ begun_in (spawns linked p) = Some p
 begun_in (spawns_watched p r) = Some p
 begun_in l = None
 
--- behind the event that began a process it stands at the call of this function
-pub record BeganBy (k : KnownRun) (p : ℕ) (f : FunctionId) : Type 0 where
+-- a point that is no call of a function
+abbrev pub IsNoCall : Point → Type 0
+IsNoCall (point.Calls f) = ⊥
+IsNoCall x = Unit {0}
+
+-- a process in this state stands at the call of this function; or it has ended, or stands at a point that is no call
+abbrev pub IsCalled : Checked → State → Option FunctionId → Type 0
+IsCalled m s (Some f) = IsCalling (woken s) f
+IsCalled m s None = (is_alive s ≡ false) ⊎ ((x : Point) × StandsAt m s x × IsNoCall x)
+
+-- behind the event that began a process it stands at the call of this function, or at none
+pub record BeganBy (k : KnownRun) (p : ℕ) (f : Option FunctionId) : Type 0 where
   pub number : ℕ
   pub event : Event
   pub is : slice_get (events_of k) number ≡ Some event
   pub begins : begun_in event.label ≡ Some p
   pub behind : Configuration
   pub comes : Comes k (take (suc number) (events_of k)) behind
-  pub calls : IsCalling (woken (of behind.core p).state) f
+  pub calls : IsCalled (checked_of k) (of behind.core p).state f
 
--- the function in whose call a process began, where one is told: the root is called at the start
+-- the function in whose call a process began, if it began in one: the root is called at the start
 abbrev pub Began : KnownRun → (p : ℕ) → Option FunctionId → Type 0
-Began k p None = Unit {0}
-Began k p (Some f) = ((p ≡ zero) × (f ≡ k.root)) ⊎ BeganBy k p f
+Began k p f = ((p ≡ zero) × (f ≡ Some k.root)) ⊎ BeganBy k p f
 
 -- ---- all processes
 
@@ -107,4 +116,4 @@ pub record AreStandings (k : KnownRun) (d : Configuration) (xs : List Standing) 
   pub pids : (p : ℕ) (x : Standing) → slice_get xs p ≡ Some x → x.pid ≡ p
   pub begun : (p : ℕ) (x : Standing) → slice_get xs p ≡ Some x → Began k p x.begun
   pub fates : (p : ℕ) (x : Standing) → slice_get xs p ≡ Some x
-      → HasEnded (events_of k) p x.fate ⊎ LivesSo (code_of k) (of d.core p).state x.fate
+      → HasEnded (events_of k) p x.fate ⊎ LivesSo (checked_of k) (of d.core p).state x.fate

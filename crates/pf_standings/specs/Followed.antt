@@ -6,7 +6,7 @@ use Rattle.pf_model.specs.Runs.{Actor, enabled}
 use Rattle.pf_system.specs.Steps.{PassesTo}
 use Rattle.pf_system.specs.View.{SystemView}
 use Rattle.pf_standings.specs.Fates.{Began}
-use Rattle.pf_standings.specs.Known.{code_of}
+use Rattle.pf_standings.specs.Known.{checked_of}
 use Rattle.pf_standings.specs.declared.follow.Begun.{Begun}
 use Rattle.pf_standings.specs.declared.follow.Followed.{Followed}
 use Rattle.pf_standings.specs.declared.known.KnownRun.{KnownRun}
@@ -28,6 +28,6 @@ pub record AreBegun (k : KnownRun) (c : Configuration) (bs : List Begun) : Type 
 
 -- a run of a module was made to this configuration, and it is known in whose calls its processes began
 pub record IsFollowed (k : KnownRun) (d : Configuration) (f : Followed) : Type 0 where
-  pub code : f.system.code ≡ code_of k
+  pub module_is : f.system.checked ≡ checked_of k
   pub stands : f.system.standing ≡ Some d
   pub begun : AreBegun k d f.begun.items

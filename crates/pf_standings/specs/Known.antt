@@ -1,5 +1,6 @@
 -- The run that is known by its events, as the definition has it.
 use Rattle.std.specs.Prelude.{◌≡◌, ℕ, List, map}
+use Rattle.pf_syntax.specs.Module.{Checked}
 use Rattle.pf_model.specs.Configuration.{Configuration}
 use Rattle.pf_model.specs.Meaning as meaning
 use Rattle.pf_model.specs.Meaning.{Event}
@@ -8,8 +9,12 @@ use Rattle.pf_model.specs.Reports.{event_of}
 use Rattle.pf_model.specs.Runs.{Goes, Picks, Transition, start}
 use Rattle.pf_standings.specs.declared.known.KnownRun.{KnownRun}
 
+-- the module of a run: with its tables, and as the definition has it
+abbrev pub checked_of : KnownRun → Checked
+checked_of k = k.module.now.value
+
 abbrev pub code_of : KnownRun → Module
-code_of k = module_of k.module.now.value
+code_of k = module_of (checked_of k)
 
 abbrev pub events_of : KnownRun → List Event
 events_of k = map event_of k.events.now

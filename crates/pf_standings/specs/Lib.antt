@@ -1,4 +1,5 @@
 pub mod Known
+pub mod Noted
 pub mod Fates
 pub mod Followed
 pub mod Put

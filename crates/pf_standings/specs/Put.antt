@@ -1,11 +1,10 @@
 -- Standings as they are put together.
-use Rattle.std.specs.Prelude.{◌≡◌, ◌⊎◌, ◌<◌, ◌==◌, if◌then◌else◌, ℕ, true, List, Option, Some, length, slice_get}
+use Rattle.std.specs.Prelude.{◌≡◌, ◌⊎◌, ◌<◌, ◌==◌, if◌then◌else◌, ℕ, true, List, Option, Some, None, length, slice_get}
+use Rattle.pf_syntax.specs.Module.{Checked}
 use Rattle.pf_model.specs.Configuration.{Configuration, is_alive, of}
 use Rattle.pf_model.specs.Meaning.{Event}
-use Rattle.pf_model.specs.Module.{Module}
-use Rattle.pf_stepper.specs.declared.point.Point.{Point}
 use Rattle.pf_standings.specs.Fates.{Began, HasEnded, LivesSo, who_ends}
-use Rattle.pf_standings.specs.Known.{code_of}
+use Rattle.pf_standings.specs.Known.{checked_of}
 use Rattle.pf_standings.specs.declared.follow.Begun.{Begun}
 use Rattle.pf_standings.specs.declared.known.KnownRun.{KnownRun}
 use Rattle.pf_standings.specs.declared.standing.Fate.{Fate}
@@ -13,7 +12,7 @@ use Rattle.pf_standings.specs.declared.standing.Fate.TheVariants as fate
 use Rattle.pf_standings.specs.declared.standing.Standing.{Standing}
 
 -- each of the first n processes has the function in whose call it began, and one that lives its fate
-pub record AreStanding (m : Module) (c : Configuration) (bs : List Begun) (n : ℕ) (xs : List Standing) : Type 0 where
+pub record AreStanding (m : Checked) (c : Configuration) (bs : List Begun) (n : ℕ) (xs : List Standing) : Type 0 where
   pub count : length xs ≡ n
   pub begun : (p : ℕ) (x : Standing) → slice_get xs p ≡ Some x → (b : Begun) × (slice_get bs p ≡ Some b) × (x.pid ≡ b.pid) × (x.begun ≡ b.function)
   pub fates : (p : ℕ) (x : Standing) → slice_get xs p ≡ Some x → is_alive (of c.core p).state ≡ true → LivesSo m (of c.core p).state x.fate
@@ -23,7 +22,7 @@ pub record AreAtEnd (k : KnownRun) (d : Configuration) (xs : List Standing) : Ty
   pub count : length xs ≡ length d.core.processes
   pub pids : (p : ℕ) (x : Standing) → slice_get xs p ≡ Some x → x.pid ≡ p
   pub begun : (p : ℕ) (x : Standing) → slice_get xs p ≡ Some x → Began k p x.begun
-  pub fates : (p : ℕ) (x : Standing) → slice_get xs p ≡ Some x → is_alive (of d.core p).state ≡ true → LivesSo (code_of k) (of d.core p).state x.fate
+  pub fates : (p : ℕ) (x : Standing) → slice_get xs p ≡ Some x → is_alive (of d.core p).state ≡ true → LivesSo (checked_of k) (of d.core p).state x.fate
 
 -- the standing of a process was another, of the same pid and function, and the fates are so
 abbrev pub IsOf : (so : Fate → Fate → Type 0) → Option Standing → Standing → Type 0
@@ -54,6 +53,11 @@ IsAlike x y = y ≡ x
 abbrev pub ArePlaced : List Standing → List Standing → Type 0
 ArePlaced = Are (λ p x y. IsAlike x y)
 
--- a process is told to have failed in the event of this number
-abbrev pub HasFailed : List Standing → ℕ → ℕ → Type 0
-HasFailed xs p n = (x : Standing) × (slice_get xs p ≡ Some x) × ((at : Option Point) × (x.fate ≡ fate.Failed n at))
+-- the event in which a process is told to have failed
+abbrev pub failed_in : Fate → Option ℕ
+failed_in (fate.Failed n x) = Some n
+failed_in x = None
+
+abbrev pub failed_at : Option Standing → Option ℕ
+failed_at None = None
+failed_at (Some x) = failed_in x.fate

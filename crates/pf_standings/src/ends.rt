@@ -1,11 +1,12 @@
 //! Who ended in an event, and how.
 
-ghost use Rattle.std.specs.Prelude.{◌≡◌, ℕ, IfSome, option_map};
+ghost use Rattle.std.specs.Prelude.{◌≡◌, ℕ, IfSome, Some, option_map};
 ghost use Rattle.pf_terms.specs.Term.{value_of};
 ghost use Rattle.pf_model.specs.Meaning as model;
 ghost use Rattle.pf_model.specs.Reports.{actor_of, event_of, label_of};
 ghost use Rattle.pf_model.specs.Runs.{channel, process};
 ghost use Rattle.pf_standings.specs.Fates.{EndsItself, EndsSo, is_struck, who_ends};
+ghost use Rattle.pf_standings.specs.Noted.{Fails, raises_in};
 
 use pf_model::report::{Actor, Event, Label, Suffix};
 use pf_terms::{AtomId, Term};
@@ -84,19 +85,32 @@ pub(crate) fn ended_in(event: &Event) -> Option<Ended>
     }
 }
 
+/// The process that failed, if one did that ended so.
+fn failed(ended: Ended) -> Option<u32>
+    ensures { (e : model.Event) → EndsSo ended.pid ended.end e
+        → who_ends e.actor e.label ≡ Some ended.pid → Fails e result }
+{
+    match ended.end {
+        End::Failed => Some(ended.pid),
+        End::Normal => None,
+        End::Killed(_) => None,
+    }
+}
+
 /// Who failed in an event, if somebody did.
-pub(crate) fn failed_in(event: &Event) -> Option<u32> {
-    match ended_in(event)? {
-        Ended {
-            pid,
-            end: End::Failed,
-        } => Some(pid),
-        _ => None,
+pub(crate) fn failed_in(event: &Event) -> Option<u32>
+    ensures { Fails (event_of event.now) result }
+{
+    match ended_in(event) {
+        Some(ended) => failed(ended),
+        None => None,
     }
 }
 
 /// Whose action raised in an event, if one did.
-pub(crate) fn raised_in(event: &Event) -> Option<u32> {
+pub(crate) fn raised_in(event: &Event) -> Option<u32>
+    ensures { result ≡ raises_in (actor_of event.now.actor) (label_of event.now.label) }
+{
     match (event.actor, &event.label) {
         (Actor::Process(pid), Label::Raises(_)) => Some(pid),
         _ => None,

@@ -1,11 +1,15 @@
 //! Where processes failed.
 
+ghost use Rattle.std.specs.Prelude.{◌≡◌, ◌==◌, [], ℕ, Option, None, Some, if◌then◌else◌, IfOk, OnOk, length};
 ghost use Rattle.pf_model.specs.Limits.{IsEdition};
+ghost use Rattle.pf_model.specs.Reports.{event_of};
+ghost use Rattle.pf_standings.specs.Known.{events_of};
+ghost use Rattle.pf_standings.specs.Noted.{AreMade, IsMade, IsNoted, failed_from, last_point};
 
 use crate::ends::{failed_in, raised_in};
 use crate::follow::{chosen, go, point_of};
 use crate::known::KnownRun;
-use pf_model::report::{Actor, Label};
+use pf_model::report::{Actor, Event, Label};
 use pf_stepper::Point;
 use pf_system::System;
 use pf_terms::NoMemory;
@@ -53,14 +57,46 @@ pub(crate) struct Failure {
     pub point: Option<Point>,
 }
 
-/// The point at which the last action of a process stood that raised.
-fn last_raised(raised: &[Failure], pid: u32) -> Option<Point> {
-    for failure in raised.iter().rev() {
-        if failure.pid == pid {
-            return failure.point;
-        }
+/// The point of a note if it is of this process, or else the one before it.
+fn later(last: Option<Point>, failure: Failure, pid: u32) -> Option<Point>
+    ensures { result ≡ (if failure.pid == pid then failure.point else last) }
+{
+    if failure.pid == pid {
+        failure.point
+    } else {
+        last
     }
-    None
+}
+
+/// The point at which the last action of a process stood that raised.
+fn last_raised(raised: &[Failure], pid: u32) -> Option<Point>
+    ensures { result ≡ last_point pid raised.now }
+{
+    let mut last = None;
+    for failure in raised {
+        last = later(last, *failure, pid);
+    }
+    last
+}
+
+/// Where a process failed whose last step was here: where its last action raised, if this is nowhere.
+fn failed_at(raised: &[Failure], pid: u32, point: Point) -> Option<Point>
+    ensures { result ≡ failed_from raised.now pid (Some point) }
+{
+    match point {
+        Point::Nowhere => last_raised(raised, pid),
+        Point::Before(_) | Point::Within(..) | Point::Calls(_) => Some(point),
+    }
+}
+
+/// The same of one whose last step may not be known.
+fn failed_from(raised: &[Failure], pid: u32, point: Option<Point>) -> Option<Point>
+    ensures { result ≡ failed_from raised.now pid point }
+{
+    match point {
+        Some(point) => failed_at(raised, pid, point),
+        None => None,
+    }
 }
 
 /// Who failed in a run, whose actions raised, in which events, and where.
@@ -70,48 +106,102 @@ pub(crate) struct Notes {
     raised: Vec<Failure>,
 }
 
+/// Makes an event again: the point before its last step, if it is asked for.
+fn made(
+    alloc: Global,
+    run: &KnownRun,
+    system: &mut System,
+    told: &Event,
+    asked: bool,
+) -> Result<Option<Point>, NoMemory> {
+    if asked {
+        return last_point(alloc, system, told.choice, run.limit);
+    }
+    let mut shown = Label::Waits;
+    go(alloc, system, told.choice, run.limit, &mut shown)?;
+    Ok(None)
+}
+
 impl Notes {
-    /// Makes an event again and notes who failed in it, or whose action raised; whether there was one to make. One that an action's
-    /// raise ends stands where it asked for the action.
+    /// Notes whose action raised in an event whose last step stood here.
+    fn note_raise(&mut self, pid: u32, event: usize, point: Option<Point>) -> Result<(), NoMemory>
+        ensures { (failing : Option ℕ) → OnOk result (IsNoted event (Some pid) failing point self.old self.new) }
+    {
+        self.raised.push(Failure { pid, event, point })?;
+        Ok(())
+    }
+
+    /// Notes who failed in an event whose last step stood here. One that an action's raise ends stands where it asked for the action.
+    fn note_failure(&mut self, pid: u32, event: usize, point: Option<Point>) -> Result<(), NoMemory>
+        ensures { OnOk result (IsNoted event None (Some pid) point self.old self.new) }
+    {
+        let point = failed_from(self.raised.as_slice(), pid, point);
+        self.failed.push(Failure { pid, event, point })?;
+        Ok(())
+    }
+
+    /// Notes an event in which no action raised: who failed, if somebody did.
+    fn note_end(
+        &mut self,
+        event: usize,
+        failing: Option<u32>,
+        point: Option<Point>,
+    ) -> Result<(), NoMemory>
+        ensures { OnOk result (IsNoted event None failing point self.old self.new) }
+    {
+        match failing {
+            Some(pid) => self.note_failure(pid, event, point),
+            None => Ok(()),
+        }
+    }
+
+    /// Notes an event whose last step stood here: whose action raised in it, or else who failed.
     fn note(
+        &mut self,
+        event: usize,
+        raising: Option<u32>,
+        failing: Option<u32>,
+        point: Option<Point>,
+    ) -> Result<(), NoMemory>
+        ensures { OnOk result (IsNoted event raising failing point self.old self.new) }
+    {
+        match raising {
+            Some(pid) => self.note_raise(pid, event, point),
+            None => self.note_end(event, failing, point),
+        }
+    }
+
+    /// Makes an event again and notes who failed in it, or whose action raised.
+    fn make(
         &mut self,
         alloc: Global,
         run: &KnownRun,
         system: &mut System,
         event: usize,
-    ) -> Result<bool, NoMemory> {
-        let Some(told) = run.events.get(event) else {
-            return Ok(false);
-        };
-        let (raising, failing) = (raised_in(told), failed_in(told));
-        if raising.is_none() && failing.is_none() {
-            let mut shown = Label::Waits;
-            return go(alloc, system, told.choice, run.limit, &mut shown);
-        }
-        let point = last_point(alloc, system, told.choice, run.limit)?;
-        if let Some(pid) = raising {
-            self.raised.push(Failure { pid, event, point })?;
-        } else if let Some(pid) = failing {
-            let point = match point {
-                Some(Point::Nowhere) => last_raised(self.raised.as_slice(), pid),
-                point => point,
-            };
-            self.failed.push(Failure { pid, event, point })?;
-        }
-        Ok(true)
+        told: &Event,
+    ) -> Result<(), NoMemory>
+        ensures { OnOk result (IsMade event (event_of told.now) self.old self.new) }
+    {
+        let raising = raised_in(told);
+        let failing = failed_in(told);
+        let asked = raising.is_some() || failing.is_some();
+        let point = made(alloc, run, system, told, asked)?;
+        self.note(event, raising, failing, point)
     }
 
     /// Makes the events of a run again, and notes who failed in them.
-    fn note_all(
+    fn make_all(
         &mut self,
         alloc: Global,
         run: &KnownRun,
         system: &mut System,
-    ) -> Result<(), NoMemory> {
+    ) -> Result<(), NoMemory>
+        requires failed { self.old.failed.items ≡ [] }
+        requires raised { self.old.raised.items ≡ [] }
+        ensures { OnOk result (AreMade (events_of run.now) (length (events_of run.now)) self.new) }
+    {
         for event in 0..run.events.len() {
-            if !self.note(alloc, run, system, event)? {
-                break;
-            }
+            self.make(alloc, run, system, event, &run.events[event])?;
         }
         Ok(())
     }
@@ -120,12 +210,13 @@ impl Notes {
 /// Makes a run again: who failed in it, and where.
 pub(crate) fn failures(alloc: Global, run: &KnownRun) -> Result<Notes, NoMemory>
     requires { IsEdition run.now.edition }
+    ensures { IfOk result (λ notes. AreMade (events_of run.now) (length (events_of run.now)) notes) }
 {
     let mut system = System::new(alloc, run.module, run.root, run.edition)?;
     let mut notes = Notes {
         failed: Vec::new(alloc),
         raised: Vec::new(alloc),
     };
-    notes.note_all(alloc, run, &mut system)?;
+    notes.make_all(alloc, run, &mut system)?;
     Ok(notes)
 }

@@ -2,16 +2,14 @@
 
 ghost use Rattle.std.specs.Prelude.{◌≡◌, [], false, IfOk, IfSome, MatchOption, OnOk, Some, option_map, slice_get};
 ghost use Rattle.pf_model.specs.Configuration.{Configuration, is_alive, of};
-ghost use Rattle.pf_model.specs.Deliveries.{woken};
 ghost use Rattle.pf_model.specs.Limits.{IsEdition};
 ghost use Rattle.pf_model.specs.Reports.{actor_of, label_of};
 ghost use Rattle.pf_model.specs.Runs.{enabled, start};
-ghost use Rattle.pf_stepper.specs.Points.{IsCalling};
 ghost use Rattle.pf_system.specs.Steps.{MayGo};
 ghost use Rattle.pf_system.specs.View.{view_of_system};
-ghost use Rattle.pf_standings.specs.Fates.{StandsAt, begun_in};
+ghost use Rattle.pf_standings.specs.Fates.{IsCalled, IsNoCall, StandsAt, begun_in};
 ghost use Rattle.pf_standings.specs.Followed.{HasGone, IsFollowed};
-ghost use Rattle.pf_standings.specs.Known.{ComesTo, code_of};
+ghost use Rattle.pf_standings.specs.Known.{ComesTo, checked_of};
 
 use crate::known::KnownRun;
 use pf_model::report::{Actor, Label};
@@ -63,20 +61,30 @@ pub(crate) fn go(
 pub(crate) fn point_of(system: &System, pid: u32) -> Option<Point>
     ensures { (c : Configuration) → system.now.standing ≡ Some c
         → MatchOption result (is_alive (of c.core pid).state ≡ false)
-        (StandsAt system.now.code (of c.core pid).state) }
+        (StandsAt system.now.checked (of c.core pid).state) }
 {
     let (_module, point) = system.point(pid)?;
     Some(point)
 }
 
+/// The function that is called at a point.
+fn called_at(point: Point) -> Option<FunctionId>
+    ensures { MatchOption result (IsNoCall point) (λ f. point ≡ Point.Calls f) }
+{
+    match point {
+        Point::Calls(function) => Some(function),
+        Point::Before(_) | Point::Within(..) | Point::Nowhere => None,
+    }
+}
+
 /// The function in whose call a process stands that only begins.
 fn called(system: &System, pid: u32) -> Option<FunctionId>
     ensures { (c : Configuration) → system.now.standing ≡ Some c
-        → IfSome result (IsCalling (woken (of c.core pid).state)) }
+        → IsCalled system.now.checked (of c.core pid).state result }
 {
     match point_of(system, pid) {
-        Some(Point::Calls(function)) => Some(function),
-        _ => None,
+        Some(point) => called_at(point),
+        None => None,
     }
 }
 
@@ -108,7 +116,7 @@ impl Followed {
     /// Makes the events of a run.
     fn go_through(&mut self, alloc: Global, run: &KnownRun) -> Result<(), NoMemory>
         requires system { self.old.system
-            ≡ view_of_system (code_of run.now) 0 (Some (start run.now.root.0 run.now.edition)) }
+            ≡ view_of_system (checked_of run.now) 0 (Some (start run.now.root.0 run.now.edition)) }
         requires none { self.old.begun.items ≡ [] }
         ensures { OnOk result ((d : Configuration) → ComesTo run.now d → IsFollowed run.now d self.new) }
     {

@@ -1,6 +1,6 @@
 //! The processes of a run when it is over.
 
-ghost use Rattle.std.specs.Prelude.{◌≡◌, true, IfOk, IfSome, List, Some, length, map};
+ghost use Rattle.std.specs.Prelude.{◌≡◌, true, IfOk, List, Some, length, map, slice_get};
 ghost use Rattle.pf_model.specs.Configuration.{Configuration, is_alive, of};
 ghost use Rattle.pf_model.specs.Limits.{IsEdition};
 ghost use Rattle.pf_model.specs.Meaning as model;
@@ -8,7 +8,8 @@ ghost use Rattle.pf_standings.specs.Fates.{AreStandings, EndsAt, HasEnded, Lives
 ghost use Rattle.pf_standings.specs.Followed.{AreByPid};
 ghost use Rattle.pf_standings.specs.Known.{ComesTo, events_of};
 ghost use Rattle.pf_standings.specs.Lines.{AreNames, name_text};
-ghost use Rattle.pf_standings.specs.Put.{AreAtEnd, ArePlaced, AreStanding, HasFailed, IsPut, TellEnds};
+ghost use Rattle.pf_standings.specs.Put.{AreAtEnd, ArePlaced, AreStanding, IsPut, TellEnds, failed_at};
+ghost use Rattle.pf_standings.specs.Noted.{PutsPoint, TakePoints, TellPoints};
 ghost use Rattle.pf_standings.specs.declared.standing.Standing.{Standing};
 
 use crate::ends::{End, Ended, ended_in};
@@ -27,7 +28,7 @@ use std::alloc::Global;
 fn fate_in(system: &System, pid: u32) -> Fate
     ensures { (c : Configuration) → system.now.standing ≡ Some c
         → is_alive (of c.core pid).state ≡ true
-        → LivesSo system.now.code (of c.core pid).state result }
+        → LivesSo system.now.checked (of c.core pid).state result }
 {
     let point = point_of(system, pid).unwrap_or(Point::Nowhere);
     let enabled = system.enabled();
@@ -42,7 +43,7 @@ fn fate_in(system: &System, pid: u32) -> Fate
 fn standing_in(alloc: Global, followed: &Followed) -> Result<Vec<Standing>, NoMemory>
     ensures { IfOk result (λ v. (c : Configuration) → followed.now.system.standing ≡ Some c
         → AreByPid followed.now.begun.items
-        → AreStanding followed.now.system.code c followed.now.begun.items
+        → AreStanding followed.now.system.checked c followed.now.begun.items
         (length followed.now.begun.items) v.items) }
 {
     let mut standings = Vec::new(alloc);
@@ -92,7 +93,7 @@ fn put_ends(standings: &mut Vec<Standing>, run: &KnownRun)
 
 /// The event in which a process is told to have failed.
 fn failed_at(standings: &[Standing], pid: u32) -> Option<usize>
-    ensures { IfSome result (HasFailed standings.now pid) }
+    ensures { result ≡ failed_at (slice_get standings.now pid) }
 {
     match standings.get(pid as usize)?.fate {
         Fate::Failed { event, point: _ } => Some(event),
@@ -100,15 +101,27 @@ fn failed_at(standings: &[Standing], pid: u32) -> Option<usize>
     }
 }
 
+/// Puts where a process stood that failed, if it is told to have failed in that event.
+fn put_point(standings: &mut Vec<Standing>, failure: Failure)
+    ensures { PutsPoint failure standings.old.items standings.new.items }
+{
+    let Failure { pid, event, point } = failure;
+    let Some(failed) = failed_at(standings, pid) else {
+        return;
+    };
+    if failed != event {
+        return;
+    }
+    put_fate(standings, pid, Fate::Failed { event, point });
+}
+
 /// Puts where those stood that failed.
 fn put_points(standings: &mut Vec<Standing>, failures: &[Failure])
-    ensures { ArePlaced standings.old.items standings.new.items }
+    ensures placed { ArePlaced standings.old.items standings.new.items }
+    ensures points { TakePoints failures.now standings.new.items }
 {
     for failure in failures {
-        let Failure { pid, event, point } = *failure;
-        if failed_at(standings, pid) == Some(event) {
-            put_fate(standings, pid, Fate::Failed { event, point });
-        }
+        put_point(standings, *failure);
     }
 }
 
@@ -124,8 +137,9 @@ fn standing_so_far(alloc: Global, run: &KnownRun) -> Result<Vec<Standing>, NoMem
 /// The processes of a run when it is over, by pid: the run is made again by its choices, twice.
 pub fn standings(alloc: Global, run: &KnownRun) -> Result<Vec<Standing>, NoMemory>
     requires { IsEdition run.now.edition }
-    ensures { IfOk result (λ v. (d : Configuration) → ComesTo run.now d
+    ensures stand { IfOk result (λ v. (d : Configuration) → ComesTo run.now d
         → AreStandings run.now d v.items) }
+    ensures points { IfOk result (λ v. TellPoints (events_of run.now) v.items) }
 {
     let mut standings = standing_so_far(alloc, run)?;
     put_ends(&mut standings, run);

@@ -11,7 +11,8 @@ returns c =
       places = c.in_ok-places.places;
       are_places = subst (λ m. ArePlaces m c.args.source.now c.in_ok-places.places) c.deref.ensures c.in_ok-places.ensures;
       standings = c.in_ok-standings.standings.items;
-      stand = c.in_ok-standings.ensures;
+      stand = c.in_ok-standings.ensures.stand;
+      points = c.in_ok-standings.ensures.points;
       lines = subst (λ xs. AreLines c.args.run.now c.in_ok-places.places xs text.items) c.as_slice.ensures.value lines;
     })
     c.lines_of.ensures

@@ -1,5 +1,4 @@
-use Rattle.std.proofs.Common.{true, sym, ◌∙◌}
-use Rattle.pf_standings.specs.Fates.{is_struck}
+use Rattle.std.proofs.Common.{sym, ◌∙◌}
 use Rattle.pf_standings.proofs.Struck.{struck_by}
 use Rattle.pf_standings.proofs.ends.ended_by.Goals as goal
 

@@ -10,8 +10,8 @@ returns-then-contains c d stands alive =
     let s = (of d.core q).state in
     let asks = c.contains.ensures.value ∙ ap (is_in q) (c.pids.ensures ∙ (c.enabled-enabled.ensures.both d stands).processes) ∙ is_in_ready q d.core.processes in (
       sym asks ∙ c.if-contains.true,
-      subst (StandsAt c.args.system.now.code s) (sym c.unwrap_or-point.ensures)
-          (stands_there (StandsAt c.args.system.now.code s) s c.point_of.result alive (c.point_of.ensures d stands)),
+      subst (StandsAt c.args.system.now.checked s) (sym c.unwrap_or-point.ensures)
+          (stands_there (StandsAt c.args.system.now.checked s) s c.point_of.result alive (c.point_of.ensures d stands)),
     )
 
 pub returns-else-contains : goal.returns-else-contains
@@ -20,6 +20,6 @@ returns-else-contains c d stands alive =
     let s = (of d.core q).state in
     let asks = c.contains.ensures.value ∙ ap (is_in q) (c.pids.ensures ∙ (c.enabled-enabled.ensures.both d stands).processes) ∙ is_in_ready q d.core.processes in (
       or_waits s alive (sym asks ∙ c.if-contains.false),
-      subst (StandsAt c.args.system.now.code s) (sym c.unwrap_or-point.ensures)
-          (stands_there (StandsAt c.args.system.now.code s) s c.point_of.result alive (c.point_of.ensures d stands)),
+      subst (StandsAt c.args.system.now.checked s) (sym c.unwrap_or-point.ensures)
+          (stands_there (StandsAt c.args.system.now.checked s) s c.point_of.result alive (c.point_of.ensures d stands)),
     )

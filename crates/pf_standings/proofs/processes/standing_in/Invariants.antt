@@ -8,4 +8,4 @@ use Rattle.pf_standings.proofs.processes.standing_in.Given as goal
 abbrev pub invariant-loop-begun : goal.invariant-loop-begun
 invariant-loop-begun l =
     (c : Configuration) → l.followed.system.standing ≡ Some c → AreByPid l.followed.begun.items
-    → AreStanding l.followed.system.code c l.followed.begun.items l.begun-index l.standings.items
+    → AreStanding l.followed.system.checked c l.followed.begun.items l.begun-index l.standings.items

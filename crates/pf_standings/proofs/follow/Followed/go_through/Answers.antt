@@ -1,6 +1,5 @@
 use Rattle.std.proofs.Common.{◌≡◌, ◌+◌, ◌++◌, ◌∷◌, [], suc, sym, ap, ◌∙◌, subst, arith}
 use Rattle.pf_model.specs.Reports.{event_of, label_of}
-use Rattle.pf_standings.specs.Fates.{begun_in}
 use Rattle.pf_standings.specs.Followed.{HasGone}
 use Rattle.pf_standings.proofs.Following.{At, at_start, event_at, followed, none_began, not_stopped, one_began, root_of, stands}
 use Rattle.pf_standings.proofs.follow.Followed.go_through.Goals as goal
