@@ -18,8 +18,9 @@ use Rattle.pf_chart.specs.declared.manner.Manner.{Manner}
 use Rattle.pf_chart.specs.declared.rows.Row.{Row}
 use Rattle.pf_chart.specs.Chart.{IsChart, chart, choice_labels, choice_text, copies, event_labels, first_row, has_row, page_of, process_labels, shown, twice}
 use Rattle.pf_chart.specs.Origins.{process_of}
-use Rattle.pf_chart.specs.Words.{Draws}
-use Rattle.pf_svg.proofs.Drawn.{elsewhere, renamed}
+use Rattle.pf_chart.specs.Words.{Draws, IsDocument}
+use Rattle.pf_svg.specs.Document.{end_text, start_text}
+use Rattle.pf_svg.proofs.Drawn.{elsewhere, renamed, whole}
 
 abbrev pub told : Row → meaning.Event
 told row = event_of row.event.now
@@ -86,12 +87,14 @@ paged page rows =
 -- ---- the whole
 
 -- the document is a chart of the report
-pub chart_of : (name : ℕ → List ℕ) (root : List ℕ) (names : List (List ℕ)) (m : Manner) (r : Report) (cs : List Column) (rows : List Row) (n : ℕ) (o p : List ℕ) {x y : List ℕ}
+pub chart_of : (name : ℕ → List ℕ) (root : List ℕ) (names : List (List ℕ)) (m : Manner) (r : Report) (cs : List Column) (rows : List Row) (n : ℕ) (o p : List ℕ) (width height : ℕ) {x y z w : List ℕ}
     → map told rows ≡ shown m (report_of r) → n ≡ length rows
     → o ≡ outcome_text name (outcome_of r.outcome) → p ≡ outcome_text name (outcome_of r.outcome)
-    → Draws ((root ∷ root ∷ o ∷ []) ++ ((of_columns n root names cs ++ (of_choices rows ++ of_rows name rows)) ++ twice p)) x y
-    → IsChart name root names m (report_of r) x y
-chart_of name root names m r cs rows n o p are count e e' d =
+    → y ≡ x ++ start_text width height
+    → Draws ((root ∷ root ∷ o ∷ []) ++ ((of_columns n root names cs ++ (of_choices rows ++ of_rows name rows)) ++ twice p)) y z
+    → w ≡ z ++ end_text
+    → IsChart name root names m (report_of r) x w
+chart_of name root names m r cs rows n o p width height are count e e' begins d ends =
     let outcome = outcome_text name (outcome_of r.outcome) in
     let events = shown m (report_of r) in
     let processes = map process_of cs in
@@ -111,9 +114,9 @@ chart_of name root names m r cs rows n o p are count e e' d =
     ∙ ap (λ (t : List (List ℕ)). flat_map (process_labels (length events) root names) processes ++ (t ++ (of_rows name rows ++ twice p))) choices
     ∙ ap (λ (t : List (List ℕ)). flat_map (process_labels (length events) root names) processes ++ (flat_map choice_labels events ++ (t ++ twice p))) labels
     ∙ ap (λ (t : List ℕ). flat_map (process_labels (length events) root names) processes ++ (flat_map choice_labels events ++ (flat_map (event_labels name) events ++ twice t))) e' in
-    chart processes
+    chart processes (whole width height begins
     (renamed (ap (λ (t : List ℕ). (root ∷ root ∷ t ∷ []) ++ ((of_columns n root names cs ++ (of_choices rows ++ of_rows name rows)) ++ twice p)) e
-    ∙ ap (λ (t : List (List ℕ)). (root ∷ root ∷ outcome ∷ []) ++ t) rest) d)
+    ∙ ap (λ (t : List (List ℕ)). (root ∷ root ∷ outcome ∷ []) ++ t) rest) d) ends)
 
 -- a chart that was made by itself, after what stands elsewhere
 pub moved : {name : ℕ → List ℕ} {root : List ℕ} {names : List (List ℕ)} {m : Manner} {r : _} {x y : List ℕ} (before after : List ℕ) → x ≡ [] → after ≡ before ++ y

@@ -7,7 +7,7 @@ use Rattle.pf_model.specs.Labels.{Label, delivers, took_effect, waits}
 use Rattle.pf_model.specs.Meaning.{Event, Report}
 use Rattle.pf_model.specs.Text.{label_text, outcome_text}
 use Rattle.pf_chart.specs.declared.manner.Manner.{Manner}
-use Rattle.pf_chart.specs.Words.{Draws}
+use Rattle.pf_chart.specs.Words.{IsDocument}
 
 -- ---- which events have a row
 
@@ -89,5 +89,5 @@ chart_labels name root names outcome rows processes =
 
 -- after what stood there comes a chart of this report, drawn in this manner, of these processes, whose functions have these names
 pub data IsChart (name : ℕ → List ℕ) (root : List ℕ) (names : List (List ℕ)) (m : Manner) (r : Report) (before after : List ℕ) : Type 0 where
-  chart : (processes : List Process) → Draws (chart_labels name root names (outcome_text name r.outcome) (shown m r) processes) before after
+  chart : (processes : List Process) → IsDocument (chart_labels name root names (outcome_text name r.outcome) (shown m r) processes) before after
       → IsChart name root names m r before after

@@ -1,3 +1,4 @@
 pub mod Chart
 pub mod Origins
+pub mod Traffic
 pub mod Words

@@ -1,7 +1,7 @@
 -- The words of a chart: with those of each document in SVG, all that a chart is made of, but for numbers and labels.
 use Rattle.std.specs.Prelude.{ℕ, Bool, List, [], ◌∷◌, ◌++◌, codes}
-use Rattle.pf_svg.specs.Document.{Draws as DrawsIn}
-use Rattle.pf_svg.specs.Words.{is_word as is_word_of}
+use Rattle.pf_svg.specs.Document.{Closes as ClosesIn, Draws as DrawsIn, IsDocument as IsDocumentIn, Opens as OpensIn}
+use Rattle.pf_svg.specs.Words.{is_phrase as is_phrase_of}
 use Rattle.pf_chart.specs.declared.marks.TheConstants.{LINKED, UNLINKED}
 use Rattle.pf_chart.specs.declared.style.TheConstants.{DEFINITIONS, LEGEND, LEGEND_OF_CHOICES, LEGEND_OF_RECEIPTS, LEGEND_OF_SPAWNS, STYLE}
 
@@ -9,8 +9,7 @@ use Rattle.pf_chart.specs.declared.style.TheConstants.{DEFINITIONS, LEGEND, LEGE
 abbrev pub markup : List (List ℕ)
 markup =
     codes "<title>Run of " ∷ codes "</title>\n<desc>A message sequence chart of a run of " ∷ codes ".</desc>\n"
-    ∷ codes "<rect class=\"sheet\" width=\"100%\" height=\"100%\"/>\n" ∷ codes " class=\"bands\""
-    ∷ codes "<text x=\"10\" y=\"-4\">" ∷ codes "<g>" ∷ codes " transform=\"translate(" ∷ codes ")\"" ∷ []
+    ∷ codes "<rect class=\"sheet\" width=\"100%\" height=\"100%\"/>\n" ∷ codes "<text x=\"10\" y=\"-4\">" ∷ []
 
 -- names of attributes that are numbers
 abbrev pub attributes : List (List ℕ)
@@ -19,7 +18,7 @@ attributes = codes "data-pid" ∷ codes "data-event" ∷ codes "data-delivery" �
 -- classes: of lines and texts, of processes, of events and of arrows
 abbrev pub classes : List (List ℕ)
 classes =
-    codes "before" ∷ codes "life" ∷ codes "life waiting" ∷ codes "pid" ∷ codes "of" ∷ codes "foot"
+    codes "bands" ∷ codes "before" ∷ codes "life" ∷ codes "life waiting" ∷ codes "pid" ∷ codes "of" ∷ codes "foot"
     ∷ codes "outcome" ∷ codes "legend" ∷ codes "number" ∷ codes "process" ∷ codes "process deadlocked"
     ∷ codes "event " ∷ codes "send" ∷ codes "spawn" ∷ codes "watched" ∷ codes "link" ∷ codes "unlink"
     ∷ codes "monitor" ∷ codes "demonitor" ∷ codes "exit" ∷ codes "flag" ∷ codes "name" ∷ codes "reference"
@@ -51,9 +50,21 @@ phrases =
 abbrev pub words : List (List ℕ)
 words = markup ++ attributes ++ classes ++ outlines ++ phrases ++ STYLE.now ∷ DEFINITIONS.now ∷ []
 
-abbrev pub is_word : List ℕ → Bool
-is_word w = is_word_of words w
+-- a word that stands as text, or in an attribute's quotes
+abbrev pub is_phrase : List ℕ → Bool
+is_phrase w = is_phrase_of words w
 
 -- after what stood there comes what has these labels in their order, each escaped, and for the rest words of a chart and numbers
 abbrev pub Draws : (labels : List (List ℕ)) (before after : List ℕ) → Type 0
 Draws labels before after = DrawsIn words labels before after
+
+-- the same, and behind it a group is open, or closed
+abbrev pub Opens : (labels : List (List ℕ)) (before after : List ℕ) → Type 0
+Opens labels before after = OpensIn words (codes "g") labels before after
+
+abbrev pub Closes : (labels : List (List ℕ)) (before after : List ℕ) → Type 0
+Closes labels before after = ClosesIn words (codes "g") labels before after
+
+-- after what stood there comes a whole document with these labels
+abbrev pub IsDocument : (labels : List (List ℕ)) (before after : List ℕ) → Type 0
+IsDocument labels before after = IsDocumentIn words labels before after

@@ -1,7 +1,9 @@
 //! Signals as arrows.
 
-ghost use Rattle.std.specs.Prelude.{IsTrue};
-ghost use Rattle.pf_chart.specs.Words.{is_word};
+ghost use Rattle.std.specs.Prelude.{◌≡◌, IsTrue};
+ghost use Rattle.pf_model.specs.Signals.{signal_of};
+ghost use Rattle.pf_chart.specs.Traffic.{kind_of, number_of};
+ghost use Rattle.pf_chart.specs.Words.{is_phrase};
 
 use pf_model::Signal;
 
@@ -18,7 +20,9 @@ pub(crate) enum SignalKind {
 }
 
 impl SignalKind {
-    pub(crate) fn of(signal: &Signal) -> SignalKind {
+    pub(crate) fn of(signal: &Signal) -> SignalKind
+        ensures { result ≡ kind_of (signal_of signal.now) }
+    {
         match signal {
             Signal::Message(_) => SignalKind::Message,
             Signal::Link => SignalKind::Link,
@@ -30,8 +34,23 @@ impl SignalKind {
         }
     }
 
+    /// Which kind it is, as a number.
+    pub(crate) fn number(self) -> u8
+        ensures { result ≡ number_of self }
+    {
+        match self {
+            SignalKind::Message => 0,
+            SignalKind::Link => 1,
+            SignalKind::Unlink => 2,
+            SignalKind::Monitor => 3,
+            SignalKind::Demonitor => 4,
+            SignalKind::Down => 5,
+            SignalKind::Exit => 6,
+        }
+    }
+
     pub(crate) fn word(self) -> &'static str
-        ensures { IsTrue (is_word result.now) }
+        ensures { IsTrue (is_phrase result.now) }
     {
         match self {
             SignalKind::Message => "message",

@@ -6,7 +6,7 @@ ghost use Rattle.pf_model.specs.Reports.{event_of, outcome_of, report_of};
 ghost use Rattle.pf_model.specs.Text.{outcome_text};
 ghost use Rattle.pf_chart.specs.Chart.{IsChart, choice_labels, event_labels, process_labels, twice};
 ghost use Rattle.pf_chart.specs.Origins.{process_of, texts};
-ghost use Rattle.pf_chart.specs.Words.{Draws, is_word};
+ghost use Rattle.pf_chart.specs.Words.{Draws, is_phrase};
 
 use crate::events::{put_events, put_numbers};
 use crate::heads::{put_columns, put_spawns};
@@ -20,7 +20,7 @@ use crate::style::{
     DEFINITIONS, LEGEND, LEGEND_OF_CHOICES, LEGEND_OF_RECEIPTS, LEGEND_OF_SPAWNS, STYLE,
 };
 use crate::words::Svg;
-use pf_svg::Part::{Attribute, Label, Markup, Number, Short};
+use pf_svg::Part::{Attribute, Class, Label, Markup, Number, Phrase, Short};
 use pf_terms::{AtomTable, NoMemory};
 use pf_text::put;
 use pf_trace::{Report, put_outcome};
@@ -55,11 +55,11 @@ fn put_words<'a>(
         Label(root),
         Markup("</title>\n<desc>A message sequence chart of a run of "),
         Label(root),
-        Markup(", from top to bottom. Processes: "),
+        Phrase(", from top to bottom. Processes: "),
         Number(processes as u64),
-        Markup(". Events: "),
+        Phrase(". Events: "),
         Number(events as u64),
-        Markup(". Outcome: "),
+        Phrase(". Outcome: "),
         Label(outcome),
         Markup(".</desc>\n"),
     ])
@@ -71,7 +71,7 @@ fn put_ground(svg: &mut Svg, sheet: Sheet) -> Result<(), NoMemory>
 {
     svg.put(&[Markup("<rect class=\"sheet\" width=\"100%\" height=\"100%\"/>\n")])?;
     svg.rect(&[
-        Markup(" class=\"bands\""),
+        Class("bands"),
         Attribute("y", TOP),
         Attribute("width", sheet.width()),
         Attribute("height", sheet.rows_end().saturating_sub(TOP)),
@@ -81,10 +81,10 @@ fn put_ground(svg: &mut Svg, sheet: Sheet) -> Result<(), NoMemory>
 
 /// Puts a line of the legend.
 fn put_legend(svg: &mut Svg, line: &'static str, y: u64) -> Result<(), NoMemory>
-    requires { IsTrue (is_word line.now) }
+    requires { IsTrue (is_phrase line.now) }
     ensures { OnOk result (Draws [] svg.old svg.new) }
 {
-    svg.text("legend", (GUTTER, y), &[Markup(line)])?;
+    svg.text("legend", (GUTTER, y), &[Phrase(line)])?;
     svg.end_line()
 }
 
@@ -93,7 +93,7 @@ fn put_result(svg: &mut Svg, outcome: &[u8], y: u64, sheet: Sheet) -> Result<(),
     ensures { OnOk result (Draws (twice outcome.now) svg.old svg.new) }
 {
     let most = (sheet.width().saturating_sub(2 * GUTTER) / LETTER) as usize;
-    svg.put(&[Markup("<g>")])?;
+    svg.plain_group()?;
     svg.title(&[Label(outcome)])?;
     svg.text("outcome", (GUTTER, y), &[Short(outcome, most)])?;
     svg.close_group()
@@ -107,15 +107,15 @@ fn put_page(svg: &mut Svg, y: u64, sheet: Sheet) -> Result<(), NoMemory>
         return Ok(());
     }
     let content = [
-        Markup("Page "),
+        Phrase("Page "),
         Number(((sheet.above / PAGE) as u64).saturating_add(1)),
-        Markup(" of "),
+        Phrase(" of "),
         Number(((sheet.all_rows().saturating_sub(1) / PAGE) as u64).saturating_add(1)),
-        Markup(": rows "),
+        Phrase(": rows "),
         Number((sheet.above as u64).saturating_add(1)),
-        Markup(" to "),
+        Phrase(" to "),
         Number(sheet.above.saturating_add(sheet.count) as u64),
-        Markup(" of "),
+        Phrase(" of "),
         Number(sheet.all_rows() as u64),
     ];
     svg.text("page", (GUTTER, y), &content)?;
@@ -132,15 +132,14 @@ fn put_legends(svg: &mut Svg, y: u64, compact: bool) -> Result<(), NoMemory>
     put_legend(svg, LEGEND_OF_SPAWNS, y.saturating_add(30))
 }
 
-/// Puts the outcome, the page and the legend below all, and the end of the document.
+/// Puts the outcome, the page and the legend below all.
 fn put_bottom(svg: &mut Svg, outcome: &[u8], compact: bool, sheet: Sheet) -> Result<(), NoMemory>
     ensures { OnOk result (Draws (twice outcome.now) svg.old svg.new) }
 {
     let y = sheet.bottom().saturating_add(84);
     put_result(svg, outcome, y, sheet)?;
     put_page(svg, y.saturating_add(20), sheet)?;
-    put_legends(svg, y.saturating_add(40), compact)?;
-    svg.close()
+    put_legends(svg, y.saturating_add(40), compact)
 }
 
 /// Puts what was laid out, from the back to the front.
@@ -191,7 +190,8 @@ fn put_document(
     put_words(svg, names.root, &outcome, processes, report.events.len())?;
     svg.put(&[Markup(STYLE), Markup(DEFINITIONS)])?;
     put_layout(alloc, svg, atoms, names, rows, &layout, sheet)?;
-    put_bottom(svg, &outcome, manner.compact, sheet)
+    put_bottom(svg, &outcome, manner.compact, sheet)?;
+    svg.close()
 }
 
 /// Puts a report of a run from the function `root` as a message sequence chart: a whole SVG document, after what stood there. The names

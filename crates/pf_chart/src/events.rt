@@ -5,7 +5,7 @@ ghost use Rattle.pf_terms.specs.Atoms.{name_of};
 ghost use Rattle.pf_model.specs.Reports.{event_of, label_of};
 ghost use Rattle.pf_model.specs.Text.{label_text};
 ghost use Rattle.pf_chart.specs.Chart.{choice_labels, choice_text, event_labels, twice};
-ghost use Rattle.pf_chart.specs.Words.{Draws, is_word};
+ghost use Rattle.pf_chart.specs.Words.{Closes, Draws, Opens, is_phrase};
 
 use crate::columns::{Column, column_of};
 use crate::marks::mark_of;
@@ -13,7 +13,7 @@ use crate::rows::Row;
 use crate::sheet::{GUTTER, Sheet, event_number};
 use crate::words::Svg;
 use pf_model::report::{Actor, Event};
-use pf_svg::Part::{Attribute, Label, Markup, Number, Point, Short};
+use pf_svg::Part::{Attribute, Label, Markup, Moved, Number, Phrase, Short};
 use pf_terms::{AtomTable, NoMemory};
 use pf_text::{put, put_number};
 use pf_trace::put_label;
@@ -74,35 +74,33 @@ fn column_of_actor(columns: &[Column], actor: Actor) -> usize {
 
 /// What the class of an event tells of its choice.
 fn class_of_choice(event: &Event) -> &'static str
-    ensures { IsTrue (is_word result.now) }
+    ensures { IsTrue (is_phrase result.now) }
 {
     if event.choice == 0 { "" } else { " chosen" }
 }
 
 /// Puts the beginning of an event of a kind, which stands at a point.
 fn put_opening(svg: &mut Svg, row: &Row, at: (u64, u64), kind: &'static str) -> Result<(), NoMemory>
-    requires { IsTrue (is_word kind.now) }
-    ensures { OnOk result (Draws [] svg.old svg.new) }
+    requires { IsTrue (is_phrase kind.now) }
+    ensures { OnOk result (Opens [] svg.old svg.new) }
 {
     svg.group(
         &[
-            Markup("event "),
-            Markup(kind),
-            Markup(class_of_choice(row.event)),
+            Phrase("event "),
+            Phrase(kind),
+            Phrase(class_of_choice(row.event)),
         ],
         &[
             Attribute("data-event", event_number(row.index)),
-            Markup(" transform=\"translate("),
-            Point(at.0, at.1),
-            Markup(")\""),
+            Moved(at.0, at.1),
         ],
     )
 }
 
-/// Puts a mark with the label of its event beside it, shortened, and whole in its tooltip.
+/// Puts a mark with the label of its event beside it, shortened, and whole in its tooltip, and the end of its event.
 fn put_mark(svg: &mut Svg, outline: &'static str, label: &[u8]) -> Result<(), NoMemory>
-    requires { IsTrue (is_word outline.now) }
-    ensures { OnOk result (Draws (twice label.now) svg.old svg.new) }
+    requires { IsTrue (is_phrase outline.now) }
+    ensures { OnOk result (Closes (twice label.now) svg.old svg.new) }
 {
     svg.title(&[Label(label)])?;
     svg.path(outline)?;

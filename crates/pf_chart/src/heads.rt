@@ -1,15 +1,15 @@
 //! Processes on the sheet: heads, lifelines and feet.
 
-ghost use Rattle.std.specs.Prelude.{◌++◌, [], IsTrue, OnOk, flat_map};
+ghost use Rattle.std.specs.Prelude.{◌++◌, ◌∷◌, [], IsTrue, OnOk, flat_map};
 ghost use Rattle.pf_chart.specs.Chart.{copies, head_rows, process_labels};
 ghost use Rattle.pf_chart.specs.Origins.{labels_of_origin, process_of, texts};
-ghost use Rattle.pf_chart.specs.Words.{Draws, is_word};
+ghost use Rattle.pf_chart.specs.Words.{Draws, is_phrase};
 
 use crate::columns::{Column, column_of};
 use crate::origin::{Names, Origin};
 use crate::sheet::{HEAD_HEIGHT, Sheet, Side, event_number};
 use crate::words::Svg;
-use pf_svg::Part::{Attribute, Label, Markup, Number, Pid, Short};
+use pf_svg::Part::{Attribute, Label, Number, Phrase, Pid, Short};
 use pf_terms::NoMemory;
 
 /// How much of a name goes into the narrowest head.
@@ -30,17 +30,23 @@ fn put_box(svg: &mut Svg, pid: u32, x: u64, y: u64, pitch: u64) -> Result<(), No
     svg.text("pid", (x, y.saturating_add(17)), &[Pid(pid)])
 }
 
+/// Puts as much of a name as a head of this pitch has room for.
+fn put_name(svg: &mut Svg, name: &[u8], at: (u64, u64), pitch: u64) -> Result<(), NoMemory>
+    ensures { OnOk result (Draws (name.now ∷ []) svg.old svg.new) }
+{
+    let most = LEAST_OF_NAME.saturating_add((pitch.saturating_sub(64) / 6) as usize);
+    svg.text("of", at, &[Short(name, most)])
+}
+
 /// Puts how a process began, below the pid of its head: its function, or who spawned it where that isn't known.
 fn put_origin(svg: &mut Svg, origin: Origin, x: u64, y: u64, pitch: u64) -> Result<(), NoMemory>
     ensures { OnOk result (Draws (labels_of_origin origin.entry) svg.old svg.new) }
 {
     let at = (x, y.saturating_add(33));
     match origin {
-        Origin::Root(name) | Origin::Named(name, _, _) => {
-            let most = LEAST_OF_NAME.saturating_add((pitch.saturating_sub(64) / 6) as usize);
-            svg.text("of", at, &[Short(name, most)])
-        }
-        Origin::Unnamed(parent, _) => svg.text("of", at, &[Markup("by "), Pid(parent)]),
+        Origin::Root(name) => put_name(svg, name, at, pitch),
+        Origin::Named(name, _, _) => put_name(svg, name, at, pitch),
+        Origin::Unnamed(parent, _) => svg.text("of", at, &[Phrase("by "), Pid(parent)]),
     }
 }
 
@@ -115,7 +121,7 @@ fn put_foot(svg: &mut Svg, column: &Column, sheet: Sheet, x: u64) -> Result<(), 
         return Ok(());
     }
     let y = sheet.bottom().saturating_add(HEAD_HEIGHT + 14);
-    svg.text("foot", (x, y), &[Markup("waits")])
+    svg.text("foot", (x, y), &[Phrase("waits")])
 }
 
 /// Puts the tooltip of a process: its pid and how it began.
@@ -123,21 +129,21 @@ fn put_tooltip(svg: &mut Svg, pid: u32, origin: Origin) -> Result<(), NoMemory>
     ensures { OnOk result (Draws (labels_of_origin origin.entry) svg.old svg.new) }
 {
     match origin {
-        Origin::Root(name) => svg.title(&[Pid(pid), Markup(" from "), Label(name)]),
+        Origin::Root(name) => svg.title(&[Pid(pid), Phrase(" from "), Label(name)]),
         Origin::Named(name, parent, event) => svg.title(&[
             Pid(pid),
-            Markup(" "),
+            Phrase(" "),
             Label(name),
-            Markup(" spawned by "),
+            Phrase(" spawned by "),
             Pid(parent),
-            Markup(" in event "),
+            Phrase(" in event "),
             Number(event_number(event)),
         ]),
         Origin::Unnamed(parent, event) => svg.title(&[
             Pid(pid),
-            Markup(" spawned by "),
+            Phrase(" spawned by "),
             Pid(parent),
-            Markup(" in event "),
+            Phrase(" in event "),
             Number(event_number(event)),
         ]),
     }
@@ -145,7 +151,7 @@ fn put_tooltip(svg: &mut Svg, pid: u32, origin: Origin) -> Result<(), NoMemory>
 
 /// The class of a process.
 fn class_of(column: &Column) -> &'static str
-    ensures { IsTrue (is_word result.now) }
+    ensures { IsTrue (is_phrase result.now) }
 {
     if column.deadlocked {
         "process deadlocked"
@@ -167,7 +173,7 @@ fn put_column(
 {
     let pid = Attribute("data-pid", u64::from(column.pid));
     let origin = names.origin(column);
-    svg.group(&[Markup(class_of(column))], &[pid])?;
+    svg.group(&[Phrase(class_of(column))], &[pid])?;
     put_tooltip(svg, column.pid, origin)?;
     put_life(svg, column, sheet, x)?;
     put_heads(svg, column.pid, origin, sheet, x)?;
@@ -215,7 +221,7 @@ fn put_spawn(
         return Ok(());
     };
     let event = Attribute("data-event", event_number(row));
-    svg.group(&[Markup("arrow spawn")], &[event])?;
+    svg.group(&[Phrase("arrow spawn")], &[event])?;
     svg.stroke(sheet.at(from, row), (to, sheet.y(row)))?;
     svg.close_group()
 }

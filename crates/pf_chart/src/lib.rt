@@ -9,6 +9,7 @@ mod heads;
 mod layout;
 mod manner;
 mod marks;
+mod on_way;
 mod origin;
 mod peers;
 mod receipts;

@@ -1,7 +1,7 @@
 //! What stands on the lifelines: a mark for each event, each kind with a shape of its own.
 
 ghost use Rattle.std.specs.Prelude.{IsTrue};
-ghost use Rattle.pf_chart.specs.Words.{is_word};
+ghost use Rattle.pf_chart.specs.Words.{is_phrase};
 
 use pf_model::report::{Label, Suffix};
 
@@ -14,10 +14,10 @@ pub(crate) struct Mark {
 
 impl Mark {
     fn new(kind: &'static str, outline: &'static str) -> Mark
-        requires kind { IsTrue (is_word kind.now) }
-        requires outline { IsTrue (is_word outline.now) }
-        ensures kind { IsTrue (is_word result.kind.now) }
-        ensures outline { IsTrue (is_word result.outline.now) }
+        requires kind { IsTrue (is_phrase kind.now) }
+        requires outline { IsTrue (is_phrase outline.now) }
+        ensures kind { IsTrue (is_phrase result.kind.now) }
+        ensures outline { IsTrue (is_phrase result.outline.now) }
     {
         Mark { kind, outline }
     }
@@ -29,8 +29,8 @@ const LINKED: &str = "M-6 0a4 4 0 1 0 8 0a4 4 0 1 0 -8 0M-2 0a4 4 0 1 0 8 0a4 4 
 const UNLINKED: &str = "M-8 0a3 3 0 1 0 6 0a3 3 0 1 0 -6 0M2 0a3 3 0 1 0 6 0a3 3 0 1 0 -6 0";
 
 fn mark_of_delivery(suffix: &Suffix) -> Mark
-    ensures kind { IsTrue (is_word result.kind.now) }
-    ensures outline { IsTrue (is_word result.outline.now) }
+    ensures kind { IsTrue (is_phrase result.kind.now) }
+    ensures outline { IsTrue (is_phrase result.outline.now) }
 {
     match suffix {
         // A small ring.
@@ -46,8 +46,8 @@ fn mark_of_delivery(suffix: &Suffix) -> Mark
 
 /// The mark of an event.
 pub(crate) fn mark_of(label: &Label) -> Mark
-    ensures kind { IsTrue (is_word result.kind.now) }
-    ensures outline { IsTrue (is_word result.outline.now) }
+    ensures kind { IsTrue (is_phrase result.kind.now) }
+    ensures outline { IsTrue (is_phrase result.outline.now) }
 {
     match label {
         // A dot.

@@ -1,5 +1,7 @@
 //! What the system keeps of processes for the signals that it sends by itself: links and monitors.
 
+use pf_model::Signal;
+use pf_model::report::Suffix;
 use pf_terms::NoMemory;
 use std::alloc::Global;
 use std::collections::{BTreeMap, BTreeSet};
@@ -83,6 +85,33 @@ impl Peers {
         if let Some(peer) = self.peers.get_mut(b) {
             peer.watchers.remove(&reference);
         }
+    }
+
+    /// What a delivery changes.
+    pub(crate) fn settle(
+        &mut self,
+        from: usize,
+        to: usize,
+        signal: &Signal,
+        suffix: &Suffix,
+    ) -> Result<(), NoMemory> {
+        match (signal, suffix) {
+            (Signal::Link, Suffix::TookEffect) => {
+                self.tie(to, from)?;
+            }
+            (Signal::Monitor(reference), Suffix::TookEffect) => {
+                self.watch(to, *reference, from)?;
+            }
+            (Signal::Unlink, _) | (Signal::Exit { by_link: true, .. }, _) => {
+                self.untie(to, from);
+            }
+            (Signal::Demonitor(reference), _) => self.unwatch(to, *reference),
+            (Signal::Down(reference, _), _) => {
+                self.deactivate(*reference, to);
+            }
+            _ => {}
+        }
+        Ok(())
     }
 
     /// Takes all links and watchers of a process that ends: who was linked, and who watched.

@@ -1,13 +1,13 @@
 //! Signals on the sheet.
 
 ghost use Rattle.std.specs.Prelude.{[], IsTrue, OnOk};
-ghost use Rattle.pf_chart.specs.Words.{Draws, is_word};
+ghost use Rattle.pf_chart.specs.Words.{Draws, Opens, is_phrase};
 
 use crate::arrows::{Arrow, Reach, Start};
 use crate::columns::Column;
 use crate::sheet::{HALF_ROW, Sheet, Side, event_number};
 use crate::words::Svg;
-use pf_svg::Part::{Attribute, Markup, Pid};
+use pf_svg::Part::{Attribute, Phrase, Pid};
 use pf_terms::NoMemory;
 
 /// How far a signal to oneself swings out, and how far one goes down that is never delivered.
@@ -41,8 +41,8 @@ fn in_the_air(from: (u64, u64), to: u64, pitch: u64) -> (u64, u64) {
 
 /// What the end of an arrow adds to its class, and how it is told in words.
 fn end_in_words(reach: Reach) -> (&'static str, &'static str)
-    ensures class { IsTrue (is_word result.0.now) }
-    ensures words { IsTrue (is_word result.1.now) }
+    ensures class { IsTrue (is_phrase result.0.now) }
+    ensures words { IsTrue (is_phrase result.1.now) }
 {
     match reach {
         Reach::Nowhere => (" lost", ", never delivered"),
@@ -54,8 +54,8 @@ fn end_in_words(reach: Reach) -> (&'static str, &'static str)
 
 /// What the class of an arrow tells of the choice by which it was delivered, if no row does, and how that is told in words.
 fn choice_in_words(chosen: bool) -> (&'static str, &'static str)
-    ensures class { IsTrue (is_word result.0.now) }
-    ensures words { IsTrue (is_word result.1.now) }
+    ensures class { IsTrue (is_phrase result.0.now) }
+    ensures words { IsTrue (is_phrase result.1.now) }
 {
     if chosen {
         (" chosen", ", delivered by a choice above 0")
@@ -66,15 +66,15 @@ fn choice_in_words(chosen: bool) -> (&'static str, &'static str)
 
 /// Puts the beginning of an arrow: its class, and which events are its ends.
 fn put_opening(svg: &mut Svg, arrow: &Arrow, end: &'static str) -> Result<(), NoMemory>
-    requires { IsTrue (is_word end.now) }
-    ensures { OnOk result (Draws [] svg.old svg.new) }
+    requires { IsTrue (is_phrase end.now) }
+    ensures { OnOk result (Opens [] svg.old svg.new) }
 {
     let (chosen, _) = choice_in_words(arrow.chosen);
     let class = [
-        Markup("arrow "),
-        Markup(arrow.kind.word()),
-        Markup(end),
-        Markup(chosen),
+        Phrase("arrow "),
+        Phrase(arrow.kind.word()),
+        Phrase(end),
+        Phrase(chosen),
     ];
     let event = Attribute("data-event", event_number(arrow.beginning()));
     match arrow.reach {
@@ -130,13 +130,13 @@ fn put_arrow(svg: &mut Svg, arrow: &Arrow, from: u32, to: u32, sheet: Sheet) -> 
     let (_, choice) = choice_in_words(arrow.chosen);
     put_opening(svg, arrow, class)?;
     svg.title(&[
-        Markup(arrow.kind.word()),
-        Markup(" from "),
+        Phrase(arrow.kind.word()),
+        Phrase(" from "),
         Pid(from),
-        Markup(" to "),
+        Phrase(" to "),
         Pid(to),
-        Markup(words),
-        Markup(choice),
+        Phrase(words),
+        Phrase(choice),
     ])?;
     put_path(svg, beginning(arrow, sheet), end(arrow, sheet))?;
     svg.close_group()

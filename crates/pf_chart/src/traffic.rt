@@ -4,26 +4,59 @@
 //! downs to who watches) or by a delivery to a process that has ended (the answer to a link or a monitor). Each delivery takes the oldest
 //! signal of its kind that is on its way between its two processes.
 
+ghost use Rattle.std.specs.Prelude.{◌≡◌, ◌++◌, ◌∷◌, [], OnOk, length};
+ghost use Rattle.pf_model.specs.Reports.{suffix_of};
+ghost use Rattle.pf_model.specs.Signals.{signal_of};
+ghost use Rattle.pf_chart.specs.Traffic.{
+  IsDelivered,
+  IsEnded,
+  KeepsOthers,
+  answer_to,
+  answered,
+  kind_of,
+  reach_of,
+  sent,
+  untold,
+  waiting,
+  way_of,
+};
+ghost use Rattle.pf_chart.specs.declared.traffic.Traffic.{Traffic};
+
 use crate::arrows::{Arrow, Reach, SignalKind, Start};
+use crate::on_way::OnWay;
 use crate::peers::Peers;
 use pf_model::Signal;
 use pf_model::report::{Label, Suffix};
 use pf_terms::NoMemory;
 use std::alloc::Global;
-use std::collections::{BTreeMap, BTreeSet, VecDeque};
+use std::collections::BTreeSet;
 
 /// The arrows so far, of those on their way which are the oldest, and what the system keeps of processes.
 #[derive(Drop)]
 pub(crate) struct Traffic {
     pub(crate) arrows: Vec<Arrow>,
-    on_way: BTreeMap<(usize, usize, u8), VecDeque<usize>>,
+    on_way: OnWay,
     pub(crate) peers: Peers,
 }
 
-fn reach_of(suffix: &Suffix, row: usize) -> Reach {
+/// How a signal that is delivered in this row comes to its end.
+fn reach_of(suffix: &Suffix, row: usize) -> Reach
+    ensures { result ≡ reach_of (suffix_of suffix.now) row }
+{
     match suffix {
         Suffix::NoProcess | Suffix::Dropped => Reach::Dropped(row),
         Suffix::TookEffect | Suffix::AsMessage | Suffix::EndingWith(_) => Reach::Taken(row),
+    }
+}
+
+/// What goes back to the sender of a signal that is delivered so, if anything does.
+fn answer_to(signal: &Signal, suffix: &Suffix) -> Option<SignalKind>
+    ensures { result ≡ answer_to (signal_of signal.now) (suffix_of suffix.now) }
+{
+    match (signal, suffix) {
+        (Signal::Link, Suffix::NoProcess) => Some(SignalKind::Exit),
+        (Signal::Monitor(_), Suffix::NoProcess) => Some(SignalKind::Down),
+        _ => None,
     }
 }
 
@@ -31,19 +64,18 @@ impl Traffic {
     pub(crate) fn new(alloc: Global, columns: usize) -> Result<Traffic, NoMemory> {
         Ok(Traffic {
             arrows: Vec::new(alloc),
-            on_way: BTreeMap::new(alloc),
+            on_way: OnWay::new(alloc),
             peers: Peers::new(alloc, columns)?,
         })
     }
 
     /// A signal goes out.
-    fn send(
-        &mut self,
-        row: usize,
-        from: usize,
-        to: usize,
-        kind: SignalKind,
-    ) -> Result<(), NoMemory> {
+    fn send(&mut self, row: usize, from: usize, to: usize, kind: SignalKind) -> Result<(), NoMemory>
+        ensures arrow { OnOk result (self.new.arrows.items ≡ self.old.arrows.items ++ sent row from to kind ∷ []) }
+        ensures last { OnOk result (waiting self.new.on_way (way_of from to kind)
+            ≡ waiting self.old.on_way (way_of from to kind) ++ length self.old.arrows.items ∷ []) }
+        ensures others { OnOk result (KeepsOthers (way_of from to kind) self.old.on_way self.new.on_way) }
+    {
         let index = self.arrows.len();
         self.arrows.push(Arrow {
             kind,
@@ -53,9 +85,7 @@ impl Traffic {
             reach: Reach::Nowhere,
             chosen: false,
         })?;
-        let queue = self.on_way.entry((from, to, kind as u8))?.or_default();
-        queue.push_back(index)?;
-        Ok(())
+        self.on_way.put((from, to, kind.number()), index)
     }
 
     /// A link signal goes out if the link is new, and isn't to oneself.
@@ -117,27 +147,28 @@ impl Traffic {
         }
     }
 
-    /// The oldest signal of a kind that is on its way, if there is one.
-    fn oldest(&mut self, from: usize, to: usize, kind: SignalKind) -> Option<usize> {
-        let queue = self.on_way.get_mut(&(from, to, kind as u8))?;
-        queue.pop_front()
+    /// An arrow comes to its end.
+    fn reach(&mut self, index: usize, reach: Reach)
+        ensures arrows { IsEnded index reach self.old.arrows.items self.new.arrows.items }
+        ensures on_way { self.new.on_way ≡ self.old.on_way }
+    {
+        if index < self.arrows.len() {
+            self.arrows[index].reach = reach;
+        }
     }
 
-    /// The oldest signal comes to its end; if there is none, it was sent just above.
-    fn arrive(
+    /// A signal was sent just above its delivery.
+    fn show(
         &mut self,
         row: usize,
         from: usize,
         to: usize,
         kind: SignalKind,
         reach: Reach,
-    ) -> Result<(), NoMemory> {
-        if let Some(index) = self.oldest(from, to, kind) {
-            if let Some(arrow) = self.arrows.get_mut(index) {
-                arrow.reach = reach;
-            }
-            return Ok(());
-        }
+    ) -> Result<(), NoMemory>
+        ensures { OnOk result ((self.new.arrows.items ≡ self.old.arrows.items ++ untold row from to kind reach ∷ [])
+            × (self.new.on_way ≡ self.old.on_way)) }
+    {
         self.arrows.push(Arrow {
             kind,
             from,
@@ -149,7 +180,27 @@ impl Traffic {
         Ok(())
     }
 
-    /// What a delivery changes among links and watchers, and what goes back.
+    /// The oldest signal comes to its end; if there is none, it was sent just above.
+    fn arrive(
+        &mut self,
+        row: usize,
+        from: usize,
+        to: usize,
+        kind: SignalKind,
+        reach: Reach,
+    ) -> Result<(), NoMemory>
+        ensures { OnOk result (IsDelivered (way_of from to kind) (untold row from to kind reach) self.old self.new) }
+    {
+        match self.on_way.take((from, to, kind.number())) {
+            Some(index) => {
+                self.reach(index, reach);
+                Ok(())
+            }
+            None => self.show(row, from, to, kind, reach),
+        }
+    }
+
+    /// What goes back of a delivery, and what it changes among links and watchers.
     fn settle(
         &mut self,
         row: usize,
@@ -157,29 +208,20 @@ impl Traffic {
         to: usize,
         signal: &Signal,
         suffix: &Suffix,
-    ) -> Result<(), NoMemory> {
-        match (signal, suffix) {
-            (Signal::Link, Suffix::NoProcess) => self.send(row, to, from, SignalKind::Exit)?,
-            (Signal::Monitor(_), Suffix::NoProcess) => self.send(row, to, from, SignalKind::Down)?,
-            (Signal::Link, Suffix::TookEffect) => {
-                self.peers.tie(to, from)?;
+    ) -> Result<(), NoMemory>
+        ensures { OnOk result (self.new.arrows.items
+            ≡ answered row to from (answer_to (signal_of signal.now) (suffix_of suffix.now)) self.old.arrows.items) }
+    {
+        match answer_to(signal, suffix) {
+            Some(kind) => self.send(row, to, from, kind),
+            None => {
+                self.peers.settle(from, to, signal, suffix)?;
+                Ok(())
             }
-            (Signal::Monitor(reference), Suffix::TookEffect) => {
-                self.peers.watch(to, *reference, from)?;
-            }
-            (Signal::Unlink, _) | (Signal::Exit { by_link: true, .. }, _) => {
-                self.peers.untie(to, from);
-            }
-            (Signal::Demonitor(reference), _) => self.peers.unwatch(to, *reference),
-            (Signal::Down(reference, _), _) => {
-                self.peers.deactivate(*reference, to);
-            }
-            _ => {}
         }
-        Ok(())
     }
 
-    /// A signal is delivered.
+    /// A signal is delivered, and what goes back of it is sent.
     pub(crate) fn deliver(
         &mut self,
         row: usize,
@@ -187,7 +229,11 @@ impl Traffic {
         to: usize,
         signal: &Signal,
         suffix: &Suffix,
-    ) -> Result<(), NoMemory> {
+    ) -> Result<(), NoMemory>
+        ensures { OnOk result ((t : Traffic) × IsDelivered (way_of from to (kind_of (signal_of signal.now)))
+            (untold row from to (kind_of (signal_of signal.now)) (reach_of (suffix_of suffix.now) row)) self.old t
+            × (self.new.arrows.items ≡ answered row to from (answer_to (signal_of signal.now) (suffix_of suffix.now)) t.arrows.items)) }
+    {
         self.arrive(row, from, to, SignalKind::of(signal), reach_of(suffix, row))?;
         self.settle(row, from, to, signal, suffix)
     }

@@ -86,7 +86,7 @@ fn cure(alloc: Global, place: &Place<'_>, code: Code) -> Result<Option<Found>, N
 /// What is said of a source that is refused: of a construct that is known, what the language has in its place, with an example; of all else
 /// the sentence of the code.
 pub fn advise(alloc: Global, source: &[u8], refusal: Refusal) -> Result<Advice, NoMemory>
-    ensures { IfOk result (λ a. IsAdvice refusal.code refusal.offset a) }
+    ensures { IfOk result (λ a. IsAdvice source.now refusal.code refusal.offset a) }
 {
     let place = Place::new(alloc, source, refusal.offset)?;
     let Some(found) = cure(alloc, &place, refusal.code)? else {
@@ -99,7 +99,7 @@ pub fn advise(alloc: Global, source: &[u8], refusal: Refusal) -> Result<Advice, 
         ..
     } = found.cure;
     Ok(Advice {
-        position: found.position,
+        position: found.position.min(source.len()),
         sentence: says,
         rewrite: Some(Rewrite { instead, write }),
     })

@@ -1,5 +1,7 @@
 //! What is said of a construct.
 
+ghost use Rattle.std.specs.Prelude.{◌≡◌, IfSome, option_map};
+
 /// A row of a table: the word that a construct is known by, what is said of it, and an example with how that is written here.
 #[derive(Clone, Copy)]
 pub(crate) struct Cure {
@@ -35,7 +37,10 @@ pub(crate) struct Found {
 }
 
 /// The same for a place where there may be a cure.
-pub(crate) fn found_at(position: usize, cure: Option<Cure>) -> Option<Found> {
+pub(crate) fn found_at(position: usize, cure: Option<Cure>) -> Option<Found>
+    ensures cure { option_map (λ f. f.cure) result ≡ cure }
+    ensures place { IfSome result (λ f. f.position ≡ position) }
+{
     match cure {
         Some(cure) => Some(Found { position, cure }),
         None => None,

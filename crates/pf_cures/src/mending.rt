@@ -1,6 +1,7 @@
 //! Forms of a source, and a source in which a function is mended.
 
-ghost use Rattle.std.specs.Prelude.{◌≡◌, vec_len};
+ghost use Rattle.std.specs.Prelude.{◌≡◌, ◌++◌, ◌∷◌, [], ℕ, List, IfOk, IfSome, IsTrue, length};
+ghost use Rattle.pf_cures.specs.Mended.{IsMended, is_filler};
 
 use crate::pieces::{Kind, Piece, cut};
 use crate::place::Place;
@@ -8,7 +9,9 @@ use pf_fault::{Code, NoMemory, Refusal};
 use std::alloc::Global;
 
 /// Where each form of a source ends, behind its dot; the last end is that of the source.
-pub fn form_ends(alloc: Global, source: &[u8]) -> Result<Vec<usize>, NoMemory> {
+pub fn form_ends(alloc: Global, source: &[u8]) -> Result<Vec<usize>, NoMemory>
+    ensures { IfOk result (λ ends. (front : List ℕ) × (ends.items ≡ front ++ length source.now ∷ [])) }
+{
     let mut ends = Vec::new(alloc);
     for piece in &cut(alloc, source)? {
         if piece.kind == Kind::Dot {
@@ -20,22 +23,34 @@ pub fn form_ends(alloc: Global, source: &[u8]) -> Result<Vec<usize>, NoMemory> {
 }
 
 /// Writes a byte where there is one.
+#[tactic(auto, using(crate::proofs::Fillers::mended_at, crate::proofs::Fillers::mended_not))]
 fn put(source: &mut Vec<u8>, at: usize, byte: u8)
-    ensures { vec_len source.new ≡ vec_len source.old }
+    requires { IsTrue (is_filler byte) }
+    ensures { IsMended source.old.items source.new.items }
 {
-    if let Some(place) = source.get_mut(at) {
-        *place = byte;
+    if at < source.len() {
+        source[at] = byte;
     }
+}
+
+/// Makes a blank of a byte, unless it is a line end.
+#[tactic(auto, using(crate::proofs::Fillers::mended_not))]
+fn blank_byte(source: &mut Vec<u8>, at: usize)
+    ensures { IsMended source.old.items source.new.items }
+{
+    let stays = source.get(at) == Some(&b'\n');
+    if stays {
+        return;
+    }
+    put(source, at, b' ');
 }
 
 /// Makes blanks of what stands from here to there; line ends stay.
 fn blank(source: &mut Vec<u8>, start: usize, end: usize)
-    ensures { vec_len source.new ≡ vec_len source.old }
+    ensures { IsMended source.old.items source.new.items }
 {
     for at in start..end {
-        if source.get(at) != Some(&b'\n') {
-            put(source, at, b' ');
-        }
+        blank_byte(source, at);
     }
 }
 
@@ -47,7 +62,9 @@ struct Head {
 }
 
 /// What stands in a head without its patterns, at a piece of it.
-fn bare_byte(head: &mut Head, byte: u8) -> Option<u8> {
+fn bare_byte(head: &mut Head, byte: u8) -> Option<u8>
+    ensures { IfSome result (λ b. IsTrue (is_filler b)) }
+{
     match (byte, head.depth) {
         (b'(' | b'[' | b'{', 0) => {
             head.depth = 1;
@@ -72,9 +89,30 @@ fn bare_byte(head: &mut Head, byte: u8) -> Option<u8> {
     if is_due { Some(b'_') } else { None }
 }
 
-/// Writes the head of a function without its patterns, and behind it a body of one integer; the pieces begin behind the function's name.
+/// Writes what stands at a piece of a head without its patterns, if anything does.
+#[tactic(auto, using(crate::proofs::Fillers::mended_not))]
+fn put_bare(source: &mut Vec<u8>, at: usize, bare: Option<u8>)
+    requires { IfSome bare (λ b. IsTrue (is_filler b)) }
+    ensures { IsMended source.old.items source.new.items }
+{
+    let Some(byte) = bare else {
+        return;
+    };
+    put(source, at, byte);
+}
+
+/// Writes a body of one integer.
+fn put_body(source: &mut Vec<u8>, at: usize)
+    ensures { IsMended source.old.items source.new.items }
+{
+    put(source, at, b'-');
+    put(source, at.saturating_add(1), b'>');
+    put(source, at.saturating_add(2), b'0');
+}
+
+/// Writes the head of a function without its patterns, and after it a body of one integer; the pieces begin after the function's name.
 fn put_head(source: &mut Vec<u8>, old: &[u8], pieces: &[Piece])
-    ensures { vec_len source.new ≡ vec_len source.old }
+    ensures { IsMended source.old.items source.new.items }
 {
     let mut head = Head {
         depth: 0,
@@ -83,13 +121,10 @@ fn put_head(source: &mut Vec<u8>, old: &[u8], pieces: &[Piece])
     for piece in pieces {
         let byte = old.get(piece.start).copied().unwrap_or(0);
         let bare = bare_byte(&mut head, byte);
-        if let Some(byte) = bare {
-            put(source, piece.start, byte);
-        }
-        if bare == Some(b')') {
-            put(source, piece.end, b'-');
-            put(source, piece.end.saturating_add(1), b'>');
-            put(source, piece.end.saturating_add(2), b'0');
+        put_bare(source, piece.start, bare);
+        let is_closed = bare == Some(b')');
+        if is_closed {
+            put_body(source, piece.end);
             return;
         }
     }
@@ -111,8 +146,9 @@ fn parameters<'p>(old: &[u8], form: &'p [Piece]) -> Option<&'p [Piece]> {
 }
 
 /// Gives a function a body of one integer, and no patterns.
+#[tactic(auto, using(crate::proofs::Fillers::mended_not))]
 fn stub(source: &mut Vec<u8>, old: &[u8], form: &[Piece]) -> bool
-    ensures { vec_len source.new ≡ vec_len source.old }
+    ensures { IsMended source.old.items source.new.items }
 {
     let Some(pieces) = parameters(old, form) else {
         return false;
@@ -126,8 +162,9 @@ fn stub(source: &mut Vec<u8>, old: &[u8], form: &[Piece]) -> bool
 }
 
 /// Makes blanks of a form and of its dot.
+#[tactic(auto, using(crate::proofs::Fillers::mended_not))]
 fn blank_form(source: &mut Vec<u8>, form: &[Piece]) -> bool
-    ensures { vec_len source.new ≡ vec_len source.old }
+    ensures { IsMended source.old.items source.new.items }
 {
     let (Some(first), Some(dot)) = (form.first(), form.last()) else {
         return false;
@@ -139,8 +176,9 @@ fn blank_form(source: &mut Vec<u8>, form: &[Piece]) -> bool
 /// Takes a fault of names or variables out of a source: the function in which it stands keeps its name and its number of arguments, and has
 /// a body of one integer; a function that is defined twice and an export form are blanked. Nothing is done, and `false` answered, in the first form and
 /// where no form stands. The source keeps its length.
+#[tactic(auto, using(crate::proofs::Fillers::mended_not))]
 pub fn mend(alloc: Global, source: &mut Vec<u8>, refusal: Refusal) -> Result<bool, NoMemory>
-    ensures { vec_len source.new ≡ vec_len source.old }
+    ensures { IsMended source.old.items source.new.items }
 {
     let old = Vec::from_slice(alloc, source)?;
     let place = Place::new(alloc, &old, refusal.offset)?;

@@ -1,5 +1,7 @@
 //! A place in a source: the piece at an offset, and those around it.
 
+ghost use Rattle.std.specs.Prelude.{◌≡◌};
+
 use crate::cure::{Cure, Found};
 use crate::pieces::{Kind, Piece, cut};
 use pf_fault::NoMemory;
@@ -135,7 +137,10 @@ impl<'a> Place<'a> {
     }
 
     /// A cure whose cause stands at the offset.
-    pub(crate) fn here(&self, cure: Cure) -> Found {
+    pub(crate) fn here(&self, cure: Cure) -> Found
+        ensures cure { result.cure ≡ cure }
+        ensures place { result.position ≡ self.now.offset }
+    {
         Found {
             position: self.offset,
             cure,

@@ -1,7 +1,10 @@
 //! The faults of a source that are told, in the order of the text.
 
-ghost use Rattle.std.specs.Prelude.{IfOk};
-ghost use Rattle.pf_faults.specs.Faults.{Tells};
+ghost use Rattle.std.specs.Prelude.{IfOk, IfSome, OnOk};
+ghost use Rattle.std.specs.List.{All};
+ghost use Rattle.pf_check.specs.Reads.{Reads, refused};
+ghost use Rattle.pf_cures.specs.Mended.{IsMended};
+ghost use Rattle.pf_faults.specs.Faults.{IsFault, IsOfFault, Tells};
 
 use crate::alone::{first_refusal, is_syntax, refusal_of_form};
 use pf_cures::{advise, form_ends, mend};
@@ -12,6 +15,49 @@ use std::alloc::Global;
 /// The most faults of a source that are told.
 pub const MOST_TOLD: usize = 20;
 
+/// What is said of a fault.
+fn advise_on(alloc: Global, source: &[u8], fault: Refusal) -> Result<Advice, NoMemory>
+    requires { IsFault source.now fault.code fault.offset }
+    ensures { IfOk result (IsOfFault source.now) }
+{
+    advise(alloc, source, fault)
+}
+
+/// Puts what is said of a fault, if there is one.
+fn put_fault(
+    alloc: Global,
+    source: &[u8],
+    told: &mut Vec<Advice>,
+    fault: Option<Refusal>,
+) -> Result<(), NoMemory>
+    requires told { All (IsOfFault source.now) told.old.items }
+    requires fault { IfSome fault (λ r. IsFault source.now r.code r.offset) }
+    ensures { OnOk result (All (IsOfFault source.now) told.new.items) }
+{
+    let Some(fault) = fault else {
+        return Ok(());
+    };
+    told.push(advise_on(alloc, source, fault)?)?;
+    Ok(())
+}
+
+/// The fault of a form that is refused by itself, where there is room for it.
+fn fault_of_form(
+    alloc: Global,
+    source: &[u8],
+    start: usize,
+    end: usize,
+    has_room: bool,
+) -> Result<Option<Refusal>, NoMemory>
+    ensures { IfOk result (λ found. IfSome found (λ r. IsFault source.now r.code r.offset)) }
+{
+    if has_room {
+        refusal_of_form(alloc, source, start, end)
+    } else {
+        Ok(None)
+    }
+}
+
 /// What is told of each form between these ends that is refused by itself, of so many at most; the first begins at `start`.
 fn told_of_forms(
     alloc: Global,
@@ -19,34 +65,48 @@ fn told_of_forms(
     start: usize,
     ends: &[usize],
     most: usize,
-) -> Result<Vec<Advice>, NoMemory> {
+) -> Result<Vec<Advice>, NoMemory>
+    ensures { IfOk result (λ told. All (IsOfFault source.now) told.items) }
+{
     let mut told = Vec::new(alloc);
     let mut start = start;
     for end in ends {
-        let found = refusal_of_form(alloc, source, start, *end)?;
+        let fault = fault_of_form(alloc, source, start, *end, told.len() < most)?;
         start = *end;
-        match found {
-            Some(refusal) if told.len() < most => told.push(advise(alloc, source, refusal)?)?,
-            _ => {}
-        }
+        put_fault(alloc, source, &mut told, fault)?;
     }
     Ok(told)
 }
 
-/// What is told of the faults of names and variables that are left once each that is told was mended, behind the first.
-fn told_of_mended(alloc: Global, source: &[u8], first: Refusal) -> Result<Vec<Advice>, NoMemory> {
+/// What a source is refused for once this fault is taken out of it too, if there was one.
+fn next_fault(
+    alloc: Global,
+    mended: &mut Vec<u8>,
+    fault: Option<Refusal>,
+) -> Result<Option<Refusal>, NoMemory>
+    ensures rest { IsMended mended.old.items mended.new.items }
+    ensures fault { IfOk result (λ found. IfSome found (λ r. Reads mended.new.items (refused r.code r.offset))) }
+{
+    let Some(fault) = fault else {
+        return Ok(None);
+    };
+    let is_mended = mend(alloc, mended, fault)?;
+    if !is_mended {
+        return Ok(None);
+    }
+    first_refusal(alloc, mended, false)
+}
+
+/// What is told of the faults of names and variables that are left once each that is told was mended, after the first.
+fn told_of_mended(alloc: Global, source: &[u8], first: Refusal) -> Result<Vec<Advice>, NoMemory>
+    ensures { IfOk result (λ told. All (IsOfFault source.now) told.items) }
+{
     let mut told = Vec::new(alloc);
     let mut mended = Vec::from_slice(alloc, source)?;
-    let mut refusal = first;
+    let mut fault = Some(first);
     for _ in 1..MOST_TOLD {
-        if !mend(alloc, &mut mended, refusal)? {
-            break;
-        }
-        let Some(next) = first_refusal(alloc, &mended, false)? else {
-            break;
-        };
-        told.push(advise(alloc, source, next)?)?;
-        refusal = next;
+        fault = next_fault(alloc, &mut mended, fault)?;
+        put_fault(alloc, source, &mut told, fault)?;
     }
     Ok(told)
 }
@@ -58,12 +118,9 @@ fn form_of(ends: &[usize], offset: usize) -> usize {
 }
 
 /// What is told in front of a refusal by tokens or grammar, which stands in the form of this number.
-fn front(
-    alloc: Global,
-    source: &[u8],
-    ends: &[usize],
-    form: usize,
-) -> Result<Vec<Advice>, NoMemory> {
+fn front(alloc: Global, source: &[u8], ends: &[usize], form: usize) -> Result<Vec<Advice>, NoMemory>
+    ensures { IfOk result (λ told. All (IsOfFault source.now) told.items) }
+{
     let start = ends.first().copied().unwrap_or(0);
     let forms = ends.get(1..form).unwrap_or(&[]);
     told_of_forms(alloc, source, start, forms, MOST_TOLD - 1)
@@ -77,7 +134,9 @@ fn behind(
     form: usize,
     refusal: Refusal,
     told: usize,
-) -> Result<Vec<Advice>, NoMemory> {
+) -> Result<Vec<Advice>, NoMemory>
+    ensures { IfOk result (λ told. All (IsOfFault source.now) told.items) }
+{
     if form == 0 || !is_syntax(refusal.code) {
         return told_of_mended(alloc, source, refusal);
     }
@@ -89,7 +148,7 @@ fn behind(
 /// What is told of a source with this first refusal: of one by tokens or grammar, that and one of each other form that is refused by
 /// itself; of one by names or variables, that and the others of its kind, one of each form. All in the order of the text.
 pub fn faults(alloc: Global, source: &[u8], refusal: Refusal) -> Result<Vec<Advice>, NoMemory>
-    ensures { IfOk result (λ told. Tells refusal.code refusal.offset told.items) }
+    ensures { IfOk result (λ told. Tells source.now refusal.code refusal.offset told.items) }
 {
     let ends = form_ends(alloc, source)?;
     let form = form_of(&ends, refusal.offset);

@@ -1,3 +1,4 @@
 pub mod Document
 pub mod Escaped
+pub mod Places
 pub mod Words

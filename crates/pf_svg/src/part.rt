@@ -2,7 +2,7 @@
 
 ghost use Rattle.std.specs.Prelude.{◌≡◌, ◌++◌, OnOk, codes, flat_map};
 ghost use Rattle.std.specs.Fmt.{decimal};
-ghost use Rattle.pf_svg.specs.Document.{part_text};
+ghost use Rattle.pf_svg.specs.Document.{attribute_text, moved_text, part_text, point_text};
 
 use crate::escape::{put_escaped, put_short};
 use pf_terms::NoMemory;
@@ -11,8 +11,10 @@ use pf_text::{put, put_number};
 /// A part of a document. Nothing but a label comes from outside the program.
 #[derive(Clone, Copy)]
 pub enum Part<'a> {
-    /// Markup, or a word of the document's own.
+    /// Tags, or beginnings and ends of tags.
     Markup(&'static str),
+    /// A word that stands as text, or in the quotes of an attribute.
+    Phrase(&'static str),
     Number(u64),
     /// A pid, as `<0>`.
     Pid(u32),
@@ -20,6 +22,10 @@ pub enum Part<'a> {
     Point(u64, u64),
     /// An attribute of this name with a number for its value.
     Attribute(&'static str, u64),
+    /// The attribute `class`, with this value.
+    Class(&'static str),
+    /// The attribute that moves an element to a point.
+    Moved(u64, u64),
     Label(&'a [u8]),
     /// A label that is shortened if more than three bytes go beyond this length.
     Short(&'a [u8], usize),
@@ -34,7 +40,7 @@ fn put_pid(out: &mut Vec<u8>, pid: u32) -> Result<(), NoMemory>
 }
 
 fn put_point(out: &mut Vec<u8>, x: u64, y: u64) -> Result<(), NoMemory>
-    ensures { OnOk result (out.new.items ≡ out.old.items ++ (decimal x ++ codes " " ++ decimal y)) }
+    ensures { OnOk result (out.new.items ≡ out.old.items ++ point_text x y) }
 {
     put_number(out, x)?;
     put(out, b" ")?;
@@ -42,8 +48,7 @@ fn put_point(out: &mut Vec<u8>, x: u64, y: u64) -> Result<(), NoMemory>
 }
 
 fn put_attribute(out: &mut Vec<u8>, name: &str, value: u64) -> Result<(), NoMemory>
-    ensures { OnOk result (out.new.items ≡ out.old.items
-        ++ (codes " " ++ name.now ++ codes "=\"" ++ decimal value ++ codes "\"")) }
+    ensures { OnOk result (out.new.items ≡ out.old.items ++ attribute_text name.now value) }
 {
     put(out, b" ")?;
     put(out, name.as_bytes())?;
@@ -52,15 +57,35 @@ fn put_attribute(out: &mut Vec<u8>, name: &str, value: u64) -> Result<(), NoMemo
     put(out, b"\"")
 }
 
+fn put_class(out: &mut Vec<u8>, class: &str) -> Result<(), NoMemory>
+    ensures { OnOk result (out.new.items ≡ out.old.items ++ (codes " class=\"" ++ class.now ++ codes "\"")) }
+{
+    put(out, b" class=\"")?;
+    put(out, class.as_bytes())?;
+    put(out, b"\"")
+}
+
+fn put_moved(out: &mut Vec<u8>, x: u64, y: u64) -> Result<(), NoMemory>
+    ensures { OnOk result (out.new.items ≡ out.old.items ++ moved_text x y) }
+{
+    put(out, b" transform=\"translate(")?;
+    put_number(out, x)?;
+    put(out, b" ")?;
+    put_number(out, y)?;
+    put(out, b")\"")
+}
+
 fn put_part(out: &mut Vec<u8>, part: &Part) -> Result<(), NoMemory>
     ensures { OnOk result (out.new.items ≡ out.old.items ++ part_text part.now) }
 {
     match *part {
-        Part::Markup(word) => put(out, word.as_bytes()),
+        Part::Markup(word) | Part::Phrase(word) => put(out, word.as_bytes()),
         Part::Number(number) => put_number(out, number),
         Part::Pid(pid) => put_pid(out, pid),
         Part::Point(x, y) => put_point(out, x, y),
         Part::Attribute(name, value) => put_attribute(out, name, value),
+        Part::Class(class) => put_class(out, class),
+        Part::Moved(x, y) => put_moved(out, x, y),
         Part::Label(label) => put_escaped(out, label),
         Part::Short(label, most) => put_short(out, label, most),
     }

@@ -1,11 +1,29 @@
 //! A document in SVG, which grows at its end by parts.
 
-ghost use Rattle.std.specs.Prelude.{◌≡◌, ◌++◌, ℕ, List, [], IsTrue, OnOk, flat_map};
+ghost use Rattle.std.specs.Prelude.{◌≡◌, ◌++◌, ℕ, List, [], IsTrue, OnOk, codes, flat_map};
 ghost use Rattle.std.specs.List.{list_all};
-ghost use Rattle.pf_svg.specs.Document.{Draws, is_fixed, labels_of_part};
-ghost use Rattle.pf_svg.specs.Words.{is_word};
+ghost use Rattle.pf_svg.specs.Document.{
+  Closes,
+  Draws,
+  DrawsFrom,
+  Opens,
+  behind_all,
+  curve_text,
+  end_text,
+  is_attribute,
+  is_fixed,
+  is_said,
+  is_value,
+  labels_of_part,
+  line_text,
+  part_text,
+  start_text,
+  stroke_text,
+};
+ghost use Rattle.pf_svg.specs.Places.{Place, outside, read};
+ghost use Rattle.pf_svg.specs.Words.{is_phrase, is_word};
 
-use crate::part::Part::{self, Attribute, Markup, Point};
+use crate::part::Part::{self, Attribute, Markup, Phrase, Point};
 use crate::part::put_parts;
 use pf_terms::NoMemory;
 use std::alloc::Global;
@@ -45,19 +63,30 @@ impl<W: Vocabulary> Svg<W> {
         &self.bytes
     }
 
-    /// Puts parts at the end.
-    pub fn put(&mut self, parts: &[Part]) -> Result<(), NoMemory>
+    /// Puts parts at the end, wherever it is.
+    fn add(&mut self, parts: &[Part]) -> Result<(), NoMemory>
         requires { IsTrue (list_all (is_fixed W.words) parts.now) }
-        ensures { OnOk result (Draws W.words (flat_map labels_of_part parts.now) self.old self.new) }
+        ensures text { OnOk result (self.new ≡ self.old ++ flat_map part_text parts.now) }
+        ensures drawn { OnOk result ((place : Place) → DrawsFrom W.words place
+            (flat_map labels_of_part parts.now) (behind_all place parts.now) self.old self.new) }
     {
         put_parts(&mut self.bytes, parts)
     }
 
+    /// Puts parts that are whole elements, or stand outside tags.
+    pub fn put(&mut self, parts: &[Part]) -> Result<(), NoMemory>
+        requires fixed { IsTrue (list_all (is_fixed W.words) parts.now) }
+        requires whole { (opened : List (List ℕ)) → behind_all (outside opened) parts.now ≡ outside opened }
+        ensures { OnOk result (Draws W.words (flat_map labels_of_part parts.now) self.old self.new) }
+    {
+        self.add(parts)
+    }
+
     /// Puts the beginning of a document of this size.
     pub fn open(&mut self, width: u64, height: u64) -> Result<(), NoMemory>
-        ensures { OnOk result (Draws W.words [] self.old self.new) }
+        ensures { OnOk result (self.new ≡ self.old ++ start_text width height) }
     {
-        self.put(&[
+        self.add(&[
             Markup("<svg xmlns=\"http://www.w3.org/2000/svg\" role=\"img\""),
             Attribute("width", width),
             Attribute("height", height),
@@ -77,16 +106,17 @@ impl<W: Vocabulary> Svg<W> {
         requires start { IsTrue (is_word W.words start.now) }
         requires content { IsTrue (list_all (is_fixed W.words) content.now) }
         requires end { IsTrue (is_word W.words end.now) }
-        ensures { OnOk result (Draws W.words (flat_map labels_of_part content.now) self.old self.new) }
+        ensures { OnOk result ((place : Place) → DrawsFrom W.words place (flat_map labels_of_part content.now)
+            (read (behind_all (read place start.now) content.now) end.now) self.old self.new) }
     {
-        self.put(&[Markup(start)])?;
-        self.put(content)?;
-        self.put(&[Markup(end)])
+        self.add(&[Markup(start)])?;
+        self.add(content)?;
+        self.add(&[Markup(end)])
     }
 
     /// Puts a tooltip, or the title of the document.
     pub fn title(&mut self, content: &[Part]) -> Result<(), NoMemory>
-        requires { IsTrue (list_all (is_fixed W.words) content.now) }
+        requires { IsTrue (list_all (is_said W.words) content.now) }
         ensures { OnOk result (Draws W.words (flat_map labels_of_part content.now) self.old self.new) }
     {
         self.element("<title>", content, "</title>")
@@ -99,14 +129,14 @@ impl<W: Vocabulary> Svg<W> {
         at: (u64, u64),
         content: &[Part],
     ) -> Result<(), NoMemory>
-        requires class { IsTrue (is_word W.words class.now) }
-        requires content { IsTrue (list_all (is_fixed W.words) content.now) }
+        requires class { IsTrue (is_phrase W.words class.now) }
+        requires content { IsTrue (list_all (is_said W.words) content.now) }
         ensures { OnOk result (Draws W.words (flat_map labels_of_part content.now) self.old self.new) }
     {
         let (x, y) = at;
-        self.put(&[
+        self.add(&[
             Markup("<text class=\""),
-            Markup(class),
+            Phrase(class),
             Markup("\""),
             Attribute("x", x),
             Attribute("y", y),
@@ -116,20 +146,21 @@ impl<W: Vocabulary> Svg<W> {
 
     /// Puts a path of this outline.
     pub fn path(&mut self, outline: &'static str) -> Result<(), NoMemory>
-        requires { IsTrue (is_word W.words outline.now) }
+        requires { IsTrue (is_phrase W.words outline.now) }
         ensures { OnOk result (Draws W.words [] self.old self.new) }
     {
-        self.put(&[Markup("<path d=\""), Markup(outline), Markup("\"/>")])
+        self.add(&[Markup("<path d=\""), Phrase(outline), Markup("\"/>")])
     }
 
     /// Puts a line from point to point, as a path.
     pub fn stroke(&mut self, from: (u64, u64), to: (u64, u64)) -> Result<(), NoMemory>
-        ensures { OnOk result (Draws W.words [] self.old self.new) }
+        ensures text { OnOk result (self.new ≡ self.old ++ stroke_text from to) }
+        ensures drawn { OnOk result (Draws W.words [] self.old self.new) }
     {
-        self.put(&[
+        self.add(&[
             Markup("<path d=\"M"),
             Point(from.0, from.1),
-            Markup("L"),
+            Phrase("L"),
             Point(to.0, to.1),
             Markup("\"/>"),
         ])
@@ -142,17 +173,18 @@ impl<W: Vocabulary> Svg<W> {
         between: ((u64, u64), (u64, u64)),
         to: (u64, u64),
     ) -> Result<(), NoMemory>
-        ensures { OnOk result (Draws W.words [] self.old self.new) }
+        ensures text { OnOk result (self.new ≡ self.old ++ curve_text from between.0 between.1 to) }
+        ensures drawn { OnOk result (Draws W.words [] self.old self.new) }
     {
         let ((x, y), (right, below)) = between;
-        self.put(&[
+        self.add(&[
             Markup("<path d=\"M"),
             Point(from.0, from.1),
-            Markup("C"),
+            Phrase("C"),
             Point(x, y),
-            Markup(" "),
+            Phrase(" "),
             Point(right, below),
-            Markup(" "),
+            Phrase(" "),
             Point(to.0, to.1),
             Markup("\"/>"),
         ])
@@ -160,12 +192,13 @@ impl<W: Vocabulary> Svg<W> {
 
     /// Puts a line of a class straight down.
     pub fn line(&mut self, class: &'static str, x: u64, from: u64, to: u64) -> Result<(), NoMemory>
-        requires { IsTrue (is_word W.words class.now) }
-        ensures { OnOk result (Draws W.words [] self.old self.new) }
+        requires { IsTrue (is_phrase W.words class.now) }
+        ensures text { OnOk result (self.new ≡ self.old ++ line_text class.now x from x to) }
+        ensures drawn { OnOk result (Draws W.words [] self.old self.new) }
     {
-        self.put(&[
+        self.add(&[
             Markup("<line class=\""),
-            Markup(class),
+            Phrase(class),
             Markup("\""),
             Attribute("x1", x),
             Attribute("y1", from),
@@ -177,7 +210,7 @@ impl<W: Vocabulary> Svg<W> {
 
     /// Puts a rectangle of these attributes.
     pub fn rect(&mut self, attributes: &[Part]) -> Result<(), NoMemory>
-        requires { IsTrue (list_all (is_fixed W.words) attributes.now) }
+        requires { IsTrue (list_all (is_attribute W.words) attributes.now) }
         ensures { OnOk result (Draws W.words (flat_map labels_of_part attributes.now) self.old self.new) }
     {
         self.element("<rect", attributes, "/>")
@@ -185,34 +218,41 @@ impl<W: Vocabulary> Svg<W> {
 
     /// Puts the beginning of a group of a class, with these attributes.
     pub fn group(&mut self, class: &[Part], attributes: &[Part]) -> Result<(), NoMemory>
-        requires class { IsTrue (list_all (is_fixed W.words) class.now) }
-        requires attributes { IsTrue (list_all (is_fixed W.words) attributes.now) }
-        ensures { OnOk result (Draws W.words
+        requires class { IsTrue (list_all (is_value W.words) class.now) }
+        requires attributes { IsTrue (list_all (is_attribute W.words) attributes.now) }
+        ensures { OnOk result (Opens W.words (codes "g")
             (flat_map labels_of_part class.now ++ flat_map labels_of_part attributes.now) self.old self.new) }
     {
         self.element("<g class=\"", class, "\"")?;
-        self.put(attributes)?;
-        self.put(&[Markup(">")])
+        self.add(attributes)?;
+        self.add(&[Markup(">")])
+    }
+
+    /// Puts the beginning of a group without a class.
+    pub fn plain_group(&mut self) -> Result<(), NoMemory>
+        ensures { OnOk result (Opens W.words (codes "g") [] self.old self.new) }
+    {
+        self.add(&[Markup("<g>")])
     }
 
     /// Puts the end of a group.
     pub fn close_group(&mut self) -> Result<(), NoMemory>
-        ensures { OnOk result (Draws W.words [] self.old self.new) }
+        ensures { OnOk result (Closes W.words (codes "g") [] self.old self.new) }
     {
-        self.put(&[Markup("</g>\n")])
+        self.add(&[Markup("</g>\n")])
     }
 
     /// Puts the end of a line of the document's bytes.
     pub fn end_line(&mut self) -> Result<(), NoMemory>
         ensures { OnOk result (Draws W.words [] self.old self.new) }
     {
-        self.put(&[Markup("\n")])
+        self.add(&[Markup("\n")])
     }
 
     /// Puts the end of the document.
     pub fn close(&mut self) -> Result<(), NoMemory>
-        ensures { OnOk result (Draws W.words [] self.old self.new) }
+        ensures { OnOk result (self.new ≡ self.old ++ end_text) }
     {
-        self.put(&[Markup("</svg>\n")])
+        self.add(&[Markup("</svg>\n")])
     }
 }

@@ -1,4 +1,4 @@
-use Rattle.std.proofs.Common.{◌≡◌, ◌∙◌, ap, map}
+use Rattle.std.proofs.Common.{◌≡◌, ◌∙◌, ap, map, refl}
 use Rattle.std.specs.List.{filter}
 use Rattle.std.proofs.lemmas.Result.{on_ok_weaker}
 use Rattle.pf_terms.specs.Atoms.{name_of}
@@ -9,6 +9,9 @@ use Rattle.pf_chart.proofs.Charts.{chart_of, paged, told}
 use Rattle.pf_svg.proofs.Drawn.{in_turn, plainly}
 use Rattle.pf_chart.proofs.chart.put_document.Goals as goal
 
+pub put-requires-clause-whole : goal.put-requires-clause-whole
+put-requires-clause-whole c = λ os. refl
+
 pub returns : goal.returns
 returns c =
     let manner = c.args.manner in
@@ -18,9 +21,10 @@ returns c =
     ap (map told) (c.page_of-rows.ensures ∙ ap (page_of manner.page) c.deref-2.ensures.value)
     ∙ paged manner.page all
     ∙ ap (page_of manner.page) (c.in_ok-all_rows.ensures ∙ ap (λ es. filter (has_row manner.compact) (map event_of es)) c.deref.ensures.value) in
-    on_ok_weaker c.put_bottom.result
+    on_ok_weaker c.close.result
     (λ h. chart_of (name_of c.args.atoms.now) c.args.names.root.now (texts c.args.names.known.now) manner c.args.report.now c.in_ok-layout.layout.columns.items rows c.new-sheet.result.count
-    c.deref-4.result.now c.deref-5.result.now are c.new-sheet.ensures
+    c.deref-4.result.now c.deref-5.result.now c.width.result c.height.result are c.new-sheet.ensures
     (c.deref-4.ensures.value ∙ c.in_ok-outcome.ensures) (c.deref-5.ensures.value ∙ c.in_ok-outcome.ensures)
-    (in_turn c.in_ok-open.ensures (in_turn (plainly c.in_ok-put_words.ensures c.in_ok-put.ensures) (in_turn c.in_ok-put_layout.ensures h))))
-    c.put_bottom.ensures
+    c.in_ok-open.ensures
+    (in_turn (plainly c.in_ok-put_words.ensures c.in_ok-put.ensures) (in_turn c.in_ok-put_layout.ensures c.in_ok-put_bottom.ensures)) h)
+    c.close.ensures

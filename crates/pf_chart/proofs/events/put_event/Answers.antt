@@ -4,10 +4,10 @@ use Rattle.pf_terms.specs.Atoms.{name_of}
 use Rattle.pf_model.specs.Reports.{label_of}
 use Rattle.pf_model.specs.Text.{label_text}
 use Rattle.pf_chart.specs.Chart.{twice}
-use Rattle.pf_svg.proofs.Drawn.{in_turn, renamed}
+use Rattle.pf_svg.proofs.Drawn.{grouped, renamed}
 use Rattle.pf_chart.proofs.events.put_event.Goals as goal
 
 pub returns : goal.returns
 returns c =
     let text : c.deref.result.now ≡ label_text (name_of c.args.atoms.now) (label_of c.args.row.now.event.now.label) = search rules in
-    on_ok_weaker c.put_mark.result (λ h. renamed (ap twice text) (in_turn c.in_ok-put_opening.ensures h)) c.put_mark.ensures
+    on_ok_weaker c.put_mark.result (λ h. renamed (ap twice text) (grouped c.in_ok-put_opening.ensures h)) c.put_mark.ensures

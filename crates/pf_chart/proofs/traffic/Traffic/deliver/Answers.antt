@@ -1,0 +1,19 @@
+use Rattle.std.proofs.Common.{subst}
+use Rattle.std.proofs.lemmas.Result.{on_ok_weaker}
+use Rattle.pf_model.specs.Reports.{suffix_of}
+use Rattle.pf_chart.specs.Traffic.{IsDelivered, reach_of, untold, way_of}
+use Rattle.pf_chart.specs.declared.arrows.Reach.{Reach}
+use Rattle.pf_chart.specs.declared.arrows.SignalKind.{SignalKind}
+use Rattle.pf_chart.proofs.traffic.Traffic.deliver.Goals as goal
+
+pub returns : goal.returns
+returns c =
+    let s = c.args.self.now in
+    let t = c.arrive.new.self in
+    let n = c.args.row in
+    let a = c.args.from in
+    let b = c.args.to in
+    let delivered =
+    subst (λ (k : SignalKind). IsDelivered (way_of a b k) (untold n a b k (reach_of (suffix_of c.args.suffix.now) n)) s t) c.of.ensures
+    (subst (λ (r : Reach). IsDelivered (way_of a b c.of.result) (untold n a b c.of.result r) s t) c.reach_of.ensures c.in_ok-arrive.ensures) in
+    on_ok_weaker c.settle.result (λ h. (t, delivered, h)) c.settle.ensures

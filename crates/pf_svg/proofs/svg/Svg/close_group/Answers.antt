@@ -1,0 +1,8 @@
+use Rattle.std.proofs.Common.{◌∷◌}
+use Rattle.std.specs.Prelude.{codes}
+use Rattle.std.proofs.lemmas.Result.{on_ok_weaker}
+use Rattle.pf_svg.specs.Places.{outside}
+use Rattle.pf_svg.proofs.svg.Svg.close_group.Goals as goal
+
+pub returns : goal.returns
+returns g c = on_ok_weaker c.add.result (λ h os. h (outside (codes "g" ∷ os))) c.add.ensures.drawn

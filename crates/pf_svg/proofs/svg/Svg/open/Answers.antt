@@ -1,0 +1,4 @@
+use Rattle.pf_svg.proofs.svg.Svg.open.Goals as goal
+
+pub returns : goal.returns
+returns g c = c.add.ensures.text
