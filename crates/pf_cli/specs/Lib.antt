@@ -3,3 +3,4 @@ pub mod Form
 pub mod Reach
 pub mod Seeds
 pub mod Span
+pub mod Faults

@@ -3,6 +3,7 @@
 ghost use Rattle.std.specs.Prelude.{◌≡◌, ◌⊎◌, IfOk, IfErr, Some, None};
 ghost use Rattle.clap.specs.Words.{kind_of, rows_of, found_of};
 ghost use Rattle.pf_cli.specs.Args.{format_in};
+ghost use Rattle.pf_cli.specs.Faults.{valued_named};
 ghost use Rattle.pf_cli.specs.Form.{format_of};
 
 use crate::args::Format;
@@ -29,7 +30,9 @@ fn format_of(word: &str) -> Option<Format>
 }
 
 /// The command of this name, if it is one that may tell in a form.
-fn valued_of(name: &str) -> Valued {
+fn valued_of(name: &str) -> Valued
+    ensures { result ≡ valued_named name.now }
+{
     if name == "run" {
         Valued::Run
     } else if name == "hunt" {

@@ -1,7 +1,8 @@
 //! What a hunt goes over.
 
-ghost use Rattle.std.specs.Prelude.{◌≡◌, ◌⊎◌, IfOk, IfErr, Some, None, codes, is_some, length, map, nat_lt};
+ghost use Rattle.std.specs.Prelude.{◌≡◌, ◌⊎◌, IfOk, IfErr, Some, None, codes, is_some, length, map, nat_lt, option_map};
 ghost use Rattle.clap.specs.Words.{first_of, kind_of, rows_of, found_of};
+ghost use Rattle.pf_cli.specs.Faults.{clash_told_in};
 ghost use Rattle.pf_cli.specs.Args.{clashes_in, is_given, names_in, reach_in};
 ghost use Rattle.pf_cli.specs.Reach.{more_named, roots_named, view_of_reach};
 
@@ -100,7 +101,8 @@ pub(crate) fn reach_of<'a>(alloc: Global, rows: &ArgMatches<'a>) -> Result<Reach
 
 /// Two words that don't go together, if such stand there.
 pub(crate) fn clash(rows: &ArgMatches) -> Option<(&'static str, &'static str)>
-    ensures { is_some result ≡ clashes_in (rows_of (found_of rows.now)) }
+    ensures some { is_some result ≡ clashes_in (rows_of (found_of rows.now)) }
+    ensures told { option_map (λ p. (p.0.now, p.1.now)) result ≡ clash_told_in (rows_of (found_of rows.now)) }
 {
     let every = is_given(rows, "all-roots");
     if every && value(rows, "root").is_some() {

@@ -1,15 +1,15 @@
 //! What the program does with words.
 
-ghost use Rattle.std.specs.Prelude.{◌≡◌, ◌≢◌, IfOk, map, option_map};
-ghost use Rattle.clap.specs.Words.{kind_of};
+ghost use Rattle.std.specs.Prelude.{◌≡◌, ◌≢◌, IfOk, IfSome, Some, map, option_map};
 ghost use Rattle.pf_cli.specs.Args.{reading_of, status_of_kind, told, view_of_reading};
+ghost use Rattle.pf_cli.specs.Faults.{text_in};
 
 use crate::args::Asked;
 use crate::parse::{read_by, status_of_kind};
-use clap::Error;
 use clap::error::ErrorKind;
 use pf_terms::NoMemory;
 use std::alloc::Global;
+use std::fmt::Display;
 
 /// What words come to.
 #[derive(Drop)]
@@ -26,12 +26,12 @@ pub enum Reading<'a> {
     },
 }
 
-/// The text of words that ask for no work.
-fn told<'a>(alloc: Global, error: &Error) -> Result<Reading<'a>, NoMemory>
-    ensures text { IfOk result (λ r. view_of_reading r ≡ told (status_of_kind (kind_of error.now))) }
-    ensures memory { IfOk result (λ r. kind_of error.now ≢ ErrorKind.OutOfMemory) }
+/// The text of words that ask for no work: what their error of this kind prints.
+fn told<'a, E: Display>(alloc: Global, kind: ErrorKind, error: &E) -> Result<Reading<'a>, NoMemory>
+    ensures told { IfOk result (λ r. view_of_reading r ≡ told (status_of_kind kind)) }
+    ensures text { IfOk result (λ r. IfSome (E.output error.now) (λ printed. text_in r ≡ Some printed)) }
+    ensures memory { IfOk result (λ r. kind ≢ ErrorKind.OutOfMemory) }
 {
-    let kind = error.kind();
     if matches!(kind, ErrorKind::OutOfMemory) {
         return Err(NoMemory);
     }
@@ -62,7 +62,7 @@ pub fn read<'a>(
     };
     let found = match read_by(alloc, words, Some(text)) {
         Ok(found) => found,
-        Err(error) => return told(alloc, &error),
+        Err(error) => return told(alloc, error.kind(), &error),
     };
     match (schedule, found.schedule) {
         (None, Some(file)) => Ok(Reading::ScheduleIn(file)),

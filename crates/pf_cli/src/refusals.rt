@@ -1,13 +1,16 @@
 //! Errors of words whose values are none.
 
-ghost use Rattle.std.specs.Prelude.{◌≡◌, ◌⊎◌, IfOk};
-ghost use Rattle.clap.specs.Words.{kind_of};
+ghost use Rattle.std.specs.Prelude.{◌≡◌, ◌⊎◌, IfOk, IsSomeAnd};
+ghost use Rattle.std.specs.String.{string_bytes};
+ghost use Rattle.clap.specs.Words.{app_of, kind_of};
+ghost use Rattle.clap.specs.declared.builder.command.Command.TheViews.{out-Command};
+ghost use Rattle.pf_cli.specs.Faults.{clash_text, file_text, number_option, usage_app, usage_name, value_text};
 
 use crate::commands::{
     chart_command, check_command, command, farm_command, hunt_command, run_command, shrink_command,
 };
-use clap::Error;
 use clap::error::ErrorKind;
+use clap::{Command, Error};
 use std::alloc::{AllocError, Global};
 
 /// An error with its text.
@@ -34,6 +37,43 @@ pub(crate) enum Valued {
     Farm,
 }
 
+/// A command, of which a usage is shown.
+fn command_of<'a>(alloc: Global, valued: Valued) -> Result<Command<'a>, AllocError>
+    ensures { IfOk result (λ c. app_of c ≡ usage_app valued) }
+{
+    match valued {
+        Valued::Run => run_command(alloc),
+        Valued::Hunt => hunt_command(alloc),
+        Valued::Chart => chart_command(alloc),
+        Valued::Shrink => shrink_command(alloc),
+        Valued::Check => check_command(alloc),
+        Valued::Farm => farm_command(alloc),
+    }
+}
+
+/// How its usage names it.
+fn usage_name(valued: Valued) -> &'static str
+    ensures { result.now ≡ usage_name valued }
+{
+    match valued {
+        Valued::Run => "pulsefarm run",
+        Valued::Hunt => "pulsefarm hunt",
+        Valued::Chart => "pulsefarm chart",
+        Valued::Shrink => "pulsefarm shrink",
+        Valued::Check => "pulsefarm check",
+        Valued::Farm => "pulsefarm farm",
+    }
+}
+
+/// A command by the name that its usage has.
+fn usage_of<'a>(alloc: Global, valued: Valued) -> Result<Command<'a>, AllocError>
+    ensures app { IfOk result (λ c. app_of c ≡ usage_app valued) }
+    ensures name { IfOk result (λ c.
+        IsSomeAnd (out-Command c).bin_name (λ s. s.bytes.items ≡ usage_name valued)) }
+{
+    command_of(alloc, valued)?.bin_name(usage_name(valued))
+}
+
 /// An error of this kind with its text and the usage of a command.
 fn try_refuse(
     alloc: Global,
@@ -43,14 +83,7 @@ fn try_refuse(
 ) -> Result<Error, AllocError>
     ensures { IfOk result (λ e. kind_of e ≡ kind) }
 {
-    let mut command = match valued {
-        Valued::Run => run_command(alloc)?.bin_name("pulsefarm run")?,
-        Valued::Hunt => hunt_command(alloc)?.bin_name("pulsefarm hunt")?,
-        Valued::Chart => chart_command(alloc)?.bin_name("pulsefarm chart")?,
-        Valued::Shrink => shrink_command(alloc)?.bin_name("pulsefarm shrink")?,
-        Valued::Check => check_command(alloc)?.bin_name("pulsefarm check")?,
-        Valued::Farm => farm_command(alloc)?.bin_name("pulsefarm farm")?,
-    };
+    let mut command = usage_of(alloc, valued)?;
     command.error(kind, text)
 }
 
@@ -79,6 +112,13 @@ fn refuse_with(
     }
 }
 
+/// What is said of the value of an option.
+fn wrong_value(alloc: Global, option: &str, value: &str, wants: &str) -> Result<String, AllocError>
+    ensures { IfOk result (λ t. string_bytes t ≡ value_text option.now value.now wants.now) }
+{
+    format!(in alloc; "invalid value '{value}' for '--{option}': it wants {wants}")
+}
+
 /// An error that names the value of an option, as `limit <N>`.
 pub(crate) fn refuse_value(
     alloc: Global,
@@ -89,11 +129,18 @@ pub(crate) fn refuse_value(
 ) -> Error
     ensures { (kind_of result ≡ ErrorKind.OutOfMemory) ⊎ (kind_of result ≡ ErrorKind.InvalidValue) }
 {
-    let told = format!(in alloc; "invalid value '{value}' for '--{option}': it wants {wants}");
+    let told = wrong_value(alloc, option, value, wants);
     refuse_with(alloc, valued, ErrorKind::InvalidValue, told)
 }
 
-/// The same of an option whose value is a number.
+/// An option whose value is a number.
+fn number_option(alloc: Global, name: &str) -> Result<String, AllocError>
+    ensures { IfOk result (λ t. string_bytes t ≡ number_option name.now) }
+{
+    format!(in alloc; "{name} <N>")
+}
+
+/// An error that names the value of an option that is a number.
 pub(crate) fn refuse_number(
     alloc: Global,
     valued: Valued,
@@ -103,24 +150,38 @@ pub(crate) fn refuse_number(
 ) -> Error
     ensures { (kind_of result ≡ ErrorKind.OutOfMemory) ⊎ (kind_of result ≡ ErrorKind.InvalidValue) }
 {
-    match format!(in alloc; "{name} <N>") {
+    match number_option(alloc, name) {
         Ok(option) => refuse_value(alloc, valued, &option, value, wants),
         Err(e) => Error::from(e),
     }
+}
+
+/// What is said of a file that is one too many.
+fn wrong_file(alloc: Global, file: &str, wants: &str) -> Result<String, AllocError>
+    ensures { IfOk result (λ t. string_bytes t ≡ file_text file.now wants.now) }
+{
+    format!(in alloc; "invalid value '{file}' for {wants}")
 }
 
 /// An error that names a file, which is one too many.
 pub(crate) fn refuse_file(alloc: Global, valued: Valued, file: &str, wants: &str) -> Error
     ensures { (kind_of result ≡ ErrorKind.OutOfMemory) ⊎ (kind_of result ≡ ErrorKind.InvalidValue) }
 {
-    let text = format!(in alloc; "invalid value '{file}' for {wants}");
+    let text = wrong_file(alloc, file, wants);
     refuse_with(alloc, valued, ErrorKind::InvalidValue, text)
+}
+
+/// What is said of two words that don't go together.
+fn wrong_pair(alloc: Global, first: &str, second: &str) -> Result<String, AllocError>
+    ensures { IfOk result (λ t. string_bytes t ≡ clash_text first.now second.now) }
+{
+    format!(in alloc; "the argument '{first}' cannot be used with {second}")
 }
 
 /// An error of two words that don't go together.
 pub(crate) fn refuse_both(alloc: Global, valued: Valued, first: &str, second: &str) -> Error
     ensures { (kind_of result ≡ ErrorKind.OutOfMemory) ⊎ (kind_of result ≡ ErrorKind.ArgumentConflict) }
 {
-    let text = format!(in alloc; "the argument '{first}' cannot be used with {second}");
+    let text = wrong_pair(alloc, first, second);
     refuse_with(alloc, valued, ErrorKind::ArgumentConflict, text)
 }

@@ -1,5 +1,5 @@
 -- What a source is answered with of which a run or a shrinking is asked for: the text that goes out and the status.
-use Rattle.std.specs.Prelude.{◌≡◌, ◌⊎◌, ℕ, zero, Bool, true, false, List, ◌++◌, Option, None, Some, Result, Ok, Err, codes}
+use Rattle.std.specs.Prelude.{◌≡◌, ◌<◌, ℕ, zero, Bool, true, false, List, ◌++◌, Option, None, Some, Result, Ok, Err, codes}
 use Rattle.pf_fault.specs.Codes.{code_text, refusal_text}
 use Rattle.pf_fault.specs.declared.code.Code.{Code}
 use Rattle.pf_fault.specs.declared.code.Code.TheVariants as code
@@ -9,7 +9,7 @@ use Rattle.pf_model.specs.Meaning.{Event, Means, Report}
 use Rattle.pf_model.specs.Shrinking as shrinking
 use Rattle.pf_model.specs.Shrinking.{IsResult}
 use Rattle.pf_model.specs.TermText.{line}
-use Rattle.pf_model.specs.Text.{result_text}
+use Rattle.pf_model.specs.Text.{report_text, result_text}
 use Rattle.pf_trace.specs.Written.{lines_text}
 use Rattle.pf_request.specs.Module.{ReadModule}
 use Rattle.pf_request.specs.Job.{Job}
@@ -89,13 +89,25 @@ pub data Tells (j : Job) : List ℕ → ℕ → Type 0 where
   result : (x : shrinking.Result) → IsResult j.asked x → Tells j (told_text (names_of j) x) (told_status x)
   out_of_memory : (es : List Event) → j.asked.runs ≡ zero → AreFirst j.asked es → Tells j (cut_text (names_of j) es) 2
 
--- what was counted stays, or it is how many processes still wait at the end of the run of a job though its root returned
-abbrev pub Waits : Job → (old new : ℕ) → Type 0
-Waits j old new = (new ≡ old) ⊎ ((r : Report) × Means j.asked r × (new ≡ waiting_in r))
-
 -- a source of these bytes, of which a run or a shrinking is asked for, is answered with this text and this status
 abbrev pub Answers : RunArgs → (bytes text : List ℕ) → ℕ → Type 0
 Answers a = AnswersBy (AsksOf a) Tells
+
+-- ---- who still waits
+
+-- Counts j old new text status: where this is told of a job, new is how many processes still wait at the end of its run though its root returned, if the
+-- report of that is told. If it isn't, what was counted stays: of a shrinking, and with the status of what is refused
+pub data Counts (j : Job) (old : ℕ) : (new : ℕ) → List ℕ → ℕ → Type 0 where
+  reported : (r : Report) → j.asked.runs ≡ zero → Means j.asked r
+      → Counts j old (waiting_in r) (report_text (names_of j) r) (run_status r.verdict)
+  shrunk : (text : List ℕ) (status : ℕ) → 0 < j.asked.runs → Counts j old old text status
+  unreported : (text : List ℕ) → Counts j old old text 2
+
+-- the same of a source of these bytes, if `asks` says which job is asked for of a module
+pub data CountsBy (asks : ReadModule → Result Job Code → Type 0) (old : ℕ) : (new : ℕ) → (bytes text : List ℕ) → ℕ → Type 0 where
+  counted : (m : ReadModule) (j : Job) (new : ℕ) (bytes text : List ℕ) (status : ℕ) → IsModuleOf bytes m → asks m (Ok j) → Counts j old new text status
+      → CountsBy asks old new bytes text status
+  refused_before : (bytes text : List ℕ) → CountsBy asks old old bytes text 2
 
 -- ---- the code's own requests and answers
 

@@ -9,7 +9,7 @@ use Rattle.pf_sched.specs.Asked.{Asks}
 use Rattle.pf_strategy.specs.Runs.{MeansByPriorities}
 use Rattle.pf_chart.specs.declared.manner.Manner.{Manner}
 use Rattle.pf_cli.specs.Args.{ChartArgs, RunArgs}
-use Rattle.pf_command.specs.Answers.{AnswersBy, IsModuleOf, Tells}
+use Rattle.pf_command.specs.Answers.{AnswersBy, CountsBy, IsModuleOf, Tells}
 use Rattle.pf_command.specs.Charts.{Draws}
 use Rattle.pf_command.specs.Hunts.{choices_of}
 
@@ -29,6 +29,10 @@ pub data AsksOfRun (a : RunArgs) (m : ReadModule) : Result Job Code → Type 0 w
 -- a source of these bytes, of which a run is asked for, is answered with this text and this status
 abbrev pub RunAnswers : RunArgs → (bytes text : List ℕ) → ℕ → Type 0
 RunAnswers a = AnswersBy (AsksOfRun a) Tells
+
+-- and so it is counted who still waits at the end of the run that is reported
+abbrev pub RunCounts : RunArgs → (old new : ℕ) → (bytes text : List ℕ) → ℕ → Type 0
+RunCounts a = CountsBy (AsksOfRun a)
 
 -- and one of which a chart is asked for with these
 abbrev pub manner_of : ChartArgs → Manner

@@ -65,6 +65,10 @@ Sends P w0 w1 n0 n1 (Ok status) = Prints P w0 w1 n0 n1 (Ok status)
 Sends P w0 w1 n0 n1 (Err NoMemory) = (w1 ≡ w0) × (n1 ≡ n0)
 Sends P w0 w1 n0 n1 (Err (Fault f)) = Prints P w0 w1 n0 n1 (Err f)
 
+-- this holds of the text that went out, and of the status
+abbrev pub WentOut : (P : List ℕ → ℕ → Type 0) → (written_old written_new : Option (List ℕ)) → ℕ → Type 0
+WentOut P w0 w1 status = (text : List ℕ) × P text status × Appends w0 w1 text
+
 -- this is the text of an answer, and its status
 abbrev pub IsAnswer : Answer → List ℕ → ℕ → Type 0
 IsAnswer a text status = (text ≡ a.text.items) × (status ≡ a.status)

@@ -43,7 +43,7 @@ fn end_of_hunt<T: Threads + Sync, S: HuntObserver>(
 }
 
 /// Prints what a source of these bytes is answered with, by the given number of workers.
-fn print_hunt<W: Write, M: Ledger, T: Threads + Sync, S: HuntObserver>(
+pub fn print_hunt<W: Write, M: Ledger, T: Threads + Sync, S: HuntObserver>(
     rt: &T,
     alloc: Global,
     args: &HuntArgs,

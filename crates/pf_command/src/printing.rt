@@ -3,9 +3,9 @@
 ghost use Rattle.std.specs.Prelude.{◌≡◌, List, ℕ, zero, IfErr, IfOk, OnOk, Some};
 ghost use Rattle.pf_fault.specs.Codes.{code_text, refusal_text};
 ghost use Rattle.pf_cli.specs.Args.{view_of_run_args};
-ghost use Rattle.pf_command.specs.Answers.{Answers, IsModuleOf, IsNoMemory, Tells, Waits, run_args};
-ghost use Rattle.pf_command.specs.Guided.{RunAnswers};
-ghost use Rattle.pf_command.specs.Streams.{Answered, IsAnswer, IsRefused, Leaves, NoneFailed, Prints, Sends, Takes, streams};
+ghost use Rattle.pf_command.specs.Answers.{Answers, AsksOf, Counts, CountsBy, IsModuleOf, IsNoMemory, Tells, run_args};
+ghost use Rattle.pf_command.specs.Guided.{RunAnswers, RunCounts};
+ghost use Rattle.pf_command.specs.Streams.{Answered, IsAnswer, IsRefused, Leaves, NoneFailed, Prints, Sends, Takes, WentOut, streams};
 
 use crate::answer::{Answer, REFUSED, read_source, refused_at, refused_by_code, run_status};
 use crate::guided::scheduled;
@@ -81,7 +81,8 @@ fn print_one_run<W: Write, M: Ledger>(
     requires { job.now.asked.runs ≡ zero }
     ensures told { Prints (Tells job.now) (W.contents writer.old.inner) (W.contents writer.new.inner)
         writer.old.failures.total writer.new.failures.total result }
-    ensures waits { Waits job.now waiting.old waiting.new }
+    ensures waits { IfOk result (WentOut (Counts job.now waiting.old waiting.new)
+        (W.contents writer.old.inner) (W.contents writer.new.inner)) }
 {
     match print_run(alloc, job, &mut Scratch::new(alloc), writer) {
         Ok(printed) => {
@@ -102,7 +103,8 @@ fn print_job<W: Write, M: Ledger>(
 ) -> Result<u8, OrNoMemory<StreamFault>>
     ensures told { Sends (Tells job) (W.contents writer.old.inner) (W.contents writer.new.inner)
         writer.old.failures.total writer.new.failures.total result }
-    ensures waits { Waits job waiting.old waiting.new }
+    ensures waits { IfOk result (WentOut (Counts job waiting.old waiting.new)
+        (W.contents writer.old.inner) (W.contents writer.new.inner)) }
 {
     if job.runs() > 0 {
         let answer = answer_job(alloc, job, &mut Silent)?;
@@ -121,10 +123,13 @@ fn print_asked<W: Write, M: Ledger>(
     writer: &mut Counted<W, M>,
     waiting: &mut u32,
 ) -> Result<u8, OrNoMemory<StreamFault>>
-    ensures { (bytes : List ℕ) → IsModuleOf bytes «module»
+    ensures told { (bytes : List ℕ) → IsModuleOf bytes «module»
         → Sends (Answers (run_args request.now edition) bytes)
         (W.contents writer.old.inner) (W.contents writer.new.inner)
         writer.old.failures.total writer.new.failures.total result }
+    ensures waits { (bytes : List ℕ) → IsModuleOf bytes «module»
+        → IfOk result (WentOut (CountsBy (AsksOf (run_args request.now edition)) waiting.old waiting.new bytes)
+        (W.contents writer.old.inner) (W.contents writer.new.inner)) }
 {
     match Job::new(alloc, module, request, edition.number()) {
         Ok(job) => print_job(alloc, job, writer, waiting),
@@ -143,10 +148,13 @@ fn print_guided<W: Write, M: Ledger>(
     waiting: &mut u32,
 ) -> Result<u8, OrNoMemory<StreamFault>>
     requires { args.now.priorities ≡ Some seed }
-    ensures { (bytes : List ℕ) → IsModuleOf bytes «module»
+    ensures told { (bytes : List ℕ) → IsModuleOf bytes «module»
         → Sends (RunAnswers (view_of_run_args args.now) bytes)
         (W.contents writer.old.inner) (W.contents writer.new.inner)
         writer.old.failures.total writer.new.failures.total result }
+    ensures waits { (bytes : List ℕ) → IsModuleOf bytes «module»
+        → IfOk result (WentOut (RunCounts (view_of_run_args args.now) waiting.old waiting.new bytes)
+        (W.contents writer.old.inner) (W.contents writer.new.inner)) }
 {
     match Job::new(alloc, module.share()?, &args.request, args.edition.number()) {
         Ok(job) => {
@@ -166,10 +174,13 @@ fn print_module<W: Write, M: Ledger>(
     writer: &mut Counted<W, M>,
     waiting: &mut u32,
 ) -> Result<u8, OrNoMemory<StreamFault>>
-    ensures { (bytes : List ℕ) → IsModuleOf bytes «module»
+    ensures told { (bytes : List ℕ) → IsModuleOf bytes «module»
         → Sends (RunAnswers (view_of_run_args args.now) bytes)
         (W.contents writer.old.inner) (W.contents writer.new.inner)
         writer.old.failures.total writer.new.failures.total result }
+    ensures waits { (bytes : List ℕ) → IsModuleOf bytes «module»
+        → IfOk result (WentOut (RunCounts (view_of_run_args args.now) waiting.old waiting.new bytes)
+        (W.contents writer.old.inner) (W.contents writer.new.inner)) }
 {
     match args.priorities {
         Some(seed) => print_guided(alloc, args, seed, module, writer, waiting),
@@ -177,17 +188,20 @@ fn print_module<W: Write, M: Ledger>(
     }
 }
 
-/// Prints the answer to a source of these bytes of which a run is asked for.
-fn print_source<W: Write, M: Ledger>(
+/// Prints the answer to a source of these bytes of which a run is asked for. Where a report is told, how many processes still wait though the
+/// root returned is put in `waiting`.
+pub fn print_source<W: Write, M: Ledger>(
     alloc: Global,
     args: &RunArgs,
     bytes: Vec<u8>,
     writer: &mut Counted<W, M>,
     waiting: &mut u32,
 ) -> Result<u8, OrNoMemory<StreamFault>>
-    ensures { Sends (RunAnswers (view_of_run_args args.now) bytes.items)
+    ensures told { Sends (RunAnswers (view_of_run_args args.now) bytes.items)
         (W.contents writer.old.inner) (W.contents writer.new.inner)
         writer.old.failures.total writer.new.failures.total result }
+    ensures waits { IfOk result (WentOut (RunCounts (view_of_run_args args.now) waiting.old waiting.new bytes.items)
+        (W.contents writer.old.inner) (W.contents writer.new.inner)) }
 {
     match read_source(alloc, bytes) {
         Ok(module) => print_module(alloc, args, module, writer, waiting),
@@ -197,7 +211,7 @@ fn print_source<W: Write, M: Ledger>(
 }
 
 /// Answers a source of which a run is asked for: reads at most one byte more than a source may have, writes the report as the run goes, or
-/// why there is none, and gives the status. How many processes still wait though the root returned is put in `waiting`, if there are any.
+/// why there is none, and gives the status. Where a report is told, how many processes still wait though the root returned is put in `waiting`.
 pub fn run_source<R: Read, W: Write, L: Ledger, M: Ledger>(
     alloc: Global,
     reader: &mut Counted<R, L>,
@@ -206,6 +220,11 @@ pub fn run_source<R: Read, W: Write, L: Ledger, M: Ledger>(
     waiting: &mut u32,
 ) -> Result<u8, OrNoMemory<StreamFault>>
     ensures answered { IfOk result (λ status. Answered (RunAnswers (view_of_run_args args.now))
+        (streams (R.remaining reader.old.inner) (W.contents writer.old.inner)
+        reader.old.failures.total writer.old.failures.total)
+        (streams (R.remaining reader.new.inner) (W.contents writer.new.inner)
+        reader.new.failures.total writer.new.failures.total) status) }
+    ensures waits { IfOk result (λ status. Answered (RunCounts (view_of_run_args args.now) waiting.old waiting.new)
         (streams (R.remaining reader.old.inner) (W.contents writer.old.inner)
         reader.old.failures.total writer.old.failures.total)
         (streams (R.remaining reader.new.inner) (W.contents writer.new.inner)

@@ -1,5 +1,9 @@
 //! The sources of a folder.
 
+ghost use Rattle.std.specs.Prelude.{IfOk};
+ghost use Rattle.std.specs.String.{string_bytes};
+ghost use Rattle.pf_files.specs.Suites.{IsPathOf};
+
 use crate::names::read_word;
 use pf_fault::{NoMemory, OrNoMemory};
 use pf_terms::StreamFault;
@@ -57,7 +61,9 @@ fn sources_in(alloc: Global, names: &[u8]) -> Result<Vec<Vec<u8>>, NoMemory> {
 }
 
 /// The name of a folder with a slash behind it.
-fn with_slash(alloc: Global, folder: &str) -> Result<String, NoMemory> {
+fn with_slash(alloc: Global, folder: &str) -> Result<String, NoMemory>
+    ensures { IfOk result (λ path. IsPathOf folder.now (string_bytes path)) }
+{
     let mut path = String::from_str(alloc, folder)?;
     if !path.ends_with('/') {
         path.push('/')?;

@@ -1,5 +1,8 @@
 //! Words that name files.
 
+ghost use Rattle.std.specs.Prelude.{◌≡◌, ◌<◌, ℕ, IfOk, IsErr, IsUtf8, length, slice_index};
+ghost use Rattle.std.specs.String.{string_bytes};
+
 use std::alloc::{AllocError, Global};
 use std::fs::{self, Files};
 use std::io;
@@ -19,7 +22,9 @@ fn marked(alloc: Global, bytes: &[u8]) -> Result<String, AllocError> {
 }
 
 /// The text of a word.
-pub fn read_word(alloc: Global, bytes: &[u8]) -> Result<String, AllocError> {
+pub fn read_word(alloc: Global, bytes: &[u8]) -> Result<String, AllocError>
+    ensures { IfOk result (λ text. IsUtf8 bytes.now → string_bytes text ≡ bytes.now) }
+{
     match str::from_utf8(bytes) {
         Ok(text) => String::from_str(alloc, text),
         Err(_) => marked(alloc, bytes),
@@ -27,7 +32,9 @@ pub fn read_word(alloc: Global, bytes: &[u8]) -> Result<String, AllocError> {
 }
 
 /// Opens a file that a word names. Paths are text, so one with another name can't be opened.
-pub fn open<R: Files>(rt: &R, name: &str) -> io::Result<R::File> {
+pub fn open<R: Files>(rt: &R, name: &str) -> io::Result<R::File>
+    ensures { (k : ℕ) → k < length name.now → slice_index name.now k ≡ 0 → IsErr result }
+{
     if !name.contains('\0') {
         return fs::open(rt, name);
     }

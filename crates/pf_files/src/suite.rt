@@ -1,6 +1,10 @@
 //! Hunts over several sources and roots: a line for each root as soon as its hunt is over, and a summary.
 
-ghost use Rattle.std.specs.Prelude.{◌≡◌, ◌<◌};
+ghost use Rattle.std.specs.Prelude.{◌≡◌, ◌≢◌, ◌<◌, ◌≤◌, true, is_some, ◌||◌, None, Ok, IfNone, IfSome, IfOk, IsSomeAnd, MatchOption, OnOk, take};
+ghost use Rattle.std.specs.Io.KnownBytes.{Appends};
+ghost use Rattle.pf_cli.specs.declared.args.Sought.TheVariants.{Failure};
+ghost use Rattle.pf_cli.specs.Args.{view_of_hunt_args};
+ghost use Rattle.pf_files.specs.Suites.{goes_over_several};
 
 use crate::folder::{files_in, is_folder};
 use crate::names::open;
@@ -27,7 +31,10 @@ use std::time::{Clock, Instant};
 pub type Answered = Result<u8, OrNoMemory<StreamFault>>;
 
 /// How many threads run the seeds of a hunt: those that are named, or one for each of the machine's processors, at most 64.
-pub fn workers_of(rt: &impl Threads, args: &HuntArgs) -> u64 {
+pub fn workers_of(rt: &impl Threads, args: &HuntArgs) -> u64
+    ensures named { IfSome args.now.workers (λ workers. result ≡ workers) }
+    ensures most { IfNone args.now.workers (result ≤ 64) }
+{
     match (args.workers, available_parallelism(rt)) {
         (Some(named), _) => u64::from(named),
         (None, Ok(count)) => u64::try_from(count.get()).unwrap_or(1).min(64),
@@ -36,7 +43,10 @@ pub fn workers_of(rt: &impl Threads, args: &HuntArgs) -> u64 {
 }
 
 /// Whether a hunt goes over several sources or roots: it has several names, or every root, or its name is that of a folder.
-pub fn is_suite(rt: &impl Files, args: &HuntArgs) -> bool {
+pub fn is_suite(rt: &impl Files, args: &HuntArgs) -> bool
+    ensures several { goes_over_several (view_of_hunt_args args.now) ≡ true → result ≡ true }
+    ensures named { result ≡ true → (is_some args.now.file || goes_over_several (view_of_hunt_args args.now)) ≡ true }
+{
     !args.more.is_empty()
         || matches!(args.roots, Roots::Every)
         || args.file.is_some_and(|name| is_folder(rt, name))
@@ -76,6 +86,7 @@ where
     requires reads { reads.name ≡ L.name }
     requires read_parts { reads.parts ≡ L.parts }
     requires some_reads { 0 < reads.parts }
+    ensures { IfOk result (λ bytes. IfSome (F.remaining file) (λ input. bytes.items ≡ take MOST_BYTES input)) }
 {
     let mut reader = Counted::<F, L>::new(file, reads);
     reader.take_front(alloc, MOST_BYTES)
@@ -85,7 +96,10 @@ where
 fn put_now<W: Write, M: Ledger>(
     text: &[u8],
     writer: &mut Counted<W, M>,
-) -> Result<(), OrNoMemory<StreamFault>> {
+) -> Result<(), OrNoMemory<StreamFault>>
+    ensures { OnOk result
+        (Appends (W.contents writer.old.inner) (W.contents writer.new.inner) text.now) }
+{
     writer.put(text)?;
     match writer.inner.flush() {
         Ok(()) => Ok(()),
@@ -99,7 +113,10 @@ where
     R::File: Drop,
 {
     /// How many seconds are left, where a time is named.
-    fn time_left(&self) -> Option<u64> {
+    fn time_left(&self) -> Option<u64>
+        ensures { MatchOption result (self.now.args.now.time ≡ None)
+            (λ left. IsSomeAnd self.now.args.now.time (λ limit. left ≤ limit)) }
+    {
         let limit = self.args.time?;
         let Some(start) = self.start else {
             return Some(limit);
@@ -314,6 +331,8 @@ pub fn hunt_suite<R, I: Read, W: Write, L: Ledger, M: Ledger>(
 where
     R: Files + Print + Eprint + AllocGlobal + Clock + Threads + Sync,
     R::File: Drop,
+    ensures { args.now.sought ≢ Failure None → (result ≡ Ok 2)
+        × (W.contents writer.new.inner ≡ W.contents writer.old.inner) }
 {
     if !matches!(args.sought, Sought::Failure { runs: None }) {
         say(

@@ -10,7 +10,7 @@ mod waiting;
 
 pub use escape::Shown;
 pub use explain::say_processes;
-pub use messages::{REFUSED, failed, no_memory, no_memory_in, no_more_memory, say, tell};
+pub use messages::{REFUSED, end, failed, no_memory, say, tell};
 pub use progress::{Clearing, Line, Runs, Seeds};
 pub use reasons::{lacking_of, why, why_of_root};
 pub use waiting::{Waiting, say_waiting};

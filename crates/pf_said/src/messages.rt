@@ -1,11 +1,11 @@
 //! What the program says of words that ask for no work, and of faults.
 
-ghost use Rattle.std.specs.Prelude.{false};
-ghost use Rattle.pf_said.specs.Texts.{TellsText};
+ghost use Rattle.std.specs.Prelude.{◌≡◌, false};
+ghost use Rattle.pf_said.specs.Texts.{HasStatus, IsFailure, TellsText};
 
 use crate::escape::{Shown, without_tip};
 use pf_cli::Format;
-use pf_fault::NoMemory;
+use pf_fault::{NoMemory, OrNoMemory};
 use pf_terms::{Counted, StreamFault};
 use std::io::{self, Write};
 use std::sync::ledger::Ledger;
@@ -26,14 +26,18 @@ pub fn say(rt: &impl Eprint, text: &str) {
 }
 
 /// Says that memory ran out.
-pub fn no_memory(rt: &(impl Print + Eprint)) -> u8 {
+pub fn no_memory(rt: &(impl Print + Eprint)) -> u8
+    ensures { result ≡ 2 }
+{
     let _printed = println!(rt; "{NoMemory}");
     say(rt, "memory ran out");
     REFUSED
 }
 
 /// The same, in the form that is asked for.
-pub fn no_memory_in(rt: &(impl Print + Eprint), format: Format) -> u8 {
+fn no_memory_in(rt: &(impl Print + Eprint), format: Format) -> u8
+    ensures { result ≡ 2 }
+{
     if matches!(format, Format::Text) {
         return no_memory(rt);
     }
@@ -43,13 +47,17 @@ pub fn no_memory_in(rt: &(impl Print + Eprint), format: Format) -> u8 {
 }
 
 /// The same on standard error, for a command whose replies went out before.
-pub fn no_more_memory(rt: &impl Eprint) -> u8 {
+fn no_more_memory(rt: &impl Eprint) -> u8
+    ensures { result ≡ 2 }
+{
     let _printed = eprintln!(rt; "pulsefarm: {NoMemory}");
     REFUSED
 }
 
 /// Says what failed, and why; a file by its name. If nobody reads the output any more, that is no fault to speak of.
-pub fn failed(rt: &(impl Print + Eprint), file: Option<&str>, fault: &StreamFault) -> u8 {
+pub fn failed(rt: &(impl Print + Eprint), file: Option<&str>, fault: &StreamFault) -> u8
+    ensures { IsFailure result }
+{
     let error = fault.error();
     if error.kind() == io::ErrorKind::BrokenPipe {
         return BROKEN_PIPE;
@@ -67,6 +75,27 @@ pub fn failed(rt: &(impl Print + Eprint), file: Option<&str>, fault: &StreamFaul
         }
     }
     REFUSED
+}
+
+/// The status of a command, and what is said of its end. The answer to a source goes out in a form; replies to commands have none.
+pub fn end(
+    rt: &(impl Print + Eprint),
+    file: Option<&str>,
+    form: Option<Format>,
+    answered: Result<u8, OrNoMemory<StreamFault>>,
+) -> u8
+    ensures { HasStatus answered result }
+{
+    match answered {
+        Ok(status) => status,
+        Err(OrNoMemory::Fault(fault)) if fault.error().kind() != io::ErrorKind::OutOfMemory => {
+            failed(rt, file, &fault)
+        }
+        Err(_) => match form {
+            Some(form) => no_memory_in(rt, form),
+            None => no_more_memory(rt),
+        },
+    }
 }
 
 /// The number below 0 that words were refused for, and what follows, if that is why.

@@ -1,5 +1,8 @@
 //! How far a hunt or a shrinking came, in a line of the terminal that standard error is.
 
+ghost use Rattle.std.specs.Prelude.{◌≡◌, [], option_map};
+ghost use Rattle.pf_said.specs.Notices.{HasHeard, waiting_by, waiting_view};
+
 use crate::waiting::Waiting;
 use pf_sched::{Observer, Progress};
 use pf_seeds::{HuntObserver, Leak, Pace};
@@ -153,7 +156,9 @@ pub struct Seeds<'a, C> {
 }
 
 impl<'a, C: Clock> Seeds<'a, C> {
-    pub fn new(line: &'a Line, clock: &'a C, seeds: u64, limit: Option<u64>) -> Seeds<'a, C> {
+    pub fn new(line: &'a Line, clock: &'a C, seeds: u64, limit: Option<u64>) -> Seeds<'a, C>
+        ensures { HasHeard result.leak [] }
+    {
         Seeds {
             line,
             clock,
@@ -167,7 +172,9 @@ impl<'a, C: Clock> Seeds<'a, C> {
     }
 
     /// How many processes still wait although the root returned, if there are any.
-    pub fn waiting(&self) -> Option<Waiting> {
+    pub fn waiting(&self) -> Option<Waiting>
+        ensures { option_map waiting_view result ≡ option_map waiting_by self.now.leak }
+    {
         let Leak { seed, processes } = self.leak?;
         Some(Waiting {
             processes,
@@ -181,7 +188,9 @@ impl<'a, C: Clock> Seeds<'a, C> {
     }
 
     /// Tells how far it came, unless it did so just now.
-    fn tell(&mut self, time: Option<Duration>, done: u64, failures: u64) {
+    fn tell(&mut self, time: Option<Duration>, done: u64, failures: u64)
+        ensures { self.new.leak ≡ self.old.leak }
+    {
         if let (Some(now), Some(told)) = (time, self.told) {
             if now.saturating_sub(told).as_millis() < PAUSE {
                 return;
@@ -199,7 +208,9 @@ impl<'a, C: Clock> Seeds<'a, C> {
     }
 
     /// How it goes on after this time. If the clock doesn't tell, a hunt for a time ends.
-    fn pace(&mut self, time: Option<Duration>) -> Pace {
+    fn pace(&mut self, time: Option<Duration>) -> Pace
+        ensures { self.new.leak ≡ self.old.leak }
+    {
         let Some(now) = time else {
             return if self.limit.is_some() {
                 Pace::Stop
@@ -221,6 +232,10 @@ impl<'a, C: Clock> Seeds<'a, C> {
 }
 
 impl<C: Clock> HuntObserver for Seeds<'_, C> {
+    ghost use Rattle.pf_said.specs.Notices.{HasHeard};
+
+    ghost Heard = { λ seeds notices. HasHeard seeds.leak notices };
+
     fn progress(&mut self, done: u64, failures: u64) -> Pace {
         let time = self.time();
         self.tell(time, done, failures);

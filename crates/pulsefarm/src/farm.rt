@@ -3,7 +3,6 @@
 ghost use Rattle.std.specs.Prelude.{◌≡◌, ◌<◌, ◌≤◌, IfOk, IfSome, Some, length, vec_len};
 
 use crate::watch::FarmWatch;
-use crate::work::random_keys;
 use pf_cli::FarmArgs;
 use pf_clients::run_farm;
 use pf_farm::{Blanks, MOST_SEATS};
@@ -11,8 +10,9 @@ use pf_farm_names::FarmNames;
 use pf_fault::OrNoMemory;
 use pf_files::{Answered, open};
 use pf_register::NewRegister;
-use pf_said::{REFUSED, failed, say};
+use pf_said::{REFUSED, end, failed, say};
 use pf_terms::{Counted, StreamFault};
+use pf_words::random_keys;
 use std::alloc::AllocGlobal;
 use std::fs::Files;
 use std::io::{self, Stderr, Write};
@@ -37,8 +37,22 @@ pub struct Host {
     pub has_stack: bool,
 }
 
-/// Does what `farm` asks for.
+/// Does what `farm` asks for; its status.
 pub fn farm<R, W: Write, M: Ledger>(
+    rt: &R,
+    args: &FarmArgs,
+    host: Host,
+    writer: &mut Counted<W, M>,
+) -> u8
+where
+    R: Files + Print + Eprint + AllocGlobal + RandomSource + Clock + Threads + Wait + Sync,
+    R::File: Send + Drop,
+{
+    end(rt, None, None, answer(rt, args, host, writer))
+}
+
+/// Does what `farm` asks for.
+fn answer<R, W: Write, M: Ledger>(
     rt: &R,
     args: &FarmArgs,
     host: Host,

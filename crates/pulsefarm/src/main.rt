@@ -3,21 +3,20 @@
 
 mod args;
 mod farm;
-mod obey;
-mod schedule;
 mod stack;
 mod watch;
-mod work;
 
-ghost use Rattle.std.specs.Prelude.{◌≡◌, ◌<◌};
+ghost use Rattle.std.specs.Prelude.{◌≡◌, ◌<◌, ◌++◌, IfOk, OnOk, map};
+ghost use Rattle.std.specs.String.{string_bytes};
+ghost use Rattle.pulsefarm.specs.Words.{words_of};
 
 use crate::args::given_words;
-use crate::farm::Host;
-use crate::obey::obey;
+use crate::farm::{Host, farm};
 use crate::stack::{STACK_BYTES, first_thread_has_stack};
 use pf_fault::NoMemory;
 use pf_said::{Clearing, Line, REFUSED, no_memory};
 use pf_terms::Counted;
+use pf_words::{Obeyed, obey};
 use std::alloc::{AllocGlobal, Global};
 use std::env::Env;
 use std::fs::Files;
@@ -30,21 +29,51 @@ use std::sync::ledger::{Blank, Ledger};
 use std::thread::{Builder, Threads};
 use std::time::Clock;
 
-/// The words as they are read: the program's name stands in front, and `help WORD` is `WORD --help`.
-fn words_of<'a>(alloc: Global, given: &'a [String]) -> Result<Vec<&'a str>, NoMemory> {
-    let mut words = Vec::new(alloc);
-    words.push("pulsefarm")?;
-    let (named, is_help) = match given {
-        [first, rest @ ..] if first.as_str() == "help" => (rest, true),
-        _ => (given, false),
-    };
-    for word in named {
+/// Adds these words.
+fn push_all<'a>(words: &mut Vec<&'a str>, given: &'a [String]) -> Result<(), NoMemory>
+    ensures { OnOk result (map (λ w. w.now) words.new.items
+        ≡ map (λ w. w.now) words.old.items ++ map (λ s. string_bytes s) given.now) }
+{
+    for word in given {
         words.push(word.as_str())?;
     }
-    if is_help {
-        words.push("--help")?;
+    Ok(())
+}
+
+/// The words as they are read: the program's name stands in front, and `help WORD` is `WORD --help`.
+fn words_of<'a>(alloc: Global, given: &'a [String]) -> Result<Vec<&'a str>, NoMemory>
+    ensures { IfOk result (λ v. map (λ w. w.now) v.items ≡ words_of (map (λ s. string_bytes s) given.now)) }
+{
+    let mut words = Vec::new(alloc);
+    words.push("pulsefarm")?;
+    match given {
+        [first, rest @ ..] if first.as_str() == "help" => {
+            push_all(&mut words, rest)?;
+            words.push("--help")?;
+        }
+        _ => push_all(&mut words, given)?,
     }
     Ok(words)
+}
+
+/// Does what the words ask for, a farm too; its status.
+fn obeyed<R, I: Read, W: Write, L: Ledger, M: Ledger>(
+    rt: &R,
+    words: &[&str],
+    reader: &mut Counted<I, L>,
+    writer: &mut Counted<W, M>,
+    line: &Line,
+    host: Host,
+) -> Result<u8, NoMemory>
+where
+    R: Files + Print + Eprint + AllocGlobal + RandomSource + Clock + Threads + Wait + Sync,
+    R::File: Send + Drop,
+{
+    let done = obey(rt, words, reader, writer, line)?;
+    match &done {
+        Obeyed::Status(status) => Ok(*status),
+        Obeyed::Farm(args) => Ok(farm(rt, args, host, writer)),
+    }
 }
 
 /// Reads the words and does what they ask for, between the standard streams.
@@ -71,7 +100,7 @@ where
     let words = words_of(rt.alloc(), &given)?;
     let mut reader = Counted::<I, L>::new(stdin, reads);
     let mut writer = Counted::<W, M>::new(stdout, writes);
-    obey(rt, &words, &mut reader, &mut writer, line, host)
+    obeyed(rt, &words, &mut reader, &mut writer, line, host)
 }
 
 /// The same; before anything is written the line is emptied.

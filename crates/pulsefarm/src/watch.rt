@@ -1,5 +1,6 @@
 //! How far a farm came, on the terminal that standard error is, and what its workers did.
 
+ghost use Rattle.std.specs.Prelude.{◌≡◌, IfOk, vec_len};
 ghost use Rattle.pf_sched.specs.Slices.{Sliced};
 
 use pf_clients::Watch;
@@ -71,9 +72,11 @@ impl<'a, C: Clock> FarmWatch<'a, C> {
         stderr: Stderr,
         projects: usize,
         summary: bool,
-    ) -> Result<FarmWatch<'a, C>, NoMemory> {
+    ) -> Result<FarmWatch<'a, C>, NoMemory>
+        ensures { IfOk result (λ watch. vec_len watch.trials ≡ projects) }
+    {
         let mut trials = Vec::new(alloc);
-        for _ in 0..projects {
+        for _project in 0..projects {
             trials.push(Trials {
                 ordered: AtomicU64::new(0),
                 done: AtomicU64::new(0),

@@ -1,0 +1,22 @@
+-- Which hunts go over several sources or roots, by their words, and where the files of a folder are.
+use Rattle.std.specs.Prelude.{◌≡◌, ◌⊎◌, ℕ, Bool, true, false, ◌||◌, List, [], ◌∷◌, ◌++◌, codes}
+use Rattle.pf_cli.specs.Args.{HuntArgs}
+use Rattle.pf_cli.specs.declared.args.Roots.{Roots}
+use Rattle.pf_cli.specs.declared.args.Roots.TheVariants.{Main, Named, Every}
+
+abbrev pub has_names : List (List ℕ) → Bool
+has_names [] = false
+has_names (name ∷ names) = true
+
+abbrev pub is_every : Roots → Bool
+is_every Every = true
+is_every Main = false
+is_every Named = false
+
+-- there are names behind the first, or every root is hunted
+abbrev pub goes_over_several : HuntArgs → Bool
+goes_over_several h = has_names h.more || is_every h.roots
+
+-- the name of a folder with a slash at its end, which it may have
+abbrev pub IsPathOf : (folder path : List ℕ) → Type 0
+IsPathOf folder path = (path ≡ folder ++ codes "/") ⊎ ((path ≡ folder) × (front : List ℕ) × (folder ≡ front ++ codes "/"))

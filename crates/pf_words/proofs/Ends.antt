@@ -1,0 +1,168 @@
+-- How the work of a command ends.
+use Rattle.std.proofs.Common.{◌≡◌, ℕ, Bool, true, false, List, Option, Result, Ok, Err, None, Some, refl, sym, ap, ◌∙◌, subst, inl, inr}
+use Rattle.std.specs.Prelude.{IfErr, IfOk, IfSome, IsErr, IsErrAnd, OnOk, is_some, option_map, take, ◌||◌}
+use Rattle.pf_fault.specs.declared.fault.OrNoMemory.{OrNoMemory}
+use Rattle.pf_fault.specs.declared.fault.OrNoMemory.TheVariants.{NoMemory, Fault}
+use Rattle.pf_terms.specs.Streams.{CountsReadOrNone}
+use Rattle.pf_terms.specs.declared.stream.StreamFault.{StreamFault}
+use Rattle.pf_terms.specs.declared.stream.StreamFault.TheVariants.{Read, Write}
+use Rattle.clap.specs.Words.{Text}
+use Rattle.pf_cli.specs.Args.{Work, check, chart, farm, hunt, named_file, run, shrink, steps, view_of_args, view_of_hunt_args}
+use Rattle.pf_cli.specs.declared.args.Args.{Args}
+use Rattle.pf_cli.specs.declared.args.Args.TheVariants.{Run, Hunt, Shrink, Chart, Check, Steps, Farm}
+use Rattle.pf_cli.specs.declared.args.FarmArgs.{FarmArgs}
+use Rattle.pf_cli.specs.declared.args.HuntArgs as hunt_code
+use Rattle.pf_files.specs.Suites.{goes_over_several}
+use Rattle.pf_command.specs.Streams.{Answering, Leaves, NoneFailed, Sends, Streams, streams}
+use Rattle.pf_command.specs.declared.serving.TheConstants.{MOST_BYTES}
+use Rattle.pf_wire.specs.Steps.{StepsAnswered, StepsLeaves}
+use Rattle.pf_profile.specs.Profile.{run_profile}
+use Rattle.pf_said.specs.Texts.{HasStatus, IsFailure}
+use Rattle.pf_words.specs.Words.{AnswersOf, End, FromFile, FromInput, FromNamed, FromOne, SourceEnds, StepsEnd, WorkEnds, has_source, is_farm, may_be_several, unless_several}
+
+-- ---- of a source
+
+-- the input couldn't be read
+pub unread_ends : (P : Answering) (u0 u1 w : Option (List ℕ)) (m0 m1 n : ℕ) (e : OrNoMemory StreamFault) → CountsReadOrNone e m0 m1
+    → SourceEnds P (streams u0 w m0 n) (streams u1 w m1 n) (Err e)
+unread_ends P u0 u1 w m0 m1 n NoMemory h = ((h, refl), refl)
+unread_ends P u0 u1 w m0 m1 n (Fault (Read e)) h = (h, refl, refl)
+unread_ends P u0 u1 w m0 m1 n (Fault (Write e)) h = absurd h
+
+-- it was read, and its answer goes out
+module _ (P : Answering) (bytes : List ℕ) (u0 u1 w0 w1 : Option (List ℕ)) (m0 m1 n0 n1 : ℕ) (read : IfSome u0 (λ input. bytes ≡ take MOST_BYTES input)) (same : m1 ≡ m0) where
+  pub source_ends : (r : End) → Sends (P bytes) w0 w1 n0 n1 r → SourceEnds P (streams u0 w0 m0 n0) (streams u1 w1 m1 n1) r
+  source_ends (Ok s) h = ((same, h.3), (bytes, h.0, read, h.1, h.2))
+  source_ends (Err NoMemory) h = ((same, h.1), h.0)
+  source_ends (Err (Fault (Read e))) h = absurd h.4
+  source_ends (Err (Fault (Write e))) h = (same, h.4, (bytes, h.0, h.1, read, h.2, h.3))
+
+-- what is sent of bytes is sent of the same by another name
+pub sent_as : (P : Answering) (bytes known : List ℕ) (w0 w1 : Option (List ℕ)) (n0 n1 : ℕ) (r : End) → bytes ≡ known → Sends (P bytes) w0 w1 n0 n1 r
+    → Sends (P known) w0 w1 n0 n1 r
+sent_as P bytes known w0 w1 n0 n1 r same h = subst (λ b. Sends (P b) w0 w1 n0 n1 r) same h
+
+pub sent_well : (P : Answering) (bytes known : List ℕ) (w0 w1 : Option (List ℕ)) (n0 n1 status : ℕ) (answered : End) → bytes ≡ known → answered ≡ Ok status
+    → Sends (P bytes) w0 w1 n0 n1 answered → Sends (P known) w0 w1 n0 n1 (Ok status)
+sent_well P bytes known w0 w1 n0 n1 status answered same was h = sent_as P bytes known w0 w1 n0 n1 (Ok status) same (subst (Sends (P bytes) w0 w1 n0 n1) was h)
+
+-- a fault is handed on
+pub sent_on : (P : List ℕ → ℕ → Type 0) (w0 w1 : Option (List ℕ)) (n0 n1 : ℕ) (r : End) (e : OrNoMemory StreamFault) → IsErr r × IsErrAnd r (λ f. f ≡ e)
+    → Sends P w0 w1 n0 n1 (Err e) → Sends P w0 w1 n0 n1 r
+sent_on P w0 w1 n0 n1 (Ok s) e is h = absurd cc
+sent_on P w0 w1 n0 n1 (Err f) e is h = subst (λ z. Sends P w0 w1 n0 n1 (Err z)) (sym is.1) h
+
+pub sent_back : (P : Answering) (bytes known : List ℕ) (w0 w1 : Option (List ℕ)) (n0 n1 : ℕ) (answered r : End) (e : OrNoMemory StreamFault) → bytes ≡ known
+    → answered ≡ Err e → IsErr r × IsErrAnd r (λ f. f ≡ e) → Sends (P bytes) w0 w1 n0 n1 answered → Sends (P known) w0 w1 n0 n1 r
+sent_back P bytes known w0 w1 n0 n1 answered r e same was is h =
+    sent_on (P known) w0 w1 n0 n1 r e is (sent_as P bytes known w0 w1 n0 n1 (Err e) same (subst (Sends (P bytes) w0 w1 n0 n1) was h))
+
+-- ---- of commands
+
+module _ (u0 u1 w0 w1 : Option (List ℕ)) (m0 m1 n0 n1 : ℕ) where
+  pub steps_end : (r : End) → IfOk r (λ status. StepsAnswered run_profile u0 w0 w1 status) → OnOk r ((m1 ≡ m0) × (n1 ≡ n0))
+      → IfErr r (λ e. StepsLeaves run_profile e u0 u1 w0 w1 m0 m1 n0 n1) → StepsEnd (streams u0 w0 m0 n0) (streams u1 w1 m1 n1) r
+  steps_end (Ok s) answered counts fault = (counts, answered)
+  steps_end (Err e) answered counts fault = inl fault
+
+-- a fault is handed on
+pub handed_on : (s t : Streams) (r : End) (e : OrNoMemory StreamFault) → IsErr r × IsErrAnd r (λ f. f ≡ e) → StepsEnd s t (Err e) → StepsEnd s t r
+handed_on s t (Ok status) e is h = absurd cc
+handed_on s t (Err f) e is h = subst (λ z. StepsEnd s t (Err z)) (sym is.1) h
+
+pub handed_on_source : (P : Answering) (s t : Streams) (r : End) (e : OrNoMemory StreamFault) → IsErr r × IsErrAnd r (λ f. f ≡ e) → SourceEnds P s t (Err e) → SourceEnds P s t r
+handed_on_source P s t (Ok status) e is h = absurd cc
+handed_on_source P s t (Err f) e is h = subst (λ z. SourceEnds P s t (Err z)) (sym is.1) h
+
+-- ---- of work
+
+module _ (s t : Streams) (r : End) where
+  pub of_source : (w : Work) → has_source w ≡ true → SourceEnds (AnswersOf w) s t r → WorkEnds w s t r
+  of_source (run a) is h = h
+  of_source (hunt a) is h = h
+  of_source (chart a) is h = h
+  of_source (shrink a) is h = h
+  of_source (check explain) is h = h
+  of_source steps is h = absurd cc
+  of_source (farm a) is h = absurd cc
+
+  pub of_steps : (w : Work) → has_source w ≡ false → is_farm w ≡ false → StepsEnd s t r → WorkEnds w s t r
+  of_steps (run a) is not h = absurd cc
+  of_steps (hunt a) is not h = absurd cc
+  of_steps (chart a) is not h = absurd cc
+  of_steps (shrink a) is not h = absurd cc
+  of_steps (check explain) is not h = absurd cc
+  of_steps steps is not h = h
+  of_steps (farm a) is not h = absurd cc
+
+-- nothing was done
+pub undone : (w : Work) (s : Streams) → is_farm w ≡ false → WorkEnds w s s (Err NoMemory)
+undone (run a) s not = ((refl, refl), refl)
+undone (hunt a) s not = ((refl, refl), refl)
+undone (chart a) s not = ((refl, refl), refl)
+undone (shrink a) s not = ((refl, refl), refl)
+undone (check explain) s not = ((refl, refl), refl)
+undone steps s not = inr refl
+undone (farm a) s not = absurd cc
+
+-- a reader that was opened just now
+pub opened : (w : Work) (u v w0 : Option (List ℕ)) (m n0 : ℕ) (t : Streams) (r : End) → v ≡ u → m ≡ 0
+    → WorkEnds w (streams v w0 m n0) t r → WorkEnds w (streams u w0 0 n0) t r
+opened w u v w0 m n0 t r same zero_is h =
+    subst (λ k. WorkEnds w (streams u w0 k n0) t r) zero_is (subst (λ z. WorkEnds w (streams z w0 m n0) t r) same h)
+
+-- ---- from the standard input or a file
+
+module _ (w : Work) (old new : Streams) (given : ℕ) where
+  pub several : (file : Option Text) → may_be_several w file ≡ true → FromOne w file old new given
+  several file is = subst (λ b. unless_several b (FromNamed w file old new given)) (sym is) tt
+
+  pub from_one : (file : Option Text) → FromNamed w file old new given → FromOne w file old new given
+  from_one file h = by (may_be_several w file)
+    where
+      by : (b : Bool) → unless_several b (FromNamed w file old new given)
+      by true = tt
+      by false = h
+
+-- a file that can't be opened
+pub unopened : (w : Work) (unread written : Option (List ℕ)) (failed_reads failed_writes given : ℕ) → is_farm w ≡ false → IsFailure given
+    → FromFile w (streams unread written failed_reads failed_writes) (streams unread written failed_reads failed_writes) given
+unopened w unread written m n given not is =
+    (refl, refl, None, None, 0, 0, (Err NoMemory, undone w (streams None written 0 n) not, is))
+
+-- and one that is
+pub from_file : (w : Work) (unread before after w0 w1 : Option (List ℕ)) (m n k n0 n1 given : ℕ) (end : End)
+    → WorkEnds w (streams before w0 k n0) (streams after w1 n n1) end → HasStatus end given
+    → FromFile w (streams unread w0 m n0) (streams unread w1 m n1) given
+from_file w unread before after w0 w1 m n k n0 n1 given end h has = (refl, refl, before, after, k, n, (end, h, has))
+
+module _ (w : Work) (old new : Streams) (given : ℕ) (named : Option Text) where
+  pub with_file : (name : Text) → named ≡ Some name → FromFile w old new given → FromOne w named old new given
+  with_file name is h = from_one w old new given named (subst (λ f. FromNamed w f old new given) (sym is) h)
+
+  pub without_file : named ≡ None → FromInput w old new given → FromOne w named old new given
+  without_file is h = from_one w old new given named (subst (λ f. FromNamed w f old new given) (sym is) h)
+
+-- ---- what is asked for
+
+is_some_of : {A B : Type 0} (f : A → B) (o : Option A) → is_some (option_map f o) ≡ is_some o
+is_some_of f None = refl
+is_some_of f (Some x) = refl
+
+-- a hunt of a name, or of several sources or roots
+pub hunt_of_several : (a : Args) (h : hunt_code.HuntArgs) (old new : Streams) (given : ℕ) → a ≡ Hunt h
+    → (is_some h.file || goes_over_several (view_of_hunt_args h)) ≡ true → FromOne (view_of_args a) (named_file a) old new given
+hunt_of_several a h old new given is so =
+    several (view_of_args a) old new given (named_file a)
+    (ap (λ x. may_be_several (view_of_args x) (named_file x)) is
+    ∙ ap (λ b. b || goes_over_several (view_of_hunt_args h)) (is_some_of (λ s. s.now) h.file) ∙ so)
+
+-- all but a farm
+pub is_no_farm : (a : Args) → ((f : FarmArgs) → a ≡ Farm f → ⊥) → is_farm (view_of_args a) ≡ false
+is_no_farm (Run r) not = refl
+is_no_farm (Hunt h) not = refl
+is_no_farm (Shrink r) not = refl
+is_no_farm (Chart r) not = refl
+is_no_farm (Check k) not = refl
+is_no_farm (Steps k) not = refl
+is_no_farm (Farm f) not = absurd (not f refl)

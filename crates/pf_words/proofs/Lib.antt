@@ -1,0 +1,4 @@
+pub mod Ends
+pub mod Schedules
+pub mod Told
+pub mod Whole

@@ -1,0 +1,204 @@
+-- What words are answered with between the standard input and the standard output.
+use Rattle.std.specs.Prelude.{◌≡◌, ◌⊎◌, ◌≤◌, ℕ, Bool, true, false, ◌||◌, is_some, codes, length, List, Option, None, Some, IfSome, Result, Ok, Err}
+use Rattle.std.specs.Str.{bytes_eq}
+use Rattle.pf_fault.specs.declared.memory.NoMemory.{NoMemory}
+use Rattle.pf_fault.specs.declared.fault.OrNoMemory.{OrNoMemory}
+use Rattle.pf_terms.specs.declared.stream.StreamFault.{StreamFault}
+use Rattle.pf_text.specs.Numbers.{schedule_of}
+use Rattle.clap.specs.Words.{Text}
+use Rattle.pf_cli.specs.Args.{Reading, Wanted, Work, check, chart, farm, hunt, reading_of, reads, run, shrink, steps, tells, view_of_farm_args, works}
+use Rattle.pf_cli.specs.declared.args.FarmArgs.{FarmArgs}
+use Rattle.pf_cli.specs.declared.args.Format.{Format}
+use Rattle.pf_cli.specs.declared.args.Format.TheVariants.{Json}
+use Rattle.pf_cli.specs.declared.args.Format.TheVariants as format
+use Rattle.pf_command.specs.Answers.{Answers}
+use Rattle.pf_command.specs.Checks.{Checks}
+use Rattle.pf_command.specs.Guided.{DrawnAnswers, RunAnswers}
+use Rattle.pf_command.specs.Hunts.{HuntAnswers}
+use Rattle.pf_command.specs.Streams.{Answered, Answering, Leaves, NoneFailed, Streams}
+use Rattle.pf_wire.specs.Steps.{StepsAnswered, StepsLeaves}
+use Rattle.pf_profile.specs.Profile.{run_profile}
+use Rattle.pf_said.specs.Texts.{HasStatus, IsFailure, TellsText}
+use Rattle.pf_files.specs.Suites.{goes_over_several}
+use Rattle.pf_words.specs.Schedules.{schedule_in}
+use Rattle.pf_words.specs.declared.words.Obeyed.{Obeyed}
+use Rattle.pf_words.specs.declared.words.Obeyed.TheVariants.{Status, Farm}
+
+-- ---- between a reader and a writer
+
+-- what ended the work of a command: its status, or a fault of a stream or of memory
+abbrev pub End : Type 0
+End = Result ℕ (OrNoMemory StreamFault)
+
+-- which texts and statuses answer which bytes of a source of which this is asked for; of no source `steps` or a farm is
+abbrev pub AnswersOf : Work → Answering
+AnswersOf (run a) = RunAnswers a
+AnswersOf (hunt h) = HuntAnswers h
+AnswersOf (chart a) = DrawnAnswers a
+AnswersOf (shrink a) = Answers a
+AnswersOf (check explain) = Checks explain
+AnswersOf steps = λ bytes text status. ⊥
+AnswersOf (farm a) = λ bytes text status. ⊥
+
+-- what reads one source, and what is a farm
+abbrev pub has_source : Work → Bool
+has_source steps = false
+has_source (farm a) = false
+has_source w = true
+
+abbrev pub is_farm : Work → Bool
+is_farm (farm a) = true
+is_farm w = false
+
+-- a source is answered; or a stream failed or memory ran out, and a beginning of the answer went out
+abbrev pub SourceEnds : Answering → (old new : Streams) → End → Type 0
+SourceEnds P old new (Ok status) = NoneFailed old new × Answered P old new status
+SourceEnds P old new (Err e) = Leaves e P old new
+
+-- the same of commands; where the system gives no random numbers nothing is done
+abbrev pub StepsEnd : (old new : Streams) → End → Type 0
+StepsEnd old new (Ok status) = NoneFailed old new × StepsAnswered run_profile old.unread old.written new.written status
+StepsEnd old new (Err e) =
+    StepsLeaves run_profile e old.unread new.unread old.written new.written old.failed_reads new.failed_reads old.failed_writes new.failed_writes
+    ⊎ (new ≡ old)
+
+-- what is asked for is answered, from a reader to a writer; a farm is none of this
+abbrev pub WorkEnds : Work → (old new : Streams) → End → Type 0
+WorkEnds steps = StepsEnd
+WorkEnds (farm a) = λ old new end. ⊥
+WorkEnds w = SourceEnds (AnswersOf w)
+
+-- ---- from the standard input, or from a file
+
+-- what is asked for is answered from the standard input, and the program has this status
+abbrev pub FromInput : Work → (old new : Streams) → ℕ → Type 0
+FromInput w old new given = (end : End) × WorkEnds w old new end × HasStatus end given
+
+-- the output, and as much of a reader
+abbrev pub reading_from : (unread : Option (List ℕ)) → (failed_reads : ℕ) → Streams → Streams
+reading_from unread failed s = record s { unread = unread; failed_reads = failed }
+
+-- it is answered from a file, which has some bytes, and nothing is read of the standard input. A file that can't be opened is none that is answered:
+-- nothing goes out then
+abbrev pub FromFile : Work → (old new : Streams) → ℕ → Type 0
+FromFile w old new given =
+    (new.unread ≡ old.unread) × (new.failed_reads ≡ old.failed_reads)
+    × (before : Option (List ℕ)) × (after : Option (List ℕ)) × (m : ℕ) × (n : ℕ)
+    × FromInput w (reading_from before m old) (reading_from after n new) given
+
+-- a hunt of a name, which may be a folder's, or of several sources or roots, isn't that of one source
+abbrev pub may_be_several : Work → (file : Option Text) → Bool
+may_be_several (hunt h) file = is_some file || goes_over_several h
+may_be_several w file = false
+
+abbrev pub FromNamed : Work → (file : Option Text) → (old new : Streams) → ℕ → Type 0
+FromNamed w None = FromInput w
+FromNamed w (Some file) = FromFile w
+
+abbrev pub unless_several : Bool → Type 0 → Type 0
+unless_several true P = Unit {0}
+unless_several false P = P
+
+abbrev pub FromOne : Work → (file : Option Text) → (old new : Streams) → ℕ → Type 0
+FromOne w file old new given = unless_several (may_be_several w file) (FromNamed w file old new given)
+
+-- ---- in the form that is asked for
+
+-- an output of which nothing is known
+abbrev pub writing_to : (written : Option (List ℕ)) → (failed_writes : ℕ) → Streams → Streams
+writing_to written failed s = record s { written = written; failed_writes = failed }
+
+-- text goes out as it is; of the objects that go out in place of its lines nothing is said
+abbrev pub InForm : Format → ((old new : Streams) → ℕ → Type 0) → (old new : Streams) → ℕ → Type 0
+InForm format.Text P old new given = P old new given
+InForm Json P old new given =
+    (before : Option (List ℕ)) × (after : Option (List ℕ)) × (m : ℕ) × (n : ℕ) × P (writing_to before m old) (writing_to after n new) given
+
+-- ---- words
+
+-- nothing went out
+abbrev pub NothingOut : (old new : Streams) → Type 0
+NothingOut old new = (new.written ≡ old.written) × (new.failed_writes ≡ old.failed_writes)
+
+-- nothing is read, and a text is told
+abbrev pub TextTold : (status : ℕ) → (is_fault : Bool) → (old new : Streams) → ℕ → Type 0
+TextTold status is_fault old new given =
+    (new.unread ≡ old.unread) × (new.failed_reads ≡ old.failed_reads)
+    × TellsText is_fault status given old.written new.written old.failed_writes new.failed_writes
+
+-- what words come to is done, and the program has this status; but a file for a schedule isn't read here
+abbrev pub IsDone : Reading → (old new : Streams) → ℕ → Type 0
+IsDone (works w file) = InForm w.format (FromOne w.work file)
+IsDone (tells status is_fault) = TextTold status is_fault
+IsDone (reads file) = λ old new given. ⊥
+
+-- nothing goes out, and the status is that of what fails
+abbrev pub IsRefused : (old new : Streams) → ℕ → Type 0
+IsRefused old new given = NothingOut old new × IsFailure given
+
+-- or the source and its schedule are both to be the standard input, and that is refused
+abbrev pub IsDoneOrRefused : Reading → (old new : Streams) → ℕ → Type 0
+IsDoneOrRefused r old new given = IsDone r old new given ⊎ IsRefused old new given
+
+-- these are the contents of a file, at most 67,108,864 bytes; those of the standard input are all that it still holds, and nothing else is read of it
+abbrev pub AreContents : (file contents : Text) → (old new : Streams) → Type 0
+AreContents file contents old new =
+    (length contents ≤ 67108864) × NothingOut old new × (bytes_eq file (codes "-") ≡ false → new ≡ old)
+    × (bytes_eq file (codes "-") ≡ true → IfSome old.unread (λ input. contents ≡ input))
+
+-- what the words ask for is done by the schedule in these contents; or they have none, and nothing goes out
+abbrev pub IsDoneIn : (words : List Text) → (contents : Text) → (old new : Streams) → ℕ → Type 0
+IsDoneIn words contents old new given =
+    ((is_some (schedule_of (schedule_in contents)) ≡ true) × IsDoneOrRefused (reading_of (Some (schedule_in contents)) words) old new given)
+    ⊎ IsRefused old new given
+
+-- a file is read, and it is done by the schedule in it; or the file can't be read or is too long, and nothing goes out
+abbrev pub IsDoneBy : (words : List Text) → (file : Text) → (old new : Streams) → ℕ → Type 0
+IsDoneBy words file old new given =
+    ((contents : Text) × (read : Streams) × AreContents file contents old read × IsDoneIn words contents read new given)
+    ⊎ IsRefused old new given
+
+abbrev pub IsDoneAs : (words : List Text) → Reading → (old new : Streams) → ℕ → Type 0
+IsDoneAs words (reads file) = IsDoneBy words file
+IsDoneAs words (works w file) = IsDone (works w file)
+IsDoneAs words (tells status is_fault) = IsDone (tells status is_fault)
+
+-- words ask for this farm, if need be by a text for a schedule
+abbrev pub IsFarmOf : (words : List Text) → FarmArgs → Type 0
+IsFarmOf words args = (text : Option Text) × (w : Wanted) × (reading_of text words ≡ works w None) × (w.work ≡ farm (view_of_farm_args args))
+
+-- what words ask for is done; or they ask for a farm, or memory ran out, and nothing went out
+abbrev pub Obeys : (words : List Text) → (old new : Streams) → Result Obeyed NoMemory → Type 0
+Obeys words old new (Ok (Status given)) = IsDoneAs words (reading_of None words) old new given
+Obeys words old new (Ok (Farm args)) = IsFarmOf words args × NothingOut old new
+Obeys words old new (Err e) = NothingOut old new
+
+-- ---- the code's own words
+
+-- what words ask for that are read is done; or it is a farm, of which nothing is done
+abbrev pub AskedIsDone : Wanted → (file : Option Text) → (old new : Streams) → Obeyed → Type 0
+AskedIsDone w file old new (Status given) = InForm w.format (FromOne w.work file) old new given
+AskedIsDone w file old new (Farm args) = (w.work ≡ farm (view_of_farm_args args)) × (file ≡ None) × (new ≡ old)
+
+-- or the source is to be what the schedule's file is, and that is refused
+abbrev pub AskedIsDoneOrRefused : Wanted → (file : Option Text) → (old new : Streams) → Obeyed → Type 0
+AskedIsDoneOrRefused w file old new (Status given) = AskedIsDone w file old new (Status given) ⊎ IsRefused old new given
+AskedIsDoneOrRefused w file old new (Farm args) = AskedIsDone w file old new (Farm args)
+
+-- what words ask for by this text for their schedule is done
+abbrev pub ObeysBy : (words : List Text) → (text : Text) → (old new : Streams) → Result Obeyed NoMemory → Type 0
+ObeysBy words text old new (Ok (Status given)) = IsDoneOrRefused (reading_of (Some text) words) old new given
+ObeysBy words text old new (Ok (Farm args)) = IsFarmOf words args × NothingOut old new
+ObeysBy words text old new (Err e) = NothingOut old new
+
+-- by the schedule in these contents
+abbrev pub ObeysIn : (words : List Text) → (contents : Text) → (old new : Streams) → Result Obeyed NoMemory → Type 0
+ObeysIn words contents old new (Ok (Status given)) = IsDoneIn words contents old new given
+ObeysIn words contents old new (Ok (Farm args)) = IsFarmOf words args × NothingOut old new
+ObeysIn words contents old new (Err e) = NothingOut old new
+
+-- and by that in this file
+abbrev pub ObeysByFile : (words : List Text) → (file : Text) → (old new : Streams) → Result Obeyed NoMemory → Type 0
+ObeysByFile words file old new (Ok (Status given)) = IsDoneBy words file old new given
+ObeysByFile words file old new (Ok (Farm args)) = IsFarmOf words args × NothingOut old new
+ObeysByFile words file old new (Err e) = NothingOut old new

@@ -1,0 +1,215 @@
+//! The answer to what a reader holds, and what is said beside it.
+
+ghost use Rattle.std.specs.Prelude.{◌≡◌, false, true};
+ghost use Rattle.pf_cli.specs.Args.{view_of_args, view_of_hunt_args, view_of_run_args};
+ghost use Rattle.pf_command.specs.Guided.{RunAnswers};
+ghost use Rattle.pf_command.specs.Hunts.{HuntAnswers};
+ghost use Rattle.pf_command.specs.Streams.{Sends, streams};
+ghost use Rattle.pf_words.specs.Words.{AnswersOf, SourceEnds, WorkEnds, has_source, is_farm};
+
+use crate::steps::answer_steps;
+use pf_cli::{Args, Asked, HuntArgs, RunArgs, Sought};
+use pf_command::{Answering, Chart, Check, MOST_BYTES, Shrink, print_hunt, print_source};
+use pf_files::{Answered, workers_of};
+use pf_said::{
+    Line, REFUSED, Runs, Seeds, Waiting, lacking_of, say, say_processes, say_waiting, why,
+};
+use pf_terms::Counted;
+use std::alloc::{AllocGlobal, Global};
+use std::io::{Read, Write};
+use std::random::RandomSource;
+use std::sync::ledger::Ledger;
+use std::thread::Threads;
+use std::time::Clock;
+
+/// Whether a source is asked for.
+pub fn has_source(args: &Args) -> bool
+    ensures { result ≡ has_source (view_of_args args.now) }
+{
+    match args {
+        Args::Run(_) | Args::Hunt(_) | Args::Chart(_) | Args::Shrink(_) | Args::Check(_) => true,
+        Args::Steps(_) | Args::Farm(_) => false,
+    }
+}
+
+/// Answers a source of which a run is asked for, and says how many processes still wait.
+fn answer_run<W: Write, M: Ledger>(
+    rt: &(impl Eprint + AllocGlobal),
+    args: &RunArgs,
+    source: Vec<u8>,
+    writer: &mut Counted<W, M>,
+) -> Answered
+    ensures { Sends (RunAnswers (view_of_run_args args.now) source.items)
+        (W.contents writer.old.inner) (W.contents writer.new.inner)
+        writer.old.failures.total writer.new.failures.total result }
+{
+    let mut processes = 0;
+    let status = print_source(rt.alloc(), args, source, writer, &mut processes)?;
+    if processes > 0 {
+        let seed = None;
+        say_waiting(rt, Waiting { processes, seed });
+    }
+    Ok(status)
+}
+
+/// The runs that the schedule of a seed may be shrunk within.
+fn most_runs(args: &HuntArgs) -> u32 {
+    match args.sought {
+        Sought::Failure { runs: Some(runs) } => runs,
+        Sought::Failure { runs: None } | Sought::Outcomes => 0,
+    }
+}
+
+/// Answers a source whose seeds are run; the line tells how far that came.
+fn answer_hunt<W: Write, M: Ledger>(
+    rt: &(impl Eprint + AllocGlobal + Clock + Threads + Sync),
+    args: &HuntArgs,
+    source: Vec<u8>,
+    writer: &mut Counted<W, M>,
+    line: &Line,
+) -> Answered
+    ensures { Sends (HuntAnswers (view_of_hunt_args args.now) source.items)
+        (W.contents writer.old.inner) (W.contents writer.new.inner)
+        writer.old.failures.total writer.new.failures.total result }
+{
+    let workers = workers_of(rt, args);
+    let mut seeds = Seeds::new(line, rt, args.end.saturating_sub(args.first), args.time);
+    let mut runs = Runs::new(line, most_runs(args));
+    let status = print_hunt(
+        rt,
+        rt.alloc(),
+        args,
+        source,
+        workers,
+        writer,
+        &mut seeds,
+        &mut runs,
+    )?;
+    if let Some(waiting) = seeds.waiting() {
+        line.clear();
+        say_waiting(rt, waiting);
+    }
+    Ok(status)
+}
+
+/// Answers a source by a command.
+fn answer_by<W: Write, M: Ledger, C: Answering + Drop>(
+    alloc: Global,
+    command: C,
+    source: Vec<u8>,
+    writer: &mut Counted<W, M>,
+) -> Answered
+    ensures { Sends (C.answers command source.items)
+        (W.contents writer.old.inner) (W.contents writer.new.inner)
+        writer.old.failures.total writer.new.failures.total result }
+{
+    let answer = command.answer(alloc, source)?;
+    writer.put(&answer.text)?;
+    Ok(answer.status)
+}
+
+/// Answers a source; the line tells how far a hunt or a shrinking came.
+fn answer_source<W: Write, M: Ledger>(
+    rt: &(impl Eprint + AllocGlobal + Clock + Threads + Sync),
+    asked: &Args,
+    source: Vec<u8>,
+    writer: &mut Counted<W, M>,
+    line: &Line,
+) -> Answered
+    requires { has_source (view_of_args asked.now) ≡ true }
+    ensures { Sends (AnswersOf (view_of_args asked.now) source.items)
+        (W.contents writer.old.inner) (W.contents writer.new.inner)
+        writer.old.failures.total writer.new.failures.total result }
+{
+    let alloc = rt.alloc();
+    match asked {
+        Args::Run(args) => answer_run(rt, args, source, writer),
+        Args::Chart(args) => answer_by(alloc, Chart { args }, source, writer),
+        Args::Hunt(args) => answer_hunt(rt, args, source, writer, line),
+        Args::Shrink(args) => {
+            let observer = Runs::new(line, args.request.kind.runs());
+            answer_by(alloc, Shrink { args, observer }, source, writer)
+        }
+        Args::Check(args) => {
+            let explain = args.explain;
+            answer_by(alloc, Check { explain }, source, writer)
+        }
+        Args::Steps(_) | Args::Farm(_) => unreachable!(),
+    }
+}
+
+/// Says more of a source on standard error: if it is refused, or what is asked for of it, why.
+fn say_more(rt: &(impl Eprint + AllocGlobal), asked: &Asked, source: &[u8], status: u8) {
+    let args = &asked.args;
+    // The answer went out: nothing more is said where memory runs out now.
+    if status != REFUSED {
+        if let Ok(Some(told)) = lacking_of(rt.alloc(), args, source) {
+            say(rt, &told);
+        }
+        say_processes(rt, asked, source);
+    } else if let Ok(told) = why(rt.alloc(), args, source) {
+        say(rt, &told);
+    }
+}
+
+/// Answers a source of these bytes, and says more of it; the line is empty at the end.
+fn answer_bytes<W: Write, M: Ledger>(
+    rt: &(impl Eprint + AllocGlobal + Clock + Threads + Sync),
+    asked: &Asked,
+    source: &[u8],
+    writer: &mut Counted<W, M>,
+    line: &Line,
+) -> Answered
+    requires { has_source (view_of_args asked.now.args) ≡ true }
+    ensures { Sends (AnswersOf (view_of_args asked.now.args) source.now)
+        (W.contents writer.old.inner) (W.contents writer.new.inner)
+        writer.old.failures.total writer.new.failures.total result }
+{
+    let bytes = Vec::from_slice(rt.alloc(), source)?;
+    let answered = answer_source(rt, &asked.args, bytes, writer, line);
+    line.clear();
+    let status = answered?;
+    say_more(rt, asked, source, status);
+    Ok(status)
+}
+
+/// Answers the source that a reader holds, and says more of it.
+fn answer_read<R: Read, W: Write, L: Ledger, M: Ledger>(
+    rt: &(impl Eprint + AllocGlobal + Clock + Threads + Sync),
+    asked: &Asked,
+    reader: &mut Counted<R, L>,
+    writer: &mut Counted<W, M>,
+    line: &Line,
+) -> Answered
+    requires { has_source (view_of_args asked.now.args) ≡ true }
+    ensures { SourceEnds (AnswersOf (view_of_args asked.now.args))
+        (streams (R.remaining reader.old.inner) (W.contents writer.old.inner)
+        reader.old.failures.total writer.old.failures.total)
+        (streams (R.remaining reader.new.inner) (W.contents writer.new.inner)
+        reader.new.failures.total writer.new.failures.total) result }
+{
+    let source = reader.take_front(rt.alloc(), MOST_BYTES)?;
+    answer_bytes(rt, asked, &source, writer, line)
+}
+
+/// Does what is asked for between a reader and a writer; the line tells how far a hunt or a shrinking came, and is empty at the end.
+pub fn answer<R: Read, W: Write, L: Ledger, M: Ledger>(
+    rt: &(impl Eprint + AllocGlobal + RandomSource + Clock + Threads + Sync),
+    asked: &Asked,
+    reader: &mut Counted<R, L>,
+    writer: &mut Counted<W, M>,
+    line: &Line,
+) -> Answered
+    requires { is_farm (view_of_args asked.now.args) ≡ false }
+    ensures { WorkEnds (view_of_args asked.now.args)
+        (streams (R.remaining reader.old.inner) (W.contents writer.old.inner)
+        reader.old.failures.total writer.old.failures.total)
+        (streams (R.remaining reader.new.inner) (W.contents writer.new.inner)
+        reader.new.failures.total writer.new.failures.total) result }
+{
+    if has_source(&asked.args) {
+        answer_read(rt, asked, reader, writer, line)
+    } else {
+        answer_steps(rt, reader, writer)
+    }
+}

@@ -1,0 +1,90 @@
+//! Commands that are answered, and what is said of them.
+
+ghost use Rattle.pf_command.specs.Streams.{streams};
+ghost use Rattle.pf_words.specs.Words.{StepsEnd};
+
+use pf_fault::{NoMemory, OrNoMemory};
+use pf_files::Answered;
+use pf_profile::run_steps;
+use pf_reasons::line_reason;
+use pf_said::say;
+use pf_terms::{Counted, StreamFault};
+use pf_wire::{Ending, RefusedLine};
+use std::alloc::{AllocGlobal, Global};
+use std::hash::RandomState;
+use std::io::{self, Read, Write};
+use std::random::RandomSource;
+use std::sync::ledger::Ledger;
+
+/// Keys for tables. They are random, so that no choice of projects or sources makes a table slow.
+pub fn random_keys(rt: &impl RandomSource) -> Result<RandomState, OrNoMemory<StreamFault>> {
+    match RandomState::new(rt) {
+        Ok(keys) => Ok(keys),
+        Err(_) => {
+            let reason = "the system gives no random numbers";
+            let error = io::Error::new(io::ErrorKind::Other, reason);
+            Err(OrNoMemory::Fault(StreamFault::Read(error)))
+        }
+    }
+}
+
+/// Answers commands.
+fn answer_commands<R: Read, W: Write, L: Ledger, M: Ledger>(
+    rt: &(impl AllocGlobal + RandomSource),
+    reader: &mut Counted<R, L>,
+    writer: &mut Counted<W, M>,
+    ending: &mut Ending,
+) -> Answered
+    ensures { StepsEnd
+        (streams (R.remaining reader.old.inner) (W.contents writer.old.inner)
+        reader.old.failures.total writer.old.failures.total)
+        (streams (R.remaining reader.new.inner) (W.contents writer.new.inner)
+        reader.new.failures.total writer.new.failures.total) result }
+{
+    let keys = random_keys(rt)?;
+    run_steps(rt.alloc(), keys, reader, writer, ending)
+}
+
+/// Says on standard error why reading ended before the input did.
+fn say_ending(rt: &(impl Eprint + AllocGlobal), ending: &Ending) {
+    if ending.is_full {
+        say(
+            rt,
+            "67,108,864 bytes of commands were read, and what follows them isn't",
+        );
+    }
+    let Some(line) = &ending.refused else {
+        return;
+    };
+    match refusal(rt.alloc(), line) {
+        Ok(text) => say(rt, &text),
+        Err(NoMemory) => say(rt, "a line is no command"),
+    }
+}
+
+/// Why a line was refused.
+fn refusal(alloc: Global, line: &RefusedLine) -> Result<String, NoMemory> {
+    let number = line.number;
+    let reason = line_reason(alloc, &line.text, line.is_whole)?;
+    Ok(format!(in alloc;
+        "command {number} is none: {reason}; those before it were answered, and nothing behind it was read"
+    )?)
+}
+
+/// Answers commands, and says on standard error why reading ended before the input did.
+pub fn answer_steps<R: Read, W: Write, L: Ledger, M: Ledger>(
+    rt: &(impl Eprint + AllocGlobal + RandomSource),
+    reader: &mut Counted<R, L>,
+    writer: &mut Counted<W, M>,
+) -> Answered
+    ensures { StepsEnd
+        (streams (R.remaining reader.old.inner) (W.contents writer.old.inner)
+        reader.old.failures.total writer.old.failures.total)
+        (streams (R.remaining reader.new.inner) (W.contents writer.new.inner)
+        reader.new.failures.total writer.new.failures.total) result }
+{
+    let mut ending = Ending::new();
+    let status = answer_commands(rt, reader, writer, &mut ending)?;
+    say_ending(rt, &ending);
+    Ok(status)
+}

@@ -1,0 +1,15 @@
+use Rattle.std.specs.Prelude.{Some}
+use Rattle.pulsefarm.proofs.farm.answer.Given as goal
+
+-- the farm's ledgers and registers are named by its blanks
+abbrev pub ghosts-run_by : goal.ghosts-run_by
+ghosts-run_by g a =
+    record {
+      calls = a.blanks.calls.name;
+      seats = a.blanks.calls.parts;
+      opened = a.blanks.opened.name;
+      ended = a.blanks.ended.name;
+      workers = a.blanks.opened.parts;
+      receipts = Some a.blanks.receipts;
+      claims = Some a.blanks.claims;
+    }
