@@ -1,1 +1,5 @@
+pub mod Farms
 pub mod Faults
+pub mod Lines
+pub mod Pairs
+pub mod Texts

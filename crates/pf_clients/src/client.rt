@@ -1,6 +1,17 @@
 //! One client: the lines of its file are answered one after another.
 
-ghost use Rattle.std.specs.Prelude.{◌≡◌, ◌<◌};
+ghost use Rattle.std.specs.Prelude.{◌≡◌, ◌<◌, ◌≤◌, ◌++◌, None, length, IfOk, OnOk, OnErr, false};
+ghost use Rattle.std.specs.Bool.{OnTrue};
+ghost use Rattle.std.specs.Option.{option_copied};
+ghost use Rattle.pf_lines.specs.View.{view_of_client_line};
+ghost use Rattle.pf_lines.specs.Clients.{calls};
+ghost use Rattle.pf_request.specs.View.{view_of_call};
+ghost use Rattle.pf_wire.specs.Steps.{last_text, AreRead};
+ghost use Rattle.pf_wire.specs.Whole.{whole_text};
+ghost use Rattle.pf_clients.specs.Faults.{ended_by};
+ghost use Rattle.pf_workshop.specs.Responses.{response_in};
+ghost use Rattle.pf_clients.specs.Lines.{answer_in, call_text, AnswersBytes, AnswersFront, AnswersLine, CutsFront, CutsLine, IsNew, IsServed};
+ghost use Rattle.pf_clients.specs.Texts.{told_text, EndsInText};
 
 use crate::watch::Watch;
 use pf_book::Reply;
@@ -10,7 +21,7 @@ use pf_fault::OrNoMemory;
 use pf_lines::{ClientLine, NoCommand, is_due, read_client_line};
 use pf_request::Call;
 use pf_terms::{Counted, NoMemory, StreamFault};
-use pf_wire::{MOST_BYTES, Requester, Told, put_outcome};
+use pf_wire::{MOST_BYTES, Requester, Told, put_no_command, put_outcome};
 use pf_workshop::Response;
 use std::alloc::Global;
 use std::io::{Error, Read};
@@ -26,7 +37,7 @@ const MOST_TEXT: usize = 65_536;
 pub(crate) enum Ended {
     /// All were answered.
     Answered,
-    /// One was no command, and none behind it was read.
+    /// One was no command, and none after it was read.
     NoCommand,
     /// The file can't be read any more.
     Unread(Error),
@@ -35,7 +46,9 @@ pub(crate) enum Ended {
 }
 
 /// How a file ended that can't be read, or for which memory ran out.
-fn stopped(stop: OrNoMemory<StreamFault>) -> Ended {
+fn stopped(stop: OrNoMemory<StreamFault>) -> Ended
+    ensures { result ≡ ended_by stop }
+{
     match stop {
         OrNoMemory::Fault(StreamFault::Read(error) | StreamFault::Write(error)) => {
             Ended::Unread(error)
@@ -62,48 +75,134 @@ fn contents<R: Read + Drop, L: Ledger>(
     requires reads { reads.name ≡ L.name }
     requires read_parts { reads.parts ≡ L.parts }
     requires some_reads { 0 < reads.parts }
+    ensures read { IfOk result (λ v. AreRead (R.remaining file) v.items) }
+    ensures len { IfOk result (λ v. length v.items ≤ MOST_BYTES) }
 {
     let mut reader = Counted::<R, L>::new(file, reads);
     reader.take_front(alloc, MOST_BYTES)
 }
 
+/// What came of a call, as what a workshop responds.
+fn response_of(outcome: Result<Reply, NoMemory>) -> Result<Response, NoMemory>
+    ensures { response_in result ≡ answer_in outcome }
+{
+    match outcome {
+        Ok(reply) => Ok(Response::Reply(reply)),
+        Err(NoMemory) => Err(NoMemory),
+    }
+}
+
+/// The text of what came of a project's call.
+fn text_of(alloc: Global, project: u32, outcome: Result<Reply, NoMemory>) -> Result<Told, NoMemory>
+    ensures { IfOk result (λ t. whole_text t ≡ call_text project outcome) }
+{
+    let response = response_of(outcome);
+    let mut told = Told {
+        text: Vec::new(alloc),
+        report: None,
+    };
+    put_outcome(alloc, &mut told, Requester::Client { project }, response)?;
+    Ok(told)
+}
+
+/// The text that says that the line of this number is no command.
+fn refusal(alloc: Global, number: u64) -> Result<Told, NoMemory>
+    ensures { IfOk result (λ t. whole_text t ≡ last_text false number) }
+{
+    let mut text = Vec::new(alloc);
+    put_no_command(alloc, &mut text, number)?;
+    Ok(Told { text, report: None })
+}
+
+/// Whether what was told may join the text that was told last: neither has a report, and that text isn't long.
+fn joins(all: &[Told], told: &Told) -> bool
+    ensures { OnTrue result ((told.now.report ≡ None) × EndsInText all.now) }
+{
+    if told.report.is_some() {
+        return false;
+    }
+    match all.last() {
+        Some(last) => last.report.is_none() && last.text.len() < MOST_TEXT,
+        None => false,
+    }
+}
+
+/// Adds what was told, to the text that was told last where it may join that.
+fn add(all: &mut Vec<Told>, told: Told) -> Result<(), NoMemory>
+    ensures added { OnOk result (told_text all.new.items ≡ told_text all.old.items ++ whole_text told) }
+    ensures err { OnErr result (told_text all.new.items ≡ told_text all.old.items) }
+{
+    if joins(all, &told) {
+        let last = all.len() - 1;
+        all[last].text.extend_from_slice(&told.text)?;
+    } else {
+        all.push(told)?;
+    }
+    Ok(())
+}
+
 impl<N: FarmNames, R: Read + Drop> Client<N, R> {
     /// Answers the lines of its file, at most 64 MiB of it, up to one that is no command.
-    pub fn work<T: Wait, G: Watch>(&mut self, alloc: Global, rt: &T, floor: &Floor<N>, watch: &G) {
-        self.ended = match self.answer_all(alloc, rt, floor, watch) {
-            Ok(ended) => ended,
-            Err(stop) => stopped(stop),
-        };
+    pub fn work<T: Wait, G: Watch>(&mut self, alloc: Global, rt: &T, floor: &Floor<N>, watch: &G)
+        requires { IsNew self.old.seat self.old.told.items }
+        ensures { IsServed R.remaining self.old.file self.old.seat.project
+            self.new.seat self.new.told.items self.new.ended }
+    {
+        self.ended = self.answer_file(alloc, rt, floor, watch);
     }
 
-    fn answer_all<T: Wait, G: Watch>(
+    /// Answers the lines of its file, if it has one.
+    fn answer_file<T: Wait, G: Watch>(
         &mut self,
         alloc: Global,
         rt: &T,
         floor: &Floor<N>,
         watch: &G,
-    ) -> Result<Ended, OrNoMemory<StreamFault>> {
+    ) -> Ended
+        requires { IsNew self.old.seat self.old.told.items }
+        ensures { IsServed R.remaining self.old.file self.old.seat.project
+            self.new.seat self.new.told.items result }
+    {
         let Some(file) = self.file.take() else {
-            return Ok(Ended::Answered);
+            return Ended::Answered;
         };
-        let bytes = contents::<R, Brand>(alloc, file, Blank::new(1))?;
-        let mut rest = bytes.as_slice();
-        let mut number: u64 = 1;
-        'lines: for _ in rt.forever() {
-            if !is_due(rest, true) {
-                break;
-            }
-            match self.answer_one(alloc, rt, floor, watch, number, rest)? {
-                Some(after) => rest = after,
-                None => return Ok(Ended::NoCommand),
-            }
-            number = number.saturating_add(1);
+        match contents::<R, Brand>(alloc, file, Blank::new(1)) {
+            Ok(bytes) => self.answer_lines(alloc, rt, floor, watch, &bytes),
+            Err(stop) => stopped(stop),
         }
-        Ok(Ended::Answered)
     }
 
-    /// Answers the command of this number, which stands in front; what follows it, unless the line is none.
-    fn answer_one<'a, T: Wait, G: Watch>(
+    /// Answers the lines of these bytes, one after another.
+    fn answer_lines<T: Wait, G: Watch>(
+        &mut self,
+        alloc: Global,
+        rt: &T,
+        floor: &Floor<N>,
+        watch: &G,
+        bytes: &[u8],
+    ) -> Ended
+        requires { length bytes.now ≤ MOST_BYTES }
+        ensures { AnswersBytes bytes.now self.old.seat self.new.seat
+            (told_text self.old.told.items) (told_text self.new.told.items) result }
+    {
+        let mut rest = bytes;
+        let mut number: u64 = 1;
+        'lines: while is_due(rest, true) {
+            let follows = match self.answer_front(alloc, rt, floor, watch, number, rest) {
+                Ok(follows) => follows,
+                Err(NoMemory) => return Ended::NoMemory,
+            };
+            let Some(after) = follows else {
+                return Ended::NoCommand;
+            };
+            rest = after;
+            number += 1;
+        }
+        Ended::Answered
+    }
+
+    /// Answers the line of this number, which stands in front; what follows it, unless it is no command.
+    fn answer_front<'a, T: Wait, G: Watch>(
         &mut self,
         alloc: Global,
         rt: &T,
@@ -111,14 +210,20 @@ impl<N: FarmNames, R: Read + Drop> Client<N, R> {
         watch: &G,
         number: u64,
         bytes: &'a [u8],
-    ) -> Result<Option<&'a [u8]>, NoMemory> {
+    ) -> Result<Option<&'a [u8]>, NoMemory>
+        ensures answered { IfOk result (λ rest. AnswersFront bytes.now number (option_copied rest)
+            self.old.seat self.new.seat (told_text self.old.told.items) (told_text self.new.told.items)) }
+        ensures err { OnErr result (CutsFront bytes.now
+            self.old.seat self.new.seat (told_text self.old.told.items) (told_text self.new.told.items)) }
+    {
         match read_client_line(alloc, self.seat.project(), bytes) {
             Ok((line, rest)) => {
                 self.answer_line(alloc, rt, floor, watch, line)?;
                 Ok(Some(rest))
             }
             Err(OrNoMemory::Fault(NoCommand)) => {
-                self.refuse(alloc, number)?;
+                let told = refusal(alloc, number)?;
+                add(&mut self.told, told)?;
                 Ok(None)
             }
             Err(OrNoMemory::NoMemory) => Err(NoMemory),
@@ -133,7 +238,12 @@ impl<N: FarmNames, R: Read + Drop> Client<N, R> {
         floor: &Floor<N>,
         watch: &G,
         line: ClientLine,
-    ) -> Result<(), NoMemory> {
+    ) -> Result<(), NoMemory>
+        ensures answered { OnOk result (AnswersLine (view_of_client_line line)
+            self.old.seat self.new.seat (told_text self.old.told.items) (told_text self.new.told.items)) }
+        ensures err { OnErr result (CutsLine (view_of_client_line line)
+            self.old.seat self.new.seat (told_text self.old.told.items) (told_text self.new.told.items)) }
+    {
         match line {
             ClientLine::Call(call) => self.answer_call(alloc, rt, floor, watch, call),
             ClientLine::Await(ticket) => {
@@ -143,7 +253,7 @@ impl<N: FarmNames, R: Read + Drop> Client<N, R> {
         }
     }
 
-    /// Makes a call, and puts what it is answered with.
+    /// Makes a call, and adds what came of it to what the client was told: the reply that its new receipt bears, or that the call is refused.
     fn answer_call<T: Wait, G: Watch>(
         &mut self,
         alloc: Global,
@@ -151,42 +261,18 @@ impl<N: FarmNames, R: Read + Drop> Client<N, R> {
         floor: &Floor<N>,
         watch: &G,
         call: Call,
-    ) -> Result<(), NoMemory> {
+    ) -> Result<(), NoMemory>
+        ensures answered { OnOk result (AnswersLine (calls (view_of_call call))
+            self.old.seat self.new.seat (told_text self.old.told.items) (told_text self.new.told.items)) }
+        ensures err { OnErr result (CutsLine (calls (view_of_call call))
+            self.old.seat self.new.seat (told_text self.old.told.items) (told_text self.new.told.items)) }
+    {
         let project = self.seat.project();
         let outcome = floor.call(alloc, rt, &mut self.seat, call);
         if let Ok(Reply::Ticket(_)) = &outcome {
             watch.ordered(project);
         }
-        let response = match outcome {
-            Ok(reply) => Ok(Response::Reply(reply)),
-            Err(NoMemory) => Err(NoMemory),
-        };
-        let mut told = Told {
-            text: Vec::new(alloc),
-            report: None,
-        };
-        put_outcome(alloc, &mut told, Requester::Client { project }, response)?;
-        self.add(told)
-    }
-
-    /// Adds what was told, to the text that was told last where neither has a report.
-    fn add(&mut self, told: Told) -> Result<(), NoMemory> {
-        if let (Some(last), None) = (self.told.last_mut(), &told.report) {
-            if last.report.is_none() && last.text.len() < MOST_TEXT {
-                last.text.extend_from_slice(&told.text)?;
-                return Ok(());
-            }
-        }
-        self.told.push(told)?;
-        Ok(())
-    }
-
-    /// Puts that the line of this number is no command.
-    fn refuse(&mut self, alloc: Global, number: u64) -> Result<(), NoMemory> {
-        let line = format!(in alloc; "command {number} refused {NoCommand}\n")?;
-        self.add(Told {
-            text: line.into_bytes(),
-            report: None,
-        })
+        let told = text_of(alloc, project, outcome)?;
+        add(&mut self.told, told)
     }
 }

@@ -1,7 +1,12 @@
 //! A farm of workers and clients, from its opening to its end.
 
-ghost use Rattle.std.specs.Prelude.{◌≡◌, ◌<◌, ◌≤◌, [], IfErr, IfOk, OnOk, Some, length, vec_capacity, vec_len};
+ghost use Rattle.std.specs.Prelude.{◌≡◌, ◌<◌, ◌≤◌, [], map, All, IfErr, IfOk, OnOk, Some, length, vec_capacity, vec_len};
+ghost use Rattle.std.specs.Bool.{OnTrue};
+ghost use Rattle.pf_hall.specs.Clients.{empty_client};
+ghost use Rattle.pf_clients.specs.Farms.{answers_of, FarmLeaves, FarmPrints};
 ghost use Rattle.pf_clients.specs.Faults.{CountsFault};
+ghost use Rattle.pf_clients.specs.Lines.{IsNew, IsServed};
+ghost use Rattle.pf_clients.specs.Pairs.{EachTwo};
 ghost use Rattle.pf_farm.specs.Farms.{farm_of};
 ghost use Rattle.pf_farm.specs.Seats.{AllIdle, IsRing};
 
@@ -48,6 +53,11 @@ pub fn run_farm<
     requires workers { (0 < workers) × (workers < N.workers) }
     requires seats { MOST_SEATS < N.seats }
     requires files { (0 < vec_len files) × (vec_len files ≤ MOST_SEATS) }
+    ensures answered { IfOk result (λ status. FarmPrints (map R.remaining files.items) status
+        (W.contents writer.old.inner) (W.contents writer.new.inner)) }
+    ensures fault { IfErr result (λ e. FarmLeaves (map R.remaining files.items) e
+        (W.contents writer.old.inner) (W.contents writer.new.inner)
+        writer.old.failures.total writer.new.failures.total) }
     ensures kept { OnOk result (writer.new.failures.total ≡ writer.old.failures.total) }
     ensures counted { IfErr result (λ e. CountsFault e writer.old.failures.total writer.new.failures.total) }
 {
@@ -65,7 +75,8 @@ pub fn run_farm<
         seats: told,
         answers,
     } = parted(clients, room);
-    let _closing = farm.close(told, seats);
+    let closing = farm.close(told, seats);
+    closing.look_up();
     if !begun {
         let error = Error::new(ErrorKind::Other, "no thread can be started");
         return Err(OrNoMemory::Fault(StreamFault::Read(error)));
@@ -82,6 +93,9 @@ fn seated<N: FarmNames, R: Drop>(
     requires none { farm.old.given ≡ 0 }
     requires files { vec_len files ≤ MOST_SEATS }
     ensures clients { IfOk result (λ v. vec_len v ≡ vec_len files) }
+    ensures seated { IfOk result (λ v. EachTwo (λ k f c.
+        (c.seat ≡ empty_client k) × (c.file ≡ Some f) × (c.told.items ≡ [])) 1 files.items v.items) }
+    ensures new { IfOk result (λ v. All (λ c. IsNew c.seat c.told.items) v.items) }
     ensures given { IfOk result (λ v. farm.new ≡ farm_of farm.old.workers (vec_len files)) }
 {
     let mut clients = Vec::new(alloc);
@@ -120,8 +134,11 @@ fn serve<
     seats: &'a mut [WorkSeat<N>],
 ) -> bool
     requires some { (0 < length clients.old) × (0 < length seats.old) }
+    requires new { All (λ c. IsNew c.seat c.told.items) clients.old }
     requires idle { AllIdle seats.old }
     ensures clients { length clients.new ≡ length clients.old }
+    ensures served { OnTrue result (EachTwo (λ k c d. IsServed R.remaining c.file c.seat.project
+        d.seat d.told.items d.ended) 1 clients.old clients.new) }
     ensures seats { length seats.new ≡ length seats.old }
     ensures ring { IsRing seats.old → IsRing seats.new }
     ensures idle { AllIdle seats.new }
@@ -133,8 +150,10 @@ fn serve<
         ensures idle { AllIdle seats.exit.now }
     { farm_out(alloc, rt, floor, gate, start, seats) };
     let mut answer = || -> bool
-        requires { 0 < length clients.now }
-        ensures { length clients.exit.now ≡ length clients.entry.now }
+        requires { (0 < length clients.now) × All (λ c. IsNew c.seat c.told.items) clients.now }
+        ensures len { length clients.exit.now ≡ length clients.entry.now }
+        ensures served { OnTrue result (EachTwo (λ k c d. IsServed R.remaining c.file c.seat.project
+            d.seat d.told.items d.ended) 1 clients.entry.now clients.exit.now) }
     { answer_all(alloc, rt, floor, gate, start, clients) };
     join_mut(rt, &mut work, &mut answer).1
 }
@@ -173,8 +192,11 @@ fn answer_all<
     start: &Start,
     clients: &mut [Client<N, R>],
 ) -> bool
-    requires { 0 < length clients.old }
-    ensures { length clients.new ≡ length clients.old }
+    requires some { 0 < length clients.old }
+    requires new { All (λ c. IsNew c.seat c.told.items) clients.old }
+    ensures len { length clients.new ≡ length clients.old }
+    ensures served { OnTrue result (EachTwo (λ k c d. IsServed R.remaining c.file c.seat.project
+        d.seat d.told.items d.ended) 1 clients.old clients.new) }
 {
     let begun = start.wait(rt);
     if begun {
@@ -191,16 +213,19 @@ fn answer_each<
     T: Threads + Wait + Sync,
     G: Watch + Sync,
 >(alloc: Global, rt: &T, floor: &Floor<N>, watch: &G, clients: &mut [Client<N, R>])
-    requires { 0 < length clients.old }
-    ensures { length clients.new ≡ length clients.old }
+    requires some { 0 < length clients.old }
+    requires new { All (λ c. IsNew c.seat c.told.items) clients.old }
+    ensures len { length clients.new ≡ length clients.old }
+    ensures served { EachTwo (λ k c d. IsServed R.remaining c.file c.seat.project
+        d.seat d.told.items d.ended) 1 clients.old clients.new }
 {
     let count = clients.len();
-    for_each_mut(
-        rt,
-        clients,
-        count,
-        &move |_, client| client.work(alloc, rt, floor, watch),
-    );
+    let work_one = move |_: usize, client: &mut Client<N, R>|
+        requires { IsNew client.now.seat client.now.told.items }
+        ensures { IsServed R.remaining client.entry.now.file client.entry.now.seat.project
+            client.exit.now.seat client.exit.now.told.items client.exit.now.ended }
+    { client.work(alloc, rt, floor, watch) };
+    for_each_mut(rt, clients, count, &work_one);
 }
 
 /// Tells what each worker did.
@@ -222,7 +247,9 @@ fn parted<N: FarmNames, R: Drop>(clients: Vec<Client<N, R>>, room: Room<N>) -> R
     requires none { (room.seats.items ≡ []) × (room.answers.items ≡ []) }
     requires seats { vec_len clients ≤ vec_capacity room.seats }
     requires answers { vec_len clients ≤ vec_capacity room.answers }
-    ensures { vec_len result.seats ≡ vec_len clients }
+    ensures len { vec_len result.seats ≡ vec_len clients }
+    ensures seats { result.seats.items ≡ map (λ c. c.seat) clients.items }
+    ensures answers { result.answers.items ≡ map (λ c. answers_of c.told c.ended) clients.items }
 {
     let Room {
         mut seats,

@@ -1,8 +1,11 @@
 //! What all clients were told, file by file.
 
-ghost use Rattle.std.specs.Prelude.{◌≡◌, IfErr, OnOk};
-ghost use Rattle.pf_terms.specs.Streams.{CountsWrite};
+ghost use Rattle.std.specs.Prelude.{◌≡◌, map, None, Some, IfErr, IfOk, OnErr, OnOk};
+ghost use Rattle.std.specs.Io.KnownBytes.{Appends};
+ghost use Rattle.pf_terms.specs.Streams.{AppendsFront, CountsWrite};
+ghost use Rattle.pf_clients.specs.Farms.{client_text, status_at, stop_at, Prints, PrintsInPart};
 ghost use Rattle.pf_clients.specs.Faults.{CountsFault};
+ghost use Rattle.pf_clients.specs.Texts.{told_text};
 
 use crate::client::Ended;
 use pf_fault::OrNoMemory;
@@ -25,6 +28,10 @@ fn write_one<W: Write, M: Ledger>(
     told: &[Told],
     writer: &mut Counted<W, M>,
 ) -> Result<(), StreamFault>
+    ensures written { OnOk result (Appends (W.contents writer.old.inner) (W.contents writer.new.inner)
+        (told_text told.now)) }
+    ensures front { OnErr result (AppendsFront (W.contents writer.old.inner) (W.contents writer.new.inner)
+        (told_text told.now)) }
     ensures kept { OnOk result (writer.new.failures.total ≡ writer.old.failures.total) }
     ensures counted { IfErr result (λ e. CountsWrite e writer.old.failures.total writer.new.failures.total) }
 {
@@ -35,24 +42,38 @@ fn write_one<W: Write, M: Ledger>(
     gathered.send(writer)
 }
 
+/// The status after a file that ended so, where this is the status before it: 2 if a line was no command. None after a file that can't be read or for which memory ran out.
+fn next_status(status: u8, ended: Ended) -> Result<u8, OrNoMemory<StreamFault>>
+    ensures next { IfOk result (λ n. (stop_at ended ≡ None) × (n ≡ status_at ended status)) }
+    ensures stop { IfErr result (λ e. stop_at ended ≡ Some e) }
+{
+    match ended {
+        Ended::Answered => Ok(status),
+        Ended::NoCommand => Ok(2),
+        Ended::Unread(error) => Err(OrNoMemory::Fault(StreamFault::Read(error))),
+        Ended::NoMemory => Err(OrNoMemory::NoMemory),
+    }
+}
+
 /// Writes what the clients were told, file by file, up to a file that can't be read or for which memory ran out; the status, 2 if a line was no command, and else 0.
 pub(crate) fn write_all<W: Write, M: Ledger>(
     alloc: Global,
     answers: Vec<Answers>,
     writer: &mut Counted<W, M>,
 ) -> Result<u8, OrNoMemory<StreamFault>>
+    ensures printed { IfOk result (λ status. Prints (map client_text answers.items) status
+        (W.contents writer.old.inner) (W.contents writer.new.inner)) }
+    ensures in_part { IfErr result (λ e. PrintsInPart (map client_text answers.items) e
+        (W.contents writer.old.inner) (W.contents writer.new.inner)
+        writer.old.failures.total writer.new.failures.total) }
     ensures kept { OnOk result (writer.new.failures.total ≡ writer.old.failures.total) }
     ensures counted { IfErr result (λ e. CountsFault e writer.old.failures.total writer.new.failures.total) }
 {
     let mut status = 0;
-    'files: for Answers { told, ended } in answers {
+    'files: for answered in answers {
+        let Answers { told, ended } = answered;
         write_one(alloc, &told, writer)?;
-        match ended {
-            Ended::Answered => {}
-            Ended::NoCommand => status = 2,
-            Ended::Unread(error) => return Err(OrNoMemory::Fault(StreamFault::Read(error))),
-            Ended::NoMemory => return Err(OrNoMemory::NoMemory),
-        }
+        status = next_status(status, ended)?;
     }
     Ok(status)
 }

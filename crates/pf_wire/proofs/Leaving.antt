@@ -196,7 +196,7 @@ less_left true most taken taken' more le = omega (arith, le)
 less_left false most taken taken' more le = omega (arith, more refl)
 
 -- how what was read goes on
-goes : (over : Bool) (r0 r1 : Option (List ℕ)) (read : List ℕ) (taken : ℕ) → Consumes r0 r1 read → length read ≡ taken → taken ≤ MOST_BYTES
+pub goes : (over : Bool) (r0 r1 : Option (List ℕ)) (read : List ℕ) (taken : ℕ) → Consumes r0 r1 read → length read ≡ taken → taken ≤ MOST_BYTES
     → (over ≡ true → IsAtEnd r1 ⊎ (taken ≡ MOST_BYTES)) → (more : List ℕ) × Follows over more × AreRead r0 (read ++ more)
 goes over r0 r1 read taken h e le ends =
     covers MOST_BYTES over r0 r1 read h (subst (λ (n : ℕ). n ≤ MOST_BYTES) (sym e) le)

@@ -1,3 +1,4 @@
 pub mod Progress
 pub mod Leaving
 pub mod Adding
+pub mod Refusing

@@ -87,7 +87,7 @@ any_within (suc n) (b ∷ bs) le = any_from b bs (λ rest shorter. any_within n 
 -- ---- one command more
 
 -- what is due is what it is, whatever may follow
-due_stays : (over : Bool) (rest more : List ℕ) → is_due over rest ≡ true → Follows over more → command_at (rest ++ more) ≡ with_more more (command_at rest)
+pub due_stays : (over : Bool) (rest more : List ℕ) → is_due over rest ≡ true → Follows over more → command_at (rest ++ more) ≡ with_more more (command_at rest)
 due_stays false rest more due f = command_stays rest more due
 due_stays true rest more due f =
     rw (f refl) (ap command_at (append-nil rest) ∙ sym (with_none (command_at rest)))

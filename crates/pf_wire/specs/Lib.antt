@@ -1,3 +1,4 @@
+pub mod Endings
 pub mod Outcomes
 pub mod Steps
 pub mod Turns

@@ -1,6 +1,8 @@
 //! Where reading ended before the input did, for whoever says why.
 
-ghost use Rattle.std.specs.Prelude.{◌≡◌, IfSome, None, false};
+ghost use Rattle.std.specs.Prelude.{◌≡◌, None, false};
+ghost use Rattle.pf_lines.specs.Commands.{first_line};
+ghost use Rattle.pf_wire.specs.Endings.{IsKept, ReportsLine};
 
 use pf_lines::first_line;
 use std::alloc::Global;
@@ -28,6 +30,17 @@ pub struct Ending {
     pub is_full: bool,
 }
 
+/// What is kept of a line, and whether that is all of it.
+fn kept(alloc: Global, line: &[u8]) -> (Vec<u8>, bool)
+    ensures { IsKept result.0.items result.1 line.now }
+{
+    let end = line.len().min(MOST_OF_LINE);
+    match Vec::from_slice(alloc, &line[..end]) {
+        Ok(text) => (text, line.len() <= MOST_OF_LINE),
+        Err(_) => (Vec::new(alloc), false),
+    }
+}
+
 impl Ending {
     /// Nothing was read yet.
     pub fn new() -> Ending
@@ -42,14 +55,10 @@ impl Ending {
 
     /// The command of this number, which stands in front of some bytes, is none.
     pub(crate) fn refuse(&mut self, alloc: Global, number: u64, bytes: &[u8])
-        ensures { IfSome self.new.refused (λ r. r.number ≡ number) }
+        ensures line { ReportsLine self.new.refused number (first_line bytes.now).text }
+        ensures full { self.new.is_full ≡ self.old.is_full }
     {
-        let line = first_line(bytes).text;
-        let end = line.len().min(MOST_OF_LINE);
-        let (text, is_whole) = match Vec::from_slice(alloc, &line[..end]) {
-            Ok(text) => (text, end == line.len()),
-            Err(_) => (Vec::new(alloc), false),
-        };
+        let (text, is_whole) = kept(alloc, first_line(bytes).text);
         self.refused = Some(RefusedLine {
             number,
             text,

@@ -10,6 +10,6 @@ mod told;
 
 pub use ending::{Ending, RefusedLine};
 pub use outcome::{Requester, put_outcome};
-pub use steps::{MOST_BYTES, WORKERS, run_steps};
+pub use steps::{MOST_BYTES, WORKERS, put_no_command, run_steps};
 pub use stream::Gathered;
 pub use told::{Told, ToldReport};

@@ -9,6 +9,7 @@ ghost use Rattle.pf_worlds.specs.Told.{outcome_text};
 ghost use Rattle.pf_worlds.specs.View.{view_of_step};
 ghost use Rattle.pf_workshop.specs.Profile.{ForRight};
 ghost use Rattle.pf_worlds.specs.Workshop.{new_workshop};
+ghost use Rattle.pf_wire.specs.Endings.{EndsAs, LeadsTo, LeadsToNone};
 ghost use Rattle.pf_wire.specs.Steps.{last_text, AnswersOne, StepsAnswered, StepsLeaves};
 ghost use Rattle.pf_wire.specs.Turns.{TellsAll, TellsUpTo, TurnsLeave};
 ghost use Rattle.pf_wire.specs.Whole.{whole_text};
@@ -67,7 +68,7 @@ fn answer(
 }
 
 /// Puts the line that says that the command of this number, counted from 1, is none.
-fn put_no_command(alloc: Global, out: &mut Vec<u8>, number: u64) -> Result<(), NoMemory>
+pub fn put_no_command(alloc: Global, out: &mut Vec<u8>, number: u64) -> Result<(), NoMemory>
     ensures { OnOk result (out.new.items ≡ out.old.items ++ last_text false number) }
 {
     put(out, b"command ")?;
@@ -129,6 +130,8 @@ fn answer_due<'a, W: Write, M: Ledger>(
         (λ l. ForRight (λ p. TellsUpTo p is_over input.now workshop.old first l.rest.now workshop.new l.number
         (W.contents writer.old.inner) (W.contents writer.new.inner))
         × (is_due is_over l.rest.now ≡ false) × (l.number + length l.rest.now ≤ first + length input.now))) }
+    ensures ending { IfOk result (λ left. MatchOption left (LeadsToNone is_over input.now first ending.new)
+        (λ l. LeadsTo is_over input.now l.rest.now first l.number × (ending.new ≡ ending.old))) }
     ensures kept { OnOk result (writer.new.failures.total ≡ writer.old.failures.total) }
     ensures fault { IfErr result (λ e. ForRight (λ p. TurnsLeave p e is_over input.now workshop.old first
         (W.contents writer.old.inner) (W.contents writer.new.inner)
@@ -177,6 +180,7 @@ fn answer_pieces<R: Read, W: Write, L: Ledger, M: Ledger>(
     requires room { 0 < length piece.old }
     ensures answered { IfOk result (λ status. ForRight (λ p. StepsAnswered p (R.remaining reader.old.inner)
         (W.contents writer.old.inner) (W.contents writer.new.inner) status)) }
+    ensures ending { IfOk result (λ status. EndsAs (R.remaining reader.old.inner) status ending.old ending.new) }
     ensures taken { (bytes : List ℕ) × (length bytes ≤ MOST_BYTES)
         × Consumes (R.remaining reader.old.inner) (R.remaining reader.new.inner) bytes }
     ensures counts { OnOk result ((reader.new.failures.total ≡ reader.old.failures.total)
@@ -216,7 +220,7 @@ fn answer_pieces<R: Read, W: Write, L: Ledger, M: Ledger>(
 
 /// Reads at most 64 MiB, piece by piece, answers each command before it waits for more, and gives the status: 2 if a
 /// line is no command, after which nothing is done, and else 0. The workshop of four workers hashes with these
-/// keys, which no answer depends on. The ending is for who says why reading ended.
+/// keys, which no answer depends on. The ending has the line that is no command, by its number, for who says why reading ended.
 pub fn run_steps<R: Read, W: Write, L: Ledger, M: Ledger>(
     alloc: Global,
     keys: RandomState,
@@ -226,6 +230,7 @@ pub fn run_steps<R: Read, W: Write, L: Ledger, M: Ledger>(
 ) -> Result<u8, OrNoMemory<StreamFault>>
     ensures answered { IfOk result (λ status. ForRight (λ p. StepsAnswered p (R.remaining reader.old.inner)
         (W.contents writer.old.inner) (W.contents writer.new.inner) status)) }
+    ensures ending { IfOk result (λ status. EndsAs (R.remaining reader.old.inner) status ending.old ending.new) }
     ensures taken { (bytes : List ℕ) × (length bytes ≤ MOST_BYTES)
         × Consumes (R.remaining reader.old.inner) (R.remaining reader.new.inner) bytes }
     ensures counts { OnOk result ((reader.new.failures.total ≡ reader.old.failures.total)

@@ -1,13 +1,17 @@
-use Rattle.std.proofs.Common.{◌≡◌, ◌+◌, ◌≤◌, length, vec_len}
+use Rattle.std.proofs.Common.{◌≡◌, ◌+◌, ◌≤◌, ◌++◌, length, map, vec_len}
 use Rattle.std.specs.Vec.{vec_capacity}
 use Rattle.std.specs.Vec.Iter.{into_iter_items}
+use Rattle.pf_clients.specs.Farms.{answers_of}
 use Rattle.pf_clients.proofs.run.parted.Given as goal
 
 abbrev pub invariant-clients : goal.invariant-clients
 invariant-clients g l = record {
-  seats : vec_len l.seats ≡ length l.yielded;
-  answers : vec_len l.answers ≡ length l.yielded;
-  rest : length l.yielded + length (into_iter_items l.client-iterator) ≡ vec_len l.fn.clients;
+  seats : l.seats.items ≡ map (λ c. c.seat) l.yielded;
+  answers : l.answers.items ≡ map (λ c. answers_of c.told c.ended) l.yielded;
+  seats_len : vec_len l.seats ≡ length l.yielded;
+  answers_len : vec_len l.answers ≡ length l.yielded;
+  rest : l.fn.clients.items ≡ l.yielded ++ into_iter_items l.client-iterator;
+  rest_len : length l.yielded + length (into_iter_items l.client-iterator) ≡ vec_len l.fn.clients;
   seats_room : vec_len l.fn.clients ≤ vec_capacity l.seats;
   answers_room : vec_len l.fn.clients ≤ vec_capacity l.answers;
 }

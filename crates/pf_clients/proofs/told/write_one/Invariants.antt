@@ -1,5 +1,13 @@
-use Rattle.std.proofs.Common.{◌≡◌}
+use Rattle.std.proofs.Common.{◌≡◌, [], take}
+use Rattle.pf_wire.proofs.Leaving.{IsAdded}
+use Rattle.pf_clients.specs.Texts.{told_text}
 use Rattle.pf_clients.proofs.told.write_one.Given as goal
 
+-- what went out, and behind it what is gathered, is the text of the replies so far
 abbrev pub invariant-replies : goal.invariant-replies
-invariant-replies g l = l.writer.failures.total ≡ l.fn.writer.failures.total
+invariant-replies g l =
+    let contents = g.W.Write.contents in
+    record {
+      so_far : IsAdded [] (told_text (take l.reply-index l.told)) l.gathered.text.items (contents l.fn.writer.inner) (contents l.writer.inner);
+      same : l.writer.failures.total ≡ l.fn.writer.failures.total;
+    }

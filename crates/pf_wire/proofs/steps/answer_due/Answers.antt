@@ -1,4 +1,4 @@
-use Rattle.std.proofs.Common.{◌≡◌, ◌∙◌, Result, Ok, Err, refl, sym, subst, arith}
+use Rattle.std.proofs.Common.{◌≡◌, ◌+◌, ◌∙◌, Result, Ok, Err, refl, sym, subst, arith}
 use Rattle.std.specs.Prelude.{IfErr, IsErr, IsErrAnd}
 use Rattle.pf_fault.specs.declared.fault.OrNoMemory.{OrNoMemory}
 use Rattle.pf_fault.specs.declared.fault.OrNoMemory.TheVariants.{Fault}
@@ -6,11 +6,14 @@ use Rattle.pf_terms.specs.declared.stream.StreamFault.{StreamFault}
 use Rattle.pf_wire.specs.Whole.{whole_text}
 use Rattle.pf_trace.proofs.Fronts.{handed_on}
 use Rattle.pf_wire.proofs.Leaving.{at_hand_first, at_hand_sent, at_hand_in_part, at_hand_more, more_in_part, ends_ill, ends_ill_in_part, in_part, leaves_at, shorter_after}
+use Rattle.pf_wire.proofs.Refusing.{leads_both, leads_first, leads_one}
 use Rattle.pf_wire.proofs.steps.answer_due.Goals as goal
 
 pub loop-alloc-init : goal.loop-alloc-init
 loop-alloc-init g c = record {
   so_far = λ p right. at_hand_first p c.args.is_over c.args.input.now c.new.result.items c.args.workshop.now c.args.first _ c.new.ensures.items;
+  leads = leads_first c.args.is_over c.args.input.now c.args.first;
+  untold = refl;
   same = refl;
   within = omega arith;
 }
@@ -81,6 +84,10 @@ loop-alloc-preserved g c =
           at_hand_more p right c.args.is_over c.args.input.now l.gathered.text.items c.add_told.new.self.text.items l.rest.now c.in-Some.after.now c.args.workshop.now l.workshop
           c.answer_front.new.workshop c.args.first l.number _ _ _ (whole_text c.answer_front.new.told) (l.invariant.so_far p right) due one
           c.in_ok-add_told.ensures.added;
+      leads =
+          leads_both c.args.is_over c.args.input.now l.rest.now c.in-Some.after.now c.args.first l.number (l.number + 1) l.invariant.leads
+          (leads_one c.args.is_over l.rest.now c.in-Some.after.now (whole_text c.answer_front.new.told) l.workshop c.answer_front.new.workshop l.number due one);
+      untold = l.invariant.untold;
       same = c.in_ok-add_told.ensures.kept ∙ l.invariant.same;
       within = omega (arith, less, l.invariant.within);
     }
@@ -103,3 +110,11 @@ returns-clause-answered g c =
       sym c.is_due.ensures ∙ c.loop-alloc-test.false,
       l.invariant.within,
     )
+
+pub returns-in_default-clause-ending : goal.returns-in_default-clause-ending
+returns-in_default-clause-ending g c =
+    let l = c.loop-alloc in
+    (l.rest.now, l.number, l.invariant.leads, sym c.is_due.ensures ∙ c.loop-alloc-test.true, (rw c.in_default.is at c.in-Ok.ensures).0, c.refuse.ensures.line)
+
+pub returns-clause-ending : goal.returns-clause-ending
+returns-clause-ending g c = (c.loop-alloc.invariant.leads, c.loop-alloc.invariant.untold)

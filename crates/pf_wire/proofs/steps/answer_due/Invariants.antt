@@ -1,5 +1,6 @@
 use Rattle.std.proofs.Common.{◌≡◌, ◌≤◌, ◌+◌, length}
 use Rattle.pf_workshop.specs.Profile.{ForRight}
+use Rattle.pf_wire.specs.Endings.{LeadsTo}
 use Rattle.pf_wire.proofs.Leaving.{AtHand}
 use Rattle.pf_wire.proofs.steps.answer_due.Given as goal
 
@@ -10,6 +11,8 @@ invariant-loop-alloc g l =
     record {
       so_far : ForRight (λ p. AtHand p l.is_over l.input l.fn.workshop l.first l.gathered.text.items l.rest l.workshop l.number
           (contents l.fn.writer.inner) (contents l.writer.inner));
+      leads : LeadsTo l.is_over l.input l.rest l.first l.number;
+      untold : l.ending ≡ l.fn.ending;
       same : l.writer.failures.total ≡ l.fn.writer.failures.total;
       within : l.number + length l.rest ≤ l.first + length l.input;
     }

@@ -1,8 +1,9 @@
-use Rattle.std.proofs.Common.{◌≤◌, ◌∙◌, refl, sym, ap, arith, length}
+use Rattle.std.proofs.Common.{◌≡◌, ◌≤◌, ◌∙◌, refl, sym, ap, arith, length}
 use Rattle.pf_fault.specs.declared.fault.OrNoMemory.TheVariants.{NoMemory}
 use Rattle.pf_wire.specs.declared.steps.TheConstants.{MOST_BYTES}
 use Rattle.pf_trace.proofs.Fronts.{handed_on}
 use Rattle.pf_wire.proofs.Leaving.{less_left, within_later, stands_ended, stands_ended_ill, stands_first, stands_further, stands_later, stands_stopped, stands_taken, stands_taken_more, stands_unread, stands_without_memory}
+use Rattle.pf_wire.proofs.Refusing.{reads_first, reads_later, reads_further, refuses_line}
 use Rattle.pf_wire.proofs.steps.answer_pieces.Goals as goal
 
 pub loop-is_over-init : goal.loop-is_over-init
@@ -11,6 +12,8 @@ loop-is_over-init g c =
     let zero_taken = c.new-input.ensures.taken in
     record {
       stands = stands_first c.new-input.result.bytes.items _ c.new-input.result.taken _ _ none c.requires.is_new zero_taken;
+      leads = reads_first c.new-input.result.bytes.items c.new-input.result.taken _ none zero_taken;
+      untold = refl;
       unfinished = rw none refl;
       reads = refl;
       writes = refl;
@@ -116,10 +119,16 @@ loop-is_over-preserved-then-is_due g c =
     let s' =
     stands_further c.in_ok-is_over.is_over c.take_piece.new.self.bytes.items c.in-Some.left.rest.now l.workshop c.answer_due.new.workshop l.number c.in-Some.left.number
     c.take_piece.new.self.taken _ _ _ _ _ s a.0 in
+    let e = rw (c.in-Some.is, c.deref.ensures.value) at c.in_ok-left.ensures.ending in
     let within = within_later l.input.bytes.items c.take_piece.new.self.bytes.items t.0 l.number l.input.taken c.take_piece.new.self.taken t.2 t.3 l.invariant.within in
     let kept = c.keep.ensures.bytes ∙ c.in_ok-rest.ensures.items in
     record {
       stands = rw (kept, c.keep.ensures.taken) s';
+      leads =
+          rw (kept, c.keep.ensures.taken)
+          (reads_further c.in_ok-is_over.is_over c.take_piece.new.self.bytes.items c.in-Some.left.rest.now l.number c.in-Some.left.number c.take_piece.new.self.taken _ _
+          (reads_later l.is_over c.in_ok-is_over.is_over l.input.bytes.items c.take_piece.new.self.bytes.items l.number l.input.taken c.take_piece.new.self.taken _ _ _ c.loop-is_over-test.true l.invariant.leads t) e.0);
+      untold = ap (λ x. x.refused) e.1 ∙ l.invariant.untold;
       unfinished = rw kept a.1;
       reads = c.in_ok-is_over.ensures.kept ∙ l.invariant.reads;
       writes = c.in_ok-left.ensures.kept ∙ l.invariant.writes;
@@ -141,6 +150,8 @@ loop-is_over-preserved g c =
     let t = c.in_ok-is_over.ensures.piece in
     record {
       stands = stands_later _ _ _ _ _ c.loop-is_over-test.true l.invariant.stands t;
+      leads = reads_later l.is_over c.in_ok-is_over.is_over l.input.bytes.items c.take_piece.new.self.bytes.items l.number l.input.taken c.take_piece.new.self.taken _ _ _ c.loop-is_over-test.true l.invariant.leads t;
+      untold = l.invariant.untold;
       unfinished = sym c.is_due.ensures ∙ c.if-is_due.false;
       reads = c.in_ok-is_over.ensures.kept ∙ l.invariant.reads;
       writes = l.invariant.writes;
@@ -160,3 +171,16 @@ pub returns-clause-taken : goal.returns-clause-taken
 returns-clause-taken g c =
     let l = c.loop-is_over in
     stands_taken l.is_over l.input.bytes.items l.workshop l.number l.input.taken _ _ _ _ l.invariant.stands l.invariant.most
+
+pub returns-in_default-clause-ending : goal.returns-in_default-clause-ending
+returns-in_default-clause-ending g c =
+    let l = c.loop-is_over in
+    let t = c.in_ok-is_over.ensures.piece in
+    let s = reads_later l.is_over c.in_ok-is_over.is_over l.input.bytes.items c.take_piece.new.self.bytes.items l.number l.input.taken c.take_piece.new.self.taken _ _ _ c.loop-is_over-test.true l.invariant.leads t in (
+      λ two. refuses_line c.in_ok-is_over.is_over c.take_piece.new.self.bytes.items l.number c.take_piece.new.self.taken _ _ c.answer_due.new.ending s t.6
+          (rw (c.in_default.is, c.deref.ensures.value) at c.in_ok-left.ensures.ending),
+      λ (none : 2 ≡ 0). absurd cc,
+    )
+
+pub returns-clause-ending : goal.returns-clause-ending
+returns-clause-ending g c = (λ (two : 0 ≡ 2). absurd cc, λ none. c.loop-is_over.invariant.untold)

@@ -1,6 +1,7 @@
 use Rattle.std.proofs.Common.{◌≡◌, ◌≤◌, ◌<◌, ◌+◌, ◌-◌, false, length, if◌then◌else◌}
 use Rattle.pf_lines.specs.Complete.{is_due}
 use Rattle.pf_wire.specs.declared.steps.TheConstants.{MOST_BYTES}
+use Rattle.pf_wire.specs.Endings.{ReadsUpTo}
 use Rattle.pf_wire.proofs.Leaving.{Stands}
 use Rattle.pf_wire.proofs.steps.answer_pieces.Given as goal
 
@@ -12,6 +13,8 @@ invariant-loop-is_over g l =
     record {
       stands : Stands l.is_over l.input.bytes.items l.workshop l.number l.input.taken (remaining l.fn.reader.inner) (remaining l.reader.inner)
           (contents l.fn.writer.inner) (contents l.writer.inner);
+      leads : ReadsUpTo l.is_over l.input.bytes.items l.number l.input.taken (remaining l.fn.reader.inner) (remaining l.reader.inner);
+      untold : l.ending.refused ≡ l.fn.ending.refused;
       unfinished : is_due l.is_over l.input.bytes.items ≡ false;
       reads : l.reader.failures.total ≡ l.fn.reader.failures.total;
       writes : l.writer.failures.total ≡ l.fn.writer.failures.total;

@@ -1,4 +1,4 @@
-use Rattle.pf_clients.proofs.client.Client.answer_all.Given as goal
+use Rattle.pf_clients.proofs.client.Client.answer_file.Given as goal
 
 -- the ledger of the file is named by its blank
 abbrev pub ghosts-contents : goal.ghosts-contents

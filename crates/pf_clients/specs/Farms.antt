@@ -1,0 +1,115 @@
+-- What a farm of clients and workers tells, and what goes out of it.
+use Rattle.std.specs.Prelude.{◌≡◌, ◌⊎◌, ⊤, ℕ, suc, ◌+◌, List, [], ◌∷◌, ◌++◌, Option, Some, None}
+use Rattle.std.specs.Io.KnownBytes.{Appends}
+use Rattle.std.specs.Global.{Vec}
+use Rattle.pf_wire.specs.declared.told.Told as wire
+use Rattle.pf_fault.specs.declared.fault.OrNoMemory.{OrNoMemory}
+use Rattle.pf_fault.specs.declared.fault.OrNoMemory.TheVariants.{Fault, NoMemory}
+use Rattle.pf_terms.specs.declared.stream.StreamFault.{StreamFault}
+use Rattle.pf_terms.specs.declared.stream.StreamFault.TheVariants.{Read, Write}
+use Rattle.pf_terms.specs.Streams.{AppendsFront}
+use Rattle.pf_desks.specs.History.{IsLegalDesk}
+use Rattle.pf_desks.specs.World.{desk_at}
+use Rattle.pf_ledger.specs.Rows.{HaveEnded}
+use Rattle.pf_book.specs.Profile.{ForRight}
+use Rattle.pf_told.specs.Told.{IsTold}
+use Rattle.pf_hall.specs.Clients.{all_receipts, closed_as, AreFull, AreLegal, AreTheCalls}
+use Rattle.pf_hall.specs.declared.client.ClosedSeat.{ClosedSeat}
+use Rattle.pf_hall.specs.declared.closing.Closing.{Closing}
+use Rattle.pf_clients.specs.declared.client.Ended.{Ended}
+use Rattle.pf_clients.specs.declared.client.Ended.TheVariants.{Answered, NoCommand, Unread, NoMemory as OutOfMemory}
+use Rattle.pf_clients.specs.declared.told.Answers.{Answers}
+use Rattle.pf_clients.specs.Lines.{AnswersFile}
+use Rattle.pf_clients.specs.Texts.{told_text}
+
+-- ---- what goes out
+
+-- what a client was told, and how its file ended
+pub record ClientText : Type 0 where
+  pub text : List ℕ
+  pub ended : Ended
+
+abbrev pub answers_of : Vec wire.Told → Ended → Answers
+answers_of told e = record { told = told; ended = e }
+
+abbrev pub client_text : Answers → ClientText
+client_text a = record { text = told_text a.told.items; ended = a.ended }
+
+-- why no file is printed after one that ended so, if none is
+abbrev pub stop_at : Ended → Option (OrNoMemory StreamFault)
+stop_at Answered = None
+stop_at NoCommand = None
+stop_at (Unread e) = Some (Fault (Read e))
+stop_at OutOfMemory = Some NoMemory
+
+abbrev pub or_else : Option (OrNoMemory StreamFault) → Option (OrNoMemory StreamFault) → Option (OrNoMemory StreamFault)
+or_else None o = o
+or_else (Some e) o = Some e
+
+abbrev pub first_stop : List ClientText → Option (OrNoMemory StreamFault)
+first_stop [] = None
+first_stop (c ∷ cs) = or_else (stop_at c.ended) (first_stop cs)
+
+abbrev pub unless : Option (OrNoMemory StreamFault) → List ℕ → List ℕ
+unless None text = text
+unless (Some e) text = []
+
+-- what is printed: what the clients were told, file by file, up to one after which none is printed
+abbrev pub printed : List ClientText → List ℕ
+printed [] = []
+printed (c ∷ cs) = c.text ++ unless (stop_at c.ended) (printed cs)
+
+-- the status: 2 if a line was no command, and else 0
+abbrev pub status_at : Ended → (others : ℕ) → ℕ
+status_at NoCommand n = 2
+status_at Answered n = n
+status_at (Unread e) n = n
+status_at OutOfMemory n = n
+
+abbrev pub status_of : List ClientText → ℕ
+status_of [] = 0
+status_of (c ∷ cs) = status_at c.ended (status_of cs)
+
+-- all was printed, and this is the status
+abbrev pub Prints : List ClientText → (status : ℕ) → (written_old written_new : Option (List ℕ)) → Type 0
+Prints cs status w0 w1 = (first_stop cs ≡ None) × (status ≡ status_of cs) × Appends w0 w1 (printed cs)
+
+-- a write failed and was counted, and a beginning of what is printed went out; or a file can't be read or memory ran out, and all that is printed did
+abbrev pub PrintsInPart : List ClientText → OrNoMemory StreamFault → (written_old written_new : Option (List ℕ)) → (failed_old failed_new : ℕ) → Type 0
+PrintsInPart cs (Fault (Write e)) w0 w1 n0 n1 = (n1 ≡ n0 + 1) × AppendsFront w0 w1 (printed cs)
+PrintsInPart cs (Fault (Read e)) w0 w1 n0 n1 = (n1 ≡ n0) × (first_stop cs ≡ Some (Fault (Read e))) × Appends w0 w1 (printed cs)
+PrintsInPart cs NoMemory w0 w1 n0 n1 = (n1 ≡ n0) × (first_stop cs ≡ Some NoMemory) × Appends w0 w1 (printed cs)
+
+-- ---- a farm
+
+-- these are what is left of the clients of these files, and what they were told; the first is of project k, and each is of the next project
+abbrev pub AreAnswered : (k : ℕ) → List (Option (List ℕ)) → List ClosedSeat → List ClientText → Type 0
+AreAnswered k [] [] [] = ⊤
+AreAnswered k (f ∷ fs) (s ∷ ss) (c ∷ cs) = AnswersFile k f (closed_as s) c.text c.ended × AreAnswered (suc k) fs ss cs
+AreAnswered k _ _ _ = ⊥
+
+-- a farm of a client for each of these files, file k being that of project k, in which the clients were told this; and what is left when it is closed: the
+-- receipts of the clients are those of all calls that the histories note, each once, and these histories are legal
+pub record FarmOf (inputs : List (Option (List ℕ))) (clients : List ClientText) : Type 0 where
+  pub closing : Closing
+  pub answered : AreAnswered 1 inputs closing.seats.items clients
+  pub receipts : ForRight (λ p. AreTheCalls (all_receipts closing.seats.items) closing.book)
+  pub legal : ForRight (λ p. AreLegal p closing.seats.items closing.book)
+  pub full : ForRight (λ p. AreFull closing.seats.items closing.book)
+  pub ended : HaveEnded closing.rows.items
+  pub told : ForRight (λ p. IsTold closing.rows.items closing.book)
+
+-- what such a farm told its clients was printed
+abbrev pub FarmPrints : List (Option (List ℕ)) → (status : ℕ) → (written_old written_new : Option (List ℕ)) → Type 0
+FarmPrints inputs status w0 w1 = (clients : List ClientText) × FarmOf inputs clients × Prints clients status w0 w1
+
+-- nothing was written, since memory ran out before the farm began, or no thread can be started
+abbrev pub NeverBegins : OrNoMemory StreamFault → (written_old written_new : Option (List ℕ)) → (failed_old failed_new : ℕ) → Type 0
+NeverBegins (Fault (Write e)) w0 w1 n0 n1 = ⊥
+NeverBegins (Fault (Read e)) w0 w1 n0 n1 = (w1 ≡ w0) × (n1 ≡ n0)
+NeverBegins NoMemory w0 w1 n0 n1 = (w1 ≡ w0) × (n1 ≡ n0)
+
+-- the farm never began; or what it told its clients was printed in part
+abbrev pub FarmLeaves : List (Option (List ℕ)) → OrNoMemory StreamFault → (written_old written_new : Option (List ℕ)) → (failed_old failed_new : ℕ) → Type 0
+FarmLeaves inputs e w0 w1 n0 n1 =
+    NeverBegins e w0 w1 n0 n1 ⊎ ((clients : List ClientText) × FarmOf inputs clients × PrintsInPart clients e w0 w1 n0 n1)

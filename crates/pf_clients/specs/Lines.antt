@@ -1,0 +1,129 @@
+-- What the lines of a client's file come to, and what the client is told of them.
+use Rattle.std.specs.Prelude.{◌≡◌, ◌⊎◌, ⊤, ℕ, ◌+◌, false, List, [], ◌∷◌, ◌++◌, length, Option, Some, None, IfSome, Result, Ok, Err, codes}
+use Rattle.pf_fault.specs.Codes.{no_memory_text}
+use Rattle.pf_fault.specs.declared.code.Code.TheVariants as code
+use Rattle.pf_fault.specs.declared.memory.NoMemory.{NoMemory}
+use Rattle.pf_request.specs.Calls.{Call}
+use Rattle.pf_request.specs.View.{view_of_call}
+use Rattle.pf_desks.specs.Desk.{Reply, refused}
+use Rattle.pf_desks.specs.Told.{reply_text, to_project}
+use Rattle.pf_desks.specs.World.{replied}
+use Rattle.pf_worlds.specs.Chores as chores
+use Rattle.pf_worlds.specs.Chores.{answer}
+use Rattle.pf_book.specs.declared.reply.Reply as reply_code
+use Rattle.pf_book.specs.View.{view_of_reply}
+use Rattle.pf_hall.specs.Clients.{Told, ClientView, empty_client, full_seat, with_receipt}
+use Rattle.pf_lines.specs.Clients.{ClientLine, calls, awaits, client_line_at}
+use Rattle.pf_wire.specs.Steps.{AreRead, last_text}
+use Rattle.pf_wire.specs.declared.told.Told as wire
+use Rattle.pf_clients.specs.declared.client.Ended.{Ended}
+use Rattle.pf_clients.specs.declared.client.Ended.TheVariants.{Answered, NoCommand, Unread, NoMemory as OutOfMemory}
+use Rattle.pf_clients.specs.Texts.{told_text}
+
+-- ---- one line
+
+-- what came of a line: a call was logged, and this is its receipt; a call was one too many for the log; memory ran out in a call; a client waited for
+-- the trial of a ticket
+pub data Line : Type 0 where
+  logged : Told → Line
+  one_too_many : Call → Line
+  without_memory : Call → Line
+  waited : (ticket : ℕ) → Line
+
+-- what it asked for
+abbrev pub asked_in : Line → ClientLine
+asked_in (logged r) = calls (view_of_call r.call.value)
+asked_in (one_too_many c) = calls c
+asked_in (without_memory c) = calls c
+asked_in (waited t) = awaits t
+
+-- the reply that came of a call, if memory didn't run out
+abbrev pub answer_in : Result reply_code.Reply NoMemory → Option chores.Response
+answer_in (Ok r) = Some (answer (replied (view_of_reply r)))
+answer_in (Err e) = None
+
+-- the text of what came of a project's call
+abbrev pub call_text : ℕ → Result reply_code.Reply NoMemory → List ℕ
+call_text q (Ok r) = reply_text q (view_of_reply r)
+call_text q (Err e) = to_project q (codes "refused " ++ no_memory_text)
+
+-- what the client of a project is told: the reply that the receipt bears; nothing, where it waited
+abbrev pub line_text : ℕ → Line → List ℕ
+line_text q (logged r) = reply_text q (view_of_reply r.reply.value)
+line_text q (one_too_many c) = reply_text q (refused code.TooManyCalls)
+line_text q (without_memory c) = to_project q (codes "refused " ++ no_memory_text)
+line_text q (waited t) = []
+
+-- what it leaves of the client's seat: its receipt is the newest. No call of a seat that is full is logged, and memory doesn't run out in one
+abbrev pub Leaves : Line → (was is : ClientView) → Type 0
+Leaves (logged r) s s' = (s.is_full ≡ false) × (s' ≡ with_receipt s r)
+Leaves (one_too_many c) s s' = s' ≡ full_seat s
+Leaves (without_memory c) s s' = (s.is_full ≡ false) × (s' ≡ s)
+Leaves (waited t) s s' = s' ≡ s
+
+-- AnswersLine m s s' before after: a line that asks for this was answered, and what came of it was added to what its client was told
+abbrev pub AnswersLine : ClientLine → (was is : ClientView) → (before after : List ℕ) → Type 0
+AnswersLine m s s' t t' = (l : Line) × (asked_in l ≡ m) × Leaves l s s' × (t' ≡ t ++ line_text s.project l)
+
+-- the same where memory ran out before what came of it was added
+abbrev pub CutsLine : ClientLine → (was is : ClientView) → (before after : List ℕ) → Type 0
+CutsLine m s s' t t' = (l : Line) × (asked_in l ≡ m) × Leaves l s s' × (t' ≡ t)
+
+-- ---- the line in front
+
+-- the line in front of some bytes of a client's file, of this number, was answered, and these bytes follow it; or it is no command
+abbrev pub AnswersFront : List ℕ → (number : ℕ) → Option (List ℕ) → (was is : ClientView) → (before after : List ℕ) → Type 0
+AnswersFront bytes k (Some rest) s s' t t' =
+    (m : ClientLine) × (client_line_at s.project bytes ≡ Some (m, rest)) × AnswersLine m s s' t t'
+AnswersFront bytes k None s s' t t' = (client_line_at s.project bytes ≡ None) × (s' ≡ s) × (t' ≡ t ++ last_text false k)
+
+-- memory ran out before it was read, or before what came of it was added
+abbrev pub IsCut : List ℕ → (was is : ClientView) → Type 0
+IsCut bytes s s' = (s' ≡ s) ⊎ ((l : Line) × (rest : List ℕ) × (client_line_at s.project bytes ≡ Some (asked_in l, rest)) × Leaves l s s')
+
+abbrev pub CutsFront : List ℕ → (was is : ClientView) → (before after : List ℕ) → Type 0
+CutsFront bytes s s' t t' = IsCut bytes s s' × (t' ≡ t)
+
+-- ---- a file
+
+-- what a client is told of some lines
+abbrev pub lines_text : ℕ → List Line → List ℕ
+lines_text q [] = []
+lines_text q (l ∷ ls) = line_text q l ++ lines_text q ls
+
+-- AnswersLines q bytes s ls rest s': the bytes of a project's file are these lines, in order, and then the rest; they lead from the one state of its seat
+-- to the other
+abbrev pub AnswersLines : ℕ → List ℕ → ClientView → List Line → List ℕ → ClientView → Type 0
+AnswersLines q bytes s [] rest s' = (bytes ≡ rest) × (s ≡ s')
+AnswersLines q bytes s (l ∷ ls) rest s' =
+    (after : List ℕ) × (k : ClientView) × (client_line_at q bytes ≡ Some (asked_in l, after)) × Leaves l s k × AnswersLines q after k ls rest s'
+
+-- how a file ends after so many lines, of which this rest is left, and what is told of the end: nothing is left; or what is left begins with no command,
+-- and that is told; or the file can't be read, and none of its lines was; or memory ran out
+abbrev pub EndsAt : Ended → (lines : ℕ) → (rest : List ℕ) → (was is : ClientView) → (told : List ℕ) → Type 0
+EndsAt Answered n rest s s' t = (rest ≡ []) × (s' ≡ s) × (t ≡ [])
+EndsAt NoCommand n rest s s' t = (client_line_at s.project rest ≡ None) × ¬ (rest ≡ []) × (s' ≡ s) × (t ≡ last_text false (n + 1))
+EndsAt (Unread e) n rest s s' t = (n ≡ 0) × (s' ≡ s) × (t ≡ [])
+EndsAt OutOfMemory n rest s s' t = IsCut rest s s' × (t ≡ [])
+
+-- AnswersBytes bytes s s' before after ended: the lines of a client's file were answered in order up to an end, and what came of them was added to what it was told
+pub record AnswersBytes (bytes : List ℕ) (was is : ClientView) (before after : List ℕ) (ended : Ended) : Type 0 where
+  pub lines : List Line
+  pub rest : List ℕ
+  pub last : ClientView
+  pub told : List ℕ
+  pub answered : AnswersLines was.project bytes was lines rest last
+  pub ends : EndsAt ended (length lines) rest last is told
+  pub text : after ≡ before ++ (lines_text was.project lines ++ told)
+
+-- the client of a project's file was told this text: of the first 67,108,864 bytes of the file, if it is known what there is. Its seat began empty
+abbrev pub AnswersFile : (project : ℕ) → Option (List ℕ) → (seat : ClientView) → (text : List ℕ) → Ended → Type 0
+AnswersFile q input s text ended = (bytes : List ℕ) × AreRead input bytes × AnswersBytes bytes (empty_client q) s [] text ended
+
+-- a client's seat has no receipt yet, and it was told nothing
+abbrev pub IsNew : ClientView → List wire.Told → Type 0
+IsNew s told = (s ≡ empty_client s.project) × (told ≡ [])
+
+-- the lines of a client's file, if it had one, were answered: this is left of its seat, this is what it was told, and so its file ended
+abbrev pub IsServed : {R : Type 0} → (remaining : R → Option (List ℕ)) → Option R → (project : ℕ) → (seat : ClientView) → List wire.Told → Ended → Type 0
+IsServed remaining file q s told ended = IfSome file (λ f. AnswersFile q (remaining f) s (told_text told) ended)
