@@ -20,7 +20,7 @@ fail() {
 
 # A package is of a commit: what goes into it and into the program is as the commit has it. (The gate lays its wrong bodies elsewhere.)
 git -C "$top" rev-parse -q --verify HEAD > /dev/null 2>&1 || fail "this is no clone, so there is no commit to make a package of"
-git -C "$top" diff --quiet HEAD -- README.md HANDLES crates.txt crates ':!crates/*/wrong' docs examples install install.sh package.sh port ||
+git -C "$top" diff --quiet HEAD -- LICENSE README.md HANDLES crates.txt crates ':!crates/*/wrong' docs examples install install.sh package.sh port ||
   fail "there are changes that aren't committed: a package is of a commit"
 commit=$(git -C "$top" rev-parse HEAD)
 SOURCE_DATE_EPOCH=$(git -C "$top" log -1 --format=%ct)
@@ -50,6 +50,7 @@ lay() {
   install -D -m 644 "$top/docs/pulsefarm.fish" "$1/share/fish/vendor_completions.d/pulsefarm.fish"
   mkdir -p "$docs/docs" "$docs/examples" "$docs/port" "$1/share/pulsefarm"
   cp "$top/README.md" "$docs"
+  tell_licence > "$docs/copyright"
   cp "$top"/docs/*.md "$top"/docs/*.png "$top"/docs/*.svg "$top"/docs/*.json "$docs/docs"
   cp "$top"/examples/*.erl "$top/examples/README.md" "$docs/examples"
   cp -r "$top/examples/many" "$top/examples/ci" "$1/share/pulsefarm"
@@ -78,7 +79,24 @@ lay_erlang() {
   cp -r "$room/port/ebin" "$room/port/priv" "$room/port/pulsefarm-erl" "$1/lib/pulsefarm/port"
   cp -r "$top/port/ENCODINGS.md" "$top/port/examples" "$1/share/doc/pulsefarm/port"
   ln -s ../lib/pulsefarm/port/pulsefarm-erl "$1/bin/pulsefarm-erl"
+  install -D -m 644 "$top/port/pulsefarm-erl.1" "$1/share/man/man1/pulsefarm-erl.1"
+  gzip -9n "$1/share/man/man1/pulsefarm-erl.1"
+  install -D -m 644 "$top/port/pulsefarm-erl.bash" "$1/share/bash-completion/completions/pulsefarm-erl"
   rm -rf "$room/port"
+}
+
+# The licence, with its whole text, since the archive goes where there is no Debian.
+tell_licence() {
+  cat << END
+Format: https://www.debian.org/doc/packaging-manuals/copyright-format/1.0/
+Upstream-Name: pulsefarm
+
+Files: *
+Copyright: the authors of pulsefarm
+License: Apache-2.0
+END
+  # (of a field with more lines each begins with a blank, and an empty one is a dot)
+  sed 's/^$/./; s/^/ /' "$top/LICENSE"
 }
 
 # What the package is of.
@@ -103,7 +121,7 @@ Section: devel
 Priority: optional
 Installed-Size: $(find "$1/usr" -type f -printf '%s\n' | awk '{ sum += $1 } END { printf "%d", sum / 1024 + 1 }')
 Depends: libc6 (>= $needed)
-Recommends: python3, erlang-base, erlang-syntax-tools, erlang-src
+Recommends: python3, erlang-base, erlang-syntax-tools, erlang-src, erlang-eunit
 Description: tests Erlang programs for races
  Modules of a first-order profile of Erlang are run under a scheduler that makes
  every choice itself; each run is recorded, repeated, shrunk and drawn. The

@@ -1,7 +1,7 @@
 %% @doc Answers of pulsefarm in the words of the source: each event with its place, each process with the function that it runs, and
 %% each crash with file, line and function.
 -module(plain_answer).
--export([tell/3, ends/1, orderly/1, replayed/3, role/2, event_place/2, starts_report/1]).
+-export([tell/3, report/1, ends/1, orderly/1, replayed/3, role/2, where/5, event_place/2, starts_report/1]).
 -export_type([told/0]).
 
 -type asked() :: plain_words:asked().
@@ -18,9 +18,15 @@ tell(Answer, Asked, #{names := Names} = Translation) ->
         #{events := []} -> [[plain_words_back:line(Line, Names), "\n"] || Line <- Lines];
         #{events := Events, rest := Rest} ->
             Told = replayed(Asked, Translation, Events),
-            [[[Line, "\n"] || Line <- Before], events(Events, Told, Names), [[plain_words_back:line(Line, Names), "\n"] || Line <- Rest],
-             processes(Events, Told, Translation), waits(Events, Rest, Told), crashes(Events, Told, Translation)]
+            [[[Line, "\n"] || Line <- Before], events(Events, Told, Names, maps:get(verbose, Asked, false)), [[plain_words_back:line(Line, Names), "\n"] || Line <- Rest],
+             processes(Events, Told, #{verbose => maps:get(verbose, Asked, false)}), waits(Events, Rest, Told), crashes(Events, Told, Translation)]
     end.
+
+%% @doc The report in an answer.
+-spec report(binary()) -> plain_report:report().
+report(Answer) ->
+    Lines = binary:split(Answer, <<"\n">>, [global, trim]),
+    plain_report:read(case lists:dropwhile(fun(Line) -> not starts_report(Line) end, Lines) of [] -> Lines; Report -> Report end).
 
 %% @doc Whether a report begins with this line.
 -spec starts_report(binary()) -> boolean().
@@ -31,13 +37,15 @@ starts_report(Line) -> re:run(Line, <<"^[0-9]+/[0-9]+ <">>) =/= nomatch.
 replayed(#{files := Files, options := Options}, #{roots := [Root | _]}, Events) ->
     plain_replay:places(Files, Options, atom_to_list(Root), Events).
 
--spec events([plain_report:event()], told(), #{atom() => plain_translation:place()}) -> iodata().
-events(Events, Told, Names) ->
-    Marks = case Told of
-        {ok, #{events := Known}, #{marks := Places}} -> [place_of(Mark, Places) || Mark <- Known];
-        unknown -> [none || _ <- Events]
-    end,
-    [event(Event, Place, Names) || {Event, Place} <- lists:zip(Events, Marks)].
+%% All events with their places where that was asked for, or where places can't be told; else the story.
+-spec events([plain_report:event()], told(), #{atom() => plain_translation:place()}, boolean()) -> iodata().
+events(Events, unknown, Names, _) -> [event(Event, none, Names) || Event <- Events];
+events(Events, {ok, #{events := Known}, #{marks := Places}} = Told, Names, Verbose) ->
+    Marks = [place_of(Mark, Places) || Mark <- Known],
+    case Verbose of
+        true -> [event(Event, Place, Names) || {Event, Place} <- lists:zip(Events, Marks)];
+        false -> plain_story:tell(Events, Marks, {Told, Names})
+    end.
 
 -spec event(plain_report:event(), plain_translation:place() | none, #{atom() => plain_translation:place()}) -> iodata().
 event(#{choice := Choice, among := Among, subject := Subject, label := Label}, Place, Names) ->
@@ -60,11 +68,12 @@ place_of(<<"'@", Rest/binary>>, Places) ->
     end;
 place_of(_, _) -> none.
 
--spec processes([plain_report:event()], told(), translation()) -> iodata().
+-spec processes([plain_report:event()], told(), #{verbose := boolean()}) -> iodata().
 processes(_, unknown, _) -> "the places of this run can't be told\n";
-processes(Events, Told, _) ->
+processes(Events, Told, #{verbose := Verbose}) ->
     Pids = lists:usort([P || #{subject := {turn, P}} <- Events]),
-    [io_lib:format("<~w> ~ts~n", [P, role(P, Told)]) || P <- Pids].
+    Roles = [{P, lists:flatten(io_lib:format("~ts", [role(P, Told)]))} || P <- Pids],
+    [io_lib:format("<~w> ~ts~n", [P, Role]) || {P, Role} <- Roles, Verbose orelse not lists:prefix("the service", Role)].
 
 %% @doc What a process runs.
 -spec role(non_neg_integer() | none, told()) -> iodata() | unknown.
@@ -130,8 +139,25 @@ crashes(Events, Told, #{names := Names}) ->
 -spec crash({non_neg_integer(), non_neg_integer(), binary(), own | {by, non_neg_integer()}}, [plain_report:event()], told(), map()) -> iodata().
 crash({_, P, Reason, {by, A}}, _, _, Names) -> io_lib:format("ended <~w> by a signal of <~w>: ~ts~n", [P, A, plain_words_back:line(Reason, Names)]);
 crash({Number, P, Reason, own}, Events, Told, Names) ->
-    Word = case orderly(Reason) of true -> "ended"; false -> "crash" end,
-    io_lib:format("~s <~w> ~ts~ts~n", [Word, P, where(Number, P, Reason, Events, Told), reason(Reason, Names)]).
+    Where = where(Number, P, Reason, Events, Told),
+    case {[Lacked || {N, _, Lacked} <- plain_verdict:gaps(Events), N =:= Number], orderly(Reason)} of
+        {[Lacked], _} -> io_lib:format("refused <~w> ~ts~ts ~s~n", [P, Where, Lacked, cure(Lacked, Told)]);
+        {[], true} -> io_lib:format("ended <~w> ~ts~ts~n", [P, Where, reason(Reason, Names)]);
+        {[], false} -> io_lib:format("crash <~w> ~ts~ts~n", [P, Where, reason(Reason, Names)])
+    end.
+
+%% What to do about what is lacking.
+-spec cure(binary(), told()) -> string().
+cure(Lacked, {ok, _, #{exports := Exports}}) ->
+    case binary:split(Lacked, <<":">>) of
+        [Module, Function] ->
+            case maps:is_key(binary_to_atom(Module), Exports) of
+                true -> "is named by the tag of a message; say --calls " ++ binary_to_list(Module) ++ ":" ++ binary_to_list(hd(binary:split(Function, <<"/">>)));
+                false -> "is not translated, or not with these arguments"
+            end;
+        _ -> "is not translated"
+    end;
+cure(_, unknown) -> "is not translated, or not with these arguments".
 
 %% @doc Whether a process ends in order by this reason, as supervisors have it.
 -spec orderly(binary()) -> boolean().
@@ -140,7 +166,7 @@ orderly(<<"shutdown">>) -> true;
 orderly(<<"{shutdown,", _/binary>> = Reason) -> plain_words_back:size(Reason) =:= 2;
 orderly(_) -> false.
 
-%% The place of an end: its own mark; or that of the action that raised; else the last place of the source that the process came by.
+%% @doc The place of an end: its own mark; or that of the action that raised; else the last place of the source that the process came by.
 -spec where(pos_integer(), non_neg_integer(), binary(), [plain_report:event()], told()) -> iodata().
 where(_, _, _, _, unknown) -> "";
 where(Number, P, Reason, Events, {ok, #{events := Marks}, #{marks := Places, atoms := Atoms}} = Told) ->

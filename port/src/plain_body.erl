@@ -104,10 +104,13 @@ bind(Variables, Value, Body, Env, Mode) ->
         {plain, _} -> Before ++ [{match, Pattern, Last} | body(Body, Inside, Mode)];
         {_, {tuple, [{atom, v}, Known]}} when Pattern =:= {var, "_"} -> Before ++ [Known || is_tuple(Known), element(1, Known) =:= call] ++ body(Body, Inside, Mode);
         {_, {tuple, [{atom, v}, Known]}} -> Before ++ [{match, Pattern, Known} | body(Body, Inside, Mode)];
-        {_, {tuple, [{atom, x} | _]}} -> Elements;
         _ ->
-            Other = plain_names:new(),
-            Before ++ [{'case', Last, [{{tuple, [{atom, v}, Pattern]}, [], body(Body, Inside, Mode)}, {Other, [], [Other]}]}]
+            case plain_trace:is_thrown(Last) of
+                true -> Elements;
+                false ->
+                    Other = plain_names:new(),
+                    Before ++ [{'case', Last, [{{tuple, [{atom, v}, Pattern]}, [], body(Body, Inside, Mode)}, {Other, [], [Other]}]}]
+            end
     end.
 
 -spec binder([plain_tree:variable()], tree(), plain_text:expression(), mode(), environment()) -> {plain_text:expression(), environment()}.

@@ -37,16 +37,24 @@ call(Function, 1, [Argument], Env, Mode) when Function =:= atom_to_list; Functio
     plain_reach:use({atoms, Table, Mode}),
     [{call, plain_reach:in_mode(list_to_atom(atom_to_list(Table) ++ "@"), Mode), [plain_value:value(Argument, Env)]}];
 call(make_fun, 3, [{lit, Module, _}, {lit, Function, _}, {lit, Arity, _}], _, Mode) ->
-    [plain_body:returned(plain_value:remote_fun(Module, Function, Arity), Mode)];
+    [plain_body:returned(plain_value:external_fun(Module, Function, Arity), Mode)];
+call(make_fun, 3, [Module, Function, {lit, Arity, _}], Env, Mode) ->
+    Line = plain_state:get(line),
+    Variables = [{v, {'A', plain_state:fresh()}} || _ <- lists:seq(1, Arity)],
+    plain_body:body({fn, plain_state:fresh(), Variables, {call, Module, Function, Variables, Line}, Line}, Env, Mode);
 call(process_flag, 2, [{lit, trap_exit, _}, _] = Arguments, Env, Mode) ->
     [plain_body:returned(plain_trace:action(process_flag, plain_value:values(Arguments, Env)), Mode)];
 call(register, 2, Arguments, Env, Mode) -> registered(plain_value:values(Arguments, Env), Mode);
 call(function_exported, 3, [Module, {lit, Function, _}, {lit, Arity, _}], Env, Mode) ->
-    Known = [{{atom, Name}, [], [{atom, true}]} || {Name, _} <- plain_reach:remote_targets(Function, Arity)],
+    Known = [{{atom, Name}, [], [{atom, true}]} || Name <- plain_reach:exporting(Function, Arity)],
     [plain_body:returned({'case', plain_value:value(Module, Env), Known ++ [{{var, "_"}, [], [{atom, false}]}]}, Mode)];
-call(monitor, 2, [_, {lit, Name, _}] = Arguments, Env, Mode) when is_atom(Name) ->
-    plain_refusal:note_once(monitor, "a monitor of a name is whereis and then a monitor of the pid: the name may pass to another between, and 'DOWN' has the pid"),
+call(monitor, 2, [{lit, process, _}, Object] = Arguments, Env, Mode) ->
+    plain_down:monitored(Object, Env),
+    is_tuple(Object) andalso element(1, Object) =:= lit
+        andalso plain_refusal:note_once(monitor, "a monitor of a name is whereis and then a monitor of the pid: the name may pass to another between"),
     operation(monitor, 2, plain_value:values(Arguments, Env), Mode);
+call(demonitor, 2, [_, {lit, Options, _}] = Arguments, Env, Mode) when Options =:= []; Options =:= [flush] ->
+    [plain_body:returned(plain_trace:action(demonitor, plain_value:values(Arguments, Env)), Mode)];
 call(setelement, 3, [{lit, Index, _}, {v, _} = Tuple, Value], Env, Mode) when is_integer(Index) -> setelement(Index, Tuple, Value, Env, Mode);
 call(Function, Arity, Arguments, Env, Mode) ->
     note(Function),
@@ -67,8 +75,32 @@ applied([Fun, Arguments], Env, Mode) ->
 applied([Module, Function, Arguments], Env, Mode) ->
     case plain_tree:proper(Arguments) of
         {ok, Trees} -> plain_call:call(Module, Function, Trees, plain_state:get(line), Env, Mode);
-        no -> [{call, plain_reach:dispatcher(apply_function, Mode), plain_value:values([Module, Function, Arguments], Env)}]
+        no ->
+            case {plain_call:an_atom(Module, Env), plain_call:an_atom(Function, Env)} of
+                {{ok, M}, {ok, F}} -> plain_body:body(by_length(M, F, Arguments), Env, Mode);
+                _ -> [{call, plain_reach:dispatcher(apply_function, Mode), plain_value:values([Module, Function, Arguments], Env)}]
+            end
     end.
+
+%% A call of a known function with a list of arguments whose length a run knows: a clause for each length that the function has.
+-spec by_length(module(), atom(), tree()) -> tree().
+by_length(Module, Function, Arguments) ->
+    Line = plain_state:get(line),
+    Exports = case lists:member(Module, plain_state:get(users)) of
+        true -> plain_modules:exported(Module, user);
+        false -> plain_modules:of_otp(Module)
+    end,
+    Literal = fun(Term) -> {lit, Term, Line} end,
+    Clause = fun(Arity) ->
+        Variables = [{v, {'A', plain_state:fresh()}} || _ <- lists:seq(1, Arity)],
+        {[lists:foldr(fun(V, Tail) -> {cons, V, Tail} end, Literal([]), Variables)], Literal(true), {call, Literal(Module), Literal(Function), Variables, Line}}
+    end,
+    Arities = lists:usort([Arity || {Name, Arity} <- Exports, Name =:= Function]),
+    Else = case lists:member(Module, plain_state:get(users)) of
+        true -> {call, Literal(erlang), Literal(error), [Literal(undef)], Line};
+        false -> {call, Literal(prim), Literal(raw), [Literal(exit), Literal({refused, Module, Function, any})], Line}
+    end,
+    {'case', [Arguments], [Clause(Arity) || Arity <- Arities] ++ [{[{v, {'_', plain_state:fresh()}}], Literal(true), Else}], Line}.
 
 %% Where a refusal of a name has to be a value, all names go through one process.
 -spec registered([plain_text:expression()], mode()) -> plain_text:body().

@@ -1,6 +1,6 @@
 %% @doc Calls: of functions, of funs, and of modules that only a run knows.
 -module(plain_call).
--export([call/6, apply/3, function/5, unknown/4, checked/2, known/5]).
+-export([call/6, apply/3, function/5, unknown/4, checked/2, known/5, dispatched/5, an_atom/2, gap/3]).
 
 -type environment() :: plain_tree:environment().
 -type mode() :: plain_reach:mode().
@@ -8,15 +8,31 @@
 
 %% @doc `M:F(..)'.
 -spec call(tree(), tree(), [tree()], plain_tree:line(), environment(), mode()) -> plain_text:body().
-call({lit, Module, _}, {lit, Function, _}, Arguments, Line, Env, Mode) when is_atom(Module), is_atom(Function) ->
-    Line > 0 andalso plain_state:put(line, Line),
-    known(Module, Function, Arguments, Env, Mode);
-call(Module, {lit, Function, _}, Arguments, Line, Env, Mode) ->
-    Line > 0 andalso plain_state:put(line, Line),
-    [placed({call, plain_reach:remote_dispatcher(Function, length(Arguments), Mode), plain_value:values([Module | Arguments], Env)}, Mode)];
 call(Module, Function, Arguments, Line, Env, Mode) ->
     Line > 0 andalso plain_state:put(line, Line),
-    [placed({call, plain_reach:remote_dispatcher(any, length(Arguments), Mode), plain_value:values([Module, Function | Arguments], Env)}, Mode)].
+    case {an_atom(Module, Env), an_atom(Function, Env)} of
+        {{ok, M}, {ok, F}} -> known(M, F, Arguments, Env, Mode);
+        _ ->
+            {Dispatcher, Named} = dispatched(Module, Function, length(Arguments), Env, Mode),
+            [placed({call, Dispatcher, plain_value:values(Named ++ Arguments, Env)}, Mode)]
+    end.
+
+%% @doc The dispatcher of a call of which the module, the function or both are known to a run alone, and those of them that it takes.
+-spec dispatched(tree(), tree(), arity(), environment(), mode()) -> {atom(), [tree()]}.
+dispatched(Module, Function, Arity, Env, Mode) ->
+    {M, First} = case an_atom(Module, Env) of {ok, A} -> {A, []}; no -> {any, [Module]} end,
+    {F, Second} = case an_atom(Function, Env) of {ok, B} -> {B, []}; no -> {any, [Function]} end,
+    {plain_reach:remote_dispatcher(M, F, Arity, Mode), First ++ Second}.
+
+%% @doc The atom that a tree is, or that a variable is known to be.
+-spec an_atom(tree(), environment()) -> {ok, atom()} | no.
+an_atom({lit, Atom, _}, _) when is_atom(Atom) -> {ok, Atom};
+an_atom({v, _} = Variable, Env) ->
+    case Env of
+        #{Variable := {atom, Atom}} -> {ok, Atom};
+        _ -> no
+    end;
+an_atom(_, _) -> no.
 
 %% @doc A call of a function of a known module.
 -spec known(module(), atom(), [tree()], environment(), mode()) -> plain_text:body().
@@ -26,14 +42,18 @@ known(prim, raw, [{lit, Function, _} | Arguments], Env, Mode) ->
 known(Module, Function, Arguments, Env, Mode) ->
     Arity = length(Arguments),
     plain_encodings:note(Module, Function, Arity),
-    case plain_modules:find(Module, Function, Arity) of
-        none ->
-            case lists:member(Module, plain_state:get(users)) of
-                true -> [plain_body:failure(error, {atom, undef}, Mode)];
-                false -> unknown(Module, Function, Arity, Mode)
-            end;
-        _ -> [function(Module, Function, Arity, plain_value:values(Arguments, Env), Mode)]
+    case {plain_modules:hidden(Module, Function, Arity), plain_modules:find(Module, Function, Arity)} of
+        {true, _} -> [plain_body:failure(error, {atom, undef}, Mode)];
+        {false, none} -> unknown(Module, Function, Arity, Mode);
+        {false, {lib, Core, _}} ->
+            plain_lacks:refuse(Module, Function, Core, Arguments),
+            [function(Module, Function, Arity, plain_value:values(Arguments, Env), Mode)];
+        {false, _} -> [function(Module, Function, Arity, plain_value:values(Arguments, Env), Mode)]
     end.
+
+%% @doc The end of a process that comes to what the translator doesn't have. Nothing catches it, so that it is never taken for an error of the program.
+-spec gap(module(), atom(), arity()) -> plain_text:expression().
+gap(Module, Function, Arity) -> plain_trace:action(exit, [{tuple, [{atom, refused}, {atom, Module}, {atom, Function}, {int, Arity}]}]).
 
 %% @doc A call of a local function, or of a fun.
 -spec apply(tree(), environment(), mode()) -> plain_text:body().
@@ -90,5 +110,5 @@ unknown(Module, Function, Arity, Mode) ->
             [plain_body:failure(error, {atom, refused}, Mode)];
         _ ->
             plain_refusal:note("~ts; a process that comes here ends with {refused,..}", [Sentence]),
-            [plain_body:failure(error, {tuple, [{atom, refused}, {atom, Module}, {atom, Function}, {int, Arity}]}, Mode)]
+            [gap(Module, Function, Arity)]
     end.

@@ -47,7 +47,15 @@ is_failure(_, _, _) -> false.
         true -> plain_body:body(Body, Env, Mode);
         false -> branches(Wanted, Env, Mode)
     end;
-'case'(Subjects, Clauses, Line, Env, Mode) ->
+'case'([{tup, Elements}], Clauses, Line, Env, Mode) when length(Elements) > 1 ->
+    case lists:all(fun({[{tup, Patterns}], _, _}) -> length(Patterns) =:= length(Elements); (_) -> false end, Clauses) of
+        true -> 'case'(Elements, [{Patterns, Guard, Body} || {[{tup, Patterns}], Guard, Body} <- Clauses], Line, Env, Mode);
+        false -> of_values([{tup, Elements}], Clauses, Line, Env, Mode)
+    end;
+'case'(Subjects, Clauses, Line, Env, Mode) -> of_values(Subjects, Clauses, Line, Env, Mode).
+
+-spec of_values([tree()], clauses(), plain_tree:line(), environment(), mode()) -> plain_text:body().
+of_values(Subjects, Clauses, Line, Env, Mode) ->
     case {lists:all(fun plain_tree:simple/1, Subjects), Subjects, Mode} of
         {true, _, _} -> held(Subjects, Clauses, Line, Env, Mode);
         {false, [Subject], plain} -> evaluated(Subject, Clauses, Line, Env, Mode);

@@ -1,7 +1,7 @@
 %% @doc Charts in the words of the source: the function that each process runs in its head, the place of each event in its title, and
 %% terms as the source has them.
 -module(plain_chart).
--export([tell/3]).
+-export([tell/3, escaped/1]).
 
 -define(LONGEST_HEAD, 34).
 
@@ -48,6 +48,7 @@ unescaped(Text) ->
     lists:foldl(fun({From, To}, Before) -> binary:replace(Before, From, To, [global]) end, Text,
                 [{<<"&lt;">>, <<"<">>}, {<<"&gt;">>, <<">">>}, {<<"&quot;">>, <<"\"">>}, {<<"&#39;">>, <<"'">>}, {<<"&amp;">>, <<"&">>}]).
 
+%% @doc A text as markup has it.
 -spec escaped(binary()) -> binary().
 escaped(Text) ->
     lists:foldl(fun({From, To}, Before) -> binary:replace(Before, From, To, [global]) end, Text,

@@ -6,6 +6,7 @@
 complain(Text) -> io:put_chars(standard_error, unicode:characters_to_list(Text)).
 
 -spec run(plain_words:asked()) -> 0..255.
+run(#{command := eunit} = Asked) -> plain_eunit:run(Asked);
 run(#{files := Files, options := Options} = Asked) ->
     case plain_translation:translate(Files, Options) of
         {refused, Refusals} ->
@@ -29,12 +30,18 @@ translated(#{command := translate, out := Out}, #{text := Text, map := Map}) ->
 translated(#{files := [File | _], command := Command}, #{roots := [_, _ | _] = Roots}) when Command =/= check ->
     complain(["pulsefarm-erl: ", File, " exports ", lists:join(", ", [atom_to_list(Root) || Root <- Roots]), "; name the one to begin with by --root\n"]),
     2;
-translated(#{command := hunt, property := "supervised"} = Asked, Translation) -> plain_supervised:hunt(Asked, Translation);
-translated(#{property := "supervised", command := Command} = Asked, Translation) when Command =:= run; Command =:= shrink ->
-    plain_supervised:judge(Asked, Translation);
-translated(Asked, #{text := Text} = Translation) ->
-    Answer = plain_farm:with_file(Text, fun(File) -> plain_farm:call(plain_words:of_farm(File, Asked, Translation)) end),
-    told(Answer, Asked, Translation).
+translated(#{command := shrink} = Asked, Translation) -> plain_shrink:shrink(Asked, Translation);
+translated(#{command := Command} = Asked, Translation) ->
+    case {Command, plain_verdict:own(plain_verdict:asked(Asked))} of
+        {hunt, true} -> plain_hunt:hunt(Asked, Translation);
+        {run, true} -> plain_hunt:judge(Asked, Translation);
+        _ -> of_farm(Asked, Translation)
+    end.
+
+%% What the farm answers, in the words of the source.
+-spec of_farm(plain_words:asked(), plain_translation:translation()) -> 0..255.
+of_farm(Asked, #{text := Text} = Translation) ->
+    told(plain_farm:with_file(Text, fun(File) -> plain_farm:call(plain_words:of_farm(File, Asked, Translation)) end), Asked, Translation).
 
 -spec failed(file:filename(), file:posix()) -> 2.
 failed(File, Reason) ->
@@ -64,5 +71,11 @@ told({Text, Status}, #{command := chart} = Asked, Translation) ->
     plain_out:put(plain_chart:tell(Text, run_of_chart(Asked, Translation), Translation)),
     Status;
 told({Text, Status}, Asked, Translation) ->
-    plain_out:put(plain_answer:tell(Text, Asked, Translation)),
-    Status.
+    #{events := Events} = plain_answer:report(Text),
+    {Told, Judged} = case {plain_verdict:gaps(Events), re:run(Text, <<"^(holds|fails)( .*: ended \\{refused,.*)$">>, [multiline])} of
+        {[_ | _], _} -> {re:replace(Text, <<"^property (holds|fails)$">>, <<"no verdict">>, [multiline, {return, binary}]), 2};
+        {[], {match, _}} -> {re:replace(Text, <<"^(holds|fails)( .*: ended \\{refused,.*)$">>, <<"refused\\2">>, [multiline, global, {return, binary}]), 2};
+        {[], nomatch} -> {Text, Status}
+    end,
+    plain_out:put(plain_answer:tell(Told, Asked, Translation)),
+    Judged.

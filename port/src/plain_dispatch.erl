@@ -13,9 +13,10 @@ label({What, _}) when is_integer(What) -> lists:concat(["a call of a fun of ", W
 label({apply_fun, _}) -> "apply/2";
 label({apply_function, _}) -> "apply/3".
 
--spec remote_label({atom(), arity(), plain_reach:mode()}) -> string().
-remote_label({any, Arity, _}) -> lists:concat(["a call of any function of ", Arity, " arguments"]);
-remote_label({Function, Arity, _}) -> lists:concat(["a call of Module:", Function, "/", Arity]).
+-spec remote_label({module() | any, atom() | any, arity(), plain_reach:mode()}) -> string().
+remote_label({any, any, Arity, _}) -> lists:concat(["a call of any function of ", Arity, " arguments"]);
+remote_label({any, Function, Arity, _}) -> lists:concat(["a call of Module:", Function, "/", Arity]);
+remote_label({Module, any, Arity, _}) -> lists:concat(["a call of a function of ", Module, " of ", Arity, " arguments"]).
 
 -spec variables(string(), non_neg_integer()) -> [string()].
 variables(Letter, Number) -> [Letter ++ integer_to_list(I) || I <- lists:seq(1, Number)].
@@ -36,7 +37,8 @@ of_funs({apply_function, Mode}) ->
         [Name, "(", plain_text:atom(Module), ",", plain_text:atom(Function), ",[", comma(variables("A", Arity)), "])->",
          target(Module, Function, Arity, Mode), "(", comma(variables("A", Arity)), ");\n"]
     end,
-    [[Clause(Target) || Target <- plain_reach:exported_functions()], Name, "(_,_,_)->", failing(Mode, "undef"), ".\n"];
+    [[Clause(Target) || Target <- plain_reach:exported_functions()], Name, "(M,F,A) when is_list(A)->", gap(Mode), "(M,F,length(A));\n",
+     Name, "(_,_,_)->", failing(Mode, "badarg"), ".\n"];
 of_funs({Arity, Mode}) ->
     Name = plain_text:atom(plain_reach:dispatcher(Arity, Mode)),
     Arguments = variables("A", Arity),
@@ -63,19 +65,33 @@ called(Key, Call, Mode) ->
     end.
 
 -spec target(module(), atom(), arity(), plain_reach:mode()) -> iodata().
-target(Module, Function, Arity, Mode) -> plain_text:atom(plain_reach:in_mode(plain_reach:name(Module, Function, Arity), Mode)).
-
--spec of_modules({atom(), arity(), plain_reach:mode()}) -> iodata().
-of_modules({Wanted, Arity, Mode}) ->
-    Name = plain_text:atom(plain_reach:in_mode(plain_reach:remote_name(Wanted, Arity), Mode)),
-    Arguments = variables("A", Arity),
-    Ahead = case Wanted of any -> 2; _ -> 1 end,
-    Clause = fun({Module, Function}) ->
-        [Name, "(", comma([plain_text:atom(Module)] ++ [plain_text:atom(Function) || Wanted =:= any] ++ Arguments), ")->",
-         target(Module, Function, Arity, Mode), "(", comma(Arguments), ");\n"]
+target(Module, Function, Arity, Mode) ->
+    Name = case plain_reach:target(Module, Function, Arity, Mode) of
+        {lifted, Wrapper, _} -> Wrapper;
+        {function, _, _, _, _} -> plain_reach:name(Module, Function, Arity)
     end,
-    [[Clause(Target) || Target <- plain_reach:remote_targets(Wanted, Arity)],
-     Name, "(", comma(["_" || _ <- lists:seq(1, Arity + Ahead)]), ")->", failing(Mode, "undef"), ".\n"].
+    plain_text:atom(plain_reach:in_mode(Name, Mode)).
+
+-spec of_modules({module() | any, atom() | any, arity(), plain_reach:mode()}) -> iodata().
+of_modules({Of, Wanted, Arity, Mode}) ->
+    Name = plain_text:atom(plain_reach:in_mode(plain_reach:remote_name(Of, Wanted, Arity), Mode)),
+    Arguments = variables("A", Arity),
+    Clause = fun({Module, Function}) ->
+        Own = plain_reach:target_mode(Module, Mode),
+        Call = [target(Module, Function, Arity, Own), "(", comma(Arguments), ")"],
+        [Name, "(", comma([plain_text:atom(Module) || Of =:= any] ++ [plain_text:atom(Function) || Wanted =:= any] ++ Arguments), ")->",
+         case Own of Mode -> Call; plain -> ["{v,", Call, "}"] end, ";\n"]
+    end,
+    {M, First} = case Of of any -> {"M", ["M"]}; _ -> {plain_text:atom(Of), []} end,
+    {F, Second} = case Wanted of any -> {"F", ["F"]}; _ -> {plain_text:atom(Wanted), []} end,
+    [[Clause(Target) || Target <- plain_reach:remote_targets(Of, Wanted, Arity)],
+     Name, "(", comma(First ++ Second ++ ["_" || _ <- Arguments]), ")->", gap(Mode), "(", comma([M, F, integer_to_list(Arity)]), ").\n"].
+
+%% What is called where no clause of a dispatcher fits.
+-spec gap(plain_reach:mode()) -> iodata().
+gap(Mode) ->
+    plain_reach:use({gap, Mode}),
+    plain_text:atom(plain_reach:in_mode('gap@', Mode)).
 
 %% @doc An error in text.
 -spec failing(plain_reach:mode(), string()) -> iodata().

@@ -6,6 +6,10 @@
 -spec note(module(), atom(), arity()) -> ok.
 note(gen_server, Function, Arity) when {Function, Arity} =/= {call, 2} -> ok;
 note(io_lib, Function, _) when Function =/= format, Function =/= fwrite -> ok;
+note(application, _, _) ->
+    lists:member(pf_application, plain_state:get(users))
+        orelse plain_refusal:note_once(application, "no application has an environment here, so get_env answers the default; starting one does nothing"),
+    ok;
 note(timer, tc, _) -> plain_refusal:note_once(measured, "timer:tc measures nothing, and tells 0");
 note(timer, _, _) -> times();
 note(Module, _, _) ->
@@ -31,8 +35,7 @@ sentence(global) -> {global, "global names are names of the one node"};
 sentence(gen_server) -> {calls, "a call without a time of its own never times out; -D CALL_TIMEOUTS lets it"};
 sentence(io_lib) -> {formats, "~p, ~w, ~s, ~b, ~c and ~n are formatted without widths, and pids and references without numbers"};
 sentence(string) -> {text, "a character is a code point, upper and lower case are those of ASCII, and a text is a flat list or a binary"};
-sentence(gen_statem) -> {statem, "gen_statem is a library after OTP 25, without sys, hibernation, code change, repeat_state and change of the callback module"};
+sentence(gen_statem) -> {statem, "gen_statem is a library after OTP 25, without hibernation, code change, repeat_state and change of the callback module"};
 sentence(supervisor) -> {supervisor, "supervisor is a library after OTP 25, without sys, code change and auto_shutdown; its restarts are counted by the clock of the run"};
-sentence(application) -> {application, "no application has an environment here, so get_env answers the default; starting one does nothing"};
 sentence(net_kernel) -> {nodes, "there is one node; nothing tells of others"};
 sentence(_) -> none.

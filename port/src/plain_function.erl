@@ -53,7 +53,8 @@ tree(Key, Core) ->
     case plain_state:find_in(trees, Key) of
         {ok, Tree} -> Tree;
         error ->
-            Tree = plain_unique:function(Core),
+            Tree = plain_prune:tree(plain_unique:function(Core)),
+            plain_down:seen(Tree),
             plain_state:set_in(trees, Key, Tree),
             Tree
     end.

@@ -1,6 +1,6 @@
 %% @doc Where a function stands: in a file that was given, in the library beside this program, or in OTP's own source.
 -module(plain_modules).
--export([give/1, find/3, exported/2, file/1, library/0, in_library/1]).
+-export([give/1, find/3, exported/2, hidden/3, has/2, of_otp/1, file/1, library/0, in_library/1]).
 
 -type kind() :: user | lib | otp.
 -export_type([kind/0]).
@@ -9,7 +9,7 @@
 -spec give(file:filename()) -> module().
 give(File) ->
     #{defines := Defines} = plain_state:get(options),
-    Source = #{name := Name} = plain_source:read(File, Defines),
+    Source = #{name := Name} = read_once(File, Defines),
     case plain_state:find_in(modules, {Name, user}) of
         {ok, _} -> throw({refuse, File, 1, io_lib:format("the module ~w is given twice; name each file once", [Name])});
         error -> ok
@@ -17,6 +17,17 @@ give(File) ->
     plain_state:put(defines, lists:usort(plain_source:wants(Source) ++ plain_state:get(defines))),
     keep(Name, user, File, Source),
     Name.
+
+%% A file is read once for all passes.
+-spec read_once(file:filename(), [term()]) -> plain_source:source().
+read_once(File, Defines) ->
+    case get({?MODULE, File}) of
+        undefined ->
+            Source = plain_source:read(File, Defines),
+            _ = put({?MODULE, File}, Source),
+            Source;
+        Source -> Source
+    end.
 
 -spec keep(module(), kind(), file:filename(), plain_source:source()) -> ok.
 keep(Name, Kind, File, Source) ->
@@ -87,6 +98,29 @@ exported(Module, Kind) ->
     case plain_state:find_in(modules, {Module, Kind}) of
         {ok, #{exports := Exports}} -> [Export || {Name, _} = Export <- Exports, Name =/= module_info];
         _ -> []
+    end.
+
+%% @doc Whether a module that was given doesn't export this function, so that who calls it by its module gets `undef'.
+-spec hidden(module(), atom(), arity()) -> boolean().
+hidden(Module, Function, Arity) ->
+    lists:member(Module, plain_state:get(users)) andalso Function =/= module_info andalso not lists:member({Function, Arity}, exported(Module, user)).
+
+%% @doc What OTP's own module of this name exports, where the library has that module.
+-spec of_otp(module()) -> [{atom(), arity()}].
+of_otp(Module) ->
+    Given = lists:member(Module, plain_state:get(users)),
+    case not Given andalso (Module =:= erlang orelse in_library(Module)) andalso code:ensure_loaded(Module) of
+        {module, _} -> [Export || {Name, Arity} = Export <- Module:module_info(exports), Name =/= module_info,
+                                  Module =:= erlang orelse find(Module, Name, Arity) =/= none];
+        _ -> []
+    end.
+
+%% @doc Whether a module that was given has a function of this name.
+-spec has(module(), atom()) -> boolean().
+has(Module, Function) ->
+    case plain_state:find_in(modules, {Module, user}) of
+        {ok, #{functions := Functions}} -> lists:keymember(Function, 1, maps:keys(Functions));
+        error -> false
     end.
 
 %% @doc The file of a module that was given.

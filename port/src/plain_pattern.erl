@@ -40,7 +40,7 @@ pattern({v, _} = Variable, _, Used, {Env, Aliases}) ->
             {Name, {Env#{Variable => Name}, Aliases}};
         false -> {{var, "_"}, {Env, Aliases}}
     end;
-pattern({lit, Term, Line}, _, _, Scope) -> {plain_value:literal(Term, Line), Scope};
+pattern({lit, Term, Line}, _, _, Scope) -> {plain_value:pattern(Term, Line), Scope};
 pattern({tup, Patterns}, _, Used, Scope) ->
     {Written, After} = several(Patterns, Used, Scope),
     {{tuple, Written}, After};

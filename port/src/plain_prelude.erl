@@ -18,7 +18,7 @@ own_actions() -> [{'!', 2}, {whereis, 1}, {unregister, 1}, {link, 1}, {unlink, 1
 %% An action behind its mark.
 -spec marked({atom(), arity()}) -> iodata().
 marked({'!', 2}) -> "send@m(P,A,B)->whereis(P),A!B.\n";
-marked({Spawn, 3}) when Spawn =:= spawn; Spawn =:= spawn_link ->
+marked({Spawn, 3}) when Spawn =:= spawn; Spawn =:= spawn_link; Spawn =:= spawn_monitor ->
     Name = atom_to_list(Spawn),
     [Name, "@m(P,M,F,A)->whereis(P),", Name, "(M,start@,[F,A]).\n"];
 marked({Function, Arity}) ->
@@ -72,6 +72,11 @@ text({checked, Function, 1}) when Function =:= link; Function =:= unlink ->
     Name = atom_to_list(Function),
     two("c@" ++ Name, "P", [" when is_pid(P)->{v,", action(Name, ["P"]), "};\n"], "_");
 text({atoms, Table, Mode}) -> atoms(Table, Mode);
+text({gap, Mode}) -> gap(Mode);
+text({error, e@f, 0}) -> "e@f()->{x,error,function_clause}.\n";
+text({error, e@b, 0}) -> "e@b()->{x,error,badarg}.\n";
+text({error, e@c, 1}) -> "e@c(V)->{x,error,{case_clause,V}}.\n";
+text({error, e@m, 1}) -> "e@m(V)->{x,error,{badmatch,V}}.\n";
 text({marked, _, _}) -> [];
 text(raise) -> raise();
 text(flush) ->
@@ -82,6 +87,17 @@ text(arm) ->
 text(at) -> "at@(S,{x,C,R,[]})->{x,C,R,S};\nat@(_,V)->V.\n";
 text(enter) -> "enter@({v,V})->V;\nenter@({x,C,R,[P|S]})->whereis(P),raise@(C,R,[P|S]);\nenter@({x,C,R,S})->whereis('@0'),raise@(C,R,S).\n"
                "raise@(exit,R,_)->exit(R);\nraise@(throw,R,S)->exit({{nocatch,R},S});\nraise@(_,R,S)->exit({R,S}).\n".
+
+%% The end of a call that no dispatcher has: undef of a module that was given, badarg of what is no name; else it is refused.
+-spec gap(plain_reach:mode()) -> iodata().
+gap(Mode) ->
+    Name = plain_text:atom(plain_reach:in_mode('gap@', Mode)),
+    Given = [["M==", plain_text:atom(Module)] || Module <- plain_state:get(users), maps:is_key(Module, plain_state:get(atoms))],
+    [[[Name, "(", plain_text:atom(M), ",", plain_text:atom(F), ",A)->", action("exit", [["{refused,", plain_text:atom(M), ",", plain_text:atom(F), ",A}"]]), ";\n"]
+      || {M, F} <- plain_reach:left_out()],
+     [[Name, "(M,_,_) when ", lists:join(";", Given), "->", plain_dispatch:failing(Mode, "undef"), ";\n"] || Given =/= []],
+     Name, "(M,F,A) when is_atom(M),is_atom(F)->", action("exit", ["{refused,M,F,A}"]), ";\n",
+     Name, "(_,_,_)->", plain_dispatch:failing(Mode, "badarg"), ".\n"].
 
 -spec operation(atom()) -> string().
 operation(Operation) -> lists:flatten(io_lib:format("~p", [list_to_atom("c@" ++ atom_to_list(Operation))])).

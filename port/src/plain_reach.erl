@@ -1,7 +1,8 @@
 %% @doc What is reached from the root: each function is written when it is first needed, in the mode that it is needed in.
 %% A fun, or a module that only a run knows, reaches all that it may be: so dispatchers have a clause for each.
 -module(plain_reach).
--export([need/1, export/2, use/1, work/0, name/3, base/2, in_mode/2, dispatcher/2, remote_dispatcher/3, remote_name/2, spread/1, fun_mode/2, exported_functions/0, remote_targets/2, tag/1, client/1]).
+-export([short_name/1, need/1, export/2, use/1, work/0, name/3, base/2, in_mode/2, dispatcher/2, remote_dispatcher/4, remote_name/3, spread/1, fun_mode/2,
+         exported_functions/0, left_out/0, remote_targets/3, exporting/2, target/4, target_mode/2, tag/1, client/1]).
 
 -type mode() :: plain | checked | traced.
 %% A function of a module, or one that a fun became.
@@ -27,16 +28,30 @@ name(Module, Function, Arity) ->
         {false, true} -> short_name({Module, Function, Arity})
     end.
 
-%% Where the text would be too long, functions are numbered.
--spec short_name({module(), atom(), arity()}) -> atom().
+%% Where the text would be long, functions have names of a few letters, which nothing else in the text has.
+-spec short_name({module(), atom(), arity()} | {'fun', term()} | {checked, atom()}) -> atom().
 short_name(Key) ->
     case plain_state:find_in(short_names, Key) of
         {ok, Name} -> Name;
         error ->
-            Name = list_to_atom("z@" ++ integer_to_list(map_size(plain_state:get(short_names)))),
+            Name = free_name(plain_state:get(last_name)),
             plain_state:set_in(short_names, Key, Name),
             Name
     end.
+
+%% The next name that isn't taken.
+-spec free_name(non_neg_integer()) -> atom().
+free_name(Number) ->
+    plain_state:put(last_name, Number + 1),
+    Name = list_to_atom(letters(Number)),
+    case plain_modules:has(plain_state:get(main), Name) orelse lists:keymember(Name, 1, built_in()) orelse not plain_text:is_bare(Name) of
+        true -> free_name(Number + 1);
+        false -> Name
+    end.
+
+-spec letters(non_neg_integer()) -> string().
+letters(Number) when Number < 26 -> [$a + Number];
+letters(Number) -> letters(Number div 26 - 1) ++ [$a + Number rem 26].
 
 %% @doc The name before the number of what stands in a function.
 -spec base(module(), atom()) -> atom().
@@ -54,11 +69,16 @@ is_root(Function, Arity) -> Arity =:= 0 andalso lists:member(Function, plain_sta
 built_in() ->
     [{self, 0}, {hd, 1}, {tl, 1}, {length, 1}, {element, 2}, {tuple_size, 1}, {is_integer, 1}, {is_atom, 1}, {is_tuple, 1}, {is_list, 1},
      {is_pid, 1}, {is_reference, 1}, {exit, 1}, {exit, 2}, {spawn, 3}, {spawn_link, 3}, {link, 1}, {unlink, 1}, {monitor, 2}, {demonitor, 1},
-     {process_flag, 2}, {register, 2}, {unregister, 1}, {whereis, 1}, {make_ref, 0}].
+     {process_flag, 2}, {register, 2}, {unregister, 1}, {whereis, 1}, {make_ref, 0},
+     {spawn_monitor, 3}, {demonitor, 2}, {is_boolean, 1}, {is_number, 1}, {is_function, 1}].
 
 -spec in_mode(atom(), mode()) -> atom().
 in_mode(Name, plain) -> Name;
-in_mode(Name, checked) -> list_to_atom(atom_to_list(Name) ++ "@x");
+in_mode(Name, checked) ->
+    case plain_state:get(short) of
+        true -> short_name({checked, Name});
+        false -> list_to_atom(atom_to_list(Name) ++ "@x")
+    end;
 in_mode(Name, traced) -> list_to_atom(atom_to_list(Name) ++ "@t").
 
 -spec need(key()) -> ok.
@@ -88,15 +108,16 @@ dispatcher(What, Mode) ->
     end,
     in_mode(Name, Mode).
 
-%% @doc The dispatcher of a function, or any, of a module that a run knows.
--spec remote_dispatcher(atom() | any, arity(), mode()) -> atom().
-remote_dispatcher(Function, Arity, Mode) ->
-    plain_state:set_in(remote_calls, {Function, Arity, Mode}, true),
-    in_mode(remote_name(Function, Arity), Mode).
+%% @doc The dispatcher of calls of which a run knows the module, the function, or both.
+-spec remote_dispatcher(module() | any, atom() | any, arity(), mode()) -> atom().
+remote_dispatcher(Module, Function, Arity, Mode) ->
+    plain_state:set_in(remote_calls, {Module, Function, Arity, Mode}, true),
+    in_mode(remote_name(Module, Function, Arity), Mode).
 
--spec remote_name(atom() | any, arity()) -> atom().
-remote_name(any, Arity) -> list_to_atom("apply@" ++ integer_to_list(Arity));
-remote_name(Function, _) -> list_to_atom("to@" ++ atom_to_list(Function)).
+-spec remote_name(module() | any, atom() | any, arity()) -> atom().
+remote_name(any, any, Arity) -> list_to_atom("apply@" ++ integer_to_list(Arity));
+remote_name(any, Function, _) -> list_to_atom("to@" ++ atom_to_list(Function));
+remote_name(Module, any, _) -> list_to_atom("in@" ++ atom_to_list(Module)).
 
 %% @doc The tag of `fun M:F/A'.
 -spec tag({module(), atom(), arity()}) -> atom().
@@ -125,15 +146,29 @@ work() ->
 -spec spread_all() -> ok.
 spread_all() ->
     lists:foreach(fun spread/1, plain_state:keys(calls)),
-    [need({function, Module, Function, Arity, Mode}) || {Function, Arity, Mode} <- plain_state:keys(remote_calls), {Module, _} <- remote_targets(Function, Arity),
-                                                        Function =/= any],
-    [need({function, Module, Function, Arity, Mode}) || {any, Arity, Mode} <- plain_state:keys(remote_calls), {Module, Function} <- remote_targets(any, Arity)],
+    [need(target(Module, Function, Arity, target_mode(Module, Mode))) || {Of, Named, Arity, Mode} <- plain_state:keys(remote_calls),
+                                                                         {Module, Function} <- remote_targets(Of, Named, Arity)],
     ok.
+
+%% @doc The mode in which a dispatcher calls a function of a module. The callbacks of supervisors and event managers are the library's: what
+%% the source raises in them is caught within, so they stay plain.
+-spec target_mode(module(), mode()) -> mode().
+target_mode(Module, Mode) when Module =:= supervisor; Module =:= gen_event ->
+    case lists:member(Module, plain_state:get(users)) of true -> Mode; false -> plain end;
+target_mode(_, Mode) -> Mode.
+
+%% @doc A function that a dispatcher calls.
+-spec target(module(), atom(), arity(), mode()) -> key().
+target(Module, Function, Arity, Mode) ->
+    case Module =:= erlang andalso plain_modules:find(Module, Function, Arity) of
+        none -> {lifted, plain_value:wrapper(Function, Arity), Mode};
+        _ -> {function, Module, Function, Arity, Mode}
+    end.
 
 %% @doc What one dispatcher of funs reaches.
 -spec spread({arity() | apply_fun | apply_function, mode()}) -> ok.
 spread({apply_function, Mode}) ->
-    [need({function, Module, Function, Arity, Mode}) || {Module, Function, Arity} <- exported_functions()],
+    [need(target(Module, Function, Arity, Mode)) || {Module, Function, Arity} <- exported_functions()],
     ok;
 spread({apply_fun, Mode}) ->
     [dispatcher(Arity, Mode) || {_, Arity} <- maps:to_list(plain_state:get(funs))],
@@ -157,18 +192,61 @@ fun_mode(Key, traced) ->
     case Kind of user -> traced; _ -> plain end;
 fun_mode(_, Mode) -> Mode.
 
-%% @doc All functions that a module, function and arguments known to a run may call.
+%% @doc All functions that a module, function and arguments known to a run may call: those whose module and name the sources make values of.
 -spec exported_functions() -> [{module(), atom(), arity()}].
 exported_functions() ->
-    [{Module, Function, Arity} || Module <- plain_state:get(users), {Function, Arity} <- plain_modules:exported(Module, user),
-                                  not (Module =:= plain_state:get(main) andalso is_root(Function, Arity))].
+    [{Module, Function, Arity} || Module <- callable(), {Function, Arity} <- exports(Module), is_value(Function, Module)].
 
-%% @doc The modules, with the function, that such a call may mean.
--spec remote_targets(atom() | any, arity()) -> [{module(), atom()}].
-remote_targets(Wanted, Arity) ->
-    Behaviours = [{Module, lib} || Wanted =/= any, Module <- [supervisor, gen_statem]],
-    [{Module, Function} || {Module, Kind} <- [{User, user} || User <- plain_state:get(users)] ++ Behaviours,
-                           {Function, Number} <- plain_modules:exported(Module, Kind), Number =:= Arity, Wanted =:= any orelse Wanted =:= Function].
+%% @doc The modules and functions that a call may mean of which a run knows the module, the function, or both.
+-spec remote_targets(module() | any, atom() | any, arity()) -> [{module(), atom()}].
+remote_targets(Of, Wanted, Arity) ->
+    Behaviours = [{Module, Wanted} || Of =:= any, Wanted =/= any, Module <- [supervisor, gen_statem, gen_event], lists:member({Wanted, Arity}, plain_modules:exported(Module, lib))],
+    Modules = case Of of any -> callable(); _ -> [Of] end,
+    Behaviours ++ [{Module, Function} || Module <- Modules, {Function, Number} <- exports(Module), Number =:= Arity,
+                                         Wanted =:= Function orelse (Wanted =:= any andalso is_value(Function, Module))].
+
+%% The modules that the sources make values of.
+-spec callable() -> [module()].
+callable() ->
+    Users = plain_state:get(users),
+    [User || User <- Users, anything() orelse stands(User)]
+        ++ [Module || Module <- lists:usort(plain_state:keys(values) ++ plain_state:keys(tags)), not lists:member(Module, Users), exports(Module) =/= []].
+
+-spec exports(module()) -> [{atom(), arity()}].
+exports(Module) ->
+    case lists:member(Module, plain_state:get(users)) of
+        true -> [Export || {Function, Arity} = Export <- plain_modules:exported(Module, user), not (Module =:= plain_state:get(main) andalso is_root(Function, Arity))];
+        false -> plain_modules:of_otp(Module)
+    end.
+
+-spec stands(atom()) -> boolean().
+stands(Atom) -> maps:is_key(Atom, plain_state:get(values)) orelse maps:is_key(Atom, plain_state:get(tags)).
+
+%% Whether a function of a module that was given, or of the library, may be named by a value. In a large text the tags of messages name none,
+%% but for those that --calls names.
+-spec is_value(atom(), module()) -> boolean().
+is_value(Function, Module) ->
+    Called = lists:member({Module, Function}, maps:get(calls, plain_state:get(options))),
+    Named = case plain_state:get(narrow) of true -> maps:is_key(Function, plain_state:get(values)); false -> stands(Function) end,
+    Called orelse Named orelse (anything() andalso lists:member(Module, plain_state:get(users))).
+
+%% @doc The functions that are left out since their names stand in the sources as tags alone.
+-spec left_out() -> [{module(), atom()}].
+left_out() ->
+    case plain_state:get(narrow) of
+        true -> lists:usort([{Module, Function} || Module <- callable(), {Function, _} <- exports(Module), not is_value(Function, Module), stands(Function)]);
+        false -> []
+    end.
+
+%% Whether atoms are made of texts, so that any may be a value.
+-spec anything() -> boolean().
+anything() -> lists:any(fun({atoms, list_to_atom, _}) -> true; (_) -> false end, plain_state:keys(prelude)).
+
+%% @doc The modules that export a function: those that were given, and the behaviours of the library.
+-spec exporting(atom(), arity()) -> [module()].
+exporting(Function, Arity) ->
+    [Module || {Module, Kind} <- [{User, user} || User <- plain_state:get(users)] ++ [{supervisor, lib}, {gen_statem, lib}, {gen_event, lib}],
+               lists:member({Function, Arity}, plain_modules:exported(Module, Kind))].
 
 %% @doc The functions by whose use a service is seen to be used.
 -spec client(atom()) -> [atom()].

@@ -74,7 +74,6 @@ why(ets, _) -> "is not among the functions of ets that the library has (port/ENC
 why(sys, _) -> "looks into a server from outside, which is not translated; add a call to the server that answers it";
 why(Module, _) when Module =:= global; Module =:= rpc; Module =:= erpc; Module =:= net_adm; Module =:= net_kernel ->
     "is for several nodes, and the profile has one; call the function itself";
-why(gen_event, _) -> "is not translated; let a gen_server keep the handlers";
 why(erlang, _) -> "is not translated; write it by functions that are (port/ENCODINGS.md)";
 why(Module, _) ->
     case plain_modules:in_library(Module) of

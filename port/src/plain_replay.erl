@@ -14,13 +14,24 @@
 -spec places([file:filename()], plain_translation:options(), string(), [plain_report:event()]) ->
     {ok, told(), plain_translation:translation()} | unknown.
 places(Files, Options, Root, Events) ->
-    case plain_translation:translate(Files, Options#{traced := true}) of
+    case traced(Files, Options) of
         {ok, #{text := Text} = Traced} ->
             case plain_farm:with_file(Text, fun(File) -> replay(File, Root, Events, [], 8) end) of
                 {ok, Told} -> {ok, Told, Traced};
                 unknown -> unknown
             end;
         {refused, _} -> unknown
+    end.
+
+%% The traced form of these files, which is made once.
+-spec traced([file:filename()], plain_translation:options()) -> {ok, plain_translation:translation()} | {refused, [plain_translation:refusal()]}.
+traced(Files, Options) ->
+    case get({?MODULE, Files, Options}) of
+        undefined ->
+            Traced = plain_translation:translate(Files, Options#{traced := true}),
+            _ = put({?MODULE, Files, Options}, Traced),
+            Traced;
+        Traced -> Traced
     end.
 
 %% An error that the library runs into has no mark before the end of its process; which ends have none is found by trying.

@@ -7,30 +7,30 @@
 -type tree() :: plain_tree:tree().
 
 -spec process(atom(), [tree()], environment(), mode()) -> plain_text:body().
-process(spawn_monitor, [Fun], Env, Mode) -> [plain_call:function(erlang, spawn_monitor, 1, plain_value:values([Fun], Env), Mode)];
-process(spawn_monitor, [Module, Function, Arguments], Env, Mode) ->
-    Line = plain_state:get(line),
-    case plain_tree:proper(Arguments) of
-        {ok, Trees} -> process(spawn_monitor, [{fn, plain_state:fresh(), [], {call, Module, Function, Trees, Line}, Line}], Env, Mode);
-        no -> plain_refusal:refuse("spawn_monitor with a list of arguments whose length isn't seen; write the list out", [])
-    end;
 process(spawn_opt, Arguments, Env, Mode) ->
     {Function, Options} = {lists:droplast(Arguments), lists:last(Arguments)},
     process(by_options(Options), Function, Env, Mode);
+process(Kind, [{fn, Identity, [], Body, Line}], Env, Mode) ->
+    Name = plain_value:lifted_name({fn, Identity}),
+    Free = plain_value:lift(Name, [], Body, Line, Env, Body),
+    plain_reach:need({lifted, Name, plain}),
+    plain_reach:export(Name, length(Free)),
+    [started(Kind, Name, lists:foldr(fun(X, Tail) -> {cons, plain_value:value(X, Env), Tail} end, nil, Free), Mode)];
+process(Kind, [{fref, Function, 0}], _, Mode) ->
+    {call, Name, _} = plain_call:function(plain_state:get(module), Function, 0, [], plain),
+    plain_reach:export(Name, 0),
+    [started(Kind, Name, nil, Mode)];
 process(Kind, [Fun], Env, Mode) ->
     Dispatcher = plain_reach:dispatcher(0, plain),
     plain_reach:export(Dispatcher, 1),
     [started(Kind, Dispatcher, {cons, plain_value:value(Fun, Env), nil}, Mode)];
 process(Kind, [Module, Function, Arguments], Env, Mode) ->
-    case {Module, Function, plain_tree:proper(Arguments)} of
-        {{lit, M, _}, {lit, F, _}, {ok, Trees}} ->
-            {call, Name, _} = plain_call:function(M, F, length(Trees), [], plain),
-            plain_reach:export(Name, length(Trees)),
-            [started(Kind, Name, plain_value:value(Arguments, Env), Mode)];
+    case {plain_call:an_atom(Module, Env), plain_call:an_atom(Function, Env), plain_tree:proper(Arguments)} of
+        {{ok, M}, {ok, F}, {ok, Trees}} -> named(Kind, {M, F, length(Trees)}, Arguments, Trees, Env, Mode);
         {_, _, {ok, Trees}} ->
-            Name = plain_reach:remote_dispatcher(any, length(Trees), plain),
-            plain_reach:export(Name, length(Trees) + 2),
-            [started(Kind, Name, {cons, plain_value:value(Module, Env), {cons, plain_value:value(Function, Env), plain_value:value(Arguments, Env)}}, Mode)];
+            {Name, Named} = plain_call:dispatched(Module, Function, length(Trees), Env, plain),
+            plain_reach:export(Name, length(Trees) + length(Named)),
+            [started(Kind, Name, lists:foldr(fun(X, Tail) -> {cons, plain_value:value(X, Env), Tail} end, plain_value:value(Arguments, Env), Named), Mode)];
         _ ->
             Name = plain_reach:dispatcher(apply_function, plain),
             plain_reach:export(Name, 3),
@@ -38,6 +38,19 @@ process(Kind, [Module, Function, Arguments], Env, Mode) ->
             [started(Kind, Name, All, Mode)]
     end;
 process(Kind, Arguments, _, _) -> plain_refusal:refuse("~w/~w names a node, and the profile has one; spawn on the own node", [Kind, length(Arguments)]).
+
+%% A process of a function by its name. What is no function of the text is called by a fun, which then says so.
+-spec named(atom(), {module(), atom(), arity()}, tree(), [tree()], environment(), mode()) -> plain_text:body().
+named(Kind, {Module, Function, Arity}, Arguments, Trees, Env, Mode) ->
+    case Module =/= erlang andalso not plain_modules:hidden(Module, Function, Arity) andalso plain_modules:find(Module, Function, Arity) =/= none of
+        true ->
+            {call, Name, _} = plain_call:function(Module, Function, Arity, [], plain),
+            plain_reach:export(Name, Arity),
+            [started(Kind, Name, plain_value:value(Arguments, Env), Mode)];
+        false ->
+            Line = plain_state:get(line),
+            process(Kind, [{fn, plain_state:fresh(), [], {call, {lit, Module, Line}, {lit, Function, Line}, Trees, Line}, Line}], Env, Mode)
+    end.
 
 -spec started(atom(), atom(), plain_text:expression(), mode()) -> plain_text:expression().
 started(Kind, Name, Arguments, Mode) ->

@@ -24,9 +24,10 @@ texts() ->
 -spec start({atom(), arity()}) -> iodata().
 start({Name, Arity}) ->
     Arguments = lists:join(",", ["A" ++ integer_to_list(I) || I <- lists:seq(1, Arity)]),
-    Begun = case Name of
-        'call@0' -> "begin@(A1)";
-        _ -> ["whereis(", named(Name, Arity), ")"]
+    Begun = case {Name, plain_state:find_in(lifted, Name)} of
+        {'call@0', _} -> "begin@(A1)";
+        {_, {ok, #{free := Free}}} -> plain_trace:begun(["A" ++ integer_to_list(I) || I <- lists:seq(1, Arity)], Free, {atom, list_to_atom("@f " ++ atom_to_list(Name))});
+        {_, error} -> ["whereis(", named(Name, Arity), ")"]
     end,
     ["start@(", plain_text:atom(Name), ",[", Arguments, "])->", Begun, ",V=", plain_text:atom(Name), "(", Arguments, "),whereis('@0'),V;\n"].
 

@@ -17,22 +17,27 @@
   | calls | remote_calls          % dispatchers for funs, and for modules that are known at run time
   | exports | prelude
   | atoms | atom_places           % the atoms of the module; where those of the sources stand
+  | values | tags                 % the atoms that the sources make values of; those that stand first in tuples
+  | monitors | named              % what the sources monitor; whether names are
+  | narrow                        % whether those alone that stand elsewhere too may name a function
+  | known | made                  % the atoms that the passes before found to be made, and those that this pass finds
   | notes | refusals
   | counter | clock | marks       % the last number; whether a time is waited for; what the marks of a traced module say
-  | short | short_names           % whether names are short; those that are
+  | short | short_names | last_name % whether names are short; those that are, and the number of the last
   | origin                        % of what is written: the call in a source that reached it, where that is known
   | file | module | kind | base | function | line | mode % where the translation stands
   | names | shapes.               % of the function that is written: names of variables, tuples that are known
 -export_type([key/0]).
 
-%% @doc Begins anew. What the pass before found stays in `Services', and `Short' asks for short names.
--spec start(map(), {map(), boolean()}) -> ok.
-start(Options, {Services, Short}) ->
-    Maps = [modules, wanted, trees, lifted, lifted_names, funs, calls, remote_calls, exports, prelude, short_names, atoms, atom_places, names, shapes, marks],
+%% @doc Begins anew. What the pass before found stays in `Services' and `Known', and `Short' asks for short names.
+-spec start(map(), #{services := map(), known := map() | all, short := boolean(), narrow := boolean(), named := boolean()}) -> ok.
+start(Options, #{services := Services, known := Known, short := Short, narrow := Narrow, named := Named}) ->
+    Maps = [modules, wanted, trees, lifted, lifted_names, funs, calls, remote_calls, exports, prelude, short_names, atoms, atom_places, values, tags, made, monitors, names, shapes, marks],
     Lists = [users, roots, defines, queue, functions, notes, refusals],
     [put(Key, #{}) || Key <- Maps],
     [put(Key, []) || Key <- Lists],
-    [put(Key, Value) || {Key, Value} <- [{options, Options}, {services, Services}, {short, Short}, {main, none}, {counter, 0}, {function, none}, {origin, none},
+    put(defines, ['NAMED_MONITORS' || Named]),
+    [put(Key, Value) || {Key, Value} <- [{options, Options}, {services, Services}, {known, Known}, {short, Short}, {narrow, Narrow}, {named, Named}, {last_name, 0}, {main, none}, {counter, 0}, {function, none}, {origin, none},
                                          {clock, false}, {file, ""}, {module, none}, {kind, user}, {base, none}, {line, 0}, {mode, plain}]],
     ok.
 

@@ -1,6 +1,6 @@
 %% @doc Bodies of the profile as trees of their own, and their text.
 -module(plain_text).
--export([body/1, expression/1, guarded/1, atom/1, string/1, variables/1]).
+-export([body/1, expression/1, guarded/1, atom/1, is_bare/1, string/1, variables/1]).
 
 -type expression() ::
     {int, integer()} | {atom, atom()} | {var, string()} | nil | {tuple, [expression()]} | {cons, expression(), expression()}
@@ -92,6 +92,10 @@ atom(Atom) ->
             [plain_refusal:refuse("the atom ~tw has a character outside 32 to 126; rename it", [Atom]) || C <- Name, C > 126 orelse (C < 32 andalso C =/= $\n andalso C =/= $\t)],
             ["'", [escaped(C, $') || C <- Name], "'"]
     end.
+
+%% @doc Whether an atom needs no quotes.
+-spec is_bare(atom()) -> boolean().
+is_bare(Atom) -> bare(atom_to_list(Atom)) andalso not lists:member(atom_to_list(Atom), reserved()).
 
 -spec bare(string()) -> boolean().
 bare([First | Rest]) when First >= $a, First =< $z ->

@@ -2,7 +2,7 @@
 %% choices, with two things more: before each action stands a look for a name that nobody has, which tells the place as an event
 %% of its own; and an error carries its place as its stack trace.
 -module(plain_trace).
--export([traced/0, action/2, mark/0, marked/1, here/0, thrown/2, thrown/3, caught/3, stack_of/1, raw/2, raw_parts/1, begin_clause/3]).
+-export([traced/0, action/2, mark/0, marked/1, here/0, thrown/2, thrown/3, is_thrown/1, caught/3, stack_of/1, raw/2, raw_parts/1, begin_clause/3, begun/3]).
 
 %% @doc Whether the traced form is written.
 -spec traced() -> boolean().
@@ -46,7 +46,30 @@ marked(Body) ->
 
 %% @doc An error as a value: its class and reason, and in the traced form its place.
 -spec thrown(plain_text:expression(), plain_text:expression()) -> plain_text:expression().
+thrown({atom, error} = Class, Reason) ->
+    case short_error(Reason) of
+        {Name, Arguments} ->
+            plain_reach:use({error, Name, length(Arguments)}),
+            {call, Name, Arguments};
+        none -> thrown(Class, Reason, here())
+    end;
 thrown(Class, Reason) -> thrown(Class, Reason, here()).
+
+%% Where names are short the errors that many functions have are functions too.
+-spec short_error(plain_text:expression()) -> {atom(), [plain_text:expression()]} | none.
+short_error(Reason) ->
+    case {plain_state:get(short) andalso not traced(), Reason} of
+        {true, {atom, Atom}} when Atom =:= function_clause; Atom =:= badarg -> {list_to_atom("e@" ++ [hd(atom_to_list(Atom))]), []};
+        {true, {tuple, [{atom, case_clause}, Value]}} -> {e@c, [Value]};
+        {true, {tuple, [{atom, badmatch}, Value]}} -> {e@m, [Value]};
+        _ -> none
+    end.
+
+%% @doc Whether an expression is such an error, which no value comes of.
+-spec is_thrown(plain_text:expression()) -> boolean().
+is_thrown({tuple, [{atom, x} | _]}) -> true;
+is_thrown({call, Name, _}) -> lists:member(Name, [e@f, e@b, e@c, e@m]);
+is_thrown(_) -> false.
 
 -spec thrown(plain_text:expression(), plain_text:expression(), plain_text:expression()) -> plain_text:expression().
 thrown(Class, Reason, Stack) -> {tuple, [{atom, x}, Class, Reason | [Stack || traced()]]}.
@@ -92,12 +115,16 @@ raw_parts(Raw) ->
 -spec begin_clause(atom(), [term()], plain_text:expression()) -> iodata().
 begin_clause(Name, Free, Mark) ->
     Variables = ["F" ++ integer_to_list(I) || I <- lists:seq(1, length(Free))],
+    ["begin@({'#fun',_,", plain_text:atom(Name), [[",", V] || V <- Variables], "})->", begun(Variables, Free, Mark), ";\n"].
+
+%% @doc The mark of what a fun with such free variables runs: the fun or the module that it was given, or itself.
+-spec begun([string()], [term()], plain_text:expression()) -> iodata().
+begun(Variables, Free, Mark) ->
     Inner = [Variable || {Variable, {v, {Written, _}}} <- lists:zip(Variables, Free), Written =:= 'F'],
     Module = [Variable || {Variable, {v, {Written, _}}} <- lists:zip(Variables, Free), Written =:= 'Mod'],
     Own = ["whereis(", plain_text:expression(Mark), ")"],
-    Told = case {Inner, Module} of
+    case {Inner, Module} of
         {[Fun | _], _} -> ["begin@(", Fun, ")"];
         {[], [M | _]} -> ["case ", M, " of {_,X}->whereis(X);", M, " when is_atom(", M, ")->whereis(", M, ");_->", Own, " end"];
         {[], []} -> Own
-    end,
-    ["begin@({'#fun',_,", plain_text:atom(Name), [[",", V] || V <- Variables], "})->", Told, ";\n"].
+    end.

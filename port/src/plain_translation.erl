@@ -3,8 +3,14 @@
 -export([translate/2, defaults/0]).
 
 -define(MOST_BYTES, 65536).
+%% Above this the names inside are short.
+-define(LONG_NAMES, 8192).
+%% Above this the tags of messages aren't taken for names of functions.
+-define(LARGE, 24576).
 -type options() :: #{includes := [file:filename()], defines := [atom() | {atom(), term()}], library_defines := [atom() | {atom(), term()}],
-                     root := atom() | none, never := non_neg_integer() | infinity, lax := boolean(), traced := boolean()}.
+                     root := atom() | none, never := non_neg_integer() | infinity, lax := boolean(), calls := [{module(), atom()}], traced := boolean()}.
+%% What a pass begins with: the services that are used, the atoms that are made, and whether names are short, whether tags name no functions, and whether names are monitored.
+-type plan() :: #{services := map(), known := map() | all, short := boolean(), narrow := boolean(), named := boolean()}.
 -type refusal() :: {file:filename(), non_neg_integer(), string()}.
 %% A place of the sources: what kind of module, file, line, and the function there, or a fun in it.
 -type place() :: {plain_modules:kind(), file:filename(), non_neg_integer(), {module(), atom(), arity()} | {'fun', {module(), atom(), arity()}}}.
@@ -14,7 +20,7 @@
 
 %% @doc The options where none is given.
 -spec defaults() -> options().
-defaults() -> #{includes => [], defines => [], library_defines => [], root => none, never => infinity, lax => false, traced => false}.
+defaults() -> #{includes => [], defines => [], library_defines => [], root => none, never => infinity, lax => false, calls => [], traced => false}.
 
 %% @doc Translates in a process of its own, since what a translation knows belongs to its process.
 -spec translate([file:filename()], options()) -> {ok, translation()} | {refused, [refusal()]}.
@@ -27,31 +33,39 @@ translate(Files, Options) ->
 
 -spec attempt([file:filename()], options()) -> {ok, translation()} | {refused, [refusal()]}.
 attempt(Files, Options) ->
-    try pass(Files, Options, #{}, false)
+    try pass(Files, Options, #{services => #{}, known => plain_prune:given(), short => false, narrow => false, named => false})
     catch throw:{refuse, File, Line, Sentence} -> {refused, [{File, Line, lists:flatten(Sentence)}]}
     end.
 
-%% Passes go on until the services that are used are those that are started, and the text is short enough.
--spec pass([file:filename()], options(), #{atom() => true}, boolean()) -> {ok, translation()} | {refused, [refusal()]}.
-pass(Files, Options, Services, Short) ->
-    plain_state:start(Options, {Services, Short}),
+%% Passes go on until the services that are used are those that are started, nothing more is found to be made, and the text is short enough.
+-spec pass([file:filename()], options(), plan()) -> {ok, translation()} | {refused, [refusal()]}.
+pass(Files, Options, #{known := Known, short := Short, narrow := Narrow, named := Named} = Plan) ->
+    plain_state:start(Options, Plan),
     Roots = begin_with(Files, Options),
     plain_reach:work(),
-    Used = plain_services:used(),
-    Refusals = lists:usort(plain_state:get(refusals)),
-    if
-        Refusals =/= [] -> {refused, Refusals};
-        Used =/= Services -> pass(Files, Options, Used, Short);
-        true -> measured(Files, Options, Services, Short, written(Roots))
+    case {Plan#{services := plain_services:used(), known := plain_prune:after_pass(Known), named := Named orelse names_monitored()}, lists:usort(plain_state:get(refusals))} of
+        {Plan, []} ->
+            #{text := Text} = Translation = written(Roots),
+            case byte_size(Text) of
+                Long when Long > ?LONG_NAMES, not Short -> pass(Files, Options, Plan#{short := true});
+                Large when Large > ?LARGE, not Narrow -> pass(Files, Options, Plan#{narrow := true, known := plain_prune:given()});
+                _ -> measured(Files, Translation)
+            end;
+        {Plan, Refusals} -> {refused, Refusals};
+        {Next, _} -> pass(Files, Options, Next)
     end.
 
--spec measured([file:filename()], options(), #{atom() => true}, boolean(), translation()) -> {ok, translation()} | {refused, [refusal()]}.
-measured(Files, Options, Services, Short, #{text := Text} = Translation) ->
-    case {byte_size(Text) > ?MOST_BYTES, Short} of
-        {false, _} -> {ok, Translation};
-        {true, false} -> pass(Files, Options, Services, true);
-        {true, true} -> {refused, [{hd(Files), 1, lists:flatten(io_lib:format("the module would have ~w bytes, over ~w; hunt from a root that reaches less, or leave modules out",
-                                                                              [byte_size(Text), ?MOST_BYTES]))}]}
+%% Whether the sources monitor a name, or what may be one and look for a name in what comes of it.
+-spec names_monitored() -> boolean().
+names_monitored() ->
+    Monitors = plain_state:get(monitors),
+    maps:is_key(name, Monitors) orelse (maps:is_key(maybe_name, Monitors) andalso maps:is_key(looks, Monitors)).
+
+-spec measured([file:filename()], translation()) -> {ok, translation()} | {refused, [refusal()]}.
+measured(Files, #{text := Text} = Translation) ->
+    case byte_size(Text) > ?MOST_BYTES of
+        false -> {ok, Translation};
+        true -> {refused, [{hd(Files), 1, plain_size:too_large(Translation, ?MOST_BYTES)}]}
     end.
 
 %% Reads the files and asks for the roots.

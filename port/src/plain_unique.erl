@@ -10,10 +10,18 @@ function(Core) -> tree(Core, #{}).
 
 -spec line_of(cerl:cerl()) -> plain_tree:line().
 line_of(Core) ->
+    case line_known(Core) of
+        0 -> plain_state:get(line);
+        Line -> Line
+    end.
+
+%% The line that Core tells, or 0.
+-spec line_known(cerl:cerl()) -> plain_tree:line().
+line_known(Core) ->
     Annotations = cerl:get_ann(Core),
     case [L || L <- Annotations, is_integer(L)] ++ [L || {L, _} <- Annotations, is_integer(L)] of
         [Line | _] -> Line;
-        [] -> plain_state:get(line)
+        [] -> 0
     end.
 
 -spec bind([cerl:cerl()], names()) -> {[plain_tree:variable()], names()}.
@@ -195,7 +203,8 @@ receive_(Function, Names, Line) ->
         recv_peek_message -> peeking(Let, Names, Line);
         recv_wait_timeout ->
             {Time, Action} = waiting(Let, Names),
-            {recv, [], Time, Action, Line}
+            Own = case line_known(hd(cerl:primop_args(cerl:let_arg(Let)))) of 0 -> Line; Known -> Known end,
+            {recv, [], Time, Action, Own}
     end.
 
 -spec peeking(cerl:cerl(), names(), plain_tree:line()) -> plain_tree:tree().
@@ -203,14 +212,16 @@ peeking(Let, Names, Line) ->
     [_, Message] = cerl:let_vars(Let),
     {_, Inside} = bind([Message], Names),
     [Found, Empty] = cerl:case_clauses(cerl:let_body(Let)),
-    Clauses = cerl:case_clauses(cerl:clause_body(Found)),
+    Taking = cerl:clause_body(Found),
+    Own = case line_known(Taking) of 0 -> Line; Known -> Known end,
+    Clauses = cerl:case_clauses(Taking),
     First = [taken(clause(C, Inside)) || C <- lists:droplast(Clauses)],
     All = case clause(lists:last(Clauses), Inside) of
         {_, _, {'let', [], {primop, recv_next, _, _}, _}} -> First;
         Last -> First ++ [taken(Last)]
     end,
     {Time, Action} = waiting(cerl:clause_body(Empty), Names),
-    {recv, All, Time, Action, Line}.
+    {recv, All, Time, Action, Own}.
 
 -spec waiting(cerl:cerl(), names()) -> {plain_tree:tree(), plain_tree:tree()}.
 waiting(Let, Names) ->

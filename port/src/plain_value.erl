@@ -1,12 +1,13 @@
 %% @doc Simple values in the text: literals, variables, tuples, lists, and funs, which are tuples with the name of a function.
 -module(plain_value).
--export([value/2, values/2, literal/2, remote_fun/3, lift/6, lifted_name/1]).
+-export([value/2, values/2, literal/2, pattern/2, remote_fun/3, external_fun/3, wrapper/2, lift/6, lifted_name/1]).
 
 -type environment() :: plain_tree:environment().
 
 -spec value(plain_tree:tree(), environment()) -> plain_text:expression().
 value({v, _} = Variable, Env) -> maps:get(Variable, Env);
 value({lit, Term, Line}, _) -> literal(Term, Line);
+value({tup, [{lit, Tag, Line} | Elements]}, Env) when is_atom(Tag) -> {tuple, [tag(Tag, Line) | values(Elements, Env)]};
 value({tup, Elements}, Env) -> {tuple, values(Elements, Env)};
 value({vals, Elements}, Env) -> {tuple, values(Elements, Env)};
 value({cons, Head, Tail}, Env) -> {cons, value(Head, Env), value(Tail, Env)};
@@ -41,15 +42,36 @@ remote_fun(Module, Function, Arity) ->
             {tuple, [{atom, '#fun'}, {int, Arity}, {atom, plain_reach:tag(Key)}]}
     end.
 
+%% @doc `fun M:F/A' as a source has it. Of a module that was given only what it exports is called so.
+-spec external_fun(module(), atom(), arity()) -> plain_text:expression().
+external_fun(Module, Function, Arity) ->
+    case plain_modules:hidden(Module, Function, Arity) of
+        true ->
+            Variables = [{v, {'A', plain_state:fresh()}} || _ <- lists:seq(1, Arity)],
+            value({fn, {Module, Function, Arity}, Variables, {call, {lit, Module, 0}, {lit, Function, 0}, Variables, 0}, 0}, #{});
+        false -> remote_fun(Module, Function, Arity)
+    end.
+
+%% @doc A function of the text that does what a function of erlang does.
+-spec wrapper(atom(), arity()) -> atom().
+wrapper(Function, Arity) ->
+    Name = lifted_name({fn, {erlang, Function, Arity}}),
+    Variables = [{v, {'A', plain_state:fresh()}} || _ <- lists:seq(1, Arity)],
+    Body = {call, {lit, erlang, 0}, {lit, Function, 0}, Variables, 0},
+    _ = lift(Name, Variables, Body, 0, #{}, Body),
+    Name.
+
 %% @doc The name of the function that a fun becomes: that of the function around it, and a number.
 -spec lifted_name(term()) -> atom().
 lifted_name(Identity) ->
     case plain_state:find_in(lifted_names, Identity) of
         {ok, Name} -> Name;
         error ->
-            Base = case plain_state:get(short) of true -> "f"; false -> atom_to_list(plain_state:get(base)) end,
             Number = map_size(plain_state:get(lifted_names)) + 1,
-            Name = list_to_atom(Base ++ "@" ++ integer_to_list(Number)),
+            Name = case plain_state:get(short) of
+                true -> plain_reach:short_name({'fun', Number});
+                false -> list_to_atom(atom_to_list(plain_state:get(base)) ++ "@" ++ integer_to_list(Number))
+            end,
             plain_state:set_in(lifted_names, Identity, Name),
             Name
     end.
@@ -67,6 +89,16 @@ lift(Name, Variables, Body, Line, Env, Whole) ->
             Free
     end.
 
+%% @doc A term that stands in a pattern: its atoms come from elsewhere.
+-spec pattern(term(), plain_tree:line()) -> plain_text:expression().
+pattern(Term, Line) ->
+    {Values, Tags, Made} = {plain_state:get(values), plain_state:get(tags), plain_state:get(made)},
+    Written = literal(Term, Line),
+    plain_state:put(values, Values),
+    plain_state:put(tags, Tags),
+    plain_state:put(made, Made),
+    Written.
+
 %% @doc A term that stands in the source.
 -spec literal(term(), plain_tree:line()) -> plain_text:expression().
 literal({'$refused', Line, Sentence}, _) -> plain_refusal:refuse(Line, "~ts", [Sentence]);
@@ -77,6 +109,9 @@ literal(Atom, Line) when is_atom(Atom) -> atom(Atom, Line);
 literal([], _) -> nil;
 literal([_ | Tail], Line) when not is_list(Tail) -> refused(Line, "the profile has no improper lists; take a tuple {Head, Tail}", []);
 literal([Head | Tail], Line) -> {cons, literal(Head, Line), literal(Tail, Line)};
+literal(Tuple, Line) when is_tuple(Tuple), tuple_size(Tuple) > 0, is_atom(element(1, Tuple)) ->
+    [Tag | Elements] = tuple_to_list(Tuple),
+    {tuple, [tag(Tag, Line) | [literal(X, Line) || X <- Elements]]};
 literal(Tuple, Line) when is_tuple(Tuple) -> {tuple, [literal(X, Line) || X <- tuple_to_list(Tuple)]};
 literal(Binary, Line) when is_binary(Binary) -> {tuple, [{atom, '#bin'}, literal(binary_to_list(Binary), Line)]};
 literal(Map, Line) when is_map(Map) -> {tuple, [{atom, '#map'}, literal(lists:sort(maps:to_list(Map)), Line)]};
@@ -97,6 +132,19 @@ refused(Line, Format, Arguments) ->
         _ -> plain_refusal:refuse(Line, Format, Arguments)
     end.
 
+%% The first of a tuple: the tag of a message, or the module of a function, but hardly the name of one.
+-spec tag(atom(), plain_tree:line()) -> plain_text:expression().
+tag(Tag, Line) ->
+    Before = plain_state:get(values),
+    Written = literal(Tag, Line),
+    case plain_state:get(values) of
+        Before -> ok;
+        _ ->
+            plain_state:put(values, Before),
+            plain_state:set_in(tags, Tag, true)
+    end,
+    Written.
+
 %% The tags of maps, binaries and funs stand in no program, so that no tuple of one can be taken for them.
 -spec atom(atom(), plain_tree:line()) -> plain_text:expression().
 atom(Atom, Line) when Atom =:= '#map'; Atom =:= '#bin'; Atom =:= '#fun' ->
@@ -106,6 +154,8 @@ atom(Atom, Line) when Atom =:= '#map'; Atom =:= '#bin'; Atom =:= '#fun' ->
     end;
 atom(Atom, Line) ->
     plain_state:set_in(atoms, Atom, true),
+    plain_state:set_in(made, Atom, true),
+    plain_state:get(kind) =:= user andalso plain_state:set_in(values, Atom, true),
     Known = maps:get(Atom, plain_state:get(atom_places), []),
     Place = {user, plain_state:get(file), Line, plain_state:get(function)},
     case plain_state:get(kind) =:= user andalso Line > 0 andalso not lists:member(Place, Known) of

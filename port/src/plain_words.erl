@@ -1,28 +1,85 @@
 %% @doc The words of the command line.
 -module(plain_words).
--export([read/1, of_farm/3, base/5, limit/1, value/3, with_choice/2]).
+-export([read/1, of_farm/3, base/5, limit/1, value/3, without/2, with_choice/2]).
 
--type asked() :: #{command := translate | check | run | hunt | shrink | chart, files := [file:filename()], out := file:filename() | none,
-                   options := plain_translation:options(), words := [string()], property := string() | none, limit := string() | none}.
+-type asked() :: #{command := translate | check | run | hunt | shrink | chart | eunit, files := [file:filename()], out := file:filename() | none,
+                   options := plain_translation:options(), words := [string()], property := string() | none, limit := string() | none,
+                   verbose => boolean()}.
 -export_type([asked/0]).
 
 %% @doc What is asked for.
 -spec read([string()]) -> {ok, asked()} | {help, iodata()} | {refused, iodata()}.
 read([]) -> {refused, "no command; pulsefarm-erl --help tells the commands"};
 read([Word | _]) when Word =:= "--help"; Word =:= "-h"; Word =:= "help" -> {help, help()};
+read(["--version" | _]) ->
+    _ = application:load(pulsefarm_erl),
+    {ok, Version} = application:get_key(pulsefarm_erl, vsn),
+    {help, ["pulsefarm-erl ", Version, "\n"]};
 read([Word | Rest]) ->
-    case lists:member(Word, ["translate", "check", "run", "hunt", "shrink", "chart"]) of
+    case lists:member(Word, ["translate", "check", "run", "hunt", "shrink", "chart", "eunit"]) of
         true ->
             Asked = #{command => list_to_atom(Word), files => [], out => none, options => plain_translation:defaults(), words => [], property => none, limit => none},
             complete(words(Rest, Asked));
-        false -> {refused, ["no command ", Word, "; the commands are translate, check, run, hunt, shrink and chart"]}
+        false -> {refused, ["no command ", Word, "; the commands are translate, check, run, hunt, shrink, chart and eunit"]}
     end.
 
 -spec complete({ok, asked()} | {help, iodata()} | {refused, iodata()}) -> {ok, asked()} | {help, iodata()} | {refused, iodata()}.
+complete({ok, #{command := eunit, files := []}}) -> {refused, "no folder; name that of an application"};
 complete({ok, #{files := []}}) -> {refused, "no file; name one or more .erl files"};
-complete({ok, #{command := translate, words := [Word | _]}}) -> {refused, ["translate has no word ", Word]};
-complete({ok, #{command := check, words := [Word | _]}}) when Word =/= "--explain" -> {refused, ["check has no word ", Word]};
+complete({ok, #{command := Command, words := Words, out := Out, property := Property, limit := Limit} = Asked}) ->
+    Given = words_in(Words) ++ ["-o" || Out =/= none] ++ ["--property" || Property =/= none] ++ ["--limit" || Limit =/= none],
+    case {[Word || Word <- Given, not lists:member(Word, of_command(Command))], together(Asked)} of
+        {[Word | _], _} -> {refused, [atom_to_list(Command), " has no word ", Word, other(Word)]};
+        {[], {no, Sentence}} -> {refused, Sentence};
+        {[], yes} -> {ok, Asked}
+    end;
 complete(Answer) -> Answer.
+
+%% The words that a command has beside those of every translation. Each has its effect; what a command lacks is refused.
+-spec of_command(atom()) -> [string()].
+of_command(translate) -> ["-o"];
+of_command(check) -> ["--explain"];
+of_command(run) -> ["--property", "--limit", "--seed", "--schedule", "--strategy", "--weights", "--edition"];
+of_command(hunt) -> ["--property", "--limit", "--seeds", "--for", "--strategy", "--weights", "--edition", "--workers", "--shrink", "--all"];
+of_command(eunit) -> ["--property", "--limit", "--seeds", "--for", "--strategy", "--weights", "--edition", "--workers", "--test", "--junit"];
+of_command(shrink) -> ["--property", "--limit", "--schedule", "--runs", "--edition"];
+of_command(chart) -> ["--property", "--limit", "--seed", "--schedule", "--strategy", "--weights", "--edition", "--page", "--compact"].
+
+%% Why some words of pulsefarm are no words here.
+-spec other(string()) -> string().
+other("--leaks") -> "; it would count the services of the translation";
+other("--all-roots") -> "; name one root by --root, or hunt the tests of an application by eunit";
+other("--fail-fast") -> "; it is for several roots";
+other(_) -> "".
+
+%% Words that don't go together.
+-spec together(asked()) -> yes | {no, string()}.
+together(#{command := hunt, words := Words, property := Property}) ->
+    Given = words_in(Words),
+    case lists:member("--all", Given) of
+        true when Property =:= "sound"; Property =:= "supervised" -> {no, "--all goes with the properties of pulsefarm; take --property nocrash"};
+        true ->
+            case lists:member("--shrink", Given) of
+                true -> {no, "--all and --shrink don't go together"};
+                false -> yes
+            end;
+        false -> yes
+    end;
+together(#{command := eunit, property := Property}) when Property =/= none, Property =/= "sound", Property =/= "supervised" ->
+    {no, "eunit goes by --property sound, or supervised"};
+together(#{command := eunit, words := Words}) ->
+    case {plain_hunt:seeds(value("--seeds", Words, "1")), plain_hunt:time(value("--for", Words, none))} of
+        {no, _} -> {no, "--seeds wants A..B, A below B"};
+        {_, no} -> {no, "--for wants a number with s, m or h behind it"};
+        _ -> yes
+    end;
+together(_) -> yes.
+
+-spec words_in([string()]) -> [string()].
+words_in([Flag | Rest]) when Flag =:= "--all"; Flag =:= "--explain"; Flag =:= "--compact"; Flag =:= "--leaks"; Flag =:= "--all-roots"; Flag =:= "--fail-fast" ->
+    [Flag | words_in(Rest)];
+words_in([Word, _ | Rest]) -> [Word | words_in(Rest)];
+words_in([]) -> [].
 
 -spec words([string()], asked()) -> {ok, asked()} | {help, iodata()} | {refused, iodata()}.
 words([], Asked) -> {ok, Asked};
@@ -37,10 +94,18 @@ words(["--root", Name | Rest], Asked) -> words(Rest, with(root, list_to_atom(Nam
 words(["--patience", Number | Rest], #{options := #{library_defines := Own}} = Asked) ->
     with_number("--patience", Number, fun(N) -> words(Rest, with(library_defines, [{'PATIENCE', N} | Own], Asked)) end);
 words(["--never", Number | Rest], Asked) -> with_number("--never", Number, fun(N) -> words(Rest, with(never, N, Asked)) end);
+words(["--calls", Called | Rest], #{options := #{calls := Before}} = Asked) ->
+    case string:split(Called, ":") of
+        [Module, Function] -> words(Rest, with(calls, [{list_to_atom(Module), list_to_atom(Function)} | Before], Asked));
+        _ -> {refused, ["--calls wants Module:Function, and not ", Called]}
+    end;
+words(["--verbose" | Rest], Asked) -> words(Rest, Asked#{verbose => true});
 words(["--lax" | Rest], Asked) -> words(Rest, with(lax, true, Asked));
 words(["--property", Text | Rest], Asked) -> words(Rest, Asked#{property := Text});
 words(["--limit", Number | Rest], Asked) -> words(Rest, Asked#{limit := Number});
-words([Flag | Rest], #{words := Before} = Asked) when Flag =:= "--all"; Flag =:= "--explain" -> words(Rest, Asked#{words := Before ++ [Flag]});
+words([Flag | Rest], #{words := Before} = Asked) when Flag =:= "--all"; Flag =:= "--explain"; Flag =:= "--compact"; Flag =:= "--leaks";
+                                                      Flag =:= "--all-roots"; Flag =:= "--fail-fast" ->
+    words(Rest, Asked#{words := Before ++ [Flag]});
 words(["--" ++ _ = Name, Value | Rest], #{words := Before} = Asked) -> words(Rest, Asked#{words := Before ++ [Name, Value]});
 words(["-" ++ _ = Name | _], _) -> {refused, ["the word ", Name, " wants a value, or isn't known"]};
 words([File | Rest], #{files := Files} = Asked) -> words(Rest, Asked#{files := Files ++ [File]}).
@@ -76,8 +141,9 @@ term(Text) ->
 %% @doc The words for pulsefarm.
 -spec of_farm(file:filename(), asked(), plain_translation:translation()) -> [string()].
 of_farm(File, #{command := check, words := Words}, _) -> ["check", File | Words];
-of_farm(File, #{command := Command, property := Property, words := Words} = Asked, Translation) ->
-    Judged = case Property of none -> "nocrash"; _ -> Property end,
+of_farm(File, #{command := Command, words := Words} = Asked, Translation) ->
+    Property = plain_verdict:asked(Asked),
+    Judged = case plain_verdict:own(Property) of true -> "returns"; false -> Property end,
     base(atom_to_list(Command), File, Asked, Translation, Judged) ++ with_choice(Command, Words).
 
 %% @doc The words that all runs have.
@@ -92,7 +158,7 @@ limit(#{limit := Limit}) -> Limit.
 
 %% @doc The words with seeds or a schedule, where none was given.
 -spec with_choice(atom(), [string()]) -> [string()].
-with_choice(hunt, Words) -> Words ++ lists:append([["--seeds", "0..1000"] || not lists:member("--seeds", Words)]);
+with_choice(hunt, Words) -> Words ++ lists:append([["--seeds", "0..1000"] || not lists:member("--seeds", Words), not lists:member("--for", Words)]);
 with_choice(Command, Words) when Command =:= run; Command =:= chart ->
     Words ++ lists:append([["--seed", "0"] || not lists:member("--seed", Words), not lists:member("--schedule", Words)]);
 with_choice(shrink, Words) -> Words ++ lists:append([["--runs", "300"] || not lists:member("--runs", Words)]).
@@ -102,6 +168,16 @@ with_choice(shrink, Words) -> Words ++ lists:append([["--runs", "300"] || not li
 value(Name, [Name, Value | _], _) -> Value;
 value(Name, [_ | Words], Default) -> value(Name, Words, Default);
 value(_, [], Default) -> Default.
+
+%% @doc The words without these and their values.
+-spec without([string()], [string()]) -> [string()].
+without(Names, [Word, Value | Rest]) when Word =/= "--all", Word =/= "--explain", Word =/= "--compact" ->
+    case lists:member(Word, Names) of
+        true -> without(Names, Rest);
+        false -> [Word, Value | without(Names, Rest)]
+    end;
+without(Names, [Flag | Rest]) -> [Flag | without(Names, Rest)];
+without(_, []) -> [].
 
 -spec help() -> iodata().
 help() ->
@@ -113,22 +189,28 @@ help() ->
     "  pulsefarm-erl run FILE.. [WORDS]        one run, by --seed S or --schedule L (0,1,2 or @FILE)\n"
     "  pulsefarm-erl shrink FILE.. [WORDS]     makes a failing schedule smaller\n"
     "  pulsefarm-erl chart FILE.. [WORDS]      draws a run as a message sequence chart (SVG)\n"
+    "  pulsefarm-erl eunit FOLDER [WORDS]      hunts each test of an application: src, include, test, its .app.src, the erl_opts of\n"
+    "                                          rebar.config; --test PART takes those whose name has it, and reports the run of one that\n"
+    "                                          fails; --junit FILE writes the answer as JUnit has it\n"
     "  pulsefarm-erl check FILE..              says ok, or all that is refused\n"
     "  pulsefarm-erl translate FILE.. [-o OUT] writes the module, and OUT.map with the lines that its functions come from\n"
     "\n"
     "The first file has the root: a function without arguments, main where there is one.\n"
-    "WORDS are those of pulsefarm (pulsefarm --help). Where one isn't given: --limit 100000, --property nocrash, of hunt\n"
-    "--seeds 0..1000, of run and chart --seed 0, and of shrink --runs 300.\n"
+    "WORDS are those of pulsefarm (pulsefarm --help), but for some that are refused. Where one isn't given: --limit 100000,\n"
+    "--property sound, of hunt --seeds 0..1000, of eunit --seeds 0..200, of run and chart --seed 0, and of shrink --runs 300.\n"
     "\n"
     "  --root F            begins with the function F of the first file\n"
     "  -I DIR, -D NAME[=VALUE]   as erlc has them\n"
-    "  --property supervised     fails where a process ends by an error, or by a reason other than normal, shutdown,\n"
-    "                            {shutdown,_}, or killed by a supervisor; the other properties are those of pulsefarm\n"
+    "  --property sound          fails where the root doesn't return (a deadlock too), and where a process ends by an error, or by\n"
+    "                            a reason other than normal, shutdown, {shutdown,_}, or killed by a supervisor\n"
+    "  --property supervised     the same, whatever becomes of the root; the other properties are those of pulsefarm\n"
     "  --patience N        how many turns of the run's clock a time has: N below 10 ms, 2N below 100, 3N below 1000, 4N else.\n"
     "                      Without it a run draws this itself: of a time below 1000 ms any of three patiences, of a longer\n"
     "                      one a patience by which it seldom passes while another process can still go\n"
     "  --never MS          takes away the timeouts of literal times from MS milliseconds on, where a receive has clauses\n"
     "  -D CALL_TIMEOUTS    lets the 5,000 ms of gen_server:call/2 pass, which else they never do\n"
+    "  --verbose           reports all events and processes, those of the library, its services and the clock too\n"
+    "  --calls M:F         says that a value names this function, where a text of over 24,576 bytes left it out\n"
     "  --lax               takes calls that aren't known; who comes to one ends with {refused,Module,Function,Arity}\n"
     "\n"
     "What can't be translated is refused with file, line and a cure; a note tells what an encoding adds or loses. The program\n"

@@ -16,6 +16,13 @@ scan(<<"{'#", _/binary>> = Text, Names) ->
             <<First, Rest/binary>> = Text,
             [First | scan(Rest, Names)]
     end;
+scan(<<"[", _/binary>> = Text, Names) ->
+    case term(Text) of
+        {ok, Term, Rest} -> [written(Term, Names) | scan(Rest, Names)];
+        error ->
+            <<First, Rest/binary>> = Text,
+            [First | scan(Rest, Names)]
+    end;
 scan(<<"'", Rest/binary>>, Names) ->
     {Quoted, Behind} = quoted(Rest, <<>>),
     [$', Quoted, $' | scan(Behind, Names)];
@@ -77,10 +84,31 @@ written({tuple, [{atom, <<"#map">>}, {list, Pairs}]}, Names) ->
 written({tuple, [{atom, <<"#bin">>}, {list, Bytes}]}, _) -> binary([binary_to_integer(B) || {other, B} <- Bytes]);
 written({tuple, [{atom, <<"#fun">>}, {other, Arity}, {atom, Name} | _]}, Names) -> a_fun(binary_to_atom(Name), Arity, Names);
 written({tuple, Elements}, Names) -> ["{", lists:join(",", [written(E, Names) || E <- Elements]), "}"];
-written({list, Elements}, Names) -> ["[", lists:join(",", [written(E, Names) || E <- Elements]), "]"];
+written({list, Elements}, Names) ->
+    case text(Elements, []) of
+        {ok, Text} -> io_lib:format("~p", [Text]);
+        no -> listed(Elements, Names)
+    end;
 written({atom, <<"port@", Service/binary>>}, _) -> [$<, Service, $>];
 written({atom, Name}, _) -> io_lib:format("~p", [binary_to_atom(Name)]);
 written({other, Text}, _) -> Text.
+
+-spec listed([term_read()], #{atom() => plain_translation:place()}) -> iodata().
+listed(Elements, Names) -> ["[", lists:join(",", [written(E, Names) || E <- Elements]), "]"].
+
+%% A list of three characters or more, one of them a letter, is a text.
+-spec text([term_read()], string()) -> {ok, string()} | no.
+text([{other, Digits} | Rest], Before) ->
+    case string:to_integer(Digits) of
+        {C, <<>>} when is_integer(C), C >= 32, C =< 126; C =:= $\n; C =:= $\t -> text(Rest, [C | Before]);
+        _ -> no
+    end;
+text([], [_, _, _ | _] = Before) ->
+    case lists:any(fun(C) -> C >= $a andalso C =< $z orelse C >= $A andalso C =< $Z end, Before) of
+        true -> {ok, lists:reverse(Before)};
+        false -> no
+    end;
+text(_, _) -> no.
 
 -spec binary([byte()]) -> iodata().
 binary(Bytes) ->

@@ -108,6 +108,6 @@ refused({Module, Function, _}, Call) ->
     ok = file:write_file(File, ["-module(", Name, ").\n-export([main/0]).\nmain() -> ", Call, ".\n"]),
     checks:expect(Call ++ " is refused, or ends with {refused,..}", case seen(File) of
         {error, {refused, _}} -> true;
-        {error, "ended {{refused," ++ _} -> true;
+        {error, "ended {refused," ++ _} -> true;
         _ -> false
     end).

@@ -7,10 +7,16 @@ check() ->
     [told(File) || File <- lists:sort(filelib:wildcard(checks:folder("../examples/*.erl")))],
     group(),
     replayed(),
+    shrunk(),
     charted(),
     supervised(),
     several_files(),
+    by_default(),
+    gaps(),
+    hidden(),
+    waits(),
     refused(),
+    into_a_file(),
     timed(),
     unread(),
     ok.
@@ -24,7 +30,7 @@ told(File) ->
         {match, [Named]} -> ["--property", Named];
         nomatch -> []
     end,
-    {Answer, Status} = checks:command(["hunt", File, "--shrink", "100"] ++ Property),
+    {Answer, Status} = checks:command(["hunt", File, "--shrink", "30"] ++ Property),
     checks:expect(["status of ", File], 1, Status),
     has(File, "^" ++ Line ++ "$", Answer).
 
@@ -52,10 +58,14 @@ replayed() ->
     {Found, 1} = checks:command(["hunt", File]),
     Room = checks:room("found"),
     ok = file:write_file(Room, Found),
-    {Run, Status} = checks:command(["run", File, "--schedule", "@" ++ Room]),
+    {Story, 1} = checks:command(["run", File, "--schedule", "@" ++ Room]),
+    has("a story", "^[0-9]+ <[0-9]+> calls <[0-9]+>: \\{set,alice,(5|10)\\}$", Story),
+    has("its last line", "^[0-9]+ <0> end \\{\\{lost_update,[0-9]+\\},\\[\\]\\}  % bank\\.erl:38 bank:main/0: B =:= 15 orelse error\\(\\{lost_update, B\\}\\),$", Story),
+    checks:expect("no service in a story", nomatch, re:run(Story, "service|deliver|#Ref<[0-9]+>,<|port@")),
+    {Run, Status} = checks:command(["run", File, "--verbose", "--schedule", "@" ++ Room]),
     checks:expect("a run of what was found", 1, Status),
     has("its crash", "^crash <0> at bank\\.erl:38 ", Run),
-    has("a place of an event", "^[0-9]+/[0-9]+ <[0-9]+> spawn <[0-9]+>  % library erlang$", Run),
+    has("a place of an event", "^[0-9]+/[0-9]+ <[0-9]+> spawn_monitor <[0-9]+> #Ref<[0-9]+>  % bank\\.erl:34 bank:main/0$", Run),
     has("a place of the source", "^[0-9]+/[0-9]+ <0> end \\{\\{lost_update,[0-9]+\\},\\[\\]\\}  % bank\\.erl:38 bank:main/0$", Run),
     {Shrunk, 1} = checks:command(["shrink", File, "--schedule", "@" ++ Room, "--runs", "20"]),
     has("a shrinking", "^crash <0> at bank\\.erl:38 ", Shrunk),
@@ -64,6 +74,27 @@ replayed() ->
     has("the mended bank", "^no failure in 1000 seeds$", Mended),
     {All, _} = checks:command(["hunt", checks:folder("../examples/cache.erl"), "--all", "--seeds", "0..50"]),
     has("outcomes", "^fails [0-9]+ seeds, least [0-9]+: ended \\{loaded_twice,\\[\\]\\}$", All).
+
+%% A shrinking keeps the failure, and has no more events and no more switches of process than the run that it began from.
+-spec shrunk() -> boolean().
+shrunk() ->
+    Words = ["hunt", checks:folder("../examples/cache.erl"), "--verbose"],
+    {Found, 1} = checks:command(Words),
+    {Shrunk, 1} = checks:command(Words ++ ["--shrink", "20"]),
+    Crash = fun(Answer) -> re:run(Answer, "^crash .*$", [multiline, {capture, first, list}]) end,
+    checks:expect("the failure is kept", Crash(Found), Crash(Shrunk)),
+    [Before, After] = [size_of(Answer) || Answer <- [Found, Shrunk]],
+    checks:expect(io_lib:format("events and switches: ~w, and ~w", [Before, After]),
+                  element(1, After) =< element(1, Before) andalso element(2, After) < element(2, Before)),
+    {Refused, 2} = checks:command(["shrink", checks:folder("../examples/cache.erl"), "-D", "MENDED", "--schedule", "0,1,0"]),
+    has("a schedule that doesn't fail", "^S1$", Refused).
+
+%% How many events an answer has, and how many switches of process.
+-spec size_of(string()) -> {non_neg_integer(), non_neg_integer()}.
+size_of(Answer) ->
+    {match, Turns} = re:run(Answer, "^[0-9]+/[0-9]+ (<[0-9]+>(?:-><[0-9]+>)?) ", [multiline, global, {capture, [1], list}]),
+    Own = [Who || [Who] <- Turns, string:find(Who, "->") =:= nomatch],
+    {length(Turns), length([x || {A, B} <- lists:zip(lists:droplast(Own), tl(Own)), A =/= B])}.
 
 -spec charted() -> boolean().
 charted() ->
@@ -110,6 +141,63 @@ several_files() ->
     {Checked, 0} = checks:command(["check" | Files]),
     has("check", "^ok$", Checked).
 
+%% Without a word a hunt finds a hang and a crash beside the root, and passes a clean stop.
+-spec by_default() -> boolean().
+by_default() ->
+    File = checks:folder("commands/stops.erl"),
+    {Clean, 0} = checks:command(["hunt", File, "--seeds", "0..60"]),
+    has("a clean stop", "^no failure in 60 seeds$", Clean),
+    {Hang, 1} = checks:command(["hunt", File, "-D", "HANGS", "--seeds", "0..60"]),
+    has("a hang", "^waits <0> at stops\\.erl:17 stops:last/0$", Hang),
+    {Crash, 1} = checks:command(["hunt", File, "-D", "CRASHES", "--seeds", "0..60"]),
+    has("a crash beside the root", "^crash <[0-9]+> at stops\\.erl:20 stops:last/0: error badarg$", Crash),
+    {Run, 0} = checks:command(["run", File, "--seed", "3"]),
+    has("a run that holds", "^property holds$", Run),
+    {Uniform, 1} = checks:command(["hunt", File, "-D", "HANGS", "--strategy", "uniform", "--seeds", "3..=9", "--workers", "2"]),
+    has("by another strategy", "^seed 3\nschedule ", Uniform),
+    {Timed, 0} = checks:command(["hunt", File, "--for", "1s"]),
+    has("for a time", "^stopped behind [0-9]+ seeds\nno failure in [0-9]+ seeds$", Timed).
+
+%% Who comes to what the translator lacks is refused, whatever catches errors there, and never told as a failure of the program.
+-spec gaps() -> boolean().
+gaps() ->
+    File = checks:folder("commands/gap.erl"),
+    Refused = fun(Name, Words, Line) ->
+        {Answer, Status} = checks:command(Words),
+        checks:expect(["status of ", Name], 2, Status),
+        has(Name, Line, Answer)
+    end,
+    Refused("a gap in a hunt", ["hunt", File], "^no verdict$"),
+    Refused("what is lacking", ["hunt", File], "^refused <0> behind gap\\.erl:8 gap:main/0: ets:info/2 is not translated, or not with these arguments$"),
+    Refused("a gap in a run", ["run", File], "^ended \\{refused,ets,info,2\\}\nsteps [0-9]+\nno verdict$"),
+    Refused("a gap by another property", ["hunt", File, "--property", "returns"], "^no verdict$"),
+    Refused("a gap among outcomes", ["hunt", File, "--all", "--seeds", "0..5"], "^refused 5 seeds, least 0: ended \\{refused,ets,info,2\\}$"),
+    Refused("a module that isn't there", ["run", File, "--root", "other"], "^refused <0> .*: file:read_file/1 is not translated").
+
+-spec hidden() -> boolean().
+hidden() ->
+    {Answer, 1} = checks:command(["run", checks:folder("commands/hidden.erl"), checks:folder("commands/hides.erl")]),
+    has("functions that aren't exported", "^finished inside$", Answer),
+    has("the one that is started", "^crash <1> at hidden\\.erl:9 hidden:main/0: error undef$", Answer).
+
+%% A deadlock is told by the lines of the receives.
+-spec waits() -> boolean().
+waits() ->
+    {Answer, 1} = checks:command(["hunt", checks:folder("commands/waiting.erl")]),
+    has("the root waits", "^waits <0> at waiting\\.erl:14 waiting:main/0$", Answer),
+    has("a fun waits", "^waits <[12]> at waiting\\.erl:8 waiting:main/0$", Answer),
+    has("a function waits", "^waits <[12]> at waiting\\.erl:21 waiting:second/0$", Answer).
+
+%% What is written before and behind an answer in the same file keeps its place.
+-spec into_a_file() -> boolean().
+into_a_file() ->
+    File = checks:room("log"),
+    Program = filename:join([os:getenv("CHECKS"), "..", "pulsefarm-erl"]),
+    Bank = checks:folder("../examples/bank.erl"),
+    os:cmd(lists:flatten(io_lib:format("bash -c '(echo before; ~ts check ~ts; echo between; ~ts check ~ts; echo behind) > ~ts 2> /dev/null'", [Program, Bank, Program, Bank, File]))),
+    {ok, Text} = file:read_file(File),
+    checks:expect("two commands into one file", <<"before\nok\nbetween\nok\nbehind\n">>, Text).
+
 -spec refused() -> boolean().
 refused() ->
     Expect = fun(Name, Words, Environment, Expression) ->
@@ -125,9 +213,21 @@ refused() ->
     Expect("a file that isn't there", ["hunt", "nothing.erl"], [], "^nothing\\.erl:1: there is no such file"),
     Expect("a root that isn't there", ["run", File, "--root", "nothing"], [], "^bank\\.erl:1: the module exports no function nothing/0"),
     Expect("a patience", ["run", File, "--patience", "much"], [], "^pulsefarm-erl: --patience wants a number"),
+    Expect("a word that would be ignored", ["check", File, "--limit", "5"], [], "^pulsefarm-erl: check has no word --limit"),
+    Expect("another", ["run", File, "--seeds", "0..5"], [], "^pulsefarm-erl: run has no word --seeds"),
+    Expect("leaks", ["hunt", File, "--leaks"], [], "^pulsefarm-erl: hunt has no word --leaks; "),
+    Expect("all outcomes by a property of this part", ["hunt", File, "--all", "--property", "sound"], [], "^pulsefarm-erl: --all goes with "),
+    Expect("a strategy that there isn't", ["hunt", File, "--property", "supervised", "--strategy", "nonsense"], [], "."),
     Expect("words of pulsefarm", ["run", File, "--seed", "x"], [], "."),
     {Help, 0} = checks:command(["--help"]),
-    has("help", "tested and not proved", Help).
+    has("help", "tested and not proved", Help),
+    {Version, 0} = checks:command(["--version"]),
+    has("version", "^pulsefarm-erl [0-9.]+$", Version),
+    {Words, 0} = {os:cmd(lists:flatten(io_lib:format("bash -c '. ~ts; for c in translate check run hunt shrink chart eunit; do _pulsefarm_erl_words $c; done'",
+                                                     [checks:folder("../pulsefarm-erl.bash")]))), 0},
+    Unknown = [Word || Word <- lists:usort(string:lexemes(Words, " \n")), string:find(Help ++ " --seed --schedule --strategy --weights --edition --workers --all --for "
+                                                                                        "--runs --page --compact --explain --limit --shrink ", Word) =:= nomatch],
+    checks:expect("the words of the completions stand in the help", [], Unknown).
 
 %% A time of seconds seldom passes while others go on: in less than one of twenty seeds.
 -spec timed() -> boolean().

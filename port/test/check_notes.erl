@@ -23,4 +23,4 @@ one(File) ->
 lax() ->
     {ok, Out, #{notes := [Note]}} = checks:translate([checks:folder("refused/refused_hash.erl")], #{lax => true}),
     checks:expect("a note on what is taken", true, string:find(Note, "ends with {refused,..}") =/= nomatch),
-    checks:expect("who comes to it", "ended {{refused,erlang,phash2,1},[]}", element(1, checks:run(Out, "main", 0))).
+    checks:expect("who comes to it", "ended {refused,erlang,phash2,1}", element(1, checks:run(Out, "main", 0))).

@@ -17,3 +17,4 @@ escaped_quote_test() -> ?assertEqual(<<"'a\\'{b' x">>, back(<<"'a\\'{b' x">>)).
 size_test() ->
     ?assertEqual(2, plain_words_back:size(<<"{shutdown,{a,b}}">>)),
     ?assertEqual(0, plain_words_back:size(<<"shutdown">>)).
+text_test() -> ?assertEqual(<<"end {expected,\"a \\\"b\\\"\",[1,2,3],[97,98]}">>, back(<<"end {expected,[97,32,34,98,34],[1,2,3],[97,98]}">>)).

@@ -101,6 +101,8 @@ unpacked() {
     cmp "$prefix/share/pulsefarm/$file" "$room/one/examples/$file" > "$room/out" 2>&1
     note "$file" $?
   done
+  grep -qx 'License: Apache-2.0' "$docs/copyright" && sed -n 's/^ //; s/^\.$//; 7,$p' "$docs/copyright" | cmp -s - "$room/one/LICENSE"
+  note "the licence, with its whole text" $?
   cmp -s "$prefix/bin/pulsefarm" "$program"
   note "the program is the one that was built" $?
   grep -qx 'proof none was seen, as the program was named by PROGRAM' "$docs/BUILD"

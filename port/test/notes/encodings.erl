@@ -36,7 +36,7 @@ main() ->
 %% note: 14: atoms and their texts are those that stand in the program; others are badarg
 %% note: 15: ~p, ~w, ~s, ~b, ~c and ~n are formatted without widths, and pids and references without numbers
 %% note: 17: an error of the limits (a value over 4,096 nodes, an integer past 64 bits) ends the process and is not caught
-%% note: 18: a monitor of a name is whereis and then a monitor of the pid: the name may pass to another between, and 'DOWN' has the pid
+%% note: 18: a monitor of a name is whereis and then a monitor of the pid: the name may pass to another between
 %% note: 19: no application has an environment here, so get_env answers the default; starting one does nothing
 %% note: 20: of the flags of a process only trap_exit has an effect
 %% note: 21: there is one node; nothing tells of others

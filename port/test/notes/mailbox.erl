@@ -5,4 +5,4 @@
 main() ->
     self() ! #{n => 1},
     receive #{n := 1} -> one end.
-%% note: 6: a message that this receive should leave in the mailbox ends the process with {refused,'receive',6}; test it behind the receive, or receive such messages by a clause of their own
+%% note: 7: a message that this receive should leave in the mailbox ends the process with {refused,'receive',7}; test it behind the receive, or receive such messages by a clause of their own

@@ -1,0 +1,246 @@
+%% @doc The tests of an application: each `_test' and each test of a `_test_' is a root of its own, hunted in turn. The tests of a generator
+%% are listed by a run of it, within their fixtures, and each is then run alone, within the same.
+-module(plain_eunit).
+-export([run/1]).
+
+-define(SEEDS, "0..200").
+%% How many seeds of a test are hunted in a round, where a time is set.
+-define(BLOCK, 50).
+-type asked() :: plain_words:asked().
+%% A test: its module, its name with its title, and the body of its root.
+-type test() :: #{module := module(), name := string(), body := iodata()}.
+%% Tests with the translation that has their roots.
+-type group() :: {plain_translation:translation(), asked(), [{test(), atom()}]}.
+-type result() :: {test(), {holds, non_neg_integer()} | {fails, non_neg_integer(), iodata(), iodata()} | {refused, iodata()}}.
+
+%% @doc Hunts all tests of the application in a folder; its status.
+-spec run(asked()) -> 0..255.
+run(#{files := [Folder]} = Asked) ->
+    case plain_application:read(Folder) of
+        {ok, Application} -> with_room(fun(Room) -> tests(Application, Room, with(Application, Asked)) end);
+        {error, Sentence} -> complained(Sentence)
+    end;
+run(_) -> complained("eunit wants one folder, that of an application").
+
+-spec complained(iodata()) -> 2.
+complained(Sentence) ->
+    plain_command:complain(["pulsefarm-erl: ", Sentence, "\n"]),
+    2.
+
+%% The options of the application beside those that were given.
+-spec with(plain_application:application(), asked()) -> asked().
+with(#{includes := Includes, defines := Defines}, #{options := #{includes := Own, defines := Given} = Options} = Asked) ->
+    Asked#{options := Options#{includes := Own ++ Includes, defines := Given ++ Defines}}.
+
+%% A folder of its own for the modules that are made here, taken away behind it.
+-spec with_room(fun((file:filename()) -> Status)) -> Status.
+with_room(Use) ->
+    Below = case os:getenv("TMPDIR") of false -> "/tmp"; Named -> Named end,
+    Room = filename:join(Below, lists:concat(["pulsefarm-erl-", os:getpid(), "-", erlang:unique_integer([positive])])),
+    ok = file:make_dir(Room),
+    try Use(Room)
+    after file:del_dir_r(Room)
+    end.
+
+-spec tests(plain_application:application(), file:filename(), asked()) -> 0..255.
+tests(#{sources := Sources, tests := Tests} = Application, Room, #{words := Words} = Asked) ->
+    Known = filename:join(Room, "pf_application.erl"),
+    ok = file:write_file(Known, unicode:characters_to_binary(plain_application:module_text(Application))),
+    Files = Sources ++ Tests ++ [Known],
+    try
+        Functions = [{Module, Name} || File <- Sources ++ Tests, {Module, Name} <- functions(File, Asked)],
+        All = listed(Functions, Files, Room, Asked),
+        Wanted = case plain_words:value("--test", Words, none) of
+            none -> All;
+            Part -> [Test || #{name := Name} = Test <- All, string:find(Name, Part) =/= nomatch]
+        end,
+        case Wanted of
+            [] -> complained("there is no such test");
+            _ -> told(hunted(Wanted, Files, Room, Asked), Asked)
+        end
+    catch throw:{refuse, File, Line, Sentence} ->
+        plain_command:complain(io_lib:format("~ts: ~ts~n", [plain_refusal:place(File, Line), Sentence])),
+        2
+    end.
+
+%% The functions of a file that EUnit takes for tests.
+-spec functions(file:filename(), asked()) -> [{module(), atom()}].
+functions(File, #{options := #{includes := Includes, defines := Defines}}) ->
+    case epp:parse_file(File, [{includes, [filename:dirname(File) | Includes]}, {macros, Defines}]) of
+        {ok, Forms} ->
+            [Module | _] = [M || {attribute, _, module, M} <- Forms] ++ [list_to_atom(filename:basename(File, ".erl"))],
+            [{Module, Name} || {function, _, Name, 0, _} <- Forms, is_test(atom_to_list(Name))];
+        {error, Reason} -> throw({refuse, File, 1, file:format_error(Reason)})
+    end.
+
+-spec is_test(string()) -> boolean().
+is_test(Name) -> lists:suffix("_test", Name) orelse lists:suffix("_test_", Name).
+
+%% Tests as they stand, and those of generators, which runs tell.
+-spec listed([{module(), atom()}], [file:filename()], file:filename(), asked()) -> [test()].
+listed(Functions, Files, Room, Asked) ->
+    Generators = [{MF, #{module => M, name => named(MF), body => ["pf_eunit:tests(", generator(MF), ")"]}} || {M, _} = MF <- Functions, is_generator(MF)],
+    Told = [{Name, Listed} || Group <- [translated([Test || {_, Test} <- Generators], Files, Room, Asked) || Generators =/= []], Part <- Group, {Name, Listed} <- lists_of(Part, Asked)],
+    lists:append([case proplists:get_value(named(MF), Told, no) of
+        no -> [whole(MF)];
+        {ok, Found} -> [#{module => M, name => titled(named(MF), Path, Title), body => ["pf_eunit:run(", generator(MF), ", ", io_lib:format("~w", [Path]), ")"]} || {Path, Title} <- Found]
+    end || {M, _} = MF <- Functions]).
+
+-spec named({module(), atom()}) -> string().
+named({Module, Function}) -> lists:concat([Module, ":", Function]).
+
+-spec generator({module(), atom()}) -> iodata().
+generator({Module, Function}) -> io_lib:format("fun() -> ~p:~p() end", [Module, Function]).
+
+-spec is_generator({module(), atom()}) -> boolean().
+is_generator({_, Function}) -> lists:suffix("_", atom_to_list(Function)).
+
+%% A test that is run whole; of a generator that can't be listed its listing, which fails.
+-spec whole({module(), atom()}) -> test().
+whole({Module, Function} = MF) ->
+    Body = case is_generator(MF) of
+        true -> ["pf_eunit:tests(", generator(MF), ")"];
+        false -> io_lib:format("~p:~p(), ok", [Module, Function])
+    end,
+    #{module => Module, name => named(MF), body => Body}.
+
+%% The tests of each generator of a translation, by a run.
+-spec lists_of({ok, group()} | {refused, test(), iodata()}, asked()) -> [{string(), {ok, [{[pos_integer()], term()}]} | no}].
+lists_of({refused, #{name := Name}, _}, _) -> [{Name, no}];
+lists_of({ok, {#{text := Text}, _, Roots}}, Asked) ->
+    plain_farm:with_file(Text, fun(File) ->
+        [{Name, of_generator(plain_farm:call(["run", File, "--root", atom_to_list(Root), "--limit", plain_words:limit(Asked), "--seed", "0", "--property", "returns"]))}
+         || {#{name := Name}, Root} <- Roots]
+    end).
+
+-spec of_generator({binary(), 0..255} | missing) -> {ok, [{[pos_integer()], term()}]} | no.
+of_generator({Text, 0}) ->
+    {match, [Value]} = re:run(Text, <<"^finished (.*)$">>, [multiline, {capture, [1], list}]),
+    {ok, Tokens, _} = erl_scan:string(Value ++ "."),
+    {ok, Found} = erl_parse:parse_term(Tokens),
+    {ok, Found};
+of_generator(_) -> no.
+
+-spec titled(string(), [pos_integer()], term()) -> string().
+titled(Name, Path, Title) ->
+    Place = lists:flatten(lists:join(".", [integer_to_list(I) || I <- Path])),
+    Text = case Title of
+        none -> "";
+        {'#bin', Bytes} -> " " ++ Bytes;
+        _ -> " " ++ Title
+    end,
+    Name ++ ["[" || Place =/= ""] ++ Place ++ ["]" || Place =/= ""] ++ Text.
+
+%% Tests in one translation where they fit, else in halves.
+-spec translated([test()], [file:filename()], file:filename(), asked()) -> [{ok, group()} | {refused, test(), iodata()}].
+translated(Tests, Files, Room, #{options := Options} = Asked) ->
+    Module = lists:concat(["pf_tests_", erlang:unique_integer([positive])]),
+    File = filename:join(Room, Module ++ ".erl"),
+    Roots = [list_to_atom("t" ++ integer_to_list(I)) || I <- lists:seq(1, length(Tests))],
+    Exports = lists:join(", ", [[atom_to_list(Root), "/0"] || Root <- Roots]),
+    Text = [["-module(", Module, ").\n-export([", Exports, "]).\n"], [[atom_to_list(Root), "() -> ", Body, ".\n"] || {Root, #{body := Body}} <- lists:zip(Roots, Tests)]],
+    ok = file:write_file(File, Text),
+    All = [File | Files],
+    case {plain_translation:translate(All, Options), Tests} of
+        {{ok, Translation}, _} -> [{ok, {Translation, Asked#{files := All}, lists:zip(Tests, Roots)}}];
+        {{refused, Refusals}, [Test]} ->
+            [{refused, Test, lists:join("; ", [[plain_refusal:place(Named, Line), ": ", Sentence] || {Named, Line, Sentence} <- Refusals])}];
+        {{refused, _}, _} ->
+            {First, Second} = lists:split(length(Tests) div 2, Tests),
+            translated(First, Files, Room, Asked) ++ translated(Second, Files, Room, Asked)
+    end.
+
+%% All tests, one after the other; or, where a time is set, round by round.
+-spec hunted([test()], [file:filename()], file:filename(), asked()) -> [result()].
+hunted(Tests, Files, Room, #{words := Words} = Asked) ->
+    Groups = translated(Tests, Files, Room, Asked),
+    Refused = [line({Test, {refused, Sentence}}) || {refused, Test, Sentence} <- Groups],
+    Ready = [{Group, Test, Root} || {ok, {_, _, Roots} = Group} <- Groups, {Test, Root} <- Roots],
+    {From, To} = plain_hunt:seeds(plain_words:value("--seeds", Words, ?SEEDS)),
+    case plain_hunt:time(plain_words:value("--for", Words, none)) of
+        none -> Refused ++ [line({Test, one(From, To, Group, Root)}) || {Group, Test, Root} <- Ready];
+        Time -> Refused ++ rounds(From, erlang:monotonic_time(millisecond) + Time, Ready, [])
+    end.
+
+-spec rounds(non_neg_integer(), integer(), [{group(), test(), atom()}], [result()]) -> [result()].
+rounds(_, _, [], Done) -> Done;
+rounds(From, End, Ready, Done) ->
+    Round = [{Group, Test, Root, one(From, From + ?BLOCK, Group, Root)} || {Group, Test, Root} <- Ready],
+    Ended = [line({Test, Result}) || {_, Test, _, Result} <- Round, element(1, Result) =/= holds],
+    Left = [{Group, Test, Root} || {Group, Test, Root, {holds, _}} <- Round],
+    case erlang:monotonic_time(millisecond) >= End of
+        true -> Done ++ Ended ++ [line({Test, {holds, From + ?BLOCK}}) || {_, Test, _} <- Left];
+        false -> rounds(From + ?BLOCK, End, Left, Done ++ Ended)
+    end.
+
+-spec one(non_neg_integer(), pos_integer(), group(), atom()) -> {holds, non_neg_integer()} | {fails, non_neg_integer(), iodata(), iodata()} | {refused, iodata()}.
+one(From, To, {#{text := Text} = All, Asked, _}, Root) ->
+    Translation = All#{roots := [Root]},
+    case plain_farm:with_file(Text, fun(File) -> plain_hunt:least(From, To, File, Asked, Translation) end) of
+        none -> {holds, To - From};
+        {found, Seed, Report, Verdict} ->
+            Told = iolist_to_binary([unicode:characters_to_binary(plain_answer:tell(Report, Asked, Translation))]),
+            Why = why(Told),
+            case Verdict of
+                refused -> {refused, Why};
+                _ -> {fails, Seed, Why, Told}
+            end;
+        {answer, missing} -> {refused, "the program pulsefarm is not on the path"};
+        {answer, {Said, _}} -> {refused, string:trim(Said)}
+    end.
+
+%% The line that tells why a run fails.
+-spec why(binary()) -> iodata().
+why(Told) ->
+    case re:run(Told, <<"^(?:crash|refused) .*$">>, [multiline, {capture, first, binary}]) of
+        {match, [Line]} -> Line;
+        nomatch ->
+            case re:run(Told, <<"^(?:waits|limit|ended|deadlock).*$">>, [multiline, {capture, first, binary}]) of
+                {match, [Line]} -> Line;
+                nomatch -> <<"fails">>
+            end
+    end.
+
+%% A line for each test, told as soon as it is known.
+-spec line(result()) -> result().
+line({#{name := Name}, Result} = Whole) ->
+    plain_out:put([Name, ": ", case Result of
+        {holds, Number} -> io_lib:format("no failure in ~w seeds", [Number]);
+        {fails, Seed, Why, _} -> [io_lib:format("seed ~w fails: ", [Seed]), Why];
+        {refused, Why} -> ["refused: ", Why]
+    end, "\n"]),
+    Whole.
+
+-spec told([result()], asked()) -> 0..2.
+told(Results, #{words := Words}) ->
+    Failing = [Result || {_, {fails, _, _, _}} = Result <- Results],
+    Refused = [Result || {_, {refused, _}} = Result <- Results],
+    [plain_out:put(["\n", Report]) || {_, {fails, _, _, Report}} <- Failing, plain_words:value("--test", Words, none) =/= none],
+    plain_out:put(io_lib:format("~w tests: ~w ~s, ~w refused~n", [length(Results), length(Failing), case Failing of [_] -> "fails"; _ -> "fail" end, length(Refused)])),
+    Written = case plain_words:value("--junit", Words, none) of
+        none -> ok;
+        File -> file:write_file(File, junit(Results))
+    end,
+    case {Written, Refused, Failing} of
+        {{error, Reason}, _, _} -> complained(["--junit: ", file:format_error(Reason)]);
+        {ok, [_ | _], _} -> 2;
+        {ok, [], [_ | _]} -> 1;
+        {ok, [], []} -> 0
+    end.
+
+%% The same as JUnit has it.
+-spec junit([result()]) -> binary().
+junit(Results) ->
+    Count = fun(Kind) -> integer_to_list(length([x || {_, Result} <- Results, element(1, Result) =:= Kind])) end,
+    Case = fun({#{module := Module, name := Name}, Result}) ->
+        Head = ["<testcase classname=\"", atom_to_list(Module), "\" name=\"", plain_chart:escaped(unicode:characters_to_binary(Name)), "\""],
+        case Result of
+            {holds, _} -> [Head, "/>\n"];
+            {fails, Seed, Why, Report} ->
+                [Head, "><failure message=\"seed ", integer_to_list(Seed), ": ", plain_chart:escaped(iolist_to_binary(Why)), "\">",
+                 plain_chart:escaped(iolist_to_binary(Report)), "</failure></testcase>\n"];
+            {refused, Why} -> [Head, "><error message=\"", plain_chart:escaped(iolist_to_binary(Why)), "\"/></testcase>\n"]
+        end
+    end,
+    iolist_to_binary(["<?xml version=\"1.0\" encoding=\"UTF-8\"?>\n<testsuite name=\"pulsefarm\" tests=\"", integer_to_list(length(Results)), "\" failures=\"",
+                      Count(fails), "\" errors=\"", Count(refused), "\">\n", [Case(Result) || Result <- Results], "</testsuite>\n"]).

@@ -1,0 +1,140 @@
+%% @doc Hunts by a property that is judged here. The farm hunts by its own, which fail in all the runs that this one may fail in, by the
+%% strategy that it is given; each run that it finds is judged, and where it holds the hunt goes on after its seed.
+-module(plain_hunt).
+-export([hunt/2, judge/2, least/5, seeds/1, time/1]).
+
+%% How many seeds are hunted at once where a time is set.
+-define(BLOCK, 250).
+-define(DEFAULT, "0..1000").
+-type asked() :: plain_words:asked().
+-type translation() :: plain_translation:translation().
+%% A run that fails: its seed, and what the farm said of it.
+-type found() :: {found, non_neg_integer(), binary(), plain_verdict:verdict()} | none | {answer, {binary(), 0..255} | missing}.
+
+%% @doc Hunts for the least seed whose run fails the property, and tells it.
+-spec hunt(asked(), translation()) -> 0..255.
+hunt(#{words := Words} = Asked, #{text := Text} = Translation) ->
+    case {seeds(plain_words:value("--seeds", Words, ?DEFAULT)), time(plain_words:value("--for", Words, none))} of
+        {no, _} -> complained("--seeds wants A..B, A below B");
+        {_, no} -> complained("--for wants a number with s, m or h behind it");
+        {{From, To}, none} -> plain_farm:with_file(Text, fun(File) -> told(least(From, To, File, Asked, Translation), To - From, File, Asked, Translation) end);
+        {{From, To}, Time} ->
+            Last = case plain_words:value("--seeds", Words, none) of none -> 1 bsl 62; _ -> To end,
+            End = erlang:monotonic_time(millisecond) + Time,
+            plain_farm:with_file(Text, fun(File) -> timed(From, From, Last, End, File, Asked, Translation) end)
+    end.
+
+-spec complained(string()) -> 2.
+complained(Sentence) ->
+    plain_command:complain(["pulsefarm-erl: ", Sentence, "\n"]),
+    2.
+
+%% @doc The seeds that a text names, the last of them left out.
+-spec seeds(string()) -> {non_neg_integer(), pos_integer()} | no.
+seeds(Text) ->
+    case re:run(Text, "^(?:([0-9]+)\\.\\.(=?))?([0-9]+)$", [{capture, all_but_first, list}]) of
+        {match, [A, Closed, B]} ->
+            From = case A of "" -> 0; _ -> list_to_integer(A) end,
+            To = list_to_integer(B) + length(Closed),
+            case From < To of true -> {From, To}; false -> no end;
+        nomatch -> no
+    end.
+
+%% @doc A time in milliseconds.
+-spec time(string() | none) -> non_neg_integer() | none | no.
+time(none) -> none;
+time(Text) ->
+    case re:run(Text, "^([1-9][0-9]*)([smh])$", [{capture, all_but_first, list}]) of
+        {match, [Number, Unit]} -> list_to_integer(Number) * maps:get(Unit, #{"s" => 1000, "m" => 60000, "h" => 3600000});
+        nomatch -> no
+    end.
+
+%% Blocks of seeds until the time is over.
+-spec timed(non_neg_integer(), non_neg_integer(), pos_integer(), integer(), file:filename(), asked(), translation()) -> 0..255.
+timed(First, From, Last, End, File, Asked, Translation) ->
+    case From >= Last orelse (From > First andalso erlang:monotonic_time(millisecond) >= End) of
+        true ->
+            From < Last andalso plain_out:put(io_lib:format("stopped behind ~w seeds~n", [From - First])),
+            told(none, From - First, File, Asked, Translation);
+        false ->
+            Next = min(From + ?BLOCK, Last),
+            case least(From, Next, File, Asked, Translation) of
+                none -> timed(First, Next, Last, End, File, Asked, Translation);
+                Found -> told(Found, Next - First, File, Asked, Translation)
+            end
+    end.
+
+%% @doc The least failing seed. A run that doesn't return fails `sound'; what else may fail it has an end that isn't normal.
+-spec least(non_neg_integer(), pos_integer(), file:filename(), asked(), translation()) -> found().
+least(From, To, File, Asked, Translation) ->
+    case plain_verdict:asked(Asked) of
+        "supervised" -> crashing(From, To, File, Asked, Translation);
+        "sound" ->
+            case one("returns", From, To, File, Asked, Translation) of
+                {found, Seed, _, _} = Found when Seed > From ->
+                    case crashing(From, Seed, File, Asked, Translation) of
+                        none -> Found;
+                        Earlier -> Earlier
+                    end;
+                none -> crashing(From, To, File, Asked, Translation);
+                Other -> Other
+            end
+    end.
+
+-spec crashing(non_neg_integer(), pos_integer(), file:filename(), asked(), translation()) -> found().
+crashing(From, To, _, _, _) when From >= To -> none;
+crashing(From, To, File, Asked, Translation) ->
+    case one("nocrash", From, To, File, Asked, Translation) of
+        {found, Seed, _, holds} -> crashing(Seed + 1, To, File, Asked, Translation);
+        Other -> Other
+    end.
+
+%% One hunt of the farm, and the verdict of what it finds.
+-spec one(string(), non_neg_integer(), pos_integer(), file:filename(), asked(), translation()) -> found().
+one(Property, From, To, File, #{words := Words} = Asked, Translation) ->
+    Given = plain_words:without(["--seeds", "--for", "--shrink", "--test", "--junit"], Words),
+    Seeds = lists:flatten(io_lib:format("~w..~w", [From, To])),
+    case plain_farm:call(plain_words:base("hunt", File, Asked, Translation, Property) ++ ["--seeds", Seeds | Given]) of
+        {_, 0} -> none;
+        {<<"seed ", Rest/binary>> = Text, 1} ->
+            {Seed, _} = string:to_integer(Rest),
+            {found, Seed, Text, verdict(Text, Asked, Translation)};
+        Answer -> {answer, Answer}
+    end.
+
+-spec verdict(binary(), asked(), translation()) -> plain_verdict:verdict().
+verdict(Text, Asked, Translation) -> plain_verdict:of_run(plain_verdict:asked(Asked), plain_answer:report(Text), Asked, Translation).
+
+-spec told(found(), non_neg_integer(), file:filename(), asked(), translation()) -> 0..255.
+told(none, Number, _, _, _) ->
+    plain_out:put(io_lib:format("no failure in ~w seeds~n", [Number])),
+    0;
+told({answer, Answer}, _, _, Asked, Translation) -> plain_command:told(Answer, Asked, Translation);
+told({found, _, Text, Verdict}, _, File, #{words := Words} = Asked, Translation) ->
+    case {Verdict, plain_words:value("--shrink", Words, none)} of
+        {fails, Runs} when Runs =/= none -> plain_shrink:found(Text, File, Runs, Asked, Translation);
+        _ -> judged(Text, Verdict, Asked, Translation)
+    end.
+
+%% @doc A run, judged by this property.
+-spec judge(asked(), translation()) -> 0..255.
+judge(#{command := run, words := Words} = Asked, #{text := Text} = Translation) ->
+    plain_farm:with_file(Text, fun(File) ->
+        Base = plain_words:base("run", File, Asked, Translation, "returns"),
+        case plain_farm:call(Base ++ plain_words:with_choice(run, Words)) of
+            {Report, Status} when Status < 2 -> judged(Report, verdict(Report, Asked, Translation), Asked, Translation);
+            Answer -> plain_command:told(Answer, Asked, Translation)
+        end
+    end).
+
+%% An answer whose last line is the verdict.
+-spec judged(binary(), plain_verdict:verdict(), asked(), translation()) -> 0..255.
+judged(Text, Verdict, Asked, Translation) ->
+    {Line, Status} = case Verdict of
+        holds -> {<<"property holds">>, 0};
+        fails -> {<<"property fails">>, 1};
+        refused -> {<<"no verdict">>, 2}
+    end,
+    Told = re:replace(Text, <<"^(property (holds|fails)|no verdict)$">>, Line, [multiline, {return, binary}]),
+    plain_out:put(plain_answer:tell(Told, Asked, Translation)),
+    Status.

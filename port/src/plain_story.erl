@@ -1,0 +1,107 @@
+%% @doc A run as a story: what the processes of the source do, each with the line of the source where it has one and the text of that line. The
+%% services of the translation, waits and deliveries are left out, and calls of servers and tables are told as such.
+-module(plain_story).
+-export([tell/3]).
+
+%% @doc The lines of a story, each with the number of its event.
+-spec tell([plain_report:event()], [plain_translation:place() | none], {plain_answer:told(), #{atom() => plain_translation:place()}}) -> iodata().
+tell(Events, Places, {Told, Names}) ->
+    Pids = lists:usort([P || #{subject := {turn, P}} <- Events]),
+    Services = [P || P <- Pids, is_service(plain_answer:role(P, Told))],
+    {Lines, _} = lists:mapfoldl(fun({Number, Event, Place}, Asking) ->
+        case Event of
+            #{subject := {turn, P}, label := <<"receive ", _/binary>>} when is_map_key(P, Asking) -> {[], maps:remove(P, Asking)};
+            _ -> {line(Number, Event, Place, Services, Names), asking(Event, Services, Asking)}
+        end
+    end, #{}, lists:zip3(lists:seq(1, length(Events)), Events, Places)),
+    Lines.
+
+%% Who waits for the answer of a service, which is the next that it receives.
+-spec asking(plain_report:event(), [non_neg_integer()], #{non_neg_integer() => true}) -> #{non_neg_integer() => true}.
+asking(#{subject := {turn, P}, label := <<"send ", Rest/binary>> = Label}, Services, Asking) ->
+    [To | _] = binary:split(Rest, <<" ">>),
+    case lists:member(pid(To), Services) andalso re:run(Label, [${, "[a-z_,]*(<", integer_to_list(P), ">,#Ref|.*,<", integer_to_list(P), ">,#Ref<[0-9]+>})"]) =/= nomatch
+        andalso re:run(Label, <<"{(arm|send),">>) =:= nomatch of
+        true -> Asking#{P => true};
+        false -> Asking
+    end;
+asking(_, _, Asking) -> Asking.
+
+-spec is_service(iodata() | unknown) -> boolean().
+is_service(unknown) -> false;
+is_service(Role) -> lists:prefix("the service", lists:flatten(io_lib:format("~ts", [Role]))).
+
+-spec line(pos_integer(), plain_report:event(), plain_translation:place() | none, [non_neg_integer()], map()) -> iodata().
+line(Number, #{subject := {turn, P}, label := Label}, Place, Services, Names) ->
+    case lists:member(P, Services) orelse not is_told(Label, Place, Services) of
+        true -> [];
+        false -> io_lib:format("~w <~w> ~ts~ts~n", [Number, P, plain_words_back:line(said(Label), Names), stands(Place)])
+    end;
+line(Number, #{subject := {delivery, A, B}, label := <<"deliver exit ends ", Reason/binary>>}, _, _, Names) ->
+    io_lib:format("~w <~w> is ended by <~w>: ~ts~n", [Number, B, A, plain_words_back:line(Reason, Names)]);
+line(_, _, _, _, _) -> [].
+
+%% Whether an event is one of the story: what the source does itself, and of the library what goes between processes of the source.
+-spec is_told(binary(), plain_translation:place() | none, [non_neg_integer()]) -> boolean().
+is_told(Label, Place, Services) ->
+    case {binary:split(Label, <<" ">>, [global]), Place} of
+        {[<<"wait">> | _], _} -> false;
+        {[<<"cut">> | _], _} -> false;
+        {[Word | _], _} when Word =:= <<"make_ref">>; Word =:= <<"demonitor">>; Word =:= <<"whereis">> -> false;
+        {[<<"end">>, <<"normal">> | _], _} -> false;
+        {[<<"end">> | _], _} -> true;
+        {[<<"raise">> | _], _} -> true;
+        {[<<"send">>, _, <<"{'after',", _/binary>>], _} -> false;
+        {[<<"send">>, To | _], _} -> not lists:member(pid(To), Services) orelse re:run(Label, asked()) =/= nomatch;
+        {[<<"receive">> | _], {user, _, _, _}} -> re:run(Label, <<"^receive {'after',">>) =:= nomatch;
+        {[<<"receive">> | _], _} -> re:run(Label, <<"^receive ({#Ref<[0-9]+>,(ok,|error})|{'after',|{'DOWN',|{ack,)">>) =:= nomatch;
+        {_, {user, _, _, _}} -> true;
+        {_, _} -> false
+    end.
+
+-spec pid(binary()) -> integer().
+pid(Pid) ->
+    case re:run(Pid, <<"^<([0-9]+)>$">>, [{capture, [1], binary}]) of
+        {match, [Number]} -> binary_to_integer(Number);
+        nomatch -> -1
+    end.
+
+%% A question to the service that keeps the tables.
+-spec asked() -> binary().
+asked() -> <<"^send <[0-9]+> {ask,<[0-9]+>,#Ref<[0-9]+>,{([a-z_]+),(.*)}}$">>.
+
+%% A label in the words of who wrote the source.
+-spec said(binary()) -> binary().
+said(Label) ->
+    lists:foldl(fun({From, To}, Before) -> re:replace(Before, From, To, [{return, binary}]) end, Label,
+                [{asked(), <<"ets:\\1(\\2)">>},
+                 {<<"^send (<[0-9]+>) {'\\$gen_call',{<[0-9]+>,#Ref<[0-9]+>},(.*)}$">>, <<"calls \\1: \\2">>},
+                 {<<"^send (<[0-9]+>) {'\\$gen_cast',(.*)}$">>, <<"casts to \\1: \\2">>},
+                 {<<"^send (<[0-9]+>) {#Ref<[0-9]+>,(.*)}$">>, <<"replies to \\1: \\2">>},
+                 {<<"^send (<[0-9]+>) {ack,<[0-9]+>,(.*)}$">>, <<"is started, and tells \\1: \\2">>},
+                 {<<"^receive {'\\$gen_call',{(<[0-9]+>),#Ref<[0-9]+>},(.*)}$">>, <<"takes the call of \\1: \\2">>},
+                 {<<"^receive {'\\$gen_cast',(.*)}$">>, <<"takes the cast: \\1">>},
+                 {<<"^receive {#Ref<[0-9]+>,(.*)}$">>, <<"gets the reply: \\1">>}]).
+
+%% The place in the source, with its text.
+-spec stands(plain_translation:place() | none) -> iodata().
+stands({user, File, Line, _} = Place) ->
+    case source(File, Line) of
+        none -> ["  % ", plain_words_back:place(Place)];
+        Text -> ["  % ", plain_words_back:place(Place), ": ", Text]
+    end;
+stands(_) -> "".
+
+-spec source(file:filename(), non_neg_integer()) -> binary() | none.
+source(File, Line) ->
+    Lines = case get({?MODULE, File}) of
+        undefined ->
+            Read = case file:read_file(File) of {ok, Text} -> binary:split(Text, <<"\n">>, [global]); {error, _} -> [] end,
+            _ = put({?MODULE, File}, Read),
+            Read;
+        Known -> Known
+    end,
+    case Line >= 1 andalso Line =< length(Lines) of
+        true -> string:trim(lists:nth(Line, Lines));
+        false -> none
+    end.

@@ -1,0 +1,32 @@
+%% @doc The tests of an application: each test of EUnit by itself, those that fail in some run, and the same as JUnit has it. On Erlang each of them
+%% passes in the usual order.
+-module(check_eunit).
+-export([check/0]).
+
+-spec check() -> ok.
+check() ->
+    Folder = checks:folder("shop"),
+    File = checks:room("junit.xml"),
+    {Answer, Status} = checks:command(["eunit", Folder, "--seeds", "0..40", "--junit", File]),
+    checks:expect("status of eunit", 1, Status),
+    [told(Name, Seeds, Answer) || {Name, Seeds} <-
+        [{"bill_test", holds}, {"lines_test_\\[1\\] two", holds}, {"lines_test_\\[2\\] none", holds}, {"door_test", holds}, {"shop_test_\\[1\\] a price", holds},
+         {"shop_test_\\[2\\] one buys", holds}, {"each_test_\\[1\\]", holds},
+         {"shop_test_\\[3\\] two buy the last", "crash <0> at shop_tests\\.erl:23 shop_tests:shop_test_/0: error \\{assertMatch,"},
+         {"each_test_\\[2\\] notes", "crash <0> at shop_tests\\.erl:29 shop_tests:each_test_/0: error \\{assertEqual,.*\\{expected,\\[\\{closed,1\\}\\]\\},\\{value,\\[\\]\\}"}]],
+    told("9 tests", "2 fail, 0 refused", Answer),
+    {ok, Junit} = file:read_file(File),
+    checks:expect("nine cases", 9, length(binary:matches(Junit, <<"<testcase ">>))),
+    checks:expect("two failures", 2, length(binary:matches(Junit, <<"<failure ">>))),
+    {Timed, 0} = checks:command(["eunit", Folder, "--test", "bill", "--for", "1s"]),
+    told("shop_tests:bill_test", "no failure in [0-9]+ seeds", Timed),
+    {None, 2} = checks:command(["eunit", checks:folder("commands")]),
+    told("pulsefarm-erl", ".*there is no src/NAME.app.src", None),
+    ok.
+
+%% A line of the answer.
+-spec told(string(), holds | string(), string()) -> boolean().
+told(Name, holds, Answer) -> told(Name, "no failure in 40 seeds$", Answer);
+told(Name, "crash " ++ _ = Crash, Answer) -> told(Name, "seed [0-9]+ fails: (" ++ Crash ++ ")", Answer);
+told(Name, Rest, Answer) ->
+    checks:expect([Name, ": ", Rest], match, re:run(Answer, ["^(shop_tests:)?", Name, ": ", Rest], [multiline, {capture, none}])).

@@ -1,0 +1,5 @@
+-module(hides).
+-export([outside/0]).
+
+outside() -> inside().
+inside() -> inside.

@@ -1,0 +1,2 @@
+-record(order, {id, lines = [], total = 0}).
+-define(TABLE, shop_log).
