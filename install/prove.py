@@ -40,7 +40,7 @@ class Failed(Exception):
 
 
 class NotKept(Exception):
-    """A run proved again what another had proved: `rt` keeps nothing, as where the disk is full."""
+    """A run proved again what another had proved, or took no name: `rt` keeps nothing, as where the disk is full or the kit is an old one."""
 
 
 class Progress:
@@ -121,7 +121,7 @@ class Run:
         fixed = {"RT_JOBS": "1"} if crate and jobs == 1 else {}
         environment = {name: value for name, value in os.environ.items() if name != "CI" or not crate} | fixed
         words = ["rt", "ci", crate] if crate else ["rt", "ci"]
-        self.lane, self.crate, self.log, self.text = lane, crate, [], b""
+        self.lane, self.crate, self.log, self.text, self.has_begun = lane, crate, [], b"", False
         # (in a group of its own: Ctrl-C is ours to hand on, and rt, which ends at SIGTERM at once, takes all its checks with it)
         self.process = subprocess.Popen(
             words, cwd=room, env=environment, stdin=subprocess.DEVNULL, stdout=subprocess.PIPE, stderr=subprocess.STDOUT, start_new_session=True
@@ -134,12 +134,13 @@ class Run:
         for line in lines:
             self.take(line.decode(errors="replace"), progress)
         if not more and self.process.wait():
-            raise Failed(self.log)
+            # (what else can be wrong before the first crate, the run over all tells)
+            raise NotKept if self.crate and not self.has_begun else Failed(self.log)
         return bool(more)
 
     def take(self, line, progress):
         if line.startswith("== "):
-            self.log = []
+            self.log, self.has_begun = [], True
         self.log.append(line)
         done = PROVED.match(line)
         if done and done[1] in progress.left:
@@ -274,7 +275,7 @@ def main(words):
     if len(words) != 1:
         sys.exit("usage: prove.py TREE")
     if not shutil.which("rt"):
-        sys.exit("there is no rt on the path: the kit rattle-kit-13f has it")
+        sys.exit("there is no rt on the path: the kit rattle-kit-13b has it")
     for number in (signal.SIGINT, signal.SIGTERM, signal.SIGHUP):
         # (under nohup it goes on where the terminal is closed)
         if number != signal.SIGHUP or signal.getsignal(number) != signal.SIG_IGN:

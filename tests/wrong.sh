@@ -13,14 +13,14 @@
 #                               else of those that are due now
 #
 # A crate has two sums. Its own is of its sources, specs and proofs without comments and layout, its edits, the flags of its line of
-# crates.txt, and the kit. Its sum below is of what its sources, specs and edits reach by name in the crates below it: definitions,
+# crates.txt, and the kit's logic. Its sum below is of what its sources, specs and edits reach by name in the crates below it: definitions,
 # and in src/ what is declared and each contract, but no body of a function. Each edit has a sum below of its own: of what is reached
 # from the contract and the body of the function that it changes, from its new texts, from the Models in that file and from the
 # contracts of what is called. One that changes anything but the body of a function has all that its crate reaches.
 #
-# Where the own sum of a crate changed, all its edits are due; but a gate takes no more than MOST_CHANGED edits of changed crates, 85 a
+# Where the own sum of a crate changed, all its edits are due; but a gate takes no more than MOST_CHANGED edits of changed crates, 8 a
 # processor: crates go whole, new ones first and then those that were seen the longest ago, and the others wait. Where only the sum
-# below did, those edits are due whose own sums changed, the ones first that were seen the longest ago, until MOST_EDITS (70) are due
+# below did, those edits are due whose own sums changed, the ones first that were seen the longest ago, until MOST_EDITS (30) are due
 # with those of changed crates. Where there is room among these, all edits of the TURNS (2) crates that were seen the longest ago are due in turn.
 #
 # What was seen refused is noted in tests/wrong.seen, a line a crate: its name, its own sum, its sum below, the second at which it was
@@ -49,6 +49,8 @@ says() {
 }
 
 kit=$(rt version) || fail "there is no rt"
+# (what refuses a wrong body is the kit's logic, which comes after its name: kits of one logic see the same)
+kit=${kit#* }
 
 # The crates, in the order of crates.txt.
 crates() {

@@ -383,6 +383,17 @@ reasons() {
   run run --root main --limit 1000 --schedule @-
   ended 'source and schedule from the standard input' 2 '' \
     "pulsefarm: the source and its schedule can't both be the standard input: name a file of one\n"
+  { head -c 67108848 /dev/zero | tr '\0' '\n'; printf 'schedule 0,0,21\n'; } > long
+  run run m.erl --root main --limit 1000 --schedule @long
+  ended 'schedule in a file of the most bytes' 0 "$report" ''
+  { head -c 67108850 /dev/zero | tr '\0' '\n'; printf 'schedule 0,0,21\n'; } > long
+  too_long='the file of a schedule has at most 67,108,864 bytes\n'
+  run run m.erl --root main --limit 1000 --schedule @long
+  ended 'schedule in a file that is too long' 2 '' "pulsefarm: long: $too_long"
+  mv long in
+  run run m.erl --root main --limit 1000 --schedule @-
+  ended 'schedule from a standard input that is too long' 2 '' "pulsefarm: -: $too_long"
+  : > in
   run help check
   cp out first
   run check --help

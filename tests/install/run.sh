@@ -127,6 +127,17 @@ forgetful() {
   is_tidy "a run that keeps nothing"
 }
 
+# Where `rt ci` takes no name, one run proves all, each once.
+nameless() {
+  lay
+  : > "$FAKE/forgets"
+  : > "$FAKE/nameless"
+  install_in 1
+  [ "$status" = 0 ] && [ "$(cat "$room/out")" = "$main_job" ] && were_begun "low left right high pulsefarm"
+  note "a kit that takes no name of a crate proves all in one run (status $status)" $?
+  is_tidy "a run without names"
+}
+
 # The group of a run gets the signal $1, as by Ctrl-C, while its third crate is proved.
 stopped() {
   lay
@@ -209,7 +220,7 @@ terminal() {
 refusals() {
   lay
   PATH=$(dirname "$(command -v python3)"):/usr/bin:/bin python3 "$room/tree/install/prove.py" "$room/tree" > "$room/out" 2> "$room/err"
-  [ $? = 1 ] && [ "$(cat "$room/err")" = 'there is no rt on the path: the kit rattle-kit-13f has it' ]
+  [ $? = 1 ] && [ "$(cat "$room/err")" = 'there is no rt on the path: the kit rattle-kit-13b has it' ]
   note "no rt" $?
   python3 "$room/tree/install/prove.py" > "$room/out" 2> "$room/err"
   [ $? = 1 ] && [ "$(cat "$room/err")" = 'usage: prove.py TREE' ]
@@ -259,8 +270,8 @@ lanes() {
 
 # The tree itself, from what the gate has proved: the program is that of the gate, byte by byte.
 real_install() {
-  if ! python3 -c 'import sys; sys.path.insert(0, sys.argv[1]); import prove; sys.exit(not prove.keeps())' "$top/install"; then
-    echo "the kit can't keep what is proved, so the tree itself isn't installed"
+  if ! python3 -c 'import os, sys; sys.path.insert(0, sys.argv[1]); import prove; sys.exit(not (prove.keeps() and os.path.exists(prove.store())))' "$top/install"; then
+    echo "the kit kept nothing of what the gate proved, so the tree itself isn't installed"
     return
   fi
   cp "$top/crates/pulsefarm/out/pulsefarm" "$room/gate"
@@ -295,6 +306,7 @@ fi
 whole
 side_by_side
 forgetful
+nameless
 stopped INT
 stopped TERM
 told_to_stop

@@ -181,7 +181,7 @@ start_anew() {
   make_mid
   make_top
   printf '# The crates.\nlow:\nmid: low\ntop tests_may=Threads: mid\n' > crates.txt
-  echo "a kit" > "$room/kit"
+  echo "a-kit logic one" > "$room/kit"
   : > "$room/passing"
   : > "$room/by_form"
   cp "$room/seen" "$room/edits" tests/ 2> /dev/null && mv tests/seen tests/wrong.seen && mv tests/edits tests/wrong.edits
@@ -257,7 +257,9 @@ case_of "a body of the own" 's/^    same(n)/    same(same(n))/' crates/top/src/l
 case_of "an edit of the own" 's/^new: 0/new: 1/' crates/top/wrong/itself_is_none.edit "top 2 of 2, changed"
 case_of "a flag" 's/tests_may=Threads/tests_may=Net/' crates.txt "top 2 of 2, changed"
 start_anew
-echo "another kit" > "$room/kit"
+echo "another-kit logic one" > "$room/kit"
+same "another kit of the same logic" "$(due)" ""
+echo "another-kit logic two" > "$room/kit"
 same "another kit" "$(due)" "$(printf 'low 1 of 1, changed\nmid 4 of 4, changed\ntop 2 of 2, changed')"
 
 # An edit of a contract has all that its crate reaches, and the two crates that were seen the longest ago are due in turn.
@@ -291,18 +293,18 @@ MOST_EDITS=1 tests/wrong.sh > /dev/null
 same "none waits" "$(tests/wrong.sh due)" "0 wrong bodies are due, and 0 wait for a later gate"
 same "its line is new" "$(grep -c "^$before\$" tests/wrong.seen) $(grep -c '^mid ' tests/wrong.seen)" "0 1"
 start_anew
-for number in $(seq 73); do printf 'file: src/lib.rt\nold: same(n)\nnew: %s\n' "$number" > "crates/top/wrong/number_$number.edit"; done
+for number in $(seq 33); do printf 'file: src/lib.rt\nold: same(n)\nnew: %s\n' "$number" > "crates/top/wrong/number_$number.edit"; done
 tests/wrong.sh top > /dev/null
 sed -i '/fn same/,/^{/s/result ≡ n/n ≡ result/' crates/mid/src/lib.rt
 tests/wrong.sh mid > /dev/null
-same "at most seventy" "$(tests/wrong.sh due | tail -n 1)" "70 wrong bodies are due, and 4 wait for a later gate"
+same "at most thirty" "$(tests/wrong.sh due | tail -n 1)" "30 wrong bodies are due, and 4 wait for a later gate"
 tests/wrong.sh > /dev/null
 same "the rest" "$(tests/wrong.sh due | tail -n 1)" "4 wrong bodies are due, and 0 wait for a later gate"
 
 # Changed crates go whole, those first that were seen the longest ago; one that a gate has no time for keeps its line and waits.
 start_anew
 sed -i 's/^\(top .* \)[0-9]* 2$/\15 2/; s/^\(mid .* \)[0-9]* 4$/\16 4/; s/^\(low .* \)[0-9]* 1$/\17 1/' tests/wrong.seen
-echo "another kit" > "$room/kit"
+echo "another-kit logic two" > "$room/kit"
 later="wait for a later gate: changed, beside more than a gate can try"
 same "more than a gate can try" "$(MOST_CHANGED=5 tests/wrong.sh due)" \
   "$(printf 'low 1 of 1, changed\nmid 4 of 4, %s\ntop 2 of 2, changed\n3 wrong bodies are due, and 4 wait for a later gate' "$later")"
