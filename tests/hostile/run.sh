@@ -478,12 +478,17 @@ deep_sources_of_a_farm() {
   note "a farm on small stacks: status $status" $?
 }
 
-# A schedule of 67,108,864 bytes, which are as many as are read, and more behind them: it has 33,554,432 numbers, which are too many.
+# A schedule of 67,108,864 bytes, which are as many as are read: it has 33,554,432 numbers, which are too many. One of a byte more isn't read.
 schedules_without_end() {
   module main/0 'main() -> 1 + 2 * 3.'
-  { printf '10,'; yes 0, | tr -d '\n' | head -c 67108860; printf '0,0,0'; } > schedule
+  { printf '10,'; yes 0, | tr -d '\n' | head -c 67108860; printf '0'; } > schedule
   echo B6 > wanted
   bounded 'a schedule of 64 MiB' 2 10000 262144 run --root main --limit 9 --schedule @schedule
+  printf '0' >> schedule
+  : > wanted
+  bounded 'a schedule of 64 MiB and a byte' 2 10000 262144 run --root main --limit 9 --schedule @schedule
+  [ "$(cat err)" = 'pulsefarm: schedule: the file of a schedule has at most 67,108,864 bytes' ]
+  note 'a schedule of 64 MiB and a byte is refused' $?
   rm schedule
 }
 
