@@ -1,65 +1,133 @@
-"""mutants.py TREE NAME: changes TREE as the mutant NAME of the running farm has it, and bounds the waits of its tests, so that a test that waits in vain fails soon. Without a
-NAME it bounds the waits alone. `mutants.py names` lists the mutants."""
+"""mutants.py TREE: puts the mutants of the running farm into TREE, a copy of the repository, each as a crate of its own beside `pf_farm`, and has `pf_tests_farm` try each of them by the
+tests that hold two runs at the gate, under modules that have the names of the mutants. It shortens the waits of these tests, so that one that waits in vain fails soon.
+mutants.py names: lists the tests, with `ok` for those that have to pass, of the farm as it is, and `fails` for those that have to fail, of a mutant."""
+import os
+import shutil
 import sys
 
-WORKERS = "crates/pf_farm/src/workers.rt"
-# Each mutant: what it is, the file, and the old and the new text, of which the old one is there once.
+WORKERS = "workers.rt"
+# What each mutant does, the old text, which is there once, the new one, and which tests have to fail.
 MUTANTS = {
-    "one_thread": ("all workers share one thread", WORKERS, "    let count = seats.len();\n", "    let count = 1;\n"),
+    "one_thread": (
+        "all workers share one thread",
+        "    let count = seats.len();\n",
+        "    let count = 1;\n",
+        ("gate_steal", "gate_two_trials"),
+    ),
     "lock_round_a_slice": (
         "the lock is kept round a slice",
-        WORKERS,
         "    match gate.slice(alloc, rt, project, ticket, parked, scratch, TURNS) {\n",
         "    let held = floor.shared.lock(rt);\n"
         "    let slice = gate.slice(alloc, rt, project, ticket, parked, scratch, TURNS);\n"
         "    drop(held);\n"
         "    match slice {\n",
+        ("gate_steal", "gate_two_trials"),
     ),
     "hands_back_each_claim": (
         "a worker hands back each claim",
-        WORKERS,
         "        Ok(parked) => Ok(HeldRun::new(claim, parked)),\n",
         "        Ok(_) => {\n            floor.hand_back(rt, seat, claim);\n            Err(NoMemory)\n        }\n",
+        ("gate_steal", "gate_two_trials"),
     ),
     "never_parks": (
         "a worker never parks a run",
-        WORKERS,
         "match seat.park(HeldRun::new(claim, parked)) {\n",
         "match Err::<(), HeldRun<N>>(HeldRun::new(claim, parked)) {\n",
+        ("gate_steal",),
     ),
     "never_steals": (
         "a worker never steals a run",
-        WORKERS,
         "    if let Some(run) = seat.steal() {\n",
         "    if let Some(run) = None::<HeldRun<N>> {\n",
+        ("gate_steal",),
     ),
 }
-# The waits of the tests, shorter by as much as lets the real farm pass still.
-BOUNDS = ("crates/pf_tests_farm/src/waiting.rt", "MOST_TURNS: u64 = 100_000_000;", "MOST_TURNS: u64 = 3_000_000;")
-ROUNDS = ("crates/pf_tests_farm/src/calls.rt", "for _ in 0..5_000u32 {", "for _ in 0..150u32 {")
+# The modules of the tests that use the farm, and in which of them each test stands.
+MODULES = ("calls", "scene", "stolen", "together")
+TESTS = {"gate_steal": "stolen", "gate_two_trials": "together"}
+# How long the tests wait, shorter by as much as lets the real farm pass still.
+WAITS = (
+    ("waiting.rt", "MOST_TURNS: u64 = 100_000_000;", "MOST_TURNS: u64 = 3_000_000;"),
+    ("calls.rt", "for _ in 0..5_000u32 {", "for _ in 0..150u32 {"),
+)
 
 
-def change(tree, file, old, new):
-    """Replaces a text that is in the file once."""
-    path = f"{tree}/{file}"
+def text_of(path):
     with open(path, encoding="utf-8") as it:
-        text = it.read()
-    if text.count(old) != 1:
-        sys.exit(f"{file}: this text is there {text.count(old)} times, and not once: {old}")
+        return it.read()
+
+
+def put(path, text):
     with open(path, "w", encoding="utf-8") as it:
-        it.write(text.replace(old, new))
+        it.write(text)
+
+
+def change(path, old, new):
+    """Replaces a text that is in the file once."""
+    text = text_of(path)
+    if text.count(old) != 1:
+        sys.exit(f"{path}: this text is there {text.count(old)} times, and not once: {old}")
+    put(path, text.replace(old, new))
+
+
+def of_mutant(text, name):
+    """The text of a file that uses the farm, with the mutant in its place."""
+    text = text.replace("pf_farm::", f"pf_farm_{name}::").replace("Rattle.pf_farm.", f"Rattle.pf_farm_{name}.")
+    for module in MODULES:
+        text = text.replace(f"crate::{module}::", f"crate::{name}::{module}::")
+    return text
+
+
+def add_crate(tree, name):
+    """A copy of the farm's crate that is the mutant."""
+    _, old, new, _ = MUTANTS[name]
+    farm = f"{tree}/crates/pf_farm_{name}"
+    shutil.copytree(f"{tree}/crates/pf_farm", farm)
+    for base, _, files in os.walk(farm):
+        for file in files:
+            path = f"{base}/{file}"
+            put(path, text_of(path).replace("Rattle.pf_farm.", f"Rattle.pf_farm_{name}."))
+    change(f"{farm}/src/{WORKERS}", old, new)
+
+
+def add_tests(tree, name):
+    """The tests of the mutant, as modules below one of its name."""
+    src = f"{tree}/crates/pf_tests_farm/src"
+    os.mkdir(f"{src}/{name}")
+    for module in MODULES:
+        put(f"{src}/{name}/{module}.rt", of_mutant(text_of(f"{src}/{module}.rt"), name))
+    put(f"{src}/{name}.rt", f"//! A mutant: {MUTANTS[name][0]}.\n\n" + "".join(f"mod {module};\n" for module in MODULES))
+    lib = f"{src}/lib.rt"
+    put(lib, text_of(lib) + f"#[cfg(test)]\nmod {name};\n")
+
+
+def add_lines(tree):
+    """The mutants' lines of crates.txt, and their names in that of the tests."""
+    lines = []
+    for line in text_of(f"{tree}/crates.txt").splitlines():
+        if line.startswith("pf_tests_farm"):
+            line += "".join(f" pf_farm_{name}" for name in MUTANTS)
+        lines.append(line)
+        if line.startswith("pf_farm:"):
+            lines += [line.replace("pf_farm:", f"pf_farm_{name}:", 1) for name in MUTANTS]
+    put(f"{tree}/crates.txt", "\n".join(lines) + "\n")
 
 
 def main(words):
     if words == ["names"]:
-        print("\n".join(MUTANTS))
+        for test, module in TESTS.items():
+            print(f"{module}::{test} ok")
+        for name, (_, _, _, fail) in MUTANTS.items():
+            for test in fail:
+                print(f"{name}::{TESTS[test]}::{test} fails")
         return
-    tree, *names = words
-    change(tree, *BOUNDS)
-    change(tree, *ROUNDS)
-    for name in names:
-        _, file, old, new = MUTANTS[name]
-        change(tree, file, old, new)
+    (tree,) = words
+    for file, old, new in WAITS:
+        change(f"{tree}/crates/pf_tests_farm/src/{file}", old, new)
+    for name in MUTANTS:
+        add_crate(tree, name)
+        add_tests(tree, name)
+    add_lines(tree)
 
 
 main(sys.argv[1:])
