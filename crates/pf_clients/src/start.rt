@@ -25,7 +25,7 @@ pub(crate) struct Start {
 }
 
 impl Start {
-    pub fn new() -> Start {
+    pub(crate) fn new() -> Start {
         Start {
             stage: Mutex::new(Stage::Awaited),
             changed: Condvar::new(),
@@ -33,7 +33,7 @@ impl Start {
     }
 
     /// The workers begin, unless the clients have given up; whether they do.
-    pub fn begin<T: Wait>(&self, rt: &T) -> bool {
+    pub(crate) fn begin<T: Wait>(&self, rt: &T) -> bool {
         let mut stage = self.stage.lock(rt);
         if *stage == Stage::GivenUp {
             return false;
@@ -44,7 +44,7 @@ impl Start {
     }
 
     /// Waits until the workers have begun, but not for ever; whether they have.
-    pub fn wait<T: Wait + Clock>(&self, rt: &T) -> bool {
+    pub(crate) fn wait<T: Wait + Clock>(&self, rt: &T) -> bool {
         let longest = Duration::from_secs(MOST_SECONDS);
         let stage = self.stage.lock(rt);
         let (mut stage, _) = self

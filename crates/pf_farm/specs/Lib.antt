@@ -1,3 +1,4 @@
 pub mod Farms
 pub mod Floors
 pub mod Seats
+pub mod Waits

@@ -1,13 +1,14 @@
 //! Which clients wait for their trials, so that nobody is woken in vain.
 
-ghost use Rattle.std.specs.Prelude.{◌<◌};
+ghost use Rattle.std.specs.Prelude.{◌≡◌, ◌<◌, All, IfSome, Some, option_map, slice_get, slice_set};
+ghost use Rattle.pf_farm.specs.Waits.{awaits, entered, left};
 
 /// How many conditions clients wait on. Projects share them, by their numbers.
 pub(crate) const SLOTS: usize = 16;
 
 /// Those who wait in a slot: how many, and for which ticket if there is one who waits; 0, which is no ticket, stands for any.
 #[derive(Clone, Copy)]
-struct Slot {
+pub(crate) struct Slot {
     count: u32,
     ticket: u64,
 }
@@ -27,7 +28,9 @@ pub(crate) fn slot_of(project: u32) -> usize
 
 impl Waiting {
     /// None waits.
-    pub fn new() -> Waiting {
+    pub(crate) fn new() -> Waiting
+        ensures { All (λ slot. slot.count ≡ 0) result.slots }
+    {
         Waiting {
             slots: [Slot {
                 count: 0,
@@ -37,8 +40,10 @@ impl Waiting {
     }
 
     /// One more waits in a slot, for this ticket.
-    pub fn enter(&mut self, slot: usize, ticket: u64)
+    pub(crate) fn enter(&mut self, slot: usize, ticket: u64)
         requires { slot < SLOTS }
+        ensures { IfSome (slice_get self.old.slots slot) (λ was.
+            self.new.slots ≡ slice_set self.old.slots slot (entered was ticket)) }
     {
         let Slot { count, .. } = self.slots[slot];
         let ticket = if count == 0 { ticket } else { 0 };
@@ -49,8 +54,10 @@ impl Waiting {
     }
 
     /// One of them waits no more.
-    pub fn leave(&mut self, slot: usize)
+    pub(crate) fn leave(&mut self, slot: usize)
         requires { slot < SLOTS }
+        ensures { IfSome (slice_get self.old.slots slot) (λ was.
+            self.new.slots ≡ slice_set self.old.slots slot (left was)) }
     {
         let Slot { count, .. } = self.slots[slot];
         self.slots[slot] = Slot {
@@ -60,8 +67,9 @@ impl Waiting {
     }
 
     /// Whether somebody in a slot may wait for this ticket.
-    pub fn is_awaited(&self, slot: usize, ticket: u64) -> bool
+    pub(crate) fn is_awaited(&self, slot: usize, ticket: u64) -> bool
         requires { slot < SLOTS }
+        ensures { option_map (λ s. awaits s ticket) (slice_get self.now.slots slot) ≡ Some result }
     {
         let Slot {
             count,

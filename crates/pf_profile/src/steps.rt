@@ -2,6 +2,7 @@
 
 ghost use Rattle.std.specs.Prelude.{◌≡◌, ◌≤◌, ℕ, List, length, IfOk, IfErr, OnOk};
 ghost use Rattle.std.specs.Io.KnownBytes.{Consumes};
+ghost use Rattle.pf_wire.specs.Endings.{EndsAs};
 ghost use Rattle.pf_wire.specs.Steps.{StepsAnswered, StepsLeaves};
 ghost use Rattle.pf_profile.specs.Profile.{run_profile};
 
@@ -15,7 +16,7 @@ use std::sync::ledger::Ledger;
 
 /// Reads at most 64 MiB, piece by piece, answers each command before it waits for more, and gives the status: 2 if a
 /// line is no command, after which nothing is done, and else 0. The workshop of four workers hashes with these
-/// keys, which no answer depends on. The ending is for who says why reading ended.
+/// keys, which no answer depends on. The ending has the line that is no command, by its number, for who says why reading ended.
 pub fn run_steps<R: Read, W: Write, L: Ledger, M: Ledger>(
     alloc: Global,
     keys: RandomState,
@@ -34,6 +35,7 @@ pub fn run_steps<R: Read, W: Write, L: Ledger, M: Ledger>(
         (W.contents writer.old.inner) (W.contents writer.new.inner)
         reader.old.failures.total reader.new.failures.total
         writer.old.failures.total writer.new.failures.total) }
+    ensures ending { IfOk result (λ status. EndsAs (R.remaining reader.old.inner) status ending.old ending.new) }
 {
     pf_wire::run_steps(alloc, keys, reader, writer, ending)
 }

@@ -255,6 +255,8 @@ pub struct Clearing<'a, W> {
 }
 
 impl<W: Write> Write for Clearing<'_, W> {
+    ghost contents = { λ c. W.contents c.inner };
+
     fn write(&mut self, buf: &[u8]) -> io::Result<usize> {
         self.line.clear();
         self.inner.write(buf)
