@@ -57,7 +57,7 @@ fn named_in(table: &[(&str, u64, Builtin)], name: &[u8], arity: u64) -> Option<B
     None
 }
 
-/// Whether a built-in function tells something of its arguments, or the own pid, and does no more.
+/// Whether a built-in function only looks at its arguments, or gives the own pid.
 pub fn is_pure(builtin: Builtin) -> bool
     ensures { result ≡ forms.is_pure (builtin_of builtin) }
 {

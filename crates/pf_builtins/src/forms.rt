@@ -24,7 +24,7 @@ pub enum Form {
     Calling(Builtin),
 }
 
-/// Whether this form may stand in a guard, or else in a body, which holds all of them.
+/// Whether this form is allowed in a guard, or else in a body, which holds all of them.
 pub fn may_stand(guard: bool, form: Form) -> bool
     ensures { result ≡ forms.may_stand guard (form_of form) }
 {

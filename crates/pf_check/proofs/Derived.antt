@@ -1,4 +1,4 @@
--- What the grammar derives is formed: matches stand in bodies alone, bodies, guards and functions aren't empty, and a string is within
+-- What the grammar derives is formed: matches occur in bodies alone, bodies, guards and functions aren't empty, and a string is within
 -- the limits of a value.
 use Rattle.std.proofs.Common.{◌≡◌, inl, inr, ℕ, ◌<◌, ◌≤◌, Bool, true, false, List, [], ◌∷◌, length, refl, sym, subst, arith, IsTrue}
 use Rattle.std.proofs.lemmas.List.Elements.{All-nil, All-cons}
@@ -103,7 +103,7 @@ module _ (n : Names) where
   unguarded_formed : (c : Condition) → c ≡ unguarded → IsGuard c
   unguarded_formed c e = subst IsGuard (sym e) (tt, (tt, tt))
 
-  -- what stands before the arrow of a clause, once its guard is formed
+  -- what is before the arrow of a clause, once its guard is formed
   guarded_formed : (c : Condition) (ts : List NumberedToken) → ((us : List NumberedToken) → DerivesGuard n c us → IsGuard c) → Guarded c (DerivesGuard n c) ts → IsGuard c
   guarded_formed c ts guard (inl h) = unguarded_formed c h.0
   guarded_formed c ts guard (inr h) = guard h.1 h.4

@@ -8,7 +8,7 @@ use Rattle.pf_syntax.specs.Expr as p
 use Rattle.pf_syntax.specs.Expr.{Expr, Exprs, no_exprs, expr}
 use Rattle.pf_syntax.specs.Scope.{Scope, no_scope, has, is_unsafe, is_new, binding, after_expr_pattern, after_expr_patterns, after, after_all}
 
--- each name stands in one slot
+-- each name is in one slot
 pub Once : List ℕ → Type 0
 Once names = (x i j : ℕ) → slice_get names i ≡ Some x → slice_get names j ≡ Some x → i ≡ j
 
@@ -22,7 +22,7 @@ or_true false c e = e
 same_or : (x y : ℕ) (b : Bool) → y ≡ x → nat_eq y x || b ≡ true
 same_or x y b e = grind (arith, nat_tests)
 
--- what stands in a slot is among the names
+-- what is in a slot is among the names
 pub there : (x : ℕ) (names : List ℕ) (k : ℕ) → slice_get names k ≡ Some x → has names x ≡ true
 there x [] zero e = cc
 there x [] (suc k) e = cc
@@ -37,7 +37,7 @@ not_new false u e h = cc
 pub new_has_no_offset : (g : Scope) (x k : ℕ) → IsTrue (is_new g x) → slice_get g.bound k ≡ Some x → ⊥
 new_has_no_offset g x k new e = not_new (has g.bound x) (is_unsafe g x) (there x g.bound k e) new
 
--- a slot among names and one more behind them is one of theirs, or the last
+-- a slot among names and one more after them is one of theirs, or the last
 last_or_before : (names : List ℕ) (x y i : ℕ) → slice_get (names ++ x ∷ []) i ≡ Some y → (slice_get names i ≡ Some y) ⊎ ((i ≡ length names) × (y ≡ x))
 last_or_before [] x y zero e = inr (refl, cc)
 last_or_before [] x y (suc i) e = cc

@@ -145,7 +145,7 @@ module _ (bytes : List ℕ) where
       tree_is : (us : List Placed) (o : Tree) → HasTokens bytes us → DerivesTree (atoms_of us) o (numbered us) → o ≡ m
       tree_is us o k d = one_tree (atoms_of ts) (numbered ts) o m (tree_here us o k d) derives
 
-      -- what is told of the atoms and the tree that were read holds of these
+      -- what is true of the atoms and the tree that were read holds of these
       told_here : (P : List (List ℕ) → Tree → Type 0) → (us : List Placed) (o : Tree) → HasTokens bytes us → DerivesTree (atoms_of us) o (numbered us)
           → P (atoms_of us) o → P (atoms_of ts) m
       told_here P us o k d h =

@@ -1,4 +1,4 @@
--- The tokens of a source stand within it.
+-- The tokens of a source are within it.
 use Rattle.std.proofs.Common.{◌≤◌, inl, inr, ℕ, List, [], ◌∷◌, length, map, arith}
 use Rattle.pf_tokens.specs.TokenKinds.{Placed}
 use Rattle.pf_tokens.specs.Rules.{HasTokens, IsOrdered}

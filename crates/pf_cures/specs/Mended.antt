@@ -2,7 +2,7 @@
 use Rattle.std.specs.Prelude.{◌≡◌, ◌⊎◌, ◌==◌, ℕ, Bool, IsTrue, List, codes}
 use Rattle.std.specs.List.{AllZip, list_any}
 
--- what stands in place of a fault: blanks, or a function without patterns whose body is 0
+-- what is in place of a fault: blanks, or a function without patterns whose body is 0
 abbrev pub is_filler : ℕ → Bool
 is_filler b = list_any (λ c. b == c) (codes " (,_)->0")
 

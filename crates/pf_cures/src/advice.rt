@@ -22,7 +22,7 @@ const CLAUSE: Cure = Cure {
     write: "f(0) -> a;   f(_) -> b.",
 };
 
-/// The row of a form by its word, which may be one of several that are told alike.
+/// The row of a form by its word, which may be one of several that share a row.
 fn form_row(word: &[u8]) -> Cure {
     match word {
         b"ifndef" | b"else" | b"endif" | b"undef" | b"elif" => find_or(
@@ -54,7 +54,7 @@ fn form_cure(place: &Place<'_>) -> Option<Found> {
     })
 }
 
-/// What is said of a clause behind a dot.
+/// What is said of a clause after a dot.
 fn clause_cure(place: &Place<'_>) -> Option<Found> {
     let name = place.text(place.of_form(0));
     if place.at != place.form || place.text(place.of_last_form()) != name {
@@ -63,7 +63,7 @@ fn clause_cure(place: &Place<'_>) -> Option<Found> {
     found_at(place.start(place.before(1)), Some(CLAUSE))
 }
 
-/// The cure of a refusal by this code at a place, if one is known.
+/// The hint for a refusal by this code at a place, if one is known.
 fn cure(alloc: Global, place: &Place<'_>, code: Code) -> Result<Option<Found>, NoMemory> {
     let form = form_cure(place);
     match code {

@@ -32,7 +32,7 @@ pub(crate) struct Level {
     pub start: usize,
 }
 
-/// The levels in front of a place, the innermost last.
+/// The levels before a place, the innermost last.
 #[derive(Drop)]
 struct Walk<'a> {
     place: &'a Place<'a>,
@@ -118,7 +118,7 @@ impl Walk<'_> {
     }
 }
 
-/// The innermost level in front of a place, in its form.
+/// The innermost level before a place, in its form.
 pub(crate) fn innermost(alloc: Global, place: &Place<'_>) -> Result<Level, NoMemory> {
     let level = Level {
         opener: Opener::Form,

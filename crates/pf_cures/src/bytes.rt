@@ -1,4 +1,4 @@
-//! Cures of bytes that begin no token.
+//! Hints for bytes that begin no token.
 
 use crate::cure::{Cure, Found, find_or};
 use crate::modules::{
@@ -78,7 +78,7 @@ const AMPERSAND: Cure = Cure {
     write: "X > 0 andalso Y > 0",
 };
 
-/// What is said of a `:` behind the piece in front of it.
+/// What is said of a `:` after the piece before it.
 fn colon(place: &Place<'_>) -> Found {
     let front = place.before(1);
     let name = place.text(front);

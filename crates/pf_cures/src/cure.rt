@@ -29,14 +29,14 @@ pub(crate) fn find_or(table: &[Cure], word: &[u8], other: Cure) -> Cure {
     }
 }
 
-/// A cure, and where in the source its cause stands.
+/// A hint, and where in the source its cause is.
 #[derive(Clone, Copy)]
 pub(crate) struct Found {
     pub position: usize,
     pub cure: Cure,
 }
 
-/// The same for a place where there may be a cure.
+/// The same for a place where there may be a hint.
 pub(crate) fn found_at(position: usize, cure: Option<Cure>) -> Option<Found>
     ensures cure { option_map (λ f. f.cure) result ≡ cure }
     ensures place { IfSome result (λ f. f.position ≡ position) }

@@ -1,4 +1,4 @@
-//! Cures of forms that begin with a minus.
+//! Hints for forms that begin with a minus.
 
 use crate::cure::Cure;
 
@@ -97,7 +97,7 @@ pub(crate) const OTHER_FORM: Cure = Cure {
     write: "% -author(\"me\").",
 };
 
-/// An export behind a function.
+/// An export after a function.
 pub(crate) const LATE_EXPORT: Cure = Cure {
     word: "export",
     says: "Exports stand before the first function: move this form up.",

@@ -1,4 +1,4 @@
-//! Cures of calls in guards.
+//! Hints for calls in guards.
 
 use crate::cure::Cure;
 

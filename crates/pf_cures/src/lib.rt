@@ -1,4 +1,4 @@
-//! Which cure a refused source wants: the construct of Erlang that stands there and that the language lacks, with how it is written here.
+//! Which hint a refused source needs: the construct of Erlang that is there and that the language lacks, with how it is written here.
 #![tactic(auto)]
 
 mod advice;

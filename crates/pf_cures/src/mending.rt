@@ -1,4 +1,4 @@
-//! Forms of a source, and a source in which a function is mended.
+//! Forms of a source, and a source out of which a function's fault is taken.
 
 ghost use Rattle.std.specs.Prelude.{◌≡◌, ◌++◌, ◌∷◌, [], ℕ, List, IfOk, IfSome, IsTrue, length};
 ghost use Rattle.pf_cures.specs.Mended.{IsMended, is_filler};
@@ -8,7 +8,7 @@ use crate::place::Place;
 use pf_fault::{Code, NoMemory, Refusal};
 use std::alloc::Global;
 
-/// Where each form of a source ends, behind its dot; the last end is that of the source.
+/// Where each form of a source ends, after its dot; the last end is that of the source.
 pub fn form_ends(alloc: Global, source: &[u8]) -> Result<Vec<usize>, NoMemory>
     ensures { IfOk result (λ ends. (front : List ℕ) × (ends.items ≡ front ++ length source.now ∷ [])) }
 {
@@ -45,7 +45,7 @@ fn blank_byte(source: &mut Vec<u8>, at: usize)
     put(source, at, b' ');
 }
 
-/// Makes blanks of what stands from here to there; line ends stay.
+/// Makes blanks of what is from here to there; line ends stay.
 fn blank(source: &mut Vec<u8>, start: usize, end: usize)
     ensures { IsMended source.old.items source.new.items }
 {
@@ -61,7 +61,7 @@ struct Head {
     is_due: bool,
 }
 
-/// What stands in a head without its patterns, at a piece of it.
+/// What is in a head without its patterns, at a piece of it.
 fn bare_byte(head: &mut Head, byte: u8) -> Option<u8>
     ensures { IfSome result (λ b. IsTrue (is_filler b)) }
 {
@@ -89,7 +89,7 @@ fn bare_byte(head: &mut Head, byte: u8) -> Option<u8>
     if is_due { Some(b'_') } else { None }
 }
 
-/// Writes what stands at a piece of a head without its patterns, if anything does.
+/// Writes what is at a piece of a head without its patterns, if anything is.
 #[tactic(auto, using(crate::proofs::Fillers::mended_not))]
 fn put_bare(source: &mut Vec<u8>, at: usize, bare: Option<u8>)
     requires { IfSome bare (λ b. IsTrue (is_filler b)) }
@@ -173,9 +173,9 @@ fn blank_form(source: &mut Vec<u8>, form: &[Piece]) -> bool
     true
 }
 
-/// Takes a fault of names or variables out of a source: the function in which it stands keeps its name and its number of arguments, and has
+/// Takes a fault of names or variables out of a source: the function that has it keeps its name and its number of arguments, and has
 /// a body of one integer; a function that is defined twice and an export form are blanked. Nothing is done, and `false` answered, in the first form and
-/// where no form stands. The source keeps its length.
+/// where there is no form. The source keeps its length.
 #[tactic(auto, using(crate::proofs::Fillers::mended_not))]
 pub fn mend(alloc: Global, source: &mut Vec<u8>, refusal: Refusal) -> Result<bool, NoMemory>
     ensures { IsMended source.old.items source.new.items }

@@ -1,4 +1,4 @@
-//! Cures of calls of other modules.
+//! Hints for calls of other modules.
 
 use crate::cure::Cure;
 
@@ -237,7 +237,7 @@ pub(crate) const CALLED_MODULE: Cure = Cure {
     write: "case Kind of counter -> init_counter(N); queue -> init_queue(N) end",
 };
 
-/// A colon behind anything else.
+/// A colon after anything else.
 pub(crate) const COLON: Cure = Cure {
     word: ":",
     says: "A `:` stands nowhere in this language: calls have no module in front.",

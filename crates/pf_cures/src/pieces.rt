@@ -1,4 +1,4 @@
-//! A source cut into pieces, as Erlang cuts it, whatever stands in it.
+//! A source cut into pieces, as Erlang cuts it, whatever is in it.
 
 use pf_fault::NoMemory;
 use std::alloc::Global;
@@ -14,7 +14,7 @@ pub(crate) enum Kind {
     Quoted,
     /// One byte that is none of these.
     Mark,
-    /// The dot behind a form.
+    /// The dot after a form.
     Dot,
 }
 

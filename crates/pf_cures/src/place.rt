@@ -7,19 +7,19 @@ use crate::pieces::{Kind, Piece, cut};
 use pf_fault::NoMemory;
 use std::alloc::Global;
 
-/// A source in pieces, and the piece at an offset by its number; behind the last where none stands there.
+/// A source in pieces, and the piece at an offset by its number; past the last where none is there.
 #[derive(Drop)]
 pub(crate) struct Place<'a> {
     pub source: &'a [u8],
     pub offset: usize,
     pub pieces: Vec<Piece>,
     pub at: usize,
-    /// The first piece of the form, and that of the form in front of it.
+    /// The first piece of the form, and that of the form before it.
     pub form: usize,
     pub last: usize,
 }
 
-/// The number of the first piece that ends behind an offset, that of the first of its form, and that of the first of the form in front.
+/// The number of the first piece that ends after an offset, that of the first of its form, and that of the first of the form before it.
 fn find_piece(pieces: &[Piece], offset: usize) -> (usize, usize, usize) {
     let mut form = 0;
     let mut last = 0;
@@ -59,7 +59,7 @@ impl<'a> Place<'a> {
         self.source.get(offset).copied().unwrap_or(0)
     }
 
-    /// The byte in front of the offset.
+    /// The byte before the offset.
     pub(crate) fn byte_before(&self) -> u8 {
         match self.offset.checked_sub(1) {
             Some(before) => self.byte(before),
@@ -67,24 +67,24 @@ impl<'a> Place<'a> {
         }
     }
 
-    /// The byte behind the offset.
+    /// The byte after the offset.
     pub(crate) fn byte_behind(&self) -> u8 {
         self.byte(self.offset.saturating_add(1))
     }
 
-    /// Whether this stands at the offset.
+    /// Whether this is at the offset.
     pub(crate) fn has(&self, text: &str) -> bool {
         let behind = self.source.get(self.offset..).unwrap_or(&[]);
         behind.starts_with(text.as_bytes())
     }
 
-    /// The piece that stands so many in front of the one at the offset.
+    /// The piece so many before the one at the offset.
     pub(crate) fn before(&self, count: usize) -> Option<Piece> {
         let index = self.at.checked_sub(count)?;
         self.pieces.get(index).copied()
     }
 
-    /// The piece that stands so many behind the one at the offset.
+    /// The piece so many after the one at the offset.
     pub(crate) fn piece(&self, count: usize) -> Option<Piece> {
         self.pieces.get(self.at.saturating_add(count)).copied()
     }
@@ -121,12 +121,12 @@ impl<'a> Place<'a> {
         }
     }
 
-    /// The piece of the form that stands so many behind its first.
+    /// The piece of the form so many after its first.
     pub(crate) fn of_form(&self, count: usize) -> Option<Piece> {
         self.pieces.get(self.form.saturating_add(count)).copied()
     }
 
-    /// The first piece of the form in front.
+    /// The first piece of the form before it.
     pub(crate) fn of_last_form(&self) -> Option<Piece> {
         self.pieces.get(self.last).copied()
     }
@@ -136,7 +136,7 @@ impl<'a> Place<'a> {
         self.text(self.pieces.get(3).copied())
     }
 
-    /// A cure whose cause stands at the offset.
+    /// A hint whose cause is at the offset.
     pub(crate) fn here(&self, cure: Cure) -> Found
         ensures cure { result.cure ≡ cure }
         ensures place { result.position ≡ self.now.offset }

@@ -1,4 +1,4 @@
-//! Cures of tokens that no rule allows where they stand.
+//! Hints for tokens that no rule allows where they are.
 
 use crate::around::{Level, Opener, Stage};
 use crate::cure::{Cure, Found, find, find_or, found_at};
@@ -251,12 +251,12 @@ fn parenthesis(place: &Place<'_>, level: Level) -> Option<Found> {
     }
 }
 
-/// Whether a minus stands behind another, or in front of one.
+/// Whether a minus comes after another, or before one.
 fn is_second_minus(place: &Place<'_>) -> bool {
     place.has("--") || place.text(place.before(1)) == b"-".as_slice()
 }
 
-/// What is said of signs that reckon.
+/// What is said of arithmetic operators, `++` and `--`.
 fn sign(place: &Place<'_>, level: Level) -> Option<Cure> {
     let has_left = ends_operand(place, place.before(1));
     if place.has("--") && has_left {
@@ -272,7 +272,7 @@ fn sign(place: &Place<'_>, level: Level) -> Option<Cure> {
     }
 }
 
-/// What is said of signs that compare.
+/// What is said of comparison operators.
 fn comparison(place: &Place<'_>, level: Level) -> Option<Cure> {
     if !ends_operand(place, place.before(1)) {
         return None;
@@ -304,7 +304,7 @@ fn mark(place: &Place<'_>, level: Level) -> Option<Found> {
     }
 }
 
-/// Whether the piece there begins a form, or nothing stands there.
+/// Whether the piece there begins a form, or nothing is there.
 fn begins_form(place: &Place<'_>) -> bool {
     let piece = place.piece(0);
     match place.kind(piece) {

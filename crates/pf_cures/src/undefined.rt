@@ -1,4 +1,4 @@
-//! Cures of calls of functions that are built into Erlang and not into this language.
+//! Hints for calls of functions that are built into Erlang and not into this language.
 
 use crate::cure::Cure;
 

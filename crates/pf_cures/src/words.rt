@@ -1,4 +1,4 @@
-//! Cures of reserved words that no rule allows.
+//! Hints for reserved words that no rule allows.
 
 use crate::cure::Cure;
 

@@ -10,11 +10,11 @@ use Rattle.pf_explain.specs.declared.advice.Rewrite.{Rewrite}
 abbrev pub line : List ℕ → List ℕ
 line words = words ++ 10 ∷ []
 
--- the line and the column of a position, by the bytes in front of it
+-- the line and the column of a position, by the bytes before it
 abbrev pub position_text : (front : List ℕ) → List ℕ
 position_text front = codes "line " ++ decimal (line_number front) ++ codes ", column " ++ decimal (column front)
 
--- what stands in the source, in an example, and what is written in its place
+-- what is in the source, in an example, and what is written in its place
 abbrev pub rewrite_text : Option Rewrite → List ℕ
 rewrite_text None = []
 rewrite_text (Some r) = line (codes "  instead of  " ++ r.instead.now) ++ line (codes "  write       " ++ r.write.now)
@@ -27,7 +27,7 @@ explanation source a =
     let behind = drop a.position source in
     line (position_text front) ++ line (shown_line front behind) ++ line (caret_line front) ++ line a.sentence.now ++ rewrite_text a.rewrite
 
--- of several things that are said of a source: the first, and each other one behind an empty line
+-- of several things that are said of a source: the first, and each other one after an empty line
 abbrev pub explanations : (source : List ℕ) → List Advice → List ℕ
 explanations source [] = []
 explanations source (a ∷ others) = explanation source a ++ flat_map (λ b. line [] ++ explanation source b) others

@@ -1,4 +1,4 @@
--- Where a position of a source stands, by the bytes in front of it and those from it on.
+-- Where a position of a source is, by the bytes before it and those from it on.
 use Rattle.std.specs.Prelude.{ℕ, ◌+◌, ◌==◌, ◌&&◌, nat_lt, Bool, not, List, length, count_by}
 use Rattle.std.specs.List.{after_last, before_first}
 
@@ -17,11 +17,11 @@ begins byte = not (goes_on byte)
 abbrev pub columns : List ℕ → ℕ
 columns bytes = count_by begins bytes
 
--- the line of a position: 1 and the newlines in front of it
+-- the line of a position: 1 and the newlines before it
 abbrev pub line_number : List ℕ → ℕ
 line_number front = 1 + count_by is_newline front
 
--- what stands in front of it on its line: the bytes since the last newline
+-- what is before it on its line: the bytes since the last newline
 abbrev pub since_newline : List ℕ → List ℕ
 since_newline front = after_last is_newline front
 

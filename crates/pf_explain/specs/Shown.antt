@@ -36,10 +36,10 @@ nearest before = drop (length before - MOST_SHOWN) before
 abbrev pub farthest : List ℕ → List ℕ
 farthest behind = take MOST_SHOWN behind
 
--- the line around a position, by the bytes in front of the position and those from it on
+-- the line around a position, by the bytes before the position and those from it on
 abbrev pub shown_line : (front behind : List ℕ) → List ℕ
 shown_line front behind = shown (nearest (since_newline front)) ++ shown (farthest (up_to_newline behind))
 
--- a caret in the column of the position, behind as many blanks as the bytes that are shown in front of it have columns
+-- a caret in the column of the position, after as many blanks as the bytes that are shown before the position have columns
 abbrev pub caret_line : (front : List ℕ) → List ℕ
 caret_line front = replicate (columns (nearest (since_newline front))) 32 ++ codes "^"

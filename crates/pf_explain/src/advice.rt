@@ -6,14 +6,14 @@ ghost use Rattle.pf_explain.specs.Sentences.{IsPlain};
 use crate::sentences::sentence;
 use pf_fault::Refusal;
 
-/// An example of what stands in a source, and of what is written in its place.
+/// An example of what is in a source, and of what is written in its place.
 #[derive(Drop, Clone, Copy)]
 pub struct Rewrite {
     pub instead: &'static str,
     pub write: &'static str,
 }
 
-/// What is said of a refusal: where its cause stands in the source, what is wrong and how it is mended.
+/// What is said of a refusal: where its cause is in the source, what is wrong and how it is fixed.
 #[derive(Drop, Clone, Copy)]
 pub struct Advice {
     pub position: usize,
@@ -21,7 +21,7 @@ pub struct Advice {
     pub rewrite: Option<Rewrite>,
 }
 
-/// What is said where no more is known than the code: its sentence, at the offset.
+/// What is said where only the code is known: its sentence, at the offset.
 pub fn plain(refusal: Refusal) -> Advice
     ensures { IsPlain refusal.code refusal.offset result }
 {

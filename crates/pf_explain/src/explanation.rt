@@ -10,7 +10,7 @@ use crate::shown::{farthest, nearest, put_blanks, put_shown};
 use pf_fault::NoMemory;
 use std::alloc::Global;
 
-/// Puts the line and the column of a position, by the bytes in front of it.
+/// Puts the line and the column of a position, by the bytes before it.
 fn put_position(alloc: Global, out: &mut Vec<u8>, front: &[u8]) -> Result<(), NoMemory>
     ensures { OnOk result (out.new.items ≡ out.old.items ++ line (position_text front.now)) }
 {
@@ -49,7 +49,7 @@ fn put_sentence(out: &mut Vec<u8>, sentence: &str) -> Result<(), NoMemory>
     Ok(())
 }
 
-/// Puts words on a line of their own, behind others.
+/// Puts words on a line of their own, after others.
 fn put_behind(out: &mut Vec<u8>, front: &[u8], words: &str) -> Result<(), NoMemory>
     ensures { OnOk result (out.new.items ≡ out.old.items ++ line (front.now ++ words.now)) }
 {
@@ -110,7 +110,7 @@ pub fn put_explanation(
     Ok(())
 }
 
-/// Puts what else is said of a source, each behind an empty line.
+/// Puts what else is said of a source, each after an empty line.
 fn put_others(
     alloc: Global,
     out: &mut Vec<u8>,

@@ -1,4 +1,4 @@
-//! What is wrong with a source that is refused: where, in which line, and how to mend it.
+//! What is wrong with a source that is refused: where, in which line, and how to fix it.
 #![tactic(auto)]
 
 mod advice;

@@ -1,4 +1,4 @@
-//! Where a position stands: the line and the column, and the rest of its line.
+//! Where a position is: the line and the column, and the rest of its line.
 
 ghost use Rattle.std.specs.Prelude.{◌≡◌, ◌≤◌, length, count_by};
 ghost use Rattle.pf_explain.specs.Positions.{begins, column, columns, goes_on, is_newline, line_number, since_newline, up_to_newline};
@@ -24,7 +24,7 @@ pub(crate) fn columns(bytes: &[u8]) -> usize
     count
 }
 
-/// How many newlines stand there.
+/// How many newlines there are.
 fn newlines(bytes: &[u8]) -> usize
     ensures count { result ≡ count_by is_newline bytes.now }
     ensures bound { result ≤ length bytes.now }
@@ -60,14 +60,14 @@ pub(crate) fn up_to_newline(behind: &[u8]) -> &[u8]
     &behind[..end]
 }
 
-/// The number of the line behind these bytes, from 1.
+/// The number of the line after these bytes, from 1.
 pub(crate) fn line_number(front: &[u8]) -> usize
     ensures { result ≡ line_number front.now }
 {
     1 + newlines(front)
 }
 
-/// The number of the column behind these bytes, from 1.
+/// The number of the column after these bytes, from 1.
 pub(crate) fn column(front: &[u8]) -> usize
     ensures { result ≡ column front.now }
 {

@@ -6,10 +6,10 @@ ghost use Rattle.pf_explain.specs.Shown.{farthest, leads, nearest, shown, shown_
 use crate::position::goes_on;
 use pf_fault::NoMemory;
 
-/// The most bytes of a line that are shown in front of a position, and from the position on.
+/// The most bytes of a line that are shown before a position, and from the position on.
 pub const MOST_SHOWN: usize = 100;
 
-/// Whether a byte is the first of the two of a letter in UTF-8, from À on. What stands before that could control a terminal.
+/// Whether a byte is the first of the two of a letter in UTF-8, from À on. What comes before that could control a terminal.
 fn leads(byte: u8) -> bool
     ensures { result ≡ leads byte }
 {
@@ -55,7 +55,7 @@ fn byte_at(bytes: &[u8], at: usize) -> u8
     bytes.get(at).copied().unwrap_or(0)
 }
 
-/// The bytes in front of a position that are shown, the last ones.
+/// The bytes before a position that are shown, the last ones.
 pub(crate) fn nearest(before: &[u8]) -> &[u8]
     ensures { result.now ≡ nearest before.now }
 {

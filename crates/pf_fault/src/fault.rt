@@ -5,7 +5,7 @@ use std::alloc::{AllocError, AllocFailed};
 use std::error::Error;
 use std::fmt;
 
-/// A growth was refused, or this fault stopped the call. It prints as the one or the other.
+/// An allocation failed, or this fault stopped the call. It prints as the one or the other.
 #[derive(Clone, Copy, Debug, PartialEq, Eq, Drop)]
 pub enum OrNoMemory<E> {
     NoMemory,

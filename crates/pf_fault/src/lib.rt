@@ -1,4 +1,4 @@
-//! What stops a call: a growth that was refused, or a refusal with its code.
+//! What stops a call: a failed allocation, or a refusal with its code.
 #![tactic(auto)]
 
 mod code;

@@ -1,4 +1,4 @@
--- What is told of a source that is refused.
+-- What is reported of a source that is refused.
 use Rattle.std.specs.Prelude.{◌≡◌, ◌+◌, ◌-◌, ℕ, List, ◌∷◌, ◌++◌, length, min, take, drop}
 use Rattle.std.specs.List.{All}
 use Rattle.pf_fault.specs.declared.code.Code.{Code}
@@ -24,7 +24,7 @@ pub data IsFault (source : List ℕ) : Code → (offset : ℕ) → Type 0 where
 abbrev pub IsOfFault : (source : List ℕ) → Advice → Type 0
 IsOfFault source a = (code : Code) × (offset : ℕ) × IsFault source code offset × IsAdvice source code offset a
 
--- the refusal is told, by what is said of it, between other faults in front and behind
+-- the refusal is reported, by what is said of it, between other faults before and after it
 abbrev pub Tells : (source : List ℕ) → Code → (offset : ℕ) → List Advice → Type 0
 Tells source code offset told =
     (front : List Advice) × (a : Advice) × (behind : List Advice) × IsAdvice source code offset a × All (IsOfFault source) front × All (IsOfFault source) behind

@@ -8,7 +8,7 @@ use pf_check::read;
 use pf_fault::{Code, NoMemory, OrNoMemory, Refusal};
 use std::alloc::Global;
 
-/// What stands in front of a form that is read by itself.
+/// What comes before a form that is read by itself.
 const HEAD: &str = "-module(m).\n";
 
 /// Whether a refusal is one of the tokens or the grammar of one form.
@@ -46,7 +46,7 @@ fn part_of(source: &[u8], start: usize, end: usize) -> &[u8]
     part
 }
 
-/// A part of a source, behind a head of a module.
+/// A part of a source, after a head of a module.
 fn behind_head(alloc: Global, source: &[u8], start: usize, end: usize) -> Result<Vec<u8>, NoMemory>
     ensures { IfOk result (λ v. v.items ≡ HEAD.now ++ part_of source.now start end) }
 {

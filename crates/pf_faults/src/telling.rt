@@ -1,4 +1,4 @@
-//! The faults of a source that are told, in the order of the text.
+//! The faults of a source that are reported, in the order of the text.
 
 ghost use Rattle.std.specs.Prelude.{IfOk, IfSome, OnOk};
 ghost use Rattle.std.specs.List.{All};
@@ -12,7 +12,7 @@ use pf_explain::Advice;
 use pf_fault::{NoMemory, Refusal};
 use std::alloc::Global;
 
-/// The most faults of a source that are told.
+/// The most faults of a source that are reported.
 pub const MOST_TOLD: usize = 20;
 
 /// What is said of a fault.
@@ -58,7 +58,7 @@ fn fault_of_form(
     }
 }
 
-/// What is told of each form between these ends that is refused by itself, of so many at most; the first begins at `start`.
+/// What is reported of each form between these ends that is refused by itself, of so many at most; the first begins at `start`.
 fn told_of_forms(
     alloc: Global,
     source: &[u8],
@@ -97,7 +97,7 @@ fn next_fault(
     first_refusal(alloc, mended, false)
 }
 
-/// What is told of the faults of names and variables that are left once each that is told was mended, after the first.
+/// What is reported of the faults of names and variables that are left once each reported one was taken out, after the first.
 fn told_of_mended(alloc: Global, source: &[u8], first: Refusal) -> Result<Vec<Advice>, NoMemory>
     ensures { IfOk result (λ told. All (IsOfFault source.now) told.items) }
 {
@@ -111,13 +111,13 @@ fn told_of_mended(alloc: Global, source: &[u8], first: Refusal) -> Result<Vec<Ad
     Ok(told)
 }
 
-/// The number of the form in which an offset stands.
+/// The number of the form in which an offset is.
 fn form_of(ends: &[usize], offset: usize) -> usize {
     let last = ends.len().saturating_sub(1);
     ends.iter().position(|end| offset < *end).unwrap_or(last)
 }
 
-/// What is told in front of a refusal by tokens or grammar, which stands in the form of this number.
+/// What is reported before a refusal by tokens or grammar, which is in the form of this number.
 fn front(alloc: Global, source: &[u8], ends: &[usize], form: usize) -> Result<Vec<Advice>, NoMemory>
     ensures { IfOk result (λ told. All (IsOfFault source.now) told.items) }
 {
@@ -126,7 +126,7 @@ fn front(alloc: Global, source: &[u8], ends: &[usize], form: usize) -> Result<Ve
     told_of_forms(alloc, source, start, forms, MOST_TOLD - 1)
 }
 
-/// What is told behind a refusal, in front of which so many were told.
+/// What is reported after a refusal, before which so many were reported.
 fn behind(
     alloc: Global,
     source: &[u8],
@@ -145,7 +145,7 @@ fn behind(
     told_of_forms(alloc, source, start, forms, MOST_TOLD.saturating_sub(told))
 }
 
-/// What is told of a source with this first refusal: of one by tokens or grammar, that and one of each other form that is refused by
+/// What is reported of a source with this first refusal: of one by tokens or grammar, that and one of each other form that is refused by
 /// itself; of one by names or variables, that and the others of its kind, one of each form. All in the order of the text.
 pub fn faults(alloc: Global, source: &[u8], refusal: Refusal) -> Result<Vec<Advice>, NoMemory>
     ensures { IfOk result (λ told. Tells source.now refusal.code refusal.offset told.items) }

@@ -1,4 +1,4 @@
--- Each expression and each element that derives tokens and is no deeper than the limit is read, where what stands behind it ends it.
+-- Each expression and each element that derives tokens and is no deeper than the limit is read, where what follows it ends it.
 use Rattle.std.proofs.Common.{◌≡◌, ℕ, zero, suc, ◌-◌, ◌≤◌, ◌<◌, List, ◌∷◌, ◌++◌, length, Bool, false, Option, Some, None, refl, sym, ap, ◌∙◌, arith, append_assoc}
 use Rattle.std.proofs.lemmas.Bool.{le-leb}
 use Rattle.std.proofs.lemmas.List.{length-append}

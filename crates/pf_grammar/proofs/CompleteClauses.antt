@@ -127,7 +127,7 @@ module _ (n : Names) (d : ℕ) (parse_exprs : ExpressionsRead n d) (elements : E
       let es = body_complete n d elements c.1 h.2 rest h.6 ends in
       ap (clause (readers n d) choice) regroup ∙ rw (one, arrow, es) refl
 
-  -- clauses, and the `end` behind them
+  -- clauses, and the `end` after them
   pub branches_complete : (choice : Bool) (bs : Branches) (front rest : List NumberedToken) (t : NumberedToken) → t.kind ≡ reserved words.End → DerivesBranches n choice bs front → branches_depth bs ≤ d → branches (readers n d) choice (front ++ t ∷ rest) ≡ Some (bs, rest)
   branches_complete choice bs front rest t e h le =
       let behind = t ∷ rest in

@@ -28,7 +28,7 @@ closes_parenthesis = record { plain = refl; no_comma = refl; no_start = refl; no
 closes_brace : Closes marks.CloseBrace
 closes_brace = record { plain = refl; no_comma = refl; no_start = refl; no_infix = refl; no_call = refl }
 
--- a word, what stands behind it, and `end`
+-- a word, what follows it, and `end`
 between_regroup : (first last : NumberedKind) (P : List NumberedToken → Type 0) (front rest : List NumberedToken) (h : Between first last P front) → front ++ rest ≡ h.0 ∷ (h.4.0 ++ h.4.1 ∷ rest)
 between_regroup first last P front rest h =
     let b = h.4 in

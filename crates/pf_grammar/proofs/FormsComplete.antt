@@ -100,7 +100,7 @@ entries_to n [] ts h = h
 entries_to n (e ∷ []) ts h = h
 entries_to n (e ∷ f ∷ es) ts h = (h.0, h.1, h.2, h.3, h.4, h.5, entries_to n (f ∷ es) h.2 h.6)
 
--- what stands behind the minus of an export form
+-- what follows the minus of an export form
 tail_of : (n : Names) (es : List Export) (front : List NumberedToken) → DerivesExport n es front → List NumberedToken
 tail_of n es front d = d.word ∷ (d.more ++ d.last ∷ [])
 

@@ -126,7 +126,7 @@ guard_to n d (tests es (tests fs c)) ts h le =
 
 -- ---- clauses
 
--- what stands before the arrow of a clause, no deeper than this
+-- what is before the arrow of a clause, no deeper than this
 abbrev pub FitsFront : Names → Bool → ℕ → Front → List NumberedToken → Type 0
 FitsFront n choice d f ts = FrontIs choice f.0 f.1 (DerivesExprPattern n f.0) (DerivesGuard n f.1) ts × (expr_pattern_depth f.0 ≤ d) × (condition_depth f.1 ≤ d)
 
@@ -138,7 +138,7 @@ pub clause_list : Branches → List Clause
 clause_list no_branches = []
 clause_list (branch q c es bs) = ((q, c), expr_list es) ∷ clause_list bs
 
--- one clause, by what stands before the arrow and its body
+-- one clause, by what is before the arrow and its body
 clause_from : (n : Names) (choice : Bool) (d : ℕ) (c : Clause) (ts : List NumberedToken) → FitsClause n choice d c ts → Apart (mark marks.Arrow) (FrontIs choice c.0.0 c.0.1 (DerivesExprPattern n c.0.0) (DerivesGuard n c.0.1)) (DerivesBody n (exprs_of c.1)) ts
     × (max (expr_pattern_depth c.0.0) (max (condition_depth c.0.1) (exprs_depth (exprs_of c.1))) ≤ d)
 clause_from n choice d c ts h =

@@ -19,7 +19,7 @@ pub record Took (P : List NumberedToken → Type 0) (ts rest : List NumberedToke
 abbrev pub SoundFor : {A : Type 0} → Parse A → (A → List NumberedToken → Type 0) → Type 0
 SoundFor {A = A} p P = (ts : List NumberedToken) (x : A × List NumberedToken) → p ts ≡ Some x → Took (P x.0) ts x.1
 
--- what derives a front is read, where what stands behind it ends it
+-- what derives a front is read, where what follows it ends it
 abbrev pub CompleteFor : {A : Type 0} → Parse A → (A → List NumberedToken → Type 0) → (List NumberedToken → Type 0) → Type 0
 CompleteFor {A = A} p P Ends = (x : A) (front rest : List NumberedToken) → P x front → Ends rest → p (front ++ rest) ≡ Some (x, rest)
 
@@ -31,7 +31,7 @@ Any rest = Unit {0}
 pub took_is : {A : Type 0} (P : A → List NumberedToken → Type 0) (ts : List NumberedToken) (y x : A × List NumberedToken) → Some y ≡ Some x → Took (P y.0) ts y.1 → Took (P x.0) ts x.1
 took_is P ts y x e t = subst (λ (z : _ × List NumberedToken). Took (P z.0) ts z.1) (some_is y x e) t
 
--- two parts that stand one after the other
+-- two parts, one after the other
 pub grow : (ts front r c rest : List NumberedToken) → ts ≡ front ++ r → r ≡ c ++ rest → ts ≡ (front ++ c) ++ rest
 grow ts front r c rest e f = e ∙ ap (λ (l : List NumberedToken). front ++ l) f ∙ sym (append_assoc front c rest)
 
@@ -108,7 +108,7 @@ module _ (A : Type 0) (s : NumberedKind) (P : A → List NumberedToken → Type 
 
 -- ---- items with commas up to a closing kind of token
 
--- items with commas, or none, and this kind of token behind them
+-- items with commas, or none, and this kind of token after them
 abbrev pub Closed : {A : Type 0} → NumberedKind → (A → List NumberedToken → Type 0) → List A → List NumberedToken → Type 0
 Closed last P xs = Before last (Separated (mark marks.Comma) P xs)
 

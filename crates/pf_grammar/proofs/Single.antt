@@ -1,4 +1,4 @@
--- Single tokens: what a reader that answered has seen, and what it answers where such a token stands.
+-- Single tokens: what a reader that answered has seen, and what it answers where there is such a token.
 use Rattle.std.proofs.Common.{◌≡◌, ℕ, suc, ◌+◌, ◌≤◌, ◌<◌, List, [], ◌∷◌, length, Bool, true, false, cond, ◌&&◌, Option, Some, None, refl, sym, ap, subst, ◌∙◌, arith, inl, inr}
 use Rattle.std.specs.Prelude.{nat_eq, nat_le, slice_index_or, IsTrue}
 use Rattle.std.specs.Str.{bytes_eq}
@@ -145,7 +145,7 @@ is_same (reserved r) (reserved q) e = ap reserved (sym (same_word r q e))
 is_same dot dot e = refl
 is_same _ _ e = absurd cc
 
--- ---- a kind of token that stands first
+-- ---- a kind of token that comes first
 
 -- the kind of token separates or closes: a mark, a reserved word or the dot
 abbrev pub Plain : NumberedKind → Type 0
@@ -224,7 +224,7 @@ word_is n bytes t ts h =
     let same : bytes_eq (name_of n.atoms h.0) bytes ≡ true = (bytes_eq-Decides _ _).1 h.2 in
     rw (e, same) refl
 
--- a kind of token that stands here is no other one
+-- a kind of token that is here is no other one
 pub differs : (s k : NumberedKind) (t : NumberedToken) → t.kind ≡ k → is s k ≡ false → is s t.kind ≡ false
 differs s k t e h = rw (e, h) refl
 
@@ -364,7 +364,7 @@ infix_differs s k i e f = no_same (is s k) refl
 pub infix_after : (s : NumberedKind) (i : Infix) (t : NumberedToken) (ts : List NumberedToken) → infix_of t.kind ≡ Some i → infix_of s ≡ None → after s (t ∷ ts) ≡ None
 infix_after s i t ts e f = after_other s t ts (infix_differs s t.kind i e f)
 
--- ---- an infix that stands first
+-- ---- an infix that comes first
 
 pub infix_some : (guard : Bool) (floor level : ℕ) (ts : List NumberedToken) (x : Infix × List NumberedToken) → infix_ahead guard floor level ts ≡ Some x
     → (t : NumberedToken) × (infix_of t.kind ≡ Some x.0) × (ts ≡ t ∷ x.1) × IsTrue (infix_stands guard x.0) × (floor ≤ left_level x.0) × (level_of x.0 ≤ level)

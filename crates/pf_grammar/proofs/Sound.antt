@@ -181,7 +181,7 @@ arity_is [] = refl
 arity_is (e ∷ es) = let more = arity_is es in omega (arith, more)
 
 module _ (n : Names) (g : Bool) (d : ℕ) (r : Readers) (reads : Reads n d r) (inner : Parse Expr) (inner_sound : SoundFor inner (Fits n g top d)) where
-  -- what is read behind the first token
+  -- what is read after the first token
   abbrev PartBehind : NumberedToken → List NumberedToken → Expr × List NumberedToken → Type 0
   PartBehind t ts x = Took (Fits n g 0 (suc d) x.0) (t ∷ ts) x.1
 

@@ -17,12 +17,12 @@ use Rattle.pf_grammar.proofs.Sound.{up}
 
 -- ---- what ends an expression
 
--- the infix that stands first
+-- the infix that comes first
 abbrev pub infix_first : List NumberedToken → Option Infix
 infix_first [] = None
 infix_first (t ∷ ts) = infix_of t.kind
 
--- an infix that stands first and may stand binds less tightly than this level; and no `(` stands first
+-- an infix that comes first and is allowed binds less tightly than this level; and no `(` comes first
 pub record Stops (g : Bool) (level : ℕ) (rest : List NumberedToken) : Type 0 where
   pub no_infix : (i : Infix) → infix_first rest ≡ Some i → IsTrue (infix_stands g i) → level < level_of i
   pub no_call : after (mark marks.OpenParenthesis) rest ≡ None

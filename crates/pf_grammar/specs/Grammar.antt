@@ -20,17 +20,17 @@ pub record Names : Type 0 where
   pub atoms : List (List ℕ)
   pub own : ℕ
 
--- ---- how tokens stand together
+-- ---- how tokens go together
 
 -- the tokens are one, of this kind of token
 abbrev pub IsOne : NumberedKind → List NumberedToken → Type 0
 IsOne s ts = (t : NumberedToken) × (t.kind ≡ s) × (ts ≡ t ∷ [])
 
--- the tokens are one of this kind of token and a part behind it
+-- the tokens are one of this kind of token and a part after it
 abbrev pub Behind : NumberedKind → (List NumberedToken → Type 0) → List NumberedToken → Type 0
 Behind s P ts = (t : NumberedToken) × (more : List NumberedToken) × (t.kind ≡ s) × (ts ≡ t ∷ more) × P more
 
--- the tokens are a part and one of this kind of token behind it
+-- the tokens are a part and one of this kind of token after it
 abbrev pub Before : NumberedKind → (List NumberedToken → Type 0) → List NumberedToken → Type 0
 Before s P ts = (front : List NumberedToken) × (t : NumberedToken) × (t.kind ≡ s) × (ts ≡ front ++ t ∷ []) × P front
 
@@ -58,7 +58,7 @@ IsWord n bytes t = (a : ℕ) × (t.kind ≡ atom a) × (name_of n.atoms a ≡ by
 
 -- ---- operators
 
--- what stands between two operands
+-- what is between two operands
 pub data Infix : Type 0 where
   operator : Operator → Infix
   and_also : Infix
@@ -92,7 +92,7 @@ pub data Grouping : Type 0 where
   rightwards : Grouping
   alone : Grouping
 
--- how tightly an infix binds, and how it groups. Level 0 is a part that no infix opens, and 1 such a part behind a minus
+-- how tightly an infix binds, and how it groups. Level 0 is a part that no infix opens, and 1 such a part after a minus
 pub record Binding : Type 0 where
   pub level : ℕ
   pub grouping : Grouping
@@ -143,7 +143,7 @@ left_level i = left_in (binding_of i).grouping (level_of i)
 abbrev pub right_level : Infix → ℕ
 right_level i = right_in (binding_of i).grouping (level_of i)
 
--- whether the infix may stand, in a guard where the flag says so
+-- whether the infix is allowed, in a guard where the flag says so
 abbrev pub infix_stands : Bool → Infix → Bool
 infix_stands guard (operator append) = may_stand guard appending
 infix_stands guard send = may_stand guard sending
@@ -153,7 +153,7 @@ infix_stands guard _ = true
 abbrev pub Operands : (ℕ → List NumberedToken → Type 0) → (ℕ → List NumberedToken → Type 0) → Infix → List NumberedToken → Type 0
 Operands P Q i ts = (xs : List NumberedToken) × (t : NumberedToken) × (ys : List NumberedToken) × (infix_of t.kind ≡ Some i) × (ts ≡ xs ++ t ∷ ys) × P (left_level i) xs × Q (right_level i) ys
 
--- the same, where the infix may stand and an expression of this level may have it
+-- the same, where the infix is allowed and an expression of this level may have it
 abbrev pub Joined : Bool → Infix → ℕ → (ℕ → List NumberedToken → Type 0) → (ℕ → List NumberedToken → Type 0) → List NumberedToken → Type 0
 Joined guard i level P Q ts = (level_of i ≤ level) × IsTrue (infix_stands guard i) × Operands P Q i ts
 
@@ -203,7 +203,7 @@ abbrev mutual
 
 -- ---- expressions
 
--- whether a call of this name with this number of arguments may stand: in a guard, of a pure built-in function alone
+-- whether a call of this name with this number of arguments is allowed: in a guard, of a pure built-in function alone
 abbrev pub named_stands : Option Builtin → Bool
 named_stands None = false
 named_stands (Some b) = may_stand true (calling b)
@@ -216,7 +216,7 @@ call_stands n true f arity = named_stands (builtin_named (name_of n.atoms f) ari
 abbrev pub Guarded : Condition → (List NumberedToken → Type 0) → List NumberedToken → Type 0
 Guarded c G ts = ((c ≡ unguarded) × (ts ≡ [])) ⊎ Behind (reserved words.When) G ts
 
--- what stands before the arrow of a clause: its pattern, with its guard or none; in an `if`, where the flag says so, its guard alone
+-- what is before the arrow of a clause: its pattern, with its guard or none; in an `if`, where the flag says so, its guard alone
 abbrev pub FrontIs : Bool → ExprPattern → Condition → (List NumberedToken → Type 0) → (List NumberedToken → Type 0) → List NumberedToken → Type 0
 FrontIs false q c P G ts = Together P (Guarded c G) ts
 FrontIs true q c P G ts = (q ≡ s.anything) × G ts
@@ -303,7 +303,7 @@ DerivesHeads n (h ∷ k ∷ hs) ts = Apart (mark marks.Semicolon) (DerivesHead n
 abbrev pub DerivesFunction : Names → List Head → List NumberedToken → Type 0
 DerivesFunction n hs ts = Before dot (DerivesHeads n hs) ts
 
--- functions, one behind the other
+-- functions, one after the other
 abbrev pub DerivesFunctions : Names → List (List Head) → List NumberedToken → Type 0
 DerivesFunctions n [] ts = ts ≡ []
 DerivesFunctions n (f ∷ fs) ts = Together (DerivesFunction n f) (DerivesFunctions n fs) ts
@@ -339,14 +339,14 @@ pub record DerivesExport (n : Names) (es : List Export) (ts : List NumberedToken
   pub last_is : last.kind ≡ dot
   pub entries : Between (mark marks.OpenParenthesis) (mark marks.CloseParenthesis) (Between (mark marks.OpenBracket) (mark marks.CloseBracket) (DerivesEntries n es)) more
 
--- export forms, one behind the other, each with its entries
+-- export forms, one after the other, each with its entries
 abbrev pub DerivesExports : Names → List (List Export) → List NumberedToken → Type 0
 DerivesExports n [] ts = ts ≡ []
 DerivesExports n (es ∷ forms) ts = Together (DerivesExport n es) (DerivesExports n forms) ts
 
 -- ---- modules
 
--- the first form, `-module(Atom).`, with what stands behind it
+-- the first form, `-module(Atom).`, with what follows it
 pub record Begins (atoms : List (List ℕ)) (name : ℕ) (rest ts : List NumberedToken) : Type 0 where
   pub minus : NumberedToken
   pub word : NumberedToken

@@ -91,7 +91,7 @@ is (reserved r) (reserved q) = nat_eq (reserved_code r) (reserved_code q)
 is dot dot = true
 is _ _ = false
 
--- what follows a kind of token, where it stands first
+-- what follows a kind of token, where it comes first
 abbrev pub after : NumberedKind → List NumberedToken → Option (List NumberedToken)
 after s [] = None
 after s (t ∷ ts) = if is s t.kind then Some ts else None
@@ -107,7 +107,7 @@ abbrev pub named : Names → List NumberedToken → Option ((ℕ × ℕ) × List
 named n [] = None
 named n (t ∷ ts) = atom_in n t.kind >>= λ a. Some ((a, t.at), ts)
 
--- an integer that stands first
+-- an integer that comes first
 abbrev pub number_kind : NumberedKind → List NumberedToken → Option (ℕ × List NumberedToken)
 number_kind (integer k) ts = Some (k, ts)
 number_kind _ ts = None
@@ -152,7 +152,7 @@ abbrev pub exprs_of : List Expr → Exprs
 exprs_of [] = no_exprs
 exprs_of (e ∷ es) = expr e (exprs_of es)
 
--- items with commas between them, between brackets whose first one is read: with a bar and a last item behind them, or without
+-- items with commas between them, between brackets whose first one is read: with a bar and a last item after them, or without
 abbrev pub Listed : Type 0 → Type 0
 Listed A = List A × Option A
 
@@ -177,7 +177,7 @@ atom_expr_pattern (Some a) ts = Some (s.atom a, ts)
 abbrev pub is_short : List ℕ → Bool
 is_short cs = nat_le (length cs) MOST_TEXT_CHARACTERS
 
--- an integer behind a minus
+-- an integer after a minus
 abbrev pub negative : List NumberedToken → Option (ExprPattern × List NumberedToken)
 negative ts = number ts >>= λ k. Some (s.integer (neg_ℤ (pos k.0)), k.1)
 
@@ -216,7 +216,7 @@ pattern n (suc d) ts = pattern_with n (pattern n d) ts
 
 -- ---- infixes and their operands
 
--- the infix that stands first, where it may stand, a left operand of the level `floor` may have it, and it is of at most this level;
+-- the infix that comes first, where it is allowed, a left operand of the level `floor` may have it, and it is of at most this level;
 -- and what follows it
 abbrev pub infix_fits : Bool → ℕ → ℕ → Infix → Bool
 infix_fits guard floor level i = infix_stands guard i && nat_le floor (left_level i) && nat_le (level_of i) level
@@ -235,7 +235,7 @@ joined send a b = p.send a b
 abbrev pub within : ℕ → Expr → List NumberedToken → Option (Expr × List NumberedToken)
 within limit e ts = if nat_le (expr_depth e) limit then Some (e, ts) else None
 
--- Behind a left operand: infixes of at most this level, each with its right operand, which `deeper` reads. What has been read is the
+-- After a left operand: infixes of at most this level, each with its right operand, which `deeper` reads. What has been read is the
 -- left operand of the next infix; `floor` is its level. The number of tokens bounds the turns
 abbrev pub more_step : (ℕ → Parse Expr) → ℕ → (ℕ → Expr → Parse Expr) → Expr → List NumberedToken → Option (Infix × List NumberedToken) → Option (Expr × List NumberedToken)
 more_step deeper limit go left ts None = Some (left, ts)
@@ -247,7 +247,7 @@ more deeper guard limit level zero floor left ts = Some (left, ts)
 more deeper guard limit level (suc turns) floor left ts =
     more_step deeper limit (more deeper guard limit level turns) left ts (infix_ahead guard floor level ts)
 
--- a part, behind a minus or not
+-- a part, after a minus or not
 abbrev pub unary_step : Parse Expr → ℕ → List NumberedToken → Option (List NumberedToken) → Option (Expr × List NumberedToken)
 unary_step prim limit ts None = prim ts
 unary_step prim limit ts (Some rest) = prim rest >>= λ x. within limit (p.negate x.0) x.1
@@ -285,7 +285,7 @@ pub record Readers : Type 0 where
   pub tests : Parse Expr
   pub elements : Parse Expr
 
--- what stands before the arrow of a clause: in an `if`, where the flag says so, a guard alone
+-- what is before the arrow of a clause: in an `if`, where the flag says so, a guard alone
 abbrev pub Front : Type 0
 Front = ExprPattern × Condition
 
@@ -440,7 +440,7 @@ entry n ts = do
   arity ← number ts1
   Some (record { name = name.0.0; arity = arity.0; offset = name.0.1 }, arity.1)
 
--- what stands behind the minus of an export form
+-- what follows the minus of an export form
 abbrev pub export : Names → Parse (List Export)
 export n ts = do
   ts1 ← word n.atoms (codes "export") ts
@@ -462,7 +462,7 @@ exports n (suc turns) ts = exports_step (exports n turns) n ts (after (mark mark
 
 -- ---- modules
 
--- the atom that stands first, of any length
+-- the atom that comes first, of any length
 abbrev pub atom_kind : NumberedKind → List NumberedToken → Option (ℕ × List NumberedToken)
 atom_kind (atom a) ts = Some (a, ts)
 atom_kind _ ts = None
@@ -471,7 +471,7 @@ abbrev pub any_atom : Parse ℕ
 any_atom [] = None
 any_atom (t ∷ ts) = atom_kind t.kind ts
 
--- the first form: the module's name, and what stands behind it
+-- the first form: the module's name, and what follows it
 abbrev pub begins : List (List ℕ) → Parse ℕ
 begins atoms ts = do
   ts1 ← after (mark marks.Minus) ts
@@ -482,7 +482,7 @@ begins atoms ts = do
   rest ← after dot ts4
   Some (name.0, rest)
 
--- what stands behind the first form
+-- what follows the first form
 abbrev pub behind : List (List ℕ) → ℕ → List NumberedToken → Option Tree
 behind atoms name ts = do
   es ← exports (record { atoms = atoms; own = name }) (length ts) ts

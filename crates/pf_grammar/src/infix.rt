@@ -1,4 +1,4 @@
-//! Infixes: what stands between two operands (Erlang Reference Manual, "Operator Precedence").
+//! Infixes: what is between two operands (Erlang Reference Manual, "Operator Precedence").
 
 ghost use Rattle.std.specs.Prelude.{◌≡◌, option_map};
 ghost use Rattle.pf_grammar.specs.Grammar.{binding_of, infix_of, infix_stands, left_level, level_of, right_level};
@@ -12,7 +12,7 @@ use pf_intern::NumberedKind;
 use pf_syntax::Operator;
 use pf_tokens::{Mark, Reserved};
 
-/// What stands between two operands.
+/// What is between two operands.
 #[derive(Clone, Copy, Debug, PartialEq, Eq)]
 pub enum Infix {
     Operator(Operator),
@@ -79,7 +79,7 @@ fn binds(level: u32, grouping: Grouping) -> Binding
 }
 
 impl Infix {
-    /// How tightly it binds, and how it groups. Level 1 is a part behind a minus or not.
+    /// How tightly it binds, and how it groups. Level 1 is a part after a minus or not.
     pub fn binding(self) -> Binding
         ensures { view_of_binding result ≡ binding_of (view_of_infix self) }
     {
@@ -131,7 +131,7 @@ impl Infix {
         }
     }
 
-    /// Whether it may stand, in a guard where the flag says so.
+    /// Whether it is allowed, in a guard where the flag says so.
     pub fn stands(self, guard: bool) -> bool
         ensures { result ≡ infix_stands guard (view_of_infix self) }
     {
@@ -142,7 +142,7 @@ impl Infix {
         }
     }
 
-    /// Whether it may stand behind a left operand of the level `floor`, in an expression of this level.
+    /// Whether it is allowed after a left operand of the level `floor`, in an expression of this level.
     pub fn fits(self, guard: bool, floor: u32, level: u32) -> bool
         ensures { result ≡ infix_fits guard floor level (view_of_infix self) }
     {

@@ -8,7 +8,7 @@ use Rattle.pf_terms.specs.Atoms.{with_name, with_names, name_of}
 use Rattle.pf_terms.specs.Order.{TellsApart}
 use Rattle.pf_intern.specs.NumberedTokens.{number_in}
 
--- the name stands in the names, first at this index
+-- the name is in the names, first at this index
 abbrev pub FirstAt : List (List ℕ) → List ℕ → ℕ → Type 0
 FirstAt names name i = (number_in names name ≡ i) × (slice_get names i ≡ Some name)
 
@@ -16,7 +16,7 @@ by_test : (b : Bool) (name n : List ℕ) (ns : List (List ℕ)) → bytes_eq nam
 by_test true name n ns e = rw e refl
 by_test false name n ns e = rw e (omega arith)
 
--- where a name stands at all, it stands at its number
+-- where a name is there at all, it is at its number
 found_at : (b : Bool) (name n : List ℕ) (ns : List (List ℕ)) → bytes_eq name n ≡ b → ((j : ℕ) → slice_get ns j ≡ Some name → slice_get ns (number_in ns name) ≡ Some name)
     → (i : ℕ) → slice_get (n ∷ ns) i ≡ Some name → slice_get (n ∷ ns) (number_in (n ∷ ns) name) ≡ Some name
 found_at true name n ns h again i e =
@@ -42,7 +42,7 @@ named_by [] name i e = absurd (cc)
 named_by (n ∷ ns) name zero e = cc
 named_by (n ∷ ns) name (suc i) e = named_by ns name i e
 
--- in a table without doubles, the index where a name stands is its number
+-- in a table without doubles, the index of a name is its number
 pub first_there : (names : List (List ℕ)) (name : List ℕ) (i : ℕ) → TellsApart (name_of names) (length names) → slice_get names i ≡ Some name → FirstAt names name i
 first_there names name i apart e =
     let f = found names name i e in (

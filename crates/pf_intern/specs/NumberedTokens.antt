@@ -36,7 +36,7 @@ abbrev pub variable_name : token.TokenKind → List (List ℕ)
 variable_name (token.variable name) = name ∷ []
 variable_name _ = []
 
--- the names, and behind them the atoms that tokens have and they lack, in order of appearance
+-- the names, and after them the atoms that tokens have and they lack, in order of appearance
 abbrev pub atoms_after : List (List ℕ) → List Placed → List (List ℕ)
 atoms_after names ts = with_names names (flat_map (λ t. atom_name t.kind) ts)
 

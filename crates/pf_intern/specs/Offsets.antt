@@ -2,7 +2,7 @@
 use Rattle.std.specs.Prelude.{◌≡◌, ◌⊎◌, ℕ, List, [], ◌∷◌}
 use Rattle.pf_intern.specs.NumberedTokens.{NumberedToken}
 
--- one of the tokens stands at the offset
+-- one of the tokens is at the offset
 abbrev pub Stands : List NumberedToken → ℕ → Type 0
 Stands [] offset = ⊥
 Stands (t ∷ ts) offset = (t.at ≡ offset) ⊎ Stands ts offset

@@ -4,7 +4,7 @@ use Rattle.std.specs.Prelude.{◌==◌, if◌then◌else◌}
 use Rattle.pf_json.specs.Lines.{Held, behind_line, held_behind, objects_from, with_byte}
 use Rattle.pf_json.specs.Objects.{facts_at, object_line}
 
--- behind a line end, or behind another byte
+-- after a line end, or after another byte
 piece : (c : Bool) (line x xs u us back : List ℕ) (h k : Held) → x ≡ xs ++ objects_from h back → u ≡ us ++ objects_from k back
     → (if c then line ++ x else u) ≡ (if c then line ++ xs else us) ++ objects_from (if c then h else k) back
 piece true line x xs u us back h k e d = ap (λ (t : List ℕ). line ++ t) e ∙ sym (append_assoc line xs (objects_from h back))
@@ -21,7 +21,7 @@ held_piece : (c : Bool) (x y u v : Held) (back : List ℕ) → x ≡ held_behind
 held_piece true x y u v back e d = e
 held_piece false x y u v back e d = d
 
--- and so is what is held behind them
+-- and so is what is held after them
 pub held_pieces : (h : Held) (front back : List ℕ) → held_behind h (front ++ back) ≡ held_behind (held_behind h front) back
 held_pieces h [] back = refl
 held_pieces h (b ∷ bs) back =

@@ -6,7 +6,7 @@ use Rattle.std.specs.List.{starts_with}
 use Rattle.pf_json.specs.Facts.{or_else}
 use Rattle.pf_json.specs.Names.{last_start, start_here}
 
--- where they begin last behind some bytes, they begin last in all
+-- where they begin last after some bytes, they begin last in all
 pub later : (w t : List ℕ) (k n : ℕ) → last_start w (drop k t) ≡ Some n → last_start w t ≡ Some (k + n)
 later w [] zero n e = absurd cc
 later w [] (suc k) n e = absurd cc
@@ -14,7 +14,7 @@ later w (b ∷ bs) zero n e = e ∙ ap Some (sym (zero-add n))
 later w (b ∷ bs) (suc k) n e =
     ap (λ (o : Option ℕ). or_else (option_map (λ m. suc m) o) (start_here w (b ∷ bs))) (later w bs k n e) ∙ ap Some (omega arith)
 
--- where they begin nowhere behind a byte, they begin there or nowhere
+-- where they begin nowhere after a byte, they begin there or nowhere
 pub here : (w t : List ℕ) (k m : ℕ) → k < length t → m ≡ suc k → last_start w (drop m t) ≡ None → last_start w (drop k t) ≡ start_here w (drop k t)
 here w t k m l next e =
     let parts = drop-cons t k 0 l in

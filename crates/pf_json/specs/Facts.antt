@@ -1,4 +1,4 @@
--- The facts that a line of text tells, and the parts of the shapes that lines have.
+-- The facts that a line of text reports, and the parts of the shapes that lines have.
 use Rattle.std.specs.Prelude.{ℕ, ◌+◌, ◌^◌, ◌==◌, nat_eq, nat_lt, nat_le, Bool, true, false, not, ◌&&◌, if◌then◌else◌, List, [], ◌∷◌, length, take, drop, Option, Some, None, option_map, option_and_then, unwrap_or}
 use Rattle.std.specs.List.{prefix_len, starts_with}
 use Rattle.pf_tokens.specs.Bytes.{is_digit}
@@ -34,36 +34,36 @@ is_no_blank b = not (b == 32)
 abbrev pub said_by : (t : List ℕ) → (n : ℕ) → Fact
 said_by t n = if n == length t then fact t (truth true) else fact (take n t) (value_of (drop (n + 1) t))
 
--- `WORD REST` tells REST of WORD, and a word alone that it is so
+-- `WORD REST` says REST of WORD, and a word alone that it is so
 abbrev pub said : List ℕ → Fact
 said t = said_by t (prefix_len is_no_blank t)
 
 -- ---- shapes
 
--- a shape is made of parts, which stand behind one another and reach to the line's end
+-- a shape is made of parts, which come one after another and reach to the line's end
 pub data Part : Type 0 where
   -- these words
   words : List ℕ → Part
   -- these words, or nothing
   maybe : List ℕ → Part
-  -- a number, told under a key
+  -- a number, reported under a key
   count : (key : List ℕ) → Part
-  -- what stands before the next blank, or the end
+  -- what is before the next blank, or the end
   word : (key : List ℕ) → Part
   -- the code of a refusal: a capital letter and a number
   code : (key : List ℕ) → Part
   -- all the rest, as a text
   rest : (key : List ℕ) → Part
-  -- all the rest, as a word tells it that stands alone or in front of the others
+  -- all the rest, by the rule of words: a word alone, or one before the others
   says : Part
-  -- nothing, and yet this is told
+  -- nothing, and yet this is reported
   tells : Fact → Part
 
 -- what follows words at the front of a text
 abbrev pub after : (front t : List ℕ) → Option (List ℕ)
 after front t = if starts_with nat_eq t front then Some (drop (length front) t) else None
 
--- what follows the first n bytes, of which a fact is told if they are right
+-- what follows the first n bytes, with a fact of these if they are right
 abbrev pub told_if : Bool → Value → (key t : List ℕ) → (n : ℕ) → Option (List ℕ × Option Fact)
 told_if true value key t n = Some (drop n t, Some (fact key value))
 told_if false value key t n = None
@@ -84,7 +84,7 @@ worded key t n = told_if (nat_lt 0 n) (text (take n t)) key t n
 abbrev pub coded : (key t : List ℕ) → (n : ℕ) → Option (List ℕ × Option Fact)
 coded key t n = told_if (is_code (take n t)) (text (take n t)) key t n
 
--- what follows a part at the front of a text, and what the part tells; nothing if it doesn't stand there
+-- what follows a part at the front of a text, and what the part reports; nothing if it isn't there
 abbrev pub step : Part → List ℕ → Option (List ℕ × Option Fact)
 step (words w) t = option_map (λ behind. (behind, None)) (after w t)
 step (maybe w) t = Some (unwrap_or (after w t) t, None)

@@ -3,7 +3,7 @@ use Rattle.std.specs.Prelude.{◌≡◌, ◌==◌, ℕ, Bool, List, ◌++◌}
 use Rattle.std.specs.List.{count_by}
 use Rattle.pf_json.specs.Lines.{Held, held_behind, objects_from}
 
--- the objects of a text are those of its pieces, the second of which begins with what is held behind the first
+-- the objects of a text are those of its pieces, the second of which begins with what is held after the first
 abbrev pub InPieces : Type 0
 InPieces = (h : Held) (front back : List ℕ)
     → (objects_from h (front ++ back) ≡ objects_from h front ++ objects_from (held_behind h front) back)

@@ -4,7 +4,7 @@ use Rattle.pf_json.specs.Objects.{facts_at, next, object_line}
 use Rattle.pf_json.specs.declared.place.Place.{Place}
 use Rattle.pf_json.specs.declared.place.Place.TheVariants.{Report}
 
--- where a writer stands: the place of the line that it is in, and what of that line was written
+-- how far a writer is: the place of the line that it is in, and what of that line was written
 pub record Held : Type 0 where
   pub place : Place
   pub line : List ℕ
@@ -25,11 +25,11 @@ objects_from h [] = []
 objects_from h (b ∷ text) =
     if b == 10 then object_line (facts_at h.place h.line) ++ objects_from (behind_line h) text else objects_from (with_byte h b) text
 
--- what is held behind a text
+-- what is held after a text
 abbrev pub held_behind : Held → List ℕ → Held
 held_behind h [] = h
 held_behind h (b ∷ text) = if b == 10 then held_behind (behind_line h) text else held_behind (with_byte h b) text
 
--- the objects of the whole lines of a text, one for each, in their order; what stands behind the last line end has none
+-- the objects of the whole lines of a text, one for each, in their order; what comes after the last line end has none
 abbrev pub json_lines : List ℕ → List ℕ
 json_lines text = objects_from fresh text

@@ -1,4 +1,4 @@
--- The lines of a hunt over several files or roots: a name, and behind `: ` what is told of it.
+-- The lines of a hunt over several files or roots: a name, and after `: ` what is reported of it.
 use Rattle.std.specs.Prelude.{ℕ, suc, ◌+◌, ◌-◌, ◌==◌, nat_eq, Bool, ◌&&◌, nat_lt, get_or, if◌then◌else◌, List, [], ◌∷◌, ◌++◌, length, take, drop, codes, Option, Some, None, option_map, option_and_then}
 use Rattle.std.specs.List.{starts_with}
 use Rattle.pf_json.specs.Facts.{Fact, fact, text, facts_by_first, or_else}
@@ -31,7 +31,7 @@ abbrev pub both : Option (List Fact) → Option (List Fact) → Option (List Fac
 both (Some fs) (Some gs) = Some (fs ++ gs)
 both _ _ = None
 
--- what is told of a root, or of a file
+-- what is reported of a root, or of a file
 abbrev pub told_of : (name told : List ℕ) → Option (List Fact)
 told_of name told =
     or_else (both (of_root name) (facts_by_first root_shapes told)) (both (Some (of_file name ∷ [])) (facts_by_first file_shapes told))

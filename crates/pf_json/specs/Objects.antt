@@ -11,13 +11,13 @@ use Rattle.pf_json.specs.Names.{named}
 use Rattle.pf_json.specs.declared.place.Place.{Place}
 use Rattle.pf_json.specs.declared.place.Place.TheVariants.{Report, Source, Caret, Advice}
 
--- ---- what a line tells
+-- ---- what a line reports
 
 -- a line of names, one of the shapes, or `WORD REST`
 abbrev pub facts_of : List ℕ → List Fact
 facts_of line = unwrap_or (or_else (named line) (facts_by_first shapes line)) (said line ∷ [])
 
--- behind `line L, column C` come three lines as they are: of the source, with a caret, and with the advice
+-- after `line L, column C` come three lines as they are: of the source, with a caret, and with the advice
 abbrev pub facts_at : Place → List ℕ → List Fact
 facts_at Report line = facts_of line
 facts_at Source line = fact (codes "source") (text line) ∷ []
@@ -30,7 +30,7 @@ next Source line = Caret
 next Caret line = Advice
 next Advice line = Report
 
--- ---- its object, in which bytes that are no UTF-8 stand as U+FFFD
+-- ---- its object, in which bytes that aren't UTF-8 become U+FFFD
 
 abbrev pub value_token : Value → Token
 value_token (number n) = token.number (decimal n)

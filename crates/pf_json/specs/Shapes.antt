@@ -1,4 +1,4 @@
--- The shapes of lines that tell several facts, or one in words of their own.
+-- The shapes of lines that report several facts, or one in words of their own.
 use Rattle.std.specs.Prelude.{true, false, List, [], ◌∷◌, codes}
 use Rattle.pf_json.specs.Facts.{Part, fact, number, text, truth, words, maybe, count, word, code, rest, says, tells}
 
@@ -82,7 +82,7 @@ shapes =
     event ∷ no_verdict ∷ schedule ∷ no_failure ∷ stopped ∷ row_holds ∷ row_fails ∷ row_without ∷ summary ∷ refusal ∷ refusal_at ∷ position ∷ instead
     ∷ write ∷ blank ∷ []
 
--- ---- what is told behind a name, in a hunt over several files or roots
+-- ---- what is reported after a name, in a hunt over several files or roots
 
 -- `seed 0 fails`
 abbrev pub seed_fails : List Part
@@ -98,10 +98,10 @@ stopped_well =
 abbrev pub rootless : List Part
 rootless = words (codes "no exported function without arguments") ∷ tells (fact (codes "roots") (number 0)) ∷ []
 
--- what is told of a root
+-- what is reported of a root
 abbrev pub root_shapes : List (List Part)
 root_shapes = seed_fails ∷ no_failure ∷ stopped_well ∷ refusal ∷ []
 
--- what is told of a file
+-- what is reported of a file
 abbrev pub file_shapes : List (List Part)
 file_shapes = refusal_at ∷ rootless ∷ []

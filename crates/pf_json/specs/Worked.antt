@@ -1,4 +1,4 @@
--- Lines of answers, with the facts that they tell.
+-- Lines of answers, with the facts that they report.
 use Rattle.std.specs.Prelude.{◌≡◌, true, [], ◌∷◌, codes, refl}
 use Rattle.pf_json.specs.Facts.{fact, facts_by_first, number, text, truth}
 use Rattle.pf_json.specs.Objects.{facts_at, facts_of, next}

@@ -1,4 +1,4 @@
-//! The facts that a line tells.
+//! The facts that a line reports.
 
 ghost use Rattle.std.specs.Prelude.{◌≡◌, ◌≤◌, length};
 ghost use Rattle.std.specs.List.{prefix_len};
@@ -7,7 +7,7 @@ ghost use Rattle.pf_json.specs.Views.{view_of_fact, view_of_value};
 
 use pf_text::long_number_of;
 
-/// What is told under a key.
+/// What is reported under a key.
 #[derive(Drop, Clone, Copy)]
 pub(crate) enum Value<'a> {
     Number(u64),
@@ -22,7 +22,7 @@ pub(crate) struct Fact<'a> {
     pub value: Value<'a>,
 }
 
-/// The number above all that are told as numbers.
+/// The number above all that are reported as numbers.
 const LIMIT: u64 = 9_007_199_254_740_992;
 
 /// The value that a text is.
@@ -35,7 +35,7 @@ pub(crate) fn value_of(text: &[u8]) -> Value<'_>
     }
 }
 
-/// How many bytes stand before the first blank.
+/// How many bytes are before the first blank.
 pub(crate) fn before_blank(text: &[u8]) -> usize
     ensures is { result ≡ prefix_len is_no_blank text.now }
     ensures within { result ≤ length text.now }
@@ -43,7 +43,7 @@ pub(crate) fn before_blank(text: &[u8]) -> usize
     text.iter().take_while(|byte| **byte != b' ').count()
 }
 
-/// What a word tells that stands alone or in front of others.
+/// The fact by the rule of words: a word alone, or one before the others.
 pub(crate) fn said(line: &[u8]) -> Fact<'_>
     ensures { view_of_fact result ≡ said line.now }
 {

@@ -11,14 +11,14 @@ use crate::place::Place;
 use std::alloc::{AllocError, Global};
 use std::io::{self, ErrorKind, Write};
 
-/// Where a text stands: the place of the line that it is in, and what of that line there is.
+/// How far a text is: the place of the line that it is in, and what of that line there is.
 #[derive(Drop)]
 struct Held {
     place: Place,
     line: Vec<u8>,
 }
 
-/// The objects of lines, and what is held behind them.
+/// The objects of lines, and what is held after them.
 #[derive(Drop)]
 struct Turned {
     out: Vec<u8>,
@@ -62,7 +62,7 @@ fn put<W: Write>(inner: &mut W, text: &[u8]) -> io::Result<()>
     Ok(())
 }
 
-/// A writer of lines, in place of each of which the inner writer gets a JSON object on a line of its own. What is left behind the last line end goes
+/// A writer of lines, in place of each of which the inner writer gets a JSON object on a line of its own. What is left after the last line end goes
 /// nowhere.
 #[derive(Drop)]
 pub struct JsonLines<W> {

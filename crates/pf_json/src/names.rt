@@ -33,7 +33,7 @@ fn is_quoted(name: &[u8]) -> bool
     matches!(name.last(), Some(b'\''))
 }
 
-/// Where the blank stands that is before the root of a name.
+/// Where the blank before the root of a name is.
 fn blank_before(name: &[u8]) -> Option<usize>
     ensures is { result ≡ blank_before name.now }
     ensures within { IfSome result (λ n. n < length name.now) }
@@ -67,7 +67,7 @@ fn of_root(name: &[u8]) -> Option<(Fact<'_>, Fact<'_>)>
     Some((of_file(&name[..blank]), root))
 }
 
-/// These facts, and behind them those.
+/// These facts, and after them those.
 fn joined<'a>(
     alloc: Global,
     front: &[Fact<'a>],
@@ -80,7 +80,7 @@ fn joined<'a>(
     Ok(facts)
 }
 
-/// What is told of a root.
+/// What is reported of a root.
 fn told_of_root<'a>(
     alloc: Global,
     name: &'a [u8],
@@ -99,7 +99,7 @@ fn told_of_root<'a>(
     Ok(Some(facts))
 }
 
-/// What is told of a file.
+/// What is reported of a file.
 fn told_of_file<'a>(
     alloc: Global,
     name: &'a [u8],
@@ -115,7 +115,7 @@ fn told_of_file<'a>(
     Ok(Some(facts))
 }
 
-/// What is told of a root or a file.
+/// What is reported of a root or a file.
 fn told_of<'a>(
     alloc: Global,
     name: &'a [u8],
@@ -129,7 +129,7 @@ fn told_of<'a>(
     }
 }
 
-/// What a line tells of the name that it begins with.
+/// What a line reports of the name that it begins with.
 pub(crate) fn named(alloc: Global, line: &[u8]) -> Result<Option<Vec<Fact<'_>>>, AllocError>
     ensures { IfOk result (λ fs. option_map (λ v. views_of v.items) fs ≡ named line.now) }
 {

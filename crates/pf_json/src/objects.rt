@@ -37,7 +37,7 @@ fn facts_of(alloc: Global, line: &[u8]) -> Result<Vec<Fact<'_>>, AllocError>
     alone(alloc, said(line))
 }
 
-/// A line that stands as it is under a key.
+/// A line as it is, under a key.
 fn as_it_is<'a>(
     alloc: Global,
     key: &'static [u8],
@@ -61,7 +61,7 @@ fn facts_at(alloc: Global, place: Place, line: &[u8]) -> Result<Vec<Fact<'_>>, A
     }
 }
 
-/// The place behind a line.
+/// The place after a line.
 pub(crate) fn next(alloc: Global, place: Place, line: &[u8]) -> Result<Place, AllocError>
     ensures { IfOk result (λ p. p ≡ next place line.now) }
 {
@@ -130,7 +130,7 @@ fn put_object(alloc: Global, writer: &mut Writer, facts: &[Fact]) -> Result<(), 
     writer.end_object()
 }
 
-/// The bytes, and behind them the object of facts on a line of its own.
+/// The bytes, and after them the object of facts on a line of its own.
 fn with_object(alloc: Global, out: Vec<u8>, facts: &[Fact]) -> Result<Vec<u8>, AllocError>
     ensures { IfOk result (λ v. v.items ≡ out.items ++ object_line (views_of facts.now)) }
 {
@@ -141,7 +141,7 @@ fn with_object(alloc: Global, out: Vec<u8>, facts: &[Fact]) -> Result<Vec<u8>, A
     Ok(out)
 }
 
-/// The bytes, and behind them the object of a line at a place.
+/// The bytes, and after them the object of a line at a place.
 pub(crate) fn with_line(
     alloc: Global,
     out: Vec<u8>,

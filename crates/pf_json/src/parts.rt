@@ -18,21 +18,21 @@ pub(crate) enum Part<'a> {
     Words(&'a [u8]),
     /// These words, or nothing.
     Maybe(&'a [u8]),
-    /// A number, told under this key.
+    /// A number, reported under this key.
     Count(&'a [u8]),
-    /// What stands before the next blank, or the end.
+    /// What is before the next blank, or the end.
     Word(&'a [u8]),
     /// The code of a refusal.
     Code(&'a [u8]),
     /// All the rest, as a text.
     Rest(&'a [u8]),
-    /// All the rest, as a word tells it that stands alone or in front of the others.
+    /// All the rest, by the rule of words: a word alone, or one before the others.
     Says,
-    /// Nothing, and yet this is told.
+    /// Nothing, and yet this is reported.
     Tells(Fact<'a>),
 }
 
-/// What follows a part, and what the part tells.
+/// What follows a part, and what the part reports.
 #[derive(Drop, Clone, Copy)]
 pub(crate) struct Taken<'a> {
     pub rest: &'a [u8],
@@ -50,7 +50,7 @@ pub(crate) fn after<'a>(words: &[u8], text: &'a [u8]) -> Option<&'a [u8]>
     }
 }
 
-/// How many digits stand at the front of a text.
+/// How many digits are at the front of a text.
 fn digits(text: &[u8]) -> usize
     ensures is { result ≡ prefix_len is_digit text.now }
     ensures within { result ≤ length text.now }
@@ -58,7 +58,7 @@ fn digits(text: &[u8]) -> usize
     text.iter().take_while(|byte| is_digit(**byte)).count()
 }
 
-/// What a fact tells of the first bytes of a text, and what follows them.
+/// A fact of the first bytes of a text, and what follows them.
 fn told<'a>(key: &'a [u8], value: Value<'a>, rest: &'a [u8]) -> Option<Taken<'a>>
     ensures { option_map view_of_taken result
         ≡ Some (rest.entry.now, Some (fact key.entry.now (view_of_value value.entry))) }
@@ -115,7 +115,7 @@ fn coded<'a>(key: &'a [u8], text: &'a [u8]) -> Option<Taken<'a>>
     }
 }
 
-/// What follows a part at the front of a text, and what the part tells.
+/// What follows a part at the front of a text, and what the part reports.
 fn step<'a>(part: Part<'a>, text: &'a [u8]) -> Option<Taken<'a>>
     ensures { option_map view_of_taken result ≡ step (view_of_part part.entry) text.entry.now }
 {

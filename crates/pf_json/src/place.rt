@@ -3,7 +3,7 @@
 /// What the next line is.
 #[derive(Drop, Clone, Copy)]
 pub enum Place {
-    /// A line that tells facts.
+    /// A line that reports facts.
     Report,
     /// The line of the source that a refusal is about.
     Source,

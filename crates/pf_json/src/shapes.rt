@@ -1,4 +1,4 @@
-//! The shapes of lines that tell several facts, or one in words of their own.
+//! The shapes of lines that report several facts, or one in words of their own.
 
 use crate::facts::{Fact, Value};
 use crate::parts::Part;
@@ -191,7 +191,7 @@ const ROOTLESS: [Part<'static>; 2] = [
     }),
 ];
 
-/// The shapes of what is told of a root.
+/// The shapes of what is reported of a root.
 pub(crate) const ROOT_SHAPES: [&[Part<'static>]; 4] = [
     &SEED_FAILS,
     &NO_FAILURE,
@@ -199,5 +199,5 @@ pub(crate) const ROOT_SHAPES: [&[Part<'static>]; 4] = [
     &REFUSAL,
 ];
 
-/// The shapes of what is told of a file.
+/// The shapes of what is reported of a file.
 pub(crate) const FILE_SHAPES: [&[Part<'static>]; 2] = [&REFUSAL_AT, &ROOTLESS];

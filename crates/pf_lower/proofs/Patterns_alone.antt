@@ -1,4 +1,4 @@
--- A pattern that stands by itself breaks no rule, and only what its atoms stand for decides what it becomes.
+-- A pattern by itself breaks no rule, and only what its atoms stand for decides what it becomes.
 use Rattle.std.proofs.Common.{◌≡◌, ℕ, Bool, true, false, [], ◌∷◌, ◌++◌, refl, ap, ap₂, ◌∙◌, subst}
 use Rattle.std.specs.Prelude.{if◌then◌else◌}
 use Rattle.pf_fault.specs.declared.code.Code.TheVariants.{Unsafe}

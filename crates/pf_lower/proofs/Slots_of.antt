@@ -10,7 +10,7 @@ use Rattle.pf_syntax.specs.Scope.{has}
 use Rattle.pf_lower.specs.Bound.{with_bound}
 use Rattle.pf_lower.specs.Placed.{Placed}
 
--- ---- what stands among names
+-- ---- what is among names
 
 itself : (x y : ℕ) (b : Bool) → y ≡ x → (y == x) || b ≡ true
 itself x y b e = grind (arith, nat_tests)
@@ -19,7 +19,7 @@ or_true : (b : Bool) {c : Bool} → c ≡ true → b || c ≡ true
 or_true true e = refl
 or_true false e = e
 
--- what stands at a slot is among them
+-- what is at a slot is among them
 pub there : (x : ℕ) (ks : List ℕ) (k : ℕ) → slice_get ks k ≡ Some x → has ks x ≡ true
 there x [] zero e = cc
 there x [] (suc k) e = cc
@@ -43,7 +43,7 @@ new_where_missing ks x None h e = h
 same_name : (x y : ℕ) → (y == x) ≡ true → y ≡ x
 same_name x y e = grind (arith, nat_tests)
 
--- what is among them stands at a slot
+-- what is among them is at a slot
 pub found_at : (x : ℕ) (ks : List ℕ) → has ks x ≡ true → (k : ℕ) × (slice_get ks k ≡ Some x)
 found_at x [] e = absurd cc
 found_at x (y ∷ ks) e = by (y == x) refl e (found_at x ks)
@@ -63,7 +63,7 @@ in_front [] x k y e = absurd cc
 in_front (z ∷ ks) x zero y e = e
 in_front (z ∷ ks) x (suc k) y e = in_front ks x k y e
 
--- what stands among the names and one more stands among the names, or is the one
+-- what is among the names and one more is among the names, or is the one
 front_or_last : (ks : List ℕ) (x k y : ℕ) → slice_get (ks ++ x ∷ []) k ≡ Some y → (slice_get ks k ≡ Some y) ⊎ ((k ≡ length ks) × (y ≡ x))
 front_or_last [] x zero y e = inr (refl, cc)
 front_or_last [] x (suc k) y e = absurd cc

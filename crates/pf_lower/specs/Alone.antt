@@ -1,4 +1,4 @@
--- A pattern that stands by itself: what it becomes, where no variable is bound before it.
+-- A pattern by itself: what it becomes, where no variable is bound before it.
 use Rattle.std.specs.Prelude.{None}
 use Rattle.pf_syntax.specs.ExprPattern.{ExprPattern}
 use Rattle.pf_syntax.specs.Pattern.{Pattern}

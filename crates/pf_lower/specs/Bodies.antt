@@ -38,7 +38,7 @@ EachElementMeans fs b t names (id ∷ ids) (x ∷ xs) =
     ElementBuilt fs t names (expr_at b id.0) x × EachElementMeans fs b t (bound_after names (expr_at b id.0)) ids xs
 EachElementMeans fs b t names _ _ = ⊥
 
--- the guard and the body of a clause, behind its pattern
+-- the guard and the body of a clause, after its pattern
 module _ (n : Names) (b : NodeTable) (names : List ℕ) (r : Branch) where
   abbrev pub BranchGuardBecomes : Guard → Type 0
   BranchGuardBecomes d = (g : Scope) → g.bound ≡ names → expr_pattern_faults g (expr_pattern_at b r.expr_pattern.0) ≡ [] → HasAlternative (condition_over b r.condition) → ConditionFormed (condition_over b r.condition)

@@ -1,4 +1,4 @@
-//! A pattern that stands by itself, in no module.
+//! A pattern by itself, in no module.
 
 ghost use Rattle.std.specs.Prelude.{IfOk};
 ghost use Rattle.pf_syntax.specs.SyntaxTree.{expr_pattern_at};
@@ -11,7 +11,7 @@ use pf_syntax::{ExprPatternId, Module, PatternId, SyntaxTree};
 use pf_terms::NoMemory;
 use std::alloc::Global;
 
-/// Adds a pattern that stands by itself to a module. No variable is bound before it, and its atoms keep their numbers, whether or not
+/// Adds a pattern by itself to a module. No variable is bound before it, and its atoms keep their numbers, whether or not
 /// the module names them.
 pub fn pattern_alone(
     alloc: Global,

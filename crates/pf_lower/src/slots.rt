@@ -1,4 +1,4 @@
-//! The slots of bound variables: where each name stands among those that are bound, in the order of binding.
+//! The slots of bound variables: where each name is among those that are bound, in the order of binding.
 
 ghost use Rattle.std.specs.Prelude.{◌≡◌, ℕ, ◌-◌, ◌<◌, [], false, length, take, MatchOption, OnOk, slice_get, slice_index, Some};
 ghost use Rattle.pf_syntax.specs.Scope.{has};

@@ -35,7 +35,7 @@ values_none : (vs : Values) (x : Tree) (ts : Trees) → as_value x ≡ None → 
 values_none none x ts h = ap (λ o. add_value o (as_values ts)) h
 values_none (more v vs) x ts h = ap (add_value (Some v)) (values_none vs x ts h)
 
--- a part that is no value stands where only a value may
+-- a part that is no value is where only a value may
 no_value : (x : Tree) (v : Value) → as_value x ≡ None → x ≡ lit v → ⊥
 no_value x v h e = let q = ap as_value e in cc
 

@@ -1,4 +1,4 @@
--- A closed tree in a frame: what stands in its hole is closed, and may be taken out for anything else that is closed.
+-- A closed tree in a frame: what is in its hole is closed, and may be taken out for anything else that is closed.
 use Rattle.std.proofs.Common.{◌≡◌, ◌+◌, List, [], ◌∷◌, refl, ap}
 use Rattle.pf_terms.specs.Value.{Values, none, more}
 use Rattle.pf_syntax.specs.Tree.{Tree, Trees, tree, Program}

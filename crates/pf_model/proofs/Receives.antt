@@ -7,7 +7,7 @@ use Rattle.pf_model.specs.Contraction.{picked}
 use Rattle.pf_model.specs.Receive.{Taken, taking, and_before, taken_or_later, selected, FitsNone, Takes, ReceiveIsRelation}
 
 module _ (m : Module) (own : ℕ) (ks : Clauses) where
-  -- a message that no clause picks stands before what is taken of the others
+  -- a message that no clause picks is before what is taken of the others
   takes_behind : (v : Value) (vs : List Value) (t : Taken) → picked m own ks v ≡ None → Takes m own ks vs t
       → Takes m own ks (v ∷ vs) (record t { others = v ∷ t.others })
   takes_behind v vs t h k =

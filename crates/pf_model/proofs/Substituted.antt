@@ -36,7 +36,7 @@ fit_all_length ps vs e h = let k = all_length ps vs [] e (all_from_fit ps vs [] 
 
 -- ---- substitution
 
--- an index at which no value stands is past them
+-- an index that has no value is past them
 past : (e : Scope) (x : ℕ) → slice_get e x ≡ None → length e ≤ x
 past [] x h = omega arith
 past (v ∷ e) zero h = absurd (cc)

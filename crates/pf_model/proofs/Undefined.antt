@@ -9,7 +9,7 @@ use Rattle.pf_ops.specs.Arithmetic.{in_range, ranged, is_zero, negated}
 use Rattle.pf_ops.specs.Reasons.{fits_limits, pair, tagged}
 use Rattle.pf_ops.specs.Operations.{limited, on_integers, divided, joined, operated, values_before, consed, element_at, head_of, tail_of, list_length, element_of, tuple_length}
 
--- what an operation comes to isn't the raise of `undef`
+-- what an operation evaluates to isn't the raise of `undef`
 abbrev pub IsAnother : Result Value Value → Type 0
 IsAnother (Ok v) = Unit {0}
 IsAnother (Err e) = e ≡ undef → ⊥

@@ -60,7 +60,7 @@ abbrev pub fill : List Frame → Tree → Tree
 fill [] t = t
 fill (f ∷ fs) t = around f (fill fs t)
 
--- the redex r stands in t within these frames, and does this
+-- the redex r is in t within these frames, and does this
 pub record Context (m : Module) (own : ℕ) (t : Tree) (fs : List Frame) (r : Tree) (c : Change) : Type 0 where
   pub filled : fill fs r ≡ t
   pub redex : contract m own r ≡ Some c

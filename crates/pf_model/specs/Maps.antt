@@ -1,7 +1,7 @@
 -- Finite maps from numbers, and finite sets of numbers, as lists by rising key.
 use Rattle.std.specs.Prelude.{ℕ, Bool, true, false, ◌==◌, nat_lt, if◌then◌else◌, List, [], ◌∷◌, Option, Some, None}
 
--- what stands at a key
+-- what is at a key
 abbrev pub got : {T : Type 0} → ℕ → List (ℕ × T) → Option T
 got k [] = None
 got k (p ∷ ps) = if k == p.0 then Some p.1 else got k ps

@@ -12,7 +12,7 @@ pub data Outcome : Type 0 where
   finished : Value → Outcome
   -- the root ended with a reason
   ended : Value → Outcome
-  -- the root waits, and so do these processes, and nothing else is there to happen
+  -- the root waits, and so do these processes, and nothing else can happen
   deadlock : List ℕ → Outcome
   -- the limit of steps ended it
   limit : Outcome

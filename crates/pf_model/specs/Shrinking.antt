@@ -2,7 +2,7 @@
 use Rattle.std.specs.Prelude.{◌≡◌, ℕ, zero, suc, ◌/◌, Bool, true, false, if◌then◌else◌, List, [], ◌∷◌, ◌++◌, Option, Some, None, map}
 use Rattle.pf_model.specs.Meaning.{Job, Report, Means, schedule}
 
--- the schedules that begin alike and of whose rest these are what came of it
+-- these schedules, each with this number before it
 abbrev pub behind : ℕ → List (List ℕ) → List (List ℕ)
 behind n ss = map (λ s. n ∷ s) ss
 
@@ -58,11 +58,11 @@ abbrev pub is_failure : Option Bool → Bool
 is_failure None = false
 is_failure (Some b) = if b then false else true
 
--- the function that tells of each schedule whether the job fails by it
+-- the function that says of each schedule whether the job fails by it
 abbrev pub TellsFailures : Job → (List ℕ → Bool) → Type 0
 TellsFailures j fails = (ns : List ℕ) (r : Report) → Means (by_schedule j ns) r → fails ns ≡ is_failure r.verdict
 
--- what a job with runs comes to: the schedule that was found and its report, or that the given schedule doesn't fail
+-- the result of a job with runs: the schedule that was found and its report, or that the given schedule doesn't fail
 pub data Result : Type 0 where
   report : Report → Result
   shrunk_to : Found → Report → Result

@@ -27,7 +27,7 @@ atom_text name = if is_plain_name name then name else codes "'" ++ flat_map quot
 abbrev pub pid_text : ℕ → List ℕ
 pid_text p = codes "<" ++ decimal p ++ codes ">"
 
--- terms print without blanks; `name` tells the names of atoms
+-- terms print without blanks; `name` gives the names of atoms
 abbrev mutual
   pub value_text : (ℕ → List ℕ) → Value → List ℕ
   value_text name (int z) = signed_decimal z

@@ -1,3 +1,3 @@
--- Runs that the checker itself evaluates: their modules, and what they come to.
+-- Runs that the checker itself evaluates: their modules, and their reports.
 pub mod Modules
 pub mod Runs

@@ -25,7 +25,7 @@ unless_decided true v (Some false) right = right
 unless_decided false v (Some true) right = right
 unless_decided false v (Some false) right = Some v
 
--- the value of a test, None where it is an error; what may not stand in a guard is one
+-- the value of a test, None where it is an error; what isn't allowed in a guard is one
 abbrev mutual
   pub worth : (ℕ → List ℕ) → ℕ → Tree → Option Value
   worth name own (lit v) = Some v

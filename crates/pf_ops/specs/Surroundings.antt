@@ -1,4 +1,4 @@
--- What the tests of a guard are worth where they stand.
+-- What the tests of a guard are worth where they are.
 use Rattle.std.specs.Prelude.{Bool, Option, option_and_then}
 use Rattle.pf_terms.specs.Value.{Value, Values}
 use Rattle.pf_terms.specs.Atoms.{name_of}

@@ -7,7 +7,7 @@ ghost use Rattle.pf_ops.specs.Guards as guards;
 
 use pf_terms::{AtomId, Term};
 
-/// What an operator or a built-in function comes to: its value, or the reason that it raises.
+/// What an operator or a built-in function evaluates to: its value, or the reason that it raises.
 pub type Answer = Result<Term, AtomId>;
 
 /// The atom `true` or the atom `false`.

@@ -148,7 +148,7 @@ fn on_two(builtin: Builtin, first: &Term, second: &Term) -> Result<Option<Answer
     }
 }
 
-/// A built-in function that only looks at its arguments, in the process of this pid: what it comes to. None for
+/// A built-in function that only looks at its arguments, in the process of this pid: what it evaluates to. None for
 /// the others, and for another number of arguments.
 pub fn compute(own: u32, builtin: Builtin, arguments: &[Term]) -> Result<Option<Answer>, NoMemory>
     ensures { IfOk result (λ o. option_map answer_of o

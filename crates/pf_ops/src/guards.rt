@@ -24,7 +24,7 @@ use pf_syntax::{Builtin, Guard, Module, Node, Operand, Operator};
 use pf_terms::{AtomId, List, NoMemory, Term};
 use std::alloc::Global;
 
-/// Where a test stands: in which module, over which values of variables, and in the process of which pid.
+/// Where a test is: in which module, over which values of variables, and in the process of which pid.
 #[derive(Clone, Copy)]
 pub(crate) struct Surroundings<'a> {
     code: &'a Module,
@@ -68,7 +68,7 @@ fn worth(alloc: Global, around: &Surroundings, part: Operand) -> Result<Option<T
     }
 }
 
-/// The value of a test that is a node. What may not stand in a guard is an error.
+/// The value of a test that is a node. What isn't allowed in a guard is an error.
 #[cycle(worth)]
 fn node_worth(alloc: Global, around: &Surroundings, node: &Node) -> Result<Option<Term>, NoMemory>
     ensures { IfOk result (λ o. option_map value_of o

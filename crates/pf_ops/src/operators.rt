@@ -27,7 +27,7 @@ fn less(a: &Term, b: &Term, atoms: &AtomTable) -> bool
     }
 }
 
-/// An operator on two values: what it comes to. It takes memory for `++` alone.
+/// An operator on two values: what it evaluates to. It takes memory for `++` alone.
 pub fn apply(
     alloc: Global,
     operator: Operator,

@@ -47,9 +47,9 @@ mutual
   few_in_all (pattern p ps) (more w ws) =
       omega (arith, length-append (bindings p w) (all_bindings ps ws), few_bindings p w, few_in_all ps ws)
 
--- ---- where they stand
+-- ---- where they are
 
--- what stands behind the bindings of a part
+-- what comes after the bindings of a part
 pub behind : (all xs ys : Scope) (n m : ℕ) → m ≡ n + length xs → Stands all n (xs ++ ys) → Stands all m ys
 behind all xs ys n m e h = record {
   rest = h.rest;
@@ -79,7 +79,7 @@ too_many_walked w n t (p ∷ ps) ts e h = absurd (omega arith)
 too_many_walked w n t [] [] e h = absurd (omega arith)
 too_many_walked w n t [] (u ∷ ts) e h = record { fit = refl; count = tt }
 
--- all bindings stand at the beginning
+-- all bindings are at the beginning
 pub whole_stands : (p : Pattern) (v : Value) → nodes v ≤ MOST_NODES → Stands (bindings p v) 0 (bindings p v)
 whole_stands p v h = record { rest = []; is = sym (append-nil (bindings p v)); few = omega (arith, few_bindings p v) }
 
@@ -87,11 +87,11 @@ whole_stands p v h = record { rest = []; is = sym (append-nil (bindings p v)); f
 pub tail_stands : (all : Scope) (p q : Pattern) (us ws : Values) (w : Value) (n m : ℕ) → us ≡ more w ws → m ≡ n + length (bindings p w) → Stands all n (bindings (cons_of p q) (list us)) → Stands all m (bindings q (list ws))
 tail_stands all p q us ws w n m e k h = behind all (bindings p w) (bindings q (list ws)) n m k (subst (λ vs. Stands all n (bindings (cons_of p q) (list vs))) e h)
 
--- the items behind the first, as a slice has them
+-- the items after the first, as a slice has them
 rest_is : {A : Type 0} (x : A) (xs : List A) → take (length (x ∷ xs) - 1) (drop 1 (x ∷ xs)) ≡ xs
 rest_is x xs = let z : length (x ∷ xs) - 1 ≡ length xs = omega arith in ap (λ k. take k xs) z ∙ take-length xs
 
--- the values behind the first, each with its pattern
+-- the values after the first, each with its pattern
 pub others_stand : (all : Scope) (t : Tables) (ps : List PatternId) (ts : List Term) (d : PatternId) (u : Term) (n m : ℕ) → 1 ≤ length ps → 1 ≤ length ts → u ≡ get_or ts 0 u
     → m ≡ n + length (bindings (pattern_at t (get_or ps 0 d).0) (value_of u)) → Stands all n (all_bindings (patterns_at t ps) (values_of ts))
     → Stands all m (all_bindings (patterns_at t (take (length ps - 1) (drop 1 ps))) (values_of (take (length ts - 1) (drop 1 ts))))

@@ -1,4 +1,4 @@
--- A pattern after some slots fits as the pattern in which their values stand.
+-- A pattern after some slots fits as the pattern with their values in their place.
 use Rattle.std.proofs.Common.{◌≡◌, ℕ, zero, suc, ◌-◌, Bool, true, false, [], ◌∷◌, ◌++◌, length, Option, Some, None, option_map, refl, ap, ◌∙◌, arith, append_assoc}
 use Rattle.std.specs.Prelude.{slice_get}
 use Rattle.pf_terms.specs.Value.{Value, Values, tuple, list, none, more, same}

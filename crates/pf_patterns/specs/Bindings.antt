@@ -7,7 +7,7 @@ use Rattle.pf_patterns.specs.Fit.{Scope}
 use Rattle.pf_patterns.specs.declared.seen.Seen.{Seen}
 use Rattle.pf_patterns.specs.declared.seen.Seen.TheVariants as seen
 
--- the values at its new variables, from left to right, as far as the value has its shape
+-- the values at its new variables, from left to right, where the value has its shape
 abbrev mutual
   pub bindings : Pattern → Value → Scope
   bindings any v = []

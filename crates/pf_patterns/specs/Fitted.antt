@@ -5,7 +5,7 @@ use Rattle.pf_patterns.specs.Fit.{Scope}
 use Rattle.pf_patterns.specs.Scopes.{scope_if}
 use Rattle.pf_patterns.specs.Slots.{activation}
 
--- slots came onto the stack; where the value fits, the activation above `base` then is what the fit means
+-- slots were pushed; where the value fits, the activation above `base` then is what the fit means
 pub record Fitted (base : ℕ) (before after : List Term) (fits : Bool) (meant : Scope → Option Scope) : Type 0 where
   pub added : List Term
   pub grown : after ≡ before ++ added

@@ -1,4 +1,4 @@
--- Operands: those that have a value where they stand.
+-- Operands: those that have a value in place.
 use Rattle.std.specs.Prelude.{◌≡◌, ℕ, Option, Some, None}
 use Rattle.pf_terms.specs.Term.{value_of}
 use Rattle.pf_terms.specs.declared.term.Term.{Term}
@@ -10,7 +10,7 @@ use Rattle.pf_syntax.specs.declared.node.Operand.TheVariants as part
 use Rattle.pf_patterns.specs.Fit.{Scope}
 use Rattle.pf_patterns.specs.Substitution.{sub}
 
--- an operand that has no value where it stands: a node, or a variable that is not in scope
+-- an operand that has no value in place: a node, or a variable that is not in scope
 abbrev pub HasNoValue : Tables → Scope → Operand → Type 0
 HasNoValue t e (part.Node n) = Unit {0}
 HasNoValue t e p = (x : ℕ) × (sub e (part_over t p) ≡ var x)

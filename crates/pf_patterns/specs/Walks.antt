@@ -33,7 +33,7 @@ all_of w = bindings (part_at w w.pattern) (value_of w.value.now)
 abbrev pub scope_at : Walk → ℕ → Scope
 scope_at w n = scope_of w.scope.now ++ take n (all_of w)
 
--- these bindings stand in slot n among all
+-- these bindings are at slot n among all
 pub record Stands (all : Scope) (n : ℕ) (these : Scope) : Type 0 where
   pub rest : Scope
   pub is : drop n all ≡ these ++ rest

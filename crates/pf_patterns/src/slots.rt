@@ -62,7 +62,7 @@ pub(crate) fn fits_literal(code: &Module, id: LiteralId, value: &Term) -> bool
     }
 }
 
-/// The value of an operand that has one where it stands: a literal, or a variable in scope.
+/// The value of an operand that has one in place: a literal, or a variable in scope.
 #[inline(always)]
 pub fn operand(
     code: &Module,

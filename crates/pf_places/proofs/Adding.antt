@@ -32,7 +32,7 @@ drop_at_none [] (suc i) e = refl
 drop_at_none (x ∷ xs) zero e = absurd (none-some x (sym e))
 drop_at_none (x ∷ xs) (suc i) e = drop_at_none xs i e
 
--- one element more of a walk over a list: F tells what it adds from there on, and G what the element itself does
+-- one element more of a walk over a list: F gives what it adds from there on, and G what the element itself does
 pub walked : {X Y : Type 0} (F : List X → List Y) (G : X → List Y) (step : (x : X) (xs : List X) → F (x ∷ xs) ≡ G x ++ F xs)
     (xs : List X) (i : ℕ) (d : X) (before after whole : List Y) → i < length xs → after ≡ before ++ G (get_or xs i d) → before ++ F (drop i xs) ≡ whole
     → after ++ F (drop (i + 1) xs) ≡ whole

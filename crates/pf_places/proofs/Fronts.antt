@@ -5,7 +5,7 @@ use Rattle.pf_places.specs.Spots.{Spot, tree_spots}
 use Rattle.pf_places.specs.Added.{last_part, spots_of_part}
 use Rattle.pf_places.proofs.Adding.{go_on}
 
--- what was added stands before those of the last part of a tree, which the node stands for
+-- what was added is before those of the last part of a tree, which the node stands for
 pub front_added : (f : ℕ) (front : Tree → List Spot) (before after : List Spot) (x u at : Tree) → x ≡ u → u ≡ at
     → tree_spots f x ≡ front x ++ spots_of_part f (last_part x) → after ≡ before ++ front at
     → after ++ spots_of_part f (last_part u) ≡ before ++ tree_spots f u

@@ -146,7 +146,7 @@ put_here number spots ws index before after s node place at is_node is_place put
 
 -- ---- lines
 
--- a spot that stands nowhere
+-- a spot that is nowhere
 abbrev pub no_spot : Spot
 no_spot = record { sign = Receive; function = record { 0 = 0 }; node = None }
 

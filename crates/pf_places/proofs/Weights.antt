@@ -90,7 +90,7 @@ pub guard_of_some : (t : Tables) (gs : List Alternative) (i : ℕ) → i < lengt
 guard_of_some t [] i lt = absurd (omega arith)
 guard_of_some t (g ∷ gs) i lt = refl
 
--- ---- the part that stands last
+-- ---- the part that is last
 
 pub last_lighter : (t u : Tree) → last_part t ≡ Some u → weight u < weight t
 last_lighter (cons a b) u is = let e : b ≡ u = cc in let w = ap weight e in omega arith

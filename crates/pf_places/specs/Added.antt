@@ -10,11 +10,11 @@ use Rattle.pf_places.specs.declared.spot.Spot.{Spot as NumberedSpot}
 abbrev pub seen : Tables → NumberedSpot → Spot
 seen t s = record { sign = s.sign; function = s.function.0; tree = option_map (λ n. tree_at t n.0) s.node }
 
--- these spots were added behind the others
+-- these spots were added after the others
 abbrev pub AreAdded : Tables → (before after : Vec NumberedSpot) → List Spot → Type 0
 AreAdded t before after more = map (seen t) after.items ≡ map (seen t) before.items ++ more
 
--- the part that stands last in a long chain: the tail of a list, and the rest of a body
+-- the part that is last in a long chain: the tail of a list, and the rest of a body
 abbrev pub last_part : Tree → Option Tree
 last_part (cons a b) = Some b
 last_part (bind ps a r) = Some r

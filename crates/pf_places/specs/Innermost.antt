@@ -1,4 +1,4 @@
--- Where a process stands in a tree of which it worked out some parts.
+-- Where a process is in a tree of which it worked out some parts.
 use Rattle.std.specs.Prelude.{◌≡◌, ℕ, Bool, true, false, if◌then◌else◌, List, [], ◌∷◌, Option, Some, None, drop, find}
 use Rattle.pf_syntax.specs.Tree.{Tree, Trees, lit, var, tuple, cons, op, neg, and_also, or_else, call, builtin, match, bind, case, if_expression, receive, send, no_trees, tree}
 
@@ -35,11 +35,11 @@ takes_step t = true
 abbrev pub stepping : Tree → Option Tree
 stepping t = if takes_step t then Some t else None
 
--- the first part that takes a step, behind those that are done
+-- the first part that takes a step, after those that are done
 abbrev pub next_part : (done : ℕ) → Tree → Option Tree
 next_part done t = find takes_step (drop done (parts t))
 
--- the process stands at the tree itself where no such part is left, and else in that part, of which none is done
+-- the process is at the tree itself where no such part is left, and else in that part, of which none is done
 pub data StandsAt : Tree → (done : ℕ) → Tree → Type 0 where
   itself : (t : Tree) (done : ℕ) → next_part done t ≡ None → StandsAt t done t
   within : (t u v : Tree) (done : ℕ) → next_part done t ≡ Some u → StandsAt u 0 v → StandsAt t done v

@@ -8,7 +8,7 @@ use Rattle.pf_places.specs.declared.sign.Sign.{Sign}
 use Rattle.pf_places.specs.declared.sign.Sign.TheVariants.{Receive, Case, If, AndAlso, OrElse, Send, Match, Name, Brace, Minus, Unwritten}
 use Rattle.pf_places.specs.Signs.{operator_sign}
 
--- a spot: a sign, the function in which it stands, and the node that it is the sign of, if it is one's
+-- a spot: a sign, the function in which it is, and the node that it is the sign of, if it is one's
 pub record Spot : Type 0 where
   pub sign : Sign
   pub function : ℕ
@@ -52,14 +52,14 @@ abbrev pub equations : ℕ → Tree → Patterns → List Spot
 equations f t no_patterns = []
 equations f t (pattern p ps) = equations f t ps ++ (pattern_spots f p ++ of_node f Match t ∷ [])
 
--- what stands before the value of a match; with no pattern it is no match
+-- what is before the value of a match; with no pattern it is no match
 abbrev pub before_value : ℕ → Tree → Patterns → List Spot
 before_value f t no_patterns = of_node f Unwritten t ∷ []
 before_value f t (pattern p ps) = equations f t (pattern p ps)
 
 -- ---- expressions
 
--- a word, a brace or a name stands before the parts of a node, an operator between its operands
+-- a word, a brace or a name is before the parts of a node, an operator between its operands
 abbrev mutual
   pub tree_spots : ℕ → Tree → List Spot
   tree_spots f (lit v) = []

@@ -1,4 +1,4 @@
--- The signs of a source: which of its tokens are some, and on which line each stands.
+-- The signs of a source: which of its tokens are some, and on which line each is.
 use Rattle.std.specs.Prelude.{◌≡◌, ℕ, ◌+◌, Bool, true, false, not, if◌then◌else◌, ◌==◌, List, [], ◌∷◌, ◌++◌, Option, Some, None, take, count_by}
 use Rattle.pf_tokens.specs.Rules.{HasTokens, HasSomeFault}
 use Rattle.pf_tokens.specs.TokenKinds.{TokenKind, Placed}
@@ -54,7 +54,7 @@ abbrev pub opens : TokenKind → Bool
 opens (token.mark marks.OpenParenthesis) = true
 opens k = false
 
--- a name is a sign if a parenthesis opens behind it
+-- a name is a sign if a parenthesis opens after it
 abbrev pub name_sign : (behind : List Placed) → Option Sign
 name_sign [] = None
 name_sign (t ∷ ts) = if opens t.kind then Some signs.Name else None
@@ -77,7 +77,7 @@ abbrev pub is_dot : TokenKind → Bool
 is_dot token.dot = true
 is_dot k = false
 
--- the tokens of the functions: behind the forms at the front that begin with a minus, each up to its dot
+-- the tokens of the functions: after the forms at the front that begin with a minus, each up to its dot
 abbrev pub functions_in : (within : Bool) → List Placed → List Placed
 functions_in within [] = []
 functions_in true (t ∷ ts) = functions_in (not (is_dot t.kind)) ts

@@ -1,4 +1,4 @@
-//! Where a process stands in a node of which it worked out some parts.
+//! Where a process is in a node of which it worked out some parts.
 
 ghost use Rattle.std.specs.Prelude.{◌≡◌, drop, find, map, option_map, unwrap_or};
 ghost use Rattle.pf_syntax.specs.Module.{tree_at};
@@ -21,7 +21,7 @@ fn node_of(module: &Module, operand: Operand) -> Option<NodeId>
     }
 }
 
-/// The operands behind those that are done.
+/// The operands after those that are done.
 fn behind(operands: &[Operand], done: usize) -> &[Operand]
     ensures { result.now ≡ drop done operands.now }
 {
@@ -41,7 +41,7 @@ fn first_node(module: &Module, operands: &[Operand]) -> Option<NodeId>
     None
 }
 
-/// The first part of a node that is a node too, behind those that are done.
+/// The first part of a node that is a node too, after those that are done.
 fn next_part(module: &Module, id: NodeId, done: usize) -> Option<NodeId>
     ensures { option_map (λ n. tree_at module.now.tables n.0) result
         ≡ next_part done (tree_at module.now.tables id.0) }
@@ -63,7 +63,7 @@ fn next_part(module: &Module, id: NodeId, done: usize) -> Option<NodeId>
     }
 }
 
-/// The node at which a process stands that worked out so many parts of a node.
+/// The node at which a process is once it worked out so many parts of a node.
 pub(crate) fn innermost(module: &Module, node: NodeId, done: Option<u32>) -> NodeId
     ensures { StandsAt (tree_at module.now.tables node.0) (unwrap_or done 0)
         (tree_at module.now.tables result.0) }

@@ -1,4 +1,4 @@
-//! The places of nodes: the function and the line of the source at which each node of a checked module stands.
+//! The places of nodes: the function and the line of the source at which each node of a checked module is.
 #![tactic(auto)]
 
 mod functions;

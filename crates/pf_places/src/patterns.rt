@@ -105,7 +105,7 @@ impl<'m> Home<'m> {
         self.put(spots, Sign::Match, Some(node))
     }
 
-    /// Puts what stands before the value of a match, or of an element of a body that is no match.
+    /// Puts what is before the value of a match, or of an element of a body that is no match.
     pub(crate) fn put_before_value(
         self,
         spots: &mut Vec<Spot>,

@@ -15,7 +15,7 @@ use pf_terms::NoMemory;
 use std::alloc::Global;
 use std::marker::Model;
 
-/// Where a node stands: the function, by its number in the module, and the line of the source, from 1.
+/// Where a node is: the function, by its number in the module, and the line of the source, from 1.
 #[derive(Clone, Copy, PartialEq, Eq, Debug)]
 pub struct Place {
     pub function: FunctionId,
@@ -67,7 +67,7 @@ fn lines_of(alloc: Global, written: &[Written], number: u8) -> Result<Vec<u32>, 
     Ok(lines)
 }
 
-/// The same, where the sign is written as often as there are spots of it; else none is told.
+/// The same, where the sign is written as often as there are spots of it; else none is reported.
 fn told_lines(
     alloc: Global,
     spots: &[Spot],
@@ -83,7 +83,7 @@ fn told_lines(
     Ok(Vec::new(alloc))
 }
 
-/// The line of the spot behind so many of its sign.
+/// The line of the spot after so many of its sign.
 fn line_of(lines: &[u32], rank: usize) -> Option<u32>
     ensures { result ≡ slice_get lines.now rank }
 {
@@ -145,7 +145,7 @@ impl Places {
         Ok(places)
     }
 
-    /// The place of a node, if it stands in a function.
+    /// The place of a node, if it is in a function.
     pub fn place(&self, node: NodeId) -> Option<Place>
         ensures { result ≡ place_in self.now node.0 }
     {
@@ -155,8 +155,8 @@ impl Places {
         }
     }
 
-    /// The node at which a process stands, if a part of this one has its value and so many are done with it: the first of the parts
-    /// behind that isn't a variable or a literal, and within it its first such part, and so on; the node itself where none is left. None
+    /// The node at which a process is, if a part of this one has its value and so many are done with it: the first of the later
+    /// parts that isn't a variable or a literal, and within it its first such part, and so on; the node itself where none is left. None
     /// is done before the node is worked out.
     pub fn innermost(module: &Module, node: NodeId, done: Option<u32>) -> NodeId
         ensures { StandsAt (tree_at module.now.tables node.0) (unwrap_or done 0)

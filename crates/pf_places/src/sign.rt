@@ -1,4 +1,4 @@
-//! The signs by which a source tells where its nodes stand.
+//! The signs by which a source says where its nodes are.
 
 ghost use Rattle.std.specs.Prelude.{◌≡◌};
 ghost use Rattle.pf_syntax.specs.Operators.{operator_of};
@@ -6,7 +6,7 @@ ghost use Rattle.pf_places.specs.Signs.{number_of, operator_sign};
 
 use pf_syntax::Operator;
 
-/// What a token tells of: a reserved word, an operator, a brace, or a name before a parenthesis.
+/// What a token shows: a reserved word, an operator, a brace, or a name before a parenthesis.
 #[derive(Clone, Copy, Debug)]
 pub(crate) enum Sign {
     Receive,
@@ -37,7 +37,7 @@ pub(crate) enum Sign {
     AtMost,
     Greater,
     AtLeast,
-    /// That of a list and of a comma: no token tells for certain of which node it is.
+    /// That of a list and of a comma: no token shows for certain of which node it is.
     Unwritten,
 }
 

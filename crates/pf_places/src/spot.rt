@@ -8,7 +8,7 @@ use crate::sign::Sign;
 use pf_syntax::{FunctionId, Module, NodeId};
 use pf_terms::NoMemory;
 
-/// A sign, the function in which it stands, and the node that it is the sign of, if it is one's.
+/// A sign, the function in which it is, and the node that it is the sign of, if it is one's.
 #[derive(Clone, Copy)]
 pub(crate) struct Spot {
     pub(crate) sign: Sign,

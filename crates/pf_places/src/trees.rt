@@ -32,7 +32,7 @@ impl<'m> Home<'m> {
         Ok(())
     }
 
-    /// Puts the spots of a node, but for those of its last part, which is told.
+    /// Puts the spots of a node, but for those of its last part, which is returned.
     #[cycle(tree)]
     fn put_front(
         self,
@@ -112,7 +112,7 @@ impl<'m> Home<'m> {
         }
     }
 
-    /// Puts the spots of a node whose sign stands between its operands.
+    /// Puts the spots of a node whose sign is between its operands.
     #[cycle(tree)]
     fn put_infix(
         self,

@@ -1,4 +1,4 @@
-//! The signs of a source: which of its tokens are some, and on which line each stands.
+//! The signs of a source: which of its tokens are some, and on which line each is.
 
 ghost use Rattle.std.specs.Prelude.{◌≡◌, ◌<◌, ◌≤◌, ◌^◌, ◌==◌, IfOk, count_by, false, length, map};
 ghost use Rattle.pf_tokens.specs.Rules.{IsOrdered};
@@ -56,7 +56,7 @@ fn word_sign(word: Reserved) -> Option<Sign>
     }
 }
 
-/// A name is a sign if a parenthesis opens behind it.
+/// A name is a sign if a parenthesis opens after it.
 fn name_sign(behind: &[Token]) -> Option<Sign>
     ensures { result ≡ name_sign (map placed_of behind.now) }
 {
@@ -90,7 +90,7 @@ fn is_dot(kind: &Kind) -> bool
     matches!(kind, Kind::Dot)
 }
 
-/// The tokens of the functions: behind the forms at the front that begin with a minus, each up to its dot.
+/// The tokens of the functions: after the forms at the front that begin with a minus, each up to its dot.
 fn functions_in(tokens: &[Token]) -> &[Token]
     ensures { map placed_of result.now ≡ functions_in false (map placed_of tokens.now) }
 {

@@ -1,4 +1,4 @@
--- The atoms of a source: each byte of theirs is one that may stand in quotes.
+-- The atoms of a source: each byte of theirs is one that quotes may contain.
 use Rattle.std.proofs.Common.{◌≡◌, inl, inr, ℕ, zero, suc, ◌+◌, ◌≤◌, Bool, true, false, ◌==◌, ◌||◌, ◌&&◌, not, if◌then◌else◌, List, [], ◌∷◌, ◌++◌, length, Option, Some, None, refl, sym, subst, arith}
 use Rattle.std.specs.Prelude.{nat_le}
 use Rattle.std.specs.List.{flat_map, list_all, list_any}
@@ -55,7 +55,7 @@ word_quotable b e = or_left (is_visible b || b == 9) (b == 10) (or_left (is_visi
 
 -- ---- names in quotes
 
--- what stands for itself behind `\\`
+-- what stands for itself after `\\`
 own_escape : (b : ℕ) → (b == backslash || b == single_quote || b == double_quote) ≡ true → is_quotable b ≡ true
 own_escape b =
     either (b == backslash || b == single_quote) (b == double_quote)

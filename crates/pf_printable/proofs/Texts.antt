@@ -1,4 +1,4 @@
--- The texts of values, labels, events and reports, if each byte of an atom may stand in quotes.
+-- The texts of values, labels, events and reports, if each byte of an atom may be in quotes.
 use Rattle.std.proofs.Common.{◌≡◌, ℕ, Bool, true, false, ◌==◌, ◌||◌, ◌&&◌, not, if◌then◌else◌, List, [], ◌∷◌, ◌++◌, Option, Some, None, refl}
 use Rattle.std.specs.Prelude.{is_some, codes}
 use Rattle.std.specs.Fmt.{decimal}
@@ -21,7 +21,7 @@ use Rattle.pf_printable.specs.Printable.{PrintsVisibly}
 use Rattle.pf_printable.proofs.Bytes.{InLines, Seen, are_lines, are_visible, is_printed, line_printed, lines_append, passes_flat, passes_too, seen_append, seen_decimal, seen_signed}
 use Rattle.pf_printable.proofs.Names.{Quotable, lower_visible, word_visible}
 
--- ---- parts one behind the other
+-- ---- parts one after the other
 
 three : (a b c : List ℕ) → Seen a → Seen b → Seen c → Seen (a ++ b ++ c)
 three a b c h k l = seen_append (a ++ b) c (seen_append a b h k) l

@@ -31,7 +31,7 @@ pub record PrintsVisibly (name : ℕ → List ℕ) : Type 0 where
   pub reports : (r : Report) → AreLines (report_text name r)
   pub results : (r : Result) → AreLines (result_text name r)
 
--- whatever the bytes of a source, if they are read as a module its runs print so, whatever they come to
+-- whatever the bytes of a source, if they are read as a module its runs print so, whatever they result in
 abbrev pub ReadModulesPrintVisibly : Type 0
 ReadModulesPrintVisibly =
     (bytes : List ℕ) (name : ℕ) (atoms : List (List ℕ)) (functions : Program) → Reads bytes (accepted name atoms functions)

@@ -15,7 +15,7 @@ use Rattle.pf_model.specs.Closed.{binds, all_bind, PatternIsClosed, PatternsAreC
 abbrev pub many : Scope → ℕ
 many g = length g.bound
 
--- what stands at an index of the bound ones is bound
+-- what is at an index of the bound ones is bound
 has_at : (xs : List ℕ) (k x : ℕ) → slice_get xs k ≡ Some x → has xs x ≡ true
 has_at [] k x h = absurd (cc)
 has_at (y ∷ ys) zero x h = let e : y ≡ x = cc in grind (arith, common_steps)

@@ -9,7 +9,7 @@ use Rattle.pf_model.specs.Closed.{builtin_arity}
 
 -- ---- numbers of arguments
 
--- each row tells the number of arguments that its function takes
+-- each row has the number of arguments that its function takes
 abbrev are_right : List Row → Bool
 are_right [] = true
 are_right (r ∷ rows) = (builtin_arity r.builtin == r.arity) && are_right rows

@@ -28,7 +28,7 @@ use Rattle.pf_check.proofs.NoFaults.{none_unlike}
 use Rattle.pf_read_modules.proofs.Builtins.{named_is_right}
 use Rattle.pf_read_modules.proofs.Closing.{StandRight, head_closes}
 
--- what stands at an index of a list has its like at the same index of the other
+-- what is at an index of a list has its like at the same index of the other
 like : {A B : Type 0} (R : A → B → Type 0) (xs : List A) (ys : List B) (i : ℕ) (x : A) → Pairwise R xs ys → slice_get xs i ≡ Some x
     → (y : B) × (slice_get ys i ≡ Some y) × R x y
 like R [] ys i x h e = absurd (cc)

@@ -1,4 +1,4 @@
--- What was read stands, and means the same, when the syntax tree has grown.
+-- What was read is still there, and means the same, when the syntax tree has grown.
 use Rattle.std.proofs.Common.{◌≡◌, List, [], ◌∷◌, ◌++◌, refl, sym, subst}
 use Rattle.std.specs.Prelude.{map}
 use Rattle.std.specs.List.{All}
@@ -30,7 +30,7 @@ module _ (b c : NodeTable) (on : GoesOn b c) where
   pub exprs_alike : (es : List ExprId) → All (ExprRepresents b) es → map (expr_of c) es ≡ map (expr_of b) es
   exprs_alike es h = seen_alike (ExprRepresents b) (expr_of c) (expr_of b) (λ e s. on.exprs e.0 s) es h
 
--- one more that stands
+-- one more that is there
 pub pushed_stands : {X : Type 0} (P : X → Type 0) (xs ys : List X) (x : X) → ys ≡ xs ++ x ∷ [] → All P xs → P x → All P ys
 pushed_stands P xs ys x e h p = subst (All P) (sym e) (All-push P xs x h p)
 

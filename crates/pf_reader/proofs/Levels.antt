@@ -19,7 +19,7 @@ module _ (deeper : ℕ → Parse Expr) (guard : Bool) (limit level : ℕ) where
   unfolding more
   more_out n floor left ts k = rw k refl
 
-  -- a turn; the left operand is seen anew where its tree has grown
+  -- a turn; the left operand is seen again where its tree has grown
   module _ (n m floor above : ℕ) (left again node : Expr) (ts next : List NumberedToken) (i : Infix) (same : again ≡ left) (k : n ≡ suc m) (e : infix_ahead guard floor level ts ≡ Some (i, next)) (up : above ≡ right_level i) where
     pub more_fails : deeper above next ≡ None → more deeper guard limit level n floor left ts ≡ None
     unfolding more
@@ -77,7 +77,7 @@ element_plain n limit ts lt m = element_is n limit ts lt ∙ rw m refl
 pub element_fails : (n : Names) (limit : ℕ) (ts next : List NumberedToken) (q : ExprPattern) → 0 < limit → match_ahead (pattern n (limit - 1)) ts ≡ Some (q, next) → element n (limit - 1) next ≡ None → element n limit ts ≡ None
 element_fails n limit ts next q lt m e = element_is n limit ts lt ∙ rw (m, e) refl
 
--- the pattern is seen anew where its tree has grown
+-- the pattern is seen again where its tree has grown
 pub element_match : (n : Names) (limit : ℕ) (ts next rest : List NumberedToken) (q again : ExprPattern) (e : Expr) → again ≡ q → 0 < limit → match_ahead (pattern n (limit - 1)) ts ≡ Some (q, next) → element n (limit - 1) next ≡ Some (e, rest)
     → element n limit ts ≡ within limit (p.match again e) rest
 element_match n limit ts next rest q again e same lt m f = element_is n limit ts lt ∙ rw (m, f, same) refl

@@ -45,7 +45,7 @@ guard_fails test ts read = rw read refl
 
 -- ---- clauses
 
--- what stands before the arrow is seen anew where its tree has grown
+-- what is before the arrow is seen again where its tree has grown
 pub clause_is : (r : Readers) (choice : Bool) (ts r1 r2 r3 : List NumberedToken) (f again : Front) (es : List Expr) → again ≡ f → front r choice ts ≡ Some (f, r1) → after (mark marks.Arrow) r1 ≡ Some r2 → body r.elements r2 ≡ Some (es, r3)
     → clause r choice ts ≡ Some ((again, es), r3)
 clause_is r choice ts r1 r2 r3 f again es same g h k = rw (g, h, k, same) refl
@@ -54,7 +54,7 @@ pub branches_is : (r : Readers) (choice : Bool) (ts r1 r2 : List NumberedToken) 
     → after (reserved words.End) r1 ≡ Some r2 → branches r choice ts ≡ Some (bs, r2)
 branches_is r choice ts r1 r2 cs bs row read ends = rw (read, ends, row) refl
 
--- the subject is seen anew where its tree has grown
+-- the subject is seen again where its tree has grown
 pub case_is : (r : Readers) (inner : Parse Expr) (ts r1 r2 r3 : List NumberedToken) (e again : Expr) (bs : Branches) → again ≡ e → inner ts ≡ Some (e, r1) → after (reserved words.Of) r1 ≡ Some r2
     → branches r false r2 ≡ Some (bs, r3) → case_of r inner ts ≡ Some (p.case again bs, r3)
 case_is r inner ts r1 r2 r3 e again bs same f g h = rw (f, g, h, same) refl

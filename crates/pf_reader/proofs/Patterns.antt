@@ -45,7 +45,7 @@ pattern_tuple inner first ts rest qs all f row read = rw (f, read, row) refl
 abbrev follows : Option (ExprPattern × List NumberedToken) → Option (ExprPattern × List NumberedToken)
 follows o = match_ahead (λ ts. o) []
 
--- no `=` stands behind a pattern of one token
+-- no `=` follows a pattern of one token
 module _ (ts : List NumberedToken) (e : after (mark marks.Match) ts ≡ None) where
   of_one : (q : ExprPattern) → follows (Some (q, ts)) ≡ None
   of_one q = rw e refl

@@ -25,7 +25,7 @@ right_nil (x ∷ xs) = ap (λ ys. x ∷ ys) (right_nil xs)
 module _ (n : Names) where
   -- ---- export forms
 
-  -- what was read so far stands first
+  -- what was read so far comes first
   module _ (front : List Export) (whole : Option (List Export × List NumberedToken)) (k : ℕ) (ts : List NumberedToken) (w : whole ≡ with_front front (exports n k ts)) where
     pub exports_stop : after (mark marks.Minus) ts ≡ None → whole ≡ Some (front, ts)
     unfolding exports
@@ -87,7 +87,7 @@ module _ (n : Names) where
 
   -- ---- a clause of a function
 
-  -- its parts are seen anew where their tree has grown
+  -- its parts are seen again where their tree has grown
   pub head_is : (ts r1 r2 r3 r4 r5 r6 : List NumberedToken) (a at : ℕ) (qs : List ExprPattern) (g again : Condition) (es : List Expr) (all_expr_patterns : ExprPatterns) (all_exprs : Exprs)
       → all_expr_patterns ≡ expr_patterns_of qs → again ≡ g → all_exprs ≡ exprs_of es
       → named n ts ≡ Some ((a, at), r1) → after (mark marks.OpenParenthesis) r1 ≡ Some r2 → until (mark marks.CloseParenthesis) (pattern n MOST_TREE_DEPTH) r2 ≡ Some (qs, r3) → when (parse_expr n true MOST_TREE_DEPTH top) r3 ≡ Some (g, r4)

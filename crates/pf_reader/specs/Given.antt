@@ -1,4 +1,4 @@
--- How what the code answers stands to what reading gives.
+-- How the code's answers relate to what reading gives.
 use Rattle.std.specs.Prelude.{◌≡◌, Option, Some, None, Result, Ok, Err}
 use Rattle.std.specs.Prelude.{List, map, ◌++◌}
 use Rattle.std.specs.List.{All}
@@ -64,7 +64,7 @@ view_of_tests b g = map (expr_of b) g.tests.items
 abbrev pub TestsStand : NodeTable → Tests → Type 0
 TestsStand b g = All (ExprRepresents b) g.tests.items
 
--- what stands before the arrow of a clause, and the tokens after it
+-- what is before the arrow of a clause, and the tokens after it
 abbrev pub view_of_front : NodeTable → FrontPart → Front × List NumberedToken
 view_of_front b f = ((expr_pattern_at b f.expr_pattern.0, condition_over b f.condition), tokens_in f.rest)
 
@@ -75,7 +75,7 @@ FrontRepresents b f = ExprPatternRepresents b f.expr_pattern × ConditionReprese
 abbrev pub clause_of : NodeTable → Branch → Clause
 clause_of b c = ((expr_pattern_at b c.expr_pattern.0, condition_over b c.condition), map (expr_of b) c.body.items)
 
--- ---- what stands before what is read
+-- ---- what is before what is read
 
 -- the items before, and those read after them
 abbrev pub with_front : {A : Type 0} → List A → Option (List A × List NumberedToken) → Option (List A × List NumberedToken)

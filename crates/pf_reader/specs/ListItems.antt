@@ -1,4 +1,4 @@
--- What stands between commas: expressions, in a guard or not, or elements of a body.
+-- What is between commas: expressions, in a guard or not, or elements of a body.
 use Rattle.std.specs.Prelude.{ℕ}
 use Rattle.pf_syntax.specs.Expr.{Expr}
 use Rattle.pf_grammar.specs.Grammar.{Names, top}

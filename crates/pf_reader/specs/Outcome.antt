@@ -1,4 +1,4 @@
--- What the outcome of reading tells of the tokens.
+-- What the outcome of reading says of the tokens.
 use Rattle.std.specs.Prelude.{◌≡◌, ℕ, List, Result, Ok, Err}
 use Rattle.pf_fault.specs.declared.code.Code.{Code}
 use Rattle.pf_fault.specs.declared.code.Code.TheVariants.{NoHead, NotGrammar}

@@ -1,4 +1,4 @@
--- A pattern by itself: the tokens of a text are one pattern of the grammar, and nothing stands behind it.
+-- A pattern by itself: the tokens of a text are one pattern of the grammar, and nothing follows it.
 use Rattle.std.specs.Prelude.{◌≡◌, ◌≤◌, ℕ, List, [], ◌∷◌, Option, Some, None, Result, Ok, Err}
 use Rattle.pf_fault.specs.declared.code.Code.{Code}
 use Rattle.pf_fault.specs.declared.code.Code.TheVariants.{NoProperty}
@@ -18,7 +18,7 @@ LacksModule [] = Unit {0}
 LacksModule (t ∷ ts) = (t.kind ≡ own_module → ⊥) × LacksModule ts
 
 -- what numbers in the tokens stand for, where those of atoms go on from these names. The own name is asked for at `?MODULE` alone,
--- which no token is, so its number is of no account
+-- which no token is, so its number doesn't matter
 abbrev pub names_after : List (List ℕ) → List Placed → Names
 names_after names ts = record { atoms = atoms_after names ts; own = 0 }
 
@@ -28,7 +28,7 @@ pub record DerivesPatternAlone (names : List (List ℕ)) (q : ExprPattern) (ts :
   pub derives : DerivesExprPattern (names_after names ts) q (numbered_after names ts)
   pub shallow : expr_pattern_depth q ≤ MOST_TREE_DEPTH
 
--- ---- what the outcome of reading tells of the tokens
+-- ---- what the outcome of reading says of the tokens
 
 -- the pattern that was read
 abbrev pub pattern_of : ReadPattern → ExprPattern
@@ -47,7 +47,7 @@ IsNoPattern names ts (Fault c) = (c ≡ NoProperty) × ((q : ExprPattern) → De
 
 -- ---- reading from left to right
 
--- a pattern that was read, where nothing stands behind it
+-- a pattern that was read, where nothing follows it
 abbrev pub alone : Option (ExprPattern × List NumberedToken) → Option ExprPattern
 alone None = None
 alone (Some (q, [])) = Some q

@@ -79,7 +79,7 @@ fn read_entry_list<'a, 't>(
     Ok((entries, rest))
 }
 
-/// What stands behind the minus of an export form: its entries.
+/// What follows the minus of an export form: its entries.
 fn read_export<'a, 't>(
     alloc: Global,
     context: Context,

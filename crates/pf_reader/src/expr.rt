@@ -83,7 +83,7 @@ fn read_prim<'a, 't>(
     }
 }
 
-/// An atom, or a call where an opening parenthesis stands behind its name.
+/// An atom, or a call where an opening parenthesis follows its name.
 #[cycle(expr)]
 fn read_named<'a, 't>(
     alloc: Global,
@@ -113,7 +113,7 @@ fn read_named<'a, 't>(
     put(syntax, ExprNode::Call(ident, arguments), rest)
 }
 
-/// What stands behind the mark that a part begins with.
+/// What follows the mark that a part begins with.
 #[cycle(expr)]
 fn read_marked<'a, 't>(
     alloc: Global,
@@ -147,7 +147,7 @@ fn read_marked<'a, 't>(
     }
 }
 
-/// What stands behind an opening bracket: elements, and a tail behind a bar or none.
+/// What follows an opening bracket: elements, and a tail after a bar or none.
 #[cycle(expr)]
 fn read_list<'a, 't>(
     alloc: Global,
@@ -181,7 +181,7 @@ fn read_list<'a, 't>(
     }
 }
 
-/// A part, behind a minus or not.
+/// A part, after a minus or not.
 #[cycle(expr)]
 fn read_unary<'a, 't>(
     alloc: Global,
@@ -242,7 +242,7 @@ fn read_level<'a, 't>(
     Ok(left)
 }
 
-/// What stands between commas.
+/// What is between commas.
 #[derive(Clone, Copy)]
 enum Item {
     /// An expression, which is no match, in a guard where the flag says so.
@@ -408,7 +408,7 @@ fn read_guard<'a, 't>(
     Err(OrNoMemory::Fault(Syntax))
 }
 
-/// A guard behind `when`, or none.
+/// A guard after `when`, or none.
 #[cycle(expr)]
 pub(crate) fn read_when<'a, 't>(
     alloc: Global,
@@ -431,7 +431,7 @@ pub(crate) fn read_when<'a, 't>(
     }
 }
 
-/// What stands before the arrow of a clause: in an `if`, where the flag says so, a guard alone.
+/// What is before the arrow of a clause: in an `if`, where the flag says so, a guard alone.
 #[cycle(expr)]
 fn read_front<'a, 't>(
     alloc: Global,
@@ -542,7 +542,7 @@ fn read_branches<'a, 't>(
     Ok((found, rest))
 }
 
-/// What stands behind `case`.
+/// What follows `case`.
 #[cycle(expr)]
 fn read_case<'a, 't>(
     alloc: Global,
@@ -565,7 +565,7 @@ fn read_case<'a, 't>(
     put(syntax, node, rest)
 }
 
-/// What stands behind the reserved word that a part begins with.
+/// What follows the reserved word that a part begins with.
 #[cycle(expr)]
 fn read_worded<'a, 't>(
     alloc: Global,

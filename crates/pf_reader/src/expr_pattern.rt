@@ -19,7 +19,7 @@ use pf_syntax::{ExprPatternId, ExprPatternNode, Ident, SyntaxTree};
 use pf_tokens::Mark;
 use std::alloc::Global;
 
-/// An integer behind a minus, as a pattern.
+/// An integer after a minus, as a pattern.
 fn read_negative<'a, 't>(
     syntax: &mut SyntaxTree,
     tokens: Tokens<'a, 't>,
@@ -99,7 +99,7 @@ fn read_begun<'a, 't>(
     }
 }
 
-/// What stands behind the mark that a pattern begins with.
+/// What follows the mark that a pattern begins with.
 #[cycle(expr_pattern)]
 fn read_marked<'a, 't>(
     alloc: Global,
@@ -132,7 +132,7 @@ fn read_marked<'a, 't>(
     }
 }
 
-/// What stands behind an opening bracket: elements, and a tail behind a bar or none.
+/// What follows an opening bracket: elements, and a tail after a bar or none.
 #[cycle(expr_pattern)]
 fn read_list<'a, 't>(
     alloc: Global,
@@ -223,7 +223,7 @@ pub(crate) fn read_expr_patterns<'a, 't>(
     Ok((parts, rest))
 }
 
-/// Whether two tokens tell that no match begins here: the first is a pattern alone or none, and no `=` stands behind it.
+/// Whether two tokens show that no match begins here: the first is a pattern alone or none, and no `=` follows it.
 fn has_no_match(tokens: Tokens) -> bool
     ensures { result ≡ true → (n : Names) → (limit : ℕ) → match_ahead (pattern n limit)
         (tokens_in tokens.entry) ≡ None }
@@ -237,7 +237,7 @@ fn has_no_match(tokens: Tokens) -> bool
     }
 }
 
-/// A pattern before `=`, where one stands first, and what follows both.
+/// A pattern before `=`, where one comes first, and what follows both.
 pub(crate) fn read_match_ahead<'a, 't>(
     alloc: Global,
     context: Context,

@@ -2,9 +2,9 @@
 
 use pf_fault::OrNoMemory;
 
-/// No rule allows what stands there.
+/// No rule allows what is there.
 #[derive(Clone, Copy, Debug, PartialEq, Eq)]
 pub(crate) struct Syntax;
 
-/// No rule allows what stands there, or memory ran out.
+/// No rule allows what is there, or memory ran out.
 pub(crate) type ReadFault = OrNoMemory<Syntax>;

@@ -1,4 +1,4 @@
-//! Infixes: the one that stands first, and the node of one and its operands.
+//! Infixes: the one that comes first, and the node of one and its operands.
 
 ghost use Rattle.std.specs.Prelude.{◌≡◌, option_map};
 ghost use Rattle.pf_grammar.specs.Parse.{infix_ahead, joined};
@@ -26,7 +26,7 @@ pub(crate) fn joined(joint: Infix, left: ExprId, right: ExprId) -> ExprNode
     }
 }
 
-/// The infix that stands first, where it fits, and what follows it.
+/// The infix that comes first, where it fits, and what follows it.
 pub(crate) fn infix_ahead<'a, 't>(
     guard: bool,
     floor: u32,

@@ -29,7 +29,7 @@ pub(crate) struct ExprPatternPart<'a, 't> {
     pub rest: Tokens<'a, 't>,
 }
 
-/// What stands before the arrow of a clause, and what follows it.
+/// What is before the arrow of a clause, and what follows it.
 #[derive(Drop)]
 pub(crate) struct FrontPart<'a, 't> {
     pub expr_pattern: ExprPatternId,

@@ -1,4 +1,4 @@
-//! Reads a pattern that stands by itself, in no module.
+//! Reads a pattern by itself, in no module.
 
 ghost use Rattle.std.specs.Prelude.{map, IfErr, IfOk};
 ghost use Rattle.std.specs.Bool.{Decides};
@@ -62,7 +62,7 @@ fn read_alone(
     })
 }
 
-/// The pattern that the tokens of a text are, from the first to the last. Its atoms go by the numbers of the table; one that the
+/// The pattern that the tokens of a text are, from the first to the last. Its atoms have the numbers of the table; one that the
 /// table lacks has a number past the table's.
 pub fn read_pattern(
     alloc: Global,

@@ -29,7 +29,7 @@ pub struct ReadModule {
     pub atoms: AtomTable,
 }
 
-/// The atom that stands first, whose name may have any length, and what follows it.
+/// The atom that comes first, whose name may have any length, and what follows it.
 fn any_atom<'a, 't>(tokens: Tokens<'a, 't>) -> Option<(AtomId, Tokens<'a, 't>)>
     ensures { option_map (λ x. (x.0.0, tokens_in x.1)) result ≡ any_atom (tokens_in tokens.entry) }
 {
@@ -40,7 +40,7 @@ fn any_atom<'a, 't>(tokens: Tokens<'a, 't>) -> Option<(AtomId, Tokens<'a, 't>)>
     }
 }
 
-/// The module's name, where the first form stands first, and what follows that.
+/// The module's name, where the first form comes first, and what follows that.
 fn first_form<'a, 't>(atoms: &AtomTable, tokens: Tokens<'a, 't>) -> Option<(AtomId, Tokens<'a, 't>)>
     ensures { option_map (λ x. (x.0.0, tokens_in x.1)) result ≡ begins atoms.now (tokens_in tokens.entry) }
 {

@@ -60,7 +60,7 @@ fn is_kind(wanted: NumberedKind, kind: NumberedKind) -> bool
     }
 }
 
-/// What follows the kind of token, where it stands first.
+/// What follows the kind of token, where it comes first.
 pub(crate) fn skip<'a, 't>(tokens: Tokens<'a, 't>, wanted: NumberedKind) -> Option<Tokens<'a, 't>>
     ensures { option_map (λ rest. tokens_in rest) result ≡ after (kind_of wanted.entry)
         (tokens_in tokens.entry) }
@@ -73,7 +73,7 @@ pub(crate) fn skip<'a, 't>(tokens: Tokens<'a, 't>, wanted: NumberedKind) -> Opti
     }
 }
 
-/// What follows the kind of token, which must stand first.
+/// What follows the kind of token, which must come first.
 pub(crate) fn behind<'a, 't>(
     tokens: Tokens<'a, 't>,
     wanted: NumberedKind,
@@ -104,7 +104,7 @@ impl Context<'_> {
         }
     }
 
-    /// Whether a call of this name with this number of arguments may stand, in a guard where the flag says so.
+    /// Whether a call of this name with this number of arguments is allowed, in a guard where the flag says so.
     pub(crate) fn call_stands(self, guard: bool, name: AtomId, arity: usize) -> bool
         ensures { result ≡ call_stands (names_of self.entry) guard name.0 arity }
     {
@@ -118,7 +118,7 @@ impl Context<'_> {
     }
 }
 
-/// A name with its offset, which must stand first, and what follows it.
+/// A name with its offset, which must come first, and what follows it.
 pub(crate) fn read_name<'a, 't>(
     context: Context,
     tokens: Tokens<'a, 't>,
@@ -141,7 +141,7 @@ pub(crate) fn read_name<'a, 't>(
     }
 }
 
-/// The integer that stands first, and what follows it.
+/// The integer that comes first, and what follows it.
 pub(crate) fn read_number<'a, 't>(tokens: Tokens<'a, 't>) -> Option<(Integer, Tokens<'a, 't>)>
     ensures { option_map (λ x. (x.0.value, tokens_in x.1)) result ≡ number (tokens_in tokens.entry) }
 {
@@ -162,7 +162,7 @@ fn is_word(atoms: &AtomTable, bytes: &[u8], kind: NumberedKind) -> bool
     }
 }
 
-/// What follows an atom of these bytes, where one stands first.
+/// What follows an atom of these bytes, where one comes first.
 pub(crate) fn skip_word<'a, 't>(
     atoms: &AtomTable,
     bytes: &[u8],

@@ -1,4 +1,4 @@
--- How many patterns and arguments stand in a list of them.
+-- How many patterns and arguments are in a list of them.
 use Rattle.std.proofs.Common.{◌≡◌, List, [], ◌∷◌, length, suc, refl, ap, arith}
 use Rattle.pf_syntax.specs.SyntaxTree.{NodeTable}
 use Rattle.pf_syntax.specs.SyntaxTreeOver.{exprs_at, expr_patterns_at}

@@ -144,7 +144,7 @@ faults_of atoms m =
 
 -- ---- the first fault
 
--- at a lower offset, or at the same with a code that isn't behind in the table
+-- at a lower offset, or at the same with a code that isn't later in the table
 abbrev pub NotAfter : Refusal → Refusal → Type 0
 NotAfter a b = (a.offset < b.offset) ⊎ ((a.offset ≡ b.offset) × (rank_of a.code ≤ rank_of b.code))
 

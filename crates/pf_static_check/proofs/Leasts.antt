@@ -86,7 +86,7 @@ swapped_before a b c d f h =
       | inr y ↦ Contains-append_right (b ++ a ++ c) d f y
     ]
 
--- four parts that are found in turn, of which the first two stand the other way round
+-- four parts that are found in turn, of which the first two are swapped
 pub first_of_all : (d e u h : List Refusal) (k l m n o : Option Refusal) → k ≡ None → l ≡ earliest k d → m ≡ earliest l e → n ≡ earliest m u → o ≡ earliest n h → IsLeast (e ++ d ++ u ++ h) o
 first_of_all d e u h k l m n o a b c f g =
     let first : m ≡ earliest None (d ++ e) = c ∙ ap (λ p. earliest p e) (b ∙ ap (λ p. earliest p d) a) ∙ sym (fold-append earlier None d e) in

@@ -147,7 +147,7 @@ walks_back a b c f s w k set trail =
       found = λ g st. k ∙ w.found g st;
     }
 
--- a clause of a function is walked, and behind it no variable is known again
+-- a clause of a function is walked, and after it no variable is known, as before it
 pub begins_anew : (n : Names) (a b d e c : Walk) (h : Head) → ExprPatternsWalked a b h.parameters → ConditionWalked n b d h.condition → ExprsWalked n d e h.body → kept c.first ≡ kept e.first
     → ((x : ℕ) → status_of c.variables x ≡ (if has (drop (length (trail_of a.variables)) (trail_of e.variables)) x then New else status_of e.variables x))
     → trail_of c.variables ≡ take (length (trail_of a.variables)) (trail_of e.variables) → BeginsAnew a c (head_faults n h)

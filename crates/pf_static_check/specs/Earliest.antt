@@ -5,7 +5,7 @@ use Rattle.pf_fault.specs.declared.refusal.Refusal.{Refusal}
 use Rattle.pf_rules.specs.Static.{IsFirst}
 use Rattle.pf_static_check.specs.declared.first.First.{First}
 
--- at a lower offset, or at the same with a code that stands before in the table
+-- at a lower offset, or at the same with a code that comes earlier in the table
 abbrev pub before : Refusal → Refusal → Bool
 before f k = nat_lt f.offset k.offset || ((f.offset == k.offset) && nat_lt (rank_of f.code) (rank_of k.code))
 

@@ -81,7 +81,7 @@ AnonymousWalked old new at = Walks old new (λ g. g) (λ g. fault_if true Unboun
 abbrev pub CallWalked : List (List ℕ) → Signatures → Walk → Walk → ℕ → ℕ → ℕ → Type 0
 CallWalked atoms o old new f at arity = Walks old new (λ g. g) (λ g. if lists o f arity || is_builtin atoms f arity then [] else fault_if true Undefined at)
 
--- through a part that begins with no variable, behind which there is none again
+-- through a part that begins with no variable, after which there is again none
 pub record BeginsAnew (old new : Walk) (faults : List Refusal) : Type 0 where
   pub stands : Stands old.variables no_scope → Stands new.variables no_scope
   pub found : Stands old.variables no_scope → kept new.first ≡ earliest (kept old.first) faults

@@ -5,7 +5,7 @@ ghost use Rattle.pf_static_check.specs.Earliest.{before, earlier, kept};
 
 use pf_fault::{Code, Refusal};
 
-/// Whether a fault stands before another: at a lower offset, or there with a code that stands before in the table.
+/// Whether a fault comes before another: at a lower offset, or there with a code that comes earlier in the table.
 fn is_before(fault: Refusal, other: Refusal) -> bool
     ensures { result ≡ before fault other }
 {

@@ -16,7 +16,7 @@ pub(crate) enum Status {
 }
 
 /// What is known of each variable, by the number of its name; one past the end is new. The names that are no longer new
-/// stand in a trail, in the order in which they became so.
+/// are in a trail, in the order in which they became so.
 #[derive(Drop)]
 pub(crate) struct VariableStates {
     states: Vec<Status>,

@@ -163,7 +163,7 @@ impl Walk {
         Ok(())
     }
 
-    /// Through a guard, behind which the same is seen as before it.
+    /// Through a guard, after which the same is seen as before it.
     #[cycle(exprs)]
     fn condition(
         &mut self,
@@ -181,7 +181,7 @@ impl Walk {
         Ok(())
     }
 
-    /// Through an alternative of a guard, behind which the same is seen as before it.
+    /// Through an alternative of a guard, after which the same is seen as before it.
     #[cycle(exprs)]
     fn tests(
         &mut self,
@@ -199,7 +199,7 @@ impl Walk {
         Ok(())
     }
 
-    /// Through the clauses of a construct, each of which begins with what is seen at the construct. Behind it the names
+    /// Through the clauses of a construct, each of which begins with what is seen at the construct. After it the names
     /// that they leave are unsafe.
     #[cycle(exprs)]
     fn branches(

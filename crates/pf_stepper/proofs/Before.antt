@@ -1,4 +1,4 @@
--- Steps that a process takes by itself stand before the turn that goes on from there.
+-- Steps that a process takes by itself are before the turn that goes on from there.
 use Rattle.std.proofs.Common.{◌≡◌, ℕ, zero, suc, ◌+◌, ◌-◌, ◌≤◌, subst, arith}
 use Rattle.pf_model.specs.Module.{Module}
 use Rattle.pf_model.specs.Context as index
@@ -38,7 +38,7 @@ module _ (m : Module) (a : ℕ) (c : Core) where
       subst (λ z. TurnFrom z p d (suc i + j)) x
       (subst (TurnFrom (i + suc n) p d) y (steps_before (suc n) (suc j) d i p q s (step_before n j d q r h k)))
 
-  -- a turn whose last step is behind n steps by itself
+  -- a turn whose last step is after n steps by itself
   pub turn_behind : (left used i : ℕ) (s t : State) (d : Deed) → used ≡ suc i → used ≤ left → Steps m a i (goes_on s) (goes_on t)
       → ((n : ℕ) → Turn m a c (suc n) t d 1) → Turn m a c left s d used
   turn_behind left used i s t d e l h last =

@@ -1,4 +1,4 @@
--- A process stands at the point that its frames tell.
+-- A process is at the point that its frames give.
 use Rattle.std.proofs.Common.{◌≡◌, ℕ, List, [], ◌∷◌, ◌++◌, ◌-◌, length, drop, Option, Some, None, refl, ap, subst, sym, suc, arith, ◌∙◌}
 use Rattle.std.proofs.Common.{inl, inr}
 use Rattle.std.specs.Prelude.{◌⊎◌, slice_get}
@@ -41,13 +41,13 @@ last_waits (y ∷ z ∷ xs) x e =
     let w : length (y ∷ z ∷ xs) - 1 ≡ suc (length (z ∷ xs) - 1) = omega arith in
     last_waits (z ∷ xs) x (e ∙ ap (slice_get (y ∷ z ∷ xs)) w)
 
--- ---- what stands in the innermost frame
+-- ---- what is in the innermost frame
 
 in_place : (o : Option Value) (y : ℕ) → IsInPlace (value_or_var o y)
 in_place None y = tt
 in_place (Some v) y = tt
 
--- a process stands within a part where it stands so in a frame more
+-- a process is within a part where it is so in one frame more
 deeper : (t : Tables) (h : Hole) (u : Tree) (n : NodeId) (i : ℕ) → IsWithin t (running u) n i → IsWithin t (running (around h u)) n i
 deeper t h u n i w =
     let e : u ≡ fill (w.frames ++ w.hole ∷ []) w.inner = let q = w.is in cc in
@@ -113,7 +113,7 @@ stands_there t env ws base fs (f.Enter g n) = call_stands t env ws (drop (kept f
 stands_there t env ws base fs (f.Raised r) = tt
 stands_there t env ws base fs (f.Exited r) = tt
 
--- where a machine stands whose fields these are
+-- where a machine with these fields is
 abbrev pub point_from : Stack → Standing → Point
 point_from a (s.Goes x) = point_in a.frames.items x
 point_from a s.Asking = p.Nowhere

@@ -35,7 +35,7 @@ stored (case_of ks) = (12, (case nothing ks, none))
 stored (receiver_of a) = (13, (a, none))
 stored (message_of v) = (14, (lit v, none))
 
--- the frames that stand by their tree alone
+-- the frames that are coded by their tree alone
 abbrev pub by_tree : Tree → Values → Frame
 by_tree (tuple ts) vs = element_of vs ts
 by_tree (op o (lit v) b) vs = right_of o v
@@ -85,7 +85,7 @@ frame_again (message_of v) = refl
 abbrev pub coded_frame : Coded Frame
 coded_frame = code_by _ (coded× coded_ℕ (coded× coded_tree coded_values)) stored frame_from frame_again
 
--- ---- standings
+-- ---- the status of a machine
 
 abbrev pub Parts : Type 0
 Parts = Tree ⊎ (Tree ⊎ (Value ⊎ (Value ⊎ (Value ⊎ (List Frame ⊎ ℕ)))))

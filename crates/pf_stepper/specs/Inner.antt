@@ -10,7 +10,7 @@ use Rattle.pf_stepper.specs.declared.machine.Standing.{Standing}
 use Rattle.pf_stepper.specs.declared.machine.Standing.TheVariants as s
 use Rattle.pf_stepper.specs.declared.machine.Machine.TheInside.{Inside}
 
--- a process that goes on by itself stands in its state
+-- a process that goes on by itself is in its state
 abbrev pub standing_by : Move → view.Standing
 standing_by (goes_on s) = goes s
 standing_by (asks fs a) = asking fs

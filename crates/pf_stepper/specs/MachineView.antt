@@ -5,7 +5,7 @@ use Rattle.pf_syntax.specs.Tree.{call, no_trees}
 use Rattle.pf_syntax.specs.Module.{Checked}
 use Rattle.pf_model.specs.Context.{State, running, Frame, after_values}
 
--- how a machine stands: memory ran out; its process goes on from a state, or waits for the answer to an action, which goes into these
+-- the status of a machine: memory ran out; its process goes on from a state, or waits for the answer to an action, which goes into these
 -- frames; or its process has ended
 pub data Standing : Type 0 where
   spent : Standing
@@ -13,7 +13,7 @@ pub data Standing : Type 0 where
   asking : List Frame → Standing
   over : Standing
 
--- a machine: its pid, the checked module that it runs, and how it stands
+-- a machine: its pid, the checked module that it runs, and its status
 pub record MachineView : Type 0 where
   pub own : ℕ
   pub checked : Checked

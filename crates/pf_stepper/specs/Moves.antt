@@ -1,4 +1,4 @@
--- What a call of a machine does, with the mailbox at which it may stand.
+-- What a call of a machine does, with the mailbox that it is lent.
 use Rattle.std.specs.Prelude.{◌≡◌, ℕ, List, Some, None, Ok, Err}
 use Rattle.pf_terms.specs.Value.{Value}
 use Rattle.pf_terms.specs.Term.{value_of}
@@ -13,7 +13,7 @@ use Rattle.pf_stepper.specs.declared.act.Act.{Act}
 use Rattle.pf_stepper.specs.declared.machine.Move.{Move}
 use Rattle.pf_stepper.specs.declared.machine.Move.TheVariants as v
 
--- one step by itself, which leaves the mailbox
+-- one step by itself, which leaves the mailbox as it is
 pub record Stepped (m : Module) (own : ℕ) (s : State) (mail : List Value) (after : Standing) (mail' : List Value) : Type 0 where
   pub next : State
   pub step : Contracts m own (goes_on s) (goes_on next)
@@ -45,7 +45,7 @@ pub record WaitsOn (m : Module) (own : ℕ) (s : State) (mail : List Value) (aft
   pub stands : after ≡ goes s
   pub kept : mail' ≡ mail
 
--- the end, which leaves the mailbox: it returned a value, or was about to end with a reason
+-- the end, which leaves the mailbox as it is: it returned a value, or was about to end with a reason
 pub record EndsMachine (s : State) (mail : List Value) (last : State) (after : Standing) (mail' : List Value) : Type 0 where
   pub was : s ≡ last
   pub stands : after ≡ over

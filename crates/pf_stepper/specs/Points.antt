@@ -1,4 +1,4 @@
--- Where a process stands in the code of its module.
+-- Where a process is in the code of its module.
 use Rattle.std.specs.Prelude.{◌≡◌, ◌⊎◌, ℕ, List, [], ◌∷◌, ◌++◌}
 use Rattle.pf_terms.specs.Value.{Values}
 use Rattle.pf_terms.specs.declared.term.Term.{Term}
@@ -77,7 +77,7 @@ abbrev pub called_by : Callee → Point
 called_by (callee.Function g) = p.Calls g
 called_by g = p.Nowhere
 
--- what stands in the innermost of these frames
+-- what is in the innermost of these frames
 abbrev pub point_in : List Frame → Focus → Point
 point_in fs (f.Eval x) = part_in fs x
 point_in fs (f.Value v) = waits_in fs
@@ -146,14 +146,14 @@ HasNoNode (waiting r) = ⊥
 HasNoNode (ending r) = Unit {0}
 HasNoNode (ended e) = ⊥
 
--- a process in this state stands at this point
+-- a process in this state is at this point
 abbrev pub IsPointOf : Tables → State → Point → Type 0
 IsPointOf t s (p.Calls g) = IsCalling s g
 IsPointOf t s (p.Before n) = IsBefore t s n
 IsPointOf t s (p.Within n i) = IsWithin t s n i
 IsPointOf t s p.Nowhere = HasNoNode s
 
--- a machine that stands so is at this point
+-- a machine with this status is at this point
 abbrev pub IsPointAt : Tables → Standing → Point → Type 0
 IsPointAt t (goes s) x = IsPointOf t s x
 IsPointAt t spent x = x ≡ p.Nowhere

@@ -1,4 +1,4 @@
--- Whether an inbox is ready for the `receive` that a machine comes to next.
+-- Whether an inbox is ready for the `receive` that a machine reaches next.
 use Rattle.std.specs.Prelude.{◌≡◌, ℕ, List}
 use Rattle.pf_terms.specs.declared.term.Term.{Term}
 use Rattle.pf_syntax.specs.Tree.{Clauses}
@@ -12,7 +12,7 @@ use Rattle.pf_model.specs.Context.{Frame, State, goes_on, awaits}
 use Rattle.pf_stepper.specs.MicroSteps.{Contracts}
 use Rattle.pf_stepper.specs.MachineView.{MachineView, spent, goes}
 
--- a `receive` to which a process of this pid comes: its clauses, with the values of the variables in scope
+-- a `receive` that a process of this pid reaches: its clauses, with the values of the variables in scope
 pub record Receive : Type 0 where
   pub code : Module
   pub own : ℕ
@@ -29,18 +29,18 @@ receive_in m own base env l = receive_of (module_of m) own (sub_clauses (activat
 abbrev pub IsReadyForAll : (Receive → Type 0) → Type 0
 IsReadyForAll ready = (r : Receive) → ready r
 
--- the machine stands at a `receive` of these clauses
+-- the machine is at a `receive` of these clauses
 pub record StandsAt (s : MachineView) (ks : Clauses) : Type 0 where
   pub state : State
   pub frames : List Frame
   pub stood : s.standing ≡ goes state
   pub next : Contracts (module_of s.checked) s.own (goes_on state) (awaits frames ks)
 
--- this may be the next `receive` of a machine that has memory: if it stands at one, it is this
+-- this may be the next `receive` of a machine that has memory: if it is at one, it is this
 pub record MayComeTo (s : MachineView) (r : Receive) : Type 0 where
   pub lives : s.standing ≡ spent → ⊥
   pub only : (ks : Clauses) → StandsAt s ks → r ≡ receive_of (module_of s.checked) s.own ks
 
--- ready for the `receive` at which the machine stands; where it stands at none, for whatever comes; once memory ran out, for nothing
+-- ready for the `receive` at which the machine is; where it is at none, for whatever comes; once memory ran out, for nothing
 abbrev pub IsReadyAhead : (Receive → Type 0) → MachineView → Type 0
 IsReadyAhead ready s = (r : Receive) → MayComeTo s r → ready r

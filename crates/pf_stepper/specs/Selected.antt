@@ -12,7 +12,7 @@ use Rattle.pf_patterns.specs.Substitution.{sub, sub_clauses}
 use Rattle.pf_model.specs.Module.{module_of}
 use Rattle.pf_model.specs.Receive.{selected}
 
--- slots came onto the stack, and over them the body is that of the oldest message that a clause picks; this message is taken
+-- slots were pushed, and over them the body is that of the oldest message that a clause picks; this message is taken
 pub record TakesMessage (m : Checked) (own base : ℕ) (before after' : List Term) (ks : Clauses) (mail mail' : List Value) (body : Operand) (message : Term) : Type 0 where
   pub added : List Term
   pub grown : after' ≡ before ++ added

@@ -1,4 +1,4 @@
--- What a machine is left as by what its stack did.
+-- The status of a machine after what its stack did.
 use Rattle.std.specs.Prelude.{◌≡◌, ℕ, List}
 use Rattle.pf_terms.specs.Value.{Value}
 use Rattle.pf_syntax.specs.Module.{Checked}
@@ -34,11 +34,11 @@ AdvanceIsSound s (a.Ended r) = Unit {0}
 abbrev pub going : Checked → ℕ → Next → MachineView
 going m own p = record { own = own; checked = m; standing = standing_by p }
 
--- ready for what a machine that is left so comes to next
+-- ready for what a machine with this status reaches next
 abbrev pub IsReadyAfter : (Receive → Type 0) → Checked → ℕ → Stack → Standing → Type 0
 IsReadyAfter ready m own s x = IsReadyAhead ready (record { own = own; checked = m; standing = standing_in m s x })
 
--- ready for what comes after the contractions; or for what came to the last move
+-- ready for what comes after the contractions; or for what led to the last move
 abbrev pub IsReadyToSettle : (Receive → Type 0) → Checked → ℕ → Stack → Advance → Type 0
 IsReadyToSettle ready m own s (a.Changed y) = IsReadyAhead ready (going m own (stack_process m s y))
 IsReadyToSettle ready m own s r = (x : State) × AdvancedFrom m own (goes_on x) s r × IsReadyAhead ready (going m own (goes_on x))
@@ -58,7 +58,7 @@ abbrev pub TurnGoesOn : Checked → Stack → Advance → List Value → Stack �
 TurnGoesOn m s (a.Changed y) mail s' x did mail' = (did ≡ v.Pure) × (standing_in m s' x ≡ standing_by (stack_process m s y)) × (mail' ≡ mail)
 TurnGoesOn m s r mail s' x did mail' = EndsTurn did
 
--- whatever state led to what the stack did, from there the machine made this move, and it stands so
+-- whatever state led to what the stack did, from there the machine made this move, and has this status
 pub record Settled (m : Checked) (own : ℕ) (s : Stack) (r : Advance) (mail : List Value) (s' : Stack) (x : Standing) (did : Move) (mail' : List Value) : Type 0 where
   pub sound : SoundIn s' x
   pub moved : (y : State) → AdvancedFrom m own (goes_on y) s r → Moved (module_of m) own y mail did (standing_in m s' x) mail'

@@ -12,7 +12,7 @@ use pf_syntax::{Module, NodeId};
 use pf_terms::{NoMemory, Term};
 use std::alloc::Global;
 
-/// A contraction was made; or the process sends a message to its last operand, asks for another action, stands at the
+/// A contraction was made; or the process sends a message to its last operand, asks for another action, is at the
 /// `receive` of a node, returned a value, or is about to end with a reason.
 #[derive(Drop)]
 pub(crate) enum Advance {
@@ -76,7 +76,7 @@ impl Stack {
     }
 
     /// Contractions up to this number, or to what stops the process: the steps that it made with it, and in `advance` where
-    /// it came to.
+    /// it got to.
     #[inline(never)]
     pub(crate) fn run(
         &mut self,

@@ -77,7 +77,7 @@ impl Stack {
         }
     }
 
-    /// A right operand, after a left one that stands in a slot.
+    /// A right operand, after a left one that is in a slot.
     pub(crate) fn right_after_slot(
         &mut self,
         alloc: Global,

@@ -137,7 +137,7 @@ impl Stack {
         }
     }
 
-    /// An operator: at once where its operands are integers where they stand.
+    /// An operator: at once where its operands are integers in place.
     #[inline(always)]
     fn operator(
         &mut self,

@@ -1,4 +1,4 @@
-//! What a machine's stack of frames holds, and what stands in the innermost frame.
+//! What a machine's stack of frames holds, and what is in the innermost frame.
 
 use crate::act::Act;
 use pf_syntax::{Builtin, FunctionId, NodeId, Operand, Operator};
@@ -54,7 +54,7 @@ pub(crate) struct Frame {
     pub(crate) end: usize,
 }
 
-/// What stands in the innermost frame.
+/// What is in the innermost frame.
 #[derive(Drop)]
 pub(crate) enum Focus {
     /// An expression of the activation.
@@ -75,9 +75,9 @@ pub(crate) enum MicroStep {
     Contracted(Focus),
     /// The process sends this message. The receiver is the last operand, and no frame keeps it.
     Sends(Term),
-    /// The process asks for another action, which stands in a box: so the others stay small.
+    /// The process asks for another action, boxed so that the others stay small.
     Asks(Box<Act>),
-    /// The process stands at the `receive` of this node.
+    /// The process is at the `receive` of this node.
     Awaits(NodeId),
     /// The process returned this value.
     Returned(Term),

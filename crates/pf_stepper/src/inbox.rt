@@ -21,7 +21,7 @@ pub trait Inbox {
     ghost IsReady: { Self → Receive → Type 0 };
 
     /// Takes the oldest message that some clause fits with its guard, by the first such clause, in the process of
-    /// this pid: the body of that clause, whose bindings come onto the activation that begins at `base`. The message
+    /// this pid: the body of that clause, whose bindings are pushed onto the activation that begins at `base`. The message
     /// is written to `taken`, and its node, where it has one, goes to the pool. The others stay in order. The inbox is
     /// ready for this `receive`, and stays so; where a message is taken it is ready for whatever comes.
     fn select(

@@ -25,7 +25,7 @@ use std::marker::Model;
 use std::mem;
 use std::sync::Arc;
 
-/// How a machine stands: its process goes on, waits for the answer to an action, or has ended; or memory ran out.
+/// The status of a machine: its process goes on, waits for the answer to an action, or has ended; or memory ran out.
 #[derive(Drop)]
 pub(crate) enum Standing {
     Goes(Focus),
@@ -69,7 +69,7 @@ pub enum Move {
     End(Result<Term, Term>),
 }
 
-/// What a `receive` does with a mailbox: how the machine stands then, and its move, are written where they stay.
+/// What a `receive` does with a mailbox: the machine's status then, and its move, are written in place.
 fn receive<I: Inbox>(
     alloc: Global,
     inbox: &mut I,
@@ -114,7 +114,7 @@ fn receive<I: Inbox>(
     Ok(())
 }
 
-/// How a machine stands after what its stack did, and its move, written where they stay.
+/// The status of a machine after what its stack did, and its move, written in place.
 fn settle<I: Inbox>(
     alloc: Global,
     inbox: &mut I,
@@ -185,7 +185,7 @@ impl Machine {
         })
     }
 
-    /// What the machine had of room, for another one that begins; none where it is more than is kept.
+    /// The room that the machine had, for another one that begins; none where it is more than is kept.
     pub fn into_room(self) -> Option<Room> {
         let Machine {
             own: _,
@@ -203,7 +203,7 @@ impl Machine {
         self.own
     }
 
-    /// Where the process stands, and its module, in whose code that is.
+    /// Where the process is, and its module, in whose code that is.
     pub fn point(&self) -> (&Module, Point)
         ensures own { result.0.now ≡ self.now.checked }
         ensures point { IsPointAt self.now.checked.tables self.now.standing result.1 }
@@ -216,7 +216,7 @@ impl Machine {
     }
 
     /// All steps up to and with the next action, message, wait or end, but no more than `left`: how many they were, and in
-    /// `did` the move that ended them. The inbox is ready for the `receive` at which the machine stands, and else for
+    /// `did` the move that ended them. The inbox is ready for the `receive` at which the machine is, and else for
     /// whatever comes; and it is so again afterwards. The node of a message that is taken goes to the pool. Once memory ran
     /// out, each call answers so.
     pub fn run<I: Inbox>(

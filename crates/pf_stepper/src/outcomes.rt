@@ -1,4 +1,4 @@
-//! What a contraction comes to.
+//! What a contraction gives.
 
 ghost use Rattle.std.specs.Prelude.{IfOk};
 ghost use Rattle.pf_terms.specs.Atoms.{name_of};
@@ -54,7 +54,7 @@ fn operate(
     Ok(outcome(apply(alloc, operator, left, right, code.atoms())?))
 }
 
-/// What two operands come to. The receiver of a message goes onto the operands that are there.
+/// What two operands contract to. The receiver of a message goes onto the operands that are there.
 #[inline(always)]
 pub(crate) fn pair_up(
     alloc: Global,

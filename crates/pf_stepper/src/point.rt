@@ -1,4 +1,4 @@
-//! Where a process stands in the code of its module.
+//! Where a process is in the code of its module.
 
 ghost use Rattle.std.specs.Prelude.{◌≡◌};
 ghost use Rattle.pf_stepper.specs.Points.{node_of, part_of, point_in, waits_in};
@@ -7,7 +7,7 @@ use crate::frame::{Callee, Focus, Kind};
 use crate::stack::Stack;
 use pf_syntax::{FunctionId, NodeId, Operand};
 
-/// Where a process stands in the code of its module.
+/// Where a process is in the code of its module.
 #[derive(Clone, Copy, Debug, PartialEq, Eq)]
 pub enum Point {
     /// At the call of a function whose clauses aren't tried yet.
@@ -23,7 +23,7 @@ pub enum Point {
 }
 
 impl Kind {
-    /// Where a process stands whose innermost frame has its value.
+    /// Where a process is, if its innermost frame has its value.
     fn point(self) -> Point
         ensures { result ≡ Point.Within (node_of self) (part_of self) }
     {
@@ -41,7 +41,7 @@ impl Kind {
 }
 
 impl Stack {
-    /// Where a process stands that goes on with this in its innermost frame.
+    /// Where a process is, if it goes on with this in its innermost frame.
     pub(crate) fn point(&self, focus: &Focus) -> Point
         ensures { result ≡ point_in self.now.frames.items focus.now }
     {

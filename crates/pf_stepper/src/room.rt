@@ -22,7 +22,7 @@ const MOST_TERMS: usize = MOST / size_of::<Term>();
 
 const MOST_FRAMES: usize = MOST / size_of::<Frame>();
 
-/// No slot, no operand and no frame, but what their vectors have of room. A contract sees nothing of it: a machine is the same in
+/// No slot, no operand and no frame, only the room that their vectors have. A contract sees nothing of it: a machine is the same in
 /// whatever room it begins.
 #[derive(Drop)]
 pub struct Room {
@@ -41,7 +41,7 @@ impl Model for Room {
     ghost invariant = { λ r. (r.slots.items ≡ []) × (r.operands.items ≡ []) × (r.frames.items ≡ []) };
 }
 
-/// Places arguments behind the operands.
+/// Places arguments after the operands.
 fn pass(operands: &mut Vec<Term>, args: SmallVec<Term, 4>) -> Result<(), NoMemory>
     ensures { OnOk result (operands.new.items ≡ operands.old.items ++ args.items) }
 {

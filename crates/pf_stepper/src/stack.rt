@@ -26,7 +26,7 @@ pub(crate) struct Stack {
     pub(crate) base: usize,
 }
 
-/// Writes a value where another one stands, which is dropped.
+/// Writes a value over another one, which is dropped.
 #[inline(always)]
 pub(crate) fn put<T: Drop>(place: &mut T, value: T)
     ensures { place.new ≡ value }
@@ -54,7 +54,7 @@ fn grow<T>(values: &mut Vec<T>) -> Result<(), NoMemory>
     Ok(())
 }
 
-/// A value behind the others. Most often there is room, and then it needs no call.
+/// A value after the others. Most often there is room, and then it needs no call.
 #[inline(always)]
 pub(crate) fn append<T: Drop>(values: &mut Vec<T>, value: T) -> Result<(), NoMemory>
     ensures { OnOk result (values.new.items ≡ values.old.items ++ value ∷ []) }
@@ -67,7 +67,7 @@ pub(crate) fn append<T: Drop>(values: &mut Vec<T>, value: T) -> Result<(), NoMem
 }
 
 impl Stack {
-    /// The value of an operand that has one where it stands: a literal, or a variable in scope.
+    /// The value of an operand that has one in place: a literal, or a variable in scope.
     #[inline(always)]
     pub(crate) fn operand(&self, code: &Module, part: Operand) -> Result<Option<Term>, NoMemory>
         ensures { IfOk result (λ o.
@@ -76,7 +76,7 @@ impl Stack {
         operand(code, part, self.env.as_slice(), self.base)
     }
 
-    /// The integer that an operand is where it stands.
+    /// The integer that an operand holds in place.
     #[inline(always)]
     pub(crate) fn integer(&self, part: Operand) -> Option<i64>
         ensures { (tables : Tables) → IfSome result (λ n.
@@ -104,7 +104,7 @@ impl Stack {
         }
     }
 
-    /// A frame for the activation as it stands.
+    /// A frame for the activation as it is.
     #[inline(always)]
     pub(crate) fn frame(&self, kind: Kind) -> Frame
         ensures { result ≡ frame_for kind self.now.base (length self.now.env.items) }

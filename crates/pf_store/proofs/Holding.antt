@@ -70,7 +70,7 @@ both : (o : Option Held) (P Q : Held → Type 0) → IfSome o P → IfSome o Q �
 both None P Q p q = tt
 both (Some h) P Q p q = (p, q)
 
--- what stands under a source is held
+-- what is kept under a source is held
 pub held_as : (es : Modules) → IsValid es → (q : List ℕ) → IfSome (lookup (bytes_eq q) es) (IsHeldAs q)
 held_as es kept q =
     both (lookup (bytes_eq q) es) (IsOf q) (λ h. 1 ≤ h.holders) (kept.0 q)
@@ -92,7 +92,7 @@ kept_by_lookups es distinct held = (
       (All-values_from_lookup nat_list_eq_equiv (λ (h : Held). 1 ≤ h.holders) es distinct (λ q. IfSome_then (lookup (bytes_eq q) es) (held q) (λ h p. p.1))),
 )
 
--- after a change at a source all is kept still, where what stands there then is held
+-- after a change at a source all is kept still, where what is there then is held
 pub kept_after : (es es' : Modules) (k : List ℕ) (w : Option Held) → IsValid es → IsDistinct bytes_eq (keys_of es') → Changes es es' k w
     → IfSome w (IsHeldAs k) → IsValid es'
 kept_after es es' k w kept distinct changes new =

@@ -1,4 +1,4 @@
--- Tables that go on where others end: what stands in the others stands in these, and means the same.
+-- Tables that go on where others end: what is in the others is in these, and means the same.
 use Rattle.std.proofs.Common.{◌≡◌, ℕ, ◌<◌, ◌≤◌, List, [], ◌∷◌, ◌++◌, length, refl, ap, ◌∙◌, arith, length-append}
 use Rattle.std.specs.Prelude.{map}
 use Rattle.std.specs.List.{All}
@@ -88,7 +88,7 @@ extends_on t u w e f = record {
   more_trees = omega (arith, e.more_trees, f.more_trees);
 }
 
--- what was added last stands at the end
+-- what was added last is at the end
 pub literal_last : (t : Tables) (v : Value) → literal_at (with_literal t v) (length t.literals) ≡ v
 literal_last t v = get_or-append_seam t.literals v [] (list none)
 
@@ -190,7 +190,7 @@ module _ (t u : Tables) (e : Extends t u) where
       let y = functions_kept fs (All-tail (FunctionRepresents t) f fs h) in
       cc
 
-  -- ---- it still stands
+  -- ---- it is still there
 
   pub pattern_stands : (p : PatternId) → PatternRepresents t p → PatternRepresents u p
   pattern_stands p h = omega (arith, e.more_patterns)

@@ -84,7 +84,7 @@ literal_of_term a k x e =
 pub literal_past : (a : Inside) (k : ℕ) → length a.literals.items ≤ k → literal_at (tables_of a) k ≡ list none
 literal_past a k h = let n = count-literals a in get_or_past (tables_of a).literals k (list none) (omega arith)
 
--- a pattern's meaning rests on no tree
+-- a pattern's meaning depends on no tree
 pub pattern_alike : (t u : Tables) (p : PatternNode) → t.literals ≡ u.literals → t.patterns ≡ u.patterns → pattern_over t p ≡ pattern_over u p
 pattern_alike t u p e f =
     ap (λ (vs : List Value). let w : Tables = record { literals = vs; patterns = t.patterns; trees = t.trees } in pattern_over w p) e

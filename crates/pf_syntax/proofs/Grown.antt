@@ -1,4 +1,4 @@
--- A module in which one more entry stands.
+-- A module with one more entry.
 use Rattle.std.proofs.Common.{◌≡◌, List, [], ◌∷◌, ◌++◌, refl, sym, ap, ◌∙◌, subst}
 use Rattle.std.specs.Prelude.{fold, map}
 use Rattle.std.specs.List.{All}

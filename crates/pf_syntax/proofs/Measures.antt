@@ -61,7 +61,7 @@ mutual
   branches_depth-size no_branches = omega arith
   branches_depth-size (branch q g es bs) = omega (arith, expr_pattern_depth-size q, condition_depth-size g, exprs_depth-size es, branches_depth-size bs)
 
--- a measure of fewer nodes than it can tell is exact
+-- a measure of fewer nodes than it can count is exact
 pub exact_measure : (m : Measure) (size depth : ℕ) → IsCappedMeasure m size depth → depth ≤ size → m.size < 4294967295 → IsMeasure m size depth
 exact_measure m size depth h le small =
     let x = h.0 in

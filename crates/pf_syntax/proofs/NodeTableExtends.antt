@@ -1,4 +1,4 @@
--- Tables of nodes that go on where others end: what stands in the others stands in these, and means the same.
+-- Tables of nodes that go on where others end: what is in the others is in these, and means the same.
 use Rattle.std.proofs.Common.{◌≡◌, ℕ, ◌<◌, ◌≤◌, List, [], ◌∷◌, ◌++◌, length, refl, ap, ◌∙◌, arith, length-append}
 use Rattle.std.specs.Prelude.{map}
 use Rattle.std.specs.List.{All}
@@ -66,7 +66,7 @@ on_and_on b c d g h = record {
   more_exprs = omega (arith, g.more_exprs, h.more_exprs);
 }
 
--- what was added last stands at the end
+-- what was added last is at the end
 pub expr_pattern_last : (b : NodeTable) (n : ExprPatternNode) → expr_pattern_at (with_expr_pattern b n) (length b.expr_patterns) ≡ expr_pattern_over b n
 expr_pattern_last b n = get_or-append_seam b.expr_patterns (expr_pattern_over b n) [] anything
 
@@ -154,7 +154,7 @@ module _ (b c : NodeTable) (on : GoesOn b c) where
       let ys = functions_kept fs (All-tail (HeadsStand b) f fs h) in
       cc
 
-  -- ---- it still stands
+  -- ---- it is still there
 
   pub expr_pattern_stands : (q : ExprPatternId) → ExprPatternRepresents b q → ExprPatternRepresents c q
   expr_pattern_stands q h = omega (arith, on.more_expr_patterns)

@@ -1,4 +1,4 @@
--- Tables of nodes that grow entry by entry, and what stands in them.
+-- Tables of nodes that grow entry by entry, and what is in them.
 use Rattle.std.proofs.Common.{◌≡◌, ℕ, zero, suc, ◌+◌, ◌<◌, List, [], ◌∷◌, ◌++◌, length, get_or, Some, refl, sym, ap, ◌∙◌, subst, arith, length-append}
 use Rattle.std.specs.Prelude.{fold, slice_get}
 use Rattle.pf_syntax.specs.ExprPattern.{ExprPattern, anything, expr_pattern_size, expr_pattern_depth}
@@ -25,7 +25,7 @@ expr_still_sound q b e h =
     let same = sym (expr_kept b c (on_by_expr_pattern b q) e.node h.0) in
     (expr_parts_stand b c (on_by_expr_pattern b q) e.node h.0, subst (λ (r : Expr). IsMeasure e.measure (expr_size r) (expr_depth r)) same h.1)
 
--- ---- what stands, and how much
+-- ---- what is there, and how much
 
 pub expr_patterns_go_on : (b : NodeTable) (es : List ExprPatternEntry) → GoesOn b (fold expr_pattern_entered b es)
 expr_patterns_go_on b [] = on_by_nothing b
@@ -114,7 +114,7 @@ expr_formed b (d ∷ es) (suc k) e a h =
     let z : length c.exprs + k ≡ length b.exprs + suc k = omega (arith, length-append b.exprs (expr_over b d.node ∷ [])) in
     subst (λ (j : ℕ). ExprFormed (fold expr_entered c es) j e) z (expr_formed c es k e a.1 h)
 
--- a pattern's meaning rests on no expression
+-- a pattern's meaning depends on no expression
 pub expr_pattern_alike : (b c : NodeTable) (e : ExprPatternEntry) → b.expr_patterns ≡ c.expr_patterns → expr_pattern_over b e.node ≡ expr_pattern_over c e.node
 expr_pattern_alike b c e h = ap (λ (qs : List ExprPattern). let d : NodeTable = record { expr_patterns = qs; exprs = b.exprs } in expr_pattern_over d e.node) h
 

@@ -1,4 +1,4 @@
--- The function that a run begins in, where the names of the atoms are told apart.
+-- The function that a run begins in, where the names of the atoms are distinct.
 use Rattle.std.proofs.Common.{◌≡◌, ℕ, ◌<◌, ◌≤◌, List, [], ◌∷◌, length, get_or, Bool, true, false, Some, None, refl, sym, ap, ◌∙◌, arith}
 use Rattle.std.specs.Prelude.{position, slice_get}
 use Rattle.std.specs.List.{list_any, position_or_len}
@@ -14,7 +14,7 @@ use Rattle.pf_syntax.specs.Tree.{Function, Program}
 use Rattle.pf_syntax.specs.Module.{first_named}
 use Rattle.pf_syntax.specs.Root.{root_of, root_at, exported_at, exported_of}
 
--- where nothing passes, nothing stands at an index
+-- where nothing passes, there is no index of one that does
 none_any : {X : Type 0} (p : X → Bool) (xs : List X) → list_any p xs ≡ false → position_or_len p xs ≡ length xs
 none_any p [] h = refl
 none_any p (x ∷ xs) h = grind (arith, common_steps, none_any p xs)

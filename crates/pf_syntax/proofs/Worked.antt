@@ -1,4 +1,4 @@
--- The worked bodies become what they are to become.
+-- The worked bodies become what they should.
 use Rattle.std.specs.Prelude.{◌≡◌, ℕ, zero, suc, [], pos}
 use Rattle.std.proofs.Common.{refl}
 use Rattle.pf_terms.specs.Value.{int}

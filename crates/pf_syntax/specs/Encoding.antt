@@ -45,7 +45,7 @@ abbrev mutual
   patterns_decoded (gnum n) = no_patterns
   patterns_decoded (gcons a b) = pattern (pattern_decoded a) (patterns_decoded b)
 
--- a known value is told by its code, whatever shape that has
+-- a known value is read back from its code, whatever shape that has
 known_back : (c : Gv) (v : Value) → decoded c ≡ v → pattern_decoded (gcons (gnum 3) c) ≡ known v
 known_back gnil v e = ap known e
 known_back (gnum n) v e = ap known e

@@ -5,7 +5,7 @@ use Rattle.pf_syntax.specs.ExprPattern.{ExprPattern, expr_pattern_size, expr_pat
 
 mutual
   -- an expression. Atoms, calls and variables have the numbers of their names; variables, `_` and calls the offset of their
-  -- first byte. Parentheses stand, since they are a level of depth. A match stands in bodies alone
+  -- first byte. Parentheses are kept, since they are a level of depth. A match occurs in bodies alone
   pub data Expr : Type 0 where
     integer : ℤ → Expr
     atom : ℕ → Expr

@@ -3,13 +3,13 @@ use Rattle.std.specs.Prelude.{ℕ, List}
 use Rattle.pf_syntax.specs.Expr.{Condition, no_exprs, no_tests, tests}
 use Rattle.pf_syntax.specs.SyntaxTree.{Export, Head, ExprArena}
 
--- the number of its name, its exports in order, and its functions, each its clauses
+-- the number of its name, its exports in order, and its functions, each as its clauses
 pub record Tree : Type 0 where
   pub name : ℕ
   pub exports : List Export
   pub functions : List (List Head)
 
--- what is told of a syntax tree
+-- a syntax tree without its table of nodes
 abbrev pub tree_of : ExprArena → Tree
 tree_of w = record { name = w.name; exports = w.exports; functions = w.functions }
 

@@ -10,6 +10,6 @@ capped n = min n 4294967295
 abbrev pub IsMeasure : Measure → ℕ → ℕ → Type 0
 IsMeasure m size depth = (m.size ≡ size) × (m.depth ≡ depth)
 
--- the measure is of this size and this depth, as far as it can tell
+-- the measure is of this size and this depth, up to the most that it can count
 abbrev pub IsCappedMeasure : Measure → ℕ → ℕ → Type 0
 IsCappedMeasure m size depth = (m.size ≡ capped size) × (m.depth ≡ capped depth)

@@ -20,7 +20,7 @@ pub record Checked : Type 0 where
   pub tables : Tables
   pub functions : Program
 
--- a module in which nothing stands yet
+-- a module with nothing in it yet
 abbrev pub empty : ℕ → List (List ℕ) → Checked
 empty name atoms = record { name = name; atoms = atoms; tables = record { literals = []; patterns = []; trees = [] }; functions = [] }
 

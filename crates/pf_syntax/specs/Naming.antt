@@ -18,7 +18,7 @@ pub record Names : Type 0 where
   pub own_of : ℕ → ℕ → Option ℕ
   pub builtin_of : ℕ → ℕ → Option Builtin
 
--- the slot of a bound variable is where its name stands among the bound ones: the arguments' first, then in the order of binding
+-- the slot of a bound variable is the place of its name among the bound ones: the arguments' first, then in the order of binding
 abbrev pub IsSlotOf : Scope → ℕ → ℕ → Type 0
 IsSlotOf g x k = slice_get g.bound k ≡ Some x
 
@@ -46,7 +46,7 @@ abbrev pub arity_of : Exprs → ℕ
 arity_of no_exprs = 0
 arity_of (expr e es) = 1 + arity_of es
 
--- one more pattern behind the others
+-- one more pattern after the others
 abbrev pub behind : Patterns → Pattern → Patterns
 behind no_patterns y = pattern y no_patterns
 behind (pattern x xs) y = pattern x (behind xs y)
@@ -113,7 +113,7 @@ mutual
     match : (g : Scope) (q : ExprPattern) (e : Expr) (ys : Patterns) (y : Pattern) (x : Tree) → ElementIs n g e ys x → ExprPatternIs n (after g e) q y
         → ElementIs n g (p.match q e) (behind ys y) x
 
-  -- a body: each element but the last stands before the rest
+  -- a body: each element but the last is before the rest
   pub data BodyIs (n : Names) : Scope → Exprs → Tree → Type 0 where
     last : (g : Scope) (e : Expr) (ys : Patterns) (x : Tree) → ElementIs n g e ys x → BodyIs n g (expr e no_exprs) (ending ys x)
     before : (g : Scope) (e : Expr) (es : Exprs) (ys : Patterns) (x rest : Tree) → ElementIs n g e ys x → BodyIs n (after g e) es rest

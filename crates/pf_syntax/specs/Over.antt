@@ -102,7 +102,7 @@ function_over t f = record { name = f.name.0; arity = f.arity; exported = f.expo
 
 -- ---- one more
 
--- the tables with one more literal, pattern or tree, which stands last
+-- the tables with one more literal, pattern or tree, which is last
 abbrev pub with_literal : Tables → Value → Tables
 with_literal t v = record { literals = t.literals ++ v ∷ []; patterns = t.patterns; trees = t.trees }
 
@@ -116,6 +116,6 @@ with_tree t n = record { literals = t.literals; patterns = t.patterns; trees = t
 abbrev pub with_tables : Checked → Tables → Checked
 with_tables m t = record { name = m.name; atoms = m.atoms; tables = t; functions = m.functions }
 
--- the module with one more function, which stands last
+-- the module with one more function, which is last
 abbrev pub with_function : Checked → FunctionNode → Checked
 with_function m f = record { name = m.name; atoms = m.atoms; tables = m.tables; functions = m.functions ++ function_over m.tables f ∷ [] }

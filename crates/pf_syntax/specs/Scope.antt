@@ -1,4 +1,4 @@
--- Bound and unsafe variables: the sets that stand at each point of a function clause, and how they pass through it.
+-- Bound and unsafe variables: the sets at each point of a function clause, and how they pass through it.
 use Rattle.std.specs.Prelude.{ℕ, ◌==◌, ◌||◌, not, Bool, if◌then◌else◌, List, [], ◌∷◌, ◌++◌, filter}
 use Rattle.std.specs.List.{list_any}
 use Rattle.pf_syntax.specs.ExprPattern as s

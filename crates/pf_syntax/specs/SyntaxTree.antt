@@ -22,7 +22,7 @@ pub record NodeTable : Type 0 where
   pub expr_patterns : List ExprPattern
   pub exprs : List Expr
 
--- a module: its name, its exports, its functions, each its clauses, and the table of nodes
+-- a module: its name, its exports, its functions, each as its clauses, and the table of nodes
 pub record ExprArena : Type 0 where
   pub name : ℕ
   pub exports : List Export
@@ -36,6 +36,6 @@ expr_pattern_at b i = slice_index_or b.expr_patterns i anything
 abbrev pub expr_at : NodeTable → ℕ → Expr
 expr_at b i = slice_index_or b.exprs i (list no_exprs)
 
--- a module in which nothing stands yet
+-- a module with nothing in it yet
 abbrev pub blank : ℕ → ExprArena
 blank name = record { name = name; exports = []; node_table = record { expr_patterns = []; exprs = [] }; functions = [] }

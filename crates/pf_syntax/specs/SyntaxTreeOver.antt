@@ -1,4 +1,4 @@
--- What the nodes of a syntax tree stand for, over its table of nodes, and that their parts stand in it.
+-- What the nodes of a syntax tree stand for, over its table of nodes, and that their parts are in it.
 use Rattle.std.specs.Prelude.{ℕ, ◌+◌, ◌<◌, List, [], ◌∷◌, ◌++◌, length, map, max}
 use Rattle.std.specs.List.{All}
 use Rattle.pf_syntax.specs.ExprPattern.{ExprPattern, ExprPatterns, no_expr_patterns, expr_pattern, expr_pattern_size, expr_pattern_depth}
@@ -98,7 +98,7 @@ export_of e = record { name = e.ident.name.0; arity = e.arity; offset = e.ident.
 
 -- ---- one more
 
--- the table of nodes with one more pattern or expression, which stands last
+-- the table of nodes with one more pattern or expression, which is last
 abbrev pub with_expr_pattern : NodeTable → ExprPatternNode → NodeTable
 with_expr_pattern b q = record { expr_patterns = b.expr_patterns ++ expr_pattern_over b q ∷ []; exprs = b.exprs }
 
@@ -109,14 +109,14 @@ with_expr b e = record { expr_patterns = b.expr_patterns; exprs = b.exprs ++ exp
 abbrev pub with_node_table : ExprArena → NodeTable → ExprArena
 with_node_table m b = record { name = m.name; exports = m.exports; node_table = b; functions = m.functions }
 
--- the module with one more export or function, which stands last
+-- the module with one more export or function, which is last
 abbrev pub with_export : ExprArena → ExportNode → ExprArena
 with_export m e = record { name = m.name; exports = m.exports ++ export_of e ∷ []; node_table = m.node_table; functions = m.functions }
 
 abbrev pub with_expr_function : ExprArena → ExprFunction → ExprArena
 with_expr_function m f = record { name = m.name; exports = m.exports; node_table = m.node_table; functions = m.functions ++ heads_over m.node_table f ∷ [] }
 
--- ---- parts stand
+-- ---- parts are there
 
 -- the pattern or the expression of this number is in the table of nodes
 abbrev pub ExprPatternRepresents : NodeTable → ExprPatternId → Type 0

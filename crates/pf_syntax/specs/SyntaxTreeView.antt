@@ -18,14 +18,14 @@ expr_pattern_entered b e = with_expr_pattern b e.node
 abbrev pub expr_entered : NodeTable → ExprEntry → NodeTable
 expr_entered b e = with_expr b e.node
 
--- the parts of an entry stand before it, and its measure is that of its tree
+-- the parts of an entry come before it, and its measure is that of its tree
 abbrev pub ExprPatternIsSound : NodeTable → ExprPatternEntry → Type 0
 ExprPatternIsSound b e = ExprPatternPartsStand b e.node × IsMeasure e.measure (expr_pattern_size (expr_pattern_over b e.node)) (expr_pattern_depth (expr_pattern_over b e.node))
 
 abbrev pub ExprIsSound : NodeTable → ExprEntry → Type 0
 ExprIsSound b e = ExprPartsStand b e.node × IsMeasure e.measure (expr_size (expr_over b e.node)) (expr_depth (expr_over b e.node))
 
--- the table of nodes in which nothing stands
+-- the table of nodes with nothing in it
 abbrev pub no_node_table : NodeTable
 no_node_table = record { expr_patterns = []; exprs = [] }
 
@@ -40,7 +40,7 @@ node_table_of a = fold expr_entered (expr_patterns_of a) a.exprs.items
 abbrev pub written_of : Inside → ExprArena
 written_of a = record { name = a.name.0; exports = map export_of a.exports.items; node_table = node_table_of a; functions = map (heads_over (node_table_of a)) a.functions.items }
 
--- parts stand before what they are part of, and each measure is right
+-- parts come before what they are part of, and each measure is right
 pub record Sound (a : Inside) : Type 0 where
   pub expr_patterns : InTurn ExprPatternIsSound expr_pattern_entered no_node_table a.expr_patterns.items
   pub exprs : InTurn ExprIsSound expr_entered (expr_patterns_of a) a.exprs.items

@@ -21,7 +21,7 @@ tables_of a = fold with_tree (patterns_of a) a.nodes.items
 abbrev pub checked_of : Inside → Checked
 checked_of a = record { name = a.name.0; atoms = a.atoms; tables = tables_of a; functions = map (function_over (tables_of a)) a.functions.items }
 
--- parts stand before what they are part of
+-- parts come before what they are part of
 pub record Sound (a : Inside) : Type 0 where
   pub patterns : InTurn PatternPartsStand with_pattern (literals_of a) a.patterns.items
   pub nodes : InTurn PartsStand with_tree (patterns_of a) a.nodes.items

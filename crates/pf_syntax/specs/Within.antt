@@ -1,4 +1,4 @@
--- The parts of a node stand before it: in the tables as they are when it is added.
+-- The parts of a node come before it: in the tables as they are when it is added.
 use Rattle.std.specs.Prelude.{◌<◌, List, [], ◌∷◌, length}
 use Rattle.std.specs.List.{All}
 use Rattle.pf_syntax.specs.Module.{Tables}
@@ -64,7 +64,7 @@ FunctionClauseRepresents t c = All (PatternRepresents t) c.parameters.items × G
 abbrev pub FunctionRepresents : Tables → Function → Type 0
 FunctionRepresents t f = All (FunctionClauseRepresents t) f.clauses.items
 
--- each of these stands in what those before it made, one step each
+-- each of these is in what those before it made, one step each
 abbrev pub InTurn : {T X : Type 0} → (T → X → Type 0) → (T → X → T) → T → List X → Type 0
 InTurn stands step t [] = Unit {0}
 InTurn stands step t (x ∷ xs) = stands t x × InTurn stands step (step t x) xs

@@ -35,7 +35,7 @@ doubled = expr (p.match x_expr_pattern one) (expr (p.binary plus x x) no_exprs)
 abbrev pub doubled_tree : Tree
 doubled_tree = t.bind (pattern new no_patterns) (lit (int (pos 1))) (t.op plus (var 0) (var 0))
 
--- {X, Y} = X = 1: X stands before the outer pattern, in which it is bound
+-- {X, Y} = X = 1: X is before the outer pattern, in which it is bound
 abbrev pub chained : Exprs
 chained = expr (p.match (s.tuple (expr_pattern x_expr_pattern (expr_pattern y_expr_pattern no_expr_patterns))) (p.match x_expr_pattern one)) no_exprs
 

@@ -1,5 +1,5 @@
 //! The nodes of the surface syntax: patterns and expressions whose parts are named by numbers. The names of atoms and functions
-//! are numbers too, of the table of atoms that stands beside the syntax tree; those of variables are numbers of another.
+//! are numbers too, of the table of atoms that is beside the syntax tree; those of variables are numbers of another.
 
 use crate::operator::Operator;
 use pf_terms::AtomId;
@@ -12,7 +12,7 @@ pub struct ExprPatternId(pub u32);
 #[derive(Clone, Copy, PartialEq, Eq, Debug)]
 pub struct ExprId(pub u32);
 
-/// A name, and the offset in bytes at which it stands.
+/// A name, and the offset in bytes at which it is.
 #[derive(Clone, Copy, PartialEq, Eq, Debug)]
 pub struct Ident {
     pub name: AtomId,

@@ -2,7 +2,7 @@
 
 ghost use Rattle.pf_syntax.specs.Worked.{NamesBecomeSlots};
 
-/// Worked bodies become what they are to become, and an unbound or an unsafe variable becomes nothing.
+/// Worked bodies become what they should, and an unbound or an unsafe variable becomes nothing.
 pub fn names_become_slots()
     ensures { NamesBecomeSlots }
 {}

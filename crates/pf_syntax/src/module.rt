@@ -1,4 +1,4 @@
-//! Checked modules: arenas in which each node stands after its parts, so that code is named by numbers.
+//! Checked modules: arenas in which each node comes after its parts, so that code is named by numbers.
 
 ghost use Rattle.std.specs.Prelude.{◌≡◌, ◌≤◌, length, IfNone, IfOk, MatchOption, None, OnErr, OnOk, option_map, position, slice_get, Some, ◌&&◌, ◌==◌};
 ghost use Rattle.pf_terms.specs.Value.{list, none};
@@ -17,7 +17,7 @@ use std::alloc::Global;
 use std::marker::Model;
 use std::sync::Arc;
 
-/// A checked module. What is added to it stands after its parts, and nothing is ever taken out or changed.
+/// A checked module. What is added to it comes after its parts, and nothing is ever taken out or changed.
 #[derive(Drop)]
 pub struct Module {
     // First, since what looks for `Send` goes only so deep.
@@ -53,7 +53,7 @@ fn index_of(functions: &[Function], name: AtomId, arity: u32) -> Option<usize>
 }
 
 impl Module {
-    /// The module of this name and these atoms, in which nothing stands yet.
+    /// The module of this name and these atoms, with nothing in it yet.
     pub fn new(alloc: Global, name: AtomId, atoms: AtomTable) -> Module
         ensures { result ≡ empty name.0 atoms }
     {
@@ -114,7 +114,7 @@ impl Module {
         Ok(FunctionId(id))
     }
 
-    /// Gives back the room that its lists have beyond what stands in them. It changes nothing else, and can't fail.
+    /// Gives back the room that its lists have beyond what is in them. It changes nothing else, and can't fail.
     pub fn shrink_to_fit(&mut self)
         ensures { self.new ≡ self.old }
     {

@@ -1,4 +1,4 @@
-//! The syntax tree of a module: an arena in which each node stands after its parts, with its size and its depth.
+//! The syntax tree of a module: an arena in which each node comes after its parts, with its size and its depth.
 
 ghost use Rattle.std.specs.Prelude.{◌≡◌, ◌≤◌, length, map, IfNone, IfOk, MatchOption, OnErr, OnOk};
 ghost use Rattle.pf_syntax.specs.ExprPattern.{anything, expr_pattern_depth, expr_pattern_size};
@@ -28,7 +28,7 @@ struct ExprEntry {
     measure: Measure,
 }
 
-/// The syntax tree of a module. What is added to it stands after its parts, and nothing is ever taken out or changed.
+/// The syntax tree of a module. What is added to it comes after its parts, and nothing is ever taken out or changed.
 #[derive(Drop)]
 pub struct SyntaxTree {
     name: AtomId,
@@ -54,7 +54,7 @@ impl Model for SyntaxTree {
 }
 
 impl SyntaxTree {
-    /// The module of this name, in which nothing stands yet.
+    /// The module of this name, with nothing in it yet.
     pub fn new(alloc: Global, name: AtomId) -> SyntaxTree
         ensures { result ≡ blank name.0 }
     {

@@ -1,4 +1,4 @@
--- A token by number stands at an offset.
+-- A token by number is at an offset.
 use Rattle.std.proofs.Common.{◌≡◌, ℕ, zero, suc, List, [], ◌∷◌, Some, inl, inr, ap}
 use Rattle.std.specs.List.{slice_get}
 use Rattle.pf_intern.specs.declared.numbered_token.NumberedToken.{NumberedToken as CodeNumberedToken}

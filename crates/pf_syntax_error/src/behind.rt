@@ -1,4 +1,4 @@
-//! What stands behind an operand.
+//! What follows an operand.
 
 use crate::frame::{Clauses, Mode, Next, Opened};
 use crate::walk::Walk;
@@ -7,7 +7,7 @@ use pf_intern::NumberedKind;
 use pf_tokens::{Mark, Reserved};
 
 impl Walk<'_> {
-    /// Behind an operand: an infix, or what ends the expression.
+    /// After an operand: an infix, or what ends the expression.
     pub(crate) fn behind(&mut self, kind: NumberedKind<'_>) -> Option<Next> {
         match infix_of(kind) {
             Some(infix) if self.frame.mode != Mode::Pattern => self.infix(infix),
@@ -15,7 +15,7 @@ impl Walk<'_> {
         }
     }
 
-    /// Reads an infix, where one may stand.
+    /// Reads an infix, where one is allowed.
     fn infix(&mut self, infix: Infix) -> Option<Next> {
         let is_in_guard = self.frame.mode == Mode::Guard;
         if !infix.stands(is_in_guard) || !self.current.may_join(infix.binding()) {
@@ -25,7 +25,7 @@ impl Walk<'_> {
         Some(Next::Operand)
     }
 
-    /// Behind an operand, where no infix goes on.
+    /// After an operand, where no infix goes on.
     fn behind_expression(&mut self, kind: NumberedKind<'_>) -> Option<Next> {
         match self.frame.opened {
             Opened::Parameters => self.behind_parameter(kind),
@@ -48,14 +48,14 @@ impl Walk<'_> {
         }
     }
 
-    /// Behind the bar of a list.
+    /// After the bar of a list.
     fn tail(&mut self) -> Next {
         self.ended();
         self.frame.opened = Opened::Tail;
         self.again()
     }
 
-    /// Behind the last part of an operand, which this kind of token closes.
+    /// After the last part of an operand, which this kind of token closes.
     fn behind_last(
         &mut self,
         kind: NumberedKind<'_>,
@@ -69,7 +69,7 @@ impl Walk<'_> {
         self.close(may_be_pattern)
     }
 
-    /// Behind an element of a tuple or a list.
+    /// After an element of a tuple or a list.
     fn behind_item(&mut self, kind: NumberedKind<'_>, last: NumberedKind<'_>) -> Option<Next> {
         if kind == NumberedKind::Mark(Mark::Comma) {
             self.ended();
@@ -78,7 +78,7 @@ impl Walk<'_> {
         self.behind_last(kind, last, true)
     }
 
-    /// Behind an argument, before which `read` were read; in a guard there are `arity` in all.
+    /// After an argument, before which `read` were read; in a guard there are `arity` in all.
     fn behind_argument(
         &mut self,
         kind: NumberedKind<'_>,
@@ -98,7 +98,7 @@ impl Walk<'_> {
         }
     }
 
-    /// Behind a parameter of a function.
+    /// After a parameter of a function.
     fn behind_parameter(&mut self, kind: NumberedKind<'_>) -> Option<Next> {
         match kind {
             NumberedKind::Mark(Mark::Comma) => {
@@ -113,7 +113,7 @@ impl Walk<'_> {
         }
     }
 
-    /// Behind a test of a guard, behind whose arrow the body stands.
+    /// After a test of a guard, after whose arrow the body comes.
     fn behind_test(&mut self, kind: NumberedKind<'_>, body: Opened) -> Option<Next> {
         match kind {
             NumberedKind::Mark(Mark::Comma | Mark::Semicolon) => {
@@ -128,7 +128,7 @@ impl Walk<'_> {
         }
     }
 
-    /// Behind an element of the body of a function.
+    /// After an element of the body of a function.
     fn behind_function_element(&mut self, kind: NumberedKind<'_>) -> Option<Next> {
         match kind {
             NumberedKind::Mark(Mark::Match) => self.matched(),
@@ -148,7 +148,7 @@ impl Walk<'_> {
         }
     }
 
-    /// Reads the `=` behind a pattern.
+    /// Reads the `=` after a pattern.
     fn matched(&mut self) -> Option<Next> {
         if !self.current.is_pattern() {
             return None;
@@ -157,7 +157,7 @@ impl Walk<'_> {
         Some(Next::Operand)
     }
 
-    /// Behind what a `case` looks at.
+    /// After what a `case` looks at.
     fn behind_scrutinee(&mut self, kind: NumberedKind<'_>) -> Option<Next> {
         if kind != NumberedKind::Reserved(Reserved::Of) {
             return None;
@@ -166,7 +166,7 @@ impl Walk<'_> {
         Some(self.clause(Clauses::OfPatterns))
     }
 
-    /// Behind the pattern of a clause.
+    /// After the pattern of a clause.
     fn behind_pattern(&mut self, kind: NumberedKind<'_>) -> Option<Next> {
         match kind {
             NumberedKind::Reserved(Reserved::When) => {
@@ -181,7 +181,7 @@ impl Walk<'_> {
         }
     }
 
-    /// Behind an element of the body of a clause.
+    /// After an element of the body of a clause.
     fn behind_clause_element(&mut self, kind: NumberedKind<'_>, clauses: Clauses) -> Option<Next> {
         match kind {
             NumberedKind::Mark(Mark::Match) => self.matched(),

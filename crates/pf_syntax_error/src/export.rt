@@ -7,7 +7,7 @@ use pf_terms::AtomId;
 use pf_tokens::Mark;
 
 impl Walk<'_> {
-    /// In an export form, behind its minus.
+    /// In an export form, after its minus.
     pub(crate) fn export(&self, kind: NumberedKind<'_>) -> Option<Next> {
         match (self.next, kind) {
             (Next::Ident, NumberedKind::Atom(name)) if self.is_export(name) => Some(Next::List),

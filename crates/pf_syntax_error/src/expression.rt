@@ -11,7 +11,7 @@ enum Looks {
     Other,
 }
 
-/// Operands that want the rest of their tree: how many there are, and how deep the tree is at least, counted from its root.
+/// Operands that wait for the rest of their tree: how many there are, and how deep the tree is at least, counted from its root.
 #[derive(Clone, Copy)]
 struct Pending {
     count: u32,
@@ -39,16 +39,16 @@ impl Pending {
 /// The levels of infixes, and one more.
 const LEVELS: usize = 9;
 
-/// An expression as far as it was gone through. Depths are 0 where there is nothing yet.
+/// The part of an expression that was gone through. Depths are 0 where there is nothing yet.
 #[derive(Clone, Copy)]
 pub(crate) struct Expression {
     /// Its first token by number, where it has one.
     start: Option<usize>,
     looks: Looks,
     is_negated: bool,
-    /// The patterns that were matched in front of it.
+    /// The patterns that were matched before it.
     matches: Pending,
-    /// The left operands at each level that want their right ones.
+    /// The left operands at each level that wait for their right ones.
     pending: [Pending; LEVELS],
     /// The depth of what was read last, as an expression and as a pattern.
     last: u32,
@@ -133,7 +133,7 @@ impl Expression {
         };
     }
 
-    /// Whether an infix may stand behind what was read: one that groups with none of its level does so once.
+    /// Whether an infix may follow what was read: one that groups with none of its level does so once.
     pub(crate) fn may_join(&self, binding: Binding) -> bool {
         match self.pending.get(binding.level as usize) {
             Some(pending) => binding.grouping != Grouping::Alone || pending.count == 0,
@@ -162,7 +162,7 @@ impl Expression {
         }
     }
 
-    /// Reads the `=` behind a pattern.
+    /// Reads the `=` after a pattern.
     pub(crate) fn matched(&mut self) {
         let start = self.start;
         let mut matches = self.matches;

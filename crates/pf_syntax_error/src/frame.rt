@@ -1,4 +1,4 @@
-//! What is open around an expression, and what may stand next.
+//! What is open around an expression, and what may come next.
 
 /// How an expression is read.
 #[derive(Clone, Copy, PartialEq, Eq)]
@@ -27,9 +27,9 @@ pub(crate) enum Opened {
     Arguments(u64, Option<u64>),
     Tuple,
     List,
-    /// Behind the bar of a list.
+    /// After the bar of a list.
     Tail,
-    /// Behind `case`.
+    /// After `case`.
     Scrutinee,
     /// The pattern, the guard and the body of a clause.
     ClausePattern,
@@ -62,7 +62,7 @@ impl Frame {
     }
 }
 
-/// What may stand next.
+/// What may come next.
 #[derive(Clone, Copy, PartialEq, Eq)]
 pub(crate) enum Next {
     /// A form: an export, where no function was read yet, or a function.
@@ -83,11 +83,11 @@ pub(crate) enum Next {
     Name,
     Parameters,
     GuardOrArrow,
-    /// In an expression: an operand, with a minus or without; one behind a minus; one, or the end of an empty list of them.
+    /// In an expression: an operand, with a minus or without; one after a minus; one, or the end of an empty list of them.
     Operand,
     Part,
     OperandOrEnd,
-    /// Behind an atom, which may be the name of a call.
+    /// After an atom, which may be the name of a call.
     BehindAtom,
     Behind,
 }

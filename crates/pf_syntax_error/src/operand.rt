@@ -9,7 +9,7 @@ use pf_terms::AtomId;
 use pf_tokens::{Mark, Reserved};
 
 impl Walk<'_> {
-    /// Where an operand may stand.
+    /// Where an operand is allowed.
     pub(crate) fn operand(
         &mut self,
         index: usize,
@@ -40,7 +40,7 @@ impl Walk<'_> {
         }
     }
 
-    /// Reads an atom, which may be the name of a call where one may stand.
+    /// Reads an atom, which may be the name of a call where one is allowed.
     fn atom(&mut self, name: AtomId) -> Next {
         self.name = name;
         if self.frame.mode == Mode::Pattern {
@@ -87,7 +87,7 @@ impl Walk<'_> {
         }
     }
 
-    /// Whether the form may stand here.
+    /// Whether the form is allowed here.
     pub(crate) fn may_stand(&self, form: Form) -> bool {
         match self.frame.mode {
             Mode::Body => may_stand(false, form),
@@ -96,7 +96,7 @@ impl Walk<'_> {
         }
     }
 
-    /// Behind an atom, which may be the name of a call.
+    /// After an atom, which may be the name of a call.
     pub(crate) fn behind_atom(&mut self, kind: NumberedKind<'_>) -> Result<Option<Next>, NoMemory> {
         if kind != NumberedKind::Mark(Mark::OpenParenthesis) {
             self.current.operand(1, Some(1));

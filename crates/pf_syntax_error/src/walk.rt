@@ -75,7 +75,7 @@ impl<'a> Walk<'a> {
         }
     }
 
-    /// What may stand behind the token; nothing where it may not stand there itself.
+    /// What may follow the token; nothing where it isn't allowed there itself.
     pub(crate) fn step(
         &mut self,
         index: usize,

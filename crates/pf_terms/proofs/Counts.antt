@@ -21,13 +21,13 @@ decided_by Less r h = refl
 decided_by Equal r h = absurd (h refl)
 decided_by Greater r h = refl
 
--- runs of different sizes go by size
+-- runs of different sizes are ordered by size
 pub by_size : (name : ℕ → List ℕ) (xs ys : List Term) (vs ws : Values) (o : Ordering) → values_of xs ≡ vs → values_of ys ≡ ws → o ≡ nat_cmp (length xs) (length ys) → ¬ (o ≡ Equal)
     → o ≡ ordering_then (nat_cmp (count vs) (count ws)) (compare_all name vs ws)
 by_size name xs ys vs ws o e d h n =
     decided_by o (compare_all name vs ws) n ∙ ap (λ p. ordering_then p (compare_all name vs ws)) (h ∙ sizes xs ys vs ws e d)
 
--- runs of one size go by their elements
+-- runs of one size are ordered by their elements
 pub by_elements : (name : ℕ → List ℕ) (xs ys : List Term) (vs ws : Values) (o r : Ordering) → values_of xs ≡ vs → values_of ys ≡ ws → o ≡ nat_cmp (length xs) (length ys) → o ≡ Equal
     → r ≡ compare_all name (values_of xs) (values_of ys) → r ≡ ordering_then (nat_cmp (count vs) (count ws)) (compare_all name vs ws)
 by_elements name xs ys vs ws o r e d h n k =

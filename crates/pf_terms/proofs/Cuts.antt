@@ -10,12 +10,12 @@ pub length-cut : (bytes : List ℕ) (from : ℕ) (ends : List ℕ) → length (c
 length-cut bytes from [] = refl
 length-cut bytes from (end ∷ ends) = ap suc (length-cut bytes end ends)
 
--- no end lies past the last
+-- no end is past the last
 pub last_end : (size from : ℕ) (ends : List ℕ) → AscendsTo size from ends → from ≤ size
 last_end size from [] h = omega arith
 last_end size from (end ∷ ends) h = omega (arith, h.0, last_end size end ends h.1)
 
--- where the name of this number begins and ends, and that it stands between the two
+-- where the name of this number begins and ends, and that it is between the two
 pub record Stands (bytes : List ℕ) (from : ℕ) (ends : List ℕ) (i : ℕ) : Type 0 where
   pub order : get_or (from ∷ ends) i 0 ≤ get_or ends i 0
   pub bound : get_or ends i 0 ≤ length bytes
@@ -28,7 +28,7 @@ stands bytes from (end ∷ ends) (suc i) h k =
     let t = stands bytes end ends i h.1 (omega arith) in
     record { order = t.order; bound = t.bound; name = t.name }
 
--- one more name, behind the others
+-- one more name, after the others
 pub ascends_more : (size more from : ℕ) (ends : List ℕ) → size ≤ more → AscendsTo size from ends → AscendsTo more from (ends ++ more ∷ [])
 ascends_more size more from [] k h = (omega arith, refl)
 ascends_more size more from (end ∷ ends) k h = (h.0, ascends_more size more end ends k h.1)

@@ -15,13 +15,13 @@ use Rattle.pf_terms.specs.Atoms.{with_name, name_of, fixed_names}
 use Rattle.pf_terms.specs.Order.{TellsApart}
 use Rattle.pf_terms.specs.Numbers.{HasNumbers}
 
--- what stands in front stands there in the whole
+-- what is in the front is there in the whole
 pub get-front : {X : Type 0} (fs xs : List X) (i : ℕ) (x : X) → slice_get fs i ≡ Some x → slice_get (fs ++ xs) i ≡ Some x
 get-front [] xs i x e = absurd (cc)
 get-front (f ∷ fs) xs zero x e = e
 get-front (f ∷ fs) xs (suc i) x e = get-front fs xs i x e
 
--- what stands behind is as far behind the front
+-- what comes after is as far after the front
 pub get-behind : {X : Type 0} (fs xs : List X) (i : ℕ) → slice_get (fs ++ xs) (length fs + i) ≡ slice_get xs i
 get-behind [] xs i = ap (slice_get xs) (omega arith)
 get-behind (f ∷ fs) xs i =
@@ -35,7 +35,7 @@ apart_by_count names e =
     rw map-id at d
 
 module _ (fs xs : List (List ℕ)) where
-  -- names of the front, and those behind it
+  -- names of the front, and those after it
   pub name-front : (i : ℕ) → i < length fs → name_of (fs ++ xs) i ≡ name_of fs i
   name-front i h = get_or_append_left fs xs [] i h
 
@@ -46,21 +46,21 @@ module _ (fs xs : List (List ℕ)) where
   kept_front true name = refl
   kept_front false name = append_assoc fs xs (name ∷ [])
 
-  -- what no name in front passes is a matter of those behind
+  -- what no name of the front passes depends on those after it
   pub any-behind : (p : List ℕ → Bool) → list_any p fs ≡ false → list_any p (fs ++ xs) ≡ list_any p xs
   any-behind p h = list_any-append p fs xs ∙ ap (λ b. b || list_any p xs) h
 
-  -- what no name passes, none in front passes
+  -- what no name passes, none of the front passes
   pub none-front : (p : List ℕ → Bool) → list_any p (fs ++ xs) ≡ false → list_any p fs ≡ false
   none-front p h = (or_parts (list_any p fs) (list_any p xs) (sym (list_any-append p fs xs) ∙ h)).0
 
-  -- a name that the front lacks goes last behind it
+  -- a name that the front lacks goes last, after it
   pub with_name-behind : (name : List ℕ) → list_any (bytes_eq name) fs ≡ false → with_name (fs ++ xs) name ≡ fs ++ with_name xs name
   with_name-behind name h =
       ap (λ b. if b then fs ++ xs else (fs ++ xs) ++ name ∷ []) (any-behind (bytes_eq name) h)
       ∙ kept_front (list_any (bytes_eq name) xs) name
 
-  -- no name behind is one of the front
+  -- no name after it is one of the front
   apart : list_any (λ x. list_any (bytes_eq x) fs) xs ≡ false → (i j : ℕ) → i < length fs → j < length xs → ¬ (name_of xs j ≡ name_of fs i)
   apart none i j h k e =
       let here = list_any_at (bytes_eq (name_of xs j)) fs i [] h ((bytes_eq-Decides (name_of xs j) (name_of fs i)).1 e) in
@@ -77,7 +77,7 @@ module _ (fs xs : List (List ℕ)) where
       let same : i - length fs ≡ j - length fs = x (i - length fs) (j - length fs) (omega arith) (omega arith) (sym (name-behind i p) ∙ e ∙ name-behind j q) in
       omega arith
 
-  -- names differ in the whole where they do in front and behind, and the two have none in common
+  -- names differ in the whole where they do in the front and after it, and the two have none in common
   pub tells_apart-both : TellsApart (name_of fs) (length fs) → TellsApart (name_of xs) (length xs) → list_any (λ x. list_any (bytes_eq x) fs) xs ≡ false
       → TellsApart (name_of (fs ++ xs)) (length (fs ++ xs))
   tells_apart-both f x none i j h k e =

@@ -72,7 +72,7 @@ module _ {K : Type 0} (name : K → List ℕ) where
       ∙ last_or_kept text ks k e (list_any (λ q. bytes_eq text (name q)) ks)
       ∙ ap (λ b. if b then map name ks else map name ks ++ text ∷ []) (sym (list_any-map (bytes_eq text) ks))
 
-  -- the key with this name stands at its index
+  -- the key with this name is at its index
   pub stored : (text : List ℕ) (ks : List K) (i : ℕ) (k : K) → slice_get ks i ≡ Some k → bytes_eq text (name k) ≡ true → slice_get (map name ks) i ≡ Some text
   stored text ks i k e b = slice_get-map name ks i ∙ ap (option_map name) e ∙ ap (λ n. Some n) (sym ((bytes_eq-Decides text (name k)).0 b))
 
@@ -103,6 +103,6 @@ found_in (n ∷ ns) text (suc i) e = or_true (bytes_eq text n) (list_any (bytes_
     or_true true b h = refl
     or_true false b h = h
 
--- a name that stands there changes nothing
+-- a name that is there changes nothing
 pub present : (names : List (List ℕ)) (text : List ℕ) (i : ℕ) → slice_get names i ≡ Some text → with_name names text ≡ names
 present names text i e = ap (λ b. if b then names else names ++ text ∷ []) (found_in names text i e)

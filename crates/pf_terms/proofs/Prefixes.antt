@@ -8,7 +8,7 @@ use Rattle.std.proofs.lemmas.Slice.Eq.{bytes_eq-Decides}
 use Rattle.pf_terms.specs.Atoms.{with_name, name_of}
 use Rattle.pf_terms.specs.Order.{TellsApart}
 
--- a name that stands at no index isn't among them
+-- a name that is at no index isn't among them
 lacks : (names : List (List ℕ)) (name : List ℕ) → ((i : ℕ) → i < length names → ¬ (name_of names i ≡ name)) → list_any (bytes_eq name) names ≡ false
 lacks [] name h = refl
 lacks (n ∷ ns) name h = by (bytes_eq name n) refl (lacks ns name (λ i k. h (suc i) (omega arith)))
@@ -17,7 +17,7 @@ lacks (n ∷ ns) name h = by (bytes_eq name n) refl (lacks ns name (λ i k. h (s
     by true e k = absurd (h 0 (omega arith) (sym ((bytes_eq-Decides name n).0 e)))
     by false e k = k
 
--- the next name of a table goes behind those before it
+-- the next name of a table goes after those before it
 pub next_name : (names : List (List ℕ)) (i : ℕ) → TellsApart (name_of names) (length names) → i < length names
     → with_name (take i names) (name_of names i) ≡ take (i + 1) names
 next_name names i apart h =

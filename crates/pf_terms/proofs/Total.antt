@@ -30,7 +30,7 @@ then_trans Equal Greater c p q r t f g s d e = absurd (cc)
 then_trans Greater b c p q r t f g s d e = absurd (cc)
 
 module _ (name : ℕ → List ℕ) where
-  -- values of different kinds go by kind
+  -- values of different kinds are ordered by kind
   pub apart : (v w : Value) → alike v w ≡ false → compare name v w ≡ nat_cmp (rank v) (rank w)
   apart (int x) (int y) h = absurd (cc)
   apart (int x) w h = refl

@@ -154,7 +154,7 @@ impl AtomTable {
         FIXED.len() + self.entered.len()
     }
 
-    /// How many of the names are the fixed ones, which stand first.
+    /// How many of the names are the fixed ones, which come first.
     pub(crate) fn fixed_len(&self) -> usize
         ensures fixed { take result self.now ≡ fixed_names }
         ensures within { result ≤ length self.now }
@@ -186,7 +186,7 @@ impl AtomTable {
         find_fixed(name)
     }
 
-    /// Adds a name that the table lacks behind the others.
+    /// Adds, after the others, a name that the table lacks.
     pub(crate) fn add(&mut self, name: &[u8]) -> Result<AtomId, NoMemory>
         requires room { length self.old < 2 ^ 32 }
         requires new { list_any (bytes_eq name.now) self.old ≡ false }
@@ -212,7 +212,7 @@ impl AtomTable {
         self.add(name)
     }
 
-    /// Gives back the room that its names have beyond what stands in it. It changes nothing else, and can't fail.
+    /// Gives back the room that its names have beyond what is in it. It changes nothing else, and can't fail.
     pub fn shrink_to_fit(&mut self)
         ensures { self.new ≡ self.old }
     {

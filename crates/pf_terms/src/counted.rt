@@ -53,7 +53,7 @@ impl<T, L: Ledger> Counted<T, L> {
 }
 
 impl<R: Read, L: Ledger> Counted<R, L> {
-    /// Reads once, and answers how many bytes now stand at the front of the buffer; 0 at the end of the input.
+    /// Reads once, and answers how many bytes are now at the front of the buffer; 0 at the end of the input.
     pub fn take_some(&mut self, buf: &mut [u8]) -> Result<usize, StreamFault>
         ensures bound { ReadsAtMost result buf.new }
         ensures bytes { ReadConsumes (R.remaining self.old.inner) (R.remaining self.new.inner) result buf.new }

@@ -7,7 +7,7 @@ ghost use Rattle.std.specs.Io.KnownBytes.{ReadConsumes, WriteAppends};
 use std::io;
 use std::io::{Read, Write};
 
-/// A reader or a writer of which one call fails and does nothing else. The calls before it and behind it are handed on.
+/// A reader or a writer of which one call fails and does nothing else. The calls before it and after it are handed on.
 #[derive(Drop)]
 pub struct FailAt<T> {
     pub inner: T,
@@ -24,7 +24,7 @@ impl<T> FailAt<T> {
         FailAt { inner, left: at }
     }
 
-    /// Counts a call, and tells whether it is the one that fails.
+    /// Counts a call, and says whether it is the one that fails.
     fn fails(&mut self) -> bool
         ensures inner { self.new.inner ≡ self.old.inner }
         ensures left { self.new.left ≡ self.old.left - 1 }

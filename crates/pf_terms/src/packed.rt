@@ -94,7 +94,7 @@ impl PackedNames {
         None
     }
 
-    /// Adds a name behind the others.
+    /// Adds a name after the others.
     pub fn push(&mut self, name: &[u8]) -> Result<(), NoMemory>
         ensures pushed { OnOk result (self.new ≡ self.old ++ name.now ∷ []) }
         ensures err { OnErr result (self.new ≡ self.old) }
@@ -106,7 +106,7 @@ impl PackedNames {
         Ok(())
     }
 
-    /// Gives back the room beyond what stands in it. It changes nothing else, and can't fail.
+    /// Gives back the room beyond what is in it. It changes nothing else, and can't fail.
     pub fn shrink_to_fit(&mut self)
         ensures { self.new ≡ self.old }
     {

@@ -4,7 +4,7 @@ use Rattle.std.specs.Prelude.{option_map}
 use Rattle.pf_terms.specs.Value.{Value}
 use Rattle.pf_termtext.specs.Reading.{Front, ◌>>=◌, behind, next_items, items_at}
 
--- the elements read before, and those that are read behind them
+-- the elements read before, and those that are read after them
 abbrev pub with_items : List Value → Front (List Value) → Front (List Value)
 with_items front read = option_map (λ p. (front ++ p.0, p.1)) read
 
@@ -18,7 +18,7 @@ module _ (read : List ℕ → Front Value) (n : ℕ) where
   unfolding items_at
   item_step text o e = rw e refl
 
-  -- one more element is read, and a comma stands behind it
+  -- one more element is read, and a comma follows it
   pub items_more : (m : ℕ) (front : List Value) (text : List ℕ) (v : Value) (rest next : List ℕ) (all : Front (List Value)) → m ≡ suc n
       → read text ≡ Some (v, rest) → Some next ≡ behind 44 rest → all ≡ with_items front (items_at read m text) → all ≡ with_items (front ++ v ∷ []) (items_at read n next)
   items_more m front text v rest next all is item comma so_far =
@@ -26,7 +26,7 @@ module _ (read : List ℕ → Front Value) (n : ℕ) where
       ∙ ap (λ r. with_items front r) (item_step text (Some (v, rest)) item ∙ ap (λ o. next_items (items_at read n) v rest o) (sym comma))
       ∙ one_more front v (items_at read n next)
 
-  -- one more element is read, and no comma stands behind it
+  -- one more element is read, and no comma follows it
   pub items_end : (m : ℕ) (front : List Value) (text : List ℕ) (v : Value) (rest : List ℕ) (all : Front (List Value)) → m ≡ suc n
       → read text ≡ Some (v, rest) → None ≡ behind 44 rest → all ≡ with_items front (items_at read m text) → all ≡ Some (front ++ v ∷ [], rest)
   items_end m front text v rest all is item comma so_far =

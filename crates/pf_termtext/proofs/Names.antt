@@ -8,7 +8,7 @@ use Rattle.pf_terms.specs.Atoms.{name_of}
 use Rattle.pf_terms.specs.Order.{TellsApart}
 use Rattle.pf_termtext.specs.Reading.{atom_of}
 
--- the names behind the first are apart as well
+-- the names after the first are distinct as well
 behind_apart : (n : List ℕ) (names : List (List ℕ)) → TellsApart (name_of (n ∷ names)) (length (n ∷ names)) → TellsApart (name_of names) (length names)
 behind_apart n names apart a b within_a within_b same = let next : suc a ≡ suc b = apart (suc a) (suc b) (omega arith) (omega arith) same in omega (arith, next)
 
@@ -27,7 +27,7 @@ atom_found (n ∷ names) (suc a) apart within =
         absurd (omega (arith, first))
     by false e found = rw found refl
 
--- an atom of this name stands in the table
+-- an atom of this name is in the table
 pub atom_stands : (names : List (List ℕ)) (name : List ℕ) (a : ℕ) → atom_of names name ≡ Some a → (a < length names) × (name_of names a ≡ name)
 atom_stands [] name a e = absurd cc
 atom_stands (n ∷ names) name a e = by (bytes_eq name n) refl (atom_of names name) refl (atom_stands names name) e
@@ -44,7 +44,7 @@ atom_stands (n ∷ names) name a e = by (bytes_eq name n) refl (atom_of names na
         let stands = later b found in
         rw (← next) (omega (arith, stands.0), stands.1)
 
--- a name that stands at an index of the table has its atom there
+-- a name at an index of the table has its atom there
 pub atom_at : (names : List (List ℕ)) (name : List ℕ) (a : ℕ) → TellsApart (name_of names) (length names) → slice_get names a ≡ Some name → atom_of names name ≡ Some a
 atom_at names name a apart e =
     let offset = placed names a e in

@@ -58,7 +58,7 @@ decimal_digits n lt = digits_decimal own n lt
 pub numeral_printed : (ds : List ℕ) → is_numeral ds ≡ true → decimal ds < 2 ^ 64 → print.decimal (decimal ds) ≡ ds
 numeral_printed ds e lt = let parts = numeral_parts ds e in decimal-digits_value own ds parts.0 parts.1 parts.2 lt
 
--- how the digits of an integer stand behind its sign
+-- how the digits of an integer come after its sign
 abbrev pub IsPrintedBy : Bool → List ℕ → ℤ → Type 0
 IsPrintedBy false ds z = (print.signed_decimal z ≡ ds) × Has64Bits z
 IsPrintedBy true ds z = (print.signed_decimal z ≡ 45 ∷ ds) × Has64Bits z

@@ -6,7 +6,7 @@ use Rattle.pf_tokens.specs.Bytes.{ends, is_word}
 use Rattle.pf_tokens.proofs.Runs.{prefix_len-run}
 use Rattle.pf_termtext.specs.Reading.{word, behind_word}
 
--- the bytes of words and those behind them are the text
+-- the bytes of words and those after them are the text
 pub word_split : (text : List ℕ) → text ≡ word text ++ behind_word text
 word_split text = sym (take-append-drop (prefix_len is_word text) text)
 

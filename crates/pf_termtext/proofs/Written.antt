@@ -7,7 +7,7 @@ use Rattle.std.proofs.lemmas.Option.{same_Some, some_pair_parts}
 use Rattle.pf_model.specs.TermText.{quoted_byte}
 use Rattle.pf_termtext.specs.Reading.{Front, ◌>>=◌, behind, escaped, escaped_at, stands_alone, written_at, put_byte, name_at}
 
--- the bytes read before, and what is read behind them
+-- the bytes read before, and what is read after them
 abbrev pub with_front : List ℕ → Front (List ℕ) → Front (List ℕ)
 with_front front read = option_map (λ p. (front ++ p.0, p.1)) read
 
@@ -49,7 +49,7 @@ name_steps (b ∷ text) = by (eqb b 39) (eqb b 92) (stands_alone b) refl refl re
     by false false true is_quote is_backslash alone = refl
     by false false false is_quote is_backslash alone = rw is_quote refl
 
--- behind a byte that is written the text is shorter
+-- after a byte that is written the text is shorter
 pub written_shorter : (text : List ℕ) (b : ℕ) (rest : List ℕ) → written_at text ≡ Some (b, rest) → length rest < length text
 written_shorter [] b rest e = absurd cc
 written_shorter (c ∷ text) b rest e = by (eqb c 92) (stands_alone c) e
@@ -98,7 +98,7 @@ spelled_byte letter b e = by (eqb letter 110) (eqb letter 116) (eqb letter 92) (
     by false false false true is_p is_q is_r is_s made = rw (← same_Some letter b made, eqb-true letter 39 is_s) refl
     by false false false false is_p is_q is_r is_s made = absurd cc
 
--- a byte that stands alone is written as itself
+-- a byte that stands for itself is written as itself
 alone_byte : (b : ℕ) → stands_alone b ≡ true → quoted_byte b ≡ b ∷ []
 alone_byte b e = by (eqb b 39) (eqb b 92) (eqb b 10) (eqb b 9) refl refl refl refl e
   where
@@ -109,12 +109,12 @@ alone_byte b e = by (eqb b 39) (eqb b 92) (eqb b 10) (eqb b 9) refl refl refl re
     by false false false true is_p is_q is_r is_s made = absurd cc
     by false false false false is_p is_q is_r is_s made = rw (is_r, is_s, is_q, is_p) refl
 
--- what stands before the byte that comes next
+-- what is before the byte that comes next
 abbrev pub shown : Bool → List ℕ → List ℕ
 shown true text = 92 ∷ text
 shown false text = text
 
--- a byte more is written in front
+-- one more byte is written before
 put_in_front : (front : List ℕ) (b : ℕ) (text : List ℕ) (read : Front (List ℕ)) (name rest : List ℕ) → quoted_byte b ≡ front
     → ((n r : List ℕ) → read ≡ Some (n, r) → text ≡ flat_map quoted_byte n ++ 39 ∷ r)
     → put_byte b read ≡ Some (name, rest) → front ++ text ≡ flat_map quoted_byte name ++ 39 ∷ rest

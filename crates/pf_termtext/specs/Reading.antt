@@ -12,7 +12,7 @@ use Rattle.pf_model.specs.TermText.{is_plain_name}
 use Rattle.pf_text.specs.Numbers.{is_numeral}
 use Rattle.pf_termtext.specs.declared.fault.NoTerm.{NoTerm}
 
--- what stands at the front of a text, and the bytes behind it
+-- what is at the front of a text, and the bytes after it
 abbrev pub Front : Type 0 → Type 0
 Front X = Option (X × List ℕ)
 
@@ -30,7 +30,7 @@ abbrev pub Gives : {X Y : Type 0} → (X → Y) → Result X (OrNoMemory NoTerm)
 Gives view (Ok x) read = read ≡ Some (view x)
 Gives view (Err e) read = Fails e read
 
--- the bytes behind this byte, where it stands at the front
+-- the bytes after this byte, where it is at the front
 abbrev pub behind : ℕ → List ℕ → Option (List ℕ)
 behind b [] = None
 behind b (c ∷ text) = if c == b then Some text else None
@@ -56,7 +56,7 @@ signed true (suc n) = if nat_lt n (2 ^ 63) then Some (negsuc n) else None
 abbrev pub integer_of : Bool → List ℕ → Option ℤ
 integer_of minus digits = if is_numeral digits then signed minus (decimal digits) else None
 
--- the integer whose digits stand at the front
+-- the integer whose digits are at the front
 abbrev pub integer_at : Bool → List ℕ → Front Value
 integer_at minus text = before (behind_word text) int (integer_of minus (word text))
 
@@ -65,12 +65,12 @@ abbrev pub atom_of : List (List ℕ) → List ℕ → Option ℕ
 atom_of [] name = None
 atom_of (n ∷ names) name = if bytes_eq name n then Some 0 else option_map suc (atom_of names name)
 
--- the atom whose name stands at the front as it is
+-- the atom whose name is at the front as it is
 abbrev pub plain_at : List (List ℕ) → List ℕ → Front Value
 plain_at names text =
     if is_plain_name (word text) then before (behind_word text) atom (atom_of names (word text)) else None
 
--- the byte that a letter stands for behind `\`
+-- the byte that a letter stands for after `\`
 abbrev pub escaped : ℕ → Option ℕ
 escaped letter =
     if letter == 110 then Some 10
@@ -82,7 +82,7 @@ escaped letter =
 abbrev pub stands_alone : ℕ → Bool
 stands_alone b = not (b == single_quote || b == backslash || b == 10 || b == 9)
 
--- the byte that is written behind `\`
+-- the byte that is written after `\`
 abbrev pub escaped_at : List ℕ → Front ℕ
 escaped_at [] = None
 escaped_at (letter ∷ text) = option_map (λ b. (b, text)) (escaped letter)
@@ -94,11 +94,11 @@ written_at (b ∷ text) =
     if b == backslash then escaped_at text
     else (if stands_alone b then Some (b, text) else None)
 
--- a byte in front of what is read
+-- a byte before what is read
 abbrev pub put_byte : ℕ → Front (List ℕ) → Front (List ℕ)
 put_byte b read = option_map (λ p. (b ∷ p.0, p.1)) read
 
--- the name that is written up to the closing quote; its first byte may stand behind `\`
+-- the name that is written up to the closing quote; its first byte may come after `\`
 unfoldable pub name_at : Bool → List ℕ → Front (List ℕ)
 name_at is_escaped [] = None
 name_at true (b ∷ text) = escaped b >>= λ c. put_byte c (name_at false text)
@@ -108,7 +108,7 @@ name_at false (b ∷ text) =
     else (if stands_alone b then put_byte b (name_at false text)
     else None))
 
--- the atom whose name stands in quotes at the front, the first of which is read; a plain name has none
+-- the atom whose name is in quotes at the front, the first of which is read; a plain name has none
 abbrev pub quoted_at : List (List ℕ) → List ℕ → Front Value
 quoted_at names text =
     name_at false text >>= λ p. if is_plain_name p.0 then None else before p.1 atom (atom_of names p.0)
@@ -126,7 +126,7 @@ bounded v = if nat_le (nodes v) MOST_NODES && nat_le (depth v) MOST_DEPTH then S
 abbrev pub Elements : Type 0
 Elements = ℕ → List ℕ → Front (List Value)
 
--- behind an element stands a comma and the next one, or they end there
+-- after an element come a comma and the next one, or they end there
 abbrev pub next_items : (List ℕ → Front (List Value)) → Value → List ℕ → Option (List ℕ) → Front (List Value)
 next_items others v rest None = Some (v ∷ [], rest)
 next_items others v rest (Some text) = option_map (λ p. (v ∷ p.0, p.1)) (others text)
@@ -136,7 +136,7 @@ unfoldable pub items_at : (List ℕ → Front Value) → ℕ → List ℕ → Fr
 items_at read zero text = None
 items_at read (suc n) text = read text >>= λ p. next_items (items_at read n) p.0 p.1 (behind 44 p.1)
 
--- no elements, where their end stands at once, or some before their end
+-- no elements, where their end comes at once, or some before their end
 abbrev pub elements_by : (List ℕ → Front (List Value)) → ℕ → List ℕ → Option (List ℕ) → Front (List Value)
 elements_by items close text (Some rest) = Some ([], rest)
 elements_by items close text None = items text >>= λ p. option_map (λ rest. (p.0, rest)) (behind close p.1)
@@ -145,11 +145,11 @@ elements_by items close text None = items text >>= λ p. option_map (λ rest. (p
 abbrev pub elements_at : (List ℕ → Front Value) → Elements
 elements_at read close text = elements_by (items_at read MOST_NODES) close text (behind close text)
 
--- the tuple whose elements stand at the front, behind its brace
+-- the tuple whose elements are at the front, after its brace
 abbrev pub tuple_at : Elements → List ℕ → Front Value
 tuple_at items text = items 125 text >>= λ p. before p.1 (λ v. v) (bounded (tuple (elements p.0)))
 
--- the list whose elements stand at the front, behind its bracket
+-- the list whose elements are at the front, after its bracket
 abbrev pub list_at : Elements → List ℕ → Front Value
 list_at items text = items 93 text >>= λ p. before p.1 (λ v. v) (bounded (list (elements p.0)))
 
@@ -169,7 +169,7 @@ unfoldable pub value_at : List (List ℕ) → ℕ → List ℕ → Front Value
 value_at names zero text = None
 value_at names (suc room) text = value_by (elements_at (value_at names room)) names text
 
--- the value, where nothing stands behind it
+-- the value, where nothing follows it
 abbrev pub alone : Value → List ℕ → Option Value
 alone v [] = Some v
 alone v (b ∷ rest) = None

@@ -7,7 +7,7 @@ ghost use Rattle.pf_termtext.specs.Reading.{behind, behind_word, word};
 
 use pf_tokens::is_word;
 
-/// The bytes behind this one, where it stands at the front.
+/// The bytes after this one, where it is at the front.
 pub fn behind(text: &[u8], byte: u8) -> Option<&[u8]>
     ensures { option_map (λ rest. rest.now) result ≡ behind byte text.now }
 {
@@ -17,7 +17,7 @@ pub fn behind(text: &[u8], byte: u8) -> Option<&[u8]>
     }
 }
 
-/// How many bytes of words stand at the front.
+/// How many bytes of words are at the front.
 fn word_length(text: &[u8]) -> usize
     ensures length { result ≡ prefix_len is_word text.now }
     ensures within { result ≤ length text.now }
@@ -25,7 +25,7 @@ fn word_length(text: &[u8]) -> usize
     text.iter().take_while(|byte| is_word(**byte)).count()
 }
 
-/// The bytes of words at the front, and the bytes behind them.
+/// The bytes of words at the front, and the bytes after them.
 pub fn split_word(text: &[u8]) -> (&[u8], &[u8])
     ensures word { result.0.now ≡ word text.now }
     ensures rest { result.1.now ≡ behind_word text.now }

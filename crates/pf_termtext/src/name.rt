@@ -19,7 +19,7 @@ fn atom_of(atoms: &AtomTable, name: &[u8]) -> Option<AtomId>
     atoms.find(name)
 }
 
-/// Reads the atom whose name stands at the front as it is.
+/// Reads the atom whose name is at the front as it is.
 pub fn read_plain<'a>(text: &'a [u8], atoms: &AtomTable) -> Result<(Term, &'a [u8]), Fault>
     ensures { Gives (λ p. (value_of p.0, p.1.now)) result (plain_at atoms.now text.now) }
 {
@@ -33,7 +33,7 @@ pub fn read_plain<'a>(text: &'a [u8], atoms: &AtomTable) -> Result<(Term, &'a [u
     }
 }
 
-/// The byte that a letter stands for behind `\`.
+/// The byte that a letter stands for after `\`.
 fn escaped(letter: u8) -> Option<u8>
     ensures { result ≡ escaped letter }
 {
@@ -52,7 +52,7 @@ fn stands_alone(byte: u8) -> bool
     !(byte == b'\'' || byte == b'\\' || byte == b'\n' || byte == b'\t')
 }
 
-/// The byte that is written at the front, in quotes, and the bytes behind it.
+/// The byte that is written at the front, in quotes, and the bytes after it.
 fn written_byte(text: &[u8]) -> Option<(u8, &[u8])>
     ensures { option_map (λ p. (p.0, p.1.now)) result ≡ written_at text.now }
 {
@@ -79,7 +79,7 @@ fn read_name(alloc: Global, text: &[u8]) -> Result<(Vec<u8>, &[u8]), Fault>
     }
 }
 
-/// Reads the atom whose name stands in quotes at the front, the first of which is read.
+/// Reads the atom whose name is in quotes at the front, the first of which is read.
 pub fn read_quoted<'a>(
     alloc: Global,
     text: &'a [u8],

@@ -52,7 +52,7 @@ fn integer_of(is_negative: bool, digits: &[u8]) -> Option<i64>
     signed(is_negative, magnitude(digits)?)
 }
 
-/// Reads the integer whose digits stand at the front.
+/// Reads the integer whose digits are at the front.
 pub fn read_integer(is_negative: bool, text: &[u8]) -> Result<(Term, &[u8]), Fault>
     ensures { Gives (λ p. (value_of p.0, p.1.now)) result (integer_at is_negative text.now) }
 {

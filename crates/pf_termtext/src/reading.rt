@@ -83,7 +83,7 @@ fn read_elements<'a>(
     }
 }
 
-/// Reads the tuple whose elements stand at the front, behind its brace.
+/// Reads the tuple whose elements are at the front, after its brace.
 #[cycle(reads)]
 fn read_tuple<'a>(
     alloc: Global,
@@ -98,7 +98,7 @@ fn read_tuple<'a>(
     Ok((bounded_tuple(alloc, items)?, rest))
 }
 
-/// Reads the list whose elements stand at the front, behind its bracket.
+/// Reads the list whose elements are at the front, after its bracket.
 #[cycle(reads)]
 fn read_list<'a>(
     alloc: Global,
@@ -151,7 +151,7 @@ fn read_whole(alloc: Global, bytes: &[u8], atoms: &AtomTable) -> Result<Term, Fa
     }
 }
 
-/// The term of which the bytes are printed. Nothing else may stand in them, no blank either. Where there is no such
+/// The term of which the bytes are printed. Nothing else may be in them, no blank either. Where there is no such
 /// term, or only one with a process, a reference or an atom that the table lacks, the text is refused.
 pub fn read(alloc: Global, bytes: &[u8], atoms: &AtomTable) -> Result<Term, OrNoMemory<NoTerm>>
     ensures found { IfOk result (λ t. IsTextOf atoms.now bytes.now (value_of t)) }

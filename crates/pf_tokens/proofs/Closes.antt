@@ -1,4 +1,4 @@
--- What is read of a quoted text or a character stands there.
+-- What is read of a quoted text or a character is there.
 use Rattle.std.proofs.Common.{◌≡◌, inl, inr, ℕ, suc, ◌+◌, Bool, true, false, cond, eqb, List, [], ◌∷◌, ◌++◌, length, Option, Some, None, Ok, Err, refl, sym, ap, subst, ◌∙◌, append_assoc, length-append, arith}
 use Rattle.std.proofs.lemmas.Bool.{eqb-true}
 use Rattle.pf_fault.specs.declared.code.Code.{Code}
@@ -8,7 +8,7 @@ use Rattle.pf_tokens.specs.Bytes.{is_quotable, is_visible, escape_of}
 use Rattle.pf_tokens.specs.Scan.{Read, put_byte, escape_step, go_on, closing, behind_dollar, behind_backslash, escaped_character}
 use Rattle.pf_tokens.specs.Rules.{Writes, WritesAll, is_plain_in, is_plain_character, IsWrong, IsCutOff}
 
--- how quoted text goes wrong behind bytes that are written
+-- how quoted text goes wrong after bytes that are written
 abbrev pub Breaks : Code → List ℕ → ℕ → ℕ → ℕ → Type 0
 Breaks UnexpectedByte rest offset at n = IsWrong is_quotable rest × (at ≡ offset + n)
 Breaks Unfinished rest offset at n = IsCutOff rest × (at ≡ offset)
@@ -19,7 +19,7 @@ abbrev pub Reads : ℕ → ℕ → List ℕ → ℕ → Read (List ℕ × ℕ) �
 Reads quote offset bytes n (Ok p) = (body rest : List ℕ) × (bytes ≡ body ++ (quote ∷ rest)) × WritesAll quote p.0 body × (p.1 ≡ n + length body + 1)
 Reads quote offset bytes n (Err e) = (meant body rest : List ℕ) × (bytes ≡ body ++ rest) × WritesAll quote meant body × Breaks e.0 rest offset e.1 (n + length body)
 
--- one byte more is written in front
+-- one more byte is written before
 more : (quote offset c : ℕ) (one bytes : List ℕ) (n : ℕ) (read : Read (List ℕ × ℕ)) → Writes (is_plain_in quote) c one → Reads quote offset bytes (n + length one) read → Reads quote offset (one ++ bytes) n (put_byte c read)
 more quote offset c one bytes n (Ok p) writes (body, rest, is, all, at) =
     (one ++ body, rest, ap (λ t. one ++ t) is ∙ sym (append_assoc one body (quote ∷ rest)), (one, body, refl, writes, all), omega (arith, at, length-append one body))
@@ -27,7 +27,7 @@ more quote offset c one bytes n (Err e) writes (meant, body, rest, is, all, brea
     let offsets : n + length one + length body ≡ n + length (one ++ body) = omega (arith, length-append one body) in
     (c ∷ meant, one ++ body, rest, ap (λ t. one ++ t) is ∙ sym (append_assoc one body rest), (one, body, refl, writes, all), subst (λ k. Breaks e.0 rest offset e.1 k) offsets breaks)
 
--- what stands before the byte that comes next
+-- what is before the byte that comes next
 abbrev pub behind : Bool → List ℕ → List ℕ
 behind true bytes = 92 ∷ bytes
 behind false bytes = bytes

@@ -7,7 +7,7 @@ use Rattle.pf_tokens.specs.declared.quoted.Step.TheVariants.{Escapes}
 use Rattle.pf_tokens.specs.Bytes.{escape_of}
 use Rattle.pf_tokens.specs.Scan.{Read, ◌>>=◌, put_byte, escape_step, step_of, go_on, closing}
 
--- the bytes read before, and what is read behind them
+-- the bytes read before, and what is read after them
 abbrev pub with_front : List ℕ → Read (List ℕ × ℕ) → Read (List ℕ × ℕ)
 with_front front read = read >>= λ p. Ok (front ++ p.0, p.1)
 

@@ -32,12 +32,12 @@ pub record Cuts (text : List ℕ) (kind : Option TokenKind) (n : ℕ) : Type 0 w
   pub length_is : n ≡ length bytes
   pub piece : IsPiece kind bytes rest
 
--- a piece that is read stands there, and so does a fault
+-- a piece that is read is there, and so is a fault
 abbrev pub Says : ℕ → List ℕ → Read Cut → Type 0
 Says offset text (Ok p) = Cuts text p.0 p.1
 Says offset text (Err e) = (n : ℕ) × (e.1 ≡ offset + n) × IsFault e.0 n text
 
--- the front of a text, cut behind n bytes
+-- the front of a text, cut after n bytes
 cut : (text : List ℕ) (kind : Option TokenKind) (n : ℕ) → n ≤ length text → IsPiece kind (take n text) (drop n text) → Cuts text kind n
 cut text kind n within piece = record {
   bytes = take n text;
@@ -47,7 +47,7 @@ cut text kind n within piece = record {
   piece = piece;
 }
 
--- a text in which nothing that is read stands is a stray byte
+-- a text at which nothing is read begins with a stray byte
 stray : (offset : ℕ) (b : ℕ) (bs : List ℕ) → is_opening b ≡ false → piece_at offset (b ∷ bs) ≡ Err (UnexpectedByte, offset) → Says offset (b ∷ bs) (Err (UnexpectedByte, offset))
 stray offset b bs opens fails = (0, omega arith, inl ((opens, none), refl))
   where
@@ -193,7 +193,7 @@ piece_of_says offset b bs classes.Question e shows = module_says offset b bs sho
 piece_of_says offset b bs classes.Dot e shows = dot_says offset b bs shows.0 shows.1 e
 piece_of_says offset b bs classes.Other e shows = mark_says offset b bs shows e
 
--- what is read at the front of a text stands there
+-- what is read at the front of a text is there
 pub piece_says : (offset b : ℕ) (bs : List ℕ) → Says offset (b ∷ bs) (piece_at offset (b ∷ bs))
 unfolding piece_at
 piece_says offset b bs = piece_of_says offset b bs (class_of b) refl (class_shows b)

@@ -1,4 +1,4 @@
--- A fault that stands at the front of a text is read, and no piece or fault is empty.
+-- A fault that is at the front of a text is read, and no piece or fault is empty.
 use Rattle.std.proofs.Common.{◌≡◌, ◌⊎◌, inl, inr, ℕ, ◌+◌, ◌<◌, Bool, true, false, List, [], ◌∷◌, ◌++◌, length, Option, Some, None, Ok, Err, refl, ap, subst, ◌∙◌, add-zero, arith}
 use Rattle.pf_tokens.specs.declared.bytes.Class.TheVariants as classes
 use Rattle.pf_fault.specs.declared.code.Code.{Code}
@@ -34,7 +34,7 @@ piece_some (Some kinds.dot) bytes rest (is, e) = rw is (omega arith)
 piece_some (Some (kinds.mark m)) bytes rest h = rw h.written (mark_some m)
 piece_some (Some (kinds.reserved r)) bytes rest (h, is) = name_some is_lower bytes rest h
 
--- no fault stands in an empty text
+-- no fault is in an empty text
 pub fault_some : (fault : Code) (n : ℕ) → IsFault fault n [] → ⊥
 fault_some UnexpectedByte n (inl (stray, e)) = stray
 fault_some UnexpectedByte n (inr (rest, inl (opens, wrong))) = let is = opens.whole in cc
@@ -99,7 +99,7 @@ quoted_breaks offset text n rest opens e is = by opens.quote opens.is_quote open
         ap (piece_at offset) string ∙ piece_is offset (34 ∷ (opens.body ++ rest)) classes.DoubleQuote refl
         ∙ breaks 34 offset opens.meant opens.body rest (λ p. Ok (token (kinds.text p.0) p.1)) e (refl, refl) (subst (λ q. WritesAll q opens.meant opens.body) same writes) (is 34 (refl, refl))
 
--- a fault that stands there is read
+-- a fault that is there is read
 pub fault_again : (offset : ℕ) (fault : Code) (n : ℕ) (text : List ℕ) → IsFault fault n text → piece_at offset text ≡ Err (fault, offset + n)
 fault_again offset UnexpectedByte n [] (inl (stray, e)) = absurd stray
 fault_again offset UnexpectedByte n (b ∷ bs) (inl (stray, e)) = stray_again offset b bs stray ∙ ap (λ k. Err (UnexpectedByte, k)) (omega arith)

@@ -1,4 +1,4 @@
--- What is read of a whole text stands there, and what stands there is read.
+-- What is read of a whole text is there, and what is there is read.
 use Rattle.std.proofs.Common.{◌≡◌, inl, inr, ℕ, zero, suc, ◌+◌, ◌<◌, ◌≤◌, Bool, true, false, cond, leb, List, [], ◌∷◌, ◌++◌, length, drop, Option, Some, None, Ok, Err, refl, sym, ap, subst, ◌∙◌, zero-add, length-append, arith}
 use Rattle.std.proofs.lemmas.Bool.{leb-true, leb-false, le-leb, lt-leb}
 use Rattle.std.proofs.lemmas.List.{drop_at}
@@ -12,12 +12,12 @@ use Rattle.pf_tokens.proofs.Again.{piece_again}
 use Rattle.pf_tokens.proofs.Says.{Cuts, Says, piece_says}
 use Rattle.pf_tokens.proofs.Stands.{piece_some, fault_some, fault_again}
 
--- the tokens that are read stand there, and so does the first fault
+-- the tokens that are read are there, and so is the first fault
 abbrev pub SaysAll : ℕ → List ℕ → Read (List Placed) → Type 0
 SaysAll offset text (Ok ts) = (parts : List Operand) × Begins parts text [] × (ts ≡ tokens_from offset parts)
 SaysAll offset text (Err e) = (parts : List Operand) × (rest : List ℕ) × (further : ℕ) × Begins parts text rest × IsFault e.0 further rest × (e.1 ≡ offset + (total_length parts + further))
 
--- the rest of a text behind a piece
+-- the rest of a text after a piece
 rest_is : (text bytes rest : List ℕ) (n : ℕ) → text ≡ bytes ++ rest → n ≡ length bytes → drop n text ≡ rest
 rest_is text bytes rest n whole len = ap (drop n) whole ∙ drop_at bytes rest n (sym len)
 
@@ -27,7 +27,7 @@ after_piece offset text p cuts (Ok ts) (parts, begins, is) =
 after_piece offset text p cuts (Err e) (parts, rest, further, begins, fault, at) =
     (record { kind = p.0; bytes = cuts.bytes } ∷ parts, rest, further, (cuts.rest, cuts.whole, cuts.piece, begins), fault, omega (arith, at, cuts.length_is))
 
--- what is read of a text stands there
+-- what is read of a text is there
 pub scan_says : (n offset : ℕ) (text : List ℕ) → length text ≤ n → SaysAll offset text (scan n offset text)
 unfolding scan
 scan_says zero offset [] le = ([], refl, refl)
@@ -43,7 +43,7 @@ scan_says (suc n) offset (b ∷ bs) le = by (piece_at offset (b ∷ bs)) (piece_
         rw (rest_is (b ∷ bs) cuts.bytes cuts.rest p.1 cuts.whole cuts.length_is) (after_piece offset (b ∷ bs) p cuts (scan n (offset + p.1) cuts.rest) (later (offset + p.1) cuts.rest within))
     by (Err e) (further, at, fault) later = ([], b ∷ bs, further, refl, fault, omega (arith, at))
 
--- a piece that stands there is read, and then the rest
+-- a piece that is there is read, and then the rest
 scan_piece : (n offset : ℕ) (text : List ℕ) (p : Operand) (tail : List ℕ) → text ≡ p.bytes ++ tail → IsPiece p.kind p.bytes tail
     → scan (suc n) offset text ≡ (scan n (offset + length p.bytes) tail >>= λ ts. Ok (put_first p.kind offset (offset + length p.bytes) ts))
 unfolding scan
@@ -63,7 +63,7 @@ unfolding scan
 scan_none zero offset = refl
 scan_none (suc n) offset = refl
 
--- the tokens that stand in a text are read
+-- the tokens that are in a text are read
 pub scan_again : (n offset : ℕ) (text : List ℕ) (parts : List Operand) → length text ≤ n → Begins parts text [] → scan n offset text ≡ Ok (tokens_from offset parts)
 scan_again n offset text [] le is = ap (scan n offset) is ∙ scan_none n offset
 scan_again zero offset text (p ∷ ps) le (tail, whole, piece, later) = absurd (part_some text p tail whole piece le)
@@ -77,7 +77,7 @@ scan_fault n offset [] fault further h le = absurd (fault_some fault further h)
 scan_fault zero offset (b ∷ bs) fault further h le = absurd (omega arith)
 scan_fault (suc n) offset (b ∷ bs) fault further h le = rw (fault_again offset fault further (b ∷ bs) h) refl
 
--- the first fault that stands in a text is read
+-- the first fault that is in a text is read
 pub scan_fails_again : (n offset : ℕ) (text : List ℕ) (parts : List Operand) (rest : List ℕ) (fault : Code) (further : ℕ) → length text ≤ n → Begins parts text rest → IsFault fault further rest
     → scan n offset text ≡ Err (fault, offset + (total_length parts + further))
 scan_fails_again n offset text [] rest fault further le is h =

@@ -7,7 +7,7 @@ use Rattle.pf_fault.specs.declared.fault.OrNoMemory.TheVariants.{NoMemory, Fault
 use Rattle.pf_tokens.specs.TokenKinds.{TokenKind, Placed, one, put_first}
 use Rattle.pf_tokens.specs.Scan.{Read, Cut, ◌>>=◌, piece_at, scan, Fails}
 
--- the tokens found before, and those behind them
+-- the tokens found before, and those after them
 abbrev pub with_front : List Placed → Read (List Placed) → Read (List Placed)
 with_front front read = read >>= λ ts. Ok (front ++ ts)
 

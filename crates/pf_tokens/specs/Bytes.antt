@@ -47,7 +47,7 @@ is_word b = is_lower b || is_upper b || is_digit b || b == 64
 abbrev pub is_visible : ℕ → Bool
 is_visible b = nat_le 32 b && nat_le b 126
 
--- in quotes stand visible bytes, tabulators and line ends
+-- quotes may contain visible bytes, tabulators and line ends
 abbrev pub is_quotable : ℕ → Bool
 is_quotable b = is_visible b || b == 9 || b == 10
 
@@ -64,7 +64,7 @@ abbrev pub ends : (ℕ → Bool) → List ℕ → Bool
 ends test [] = true
 ends test (b ∷ rest) = not (test b)
 
--- behind `\`, `n` stands for a line end, `t` for a tabulator, `s` for a space, and `\`, `'` and `"` for themselves
+-- after `\`, `n` stands for a line end, `t` for a tabulator, `s` for a space, and `\`, `'` and `"` for themselves
 abbrev pub escape_of : ℕ → Option ℕ
 escape_of b =
     if b == 110 then Some 10

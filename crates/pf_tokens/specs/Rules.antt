@@ -13,7 +13,7 @@ use Rattle.pf_tokens.specs.Bytes.{percent, dollar, single_quote, double_quote, b
 use Rattle.pf_tokens.specs.TokenKinds.{TokenKind, Placed, decimal, mark_text, reserved_text, put_first}
 use Rattle.pf_tokens.specs.TokenKinds as kinds
 
--- all the bytes pass, and the text behind them goes on with none that does
+-- all the bytes pass, and the text after them goes on with none that does
 pub record IsRun (test : ℕ → Bool) (bytes rest : List ℕ) : Type 0 where
   pub each : IsTrue (list_all test bytes)
   pub whole : IsTrue (ends test rest)
@@ -22,7 +22,7 @@ pub record IsRun (test : ℕ → Bool) (bytes rest : List ℕ) : Type 0 where
 abbrev pub IsBlank : List ℕ → Type 0
 IsBlank bytes = (b : ℕ) × IsTrue (is_blank b) × (bytes ≡ b ∷ [])
 
--- a comment is `%` and all that stands before the line end, or the end
+-- a comment is `%` and all that is before the line end, or the end
 abbrev pub IsComment : List ℕ → List ℕ → Type 0
 IsComment bytes rest = (words : List ℕ) × (bytes ≡ percent ∷ words) × IsRun is_comment words rest
 
@@ -42,15 +42,15 @@ abbrev pub Writes : (ℕ → Bool) → ℕ → List ℕ → Type 0
 Writes plain c bytes =
     (IsTrue (plain c) × (bytes ≡ c ∷ [])) ⊎ ((letter : ℕ) × (escape_of letter ≡ Some c) × (bytes ≡ backslash ∷ letter ∷ []))
 
--- within quotes each byte that may stand there is written as itself, but for the quote and `\`
+-- within quotes each byte that is allowed there is written as itself, but for the quote and `\`
 abbrev pub is_plain_in : ℕ → ℕ → Bool
 is_plain_in quote b = is_quotable b && not (b == quote || b == backslash)
 
--- behind `$` each visible byte is written as itself, but for `\`
+-- after `$` each visible byte is written as itself, but for `\`
 abbrev pub is_plain_character : ℕ → Bool
 is_plain_character b = is_visible b && not (b == backslash)
 
--- the bytes are written one behind the other
+-- the bytes are written one after the other
 abbrev pub WritesAll : ℕ → List ℕ → List ℕ → Type 0
 WritesAll quote [] bytes = bytes ≡ []
 WritesAll quote (c ∷ meant) bytes =
@@ -60,11 +60,11 @@ WritesAll quote (c ∷ meant) bytes =
 abbrev pub IsQuoted : ℕ → List ℕ → List ℕ → Type 0
 IsQuoted quote meant bytes = (body : List ℕ) × WritesAll quote meant body × (bytes ≡ quote ∷ (body ++ quote ∷ []))
 
--- a character is written behind `$`
+-- a character is written after `$`
 abbrev pub IsCharacter : ℕ → List ℕ → Type 0
 IsCharacter code bytes = (one : List ℕ) × Writes is_plain_character code one × (bytes ≡ dollar ∷ one)
 
--- a mark is written, and no longer one stands there
+-- a mark is written, and no longer mark is there
 pub record IsLongestMark (m : Mark) (bytes rest : List ℕ) : Type 0 where
   pub written : bytes ≡ mark_text m
   pub longest : (other : Mark) (tail : List ℕ) → bytes ++ rest ≡ mark_text other ++ tail → length (mark_text other) ≤ length bytes
@@ -91,7 +91,7 @@ IsPiece (Some kind) bytes rest = IsToken kind bytes rest
 abbrev pub is_opening : ℕ → Bool
 is_opening b = is_digit b || b == double_quote || b == dollar || b == single_quote
 
--- the first byte is none of those, and no piece stands there
+-- the first byte is none of those, and no piece is there
 abbrev pub IsStray : List ℕ → Type 0
 IsStray [] = ⊥
 IsStray (b ∷ bs) = IsFalse (is_opening b)
@@ -102,12 +102,12 @@ abbrev pub IsNoEscape : List ℕ → Type 0
 IsNoEscape [] = ⊥
 IsNoEscape (letter ∷ rest) = escape_of letter ≡ None
 
--- a byte may not stand there, or is a `\` that begins no escape
+-- a byte isn't allowed there, or is a `\` that begins no escape
 abbrev pub IsWrong : (ℕ → Bool) → List ℕ → Type 0
 IsWrong may_stand [] = ⊥
 IsWrong may_stand (b ∷ rest) = IsFalse (may_stand b) ⊎ ((b ≡ backslash) × IsNoEscape rest)
 
--- the file ends, or ends behind a `\`
+-- the file ends, or ends after a `\`
 abbrev pub IsCutOff : List ℕ → Type 0
 IsCutOff rest = (rest ≡ []) ⊎ (rest ≡ backslash ∷ [])
 
@@ -146,12 +146,12 @@ pub record Operand : Type 0 where
   pub kind : Option TokenKind
   pub bytes : List ℕ
 
--- the text is the parts, one behind the other and each a piece, and then the rest
+-- the text is the parts, one after the other and each a piece, and then the rest
 abbrev pub Begins : List Operand → List ℕ → List ℕ → Type 0
 Begins [] text rest = text ≡ rest
 Begins (p ∷ ps) text rest = (tail : List ℕ) × (text ≡ p.bytes ++ tail) × IsPiece p.kind p.bytes tail × Begins ps tail rest
 
--- the tokens of parts, the first of which stands at the offset
+-- the tokens of parts, the first of which is at the offset
 abbrev pub tokens_from : ℕ → List Operand → List Placed
 tokens_from offset [] = []
 tokens_from offset (p ∷ ps) =
@@ -169,7 +169,7 @@ pub record HasTokens (text : List ℕ) (tokens : List Placed) : Type 0 where
   pub whole : Begins parts text []
   pub tokens_are : tokens ≡ tokens_from 0 parts
 
--- behind pieces the text has this fault at the offset
+-- after pieces the text has this fault at the offset
 pub record HasFaultAt (text : List ℕ) (fault : Code) (offset : ℕ) : Type 0 where
   pub parts : List Operand
   pub rest : List ℕ
@@ -191,7 +191,7 @@ HasSomeTokens text = (tokens : List Placed) × HasTokens text tokens
 abbrev pub HasSomeFault : List ℕ → Type 0
 HasSomeFault text = (fault : Code) × (offset : ℕ) × HasFault text fault offset
 
--- tokens stand in order, none of them empty, from the one offset to the other
+-- tokens are in order, none of them empty, from the one offset to the other
 abbrev pub IsOrdered : ℕ → List Placed → ℕ → Type 0
 IsOrdered start [] end = start ≤ end
 IsOrdered start (t ∷ ts) end = (start ≤ t.start) × (t.start < t.end) × IsOrdered t.end ts end

@@ -50,7 +50,7 @@ abbrev pub escape_step : Option ℕ → Step
 escape_step (Some c) = steps.Means c
 escape_step None = steps.Fails
 
--- what a byte within quotes does, behind a `\` or not
+-- what a byte within quotes does, after a `\` or not
 abbrev pub step_of : ℕ → Bool → ℕ → Step
 step_of quote true b = escape_step (escape_of b)
 step_of quote false b =
@@ -59,11 +59,11 @@ step_of quote false b =
     else (if is_quotable b then steps.Means b
     else steps.Fails))
 
--- a byte in front of a text and what it is longer
+-- a byte before the text that is read, whose length stays
 abbrev pub put_byte : ℕ → Read (List ℕ × ℕ) → Read (List ℕ × ℕ)
 put_byte c read = read >>= λ p. Ok (c ∷ p.0, p.1)
 
--- a byte stands alone or behind a `\`
+-- a byte is alone or after a `\`
 abbrev pub width : Bool → ℕ
 width true = 2
 width false = 1
@@ -89,12 +89,12 @@ abbrev pub escaped_character : ℕ → Option ℕ → Read (ℕ × ℕ)
 escaped_character offset (Some c) = Ok (c, 3)
 escaped_character offset None = Err (UnexpectedByte, offset + 1)
 
--- the character behind a `\`
+-- the character after a `\`
 abbrev pub behind_backslash : ℕ → List ℕ → Read (ℕ × ℕ)
 behind_backslash offset [] = Err (Unfinished, offset)
 behind_backslash offset (e ∷ rest) = escaped_character offset (escape_of e)
 
--- the character behind a `$`
+-- the character after a `$`
 abbrev pub behind_dollar : ℕ → List ℕ → Read (ℕ × ℕ)
 behind_dollar offset [] = Err (Unfinished, offset)
 behind_dollar offset (c ∷ rest) =

@@ -10,7 +10,7 @@ use Rattle.pf_tokens.specs.declared.token.Kind.{Kind}
 use Rattle.pf_tokens.specs.declared.token.Kind.TheVariants as kinds
 use Rattle.pf_tokens.specs.declared.token.Token.{Token}
 
--- a token without where it lies in memory
+-- a token without its place in memory
 pub data TokenKind : Type 0 where
   integer : ℕ → TokenKind
   atom : List ℕ → TokenKind

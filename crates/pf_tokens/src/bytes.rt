@@ -74,7 +74,7 @@ pub fn is_visible(byte: u8) -> bool
     byte >= b' ' && byte <= b'~'
 }
 
-/// A byte that may stand in quotes: from the space to `~`, a tabulator or a line end.
+/// A byte that quotes may contain: from the space to `~`, a tabulator or a line end.
 pub fn is_quotable(byte: u8) -> bool
     ensures { result ≡ is_quotable byte }
 {
@@ -119,7 +119,7 @@ fn kind_class_of(byte: u8) -> Class
     }
 }
 
-/// How many digits stand at the front.
+/// How many digits are at the front.
 pub fn digits_length(bytes: &[u8]) -> usize
     ensures length { result ≡ prefix_len is_digit bytes.now }
     ensures within { result ≤ length bytes.now }
@@ -127,7 +127,7 @@ pub fn digits_length(bytes: &[u8]) -> usize
     bytes.iter().take_while(|b| is_digit(**b)).count()
 }
 
-/// How many letters, digits, `_` and `@` stand at the front.
+/// How many letters, digits, `_` and `@` are at the front.
 pub fn word_length(bytes: &[u8]) -> usize
     ensures length { result ≡ prefix_len is_word bytes.now }
     ensures within { result ≤ length bytes.now }
@@ -135,7 +135,7 @@ pub fn word_length(bytes: &[u8]) -> usize
     bytes.iter().take_while(|b| is_word(**b)).count()
 }
 
-/// How many bytes stand before the first line end.
+/// How many bytes are before the first line end.
 pub fn line_length(bytes: &[u8]) -> usize
     ensures length { result ≡ prefix_len is_comment bytes.now }
     ensures within { result ≤ length bytes.now }

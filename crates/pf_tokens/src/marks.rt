@@ -1,4 +1,4 @@
-//! The marks: punctuation and operators. The longest that stands at an offset is taken.
+//! The marks: punctuation and operators. The longest one at an offset is taken.
 ghost use Rattle.std.specs.Prelude.{◌≡◌};
 ghost use Rattle.pf_tokens.specs.TokenKinds.{mark_text, longest_mark};
 
@@ -129,7 +129,7 @@ impl Mark {
     }
 }
 
-/// The longest mark at the front, if one stands there.
+/// The longest mark at the front, if there is one.
 pub fn longest_mark(bytes: &[u8]) -> Option<Mark>
     ensures { result ≡ longest_mark bytes.now }
 {

@@ -30,7 +30,7 @@ use crate::words::{integer_of, reserved_of};
 use pf_fault::{Code, OrNoMemory, Refusal};
 use std::alloc::{AllocError, Global};
 
-/// What stands at the front of a text: the token, unless it is a blank or a comment, and how many bytes it takes.
+/// What is at the front of a text: the token, unless it is a blank or a comment, and how many bytes it takes.
 #[derive(Drop)]
 pub struct Piece {
     pub kind: Option<Kind>,

@@ -16,7 +16,7 @@ enum Step {
     Escapes,
     /// It stands for this byte, or ends an escape that does.
     Means(u8),
-    /// It may not stand there, or makes no escape.
+    /// It isn't allowed there, or makes no escape.
     Fails,
 }
 
@@ -40,7 +40,7 @@ fn width(is_escaped: bool) -> usize
     if is_escaped { 2 } else { 1 }
 }
 
-/// What a byte within this quote does, behind a `\` or not.
+/// What a byte within this quote does, after a `\` or not.
 fn step_of(quote: u8, is_escaped: bool, byte: u8) -> Step
     ensures { result ≡ step_of quote is_escaped byte }
 {
@@ -61,7 +61,7 @@ fn step_of(quote: u8, is_escaped: bool, byte: u8) -> Step
 }
 
 /// The bytes up to the quote that closes a text, and the length with both quotes. The text begins with a quote
-/// at the offset, and the rest is what stands behind that.
+/// at the offset, and the rest is what comes after that.
 fn closing(
     alloc: Global,
     rest: &[u8],
@@ -90,7 +90,7 @@ fn closing(
     Err(OrNoMemory::refusal(Code::Unfinished, offset))
 }
 
-/// The bytes that stand in quotes at the offset, and the length of the text with both quotes. The first byte is
+/// The bytes in quotes at the offset, and the length of the text with both quotes. The first byte is
 /// the quote that opens it.
 pub fn quoted(
     alloc: Global,

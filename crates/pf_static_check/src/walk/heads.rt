@@ -45,7 +45,7 @@ impl Walk {
         Ok(())
     }
 
-    /// Through a clause, behind which no variable is known again.
+    /// Through a clause, after which no variable is known, as before it.
     fn head(
         &mut self,
         syntax: &SyntaxTree,

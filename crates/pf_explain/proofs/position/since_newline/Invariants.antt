@@ -2,7 +2,7 @@ use Rattle.std.proofs.Common.{◌≡◌, ◌≤◌, ◌<◌, ℕ, false, length,
 use Rattle.pf_explain.specs.Positions.{is_newline}
 use Rattle.pf_explain.proofs.position.since_newline.Given as goal
 
--- no newline stands from the start on
+-- there is no newline from the start on
 abbrev pub invariant-loop-start : goal.invariant-loop-start
 invariant-loop-start l = record {
   within : l.start ≤ length l.front;

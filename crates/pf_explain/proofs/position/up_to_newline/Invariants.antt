@@ -2,7 +2,7 @@ use Rattle.std.proofs.Common.{◌≡◌, ◌≤◌, ◌<◌, ◌-◌, ℕ, false
 use Rattle.pf_explain.specs.Positions.{is_newline}
 use Rattle.pf_explain.proofs.position.up_to_newline.Given as goal
 
--- no newline stands before the end
+-- there is no newline before the end
 abbrev pub invariant-loop-end : goal.invariant-loop-end
 invariant-loop-end l = record {
   within : l.end ≤ length l.behind;

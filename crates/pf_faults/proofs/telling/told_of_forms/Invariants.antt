@@ -2,6 +2,6 @@ use Rattle.std.specs.List.{All}
 use Rattle.pf_faults.specs.Faults.{IsOfFault}
 use Rattle.pf_faults.proofs.telling.told_of_forms.Given as goal
 
--- what is told so far is of faults
+-- what is reported so far is of faults
 abbrev pub invariant-loop-end : goal.invariant-loop-end
 invariant-loop-end l = All (IsOfFault l.source) l.told.items

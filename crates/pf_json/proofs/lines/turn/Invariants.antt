@@ -3,7 +3,7 @@ use Rattle.pf_json.specs.Lines.{held_behind, objects_from}
 use Rattle.pf_json.specs.Writers.{view_of_held}
 use Rattle.pf_json.proofs.lines.turn.Given as goal
 
--- the objects are those so far, and those of what is left behind what is held
+-- the objects are those so far, and those of what is left after what is held
 abbrev pub invariant-loop-byte : goal.invariant-loop-byte
 invariant-loop-byte l =
     record {

@@ -5,7 +5,7 @@ use Rattle.pf_places.specs.Innermost.{StandsAt}
 use Rattle.pf_places.proofs.Weights.{weight}
 use Rattle.pf_places.proofs.innermost.innermost.Given as goal
 
--- where the process stands in this node, it stands in the whole
+-- where the process is in this node, it is in the whole
 abbrev pub invariant-loop-part : goal.invariant-loop-part
 invariant-loop-part l = (v : Tree) → StandsAt (tree_at l.module.tables l.at.0) l.behind v → StandsAt (tree_at l.module.tables l.fn.node.0) (unwrap_or l.fn.done 0) v
 

@@ -14,7 +14,7 @@ in_order : (offset end : ℕ) (rest others : List Token) (first : Token) → res
     → IsOrdered offset (placed_of first ∷ map placed_of others) end
 in_order offset end rest others first is h = subst (λ (ts : List Token). IsOrdered offset (map placed_of ts) end) is h
 
--- the signs are those at the first token, and those behind
+-- the signs are those at the first token, and those after it
 first_signs : (source : List ℕ) (rest others : List Token) (first : Token) (line : ℕ) (o : Option Sign) → rest ≡ first ∷ others → line ≡ line_at source first.start
     → o ≡ token_sign (kind_of first.kind) (map placed_of others)
     → signs_of source (map placed_of rest) ≡ written_at line o ++ signs_of source (map placed_of others)

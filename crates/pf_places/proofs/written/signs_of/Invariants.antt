@@ -4,7 +4,7 @@ use Rattle.pf_tokens.specs.TokenKinds.{placed_of}
 use Rattle.pf_places.specs.Written.{line_at, signs_of}
 use Rattle.pf_places.proofs.written.signs_of.Given as goal
 
--- the signs of the tokens behind are left, and the line is that of the last token
+-- the signs of the tokens after it are left, and the line is that of the last token
 abbrev pub invariant-loop-first : goal.invariant-loop-first
 invariant-loop-first l = record {
   found_are : l.found.items ++ signs_of l.source (map placed_of l.rest) ≡ signs_of l.source (map placed_of l.tokens);

@@ -20,7 +20,7 @@ decreases-read_tuple l = 4 * l.room + 3
 abbrev pub decreases-read_list : goal.decreases-read_list
 decreases-read_list l = 4 * l.room + 3
 
--- the elements so far and those that are read behind them are all
+-- the elements so far and those that are read after them are all
 abbrev pub invariant-read_items-loop : goal.invariant-read_items-loop
 invariant-read_items-loop l =
     items_at (value_at l.fn.atoms l.fn.room) MOST_NODES l.fn.text

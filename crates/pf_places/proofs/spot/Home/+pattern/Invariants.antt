@@ -12,7 +12,7 @@ decreases-put_pattern l = pattern_weight (pattern_at l.self.module.now.tables l.
 abbrev pub decreases-put_patterns : goal.decreases-put_patterns
 decreases-put_patterns l = patterns_weight (patterns_at l.self.module.now.tables l.ids.now)
 
--- those of the pattern at which the walk stands are left, and it is no larger than the whole
+-- those of the pattern that the walk is at are left, and it is no larger than the whole
 abbrev pub invariant-put_pattern-loop-node : goal.invariant-put_pattern-loop-node
 invariant-put_pattern-loop-node l =
     let t = l.self.module.now.tables in

@@ -26,7 +26,7 @@ decreases-put_clause l = 4 * clause_weight l.self.module.now.tables l.clause.now
 abbrev pub decreases-put_clauses : goal.decreases-put_clauses
 decreases-put_clauses l = 4 * clauses_weight (clauses_over l.self.module.now.tables l.clauses.now)
 
--- those of the part at which the walk stands are left, and it is no larger than the whole
+-- those of the part that the walk is at are left, and it is no larger than the whole
 abbrev pub invariant-put_tree-loop-at : goal.invariant-put_tree-loop-at
 invariant-put_tree-loop-at l =
     let t = l.self.module.now.tables in

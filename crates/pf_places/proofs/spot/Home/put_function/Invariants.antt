@@ -5,7 +5,7 @@ use Rattle.pf_places.specs.Added.{seen}
 use Rattle.pf_places.specs.Spots.{head_spots}
 use Rattle.pf_places.proofs.spot.Home.put_function.Given as goal
 
--- those of the clauses behind are left
+-- those of the clauses after it are left
 abbrev pub invariant-loop-clause : goal.invariant-loop-clause
 invariant-loop-clause l =
     let t = l.self.module.now.tables in
