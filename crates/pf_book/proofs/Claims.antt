@@ -37,7 +37,7 @@ unclaimed_world q t w w' h = by (is_queued (held_at (desk_at q w).trials t)) ref
         let does = ap (λ (b : Bool). worked q w (if b then Some (after_claim (desk_at q w) t) else None)) e in
         (refl, ap (λ (x : World × Answer). x.0) (sym h ∙ does))
 
--- the queue holds all that are queued after a claim, of one that stands in it no more or still
+-- the queue holds all that are queued after a claim, of one that is no longer in it or still is
 pub queues_claimed : (q t : ℕ) (k k' : Queue) (w w' : World) (j : Arc Job Global) → ClaimsAt w q t (Ok (Some j)) w' → QueuesAll k w
     → ((r s : ℕ) → Stands r s k.waiting.items → Stands r s k'.waiting.items ⊎ ((r ≡ q) × (s ≡ t)))
     → k'.running ≡ k.running + 1 → HoldsRoom k' 0 → QueuesAll k' w'

@@ -14,7 +14,7 @@ use Rattle.pf_desks.proofs.Held.{held_push, Around, around, gap}
 
 -- ---- counts by index
 
--- at each index stands what a function says of that index
+-- at each index is what a function says of that index
 abbrev AreAll : List ℕ → (ℕ → ℕ) → Type 0
 AreAll us U = (i : ℕ) → IfSome (slice_get us i) (λ k. k ≡ U i)
 

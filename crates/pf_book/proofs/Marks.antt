@@ -1,4 +1,4 @@
--- What a job comes to is filed as whole.
+-- A job's result is filed as whole.
 use Rattle.std.proofs.Common.{◌≡◌, ℕ, zero, List, [], ◌∷◌, refl, ap, ◌∙◌}
 use Rattle.pf_model.specs.Configuration.{Core, of}
 use Rattle.pf_model.specs.Context.{State, running, waiting, ending, ended, returned, failed}

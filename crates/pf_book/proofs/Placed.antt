@@ -56,7 +56,7 @@ put_insert p (e ∷ es) w = ap (λ (l : World). if nat_eq p e.0 then (e.0, w) �
 put_same : (p : ℕ) (es : World) (d : Desk) → lookup (nat_eq p) es ≡ Some d → put_desk p d es ≡ es
 put_same p es d h = sym (put_set p es d d h) ∙ set_value_same (nat_eq p) es d h
 
--- ---- where a project's desk stands
+-- ---- where a project's desk is
 
 -- a world is these entries, and the desk of a project is the one at an index of them
 pub record IsDeskAt (p : ℕ) (es w : World) (i : ℕ) (d : Desk) : Type 0 where
@@ -77,7 +77,7 @@ desk_at_index p es w i d index value seen = record {
     found : lookup (nat_eq p) es ≡ Some d
     found = f.value ∙ value
 
--- a project whose desk stands at no index has none yet
+-- a project whose desk is at no index has none yet
 pub no_desk_at : (p : ℕ) (es w : World) → position (nat_eq p) (keys_of es) ≡ None → es ≡ w → desk_at p w ≡ no_desk
 no_desk_at p es w none seen = ap (desk_at p) (sym seen) ∙ at_none p es (Missing-position (nat_eq p) es none).value
 

@@ -1,4 +1,4 @@
--- What each call comes to.
+-- The result of each call.
 use Rattle.std.proofs.Common.{◌≡◌, ◌<◌, ◌==◌, arith, inl, inr, Bool, true, false, ℕ, zero, suc, ◌+◌, List, [], ◌∷◌, ◌++◌, length, Option, Some, None, Result, Ok, Err, refl, sym, ap, ◌∙◌}
 use Rattle.std.specs.Prelude.{◌||◌, nat_lt, if◌then◌else◌}
 use Rattle.std.specs.Option.{option_map}

@@ -30,11 +30,11 @@ module _ (p : Profile) (right : IsRight p) where
       → ◌≡◌ {A = Desk × Reply} (d, desk.refused code) (submitted d bytes (p.reading bytes))
   submitted_refused d bytes code index h = ap (submitted d bytes) (sym (right.reads bytes (refused code index) h))
 
-  -- a request that comes to this job, or is refused for this, does so to the profile
+  -- a request that results in this job, or is refused for this, does so to the profile
   request_so : (m : ReadModule) (e : ℕ) (r : Request) (x : Result Job Code) → Asks m e r x → job_ordered p e (Some m) r ≡ x
   request_so m e r x h = ap (λ (q : Option Property). job_of m e q r) (right.properties m.code.atoms r.property h.0 h.1) ∙ h.2
 
--- an order asks for what its request of its module comes to
+-- an order asks for what its request of its module results in
 pub order_asks : (e : ℕ) (modules : List (Option ReadModule)) (o : Order) (m : ReadModule) (x : Result Job Code)
     → held_at modules o.module ≡ Some m → Asks m e (view_of_request o.request) x → Asked e modules o x
 order_asks e modules o m x found asks p right =

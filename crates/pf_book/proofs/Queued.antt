@@ -22,7 +22,7 @@ use Rattle.pf_book.proofs.Worked.{held_found, held_none, queued_at, running_at, 
 use Rattle.pf_desks.proofs.Held.{Around, around, gap, held_push}
 use Rattle.pf_desks.proofs.Isolated.{desk_placed, same_project}
 
--- ---- what stands in a queue
+-- ---- what is in a queue
 
 pub stands_before : (q t : ℕ) (xs ys : List (ℕ × ℕ)) → Stands q t xs → Stands q t (xs ++ ys)
 stands_before q t [] ys h = absurd h
@@ -45,7 +45,7 @@ same_or_other (suc n) (suc m) = by (same_or_other n m)
     by (inl e) = inl (ap suc e)
     by (inr ne) = inr (λ e. ne (omega arith))
 
--- a trial that is queued after something was written under a number stands under that number, or was queued before
+-- a trial that is queued after something was written under a number is under that number, or was queued before
 queued_other : (ts : List (Option Trial)) (t k : ℕ) (o : Option Trial) → is_queued (held_at (with_held ts t o) k) ≡ true → (k ≡ t) ⊎ (is_queued (held_at ts k) ≡ true)
 queued_other ts t k o h = by (same_or_other k t)
   where
@@ -301,7 +301,7 @@ first_passed q t k k' w items running room isnt all = record {
         absurd (cc (same, isnt))
     by r s h (inr rest) = rest
 
--- what is found in front is what a list begins with
+-- what is found at the front is what a list begins with
 pub front_is : (es : List (ℕ × ℕ)) (e : ℕ × ℕ) → 0 < length es → e ≡ get_or es 0 e → es ≡ e ∷ drop 1 es
 front_is [] e some is = absurd (omega arith)
 front_is (x ∷ es) e some is = ap (λ (y : ℕ × ℕ). y ∷ es) (sym is)

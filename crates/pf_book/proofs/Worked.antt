@@ -1,4 +1,4 @@
--- What a desk keeps is kept where a worker claims a trial, files what came of it or hands it back.
+-- What a desk keeps is kept where a worker claims a trial, files its result or hands it back.
 use Rattle.std.proofs.Common.{◌≡◌, ◌≤◌, ◌+◌, ℕ, zero, suc, Bool, true, false, cond, List, [], ◌∷◌, ◌++◌, map, Option, Some, None, refl, sym, ap, ◌∙◌, subst, arith}
 use Rattle.std.specs.Prelude.{if◌then◌else◌, IfSome, slice_get, slice_set, sum_by}
 use Rattle.std.specs.Option.{option_map, option_flatten}

@@ -34,11 +34,11 @@ DeskClaims d t (Ok (Some j)) d' = (job_at d.trials t ≡ Some j.value) × (claim
 DeskClaims d t (Ok None) d' = (is_queued (held_at d.trials t) ≡ false) × (d' ≡ d)
 DeskClaims d t (Err e) d' = (is_queued (held_at d.trials t) ≡ true) × (d' ≡ d)
 
--- the desk with what the job of the trial of a ticket came to, and the note of its file
+-- the desk with the result of the job of the trial of a ticket, and the note of its file
 abbrev pub with_result : desk.Desk → ℕ → shrinking.Result → desk.Desk
 with_result d t r = with_entry (record d { trials = with_state d.trials t (λ j. desk.done r) }) (filed t (mark_of r))
 
--- DeskFiles d t f b d': what the job of the trial of a ticket came to is filed, or it isn't running or is of another job
+-- DeskFiles d t f b d': the result of the job of the trial of a ticket is filed, or it isn't running or is of another job
 abbrev pub DeskFiles : desk.Desk → ℕ → FinishedView → Bool → desk.Desk → Type 0
 DeskFiles d t f true d' =
     (is_running (held_at d.trials t) ≡ true) × (d' ≡ with_result d t f.result) × ForRight (λ p. file_step p d t (mark_of f.result) ≡ Some d')
@@ -51,7 +51,7 @@ DeskTakesBack d t false d' = (is_running (held_at d.trials t) ≡ false) × (d' 
 
 -- ---- in the world
 
--- what a worker is told: its work is done, or it can't be done now
+-- what a worker is answered: its work is done, or it can't be done now
 abbrev pub work_told : Bool → Answer
 work_told b = if b then work_done else not_now
 
@@ -76,7 +76,7 @@ Claims w (Ok (Some c)) w' = ClaimsAt w c.project c.ticket (Ok (Some c.job)) w'
 Claims w (Ok None) w' = ((q t : ℕ) → is_queued (held_at (desk_at q w).trials t) ≡ false) × (w' ≡ w)
 Claims w (Err e) w' = ((q : ℕ) × (t : ℕ) × (is_queued (held_at (desk_at q w).trials t) ≡ true)) × (w' ≡ w)
 
--- Files w q t f b w': what came of a project's ticket is filed under its mark, or the trial isn't running or is of another job
+-- Files w q t f b w': the result of a project's ticket is filed under its mark, or the trial isn't running or is of another job
 abbrev pub Files : World → ℕ → ℕ → FinishedView → Bool → World → Type 0
 Files w q t f true w' = ForRight (λ p. ◌≡◌ {A = World × Answer} (worked q w (file_step p (desk_at q w) t (mark_of f.result))) (w', work_done))
 Files w q t f false w' = IsStray (desk_at q w).trials t f.job × (w' ≡ w)

@@ -1,4 +1,4 @@
--- What calls come to, before anything is changed.
+-- The results of calls, before anything is changed.
 use Rattle.std.specs.Prelude.{◌≡◌, [], ◌∷◌, ◌++◌, Some, None, IsSome, Result, Ok, Err}
 use Rattle.pf_quota.specs.declared.usage.Usage.{Usage}
 use Rattle.pf_quota.specs.declared.charges.Charge.TheVariants as charge
@@ -25,7 +25,7 @@ with_change d (change.DropTrial t) = record d { trials = desk.with_held d.trials
 with_change d (change.Withdraw n) = record d { modules = desk.with_held d.modules n None }
 with_change d (change.Edition e) = record d { edition = e }
 
--- what a call to a desk comes to is what it is answered with, which is noted so; and what is used then, with the call itself
+-- the result of a call to a desk is what it is answered with, which is noted so; and what is used then, with the call itself
 pub record IsPlan (d : desk.Desk) (c : Call) (plan : Plan) : Type 0 where
   pub answers : ForRight (λ p. ◌≡◌ {A = desk.Desk × desk.Reply} (with_change d plan.change, view_of_reply plan.reply) (answered p d c))
   pub notes : view_of_entry plan.noted ≡ desk.called c (view_of_reply plan.reply)

@@ -9,7 +9,7 @@ use Rattle.pf_book.specs.declared.plan.Change.TheVariants as change
 use Rattle.pf_book.specs.declared.queue.Queue.{Queue}
 use Rattle.pf_book.specs.Running.{running_in}
 
--- the trial of a project's ticket stands among these
+-- the trial of a project's ticket is among these
 abbrev pub Stands : (project ticket : ℕ) → List (ℕ × ℕ) → Type 0
 Stands q t [] = ⊥
 Stands q t (e ∷ es) = ((e.0 ≡ q) × (e.1 ≡ t)) ⊎ Stands q t es
@@ -32,7 +32,7 @@ pub record FollowsQueue (q : ℕ) (k : Queue) (d : Desk) (k' : Queue) (d' : Desk
   pub stays : (r t : ℕ) → Stands r t k.waiting.items → Stands r t k'.waiting.items ⊎ ((r ≡ q) × (is_queued (held_at d'.trials t) ≡ false))
   pub new : (t : ℕ) → is_queued (held_at d'.trials t) ≡ true → (is_queued (held_at d.trials t) ≡ true) ⊎ Stands q t k'.waiting.items
 
--- nothing waits, or what stands in front is queued
+-- nothing waits, or what is at the front is queued
 abbrev pub FrontIsQueued : List (ℕ × ℕ) → World → Type 0
 FrontIsQueued [] w = Unit {0}
 FrontIsQueued (e ∷ es) w = is_queued (held_at (desk_at e.0 w).trials e.1) ≡ true

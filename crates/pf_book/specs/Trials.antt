@@ -12,6 +12,6 @@ JobAt ts t j = IfSome (held_at ts t) (λ x. j ≡ x.job)
 abbrev pub AnotherJobAt : List (Option Trial) → ℕ → Job → Type 0
 AnotherJobAt ts t j = JobAt ts t j → ⊥
 
--- what a job came to can't be filed: the trial of the ticket isn't running, or is of another job
+-- a job's result can't be filed: the trial of the ticket isn't running, or is of another job
 abbrev pub IsStray : List (Option Trial) → ℕ → Job → Type 0
 IsStray ts t j = (is_running (held_at ts t) ≡ false) ⊎ AnotherJobAt ts t j

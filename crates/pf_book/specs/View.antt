@@ -63,7 +63,7 @@ abbrev pub mark_by : Outcome → desk.Mark
 mark_by memory = desk.marked_memory
 mark_by _ = desk.marked_whole
 
--- the mark under which what a job came to is filed
+-- the mark under which a job's result is filed
 abbrev pub mark_of : Result → desk.Mark
 mark_of (report r) = mark_by r.outcome
 mark_of (shrunk_to f r) = desk.marked_whole

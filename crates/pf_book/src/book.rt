@@ -124,7 +124,7 @@ impl Book {
         self.call(alloc, project, Call::Order(order))
     }
 
-    /// Asks for what came of the trial of a ticket.
+    /// Asks for the result of the trial of a ticket.
     pub fn fetch(&mut self, alloc: Global, project: u32, ticket: u64) -> Result<Reply, NoMemory>
         ensures answer { Answers self.old project (calls.fetch ticket) result self.new }
         ensures tickets { KeepsAllTickets self.old self.new }
@@ -140,7 +140,7 @@ impl Book {
         self.call(alloc, project, Call::Status(ticket))
     }
 
-    /// Drops the trial of a ticket, however far it is. Its steps count no more.
+    /// Drops the trial of a ticket, however far it is. Its steps no longer count.
     pub fn drop_trial(
         &mut self,
         alloc: Global,
@@ -153,7 +153,7 @@ impl Book {
         self.call(alloc, project, Call::DropTrial(ticket))
     }
 
-    /// Withdraws the module of a number if no trial that the project holds uses it. Its bytes count no more.
+    /// Withdraws the module of a number if no trial that the project holds uses it. Its bytes no longer count.
     pub fn withdraw(&mut self, alloc: Global, project: u32, number: u64) -> Result<Reply, NoMemory>
         ensures answer { Answers self.old project (calls.withdraw number) result self.new }
         ensures tickets { KeepsAllTickets self.old self.new }
@@ -239,7 +239,7 @@ impl Book {
         Ok(claimed)
     }
 
-    /// Files what came of the trial of a project's ticket; says false if it isn't running or is of another job, and changes nothing then. It takes
+    /// Files the result of the trial of a project's ticket; returns false if it isn't running or is of another job, and changes nothing then. It takes
     /// no memory.
     pub fn file(&mut self, project: u32, ticket: u64, finished: Finished) -> bool
         ensures file { Files self.old project ticket finished result self.new }
@@ -256,7 +256,7 @@ impl Book {
         filed
     }
 
-    /// Takes the trial of a project's ticket back, which is queued again; says false if it isn't running, and changes nothing then. It takes no
+    /// Hands the trial of a project's ticket back, which is queued again; returns false if it isn't running, and changes nothing then. It takes no
     /// memory.
     pub fn hand_back(&mut self, project: u32, ticket: u64) -> bool
         ensures { TakesBack self.old project ticket result self.new }
@@ -322,7 +322,7 @@ fn claim_in(
 }
 
 /// Lets the front of the queue go as long as it isn't queued: a trial that was claimed by its ticket, or dropped. Each leaves the queue once; those
-/// behind one that is queued stay until it goes.
+/// after one that is queued stay until it goes.
 fn let_pass(desks: &IndexMap<u32, Desk, RandomState>, last: usize, queue: &mut Queue)
     requires { QueuesAll queue.old desks.now.entries }
     ensures queue { QueuesAll queue.new desks.now.entries }
@@ -336,7 +336,7 @@ fn let_pass(desks: &IndexMap<u32, Desk, RandomState>, last: usize, queue: &mut Q
     }
 }
 
-/// Claims the first trial of the queue that is queued yet; those before it leave the queue.
+/// Claims the first trial of the queue that is still queued; those before it leave the queue.
 fn claim_first(
     desks: &mut IndexMap<u32, Desk, RandomState>,
     last: usize,

@@ -1,4 +1,4 @@
-//! The changes of what a desk holds, for which there is room: they want no memory.
+//! The changes of what a desk holds, for which there is room: they take no memory.
 
 ghost use Rattle.std.specs.Prelude.{◌≡◌, ◌+◌, ◌-◌, ◌<◌, ◌≤◌, ◌^◌, length, slice_index, slice_set};
 ghost use Rattle.std.specs.Vec.{vec_len, vec_capacity};

@@ -121,7 +121,7 @@ impl Desk {
     }
 
     /// Answers a call and notes it with its reply; a trial that is ordered waits in the queue from then on. A call for which the log has no room is
-    /// refused first of all, wants no memory, and isn't noted. A source that is in store isn't read again. After running out of memory nothing
+    /// refused first of all, takes no memory, and isn't noted. A source that is in store isn't read again. After running out of memory nothing
     /// has changed.
     pub fn call(
         &mut self,
@@ -173,7 +173,7 @@ impl Desk {
         Ok(reply)
     }
 
-    /// What a call comes to that is charged already.
+    /// The result of a call that is charged already.
     fn plan(
         &self,
         alloc: Global,
@@ -224,7 +224,7 @@ impl Desk {
         Ok(Some(job))
     }
 
-    /// Files what the job of the trial of a ticket came to, if it is running and of that job, by the room that its claim made.
+    /// Files the result of the job of the trial of a ticket, if it is running and of that job, by the room that its claim made.
     pub fn file(&mut self, ticket: u64, finished: Finished) -> bool
         ensures file { DeskFiles self.old ticket finished result self.new }
         ensures own { OnTrue result (JobAt self.old.trials ticket finished.job) }
@@ -240,7 +240,7 @@ impl Desk {
         true
     }
 
-    /// Takes the trial of a ticket back, if it is running, by the room that its claim made: it waits again.
+    /// Hands the trial of a ticket back, if it is running, by the room that its claim made: it waits again.
     pub fn take_back(&mut self, ticket: u64) -> bool
         ensures back { DeskTakesBack self.old ticket result self.new }
         ensures modules { self.new.modules ≡ self.old.modules }
@@ -307,7 +307,7 @@ fn set_running(trials: &mut Vec<Option<Trial>>, ticket: u64, running: bool)
     }
 }
 
-/// Files what the job of the trial of a ticket came to.
+/// Files the result of the job of the trial of a ticket.
 fn file(trials: &mut Vec<Option<Trial>>, ticket: u64, finished: Finished)
     requires { JobAt trials.old.items ticket finished.job }
     ensures { trials.new.items ≡ with_state trials.old.items ticket (λ j. desk.done finished.result) }

@@ -14,7 +14,7 @@ use pf_request::{Order, Source};
 use pf_sched::{Ending, Finished, Job, Whole};
 use std::sync::Arc;
 
-/// What a file bears: the whole of what the job came to, or that memory ran out.
+/// What a file bears: the whole result of the job, or that memory ran out.
 #[derive(Clone, Copy, Debug, PartialEq, Eq)]
 pub(crate) enum Mark {
     Whole,
@@ -22,7 +22,7 @@ pub(crate) enum Mark {
 }
 
 impl Mark {
-    /// The mark of what a job came to.
+    /// The mark of a job's result.
     pub fn of(finished: &Finished) -> Mark
         ensures mark { view_of_mark result ≡ mark_of finished.now.result }
         ensures puts { ForRight (λ p.
@@ -36,7 +36,7 @@ impl Mark {
     }
 }
 
-/// What a desk notes: a call with its reply, and that a worker claimed the trial of a ticket, filed what came of it, or handed it back.
+/// What a desk notes: a call with its reply, and that a worker claimed the trial of a ticket, filed its result, or handed it back.
 #[derive(Drop)]
 pub(crate) enum Entry {
     /// A source was submitted, and given this number.
@@ -47,13 +47,13 @@ pub(crate) enum Entry {
     Ordered(Box<Order>, u64),
     /// A trial was ordered, and refused.
     OrderRefused(Box<Order>, Refusal),
-    /// The whole of what came of the trial of a ticket was handed out.
+    /// The whole result of the trial of a ticket was handed out.
     Fetched(u64, Whole),
-    /// It was told that memory ran out for the job of the trial of a ticket.
+    /// The reply was that memory ran out for the job of the trial of a ticket.
     ToldMemory(u64, Arc<Job>),
-    /// What came of the trial of a ticket was refused.
+    /// The result of the trial of a ticket was refused.
     FetchRefused(u64, Refusal),
-    /// The trial of a ticket stood so far.
+    /// The trial of a ticket was at this stage.
     Stood(u64, Stage),
     /// How far the trial of a ticket is was refused.
     StatusRefused(u64, Refusal),
@@ -74,13 +74,13 @@ pub(crate) enum Entry {
     /// This edition was refused.
     MoveRefused(u32, Refusal),
     Claimed(u64),
-    /// What came of the trial of a ticket was filed under a mark.
+    /// The result of the trial of a ticket was filed under a mark.
     Filed(u64, Mark),
     HandedBack(u64),
 }
 
 impl Entry {
-    /// The note that what came of the trial of a ticket was handed out.
+    /// The note that the result of the trial of a ticket was handed out.
     pub fn fetched(ticket: u64, finished: Finished) -> Entry
         ensures { view_of_entry result
             ≡ desk.called (calls.fetch ticket) (desk.result finished.job.asked.code.atoms finished.result) }

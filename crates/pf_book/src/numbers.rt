@@ -17,7 +17,7 @@ pub(crate) fn numbered<T>(things: &[Option<T>], number: u64) -> Option<&T>
     things.get(number as usize - 1)?.as_ref()
 }
 
-/// Gives up what is held under a number, and hands it over: nothing is held there then.
+/// Gives up what is held under a number, and returns it: nothing is held there then.
 pub(crate) fn give_up<T>(things: &mut Vec<Option<T>>, number: u64) -> Option<T>
     ensures taken { result ≡ held_at things.old.items number }
     ensures items { things.new.items ≡ with_held things.old.items number None }

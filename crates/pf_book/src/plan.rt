@@ -1,4 +1,4 @@
-//! What a call comes to, before anything is changed.
+//! The result of a call, before anything is changed.
 
 ghost use Rattle.std.specs.Prelude.{◌≡◌};
 
@@ -25,7 +25,7 @@ pub(crate) enum Change {
     Edition(u32),
 }
 
-/// What a call comes to: what it changes, what is noted of it, its reply, and what is used then.
+/// The result of a call: what it changes, what is noted of it, its reply, and what is used then.
 #[derive(Drop)]
 pub(crate) struct Plan {
     pub change: Change,

@@ -9,9 +9,9 @@ use pf_terms::NoMemory;
 use std::alloc::Global;
 use std::collections::VecDeque;
 
-/// The trials that wait for a worker, each by its project and its ticket, the first that was queued in front, and how many trials run. There is
-/// room for those to wait again. A trial that was dropped, or claimed by its ticket, may stand here still, behind one that is queued: it leaves
-/// once it comes to the front.
+/// The trials that wait for a worker, each by its project and its ticket, in the order in which they were queued, and how many trials run. There is
+/// room for those to wait again. A trial that was dropped, or claimed by its ticket, may be here still, after one that is queued: it leaves
+/// once it is at the front.
 #[derive(Drop)]
 pub(crate) struct Queue {
     pub waiting: VecDeque<(u32, u64)>,
@@ -62,7 +62,7 @@ impl Queue {
         self.running += 1;
     }
 
-    /// This number of trials run no more, each of which leaves its room.
+    /// This number of trials no longer run, each of which leaves its room.
     pub fn end(&mut self, ended: usize)
         requires { ended ≤ self.old.running }
         ensures waiting { self.new.waiting.items ≡ self.old.waiting.items }

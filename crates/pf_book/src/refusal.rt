@@ -23,7 +23,7 @@ pub enum Refusal {
     NoTrial,
     /// `B4`: a trial that the project holds uses the module.
     ModuleInUse,
-    /// `B5`: nothing came of the trial yet.
+    /// `B5`: the trial has no result yet.
     NotDone,
     /// `B6`: the limit isn't from 1 to 100,000, the schedule has more than 100,000 numbers, or the runs of a shrinking aren't from 1 to 1,000.
     OutOfRange,

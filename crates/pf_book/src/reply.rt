@@ -1,4 +1,4 @@
-//! What a client is told.
+//! What a client is answered.
 
 use crate::refusal::Refusal;
 use pf_quota::Usage;
@@ -11,18 +11,18 @@ pub enum Stage {
     Queued,
     /// A worker has it.
     Running,
-    /// What came of it is filed.
+    /// Its result is filed.
     Done,
 }
 
-/// What a client is told.
+/// What a client is answered.
 #[derive(Drop)]
 pub enum Reply {
     /// The number of a module, counted from 1 in each project.
     Module(u64),
     /// The ticket of a trial, counted from 1 in each project.
     Ticket(u64),
-    /// What the job of a trial came to.
+    /// The result of the job of a trial.
     Result(Finished),
     /// How far a trial is.
     Stage(Stage),

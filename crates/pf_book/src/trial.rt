@@ -23,7 +23,7 @@ use std::sync::Arc;
 pub(crate) enum State {
     /// Its job waits for a worker, or a worker runs it.
     Undone { running: bool, job: Arc<Job> },
-    /// The whole of what its job came to is filed.
+    /// The whole result of its job is filed.
     Done(Whole),
     /// It is filed that memory ran out for its job.
     WithoutMemory(Arc<Job>),
@@ -136,7 +136,7 @@ impl Trial {
         }
     }
 
-    /// Files what its own job came to.
+    /// Files the result of its own job.
     pub fn file(&mut self, finished: Finished)
         requires { finished.job ≡ self.old.job }
         ensures { self.new ≡ record self.old { state = desk.done finished.result } }
@@ -147,7 +147,7 @@ impl Trial {
         };
     }
 
-    /// What its job came to once more, if that is filed. It takes no memory.
+    /// Its job's result once more, if that is filed. It takes no memory.
     pub fn filed(&self) -> Result<Finished, OrNoMemory<Refusal>>
         ensures { MatchResult result
             (λ f. result_in self.now.job.asked.code.atoms self.now.state ≡ desk.result f.job.asked.code.atoms f.result)

@@ -1,4 +1,4 @@
--- All rows: what the definitions say of one row that stands in its index, and of a change of it.
+-- All rows: what the definitions say of one row that is at its index, and of a change of it.
 use Rattle.std.proofs.Common.{◌≡◌, ℕ, zero, suc, ◌+◌, ◌<◌, ◌≤◌, [], ◌∷◌, ◌++◌, Option, Some, None, IfSome, IfNone, refl, sym, ap, ◌∙◌, arith, add-one, length, slice_index_or, slice_set}
 use Rattle.pf_model.specs.Channels.{Signal, Queue, Row, Channels, row_of, with_row, with_last, sent, left_in, taken_from, taken, with_senders}
 use Rattle.pf_model.specs.Maps.{got, put}
@@ -37,7 +37,7 @@ sent_at a b s rs old r l read e =
 abbrev given : Signal → Channels → Option (Signal × Channels)
 given s cs = Some (s, cs)
 
--- taking from all rows is taking from the sender's, whatever stands there
+-- taking from all rows is taking from the sender's, whatever is there
 taken_by : (a b : ℕ) (s : Signal) (rs : Channels) (r : Row) (o : Option Queue) → a < length rs
     → taken_in b (row_of a rs) o ≡ Some (s, r) → taken_from a b rs o ≡ Some (s, slice_set rs a r)
 taken_by a b s rs r None l e = absurd (cc)

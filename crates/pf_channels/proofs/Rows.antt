@@ -136,7 +136,7 @@ taken_only b r i old q s rises h v oldest left =
     ap (taken_in b r) (got_value b r i old h v) ∙ ap (λ y. given y (left_in b old.rest r)) oldest
     ∙ ap (λ ss. given s (left_in b ss r)) left ∙ ap (given s) (sym (without_value b 0 q r i rises h))
 
--- what stands at the index of a key, with another value
+-- what is at the index of a key, with another value
 pub entry_at : (b : ℕ) (r : Row) (i : ℕ) (q : Queue) (e : ℕ × Queue) → IsThere (λ x. x.0) b r i → slice_get (with_value r i q) i ≡ Some e
     → e ≡ (b, q)
 entry_at b [] i q e h g = absurd h

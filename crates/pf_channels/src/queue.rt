@@ -14,14 +14,14 @@ use std::mem;
 /// The most signals for which a queue has room that is kept as a spare one.
 const MOST_SPARE: usize = 64;
 
-/// Signals, the oldest first: never none. They stand in a block of their own, so that a queue moves as a pointer where others come and
+/// Signals, the oldest first: never none. They are in a block of their own, so that a queue moves as a pointer where others come and
 /// go beside it.
 #[derive(Drop)]
 pub(crate) struct Queue {
     waiting: Box<Waiting>,
 }
 
-/// The oldest signal, and those behind it. One signal alone takes no further memory.
+/// The oldest signal, and those after it. One signal alone takes no further memory.
 #[derive(Drop)]
 struct Waiting {
     first: Signal,

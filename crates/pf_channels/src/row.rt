@@ -60,7 +60,7 @@ impl Row {
         self.queues.as_slice()[at].0 as u32
     }
 
-    /// Puts the sender with each of its receivers behind other pairs.
+    /// Puts the sender with each of its receivers after other pairs.
     pub(crate) fn put_heads(&self, from: u32, pairs: &mut Vec<(u32, u32)>) -> Result<(), NoMemory>
         ensures { OnOk result (pairs.new.items ≡ pairs.old.items ++ heads_of from self.now) }
     {

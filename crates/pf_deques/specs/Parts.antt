@@ -17,7 +17,7 @@ module _ {T : Type 0} where
   marks zero = []
   marks (suc n) = None ∷ marks n
 
-  -- items, and behind them marks, which are its owner's alone
+  -- items, and after them marks, which are its owner's alone
   abbrev pub entries : List T → ℕ → List (Option T)
   entries items n = map Some items ++ marks n
 

@@ -89,7 +89,7 @@ pub fn open_alone<T: Drop>(alloc: Global, capacity: usize) -> Result<Owner<T>, N
 }
 
 impl<T: Drop> Owner<T> {
-    /// Pushes an item behind all others. One that is refused, for want of room or behind a mark, comes back.
+    /// Pushes an item after all others. One that is refused, because there is no room or a mark was pushed, comes back.
     pub fn push(&mut self, item: T) -> Result<(), T>
         ensures ok { OnOk result (self.new ≡ with_pushed self.old item) }
         ensures err { IfErr result (λ x. (x ≡ item) × (self.new ≡ self.old)) }
@@ -123,7 +123,7 @@ impl<T: Drop> Owner<T> {
         }
     }
 
-    /// Pushes a mark behind all items, if there is room. No item is pushed from then on, so when the owner pops a mark nothing is left. A thief may take a mark: then it
+    /// Pushes a mark after all items, if there is room. No item is pushed from then on, so when the owner pops a mark nothing is left. A thief may take a mark: then it
     /// takes another.
     pub fn mark(&mut self)
         ensures { self.new ≡ self.old }

@@ -1,4 +1,4 @@
--- The numbers that a project is told count up, and so do those that a legal history notes.
+-- The numbers that a project is given count up, and so do those that a legal history notes.
 use Rattle.std.proofs.Common.{◌≡◌, ℕ, zero, suc, ◌+◌, Bool, true, false, List, [], ◌∷◌, length, Option, Some, None, refl, sym, subst, ◌∙◌}
 use Rattle.std.specs.Prelude.{filter_map, Result, Ok, Err, if◌then◌else◌, unwrap_or}
 use Rattle.std.specs.List.{cons_option}
@@ -19,12 +19,12 @@ use Rattle.pf_desks.specs.Numbers.{number_in, ticket_in, CountUp, TellEachOnce, 
 use Rattle.pf_desks.proofs.Isolated.{isolated}
 use Rattle.pf_desks.proofs.Always.{OfWork, moved, moves}
 
--- k were told, then this, and then k' are told
+-- k were given, then this, and then k' are given
 abbrev Tells : ℕ → Option ℕ → ℕ → Type 0
 Tells k None k' = k' ≡ k
 Tells k (Some n) k' = (n ≡ k + 1) × (k' ≡ k + 1)
 
--- what a desk and a reply tell where the desk was another
+-- which numbers a desk and a reply give where the desk was another
 abbrev TellsNext : Desk → Desk × Reply → Type 0
 TellsNext d x = Tells (length d.modules) (number_in x.1) (length x.0.modules) × Tells (length d.trials) (ticket_in x.1) (length x.0.trials)
 
@@ -92,7 +92,7 @@ module _ (p : Profile) (d : Desk) where
   call_tells : (c : Call) → TellsNext d (after_call p d c, reply_to p d c)
   call_tells c = told_within (passed_by d charge.Call) (noted c (answered p d c)) (answer_tells c)
 
--- k numbers of modules and t of trials were told at a desk
+-- k numbers of modules and t of trials were given at a desk
 abbrev Told : ℕ → ℕ → Desk → Type 0
 Told k t d = (length d.modules ≡ k) × (length d.trials ≡ t)
 
@@ -106,7 +106,7 @@ work_tells_none p d k = by (worker_step p d k) refl
     by (Some d') e = moves p (Told (length d.modules) (length d.trials)) (move_tells_none (length d.modules) (length d.trials)) d d' k e (refl, refl)
     by None e = (refl, refl)
 
--- numbers that count up go on after one that is told
+-- numbers that count up go on after one that is given
 count_on : (k k' : ℕ) (o : Option ℕ) (ns : List ℕ) → Tells k o k' → CountUp (k' + 1) ns → CountUp (k + 1) (cons_option o ns)
 count_on k k' None ns h rest = subst (λ n. CountUp (n + 1) ns) h rest
 count_on k k' (Some n) ns h rest = (h.0, subst (λ x. CountUp (x + 1) ns) h.1 rest)
@@ -130,7 +130,7 @@ module _ (p : Profile) where
       let d' : Desk = unwrap_or (worker_step p d k) d in
       subst (λ n. CountUp (n + 1) (filter_map ticket_in (replies_along p d' ss))) (work_tells_none p d k).1 (tickets_along d' ss)
 
-  -- what each note tells
+  -- which numbers each note gives
   note_tells : (d k : Desk) (c : Call) (r : Reply) → Follows p d (called c r) k
       → Tells (length d.modules) (number_in r) (length k.modules) × Tells (length d.trials) (ticket_in r) (length k.trials)
   note_tells d k c r h = subst (TellsNext d) (λ i. (sym h.2 i, sym h.1 i)) (call_tells p d c)

@@ -102,7 +102,7 @@ coded_reply =
     code_by _ (coded⊎ (coded⊎ (coded× coded_ℕ coded_ℕ) coded_ℕ) (coded⊎ (coded× coded_names coded_result) (coded⊎ coded_usage coded_code)))
     parts_of_reply reply_from reply_from-parts_of
 
--- what a worker does is 0 to 3: a claim, a file of a whole, a file for want of memory, a hand-back
+-- what a worker does is 0 to 3: a claim, a file of a whole, a file that memory ran out, a hand-back
 abbrev pub parts_of_entry : Entry → (Call × Reply) ⊎ (ℕ × ℕ)
 parts_of_entry (called c r) = inl (c, r)
 parts_of_entry (claimed t) = inr (0, t)

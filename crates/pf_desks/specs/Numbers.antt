@@ -1,15 +1,15 @@
--- The numbers that a project is told.
+-- The numbers that a project is given.
 use Rattle.std.specs.Prelude.{◌≡◌, ℕ, ◌+◌, List, [], ◌∷◌, filter_map, Option, Some, None}
 use Rattle.pf_desks.specs.Desk.{Profile, Desk, Reply, number, ticket}
 use Rattle.pf_desks.specs.History.{IsLegalDesk, replies_noted}
 use Rattle.pf_desks.specs.World.{Step, all_answers, told}
 
--- the module's number that a reply tells
+-- the module's number that a reply gives
 abbrev pub number_in : Reply → Option ℕ
 number_in (number n) = Some n
 number_in _ = None
 
--- the ticket that a reply tells
+-- the ticket that a reply gives
 abbrev pub ticket_in : Reply → Option ℕ
 ticket_in (ticket t) = Some t
 ticket_in _ = None
@@ -19,7 +19,7 @@ abbrev pub CountUp : ℕ → List ℕ → Type 0
 CountUp n [] = Unit {0}
 CountUp n (m ∷ ms) = (m ≡ n) × CountUp (n + 1) ms
 
--- the modules' numbers that these replies tell are 1, 2, 3 and so on, and so are their tickets
+-- the modules' numbers that these replies give are 1, 2, 3 and so on, and so are their tickets
 abbrev pub TellEachOnce : List Reply → Type 0
 TellEachOnce rs = CountUp 1 (filter_map number_in rs) × CountUp 1 (filter_map ticket_in rs)
 
@@ -27,7 +27,7 @@ TellEachOnce rs = CountUp 1 (filter_map number_in rs) × CountUp 1 (filter_map t
 abbrev pub LegalHistoriesTellEachOnce : Type 0
 LegalHistoriesTellEachOnce = (p : Profile) (d : Desk) → IsLegalDesk p d → TellEachOnce (replies_noted d.history)
 
--- whatever steps there are, from the world in which no desk is open, the modules' numbers that a project is told are 1, 2, 3 and so on, and
--- so are its tickets: none is told twice, whatever was given up
+-- whatever steps there are, from the world in which no desk is open, the modules' numbers that a project is given are 1, 2, 3 and so on, and
+-- so are its tickets: none is given twice, whatever was given up
 abbrev pub NoNumberTwice : Type 0
 NoNumberTwice = (p : Profile) (q : ℕ) (ss : List Step) → TellEachOnce (told q ss (all_answers p ss))

@@ -49,7 +49,7 @@ after_file p d t m = with_entry (record d { trials = with_state d.trials t (λ j
 abbrev pub after_back : Desk → ℕ → Desk
 after_back d t = with_entry (record d { trials = with_state d.trials t (λ j. queued) }) (handed_back t)
 
--- what a worker does at the trial of a ticket: it claims it, it files what came of it under a mark, or it hands it back
+-- what a worker does at the trial of a ticket: it claims it, it files its result under a mark, or it hands it back
 pub data Work : Type 0 where
   claim : ℕ → Work
   file : ℕ → Mark → Work

@@ -1,4 +1,4 @@
--- Worlds: many projects and their workers, and what one project would be told if it were alone.
+-- Worlds: many projects and their workers, and the replies that one project would get if it were alone.
 use Rattle.std.specs.Prelude.{◌≡◌, ℕ, Bool, true, false, ◌==◌, if◌then◌else◌, List, [], ◌∷◌, ◌++◌, Option, Some, None, unwrap_or}
 use Rattle.pf_request.specs.Calls.{Call}
 use Rattle.pf_desks.specs.Desk.{Profile, Desk, no_desk, Reply}
@@ -68,7 +68,7 @@ replies_in (replied r) = r ∷ []
 replies_in work_done = []
 replies_in not_now = []
 
--- what a project is told by the answers to some steps
+-- the replies that a project gets by the answers to some steps
 abbrev pub told : ℕ → List Step → List Answer → List Reply
 told q [] xs = []
 told q (s ∷ ss) [] = []
@@ -94,10 +94,10 @@ abbrev pub replies_along : Profile → Desk → List Step → List Reply
 replies_along p d [] = []
 replies_along p d (s ∷ ss) = desk_replies p d s ++ replies_along p (desk_after p d s) ss
 
--- what a project is told where its own steps are all that there is: one empty desk, along the steps of the whole that belong to it
+-- the replies that a project gets where its own steps are all that there is: one empty desk, along the steps of the whole that belong to it
 abbrev pub alone : Profile → ℕ → List Step → List Reply
 alone p q ss = replies_along p no_desk (own_steps q ss (all_answers p ss))
 
--- isolation: whatever steps there are, of however many projects and in whatever order, a project is told what it is told alone
+-- isolation: whatever steps there are, of however many projects and in whatever order, a project gets the replies that it gets alone
 abbrev pub Isolation : Type 0
 Isolation = (p : Profile) (q : ℕ) (ss : List Step) → told q ss (all_answers p ss) ≡ alone p q ss

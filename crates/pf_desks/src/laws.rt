@@ -6,8 +6,8 @@ ghost use Rattle.pf_desks.specs.Limits.{LegalDesksAreInLimits, StaysInLimits};
 ghost use Rattle.pf_desks.specs.Numbers.{LegalHistoriesTellEachOnce, NoNumberTwice};
 ghost use Rattle.pf_desks.specs.Jobs.{TicketsStay};
 
-/// Isolation: for every list of steps, of any length, in any order and of any number of projects, a project is
-/// told what it is told alone, along its own steps.
+/// Isolation: for every list of steps, of any length, in any order and of any number of projects, a project
+/// gets the replies that it gets alone, along its own steps.
 pub fn isolation()
     ensures { Isolation }
 {}
@@ -26,7 +26,7 @@ pub fn legal_desks_are_in_limits()
 {}
 
 /// Numbers of legal histories: the modules' numbers that a legal history notes are 1, 2, 3 and so on, and so are its
-/// tickets. None is told twice, in `steps` or in `farm`, whose histories are legal.
+/// tickets. None is given twice, in `steps` or in `farm`, whose histories are legal.
 pub fn legal_histories_tell_each_once()
     ensures { LegalHistoriesTellEachOnce }
 {}
@@ -36,8 +36,8 @@ pub fn stays_in_limits()
     ensures { StaysInLimits }
 {}
 
-/// Numbers: for every list of steps, the modules' numbers that a project is told are 1, 2, 3 and so on, and so are its
-/// tickets. None is told twice.
+/// Numbers: for every list of steps, the modules' numbers that a project is given are 1, 2, 3 and so on, and so are its
+/// tickets. None is given twice.
 pub fn no_number_twice()
     ensures { NoNumberTwice }
 {}

@@ -105,7 +105,7 @@ module _ (p : Profile) where
   abbrev pub IsOf : List Entry → ℕ → ReadModule → Type 0
   IsOf es n m = IsSubmitted es n m.source × (p.reading m.source ≡ readable m.code)
 
-  -- each module that is held was submitted, and was told its number
+  -- each module that is held was submitted, and was given its number
   abbrev AreKnown : List Entry → List (Option ReadModule) → Type 0
   AreKnown es ms = (n : ℕ) (m : ReadModule) → held_at ms n ≡ Some m → IsOf es n m
 

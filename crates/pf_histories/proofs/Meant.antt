@@ -1,4 +1,4 @@
--- What a `fetch` is told is what the job of its trial means.
+-- What a `fetch` is answered is what the job of its trial means.
 use Rattle.std.proofs.Common.{◌≡◌, ℕ, zero, suc, List, [], ◌∷◌, ◌++◌, Option, Some, None, refl, sym, ap, ◌∙◌, subst}
 use Rattle.std.specs.Prelude.{All, slice_get}
 use Rattle.std.proofs.lemmas.List.Elements.{All-nil, All-cons, All-head, All-tail}
@@ -19,7 +19,7 @@ use Rattle.pf_histories.proofs.Alike.{after_calls, along}
 
 -- ---- a report is of a trial that is done
 
--- a trial is held, and this came of it
+-- a trial is held, and this is its result
 abbrev pub IsDone : Option Trial → List (List ℕ) → Result → Type 0
 IsDone o atoms r = (n : ℕ) × (j : Job) × (o ≡ Some (record { module_number = n; job = j; state = done r })) × (atoms ≡ j.asked.code.atoms)
 
@@ -48,7 +48,7 @@ of_reply p d t atoms r h = by (passed_by d charge.Call) h
 -- ---- what is done is what the job means
 
 module _ (p : Profile) where
-  -- what came of a trial that is done is what its job means
+  -- the result of a trial that is done is what its job means
   abbrev pub IsMeantState : Job → State → Type 0
   IsMeantState j queued = Unit {0}
   IsMeantState j running = Unit {0}

@@ -1,4 +1,4 @@
--- What is told of a ticket is what the job means for which it was given.
+-- What is reported of a ticket is what the job means for which it was given.
 use Rattle.std.proofs.Common.{◌≡◌, ℕ, ◌+◌, ◌≤◌, List, [], ◌∷◌, ◌++◌, length, Option, Some, None, refl, sym, ap, ◌∙◌, subst}
 use Rattle.std.specs.Prelude.{Result, Ok, Err, IfSome}
 use Rattle.std.proofs.lemmas.List.Elements.{All-head, All-tail}
@@ -21,9 +21,9 @@ use Rattle.pf_histories.specs.Orders.{NoneForMemoryOf, ReportsAreOfTheirOrders}
 use Rattle.pf_histories.proofs.Asked.{IsOf, known, edition_noted}
 use Rattle.pf_histories.proofs.Meant.{IsMeantState, IsDone, of_reply}
 
--- ---- an order that is told a ticket
+-- ---- an order that is given a ticket
 
--- its module is held, its request comes to a job, and that is the newest trial
+-- its module is held, its request results in a job, and that is the newest trial
 abbrev Takes : Profile → Desk → ℕ → Request → ℕ → List (Option Trial) → Type 0
 Takes p d n q t ts =
     (m : ReadModule) × (j : Job) × (held_at d.modules n ≡ Some m) × (job_of m d.edition (p.property m.code.atoms q.property) q ≡ Ok j)
@@ -60,7 +60,7 @@ module _ (p : Profile) (d : Desk) (n : ℕ) (q : Request) (t : ℕ) where
 -- ---- its trial
 
 module _ (p : Profile) (j : Job) (t : ℕ) where
-  -- it is of that job, and what came of it is what the job means
+  -- it is of that job, and its result is what the job means
   abbrev IsOwn : Trial → Type 0
   IsOwn x = (j ≡ x.job) × IsMeantState p x.job x.state
 
@@ -86,7 +86,7 @@ module _ (p : Profile) (j : Job) (t : ℕ) where
       own_along h.0 es d' h.2 (All-tail (λ (x : Entry). x ≡ filed t marked_memory → ⊥) e es none)
       (own_note d h.0 e h.1 (All-head (λ (x : Entry). x ≡ filed t marked_memory → ⊥) e es none) g)
 
-  -- a result that is told of it
+  -- a result that is reported of it
   told_own : (d : Desk) (atoms : List (List ℕ)) (r : shrinking.Result) → IsGiven IsOwn d t → reply_to p d (fetch t) ≡ result atoms r
       → (atoms ≡ j.asked.code.atoms) × (r ≡ p.meaning j.asked)
   told_own d atoms r g h =

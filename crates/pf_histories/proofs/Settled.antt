@@ -1,4 +1,4 @@
--- What a history notes of settled calls comes of its calls alone.
+-- What a history notes of settled calls depends on its calls alone.
 use Rattle.std.proofs.Common.{List, [], ◌∷◌, sym, ◌∙◌, subst}
 use Rattle.pf_request.specs.Calls.{Call}
 use Rattle.pf_desks.specs.Desk.{Profile, no_desk, Reply}

@@ -14,13 +14,13 @@ abbrev pub IsMeant : Profile → Desk → (ticket : ℕ) → (atoms : List (List
 IsMeant p d t atoms r =
     (x : Trial) × (held_at d.trials t ≡ Some x) × (atoms ≡ x.job.asked.code.atoms) × (r ≡ result_marked p marked_whole x.job)
 
--- at a legal desk with no file marked for memory, what a `fetch` is told is what the job of its trial means
+-- at a legal desk with no file marked for memory, what a `fetch` is answered is what the job of its trial means
 abbrev pub ReportsAreMeant : Type 0
 ReportsAreMeant =
     (p : Profile) (d : Desk) (t : ℕ) (atoms : List (List ℕ)) (r : Result) → IsLegalDesk p d → NoneForMemory d.history
     → reply_to p d (fetch t) ≡ result atoms r → IsMeant p d t atoms r
 
--- what a legal history with no file marked for memory notes that a `fetch` was told is what the job of its trial means, at the desk of the
+-- what a legal history with no file marked for memory notes that a `fetch` was answered is what the job of its trial means, at the desk of the
 -- entries before it
 abbrev pub NotedReportsAreMeant : Type 0
 NotedReportsAreMeant =
@@ -28,7 +28,7 @@ NotedReportsAreMeant =
     → IsLegalDesk p d → NoneForMemory d.history → d.history ≡ before ++ called (fetch t) (result atoms r) ∷ after
     → (k : Desk) × IsLegal p no_desk before k × IsMeant p k t atoms r
 
--- two legal desks with no file marked for memory, whose histories note the same calls in the same order, were told the same replies to settled
+-- two legal desks with no file marked for memory, whose histories note the same calls in the same order, gave the same replies to settled
 -- calls
 abbrev pub SettledHistories : Type 0
 SettledHistories =

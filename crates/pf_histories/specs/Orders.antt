@@ -1,4 +1,4 @@
--- Orders: which job an order asked for, by what its history notes before it, and what a `fetch` of its ticket is told.
+-- Orders: which job an order asked for, by what its history notes before it, and what a `fetch` of its ticket is answered.
 use Rattle.std.specs.Prelude.{◌≡◌, ◌≢◌, ℕ, List, [], ◌∷◌, ◌++◌, All, Ok}
 use Rattle.pf_model.specs.Module.{Module}
 use Rattle.pf_model.specs.Shrinking.{Result}
@@ -8,7 +8,7 @@ use Rattle.pf_request.specs.Request.{Request}
 use Rattle.pf_desks.specs.Desk.{Profile, Desk, Reply, number, ticket, result, has_edition, readable, Entry, called, claimed, filed, handed_back, marked_memory}
 use Rattle.pf_desks.specs.History.{IsLegalDesk}
 
--- this source was submitted, and was told this number
+-- this source was submitted, and was given this number
 abbrev pub IsSubmitted : List Entry → (number : ℕ) → (source : List ℕ) → Type 0
 IsSubmitted es n source = (before : List Entry) × (after : List Entry) × (es ≡ before ++ called (submit source) (number n) ∷ after)
 
@@ -25,7 +25,7 @@ edition_after e (claimed t ∷ es) = edition_after e es
 edition_after e (filed t m ∷ es) = edition_after e es
 edition_after e (handed_back t ∷ es) = edition_after e es
 
--- behind these notes an order of a module asks for this job: the request's, of the source that was submitted and was told the module's number, as
+-- after these notes an order of a module asks for this job: the request's, of the source that was submitted and was given the module's number, as
 -- it is read, in the edition that the desk has then
 pub record AsksFor (p : Profile) (es : List Entry) (n : ℕ) (q : Request) (j : Job) : Type 0 where
   pub source : List ℕ
@@ -38,7 +38,7 @@ pub record AsksFor (p : Profile) (es : List Entry) (n : ℕ) (q : Request) (j : 
 abbrev pub NoneForMemoryOf : ℕ → List Entry → Type 0
 NoneForMemoryOf t es = All (λ e. e ≢ filed t marked_memory) es
 
--- in a legal history, where an order was told a ticket and a later `fetch` of the ticket was told a result, and memory didn't run out for that
+-- in a legal history, where an order was given a ticket and a later `fetch` of the ticket was given a result, and memory didn't run out for that
 -- trial between the two, that result is what the job means which that very order asked for
 abbrev pub ReportsAreOfTheirOrders : Type 0
 ReportsAreOfTheirOrders =

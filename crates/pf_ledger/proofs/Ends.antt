@@ -13,7 +13,7 @@ use Rattle.pf_ledger.specs.Rows.{row_of, one_ended, count_ended, HaveEnded, ende
 abbrev bit : Bool → ℕ
 bit b = if b then 1 else 0
 
--- a number stands once among those below n
+-- a number occurs once among those below n
 not_yet : (k n : ℕ) → n ≤ k → weigh_below (one_at k) n ≡ 0
 not_yet k zero le = refl
 not_yet k (suc n) le = let this : one_at k n ≡ 0 = grind (arith, nat_tests) in omega (arith, this, not_yet k n (omega arith))

@@ -29,7 +29,7 @@ impl<J> Claim<J> {
 /// How a claim ended.
 #[derive(Clone, Copy, Debug, PartialEq, Eq)]
 pub enum End {
-    /// What came of the trial was filed.
+    /// The result of the trial was filed.
     Filed,
     /// The trial was handed back, and waits for a worker again.
     HandedBack,

@@ -7,9 +7,9 @@ use Rattle.pf_terms.specs.Term.{value_of, values_of}
 use Rattle.pf_terms.specs.declared.term.Term.{Term}
 use Rattle.pf_model.specs.Flush.{flushed, tells_of}
 
--- ---- whether one message tells
+-- ---- whether one message is about a reference
 
--- no pair of first elements tells with other than three behind it
+-- a tuple is about no reference if other than three elements follow its first two
 quiet_pair : (r : ℕ) (v b : Value) (ts : List Term) → (length ts ≡ 3 → ⊥) → tells_of r (tuple (more v (more b (values_of ts)))) ≡ false
 quiet_pair r v (ref x) [] n = refl
 quiet_pair r v (ref x) (p ∷ []) n = refl
@@ -31,7 +31,7 @@ abbrev pub second_tells : ℕ → Value → Bool
 second_tells r (ref x) = r == x
 second_tells r v = false
 
--- five elements tell by the second
+-- whether a tuple of five elements is about a reference depends on its second
 pub tells_by_second : (r : ℕ) (ts : List Term) (x : Term) → length ts ≡ 5 → slice_get ts 1 ≡ Some x
     → tells_of r (tuple (values_of ts)) ≡ second_tells r (value_of x)
 tells_by_second r [] x n s = absurd (omega arith)

@@ -27,11 +27,11 @@ FitsNoneBefore m own ks b = FitsNone m own ks (take b.mark b.messages)
 abbrev pub IsReadyFor : Receive → MailView → Type 0
 IsReadyFor r b = FitsNoneBefore r.code r.own r.clauses b
 
--- the same of the `receive` at which a machine stands; where it stands at none, of whatever comes
+-- the same of the `receive` at which a machine is; where it is at none, of whatever comes
 abbrev pub IsAheadOf : MachineView → MailView → Type 0
 IsAheadOf s b = IsReadyAhead (λ r. IsReadyFor r b) s
 
--- none is tested behind the one that is picked
+-- none is tested after the one that is picked
 abbrev pub more_tests : Option Tree → ℕ → ℕ
 more_tests (Some body) n = 0
 more_tests None n = n

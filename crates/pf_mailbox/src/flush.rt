@@ -1,4 +1,4 @@
-//! A flush: the oldest message that tells of a reference is taken out of a list.
+//! A flush: the oldest message about a reference is taken out of a list.
 
 ghost use Rattle.std.specs.Prelude.{◌≡◌, map};
 ghost use Rattle.std.specs.List.{list_any};
@@ -8,7 +8,7 @@ ghost use Rattle.pf_model.specs.Flush.{flushed, tells_of};
 use pf_nodes::{MailList, Pool};
 use pf_terms::Term;
 
-/// Whether a message tells of a reference: a tuple of five elements, the second of which it is.
+/// Whether a message is about a reference: a tuple of five elements, the second of which it is.
 fn tells_of(message: &Term, reference: u64) -> bool
     ensures { result ≡ tells_of reference (value_of message.now) }
 {
@@ -25,7 +25,7 @@ fn tells_of(message: &Term, reference: u64) -> bool
     }
 }
 
-/// Takes out the first message that tells of a reference, where the mark is at the front, and leaves it there; whether there was one.
+/// Takes out the first message about a reference, where the mark is at the front, and leaves it there; whether there was one.
 pub(crate) fn take_told(list: &mut MailList<Term>, pool: &mut Pool<Term>, reference: u64) -> bool
     requires { list.old.mark ≡ 0 }
     ensures flushed { map value_of list.new.items ≡ flushed reference (map value_of list.old.items) }

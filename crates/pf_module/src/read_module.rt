@@ -80,7 +80,7 @@ impl ReadModule {
         self.source.bytes().len()
     }
 
-    /// Whether it is the same module of the same source: a source is read as one module, so the sources tell.
+    /// Whether it is the same module of the same source: a source is read as one module, so the sources decide.
     pub fn same(&self, other: &ReadModule) -> bool
         ensures { Decides result (self.now ≡ other.now) }
     {

@@ -1,4 +1,4 @@
--- Those that are held, before an index and behind it: one key more is gone through.
+-- Those that are held, before an index and from it on: one key more is gone through.
 use Rattle.std.proofs.Common.{◌≡◌, ℕ, suc, ◌+◌, ◌<◌, ◌≤◌, Bool, true, false, List, [], ◌∷◌, ◌++◌, length, refl, sym, ap, ◌∙◌, arith, get_or, append_assoc}
 use Rattle.std.specs.Prelude.{drop, take, map, nat_lt, if◌then◌else◌}
 use Rattle.std.specs.List.{remove}
@@ -23,7 +23,7 @@ isnt_below a b h = by (nat_lt a b) refl
     by true e = absurd (grind (arith, nat_tests))
     by false e = refl
 
--- some stand before others
+-- some are before others
 abbrev pub behind : {G : Type 0} → List Held → State G → State G
 behind xs s = record { generator = s.generator; held = xs ++ s.held }
 
@@ -99,7 +99,7 @@ module _ {G : Type 0} (step : G → ℕ × G) (keys : List ℕ) (g g' : G) (hs n
       highest_is w best most false (isnt_below most p few)
       ∙ ap (λ x. highest_from (i + 1) x most rest.held) (sym a) ∙ ap (λ x. highest_from (i + 1) best' x rest.held) (sym b)
 
-  -- one stands before the index more
+  -- one more is before the index
   pub long : Gave → i + 1 ≤ length ns
   long w =
       let all = ap length w.holders in

@@ -1,5 +1,5 @@
--- Priorities: of those who may go the one with the highest goes. Each keeps its priority while it may go, and draws a new one behind each time
--- that it went. Whoever may go is known by a key, and all stand in the order of their keys.
+-- Priorities: of those who may go the one with the highest goes. Each keeps its priority while it may go, and draws a new one after each time
+-- that it went. Whoever may go is known by a key, and all are in the order of their keys.
 use Rattle.std.specs.Prelude.{ℕ, suc, nat_eq, nat_lt, if◌then◌else◌, List, [], ◌∷◌}
 use Rattle.std.specs.List.{remove}
 use Rattle.rand_core.specs.Pcg32Seed.{pcg32_seed}
@@ -22,7 +22,7 @@ abbrev pub from_key : ℕ → List Held → List Held
 from_key k [] = []
 from_key k (h ∷ hs) = if nat_lt h.key k then from_key k hs else h ∷ hs
 
--- what one who may go comes to: its priority, the generator behind it, and those that others hold behind it
+-- what one who may go is given: its priority, the generator after it, and those that others hold after it
 pub record Given (G : Type 0) : Type 0 where
   pub priority : ℕ
   pub generator : G
@@ -32,11 +32,11 @@ pub record Given (G : Type 0) : Type 0 where
 abbrev pub drawn : {G : Type 0} → ℕ × G → List Held → Given G
 drawn d hs = record { priority = d.0; generator = d.1; rest = hs }
 
--- one stands before others
+-- one is before others
 abbrev pub before : {G : Type 0} → Held → State G → State G
 before h s = record { generator = s.generator; held = h ∷ s.held }
 
--- the index of the first of the highest priorities: from index i on, where the highest so far stands at index `best`
+-- the index of the first of the highest priorities: from index i on, where the highest so far is at index `best`
 abbrev pub highest_from : (i best highest : ℕ) → List Held → ℕ
 highest_from i best p [] = best
 highest_from i best p (h ∷ hs) = if nat_lt p h.priority then highest_from (suc i) i h.priority hs else highest_from (suc i) best p hs
@@ -44,7 +44,7 @@ highest_from i best p (h ∷ hs) = if nat_lt p h.priority then highest_from (suc
 abbrev pub highest : List Held → ℕ
 highest hs = highest_from 0 0 0 hs
 
--- the one who goes holds no priority behind it
+-- the one who goes holds no priority afterwards
 abbrev pub without_highest : {G : Type 0} → State G → State G
 without_highest s = record s { held = remove s.held (highest s.held) }
 

@@ -1,4 +1,4 @@
--- Bytes are at most one property: which one, but for its pattern, they tell by themselves.
+-- Bytes are at most one property: which one, but for its pattern, they say by themselves.
 use Rattle.std.proofs.Common.{◌≡◌, ℕ, List, ◌++◌, sym, ap, ◌∙◌, subst}
 use Rattle.std.specs.Prelude.{codes, if◌then◌else◌}
 use Rattle.std.specs.Str.{bytes_eq}
@@ -76,7 +76,7 @@ module _ (names : List (List ℕ)) (bytes : List ℕ) where
       let rest = same_rest b.0 a.0 (sym b.1 ∙ a.1) in
       ap never (one_pattern names a.0 x y a.2 (subst (λ text. ReadsPattern names text y) rest b.2))
 
-  -- no pattern stands behind `never:`, so the bytes are no property
+  -- no pattern follows `never:`, so the bytes are no property
   pub none_behind : (text : List ℕ) → bytes ≡ codes "never:" ++ text → ((p : Pattern) → ReadsPattern names text p → ⊥) → (p : Property) → ReadsProperty names bytes p → ⊥
   none_behind text e none returns h = subst IsBare (tells returns h ∙ ap told e) tt
   none_behind text e none returns_true h = subst IsBare (tells returns_true h ∙ ap told e) tt

@@ -1,4 +1,4 @@
--- What the tokens of a text, its pattern and its lowering tell of the text.
+-- What the tokens of a text, its pattern and its lowering show of the text.
 use Rattle.std.proofs.Common.{◌≡◌, ℕ, List, Ok, sym, ◌∙◌, subst}
 use Rattle.pf_fault.specs.declared.code.Code.{Code}
 use Rattle.pf_fault.specs.declared.fault.OrNoMemory.{OrNoMemory}

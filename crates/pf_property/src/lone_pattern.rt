@@ -1,4 +1,4 @@
-//! A pattern that stands by itself.
+//! A pattern by itself.
 
 ghost use Rattle.std.specs.Prelude.{◌≡◌, [], is_some, map, Decides, IfErr, IfOk};
 ghost use Rattle.pf_tokens.specs.Rules.{HasTokens};

@@ -19,7 +19,7 @@ pub enum Property {
     True,
     /// No process ends with another reason than `normal`.
     NoCrash,
-    /// The run comes to no deadlock.
+    /// The run doesn't end in a deadlock.
     NoDeadlock,
     /// The limit of steps doesn't end the run.
     WithinLimit,

@@ -104,7 +104,7 @@ fn sum_within(used: u64, added: u64, limit: u64, refusal: Refusal) -> Result<u64
     }
 }
 
-/// The law that usage is the sums over what is held, wherever in the list a thing stands; it has no
+/// The law that usage is the sums over what is held, wherever in the list a thing is; it has no
 /// code. Charging a thing gives the usage with it. Giving it back is allowed where it is held, and
 /// gives the usage without it.
 pub fn usage_follows_held()

@@ -1,4 +1,4 @@
--- What stands at the places of a token.
+-- What is at the places of a token.
 use Rattle.std.proofs.Common.{◌≡◌, ℕ, zero, suc, ◌+◌, ◌-◌, ◌≤◌, List, [], ◌∷◌, ◌++◌, length, Option, Some, None, refl, sym, ap, ◌∙◌, subst, arith}
 use Rattle.std.specs.Prelude.{slice_get}
 use Rattle.pf_register.specs.Places.{weigh as weigh_places, weigh_below, AreBelow, StartsWith}
@@ -84,7 +84,7 @@ module _ {C A : Type 0} where
   length_standing [] log = omega arith
   length_standing (k ∷ ks) log = omega (arith, length_some (slice_get log k) (standing_at ks log), length_standing ks log)
 
-  -- where as many stand at some places as were logged, these are all that were logged
+  -- where as many are at some places as were logged, these are all that were logged
   pub each_once : (ks : List ℕ) (log : List (Receipt C A)) → AreBelow ks (length log) → length log ≤ length (standing_at ks log) → EachOnce (standing_at ks log) log
   each_once ks log below all h = weigh_standing h ks log ∙ same_weight (at_place h log) (weigh h log) (most h log) ks (length log) below (omega (arith, all, length_standing ks log)) ∙ sym (weigh_log h log)
 
@@ -103,7 +103,7 @@ module _ {C A : Type 0} where
       let others = stands ks log rest (omega (arith, h)) in
       λ i. put_some (here i) (others i)
 
-  -- what stood there stands there when more were logged
+  -- what was there is there when more were logged
   pub still_stands : (ks : List ℕ) (seen log : List (Receipt C A)) → AreBelow ks (length seen) → StartsWith log seen → standing_at ks log ≡ standing_at ks seen
   still_stands ks seen log below starts =
       let none : weigh_places (λ k. absent (slice_get seen k)) ks ≡ 0 = omega (arith, below (λ k. absent (slice_get seen k)), none_absent seen) in

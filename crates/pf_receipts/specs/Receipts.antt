@@ -79,12 +79,12 @@ module _ {C A : Type 0} where
   put_some None rs = rs
   put_some (Some r) rs = r ∷ rs
 
-  -- the receipts that stand at some places
+  -- the receipts that are at some places
   abbrev pub standing_at : List ℕ → List (Receipt C A) → List (Receipt C A)
   standing_at [] log = []
   standing_at (k ∷ ks) log = put_some (slice_get log k) (standing_at ks log)
 
-  -- a seat's receipts stand at the places that it bears, and are of its project; their numbers rise, up to the number of calls of the project that it
+  -- a seat's receipts are at the places that it bears, and of its project; their numbers rise, up to the number of calls of the project that it
   -- has seen
   pub record IsSeat (places : List ℕ) (seen : List (Receipt C A)) (project : ℕ) (receipts : List (Receipt C A)) : Type 0 where
     pub below : AreBelow places (length seen)

@@ -5,7 +5,7 @@ ghost use Rattle.pf_receipts.specs.Receipts.{receipt_of};
 
 use std::snapshot::Snapshot;
 
-/// What a client keeps of a call that was logged: its project, its number in the project's log, counted from 1, and what it asked and was told. These two are known
+/// What a client keeps of a call that was logged: its project, its number in the project's log, counted from 1, and what it asked and was answered. These two are known
 /// to proofs alone, and take no room.
 #[derive(Drop)]
 pub struct Receipt<C, A> {
@@ -16,7 +16,7 @@ pub struct Receipt<C, A> {
 }
 
 impl<C, A> Receipt<C, A> {
-    /// The receipt of a project's call of this number, which was told this.
+    /// The receipt of a project's call of this number, which was answered so.
     pub(crate) fn of(project: u32, number: u64, call: Snapshot<C>, reply: &A) -> Receipt<C, A>
         ensures { result ≡ receipt_of project number call.value reply.now }
     {

@@ -63,7 +63,7 @@ impl<N: FarmNames, C, A> Seat<N, C, A> {
         }
     }
 
-    /// Whose it is.
+    /// Its project.
     pub fn project(&self) -> u32
         ensures { result ≡ self.now.project }
     {

@@ -1,4 +1,4 @@
--- What the holders of a register know, and how they come to know it.
+-- What the holders of a register know, and how they learn it.
 use Rattle.std.specs.Prelude.{ℕ, ◌+◌, ◌≡◌, Bool, true, false, List, [], ◌∷◌, ◌++◌, length, Option, None, Some}
 use mathlib.Core.Option.{some}
 use lib.ListN.{get_elem?}

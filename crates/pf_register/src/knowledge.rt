@@ -1,4 +1,4 @@
-//! What the holders of a register know of it, and the steps by which they come to know it.
+//! What the holders of a register know of it, and the steps by which they learn it.
 
 use crossbeam_deque::protocol::{Join, Lesson, Protocol, Split};
 use std::collections::LinkedList;

@@ -13,7 +13,7 @@ use std::alloc::Global;
 use std::marker::{Brand, Model, PhantomData};
 use std::mem;
 
-/// Which register it is: proofs know it by the deque that it stands on.
+/// Which register it is: proofs know it by the deque that it is built on.
 pub trait RegisterName {
     ghost use Rattle.std.specs.Prelude.{ℕ, Option};
     ghost use Rattle.std.specs.Global.{Global};

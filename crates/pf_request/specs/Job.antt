@@ -1,4 +1,4 @@
--- Jobs: what a request comes to for a module, or the first of what it is refused for.
+-- Jobs: what a request results in for a module, or the first of what it is refused for.
 use Rattle.std.specs.Prelude.{ℕ, zero, if◌then◌else◌, List, [], Option, Some, None, Result, Ok, Err}
 use Rattle.pf_fault.specs.declared.code.Code.{Code}
 use Rattle.pf_fault.specs.declared.code.Code.TheVariants as code
@@ -66,6 +66,6 @@ asked_by_seed j s = record j { choices = reseeded j.choices s; runs = zero }
 abbrev pub by_seed : Job → ℕ → Job
 by_seed j s = record j { asked = asked_by_seed j.asked s }
 
--- what is told of a job for which memory ran out: no event, no step and no verdict
+-- the report of a job for which memory ran out: no event, no step and no verdict
 abbrev pub memory_report : Report
 memory_report = record { events = []; outcome = properties.memory; steps = 0; verdict = None }

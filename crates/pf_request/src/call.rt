@@ -17,7 +17,7 @@ pub enum Call {
     Submit(Source),
     /// A ticket for a trial, which may be a shrinking.
     Order(Order),
-    /// What came of the trial of a ticket.
+    /// The result of the trial of a ticket.
     Fetch(u64),
     /// How far the trial of a ticket is.
     Status(u64),

@@ -1,4 +1,4 @@
-//! What is asked for of the farm and of a module: steps, calls, orders, requests, and the jobs that requests come to.
+//! What is asked for of the farm and of a module: steps, calls, orders, requests, and the jobs that requests result in.
 #![tactic(auto)]
 
 mod call;

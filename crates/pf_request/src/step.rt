@@ -9,7 +9,7 @@ pub enum Chore {
     Claim,
     /// It makes events of the trial's run, this many at most.
     Slice { turns: u32 },
-    /// It parks the run that it holds, behind those that it parked before.
+    /// It parks the run that it holds, after those that it parked before.
     Park,
     /// It takes up the oldest run that it parked.
     TakeUp,
@@ -17,7 +17,7 @@ pub enum Chore {
     Steal { from: u32 },
     /// It files the run, which is over.
     File,
-    /// It gives the run back; the trial is queued again.
+    /// It hands the run back; the trial is queued again.
     GiveBack,
 }
 

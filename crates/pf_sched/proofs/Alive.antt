@@ -127,7 +127,7 @@ module _ (c : Core) (a : ℕ) (here : lives (of c a) ≡ true) where
   on : (p : Process) → Alike p → lives (of (with_process c a p) a) ≡ true
   on p e = lives_on c a p here (alike_lives p e)
 
-  -- a process more, behind a process with other ties
+  -- a process more, after a process with other ties
   more_here : (p q : Process) → Alike p → lives (process_at a (slice_set c.processes a p ++ q ∷ [])) ≡ true
   more_here p q e =
       ap lives (at_more (slice_set c.processes a p) a q (in_range (slice_set c.processes a p) a (on p e))) ∙ on p e
@@ -162,7 +162,7 @@ module _ (c : Core) (a : ℕ) (here : lives (of c a) ≡ true) where
   demonitored_steady r None = record { here = here; counts = refl }
   demonitored_steady r (Some p) = record { here = on _ refl; counts = kept _ refl }
 
-  -- a flush behind an action of which nothing began or ended
+  -- a flush after an action of which nothing began or ended
   flushed_steady : (r : ℕ) (x : Acted) → Steady c a x → is_begin x.label ≡ false → is_end x.label ≡ false → Steady c a (and_flushed a r x)
   flushed_steady r x h b e = record {
     here = lives_on x.left.core a _ h.here h.here;

@@ -1,4 +1,4 @@
--- What a request of a module comes to, and what is known of a job.
+-- Which job a request of a module results in, and what is known of a job.
 use Rattle.std.proofs.Common.{◌≡◌, ◌⊎◌, inl, inr, ℕ, zero, ◌≤◌, true, false, if◌then◌else◌, ◌&&◌, List, [], Some, None, Result, Ok, Err, refl, sym, ap, ap₂, ◌∙◌, subst, arith}
 use Rattle.std.specs.Prelude.{nat_le}
 use Rattle.std.proofs.lemmas.Bool.{and_parts, leb-true}

@@ -1,4 +1,4 @@
--- Hunts of shrinkings: what true answers make of them, what they come to, and how many events their runs have.
+-- Hunts of shrinkings: what true answers make of them, what they find, and how many events their runs have.
 use Rattle.std.proofs.Common.{◌≡◌, ◌⊎◌, inl, inr, ℕ, zero, suc, ◌+◌, ◌*◌, ◌<◌, ◌≤◌, Bool, true, false, List, [], ◌∷◌, ◌++◌, length, max, Option, Some, None, refl, sym, ap, ◌∙◌, subst, arith, append_assoc, if◌then◌else◌}
 use Rattle.std.proofs.lemmas.List.{append-nil, length-append}
 use Rattle.std.proofs.lemmas.Nat.{mul-le}
@@ -18,7 +18,7 @@ use Rattle.pf_sched.proofs.Asking.{is_profile, within_bounds}
 use Rattle.pf_sched.proofs.Tries.{fails_in, tells_failures, only_fails, few_events, first_run, only_so_many, so_many, few, one_more, parts}
 use Rattle.std.proofs.lemmas.Option.{same_Some}
 
--- ---- where a hunt stands
+-- ---- where a hunt is
 
 stands_searching : (k : ℕ) (ns : List ℕ) (left : List (List ℕ)) → stands_at (searching k ns left) ≡ Some ns
 stands_searching k ns [] = refl
@@ -37,7 +37,7 @@ stands_as_it_was (begins k ms) ns e = refl
 stands_as_it_was (searches k ms c cs) ns e = stands_searching k ms cs
 stands_as_it_was (ended f) ns e = absurd (cc)
 
--- ---- what a hunt comes to
+-- ---- what a hunt finds
 
 comes_searching : (fails : List ℕ → Bool) (k : ℕ) (ns : List ℕ) (left : List (List ℕ)) → comes_to fails (searching k ns left) ≡ Some (search fails k ns left)
 comes_searching fails k ns [] = refl
@@ -67,7 +67,7 @@ comes_found fails (searches k ms c cs) e = absurd (cc)
 comes_found fails (ended f) e = refl
 
 module _ (j : Job) where
-  -- ---- from its begin to its end
+  -- ---- from its start to its end
 
   -- before the first run
   pub hunt_begins : (k : ℕ) (ns : List ℕ) → j.runs ≡ suc k → j.choices ≡ schedule ns → IsHuntOf j (begins k ns) zero
@@ -102,7 +102,7 @@ module _ (j : Job) where
           order = hunt.order ∙ ap (λ nss. hunt.behind ++ nss) ((tries_in_order hunt.fails h).first ns e) ∙ sym (append_assoc hunt.behind (ns ∷ []) rest);
         }
 
-    -- told the answer of the next run's report
+    -- after the answer by the next run's report
     pub hunt_told : (ns : List ℕ) → next_of h ≡ Some ns → (r : Report) → Means (by_schedule j ns) r
         → IsHuntOf j (told_of (is_failure r.verdict) h) (before + length r.events)
     hunt_told ns e r means = subst (λ b. IsHuntOf j (told_of b h) (before + length r.events)) (hunt.tells ns r means) (told_so ns e r means)
@@ -140,7 +140,7 @@ module _ (j : Job) where
         sym (append-nil hunt.behind) ∙ ap (λ nss. hunt.behind ++ nss) (sym none) ∙ sym hunt.order in
         of_shrinking hunt.further hunt.given hunt.fails before hunt.runs hunt.choices hunt.tells (subst (λ nss. RunsHave j nss before) order hunt.events)
 
-    -- and what was found, with its report, is what the job comes to
+    -- and what was found, with its report, is the job's result
     pub hunt_comes : next_of h ≡ None → (r : Result) → TellsFound j (found_of h) r → IsResult j r
     hunt_comes e r tells = by (found_of h) (sym hunt.comes ∙ sym (comes_found hunt.fails h e)) tells
       where

@@ -1,4 +1,4 @@
--- As many processes live at any point of a run as what it showed leaves, and as many wait at its end as are told.
+-- As many processes live at any point of a run as what it showed leaves, and as many wait at its end as are reported.
 use Rattle.std.proofs.Common.{◌≡◌, ◌+◌, ℕ, zero, suc, Bool, true, false, ◌&&◌, List, [], ◌∷◌, ◌++◌, length, map, Option, Some, None, Result, Ok, Err, refl, sym, ap, ◌∙◌, subst, arith}
 use Rattle.std.specs.Prelude.{count_by, if◌then◌else◌, not, ◌==◌}
 use Rattle.std.proofs.lemmas.List.Sums.{sum_by-cons}
@@ -169,7 +169,7 @@ living_is_right m ps n root edition ts d k goes = let counts = goes_count m ps n
 
 -- ---- the end
 
--- a process that can't go lives just where it waits
+-- a process that can't go lives exactly if it waits
 wait_step : (s : State) (n : ℕ) (ps : List Process) → (if can_go s then n ∷ numbers_of can_go (suc n) ps else numbers_of can_go (suc n) ps) ≡ []
     → (numbers_of can_go (suc n) ps ≡ []) × (one (is_alive s) ≡ one (is_waiting s))
 wait_step (running t) n ps h = absurd (cc)

@@ -1,4 +1,4 @@
--- A job has one result and one number of events: a run since it means one report, a shrinking since one function tells which schedules fail.
+-- A job has one result and one number of events: a run since it means one report, a shrinking since one function says which schedules fail.
 use Rattle.std.proofs.Common.{◌≡◌, ◌⊎◌, inl, inr, ℕ, zero, suc, ◌+◌, Bool, List, Option, Some, None, length, refl, sym, ap, ◌∙◌}
 use Rattle.pf_choice.specs.Chosen.{IsProfile}
 use Rattle.pf_model.specs.Meaning as model
@@ -17,12 +17,12 @@ use Rattle.pf_sched.proofs.Tries.{fails_in, tells_failures, only_fails, only_so_
 
 -- ---- results
 
--- what a shrinking comes to that ends so
+-- the result of a shrinking that ends so
 abbrev shrunk_so : model.Job → Option Found → Result
 shrunk_so j None = nothing_fails
 shrunk_so j (Some f) = shrunk_to f (evaluated (by_schedule j f.schedule))
 
--- what a job comes to that has a result; of what isn't shrunk it is left open
+-- the result of a job that has one; of what isn't shrunk it is left open
 abbrev comes_to : model.Job → (runs : ℕ) → Choices → Result
 comes_to j zero cs = report (evaluated j)
 comes_to j (suc k) (schedule ns) = shrunk_so j (shrunk (fails_in j) (suc k) ns)

@@ -56,7 +56,7 @@ cut e j cs es x p w0 w w1 n0 n1 printed leaves r means =
     stops_among (names_in j) e r (gone_from p.pieces) (told_so_far p.pieces.lines) f.0 w0 w w1 n0 n1
     (f.1 ∙ ap (λ (xs : List Event). xs ++ f.0) (sym printed.told.2)) printed.out leaves
 
--- one event more was told, of which the line waits
+-- one event more was received, of which the line waits
 pub told_next : (j : Job) (cs : Choices) (es : List Event) (e : Event) (x x' : Execution) (p p' : Printer) (w0 w : Option (List ℕ)) (limit : ℕ)
     → j.asked.limit ≡ limit → x.system.steps < limit → (printed : IsPrinted j cs es x p w0 w) → Went (limit - x.system.steps) printed.run.last x e x'
     → (Prints p j.asked es → Prints p' j.asked (es ++ e ∷ [])) → p'.pieces.gone ≡ p.pieces.gone → IsPrinted j cs (es ++ e ∷ []) x' p' w0 w

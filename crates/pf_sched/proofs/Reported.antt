@@ -11,11 +11,11 @@ use Rattle.pf_sched.specs.declared.execution.Execution.{Execution}
 use Rattle.pf_sched.specs.Parts.{Executes}
 use Rattle.pf_sched.specs.Slices.{IsOver}
 
--- what stands is one thing
+-- there is one current configuration only
 pub one_stands : (o : Option Configuration) (c d : Configuration) → o ≡ Some c → o ≡ Some d → c ≡ d
 one_stands o c d a b = cc
 
--- the report with the events of a whole run and what it came to is what the job means by its choices
+-- the report with the events of a whole run and how it ended is what the job means by its choices
 pub means : (j : Job) (cs : Choices) (es : List Event) (x : Execution) → Executes j cs es x → IsOver j.asked.limit x → (r : Report) → r.events ≡ es
     → ((d : Configuration) → x.system.standing ≡ Some d → r.outcome ≡ outcome_of d) → r.steps ≡ x.system.steps
     → r.verdict ≡ verdict j.asked.property (labels_in es) r.outcome

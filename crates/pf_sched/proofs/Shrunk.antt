@@ -1,4 +1,4 @@
--- Shrinkings as far as they came.
+-- Shrinkings so far.
 use Rattle.std.proofs.Common.{◌≡◌, ℕ, zero, suc, ◌+◌, ◌-◌, ◌<◌, ◌≤◌, Bool, true, false, List, [], ◌∷◌, length, Option, Some, None, refl, sym, ap, ◌∙◌, subst, arith, if◌then◌else◌}
 use Rattle.rand_pcg.specs.Lcg.{Lcg}
 use Rattle.pf_terms.specs.Atoms.{name_of}
@@ -84,7 +84,7 @@ module _ (j : Job) where
       record { hunt = hunt_begins j.asked (runs - 1) ns counted shrinks; report = tt; next = ns; is_next = refl; run = run } in
       subst (λ z. IsShrinkingOf j (record { hunt = z; run = r; report = None; before = zero; progress = c })) begun first
 
-  -- after a run the hunt was told the truth
+  -- after a run the hunt received true answers only
   pub hunt_goes_on : (s : Shrinking) (x : IsShrinkingOf j s) (r : WrittenReport) → Means (by_schedule j.asked x.next) (report_in r)
       → events_of r.lines ≡ events_in s.run → (h : Hunting) → h ≡ told_of (is_failure r.verdict) s.hunt → (behind : ℕ) → behind ≡ events_so_far s
       → IsHuntOf j.asked h behind
@@ -94,7 +94,7 @@ module _ (j : Job) where
       let at : s.before + length (events_of r.lines) ≡ behind = ap (λ es. s.before + length es) same ∙ sym count in
       subst (λ z. IsHuntOf j.asked z behind) (sym told) (subst (IsHuntOf j.asked (told_of (is_failure r.verdict) s.hunt)) at told_it)
 
-  -- and a report is kept of where it stands
+  -- and the report of its current schedule is kept
   pub report_goes_on : (s : Shrinking) (x : IsShrinkingOf j s) (r : WrittenReport) → Means (by_schedule j.asked x.next) (report_in r)
       → AreWritten (name_of j.asked.code.atoms) r.lines → (h : Hunting) → h ≡ told_of (is_failure r.verdict) s.hunt
       → (kept : Option WrittenReport) → kept ≡ (if is_failure r.verdict then Some r else s.report) → KeepsReport j.asked (stands_at h) kept
@@ -142,7 +142,7 @@ module _ (j : Job) where
           hunt = ap (λ z. z.hunt) rest;
         }
 
-  -- what follows, told by other numbers
+  -- what follows, by other numbers
   pub follows_so : (n m k l : ℕ) → n ≡ m → k ≤ l → (p : Advance) → Follows j n k p → Follows j m l p
   follows_so n m k l e h (advance.More s) f = (f.0, f.1 ∙ e, (let few = f.2 in omega arith))
   follows_so n m k l e h (advance.Over r) f = subst (λ z. ComesTo j z r) e f

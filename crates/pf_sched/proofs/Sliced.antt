@@ -57,7 +57,7 @@ goes_past : (j : Job) (es : List meaning.Event) (x : Execution) → j.asked.runs
 goes_past j es x plain g going _ (of_run report e h) = run_goes_past j j.asked.choices es x g going report h
 goes_past j es x plain g going m (of_shrinking k ns fails _ e c tells has) = absurd (let some : j.asked.runs ≡ suc k = e in cc)
 
--- where n events were made, a test of where the run stands says whether it is over
+-- where n events were made, a test of where the run is says whether it is over
 pub ended : (limit before after turns : ℕ) (x : Execution) (c : Configuration) → x.system.standing ≡ Some c → after ≡ before + turns → (over : Bool)
     → MatchBool over (Stops (limit - x.system.steps) c) (Stops (limit - x.system.steps) c → ⊥) → Advances before after turns over (IsOver limit x)
 ended limit before after turns x c stands count true stops = (omega arith, omega arith, (c, stands, stops))
@@ -70,7 +70,7 @@ continues_alike Told limit turns old new t u s r e f over went =
     subst (λ z. Continues Told limit old t (record new { system = z }) u turns over) (sym f)
     (subst (λ z. Continues Told limit (record old { system = z }) t new u turns over) e went)
 
--- a run has the events that its trace was told
+-- a run has the events that its trace received
 pub advances_written : (j : Job) (turns limit : ℕ) → limit ≡ j.asked.limit → (old new : code.Run) (t u : Writer) → property_of t.property.now ≡ j.asked.property
     → t.atoms.now ≡ j.asked.code.atoms → t.written ≡ old.written → u.written ≡ new.written → (over : Bool)
     → Continues Writes limit old.execution t new.execution u turns over → RunAdvances j old new turns over
@@ -111,7 +111,7 @@ goes_on j valid before turns run plain is over off went =
     subst (λ b. Advances before (length (events_in run)) turns b (IsOver j.asked.limit run.execution)) off went in
     (a.0, has_more j valid (before + turns) (subst (HasNoFewer j) a.0 (goes_past j (events_in run) run.execution plain is.run a.1)))
 
--- the report of a run that is over is what the job comes to, where it is no shrinking
+-- the report of a run that is over is the job's result, where it is no shrinking
 pub run_ends : (j k : Job) → k ≡ j → (run : code.Run) → IsRunOf j run → IsOver j.asked.limit run.execution → (r : WrittenReport)
     → ((cs : meaning.Choices) → IsRunBy k cs run → IsOver k.asked.limit run.execution → IsReportBy k cs r × (events_of r.lines ≡ events_in run))
     → EndsBy j (length (events_in run)) (shrinking.report (report_in r)) × AreWritten (name_of j.asked.code.atoms) r.lines
@@ -135,7 +135,7 @@ pub ends_sooner : (j : Job) (n m : ℕ) (r : shrinking.Result) → n ≤ m → E
 ends_sooner j n m r h (inl e) = inl (e.0, (e.1.0, e.1.1, (let k = e.1.2 in omega arith)))
 ends_sooner j n m r h (inr e) = inr e
 
--- what comes to this ends so, or memory ran out for it
+-- what has this result ends so, or memory ran out for it
 pub ends_so : (j : Job) (n : ℕ) (r s : shrinking.Result) → EndsBy j n r → (s ≡ r) ⊎ (s ≡ without_memory) → EndsBy j n s ⊎ (s ≡ without_memory)
 ends_so j n r s e (inl same) = inl (subst (EndsBy j n) (sym same) e)
 ends_so j n r s e (inr none) = inr none

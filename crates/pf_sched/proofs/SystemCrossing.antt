@@ -1,4 +1,4 @@
--- A system may go to another thread, and so may what it leaves behind: a lemma a type, each from those of its parts.
+-- A system may go to another thread, and so may what it leaves: a lemma a type, each from those of its parts.
 use denote.Param.Send.{IsSend, recorded_send, sendable}
 use Rattle.std.proofs.Crossing as heap
 use Rattle.pf_terms.proofs.Crossing as terms

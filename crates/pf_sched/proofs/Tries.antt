@@ -32,7 +32,7 @@ module _ (j : Job) where
   unfolding fails_in
   tells_failures ns r h = ap (λ s. is_failure s.verdict) (sym ((one_meaning (by_schedule j ns) tt).2 r h))
 
-  -- one function tells so
+  -- one function says so
   pub only_fails : (f g : List ℕ → Bool) → TellsFailures j f → TellsFailures j g → f ≡ g
   only_fails f g a b = λ i ns. same ns i
     where

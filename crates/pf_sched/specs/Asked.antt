@@ -1,4 +1,4 @@
--- Which job a request comes to, as far as the bytes of its property are read, or why it comes to none.
+-- Which job a request results in, where the bytes of its property are read, or why it results in none.
 use Rattle.std.specs.Prelude.{◌≡◌, ◌⊎◌, ◌≤◌, ℕ, zero, true, List, Option, Some, Result, Err}
 use Rattle.pf_fault.specs.declared.code.Code.{Code}
 use Rattle.pf_fault.specs.declared.code.Code.TheVariants as code
@@ -16,7 +16,7 @@ use Rattle.pf_module.specs.Reading.{IsReadAs}
 use Rattle.pf_sched.specs.declared.refusal.JobRefusal.{JobRefusal}
 use Rattle.pf_sched.specs.Views.{code_of}
 
--- Asks m e r x: a request of a module in an edition comes to this job, or is refused for this
+-- Asks m e r x: a request of a module in an edition results in this job, or is refused for this
 abbrev pub Asks : ReadModule → (edition : ℕ) → Request → Result Job Code → Type 0
 Asks m e r x = (q : Option Property) × IsPropertyOf m.code.atoms r.property q × (job_of m e q r ≡ x)
 

@@ -1,4 +1,4 @@
--- What a run by the priorities of a seed made of its transitions, as far as it came, and which events its trace was told.
+-- What a run by the priorities of a seed made of its transitions so far, and which events its trace received.
 use Rattle.std.specs.Prelude.{◌≡◌, ◌≤◌, ◌-◌, ℕ, Bool, true, false, List, [], Some, length, map, slice_get}
 use Rattle.rand_pcg.specs.Pcg.{pcg32}
 use Rattle.rand_pcg.specs.Lcg.{Lcg}
@@ -18,7 +18,7 @@ use Rattle.pf_sched.specs.Told.{Hears}
 abbrev pub priorities_in : Guided → State Lcg
 priorities_in x = state_of x.priorities
 
--- of the actors that may go the one that the priorities choose went, within n steps, as the event tells
+-- of the actors that may go the one that the priorities choose went, within n steps, as the event says
 pub record WentBy (left : ℕ) (c : Configuration) (x : Guided) (e : meaning.Event) (x' : Guided) : Type 0 where
   pub used : ℕ
   pub counts : e.count ≡ length (enabled c)
@@ -26,12 +26,12 @@ pub record WentBy (left : ℕ) (c : Configuration) (x : Guided) (e : meaning.Eve
   pub chosen : slice_get (enabled c) e.choice ≡ Some e.actor
   pub passes : PassesTo left x.system e.actor e.label used x'.system
 
--- the same, and a trace was told so; or nobody may go and nothing was done
+-- the same, and a trace received it; or nobody may go and nothing was done
 abbrev pub MayHaveGoneBy : {T : Type 0} (Told : T → meaning.Job → List meaning.Event → Type 0) → ℕ → Configuration → Guided → T → Bool → Guided → T → Type 0
 MayHaveGoneBy Told left c x t true x' t' = (e : meaning.Event) × WentBy left c x e x' × Hears Told t e t'
 MayHaveGoneBy Told left c x t false x' t' = (enabled c ≡ []) × (x' ≡ x) × (t' ≡ t)
 
--- a run of a job by the priorities of a seed, as far as it came, with these events
+-- a run of a job by the priorities of a seed so far, with these events
 pub record GoingBy (j : Job) (seed : ℕ) (es : List meaning.Event) (x : Guided) : Type 0 where
   pub transitions : List Transition
   pub last : Configuration
@@ -41,7 +41,7 @@ pub record GoingBy (j : Job) (seed : ℕ) (es : List meaning.Event) (x : Guided)
   pub within : x.system.steps ≤ j.asked.limit
   pub events : es ≡ map meaning.event_of transitions
 
--- it is over, and a trace was told all its events
+-- it is over, and a trace received all its events
 abbrev pub IsCompleteBy : {T : Type 0} (Told : T → meaning.Job → List meaning.Event → Type 0) → Job → (seed : ℕ) → Guided → T → Type 0
 IsCompleteBy Told j seed x t =
     (es : List meaning.Event) × (g : GoingBy j seed es x) × Told t j.asked es × Stops (j.asked.limit - x.system.steps) g.last

@@ -11,7 +11,7 @@ view_of_came c = view_of_finished c.job.value (result_of c.result)
 abbrev pub whole_in : whole.Inside → FinishedView
 whole_in w = view_of_came w.came.value
 
--- the result is what the job comes to, and is written by the names of its module
+-- the result is that of the job, and is written by the names of its module
 abbrev pub IsSoundCame : Came → Type 0
 IsSoundCame c = IsResult c.job.value.asked (result_of c.result) × IsWritten (name_of c.job.value.asked.code.atoms) c.result
 

@@ -1,4 +1,4 @@
--- What a job that is one run comes to, but for its events.
+-- The result of a job that is one run, but for its events.
 use Rattle.std.specs.Prelude.{◌≡◌, ℕ}
 use Rattle.pf_model.specs.Meaning.{Job, Means, Report}
 use Rattle.pf_model.specs.Reports.{outcome_of}

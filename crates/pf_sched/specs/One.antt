@@ -6,7 +6,7 @@ use Rattle.pf_request.specs.Job.{Job}
 use Rattle.pf_sched.specs.Asked.{IsValid}
 use Rattle.pf_sched.specs.Events.{HasEvents}
 
--- whatever is asked for, a run or a shrinking, it comes to one result only
+-- whatever is asked for, a run or a shrinking, it has one result only
 abbrev pub OneResult : Type 0
 OneResult = (j : model.Job) (r s : Result) → IsResult j r → IsResult j s → r ≡ s
 
@@ -14,7 +14,7 @@ OneResult = (j : model.Job) (r s : Result) → IsResult j r → IsResult j s →
 abbrev pub OneCount : Type 0
 OneCount = (j : model.Job) (n m : ℕ) → HasEvents j n → HasEvents j m → n ≡ m
 
--- each valid job comes to some result
+-- each valid job has some result
 abbrev pub SomeResult : Type 0
 SomeResult = (j : Job) → IsValid j → (r : Result) × IsResult j.asked r
 

@@ -1,4 +1,4 @@
--- What is true of a run, of a shrinking as far as it came, and of the end of a job.
+-- What is true of a run, of a shrinking so far, and of the end of a job.
 use Rattle.std.specs.Prelude.{◌≡◌, ◌⊎◌, ℕ, zero, suc, ◌+◌, Bool, List, ◌++◌, length, Option, Some, None}
 use Rattle.pf_terms.specs.Atoms.{name_of}
 use Rattle.pf_model.specs.Meaning as meaning
@@ -21,7 +21,7 @@ use Rattle.pf_sched.specs.Events.{RunsHave}
 use Rattle.pf_sched.specs.Views.{without_memory}
 use Rattle.pf_sched.specs.Traces.{Going}
 
--- a run of a job's module by these choices, as far as it came, with these events
+-- a run of a job's module by these choices so far, with these events
 abbrev pub Executes : Job → Choices → List Event → Execution → Type 0
 Executes j cs es x = Going j.asked.code (profile_of cs) (words_of cs) j.asked.limit (start j.asked.root j.asked.edition) es x
 
@@ -41,7 +41,7 @@ IsRunOf j r = (j.asked.runs ≡ zero) × IsRunBy j j.asked.choices r
 
 -- ---- shrinkings
 
--- the hunt of a shrinking was told true answers only: with them it comes to what the shrinking comes to, and the runs that were made,
+-- the hunt of a shrinking received true answers only: with them it finds what the shrinking finds, and the runs that were made,
 -- with n events in all, are those that the shrinking tries first
 pub record IsHuntOf (j : meaning.Job) (h : Hunting) (before : ℕ) : Type 0 where
   pub further : ℕ
@@ -55,20 +55,20 @@ pub record IsHuntOf (j : meaning.Job) (h : Hunting) (before : ℕ) : Type 0 wher
   pub events : RunsHave j behind before
   pub order : tried fails (suc further) given ≡ behind ++ tried_from fails h
 
--- the schedule that fails, if a hunt stands at one
+-- a hunt's current schedule, which fails, if there is one
 abbrev pub stands_at : Hunting → Option (List ℕ)
 stands_at (begins k ns) = None
 stands_at (searches k ns c cs) = Some ns
 stands_at (ended None) = None
 stands_at (ended (Some f)) = Some f.schedule
 
--- the report of the schedule that a hunt stands at is kept, written by the names of the module
+-- the report of a hunt's current schedule is kept, written by the names of the module
 abbrev pub KeepsReport : meaning.Job → Option (List ℕ) → Option WrittenReport → Type 0
 KeepsReport j None kept = Unit {0}
 KeepsReport j (Some ns) None = ⊥
 KeepsReport j (Some ns) (Some r) = Means (by_schedule j ns) (report_in r) × AreWritten (name_of j.code.atoms) r.lines
 
--- a shrinking, as far as it came: its hunt, the report of the schedule that it stands at, and the run of the next schedule
+-- a shrinking so far: its hunt, the report of its current schedule, and the run of the next schedule
 pub record IsShrinkingOf (j : Job) (s : Shrinking) : Type 0 where
   pub hunt : IsHuntOf j.asked s.hunt s.before
   pub report : KeepsReport j.asked (stands_at s.hunt) s.report
@@ -82,6 +82,6 @@ events_so_far s = s.before + length (events_in s.run)
 
 -- ---- the end
 
--- it is what the job comes to, or memory ran out
+-- it is the job's result, or memory ran out
 abbrev pub Ends : Job → shrinking.Result → Type 0
 Ends j r = IsResult j.asked r ⊎ (r ≡ without_memory)

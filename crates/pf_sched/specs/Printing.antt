@@ -22,13 +22,13 @@ use Rattle.pf_sched.specs.Waiting.{waiting_in}
 abbrev pub names_in : Job → ℕ → List ℕ
 names_in j = name_of j.asked.code.atoms
 
--- all events were told, a line each by the names of the job's module, and what a judgement needs of them is known
+-- all events were received, a line each by the names of the job's module, and what a verdict needs of them is known
 abbrev pub Prints : Printer → meaning.Job → List Event → Type 0
 Prints p j told =
     Shows (property_of p.property.now) p.evidence j told × (p.atoms.now ≡ j.code.atoms) × (all_told p.pieces ≡ told)
     × AreWrittenSoFar (name_of p.atoms.now) p.pieces.lines
 
--- a run by these choices as far as it came, with these events; the lines of those that don't wait went out
+-- a run by these choices so far, with these events; the lines of those that don't wait went out
 pub record IsPrinted (j : Job) (cs : Choices) (es : List Event) (x : Execution) (p : Printer) (written_old written_new : Option (List ℕ)) : Type 0 where
   pub run : Executes j cs es x
   pub told : Prints p j.asked es

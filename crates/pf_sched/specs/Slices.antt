@@ -29,34 +29,34 @@ use Rattle.pf_sched.specs.Traces.{Makes}
 abbrev pub GoesPast : Job → ℕ → Type 0
 GoesPast j n = (m : ℕ) × HasEvents j.asked m × (n < m)
 
--- a job comes to this, and has at most n events
+-- a job has this result, and has at most n events
 abbrev pub EndsBy : Job → ℕ → shrinking.Result → Type 0
 EndsBy j n r = IsResult j.asked r × ((m : ℕ) × HasEvents j.asked m × (m ≤ n))
 
--- a slice of n turns: the job goes on after n events more, if it has more than those; else it is over, with what it comes
--- to, or memory ran out
+-- a slice of n turns: the job goes on after n events more, if it has more than those; else it is over, with its
+-- result, or memory ran out
 abbrev pub Sliced : ParkedView → (turns : ℕ) → Slice → Type 0
 Sliced p turns (More q) = (q ≡ view_of_parked p.job (p.at + turns)) × GoesPast p.job (p.at + turns)
 Sliced p turns (Done f) = (f.job ≡ p.job) × (EndsBy p.job (p.at + turns) f.result ⊎ (f.result ≡ without_memory))
 
 -- ---- within a slice
 
--- from where a run stands it goes on by n events, and isn't over; or it is over, after n more at most
+-- a run goes on from where it is by n events, and isn't over; or it is over, after n more at most
 abbrev pub Advances : (before after turns : ℕ) → (over : Bool) → (stops : Type 0) → Type 0
 Advances before after turns true stops = (before ≤ after) × (after ≤ before + turns) × stops
 Advances before after turns false stops = (after ≡ before + turns) × (stops → ⊥)
 
--- where a run stands it is over
+-- a run is over where it is
 abbrev pub IsOver : (limit : ℕ) → Execution → Type 0
 IsOver limit x = (c : Configuration) × (x.system.standing ≡ Some c) × Stops (limit - x.system.steps) c
 
--- a run goes on, whichever job's it is and by whichever choices, and a trace is told all its events
+-- a run goes on, whichever job's it is and by whichever choices, and a trace receives all its events
 abbrev pub Continues : {T : Type 0} (Told : T → meaning.Job → List Event → Type 0) (limit : ℕ) (old : Execution) (t : T) (new : Execution) (u : T) (turns : ℕ) (over : Bool) → Type 0
 Continues Told limit old t new u turns over =
     (j : Job) (cs : meaning.Choices) (es : List Event) → j.asked.limit ≡ limit → Executes j cs es old → Told t j.asked es
     → (es' : List Event) × Executes j cs es' new × Told u j.asked es' × Advances (length es) (length es') turns over (IsOver limit new)
 
--- a run of a job by these choices is over, and a trace was told all its events
+-- a run of a job by these choices is over, and a trace received all its events
 abbrev pub IsComplete : {T : Type 0} (Told : T → meaning.Job → List Event → Type 0) → Job → meaning.Choices → Execution → T → Type 0
 IsComplete Told j cs x t = (es : List Event) × Executes j cs es x × Told t j.asked es × IsOver j.asked.limit x
 
@@ -84,7 +84,7 @@ abbrev pub TellsFound : meaning.Job → Option Found → shrinking.Result → Ty
 TellsFound j None r = r ≡ nothing_fails
 TellsFound j (Some f) r = (report : Report) × Means (by_schedule j f.schedule) report × (r ≡ shrunk_to f report)
 
--- a job comes to this by n events, and its report is written by the names of its module
+-- a job has this result after n events, and its report is written by the names of its module
 abbrev pub ComesTo : Job → ℕ → JobResult → Type 0
 ComesTo j n r = EndsBy j n (result_of r) × IsWritten (name_of j.asked.code.atoms) r
 

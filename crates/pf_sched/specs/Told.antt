@@ -1,4 +1,4 @@
--- Traces: what is told of a run as it happens.
+-- Traces: what receives the events of a run as they happen.
 use Rattle.std.specs.Prelude.{◌≡◌, ℕ, Bool, List, [], ◌∷◌, ◌++◌, map}
 use Rattle.std.specs.Global.{Vec}
 use Rattle.pf_terms.specs.Atoms.{name_of}
@@ -17,7 +17,7 @@ use Rattle.pf_sched.specs.declared.trace.Writer.{Writer}
 abbrev pub event : (choice count : ℕ) → Actor → Label → meaning.Event
 event i n x l = record { choice = i; count = n; actor = x; label = l }
 
--- a trace was told one event more of a job's run, behind all that it was told before
+-- a trace received one event more of a job's run, after all that it received before
 abbrev pub Hears : {T : Type 0} (Told : T → Job → List meaning.Event → Type 0) → T → meaning.Event → T → Type 0
 Hears Told t e u = (j : Job) (es : List meaning.Event) → Told t j es → Told u j (es ++ e ∷ [])
 

@@ -1,4 +1,4 @@
--- What a run made of its transitions, as far as it came, and which events its trace was told.
+-- What a run made of its transitions so far, and which events its trace received.
 use Rattle.std.specs.Prelude.{◌≡◌, ◌≤◌, ℕ, zero, Bool, true, false, List, [], Option, Some, None, length, map, slice_get}
 use Rattle.rand_pcg.specs.Pcg.{pcg32}
 use Rattle.rand_pcg.specs.Lcg.{Lcg}
@@ -31,7 +31,7 @@ ready_in c = length (numbers_of can_go zero c.core.processes)
 abbrev pub heads_in : Configuration → ℕ
 heads_in c = length (heads c.channels)
 
--- of the actors that may go the one that the next word chooses went, within n steps, as the event tells
+-- of the actors that may go the one that the next word chooses went, within n steps, as the event says
 pub record Went (left : ℕ) (c : Configuration) (x : Execution) (e : meaning.Event) (x' : Execution) : Type 0 where
   pub used : ℕ
   pub counts : e.count ≡ length (enabled c)
@@ -39,18 +39,18 @@ pub record Went (left : ℕ) (c : Configuration) (x : Execution) (e : meaning.Ev
   pub chosen : slice_get (enabled c) e.choice ≡ Some e.actor
   pub passes : PassesTo left x.system e.actor e.label used x'.system
 
--- the same of the actor that is told, which showed this; or nobody may go and nothing was done
+-- the same of the actor that is chosen, which showed this; or nobody may go and nothing was done
 abbrev pub MayHavePassed : ℕ → Configuration → Execution → Option Chosen → Label → Execution → Type 0
 MayHavePassed left c x (Some n) l x' = Went left c x (event n.index n.among (actor_of n.actor) l) x'
 MayHavePassed left c x None l x' = (enabled c ≡ []) × (x' ≡ x)
 
--- the same, and a trace was told so; or nobody may go and nothing was done
+-- the same, and a trace received it; or nobody may go and nothing was done
 abbrev pub MayHaveGone : {T : Type 0} (Told : T → meaning.Job → List meaning.Event → Type 0) → ℕ → Configuration → Execution → T → Bool → Execution → T → Type 0
 MayHaveGone Told left c x t true x' t' = (e : meaning.Event) × Went left c x e x' × Hears Told t e t'
 MayHaveGone Told left c x t false x' t' = (enabled c ≡ []) × (x' ≡ x) × (t' ≡ t)
 
--- a run by these words, which a profile chooses by, as far as it came: it stands at some configuration, the next word is that of the
--- next transition, and these events tell its transitions
+-- a run by these words, which a profile chooses by, so far: it is at some configuration, the next word is that of the
+-- next transition, and these events show its transitions
 pub record Going (m : Module) (p : Profile) (ws : Words) (limit : ℕ) (c : Configuration) (es : List meaning.Event) (x : Execution) : Type 0 where
   pub transitions : List Transition
   pub last : Configuration

@@ -15,7 +15,7 @@ use Rattle.pf_sched.specs.declared.result.JobResult.TheVariants as r
 use Rattle.pf_sched.specs.declared.refusal.JobRefusal.{JobRefusal}
 use Rattle.pf_sched.specs.declared.refusal.JobRefusal.TheVariants as refusal
 
--- what came of a job
+-- the result of a job
 abbrev pub result_of : JobResult → shrinking.Result
 result_of (r.Report w) = shrinking.report (report_in w)
 result_of (r.Shrunk complete schedule w) = shrinking.shrunk_to (found schedule.value.items complete) (report_in w)
@@ -44,7 +44,7 @@ view_of_parked j n = record { job = j; at = n }
 abbrev pub coded_parked_view : Coded ParkedView
 coded_parked_view = code_by _ (coded× coded_job coded_ℕ) (λ p. (p.job, p.at)) (λ p. view_of_parked p.0 p.1) (λ _. refl)
 
--- a job whose runs are over, and what came of it
+-- a job whose runs are over, and its result
 pub record FinishedView : Type 0 where
   pub job : Job
   pub result : shrinking.Result

@@ -20,11 +20,11 @@ is_end (ends r) = true
 is_end (delivers s (ending_with r)) = true
 is_end l = false
 
--- how many processes there are behind what a run shows: the root and those that began, without those that ended
+-- how many processes there are after what a run shows: the root and those that began, without those that ended
 abbrev pub living : List Label → ℕ
 living ls = suc (count_by is_begin ls) - count_by is_end ls
 
--- they are those that still wait where the root returned, since then nobody may go; of any other end none are told
+-- they are those that still wait where the root returned, since then nobody may go; of any other end none are reported
 abbrev pub waiting_at : Outcome → List Label → ℕ
 waiting_at o ls = if is_finished o then living ls else 0
 
@@ -40,7 +40,7 @@ LivingIsRight =
     (m : Module) (ps : Picks) (n root edition : ℕ) (ts : List Transition) (d : Configuration) (k : ℕ) → Goes m ps n (start root edition) ts d k
     → count_by (λ p. is_alive p.state) d.core.processes + count_by is_end (map (λ t. t.label) ts) ≡ suc (count_by is_begin (map (λ t. t.label) ts))
 
--- at the end of a run whose root returned as many processes wait as are told
+-- at the end of a run whose root returned as many processes wait as are reported
 abbrev pub WaitingIsRight : Type 0
 WaitingIsRight =
     (j : Job) (r : Report) (h : Means j r)

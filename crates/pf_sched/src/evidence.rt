@@ -37,7 +37,7 @@ fn with_one(count: u32, more: bool) -> u32
     if more { count.saturating_add(1) } else { count }
 }
 
-/// How many processes began behind the root, and how many ended.
+/// How many processes began after the root, and how many ended.
 #[derive(Drop, Clone, Copy)]
 pub(crate) struct Processes {
     begun: u32,

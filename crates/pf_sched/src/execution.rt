@@ -1,4 +1,4 @@
-//! A run as far as it came, transition by transition, without its trace.
+//! A run so far, transition by transition, without its trace.
 
 ghost use Rattle.std.specs.Prelude.{◌≡◌, ◌<◌, ◌-◌, [], length, IfOk, MatchBool, OnOk, Some};
 ghost use Rattle.rand_pcg.specs.Pcg.{pcg32};
@@ -21,7 +21,7 @@ use pf_system::{Enabled, Spare, System};
 use pf_terms::NoMemory;
 use std::alloc::Global;
 
-/// A run as far as it came: its processes and signals, and its next choices. Its events are told to a trace.
+/// A run so far: its processes and signals, and its next choices. Its events go to a trace.
 #[derive(Drop)]
 pub(crate) struct Execution {
     pub system: System,
@@ -46,7 +46,7 @@ pub(crate) struct Chosen {
     pub actor: Actor,
 }
 
-/// Whether a run is over where its system stands: nobody may go, or no step is left.
+/// Whether a run is over where its system is: nobody may go, or no step is left.
 fn is_over(system: &System, limit: u32) -> bool
     ensures { (c : Configuration) → system.now.standing ≡ Some c
         → MatchBool result (Stops (limit - system.now.steps) c) (Stops (limit - system.now.steps) c → ⊥) }
@@ -55,7 +55,7 @@ fn is_over(system: &System, limit: u32) -> bool
 }
 
 impl Execution {
-    /// The run of a job by these choices, before its first event, in what others left behind.
+    /// The run of a job by these choices, before its first event, in what others left.
     pub fn new(
         alloc: Global,
         job: &Job,
@@ -98,7 +98,7 @@ impl Execution {
         }))
     }
 
-    /// The same, of which a trace is told; whether there was one, since nobody may go else. `shown` is room for what it shows.
+    /// The same, whose event a trace receives; whether there was one, since nobody may go else. `shown` is room for what it shows.
     fn go<T: Trace>(
         &mut self,
         alloc: Global,

@@ -20,7 +20,7 @@ pub enum Ending {
     Memory(Arc<Job>),
 }
 
-/// A job whose runs are over, and what it comes to; or the result is that memory ran out. Many may hold both.
+/// A job whose runs are over, and its result; or the result is that memory ran out. Many may hold both.
 #[derive(Drop)]
 pub struct Finished {
     ending: Ending,
@@ -40,7 +40,7 @@ impl Model for Finished {
 impl Finished {
     ghost use Rattle.pf_sched.specs.InFinished.{ended_as};
 
-    /// The end of a job with what it comes to, in a block with the job; if there is none, memory ran out.
+    /// The end of a job with its result, in a block with the job; if there is none, memory ran out.
     pub(crate) fn whole(alloc: Global, job: Arc<Job>, came: JobResult) -> Finished
         requires result { IsResult job.value.asked (result_of came) }
         requires written { IsWritten (name_of job.value.asked.code.atoms) came }
@@ -84,7 +84,7 @@ impl Finished {
         }
     }
 
-    /// Whether the result is what the job comes to; else memory ran out.
+    /// Whether the result is that of the job; else memory ran out.
     pub fn is_whole(&self) -> bool
         ensures { MatchBool result
             (IsResult self.now.job.asked self.now.result)
@@ -93,7 +93,7 @@ impl Finished {
         self.result().is_some()
     }
 
-    /// What the job comes to; none if memory ran out.
+    /// The job's result; none if memory ran out.
     pub fn result(&self) -> Option<&JobResult>
         ensures { MatchOption result
             (self.now.result ≡ without_memory)

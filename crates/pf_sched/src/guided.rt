@@ -1,4 +1,4 @@
-//! A run by the priorities of a seed as far as it came, without its trace.
+//! A run by the priorities of a seed so far, without its trace.
 
 ghost use Rattle.std.specs.Prelude.{◌≡◌, ◌<◌, ◌-◌, [], ℕ, IfOk, OnOk, Some};
 ghost use Rattle.pf_model.specs.Configuration.{Configuration};
@@ -12,7 +12,7 @@ use pf_system::{Spare, System};
 use pf_terms::NoMemory;
 use std::alloc::Global;
 
-/// A run as far as it came: its processes and signals, and the priorities by which its next actor is chosen. Its events are told to a trace.
+/// A run so far: its processes and signals, and the priorities by which its next actor is chosen. Its events go to a trace.
 #[derive(Drop)]
 pub(crate) struct Guided {
     pub system: System,
@@ -21,7 +21,7 @@ pub(crate) struct Guided {
 }
 
 impl Guided {
-    /// The run of a job by the priorities of a seed, before its first event, in what others left behind.
+    /// The run of a job by the priorities of a seed, before its first event, in what others left.
     pub fn new(alloc: Global, job: &Job, seed: u64, spare: Spare) -> Result<Guided, NoMemory>
         ensures { IfOk result (λ x. GoingBy job.now seed [] x) }
     {
@@ -32,8 +32,8 @@ impl Guided {
         })
     }
 
-    /// The transition of the actor that the priorities choose, within the limit of steps, of which the trace is told; whether there was one,
-    /// since nobody may go else. `shown` is room for what it shows. Room for one more priority may be refused.
+    /// The transition of the actor that the priorities choose, within the limit of steps, whose event the trace receives; whether there was one,
+    /// since nobody may go else. `shown` is room for what it shows. The allocation for one more priority may fail.
     fn go<T: Trace>(
         &mut self,
         alloc: Global,

@@ -22,7 +22,7 @@ use std::alloc::Global;
 use std::marker::Model;
 use std::sync::Arc;
 
-/// What a request comes to for a module: a run from one of its exported functions without arguments, of which it is asked whether a property
+/// What a request asks for of a module: a run from one of its exported functions without arguments, of which it is asked whether a property
 /// holds, by choices and within a limit of steps, in an edition; or the shrinking of a schedule of such runs. The module is what its source
 /// is read as; the limit, the schedule, the weights and the runs of a shrinking are within their bounds.
 #[derive(Drop)]

@@ -9,12 +9,12 @@ pub fn living_is_right()
     ensures { LivingIsRight }
 {}
 
-/// At the end of a run whose root returned as many processes wait as are told.
+/// At the end of a run whose root returned as many processes wait as are reported.
 pub fn waiting_is_right()
     ensures { WaitingIsRight }
 {}
 
-/// A job comes to one result only, a shrinking too, and each valid job comes to one.
+/// A job has one result only, a shrinking too, and each valid job has one.
 pub fn one_result()
     ensures one { OneResult }
     ensures some { SomeResult }

@@ -27,7 +27,7 @@ use std::io::Write;
 use std::mem;
 use std::sync::ledger::Ledger;
 
-/// Has the lines of a run's events go out piece by piece, and keeps what a judgement needs of them.
+/// Has the lines of a run's events go out piece by piece, and keeps what a verdict needs of them.
 #[derive(Drop)]
 pub(crate) struct Printer<'a> {
     property: &'a Property,
@@ -50,7 +50,7 @@ impl<'a> Printer<'a> {
         }
     }
 
-    /// Adds the line of an event, and keeps what a judgement needs of it.
+    /// Adds the line of an event, and keeps what a verdict needs of it.
     fn add(&mut self, told: &Event) -> Result<(), NoMemory>
         ensures told { OnOk result ((j : model.Job) (es : List model.Event) → Prints self.old j es
             → Prints self.new j (es ++ event_of told.now ∷ [])) }
@@ -142,14 +142,14 @@ fn print_events<W: Write, M: Ledger>(
 }
 
 /// What is known of a run whose report went out: whether its property holds, and how many processes still wait at its end, where its root
-/// returned; else none are told.
+/// returned; else none are reported.
 #[derive(Drop, Clone, Copy)]
 pub struct PrintedRun {
     pub verdict: Option<bool>,
     pub waiting: u32,
 }
 
-/// Prints what is left of the report of a run that is over, and tells what is known of it.
+/// Prints what is left of the report of a run that is over, and returns what is known of it.
 fn print_rest<W: Write, M: Ledger>(
     alloc: Global,
     job: &Job,
@@ -213,8 +213,8 @@ fn print_execution<W: Write, M: Ledger>(
     Ok(printed)
 }
 
-/// Prints the report of a job that is one run, as the run goes, and tells its verdict and how many processes still wait though its root
-/// returned. Where a write fails, a beginning of the report went out; where memory runs out, the lines of its first events did. What stands in
+/// Prints the report of a job that is one run, as the run goes, and gives its verdict and how many processes still wait though its root
+/// returned. Where a write fails, a beginning of the report went out; where memory runs out, the lines of its first events did. What is in
 /// the scratch makes no difference.
 pub fn print_run<W: Write, M: Ledger>(
     alloc: Global,

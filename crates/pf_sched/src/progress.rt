@@ -5,7 +5,7 @@ ghost use Rattle.std.specs.Prelude.{◌≡◌};
 use pf_shrink::Hunt;
 use pf_trace::WrittenReport;
 
-/// The progress of a shrinking: how many runs are over, and how many numbers the schedule has that it stands at.
+/// The progress of a shrinking: how many runs are over, and how many numbers its current schedule has.
 #[derive(Clone, Copy, PartialEq, Eq, Debug)]
 pub struct Progress {
     pub runs: u32,
@@ -33,7 +33,7 @@ impl Progress {
     }
 }
 
-/// Receives the progress of a shrinking. What it does makes no difference to what the shrinking comes to.
+/// Receives the progress of a shrinking. What it does makes no difference to the shrinking's result.
 pub trait Observer {
     /// A slice of a shrinking was made, and more are to come.
     fn progress(&mut self, progress: Progress);

@@ -1,4 +1,4 @@
-//! What jobs come to.
+//! The results of jobs.
 
 ghost use Rattle.std.specs.Prelude.{◌≡◌, ℕ, List};
 ghost use Rattle.pf_request.specs.Job as job;
@@ -8,13 +8,13 @@ use pf_model::report::Outcome;
 use pf_trace::{EventLines, WrittenReport};
 use std::alloc::Global;
 
-/// What a job comes to.
+/// The result of a job.
 #[derive(Drop)]
 pub enum JobResult {
     /// The report of its run.
     Report(WrittenReport),
     /// Whether no candidate of the schedule that its shrinking found fails, the schedule, and the report of its run. The schedule's own words
-    /// stand in a block, so that no other result is larger for them.
+    /// are in a block, so that no other result is larger for them.
     Shrunk {
         complete: bool,
         schedule: Box<Vec<u32>>,
@@ -24,7 +24,7 @@ pub enum JobResult {
     NothingFails,
 }
 
-/// What is told of a job for which memory ran out: no event, no step and no verdict. It takes no memory.
+/// The report of a job for which memory ran out: no event, no step and no verdict. It takes no memory.
 pub fn memory_report(alloc: Global) -> WrittenReport
     ensures report { report_in result ≡ job.memory_report }
     ensures lines { (name : ℕ → List ℕ) → AreWritten name result.lines }

@@ -12,14 +12,14 @@ use std::alloc::Global;
 use std::marker::Model;
 use std::sync::Arc;
 
-/// A job, and what it comes to.
+/// A job, and its result.
 #[derive(Drop)]
 struct Came {
     job: Arc<Job>,
     result: JobResult,
 }
 
-/// A job whose result is whole. Both stand in one block, which many may hold.
+/// A job whose result is whole. Both are in one block, which many may hold.
 #[derive(Drop)]
 pub struct Whole {
     came: Arc<Came>,
@@ -39,7 +39,7 @@ impl Model for Whole {
 }
 
 impl Whole {
-    /// A job with what it comes to, in a block of their own; if there is none, the job again.
+    /// A job with its result, in a block of their own; if there is none, the job again.
     pub(crate) fn new(alloc: Global, job: Arc<Job>, came: JobResult) -> Result<Whole, Arc<Job>>
         requires is { IsResult job.value.asked (result_of came) }
         requires written { IsWritten (name_of job.value.asked.code.atoms) came }
@@ -62,7 +62,7 @@ impl Whole {
         &self.came.job
     }
 
-    /// What it comes to.
+    /// Its result.
     pub fn result(&self) -> &JobResult
         ensures result { result_of result.now ≡ self.now.result }
         ensures is { IsResult self.now.job.asked self.now.result }

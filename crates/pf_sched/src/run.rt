@@ -1,4 +1,4 @@
-//! A run as far as it came, with what is written of its events.
+//! A run so far, with what is written of its events.
 
 ghost use Rattle.std.specs.Prelude.{◌≡◌, IfOk, OnOk, length};
 ghost use Rattle.pf_model.specs.Meaning as model;
@@ -19,7 +19,7 @@ use pf_trace::WrittenReport;
 use std::alloc::Global;
 use std::mem;
 
-/// A run as far as it came, with what is written of its events so far.
+/// A run so far, with what is written of its events.
 #[derive(Drop)]
 pub(crate) struct Run {
     pub execution: Execution,

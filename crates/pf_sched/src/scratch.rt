@@ -4,7 +4,7 @@ use pf_system::Spare;
 use std::alloc::Global;
 use std::mem;
 
-/// What runs leave behind for the next, emptied: what a run means depends on none of it.
+/// What runs leave for the next, emptied: what a run means depends on none of it.
 #[derive(Drop)]
 pub struct Scratch {
     spare: Spare,

@@ -1,4 +1,4 @@
-//! Shrinkings as far as they came, run by run.
+//! Shrinkings so far, run by run.
 
 ghost use Rattle.std.specs.Prelude.{◌≡◌, ◌+◌, ◌-◌, ◌<◌, IfOk, IsNone, IsSome, OnOk, if◌then◌else◌};
 ghost use Rattle.pf_terms.specs.Atoms.{name_of};
@@ -22,7 +22,7 @@ use pf_terms::NoMemory;
 use pf_trace::WrittenReport;
 use std::alloc::Global;
 
-/// A shrinking as far as it came: its hunt, the run of the hunt's next schedule, the report of the schedule that the hunt stands at, which is
+/// A shrinking so far: its hunt, the run of the hunt's next schedule, the report of the hunt's current schedule, which is
 /// none before the first run that failed, the number of events of all runs before this one, and its progress for the observer.
 #[derive(Drop)]
 pub(crate) struct Shrinking {
@@ -71,7 +71,7 @@ fn found(alloc: Global, hunt: &Hunt, report: Option<WrittenReport>) -> Result<Jo
     })
 }
 
-/// Tells a hunt whether its next schedule fails, by the report of its run; the report of the schedule that the hunt stands at then.
+/// Answers a hunt whether its next schedule fails, by the report of its run; the report of the schedule that is the hunt's current one then.
 fn tell(hunt: &mut Hunt, kept: Option<WrittenReport>, ended: WrittenReport) -> Option<WrittenReport>
     requires { IsSome (next_of hunt.old) }
     ensures told { hunt.new ≡ told_of (is_failure ended.verdict) hunt.old }
@@ -82,7 +82,7 @@ fn tell(hunt: &mut Hunt, kept: Option<WrittenReport>, ended: WrittenReport) -> O
     if fails { Some(ended) } else { kept }
 }
 
-/// The run of a hunt's next schedule, or what the hunt came to, after n events.
+/// The run of a hunt's next schedule, or what the hunt found, after n events.
 fn begin(
     alloc: Global,
     job: &Job,
@@ -141,7 +141,7 @@ impl Shrinking {
         self.run.go_on(alloc, job, scratch, turns)
     }
 
-    /// What follows a run that is over: the hunt is told whether it failed, and the report of one that did is kept.
+    /// What follows a run that is over: the hunt gets the answer whether it failed, and the report of one that did is kept.
     fn follow(self, alloc: Global, job: &Job) -> Result<Advance, NoMemory>
         requires valid { IsValid job.now }
         requires shrinking { IsShrinkingOf job.now self }
@@ -162,8 +162,8 @@ impl Shrinking {
         begin(alloc, job, hunt, kept, after, further)
     }
 
-    /// Goes on by n events, over as many runs as they take. It goes on if the shrinking has more; else it is over, with what the job
-    /// comes to.
+    /// Goes on by n events, over as many runs as they take. It goes on if the shrinking has more; else it is over, with the job's
+    /// result.
     pub fn advance(
         self,
         alloc: Global,

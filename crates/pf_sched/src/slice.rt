@@ -88,8 +88,8 @@ fn slice_of_shrinking(
     }
 }
 
-/// Goes on with a job by n events at most, over as many runs as they take. It goes on if the job has more; else it is over, with what
-/// the job comes to. If a growth is refused it is over too, and its result is that memory ran out. What stands in the scratch makes no
+/// Goes on with a job by n events at most, over as many runs as they take. It goes on if the job has more; else it is over, with
+/// the job's result. If an allocation fails it is over too, and its result is that memory ran out. What is in the scratch makes no
 /// difference.
 pub fn run_slice(alloc: Global, parked: Parked, scratch: &mut Scratch, turns: u32) -> Slice
     requires { 0 < turns }
@@ -102,14 +102,14 @@ pub fn run_slice(alloc: Global, parked: Parked, scratch: &mut Scratch, turns: u3
     }
 }
 
-/// Tells the observer the progress of a job that is a shrinking.
+/// Reports the progress of a job that is a shrinking to the observer.
 fn tell(observer: &mut impl Observer, parked: &Parked) {
     if let Some(progress) = parked.progress() {
         observer.progress(progress);
     }
 }
 
-/// Runs a job to its end, slice by slice. If its start is refused a growth, there is no run. The observer receives the progress of a shrinking.
+/// Runs a job to its end, slice by slice. If an allocation of its start fails, there is no run. The observer receives the progress of a shrinking.
 pub fn run_to_end(
     alloc: Global,
     job: Arc<Job>,

@@ -1,4 +1,4 @@
-//! Who is told of a run as it happens.
+//! Who receives the events of a run as they happen.
 
 ghost use Rattle.std.specs.Prelude.{◌≡◌, ◌||◌, ℕ, List, [], false, OnOk, map};
 ghost use Rattle.pf_model.specs.Meaning as model;
@@ -18,12 +18,12 @@ use pf_trace::LinesSoFar;
 use std::alloc::Global;
 use std::mem;
 
-/// Is told the events of a run as they happen.
+/// Receives the events of a run as they happen.
 pub(crate) trait Trace {
-    /// It was told these events, in their order, and knows of them what it has to for a run of this job.
+    /// It received these events, in their order, and knows of them what it has to for a run of this job.
     ghost Told: { Self → model.Job → List model.Event → Type 0 };
 
-    /// Is told one event more: of `count` actors that might go number `choice` went, and showed this. It may take the label.
+    /// Receives one event more: of `count` actors that might go number `choice` went, and showed this. It may take the label.
     fn tell(
         &mut self,
         choice: u32,
@@ -73,7 +73,7 @@ impl Trace for Vec<u32> {
     }
 }
 
-/// What a judgement needs of the events, of which none is kept.
+/// What a verdict needs of the events, of which none is kept.
 #[derive(Drop)]
 pub(crate) struct Seen<'a> {
     property: &'a Property,

@@ -25,8 +25,8 @@ use pf_system::{Spare, System};
 use pf_terms::NoMemory;
 use std::alloc::Global;
 
-/// How the run of a job came out, and whether its property holds; there is no verdict where memory ran out. How many processes still wait at
-/// its end, where its root returned; else none are told.
+/// How the run of a job ended, and whether its property holds; there is no verdict where memory ran out. How many processes still wait at
+/// its end, where its root returned; else none are reported.
 #[derive(Drop)]
 pub struct Judged {
     pub outcome: Outcome,
@@ -34,7 +34,7 @@ pub struct Judged {
     pub waiting: u32,
 }
 
-/// The run of a job that is no shrinking, before its first event, in what others left behind.
+/// The run of a job that is no shrinking, before its first event, in what others left.
 pub(crate) fn first_execution(alloc: Global, job: &Job, spare: Spare) -> Result<Execution, NoMemory>
     requires { job.now.asked.runs ≡ zero }
     ensures { IfOk result (λ x. Executes job.now job.now.asked.choices [] x) }
@@ -66,7 +66,7 @@ fn report_of_events(
     })
 }
 
-/// How a run that is over came out, by what is kept of its events.
+/// How a run that is over ended, by what is kept of its events.
 pub(crate) fn judge(
     alloc: Global,
     job: &Job,
@@ -103,7 +103,7 @@ fn report_of_execution(
     Ok(report)
 }
 
-/// The same, of which what is spare then comes to a scratch.
+/// The same, of which what is spare then goes into a scratch.
 fn report_to_end(
     alloc: Global,
     job: &Job,
@@ -119,7 +119,7 @@ fn report_to_end(
     report
 }
 
-/// The report of a job that is one run. What stands in the scratch makes no difference.
+/// The report of a job that is one run. What is in the scratch makes no difference.
 pub fn report_of_run(alloc: Global, job: &Job, scratch: &mut Scratch) -> Result<Report, NoMemory>
     requires { job.now.asked.runs ≡ zero }
     ensures { IfOk result (λ r. Means job.now.asked (report_of r)) }
@@ -128,7 +128,7 @@ pub fn report_of_run(alloc: Global, job: &Job, scratch: &mut Scratch) -> Result<
     report_to_end(alloc, job, execution, scratch)
 }
 
-/// The report of the run of a job by a schedule in place of the job's own choices. What stands in the scratch makes no difference.
+/// The report of the run of a job by a schedule in place of the job's own choices. What is in the scratch makes no difference.
 pub fn report_by_schedule(
     alloc: Global,
     job: &Job,
@@ -142,7 +142,7 @@ pub fn report_by_schedule(
     report_to_end(alloc, job, execution, scratch)
 }
 
-/// How the run of a job comes out, from its first event on, of which none is kept.
+/// How the run of a job ends, from its first event on, of which none is kept.
 fn judge_execution(alloc: Global, job: &Job, execution: &mut Execution) -> Result<Judged, NoMemory>
     requires { Executes job.now job.now.asked.choices [] execution.old }
     ensures { IfOk result (λ v. Judges job.now.asked v) }
@@ -153,7 +153,7 @@ fn judge_execution(alloc: Global, job: &Job, execution: &mut Execution) -> Resul
     Ok(judged)
 }
 
-/// What the report of a job that is one run tells but for its events, of which none is kept. What stands in the scratch makes no difference.
+/// What the report of a job that is one run says but for its events, of which none is kept. What is in the scratch makes no difference.
 pub fn judged_run(alloc: Global, job: &Job, scratch: &mut Scratch) -> Result<Judged, NoMemory>
     requires { job.now.asked.runs ≡ zero }
     ensures { IfOk result (λ v. Judges job.now.asked v) }
@@ -175,7 +175,7 @@ fn report_of_guided(alloc: Global, job: &Job, guided: &mut Guided) -> Result<Rep
     Ok(report)
 }
 
-/// How that run comes out, of whose events none is kept.
+/// How that run ends, of whose events none is kept.
 fn judge_guided(alloc: Global, job: &Job, guided: &mut Guided) -> Result<Judged, NoMemory>
     ensures { IfOk result (λ v. (seed : ℕ) → GoingBy job.now seed [] guided.old
         → JudgesByPriorities job.now.asked seed v) }
@@ -186,7 +186,7 @@ fn judge_guided(alloc: Global, job: &Job, guided: &mut Guided) -> Result<Judged,
     Ok(judged)
 }
 
-/// The report that a job means by the priorities of a seed, in place of its own choices. What stands in the scratch makes no difference.
+/// The report that a job means by the priorities of a seed, in place of its own choices. What is in the scratch makes no difference.
 pub fn report_by_priorities(
     alloc: Global,
     job: &Job,
@@ -201,7 +201,7 @@ pub fn report_by_priorities(
     report
 }
 
-/// What that report tells but for its events, of which none is kept. What stands in the scratch makes no difference.
+/// What that report says but for its events, of which none is kept. What is in the scratch makes no difference.
 pub fn judged_by_priorities(
     alloc: Global,
     job: &Job,
@@ -216,7 +216,7 @@ pub fn judged_by_priorities(
     judged
 }
 
-/// The choices of the run that a job makes by the priorities of a seed, event by event: by them as a schedule it runs so again. What stands
+/// The choices of the run that a job makes by the priorities of a seed, event by event: by them as a schedule it runs so again. What is
 /// in the scratch makes no difference.
 pub fn choices_by_priorities(
     alloc: Global,

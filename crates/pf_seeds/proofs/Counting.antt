@@ -61,7 +61,7 @@ unequal m n d = elim (eqb_tells m n) [
   | inr p ↦ p.0
 ]
 
--- outcomes are told apart by their hashes
+-- outcomes are distinguished by their hashes
 pub told_apart : (a b : Outcome) → (outcome_hash a ≢ outcome_hash b) → same_outcome a b ≡ false
 told_apart a b d = elim (either (same_outcome a b)) [
   | inl s ↦ absurd (d (ap outcome_hash (outcomes a b s)))
@@ -128,7 +128,7 @@ more_twice x m n = let e : x.count + m + n ≡ x.count + n + m = omega arith in 
 more_once : (x : Row) (m n : ℕ) → more_often x (m + n) ≡ more_often (more_often x m) n
 more_once x m n = let e : x.count + (m + n) ≡ x.count + m + n = omega arith in ap (λ k. let z : Row = record x { count = k } in z) e
 
--- where a row stands already, it makes no difference whether what it counts comes before or behind another
+-- where a row is already, it makes no difference whether what it counts comes before or after another
 swapped_at : (y r x : Row) (xs : List Row) → is_like x r ≡ true → with_row (with_row (x ∷ xs) r) y ≡ with_row (with_row (x ∷ xs) y) r
 swapped_at y r x xs e = elim (either (is_like x y)) [
   | inl f ↦ ap (λ zs. with_row zs y) (at_like x xs r e) ∙ at_like (more_often x r.count) xs y f
@@ -155,7 +155,7 @@ joined_behind : (xs ys : List Row) (r : Row) → HasLike r xs → joined (with_r
 joined_behind xs [] r h = refl
 joined_behind xs (y ∷ ys) r h = ap (λ zs. joined zs ys) (swapped y r xs h) ∙ joined_behind (with_row xs y) ys r (still_has y r xs h)
 
--- what a row counts more is counted behind it
+-- what a row counts more is counted after it
 counts_behind : (xs : List Row) (y r : Row) → is_like y r ≡ true → with_row xs (more_often y r.count) ≡ with_row (with_row xs y) r
 counts_behind [] y r e = sym (at_like y [] r e)
 counts_behind (x ∷ xs) y r e = elim (either (is_like x y)) [
@@ -165,7 +165,7 @@ counts_behind (x ∷ xs) y r e = elim (either (is_like x y)) [
       ∙ sym (ap (λ zs. with_row zs r) (past_unlike x xs y f) ∙ past_unlike x (with_row xs y) r (sym (alike_right x y r e) ∙ f))
 ]
 
--- one row more behind the second part is one more behind both
+-- one row more after the second part is one more after both
 pub joined_more : (xs ys : List Row) (r : Row) → joined xs (with_row ys r) ≡ with_row (joined xs ys) r
 joined_more xs [] r = refl
 joined_more xs (y ∷ ys) r = elim (either (is_like y r)) [
@@ -215,7 +215,7 @@ module _ (w : Strategy) (j : Job) where
   one_seed_more a s rows r l t m =
       let e : suc s ≡ s + 1 = omega arith in subst (λ n. Tallies w j a n (with_row rows (met s r))) e (and_seed s rows r l t m)
 
-  -- what two parts count, one behind the other, is within bounds
+  -- what two parts count, one after the other, is within bounds
   pub counted_both : (a c b : ℕ) (xs ys : List Row) → a ≤ c → c ≤ b → b < 2 ^ 64 → Tallies w j a c xs → Tallies w j c b ys
       → counted xs + counted ys < 2 ^ 64
   counted_both a c b xs ys l k fits t u =

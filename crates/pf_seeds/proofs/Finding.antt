@@ -30,7 +30,7 @@ module _ (xs : List Row) (y : Row) where
   abbrev pub HasItsHash : (next : Option ℕ) → Type 0
   HasItsHash o = MatchOption o ⊤ (λ i. slice_get (hashes_in xs) i ≡ Some (row_hash y))
 
-  -- of the rows from index a on, where the first stands that is like it; or that none is
+  -- of the rows from index a on, where the first is that is like it; or that none is
   abbrev pub IsFirstFrom : (a : ℕ) → Option ℕ → Type 0
   IsFirstFrom a o = MatchOption o (NoneLike a (length xs)) (λ i. NoneLike a i × IsLike i)
 

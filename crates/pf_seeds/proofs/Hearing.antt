@@ -1,4 +1,4 @@
--- What an observer received, one after another, and how far a hunt came by it.
+-- What an observer received, one after another, and how far a hunt got by it.
 use Rattle.std.proofs.Common.{◌≡◌, ◌<◌, ◌≤◌, ◌-◌, ◌++◌, ℕ, Bool, true, false, List, [], ◌∷◌, Option, Some, None, refl, sym, subst}
 use Rattle.std.specs.Prelude.{is_some, option_map}
 use Rattle.std.proofs.lemmas.List.{append-nil, append_assoc}
@@ -27,7 +27,7 @@ module _ {T : Type 0} (Heard : T → List Notice → Type 0) where
       → HearsSome Heard o weaker p
   hears_weaker so weaker o p on h = (h.0, on h.0 h.1, h.2)
 
-  -- ---- how far a hunt came
+  -- ---- how far a hunt got
 
   module _ (has : (c failures : ℕ) → Type 0) (m : Bool) (a b : ℕ) where
     pub none_run : (o : T) → HearsSome Heard o (GoesOn has m a b a) o

@@ -1,4 +1,4 @@
--- Where a row stands, and what becomes of the rows there.
+-- Where a row is, and what becomes of the rows there.
 use Rattle.std.proofs.Common.{◌≡◌, inl, inr, ◌+◌, ◌≤◌, ℕ, zero, suc, true, false, List, [], ◌∷◌, ◌++◌, Some, refl, sym, ap, ◌∙◌, arith, length}
 use Rattle.std.specs.Prelude.{slice_get, slice_set}
 use Rattle.std.proofs.lemmas.Bool.{cases_lt}
@@ -40,7 +40,7 @@ module _ (y : Row) where
       ap (λ zs. row_of w ∷ zs) (is_added xs i x z (behind w xs i h) e l f)
       ∙ sym (past_unlike (row_of w) (rows_in xs) (row_of y) (h 0 w (omega arith) refl))
 
--- the hashes of the rows, once one counts more, and once there is one more behind them
+-- the hashes of the rows, once one counts more, and once there is one more after them
 pub hashes_stay : (xs : List Row) (i : ℕ) (x z : Row) → slice_get xs i ≡ Some x → row_hash z ≡ row_hash x → hashes_in (slice_set xs i z) ≡ hashes_in xs
 hashes_stay [] i x z e h = absurd (cc)
 hashes_stay (w ∷ xs) zero x z e h = let q : w ≡ x = cc in ap (λ n. n ∷ hashes_in xs) (h ∙ ap row_hash (sym q))

@@ -1,4 +1,4 @@
--- Where numbers stand, once there is one more behind them.
+-- Where numbers occur, once there is one more after them.
 use Rattle.std.proofs.Common.{◌≡◌, ◌≢◌, inl, inr, ◌+◌, ◌<◌, ◌≤◌, ℕ, zero, suc, cond, List, [], ◌∷◌, ◌++◌, Option, Some, None, refl, sym, ap, ◌∙◌, subst, arith, length, length-append}
 use Rattle.std.specs.Prelude.{slice_get, nat_eq}
 use Rattle.std.specs.HashMap.{HashMap, get}
@@ -9,7 +9,7 @@ use Rattle.std.proofs.lemmas.Option.{same_Some, slice_get_within}
 use Rattle.pf_seeds.specs.Places.{ArePlaced, IsAbsent, IsLastBefore, numbers_in}
 use Rattle.pf_seeds.specs.declared.places.Place.{Place}
 
--- what stands before one more, and that one
+-- what is before one more, and that one
 stands_still : {T : Type 0} (xs : List T) (x : T) (k : ℕ) → k < length xs → slice_get (xs ++ x ∷ []) k ≡ slice_get xs k
 stands_still [] x k l = absurd (omega arith)
 stands_still (y ∷ xs) x zero l = refl
@@ -62,7 +62,7 @@ module _ {S : Type 0} (ps : List Place) (lasts others : HashMap ℕ ℕ S) (n at
   numbers_more : numbers_in (ps ++ place ∷ []) ≡ ns ++ n ∷ []
   numbers_more = map-append (λ (p : Place). p.number) ps (place ∷ [])
 
-  -- the places, once one more number is put behind them
+  -- the places, once one more number is put after them
   pub placed_more : ArePlaced ps lasts → at ≡ length ps → old ≡ get nat_eq lasts n
       → ((q : ℕ) → get nat_eq others q ≡ cond (nat_eq n q) (Some at) (get nat_eq lasts q)) → ArePlaced (ps ++ place ∷ []) others
   placed_more h behind was updates = record {

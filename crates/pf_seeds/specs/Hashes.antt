@@ -1,4 +1,4 @@
--- Hashes: numbers by which outcomes are told apart before they are compared.
+-- Hashes: numbers by which outcomes are distinguished before they are compared.
 use Rattle.std.specs.Prelude.{ℕ, ◌+◌, ◌*◌, ◌%◌, ◌^◌, List, [], ◌∷◌}
 use Rattle.std.specs.Int.{w64, cast_unsigned}
 use Rattle.pf_terms.specs.Value.{Value, int, atom, ref, pid, tuple, list, Values, none, more}

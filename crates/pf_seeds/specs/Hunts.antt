@@ -1,4 +1,4 @@
--- Hunts: what the runs by many seeds come to, by a strategy.
+-- Hunts: the results of the runs by many seeds, by a strategy.
 use Rattle.std.specs.Prelude.{◌≡◌, ◌<◌, ◌≤◌, ℕ, suc, Bool, true, false, ◌&&◌, ◌||◌, nat_lt, List, [], Option, Some, None, option_map}
 use Rattle.pf_model.specs.Meaning.{Job, Report}
 use Rattle.pf_model.specs.Shrinking.{is_failure}
@@ -51,7 +51,7 @@ pub data Tallies (w : Strategy) (j : Job) (a : ℕ) : (b : ℕ) → List Row →
 
 -- ---- how far
 
--- SearchedTo may_stop a b c: a hunt over the seeds from a to before b came to before c: to its end; or, if it may stop, less far, but past its first seed
+-- SearchedTo may_stop a b c: a hunt over the seeds from a to before b went to before c: to its end; or, if it may stop, less far, but past its first seed
 pub data SearchedTo (may_stop : Bool) (a b : ℕ) : (c : ℕ) → Type 0 where
   to_end : SearchedTo may_stop a b b
   less_far : (c : ℕ) → may_stop ≡ true → a < c → c < b → SearchedTo may_stop a b c

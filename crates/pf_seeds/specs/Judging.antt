@@ -1,4 +1,4 @@
--- How a run by a seed came out.
+-- The outcome and the verdict of a run by a seed.
 use Rattle.std.specs.Prelude.{ℕ}
 use Rattle.pf_model.specs.Meaning.{Job, Report}
 use Rattle.pf_sched.specs.Judging.{IsJudged}

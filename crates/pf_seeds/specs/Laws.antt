@@ -5,7 +5,7 @@ use Rattle.pf_strategy.specs.declared.strategy.Strategy.{Strategy}
 use Rattle.pf_seeds.specs.Hunts.{FirstFailing, FirstLeaking, Tallies}
 use Rattle.pf_seeds.specs.Rows.{Row, counted, is_like, joined}
 
--- seeds come to one answer only
+-- seeds have one answer only
 abbrev pub OneFirst : Type 0
 OneFirst =
     (leaks : Bool) (w : Strategy) (j : Job) (a b : ℕ) (x y : Option (ℕ × Report)) → FirstFailing leaks w j a b x → FirstFailing leaks w j a b y → x ≡ y

@@ -21,7 +21,7 @@ Hears Heard old more new = (before : List Notice) → Heard old before → Heard
 abbrev pub HearsSome : {T : Type 0} (Heard : T → List Notice → Type 0) → T → (so : List Notice → Type 0) → T → Type 0
 HearsSome Heard old so new = (more : List Notice) × so more × Hears Heard old more new
 
--- ---- how far a hunt came
+-- ---- how far a hunt got
 
 -- whether an answer ends a hunt that has seeds left
 abbrev pub stops : (may_stop : Bool) → (answer : Pace) → Bool
@@ -47,7 +47,7 @@ pub data Ends (has : (c failures : ℕ) → Type 0) (may_stop : Bool) (a b : ℕ
 abbrev pub has_none : (c failures : ℕ) → Type 0
 has_none c n = n ≡ 0
 
--- Searches may_stop a b c x notices: so a hunt for the least seed that fails came to before c and found x: none; or one, which ends it after its block
+-- Searches may_stop a b c x notices: so a hunt for the least seed that fails went to before c and found x: none; or one, which ends it after its block
 pub data Searches (may_stop : Bool) (a b : ℕ) : (c : ℕ) → Option (ℕ × Report) → List Notice → Type 0 where
   found_none : (c : ℕ) (ns : List Notice) → Ends has_none may_stop a b c ns → Searches may_stop a b c None ns
   found : (c d s : ℕ) (r : Report) (p : Pace) (ns : List Notice) → GoesOn has_none may_stop a b c ns → c ≤ s → s < d → d ≤ b
@@ -58,7 +58,7 @@ abbrev pub leak_notice : Option (ℕ × ℕ) → List Notice
 leak_notice None = []
 leak_notice (Some l) = leaked l.0 l.1 ∷ []
 
--- all notices of such a hunt: how far it came, and then the least leak of the seeds that were looked at
+-- all notices of such a hunt: how far it got, and then the least leak of the seeds that were looked at
 abbrev pub SearchNotices : Strategy → Job → (may_stop : Bool) → (a b c : ℕ) → Option (ℕ × Report) → List Notice → Type 0
 SearchNotices w j may_stop a b c x ns =
     (blocks : List Notice) × (l : Option (ℕ × ℕ)) × Searches may_stop a b c x blocks × FirstLeaking w j a (looked_to c x) l × (ns ≡ blocks ++ leak_notice l)
@@ -69,13 +69,13 @@ SearchNotices w j may_stop a b c x ns =
 abbrev pub HasFailures : Strategy → Job → (a c failures : ℕ) → Type 0
 HasFailures w j a c n = (rows : List Row) × Tallies w j a c rows × (n ≡ failures_in rows)
 
--- all notices of a hunt for each outcome: how far it came, and then the least leak
+-- all notices of a hunt for each outcome: how far it got, and then the least leak
 abbrev pub TallyNotices : Strategy → Job → (may_stop : Bool) → (a b c : ℕ) → List Notice → Type 0
 TallyNotices w j may_stop a b c ns =
     (blocks : List Notice) × (l : Option (ℕ × ℕ)) × Ends (HasFailures w j a) may_stop a b c blocks × FirstLeaking w j a c l × (ns ≡ blocks ++ leak_notice l)
 
 -- ---- cut off
 
--- the notices of a hunt that memory cut off: how far it came
+-- the notices of a hunt that memory cut off: how far it got
 abbrev pub CutNotices : (has : (c failures : ℕ) → Type 0) → (may_stop : Bool) → (a b : ℕ) → List Notice → Type 0
 CutNotices has may_stop a b ns = (c : ℕ) × GoesOn has may_stop a b c ns

@@ -44,7 +44,7 @@ is_like x y = same_verdict x.verdict y.verdict && same_outcome x.outcome y.outco
 abbrev pub more_often : Row → (times : ℕ) → Row
 more_often x n = record x { count = x.count + n }
 
--- the rows, with what one more counts: it is added to the row of its outcome, or stands after them all
+-- the rows, with what one more counts: it is added to the row of its outcome, or is after them all
 abbrev pub with_row : List Row → Row → List Row
 with_row [] y = y ∷ []
 with_row (x ∷ xs) y = if is_like x y then more_often x y.count ∷ xs else x ∷ with_row xs y

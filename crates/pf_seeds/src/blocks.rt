@@ -49,7 +49,7 @@ fn stops(may_stop: bool, pace: Pace) -> bool
     }
 }
 
-/// Tells an observer of a leak, if there is one.
+/// Reports a leak to an observer, if there is one.
 fn tell_leak<O: HuntObserver>(leak: Option<Leak>, observer: &mut O)
     ensures { Hears O.Heard observer.old (leak_notice (option_map leak_of leak)) observer.new }
 {
@@ -104,8 +104,8 @@ fn search_blocks<R: Threads + Sync, O: HuntObserver>(
 }
 
 /// The least seed from a first to before an end whose run fails, by the given number of workers, and the least of those up to it whose
-/// root returned while processes still waited, of which the observer is told. It is told, too, how far the hunt came; if the hunt may
-/// stop, it does so once the observer says it, and what is known is told.
+/// root returned while processes still waited, which the observer receives. It receives, too, how far the hunt got; if the hunt may
+/// stop, it does so once the observer says it, and what is known is returned.
 pub fn first_failing<R: Threads + Sync, O: HuntObserver>(
     rt: &R,
     alloc: Global,
@@ -174,7 +174,7 @@ fn tally_blocks<R: Threads + Sync, O: HuntObserver>(
 }
 
 /// The rows of the runs by the seeds from a first to before an end, by the given number of workers, and the least of these whose root
-/// returned while processes still waited, of which the observer is told. It is told, too, how far the hunt came; if the hunt may stop, it
+/// returned while processes still waited, which the observer receives. It receives, too, how far the hunt got; if the hunt may stop, it
 /// does so once the observer says it, and the rows are those of the seeds that were run.
 pub fn tally_all<R: Threads + Sync, O: HuntObserver>(
     rt: &R,

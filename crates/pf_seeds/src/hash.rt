@@ -1,4 +1,4 @@
-//! Outcomes with their hashes, by which they are told apart before they are compared.
+//! Outcomes with their hashes, by which they are distinguished before they are compared.
 
 ghost use Rattle.std.specs.Prelude.{◌≡◌};
 ghost use Rattle.pf_terms.specs.Term.{elements_of, value_of, values_of};

@@ -27,7 +27,7 @@ pub(crate) fn leak_at(seed: u64, processes: u32) -> Option<Leak>
     }
 }
 
-/// What is known of the seeds of two parts, of which the second is behind the first.
+/// What is known of the seeds of two parts, of which the second comes after the first.
 pub(crate) fn earlier(first: Option<Leak>, second: Option<Leak>) -> Option<Leak>
     ensures { (w : Strategy) (j : Job) (a c b : ℕ) → a ≤ c → c ≤ b
         → FirstLeaking w j a c (option_map leak_of first) → FirstLeaking w j c b (option_map leak_of second)

@@ -1,4 +1,4 @@
-//! The job of a hunt over modules of their own, one for each worker behind the first.
+//! The job of a hunt over modules of their own, one for each worker after the first.
 
 ghost use Rattle.std.specs.Prelude.{◌≡◌, All, IfOk, IfSome};
 
@@ -32,7 +32,7 @@ fn other(
     }
 }
 
-/// The job that a request of a module comes to, once more for each worker behind the first, at most 63, over a module of its own.
+/// The job that a request of a module results in, once more for each worker after the first, at most 63, over a module of its own.
 pub fn other_jobs(
     alloc: Global,
     job: &Job,

@@ -1,4 +1,4 @@
-//! Numbers in a list, and where each stands.
+//! Numbers in a list, and where each occurs.
 
 ghost use Rattle.std.specs.Prelude.{◌≡◌, ◌<◌, ◌++◌, ◌∷◌, [], ℕ, Some, length, slice_get, OnErr, OnOk};
 ghost use Rattle.pf_seeds.specs.Places.{IsLastBefore};
@@ -8,7 +8,7 @@ use std::alloc::Global;
 use std::collections::HashMap;
 use std::marker::Model;
 
-/// A number, and where it stands last before.
+/// A number, and where it occurs last before.
 #[derive(Drop)]
 struct Place {
     number: u64,
@@ -45,14 +45,14 @@ impl Places {
         }
     }
 
-    /// Where a number stands last.
+    /// Where a number occurs last.
     pub fn last(&self, number: u64) -> Option<usize>
         ensures { IsLastBefore self.now number (length self.now) result }
     {
         self.lasts.get(&number).copied()
     }
 
-    /// Where the number at an index stands last before it.
+    /// Where the number at an index occurs last before it.
     pub fn before(&self, index: usize) -> Option<usize>
         requires { index < length self.now }
         ensures { (n : ℕ) → slice_get self.now index ≡ Some n → IsLastBefore self.now n index result }
@@ -60,7 +60,7 @@ impl Places {
         self.places[index].before
     }
 
-    /// Puts a number behind the others.
+    /// Puts a number after the others.
     pub fn push(&mut self, number: u64) -> Result<(), NoMemory>
         ensures pushed { OnOk result (self.new ≡ self.old ++ number ∷ []) }
         ensures refused { OnErr result (self.new ≡ self.old) }

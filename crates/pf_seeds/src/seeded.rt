@@ -21,7 +21,7 @@ use std::alloc::Global;
 #[derive(Drop)]
 pub struct Hunt {
     pub job: Job,
-    /// The same job over modules of their own: one for each worker behind the first, so that no two workers count the holders of one
+    /// The same job over modules of their own: one for each worker after the first, so that no two workers count the holders of one
     /// module. Where there are fewer, the others share that of the first.
     pub others: Vec<Job>,
     pub strategy: Strategy,
@@ -58,7 +58,7 @@ fn run_by_words(
     report_of_run(alloc, &job.by_seed(seed)?, scratch)
 }
 
-/// What is told of that report but for its events.
+/// What that report says but for its events.
 fn judged_by_words(
     alloc: Global,
     job: &Job,
@@ -70,7 +70,7 @@ fn judged_by_words(
     judged_run(alloc, &job.by_seed(seed)?, scratch)
 }
 
-/// The report that the job of a hunt means by a seed, in place of the job's own choices. What stands in the scratch makes no difference.
+/// The report that the job of a hunt means by a seed, in place of the job's own choices. What is in the scratch makes no difference.
 pub fn run_by_seed(
     alloc: Global,
     hunt: &Hunt,

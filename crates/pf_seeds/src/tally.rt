@@ -8,7 +8,7 @@ use crate::row::Row;
 use pf_terms::NoMemory;
 use std::alloc::Global;
 
-/// A row for each outcome that was met, in the order of the least seeds, with where the rows of each hash stand.
+/// A row for each outcome that was met, in the order of the least seeds, with where the rows of each hash are.
 #[derive(Drop)]
 pub struct Tally {
     pub rows: Vec<Row>,
@@ -53,7 +53,7 @@ impl Tally {
         first
     }
 
-    /// Puts a row behind the others.
+    /// Puts a row after the others.
     fn push(&mut self, row: Row) -> Result<(), NoMemory>
         ensures { OnOk result (self.new.rows.items ≡ self.old.rows.items ++ row ∷ []) }
     {

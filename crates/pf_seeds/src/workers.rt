@@ -1,4 +1,4 @@
-//! Seeds that are shared out among workers, each in a thread of its own. What they come to is what one worker comes to.
+//! Seeds that are shared out among workers, each in a thread of its own. Their result is that of one worker.
 
 ghost use Rattle.std.specs.Prelude.{◌≤◌, ◌<◌, ℕ, IfOk};
 ghost use denote.Param.Send.{IsSync};
@@ -52,7 +52,7 @@ fn edge(from: u64, end: u64, first: u64, workers: u64) -> u64
     from + part.min(count)
 }
 
-/// What is known of the seeds to before an end, by those of a part in front and, where none of them fails, by those behind it.
+/// What is known of the seeds to before an end, by those of a first part and, where none of them fails, by those after it.
 fn both_parts(
     front: Searched,
     back: Result<Searched, NoMemory>,

@@ -1,4 +1,4 @@
--- Schedules with one number at another position, and the candidates at and behind a position.
+-- Schedules with one number at another position, and the candidates at and after a position.
 use Rattle.std.proofs.Common.{◌≡◌, ℕ, zero, suc, ◌+◌, ◌-◌, ◌/◌, ◌<◌, ◌≤◌, List, [], ◌∷◌, ◌++◌, length, take, drop, refl, sym, ap, ◌∙◌, arith, slice_set, get_or}
 use Rattle.std.specs.List.{slice_rotate_right, swap}
 use Rattle.std.proofs.lemmas.List.{drop_more, drop_all, length-set, get_or-set_same, take-set, get_or_push, take_at, length_push}
@@ -63,7 +63,7 @@ without_last_is (suc l) (n ∷ m ∷ ns) e = ap (behind n) (without_last_is l (m
 pub candidates_are : (l : ℕ) (ns : List ℕ) → length ns ≡ suc l → candidates ns ≡ take l ns ∷ (without_one ns ++ halved ns)
 candidates_are l ns e = ap (λ cs. cs ++ without_one ns ++ halved ns) (without_last_is l ns e)
 
--- without the number that stands last
+-- without the number at the end
 pub without_moved : (i l : ℕ) (ns : List ℕ) → length ns ≡ suc l → i < l
     → from_position without_one i (with_last_at i ns) ≡ take l ns ∷ from_position without_one (suc i) (with_last_at i ns)
 without_moved i zero ns e h = absurd (omega arith)

@@ -1,4 +1,4 @@
--- Rounds by how they are kept: which candidate is next, and what is left behind it.
+-- Rounds by how they are kept: which candidate is next, and what is left after it.
 use Rattle.std.proofs.Common.{◌≡◌, ◌⊎◌, inl, inr, ℕ, suc, ◌+◌, ◌-◌, ◌/◌, ◌<◌, ◌≤◌, List, [], ◌∷◌, ◌++◌, Some, length, take, drop, refl, sym, ap, subst, ◌∙◌, arith, slice_set, get_or}
 use Rattle.std.specs.List.{swap}
 use Rattle.std.proofs.lemmas.List.{length-set, get_or-set_same, set-set, set-get_or}

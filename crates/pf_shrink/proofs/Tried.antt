@@ -1,4 +1,4 @@
--- The schedules that a hunt gives, told truly, are those that are tried, in their order.
+-- The schedules that a hunt gives, answered truly, are those that are tried, in their order.
 use Rattle.std.proofs.Common.{◌≡◌, ◌≤◌, ◌<◌, ◌-◌, ℕ, zero, suc, Bool, true, false, List, [], ◌∷◌, Some, None, length, refl, sym, ap, ◌∙◌, arith, if◌then◌else◌}
 use Rattle.std.specs.Prelude.{◌↔◌}
 use Rattle.pf_model.specs.Shrinking.{candidates}

@@ -25,7 +25,7 @@ enum Phase {
 }
 
 /// The search for a small schedule that fails, within n runs. It runs nothing: it gives the schedule
-/// that is to be run next, and is told whether it fails.
+/// that is to be run next, and is answered whether it fails.
 #[derive(Drop)]
 pub struct Hunt {
     round: Round,

@@ -13,7 +13,7 @@ use std::marker::Model;
 enum Position {
     /// By nothing. Next is the schedule without its last number.
     WithoutLast,
-    /// The number of this position stands last. Next are the numbers before it.
+    /// The number of this position is at the end. Next are the numbers before it.
     Without(usize),
     /// The number of this position is halved, and was this one. Next are the numbers as they are kept.
     Halved(usize, u32),
@@ -143,7 +143,7 @@ fn following(numbers: &mut [u32], position: Position) -> Position
     }
 }
 
-// Halves the first number above 0 at or behind this position of a schedule.
+// Halves the first number above 0 at or after this position of a schedule.
 fn halved_from(numbers: &mut [u32], start: usize) -> Position
     requires { start ≤ length numbers.old }
     ensures kept { IsValid numbers.new result }

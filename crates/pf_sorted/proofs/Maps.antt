@@ -47,7 +47,7 @@ module _ {T : Type 0} where
       by true r = let q = h.0 in lower (λ e. e.0) (suc x.0) low (without b xs) (omega arith) r
       by false r = (h.0, r)
 
-  -- ---- where it stands
+  -- ---- where it is
 
   pub got_there : (b : ℕ) (xs : List (ℕ × T)) (i : ℕ) (d : ℕ × T) → IsThere (λ e. e.0) b xs i → got b xs ≡ Some (slice_index_or xs i d).1
   got_there b [] i d h = absurd h
@@ -66,7 +66,7 @@ module _ {T : Type 0} where
   without_there b low (x ∷ xs) (suc i) r h =
       let q = below_ne x.0 b h.0 in rw q (ap (λ s. x ∷ s) (without_there b (suc x.0) xs i r.1 h.1))
 
-  -- ---- where it would stand
+  -- ---- where it would be
 
   pub got_gap : (b low : ℕ) (xs : List (ℕ × T)) (i : ℕ) → Rises low xs → IsGap (λ e. e.0) b xs i → got b xs ≡ None
   got_gap b low [] i r h = refl
@@ -87,7 +87,7 @@ module _ {T : Type 0} where
   without_gap b low (x ∷ xs) (suc i) r h =
       let q = below_ne x.0 b h.0 in rw q (ap (λ s. x ∷ s) (without_gap b (suc x.0) xs i r.1 h.1))
 
-  -- ---- another value where it stands
+  -- ---- another value where it is
 
   set_value : (xs : List (ℕ × T)) (i : ℕ) (v : T) (d : ℕ × T) → slice_set xs i ((slice_index_or xs i d).0, v) ≡ with_value xs i v
   set_value [] i v d = refl
@@ -127,7 +127,7 @@ module _ {T : Type 0} where
   without_value b low v (x ∷ xs) (suc i) r h =
       let q = below_ne x.0 b h.0 in rw q (ap (λ s. x ∷ s) (without_value b (suc x.0) v xs i r.1 h.1))
 
-  -- ---- what a search tells
+  -- ---- what a search says
 
   pub told : (b : ℕ) (xs : List (ℕ × T)) (r : Result ℕ ℕ) → Rises 0 xs
       → MatchResult r (λ at. (at < length xs) × IsThere (λ e. e.0) b xs at) (λ at. (at ≤ length xs) × IsGap (λ e. e.0) b xs at)

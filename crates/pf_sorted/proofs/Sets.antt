@@ -24,7 +24,7 @@ with_front b low [] l h = refl
 with_front b low (x ∷ xs) l h =
     let k = h.0 in let q = above_ne x b (omega arith) in let p = above_is x b (omega arith) in rw (q, p) refl
 
--- ---- where it stands
+-- ---- where it is
 
 has_there : (b : ℕ) (xs : List ℕ) (i : ℕ) → IsThere (λ x. x) b xs i → has b xs ≡ true
 has_there b [] i h = absurd h
@@ -44,7 +44,7 @@ without_there b low (x ∷ xs) zero r h =
 without_there b low (x ∷ xs) (suc i) r h =
     let q = below_ne x b h.0 in rw q (ap (λ s. x ∷ s) (without_there b (suc x) xs i r.1 h.1))
 
--- ---- where it would stand
+-- ---- where it would be
 
 has_gap : (b low : ℕ) (xs : List ℕ) (i : ℕ) → Rises low xs → IsGap (λ x. x) b xs i → has b xs ≡ false
 has_gap b low [] i r h = refl
@@ -65,7 +65,7 @@ without_gap b low (x ∷ xs) zero r h =
 without_gap b low (x ∷ xs) (suc i) r h =
     let q = below_ne x b h.0 in rw q (ap (λ s. x ∷ s) (without_gap b (suc x) xs i r.1 h.1))
 
--- ---- what a search tells
+-- ---- what a search says
 
 pub told : (b : ℕ) (xs : List ℕ) (r : Result ℕ ℕ) → Rises 0 xs
     → MatchResult r (λ at. (at < length xs) × IsThere (λ x. x) b xs at) (λ at. (at ≤ length xs) × IsGap (λ x. x) b xs at)

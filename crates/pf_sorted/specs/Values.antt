@@ -1,7 +1,7 @@
 -- Values of a map at an index.
 use Rattle.std.specs.Prelude.{◌≡◌, ℕ, zero, suc, List, [], ◌∷◌}
 
--- this value stands at an index
+-- this value is at an index
 abbrev pub IsValueAt : {T : Type 0} → List (ℕ × T) → ℕ → T → Type 0
 IsValueAt [] i x = ⊥
 IsValueAt (p ∷ ps) zero x = p.1 ≡ x

@@ -49,7 +49,7 @@ impl<V> SortedMap<V> {
         self.entries.as_slice()
     }
 
-    /// Where a key stands, or else where it would stand.
+    /// Where a key is, or else where it would be.
     pub fn index_of(&self, key: u64) -> Result<usize, usize>
         ensures rises { IsRising (λ e. e.0) 0 self.now }
         ensures found { MatchResult result
@@ -99,7 +99,7 @@ impl<V: Drop> SortedMap<V> {
         }
     }
 
-    /// Puts a value at a key that isn't there, at the index at which it would stand.
+    /// Puts a value at a key that isn't there, at the index at which it would be.
     pub fn insert_at(&mut self, at: usize, key: u64, value: V) -> Result<(), NoMemory>
         requires { IsGap (λ e. e.0) key self.old at }
         ensures inserted { OnOk result (self.new ≡ put key value self.old) }
@@ -109,7 +109,7 @@ impl<V: Drop> SortedMap<V> {
         Ok(())
     }
 
-    /// Takes a key out, and gives what stood there.
+    /// Takes a key out, and returns what was there.
     pub fn remove(&mut self, key: u64) -> Option<V>
         ensures was { result ≡ got key self.old }
         ensures removed { self.new ≡ without key self.old }

@@ -40,7 +40,7 @@ impl SortedSet {
         self.items.as_slice()
     }
 
-    /// Where a number stands, or else where it would stand.
+    /// Where a number is, or else where it would be.
     fn index_of(&self, number: u32) -> Result<usize, usize>
         ensures rises { IsRising (λ x. x) 0 self.now }
         ensures found { MatchResult result
@@ -69,7 +69,7 @@ impl SortedSet {
         }
     }
 
-    /// Takes a number out, and tells whether it was there.
+    /// Takes a number out, and returns whether it was there.
     pub fn remove(&mut self, number: u32) -> bool
         ensures was { result ≡ has number self.old }
         ensures removed { self.new ≡ without_number number self.old }

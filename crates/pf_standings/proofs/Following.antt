@@ -38,7 +38,7 @@ at_mapped {A = A} f xs i y e = by (slice_get xs i) refl (sym (slice_get-map f xs
     by None h k = absurd (cc)
     by (Some x) h k = (x, h, sym (same_Some (f x) y k))
 
--- what stands at an index of a list with one element more
+-- what is at an index of a list with one element more
 pub at_pushed : {A : Type 0} (P : ℕ → A → Type 0) (xs : List A) (x : A) → ((p : ℕ) (y : A) → slice_get xs p ≡ Some y → P p y) → P (length xs) x
     → (p : ℕ) (y : A) → slice_get (xs ++ x ∷ []) p ≡ Some y → P p y
 at_pushed P [] x h k zero y e = subst (P zero) (same_Some x y e) k
@@ -46,9 +46,9 @@ at_pushed P [] x h k (suc p) y e = absurd (cc)
 at_pushed P (z ∷ xs) x h k zero y e = h zero y e
 at_pushed P (z ∷ xs) x h k (suc p) y e = at_pushed (λ q. P (suc q)) xs x (λ q. h (suc q)) k p y e
 
--- ---- where a run stands
+-- ---- where a run is
 
--- a system stands behind the first i events of a run, and it is known in whose calls the processes began that there are then
+-- a system is after the first i events of a run, and it is known in whose calls the processes began that there are then
 pub record At (k : KnownRun) (d : Configuration) (h : ComesTo k d) (i : ℕ) (s : SystemView) (fs : List Begun) : Type 0 where
   pub here : Configuration
   pub marked : Marked (code_of k) d h.picks k.limit (start k.root.0 k.edition) h.transitions h.steps i here s.steps
@@ -77,7 +77,7 @@ at_start k d h s fs e g =
       begun = subst (AreBegun k (start k.root.0 k.edition)) (sym g) (record { count = refl; pids = λ p b q. (root_began k p b q).0; each = λ p b q. (root_began k p b q).1 });
     }
 
--- behind all events it stands where the run came to
+-- after all events it is where the run leads
 pub at_last : (k : KnownRun) (d : Configuration) (h : ComesTo k d) (i : ℕ) (s : SystemView) (fs : List Begun) (a : At k d h i s fs)
     → i ≡ length h.transitions → a.here ≡ d
 at_last k d h i s fs a e = at_end (code_of k) d h.picks k.limit (start k.root.0 k.edition) h.transitions h.steps i a.here s.steps a.marked e
@@ -175,7 +175,7 @@ module _ (k : KnownRun) (d : Configuration) (h : ComesTo k d) (i : ℕ) (s : Sys
     pub none_began : begun_in l ≡ None → At k d h (suc i) s' fs
     none_began n = there fs (record { count = a.begun.count ∙ sym (count ∙ ap (λ o. as_many o (length a.here.core.processes)) n); pids = a.begun.pids; each = a.begun.each })
 
-    -- where one began, of which it is told in whose call
+    -- where one began, in the call that is given
     pub one_began : (pid : ℕ) (f : Option FunctionId) → begun_in l ≡ Some pid → IsCalled s'.checked (of after.core pid).state f
         → At k d h (suc i) s' (fs ++ record { pid = pid; function = f } ∷ [])
     one_began pid f n calls =
@@ -205,7 +205,7 @@ module _ (k : KnownRun) (d : Configuration) (h : ComesTo k d) (i : ℕ) (s : Sys
               calls = subst (λ z. IsCalled (checked_of k) (of after.core z).state f) its_pid (subst (λ z. IsCalled z (of after.core pid).state f) its_module calls);
             })
 
--- the function that is called where a process stands
+-- the function that is called where a process is
 pub called_of : (m : Checked) (s : State) (x : Point) (o : Option FunctionId) → MatchOption o (IsNoCall x) (λ f. x ≡ point.Calls f) → StandsAt m s x → IsCalled m s o
 called_of m s x None h at = inr (x, at, h)
 called_of m s x (Some f) h at = subst (StandsAt m s) h at

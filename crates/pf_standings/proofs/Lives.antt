@@ -1,4 +1,4 @@
--- Who lives behind an event of a run, by what it shows, and which pid a process has that begins.
+-- Who lives after an event of a run, by what it shows, and which pid a process has that begins.
 use Rattle.std.proofs.Common.{◌≡◌, ◌<◌, ℕ, zero, suc, Bool, true, false, not, ◌&&◌, if◌then◌else◌, nat_lt, ◌==◌, List, [], ◌∷◌, ◌++◌, length, map, slice_set, Option, Some, None, Result, Ok, Err, refl, sym, ap, ◌∙◌, subst, arith}
 use Rattle.std.specs.Prelude.{IfSome, is_some, slice_get}
 use Rattle.std.proofs.lemmas.List.{length-map}
@@ -42,7 +42,7 @@ abbrev pub and_one : Option ℕ → List Bool → List Bool
 and_one None bs = bs
 and_one (Some p) bs = bs ++ true ∷ []
 
--- who lives behind what an actor shows, if these did before
+-- who lives after what an actor shows, if these did before
 abbrev pub behind : Actor → Label → List Bool → List Bool
 behind x l bs = and_one (begun_in l) (without (who_ends x l) bs)
 
@@ -123,7 +123,7 @@ module _ (c : Core) (a : ℕ) (here : lives (of c a) ≡ true) where
   on : (p : Process) → Alike p → lives (of (with_process c a p) a) ≡ true
   on p e = lives_on c a p here (alike_lives p e)
 
-  -- a process more, behind a process with other ties
+  -- a process more, after a process with other ties
   more_here : (p q : Process) → Alike p → lives (process_at a (slice_set c.processes a p ++ q ∷ [])) ≡ true
   more_here p q e =
       ap lives (at_more (slice_set c.processes a p) a q (in_range (slice_set c.processes a p) a (on p e))) ∙ on p e
@@ -162,7 +162,7 @@ module _ (c : Core) (a : ℕ) (here : lives (of c a) ≡ true) where
   demonitored_steady r None = record { here = here; shows = refl; next = tt }
   demonitored_steady r (Some p) = record { here = on _ refl; shows = same_lives _ refl; next = tt }
 
-  -- a flush behind an action of which nothing began or ended
+  -- a flush after an action of which nothing began or ended
   flushed_steady : (r : ℕ) (x : Acted) → lives (of x.left.core a) ≡ true → lives_in x.left.core ≡ lives_in c → Steady c a (and_flushed a r x)
   flushed_steady r x h e = record {
     here = lives_on x.left.core a _ h h;
@@ -205,7 +205,7 @@ module _ (c : Core) (a : ℕ) (here : lives (of c a) ≡ true) where
 
 -- ---- turns
 
--- a deed shows who lives behind it
+-- a deed shows who lives after it
 record Shows (x : Actor) (c : Core) (d : Deed) : Type 0 where
   shows : lives_in d.left.core ≡ behind x d.label (lives_in c)
   next : IsNext d.label (length c.processes)
@@ -343,7 +343,7 @@ delivered_shows c a b s = by (is_alive (of c b).state) refl
 
 -- ---- transitions
 
--- who lives behind a transition is shown
+-- who lives after a transition is shown
 pub pass_lives : (m : Module) (n : ℕ) (c : Configuration) (x : Actor) (p : Passed) → Passes m n c x p
     → lives_in p.after.core ≡ behind x p.label (lives_in c.core)
 pass_lives m n c _ _ (turn a k d t) =
@@ -358,7 +358,7 @@ pass_begins m n c _ _ (delivery a b s cs e) = (delivered_shows c.core a b s).nex
 
 -- ---- what an event shows of who lives
 
--- where one is told of this pid, it lives
+-- if there is one with this pid, it lives
 abbrev pub Spared : ℕ → List Bool → Type 0
 Spared q bs = (b : Bool) → slice_get bs q ≡ Some b → b ≡ true
 
@@ -383,7 +383,7 @@ spared_and_one : (q : ℕ) (o : Option ℕ) (bs : List Bool) → Spared q bs →
 spared_and_one q None bs h = h
 spared_and_one q (Some p) bs h = spared_more q bs h
 
--- whom an event doesn't end goes on to live
+-- a process that an event doesn't end lives on
 pub spared_behind : (q : ℕ) (x : Actor) (l : Label) (bs : List Bool) → (who_ends x l ≡ Some q → ⊥) → Spared q bs → Spared q (behind x l bs)
 spared_behind q x l bs n h = spared_and_one q (begun_in l) (without (who_ends x l) bs) (spared_without q (who_ends x l) bs n h)
 
@@ -404,7 +404,7 @@ length_and_one (Some p) bs = more_length bs true
 length_behind : (x : Actor) (l : Label) (bs : List Bool) → length (behind x l bs) ≡ as_many (begun_in l) (length bs)
 length_behind x l bs = length_and_one (begun_in l) (without (who_ends x l) bs) ∙ ap (as_many (begun_in l)) (length_without (who_ends x l) bs)
 
--- there is one process more behind a transition that begins one, and as many behind all others
+-- there is one process more after a transition that begins one, and as many after all others
 pub pass_count : (m : Module) (n : ℕ) (c : Configuration) (x : Actor) (p : Passed) → Passes m n c x p
     → length p.after.core.processes ≡ as_many (begun_in p.label) (length c.core.processes)
 pass_count m n c x p h =

@@ -6,14 +6,14 @@ use Rattle.pf_model.specs.Configuration.{Configuration}
 use Rattle.pf_model.specs.Module.{Module}
 use Rattle.pf_model.specs.Runs.{Actor, Goes, stays, more, Passed, Passes, Picks, Transition, transition, enabled, first_pick, later}
 
--- Marked m d ps n c ts k i e j: a run from c, with n steps left, by ts in k steps to d; behind i transitions, in j steps, it came to e
+-- Marked m d ps n c ts k i e j: a run from c, with n steps left, by ts in k steps to d; after i transitions, in j steps, it was at e
 pub data Marked (m : Module) (d : Configuration) : Picks → ℕ → Configuration → List Transition → ℕ → ℕ → Configuration → ℕ → Type 0 where
   here : (ps : Picks) (n : ℕ) (c : Configuration) (ts : List Transition) (k : ℕ) → Goes m ps n c ts d k → Marked m d ps n c ts k zero c zero
   further : (ps : Picks) (n : ℕ) (c : Configuration) (x : Actor) (p : Passed) (ts : List Transition) (k i : ℕ) (e : Configuration) (j : ℕ)
       → slice_get (enabled c) (first_pick ps c) ≡ Some x → Passes m (suc n) c x p → Marked m d (later ps) (suc n - p.used) p.after ts k i e j
       → Marked m d ps (suc n) c (transition (first_pick ps c) (enabled c) x p ∷ ts) (p.used + k) (suc i) e (p.used + j)
 
--- the transition behind the mark: its actor is the one that its choice is among those that may go, and it passes so
+-- the transition after the mark: its actor is the one that its choice is among those that may go, and it passes so
 pub record Behind (m : Module) (d : Configuration) (ps : Picks) (n : ℕ) (c : Configuration) (ts : List Transition) (k i : ℕ) (e : Configuration) (j : ℕ) (t : Transition) : Type 0 where
   pub passed : Passed
   pub left : j < n
@@ -48,7 +48,7 @@ first m _ _ _ _ _ _ (more ps n c x p ts d k chosen pass rest) t e =
       next = subst (Marked m d ps (suc n) c (u ∷ ts) (p.used + k) 1 p.after) steps goes;
     })
 
--- the mark may go on behind the transition of its number
+-- the mark may go on past the transition of its number
 pub behind : (m : Module) (d : Configuration) (ps : Picks) (n : ℕ) (c : Configuration) (ts : List Transition) (k i : ℕ) (e : Configuration) (j : ℕ)
     → Marked m d ps n c ts k i e j → (t : Transition) → slice_get ts i ≡ Some t → Behind m d ps n c ts k i e j t
 behind m d _ _ _ _ _ _ _ _ (here ps n c ts k g) t h = first m d ps n c ts k g t h
@@ -75,7 +75,7 @@ ends_here : (m : Module) (ps : Picks) (n : ℕ) (c : Configuration) (ts : List T
 ends_here m _ _ _ _ _ _ (stays ps n c) h = refl
 ends_here m _ _ _ _ _ _ (more ps n c x p ts d k chosen pass rest) h = absurd (omega arith)
 
--- behind all transitions the run is where it came to
+-- after all transitions the run is where it leads
 pub at_end : (m : Module) (d : Configuration) (ps : Picks) (n : ℕ) (c : Configuration) (ts : List Transition) (k i : ℕ) (e : Configuration) (j : ℕ)
     → Marked m d ps n c ts k i e j → i ≡ length ts → e ≡ d
 at_end m d _ _ _ _ _ _ _ _ (here ps n c ts k g) h = ends_here m ps n c ts d k g (sym h)

@@ -39,7 +39,7 @@ note_stays fs f q n (i, g, at, pid, event) = (i, g, stays_at fs f g i at, pid, e
 point_stays : (fs : List Failure) (f : Failure) (q n : ℕ) (o : Option Point) → HasPoint fs q n o → HasPoint (fs ++ f ∷ []) q n o
 point_stays fs f q n o (i, g, at, pid, event, point) = (i, g, stays_at fs f g i at, pid, event, point)
 
--- a note is the last or one in front of it
+-- a note is the last or one before it
 shifted : (h : Failure) (fs : List Failure) (f : Failure) (q n : ℕ) → HasNote fs q n ⊎ ((f.pid ≡ q) × (f.event ≡ n))
     → HasNote (h ∷ fs) q n ⊎ ((f.pid ≡ q) × (f.event ≡ n))
 shifted h fs f q n (inl (i, g, at, pid, event)) = inl (suc i, g, at, pid, event)
@@ -97,7 +97,7 @@ module _ (es : List Event) (n : ℕ) (e : Event) (at : slice_get es n ≡ Some e
   abbrev Here : Type 0
   Here = (q : ℕ) → EndsSo q end.Failed e → HasNote b.failed.items q n
 
-  -- each note in front stays
+  -- each earlier note stays
   abbrev Stay : Type 0
   Stay = (q i : ℕ) → HasNote a.failed.items q i → HasNote b.failed.items q i
 

@@ -30,7 +30,7 @@ root_spared : (q : ℕ) → Spared q (true ∷ [])
 root_spared zero b e = sym (same_Some true b e)
 root_spared (suc q) b e = absurd (cc)
 
--- whom no transition ends lives
+-- a process that no transition ends lives
 pub lives_on : (m : Module) (ps : Picks) (n root edition : ℕ) (ts : List Transition) (d : Configuration) (k : ℕ) → Goes m ps n (start root edition) ts d k
     → (q : ℕ) → NoneEnds q ts → q < length d.core.processes → is_alive (of d.core q).state ≡ true
 lives_on m ps n root edition ts d k g q none l =

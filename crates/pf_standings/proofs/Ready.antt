@@ -51,7 +51,7 @@ or_waits (waiting t) h e = refl
 or_waits (ending r) h e = absurd (cc)
 or_waits (ended x) h e = absurd (cc)
 
--- where a process that lives stands
+-- where a process that lives is
 pub stands_there : (P : Point → Type 0) (s : State) (o : Option Point) → is_alive s ≡ true → MatchOption o (is_alive s ≡ false) P → P (unwrap_or o p.Nowhere)
 stands_there P s None h e = let never : true ≡ false = sym h ∙ e in absurd (cc)
 stands_there P s (Some x) h e = e

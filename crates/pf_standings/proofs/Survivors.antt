@@ -1,4 +1,4 @@
--- Standings of those that live.
+-- Statuses of those that live.
 use Rattle.std.proofs.Common.{◌≡◌, ◌⊎◌, ◌<◌, inl, inr, ℕ, suc, true, List, [], ◌∷◌, ◌++◌, Some, Result, Ok, Err, length, sym, ap, ◌∙◌, subst, arith}
 use Rattle.std.specs.Prelude.{IfOk, get_or, option_map, slice_get}
 use Rattle.std.proofs.lemmas.Option.{slice_get-get_or, slice_get-map, slice_get_within}
@@ -30,7 +30,7 @@ if_ok (Err e) h p = p
 pub item_at : {X : Type 0} (xs ys : List X) (i : ℕ) (d : X) → xs ≡ ys → i < length xs → slice_get ys i ≡ Some (get_or xs i d)
 item_at xs ys i d e l = ap (λ zs. slice_get zs i) (sym e) ∙ slice_get-get_or xs i d l
 
--- one more stands
+-- one process more has its status
 pub one_more : (m : Checked) (c : Configuration) (fs : List Begun) (i : ℕ) (b : Begun) (xs : List Standing) (x : Standing)
     → AreByPid fs → AreStanding m c fs i xs → slice_get fs i ≡ Some b → x.pid ≡ b.pid → x.begun ≡ b.function → (is_alive (of c.core b.pid).state ≡ true → LivesSo m (of c.core b.pid).state x.fate)
     → AreStanding m c fs (suc i) (xs ++ x ∷ [])
@@ -45,7 +45,7 @@ one_more m c fs i b xs x pids h is pid same lives =
           (subst (λ p. is_alive (of c.core p).state ≡ true → LivesSo m (of c.core p).state x.fate) (pids i b is ∙ sym h.count) lives);
     }
 
--- behind the last event
+-- after the last event
 pub at_end : (k : KnownRun) (d : Configuration) (f : Followed) (xs : List Standing) → IsFollowed k d f
     → AreStanding f.system.checked d f.begun.items (length f.begun.items) xs → AreAtEnd k d xs
 at_end k d f xs g h =
@@ -85,7 +85,7 @@ module _ (k : KnownRun) (d : Configuration) (h : ComesTo k d) where
       ap (λ es. slice_get es i) h.events ∙ slice_get-map meaning.event_of h.transitions i ∙ ap (option_map meaning.event_of) at in
       none i (meaning.event_of t) (slice_get_within (events_of k) i (meaning.event_of t) there) there
 
-  -- whom no event ended lives, and all others ended
+  -- a process that no event ended lives, and all others ended
   pub stand : (xs ys zs : List Standing) → AreAtEnd k d xs → TellEnds (events_of k) (length (events_of k)) xs ys → ArePlaced ys zs → AreStandings k d zs
   stand xs ys zs a t b = record {
     count = b.count ∙ t.count ∙ a.count;

@@ -1,4 +1,4 @@
--- How the processes of a run stand behind its last event.
+-- The status of each process of a run after its last event.
 use Rattle.std.specs.Prelude.{◌≡◌, ◌⊎◌, if◌then◌else◌, ℕ, zero, suc, Bool, true, false, List, Option, Some, None, length, slice_get, take}
 use Rattle.pf_terms.specs.Value.{Value}
 use Rattle.pf_terms.specs.Fixed.{normal}
@@ -65,7 +65,7 @@ HasEnded es p (fate.Goes x) = ⊥
 
 -- ---- processes that live
 
--- a process in this state stands at this point, in the tables of its module
+-- a process in this state is at this point, in the tables of its module
 abbrev pub StandsAt : Checked → State → Point → Type 0
 StandsAt m s x = IsPointOf m.tables (woken s) x
 
@@ -89,12 +89,12 @@ abbrev pub IsNoCall : Point → Type 0
 IsNoCall (point.Calls f) = ⊥
 IsNoCall x = Unit {0}
 
--- a process in this state stands at the call of this function; or it has ended, or stands at a point that is no call
+-- a process in this state is at the call of this function; or it has ended, or is at a point that is no call
 abbrev pub IsCalled : Checked → State → Option FunctionId → Type 0
 IsCalled m s (Some f) = IsCalling (woken s) f
 IsCalled m s None = (is_alive s ≡ false) ⊎ ((x : Point) × StandsAt m s x × IsNoCall x)
 
--- behind the event that began a process it stands at the call of this function, or at none
+-- after the event that began a process it is at the call of this function, or at none
 pub record BeganBy (k : KnownRun) (p : ℕ) (f : Option FunctionId) : Type 0 where
   pub number : ℕ
   pub event : Event
@@ -110,7 +110,7 @@ Began k p f = ((p ≡ zero) × (f ≡ Some k.root)) ⊎ BeganBy k p f
 
 -- ---- all processes
 
--- the processes of a run that came to this configuration, by pid: in whose call each began, and how it ended or lives
+-- the processes of a run that led to this configuration, by pid: in whose call each began, and how it ended or lives
 pub record AreStandings (k : KnownRun) (d : Configuration) (xs : List Standing) : Type 0 where
   pub count : length xs ≡ length d.core.processes
   pub pids : (p : ℕ) (x : Standing) → slice_get xs p ≡ Some x → x.pid ≡ p

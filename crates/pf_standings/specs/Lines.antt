@@ -44,7 +44,7 @@ place_text m (Some x) = codes " in " ++ (function_text m x.function.0 ++ line_te
 
 -- ---- points
 
--- the node at which a process stands: the innermost of this one, of whose parts none is done, or those up to one are
+-- the node at which a process is: the innermost of this one, of whose parts none is done, or those up to one are
 abbrev pub IsNodeAt : Checked → Point → Option NodeId → Type 0
 IsNodeAt m (p.Before n) None = ⊥
 IsNodeAt m (p.Before n) (Some x) = StandsAt (tree_at m.tables n.0) 0 (tree_at m.tables x.0)
@@ -76,7 +76,7 @@ abbrev pub call_text : Checked → Option ℕ → List ℕ
 call_text m None = []
 call_text m (Some f) = codes ", at the call of " ++ function_text m f
 
--- where a process stands, as far as that is known
+-- where a process is, as much of it as is known
 abbrev pub IsPointText : Checked → List (Option Place) → Point → List ℕ → Type 0
 IsPointText m places x text =
     (node : Option NodeId) × IsNodeAt m x node × (text ≡ place_text m (place_of places node) ++ call_text m (called m x node))
@@ -99,7 +99,7 @@ or_nowhere (Some x) = x
 abbrev pub IsBefore : List ℕ → (List ℕ → Type 0) → List ℕ → Type 0
 IsBefore front so text = (back : List ℕ) × so back × (text ≡ front ++ back)
 
--- how a process stands
+-- the status of a process
 abbrev pub IsFateText : KnownRun → List (Option Place) → Fate → List ℕ → Type 0
 IsFateText k places fate.Normal text = text ≡ codes " ended normally"
 IsFateText k places (fate.Failed n x) text =
@@ -115,7 +115,7 @@ abbrev pub begun_text : Checked → Option FunctionId → List ℕ
 begun_text m None = []
 begun_text m (Some f) = codes " " ++ function_text m f.0
 
--- a process: its pid, in whose call it began, and how it stands
+-- a process: its pid, in whose call it began, and its status
 abbrev pub IsLine : KnownRun → List (Option Place) → Standing → List ℕ → Type 0
 IsLine k places x text =
     IsBefore (pid_text x.pid ++ begun_text k.module.now.value x.begun) (IsFateText k places x.fate) text
@@ -126,10 +126,10 @@ abbrev pub name_text : Checked → Option FunctionId → List ℕ
 name_text m None = []
 name_text m (Some f) = function_text m f.0
 
--- by pid the names of the functions in whose calls the processes began, an empty one where none is told
+-- by pid the names of the functions in whose calls the processes began, an empty one where none is given
 abbrev pub AreNames : KnownRun → Configuration → List (List ℕ) → Type 0
 AreNames k d names = (bs : List Begun) × AreBegun k d bs × (names ≡ map (λ b. name_text k.module.now.value b.function) bs)
 
--- a text that is so was put behind others
+-- a text that is so was put after others
 abbrev pub Puts : (old new : List ℕ) → (so : List ℕ → Type 0) → Type 0
 Puts old new so = (text : List ℕ) × so text × (new ≡ old ++ text)

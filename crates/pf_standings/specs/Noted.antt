@@ -45,7 +45,7 @@ failed_from raised q o = o
 abbrev pub failure : (pid event : ℕ) → Option Point → Failure
 failure q n at = record { pid = q; event = n; point = at }
 
--- an event of this number was made, whose last step stood here: an action that raised is noted, or else a failure
+-- an event of this number was made, whose last step was here: an action that raised is noted, or else a failure
 abbrev pub IsNoted : (number : ℕ) → (raising failing : Option ℕ) → (at : Option Point) → (old new : Notes) → Type 0
 IsNoted n (Some q) o at a b = (b.failed.items ≡ a.failed.items) × (b.raised.items ≡ a.raised.items ++ failure q n at ∷ [])
 IsNoted n None (Some q) at a b = (b.failed.items ≡ a.failed.items ++ failure q n (failed_from a.raised.items q at) ∷ []) × (b.raised.items ≡ a.raised.items)
@@ -72,18 +72,18 @@ HasPoint fs q n at = (i : ℕ) × (f : Failure) × (slice_get fs i ≡ Some f) �
 abbrev pub AreNoted : List Event → (n : ℕ) → List Failure → Type 0
 AreNoted es n fs = (q i : ℕ) → i < n → EndsAt es q end.Failed i → HasNote fs q i
 
--- the point of a note goes to the process that is told to have failed in its event, and else nothing changes
+-- the point of a note goes to the process that failed in its event by its status, and else nothing changes
 abbrev pub PutsPoint : Failure → (old new : List Standing) → Type 0
 PutsPoint f xs ys =
     ((failed_at (slice_get xs f.pid) ≡ Some f.event) × IsPut f.pid (fate.Failed f.event f.point) xs ys)
     ⊎ ((failed_at (slice_get xs f.pid) ≡ Some f.event → ⊥) × (ys ≡ xs))
 
--- each process that is told to have failed in an event of which there is a note is told the point of such a note
+-- each process that failed by its status in an event of which there is a note has the point of such a note
 abbrev pub TakePoints : List Failure → List Standing → Type 0
 TakePoints fs xs =
     (q : ℕ) (x : Standing) (n : ℕ) (at : Option Point) → slice_get xs q ≡ Some x → x.fate ≡ fate.Failed n at → HasNote fs q n → HasPoint fs q n at
 
--- the processes that failed in these events are told the places that were noted as the events were made, of each failure one
+-- the processes that failed in these events have the places that were noted as the events were made, of each failure one
 pub record TellPoints (es : List Event) (xs : List Standing) : Type 0 where
   pub notes : Notes
   pub made : AreMade es (length es) notes

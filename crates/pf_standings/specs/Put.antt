@@ -1,4 +1,4 @@
--- Standings as they are put together.
+-- Statuses of processes as they are put together.
 use Rattle.std.specs.Prelude.{◌≡◌, ◌⊎◌, ◌<◌, ◌==◌, if◌then◌else◌, ℕ, true, List, Option, Some, None, length, slice_get}
 use Rattle.pf_syntax.specs.Module.{Checked}
 use Rattle.pf_model.specs.Configuration.{Configuration, is_alive, of}
@@ -17,18 +17,18 @@ pub record AreStanding (m : Checked) (c : Configuration) (bs : List Begun) (n : 
   pub begun : (p : ℕ) (x : Standing) → slice_get xs p ≡ Some x → (b : Begun) × (slice_get bs p ≡ Some b) × (x.pid ≡ b.pid) × (x.begun ≡ b.function)
   pub fates : (p : ℕ) (x : Standing) → slice_get xs p ≡ Some x → is_alive (of c.core p).state ≡ true → LivesSo m (of c.core p).state x.fate
 
--- the same of the run that came to a configuration
+-- the same of the run that led to a configuration
 pub record AreAtEnd (k : KnownRun) (d : Configuration) (xs : List Standing) : Type 0 where
   pub count : length xs ≡ length d.core.processes
   pub pids : (p : ℕ) (x : Standing) → slice_get xs p ≡ Some x → x.pid ≡ p
   pub begun : (p : ℕ) (x : Standing) → slice_get xs p ≡ Some x → Began k p x.begun
   pub fates : (p : ℕ) (x : Standing) → slice_get xs p ≡ Some x → is_alive (of d.core p).state ≡ true → LivesSo (checked_of k) (of d.core p).state x.fate
 
--- the standing of a process was another, of the same pid and function, and the fates are so
+-- the status of a process was another, of the same pid and function, and the fates are so
 abbrev pub IsOf : (so : Fate → Fate → Type 0) → Option Standing → Standing → Type 0
 IsOf so o y = (x : Standing) × (o ≡ Some x) × (y.pid ≡ x.pid) × (y.begun ≡ x.begun) × so x.fate y.fate
 
--- standings were these others, each of the same pid and function and with a fate that is so
+-- statuses were these others, each of the same pid and function and with a fate that is so
 pub record Are (so : ℕ → Fate → Fate → Type 0) (xs ys : List Standing) : Type 0 where
   pub count : length ys ≡ length xs
   pub each : (p : ℕ) (y : Standing) → slice_get ys p ≡ Some y → IsOf (so p) (slice_get xs p) y
@@ -41,7 +41,7 @@ IsPut p f = Are (λ q x y. y ≡ (if q == p then f else x))
 abbrev pub NoneBelow : List Event → ℕ → ℕ → Type 0
 NoneBelow es n p = (i : ℕ) (e : Event) → i < n → slice_get es i ≡ Some e → who_ends e.actor e.label ≡ Some p → ⊥
 
--- whom an event below this number ended has the fate of one that ended, and all others have the one that they had
+-- a process that an event below this number ended has the fate of one that ended, and all others have the one that they had
 abbrev pub TellEnds : List Event → ℕ → List Standing → List Standing → Type 0
 TellEnds es n = Are (λ p x y. HasEnded es p y ⊎ ((y ≡ x) × NoneBelow es n p))
 
@@ -53,7 +53,7 @@ IsAlike x y = y ≡ x
 abbrev pub ArePlaced : List Standing → List Standing → Type 0
 ArePlaced = Are (λ p x y. IsAlike x y)
 
--- the event in which a process is told to have failed
+-- the event in which a process failed, by its fate
 abbrev pub failed_in : Fate → Option ℕ
 failed_in (fate.Failed n x) = Some n
 failed_in x = None

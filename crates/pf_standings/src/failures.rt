@@ -49,7 +49,7 @@ fn last_point(
     Ok(last)
 }
 
-/// A process that failed, or whose action raised, in which event, and the point at which it stood then.
+/// A process that failed, or whose action raised, in which event, and the point at which it was then.
 #[derive(Clone, Copy, Debug, PartialEq, Eq)]
 pub(crate) struct Failure {
     pub pid: u32,
@@ -68,7 +68,7 @@ fn later(last: Option<Point>, failure: Failure, pid: u32) -> Option<Point>
     }
 }
 
-/// The point at which the last action of a process stood that raised.
+/// The point of the last action of a process that raised.
 fn last_raised(raised: &[Failure], pid: u32) -> Option<Point>
     ensures { result ≡ last_point pid raised.now }
 {
@@ -123,7 +123,7 @@ fn made(
 }
 
 impl Notes {
-    /// Notes whose action raised in an event whose last step stood here.
+    /// Notes whose action raised in an event whose last step was here.
     fn note_raise(&mut self, pid: u32, event: usize, point: Option<Point>) -> Result<(), NoMemory>
         ensures { (failing : Option ℕ) → OnOk result (IsNoted event (Some pid) failing point self.old self.new) }
     {
@@ -131,7 +131,7 @@ impl Notes {
         Ok(())
     }
 
-    /// Notes who failed in an event whose last step stood here. One that an action's raise ends stands where it asked for the action.
+    /// Notes who failed in an event whose last step was here. One that an action's raise ends is where it asked for the action.
     fn note_failure(&mut self, pid: u32, event: usize, point: Option<Point>) -> Result<(), NoMemory>
         ensures { OnOk result (IsNoted event None (Some pid) point self.old self.new) }
     {
@@ -155,7 +155,7 @@ impl Notes {
         }
     }
 
-    /// Notes an event whose last step stood here: whose action raised in it, or else who failed.
+    /// Notes an event whose last step was here: whose action raised in it, or else who failed.
     fn note(
         &mut self,
         event: usize,

@@ -57,7 +57,7 @@ pub(crate) fn go(
     }
 }
 
-/// Where a process stands; none where it has ended.
+/// Where a process is; none where it has ended.
 pub(crate) fn point_of(system: &System, pid: u32) -> Option<Point>
     ensures { (c : Configuration) → system.now.standing ≡ Some c
         → MatchOption result (is_alive (of c.core pid).state ≡ false)
@@ -77,7 +77,7 @@ fn called_at(point: Point) -> Option<FunctionId>
     }
 }
 
-/// The function in whose call a process stands that only begins.
+/// The function in whose call a process is that only begins.
 fn called(system: &System, pid: u32) -> Option<FunctionId>
     ensures { (c : Configuration) → system.now.standing ≡ Some c
         → IsCalled system.now.checked (of c.core pid).state result }
@@ -88,7 +88,7 @@ fn called(system: &System, pid: u32) -> Option<FunctionId>
     }
 }
 
-/// The process that a label tells to have begun.
+/// The process that began, by a label.
 fn begun_in(label: &Label) -> Option<u32>
     ensures { result ≡ begun_in (label_of label.now) }
 {
@@ -105,7 +105,7 @@ pub(crate) struct Begun {
     pub function: Option<FunctionId>,
 }
 
-/// A run behind its last event, and its processes, by pid.
+/// A run after its last event, and its processes, by pid.
 #[derive(Drop)]
 pub(crate) struct Followed {
     pub system: System,

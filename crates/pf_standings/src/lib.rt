@@ -1,4 +1,4 @@
-//! How the processes of a run stand at its end: in whose call each began, where it waits, and where it failed.
+//! The status of each process at the end of a run: in whose call it began, where it waits, and where it failed.
 #![tactic(auto)]
 
 mod ends;

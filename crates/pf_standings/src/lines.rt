@@ -1,4 +1,4 @@
-//! The lines that tell how processes stand.
+//! The lines that show the status of processes.
 
 ghost use Rattle.std.specs.Prelude.{◌≡◌, ◌++◌, OnOk, Some, option_map, slice_get};
 ghost use Rattle.pf_standings.specs.Known.{events_of};
@@ -43,7 +43,7 @@ pub fn put_function(
     put_number(out, u64::from(found.arity))
 }
 
-/// The node at which a process stands.
+/// The node at which a process is.
 fn node_at(module: &Module, point: Point) -> Option<NodeId>
     ensures { IsNodeAt «module».now point result }
 {
@@ -57,7 +57,7 @@ fn node_at(module: &Module, point: Point) -> Option<NodeId>
     }
 }
 
-/// The function that a process calls where it stands, at this node, if it calls one.
+/// The function that a process calls where it is, at this node, if it calls one.
 fn called_at(module: &Module, point: Point, node: Option<NodeId>) -> Option<FunctionId>
     ensures { option_map (λ f. f.0) result ≡ called «module».now point node }
 {
@@ -83,7 +83,7 @@ fn put_place(out: &mut Vec<u8>, module: &Module, place: Place) -> Result<(), NoM
     Ok(())
 }
 
-/// Puts the place of the node at which a process stands, if it has one.
+/// Puts the place of the node at which a process is, if it has one.
 fn put_node(
     out: &mut Vec<u8>,
     module: &Module,
@@ -101,7 +101,7 @@ fn put_node(
     Ok(())
 }
 
-/// Puts the function that a process calls where it stands, if it calls one.
+/// Puts the function that a process calls where it is, if it calls one.
 fn put_call(out: &mut Vec<u8>, module: &Module, called: Option<FunctionId>) -> Result<(), NoMemory>
     ensures { OnOk result (out.new.items
         ≡ out.old.items ++ call_text «module».now (option_map (λ f. f.0) called)) }
@@ -113,7 +113,7 @@ fn put_call(out: &mut Vec<u8>, module: &Module, called: Option<FunctionId>) -> R
     Ok(())
 }
 
-/// Puts where a process stands, as far as that is known.
+/// Puts what is known of where a process is.
 fn put_point(
     out: &mut Vec<u8>,
     module: &Module,
@@ -142,7 +142,7 @@ fn put_reason(out: &mut Vec<u8>, run: &KnownRun, event: usize) -> Result<(), NoM
     Ok(())
 }
 
-/// Puts how a process stands.
+/// Puts the status of a process.
 fn put_fate(out: &mut Vec<u8>, run: &KnownRun, places: &Places, fate: Fate) -> Result<(), NoMemory>
     ensures { OnOk result (Puts out.old.items out.new.items (IsFateText run.now places.now fate)) }
 {
@@ -180,7 +180,7 @@ fn put_begun(out: &mut Vec<u8>, module: &Module, begun: Option<FunctionId>) -> R
     Ok(())
 }
 
-/// Puts the line of a process, without a line end: its pid, in whose call it began, and how it stands.
+/// Puts the line of a process, without a line end: its pid, in whose call it began, and its status.
 pub fn put_standing(
     out: &mut Vec<u8>,
     run: &KnownRun,

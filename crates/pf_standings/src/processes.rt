@@ -24,7 +24,7 @@ use pf_system::System;
 use pf_terms::NoMemory;
 use std::alloc::Global;
 
-/// How a process stands that hasn't ended.
+/// The status of a process that hasn't ended.
 fn fate_in(system: &System, pid: u32) -> Fate
     ensures { (c : Configuration) → system.now.standing ≡ Some c
         → is_alive (of c.core pid).state ≡ true
@@ -39,7 +39,7 @@ fn fate_in(system: &System, pid: u32) -> Fate
     }
 }
 
-/// All processes as those stand that haven't ended.
+/// All processes, each with the status that it has if it hasn't ended.
 fn standing_in(alloc: Global, followed: &Followed) -> Result<Vec<Standing>, NoMemory>
     ensures { IfOk result (λ v. (c : Configuration) → followed.now.system.standing ≡ Some c
         → AreByPid followed.now.begun.items
@@ -91,7 +91,7 @@ fn put_ends(standings: &mut Vec<Standing>, run: &KnownRun)
     }
 }
 
-/// The event in which a process is told to have failed.
+/// The event in which a process failed, by its status.
 fn failed_at(standings: &[Standing], pid: u32) -> Option<usize>
     ensures { result ≡ failed_at (slice_get standings.now pid) }
 {
@@ -101,7 +101,7 @@ fn failed_at(standings: &[Standing], pid: u32) -> Option<usize>
     }
 }
 
-/// Puts where a process stood that failed, if it is told to have failed in that event.
+/// Puts where a process was that failed, if by its status it failed in that event.
 fn put_point(standings: &mut Vec<Standing>, failure: Failure)
     ensures { PutsPoint failure standings.old.items standings.new.items }
 {
@@ -115,7 +115,7 @@ fn put_point(standings: &mut Vec<Standing>, failure: Failure)
     put_fate(standings, pid, Fate::Failed { event, point });
 }
 
-/// Puts where those stood that failed.
+/// Puts where those were that failed.
 fn put_points(standings: &mut Vec<Standing>, failures: &[Failure])
     ensures placed { ArePlaced standings.old.items standings.new.items }
     ensures points { TakePoints failures.now standings.new.items }
@@ -125,7 +125,7 @@ fn put_points(standings: &mut Vec<Standing>, failures: &[Failure])
     }
 }
 
-/// All processes of a run as those stand that haven't ended.
+/// All processes of a run, each with the status that it has if it hasn't ended.
 fn standing_so_far(alloc: Global, run: &KnownRun) -> Result<Vec<Standing>, NoMemory>
     requires { IsEdition run.now.edition }
     ensures { IfOk result (λ v. (d : Configuration) → ComesTo run.now d → AreAtEnd run.now d v.items) }

@@ -1,9 +1,9 @@
-//! How a process stands when its run is over.
+//! The status of a process when its run is over.
 
 use pf_stepper::Point;
 use pf_syntax::FunctionId;
 
-/// How a process stands when its run is over.
+/// The status of a process when its run is over.
 #[derive(Clone, Copy, Debug, PartialEq, Eq)]
 pub enum Fate {
     /// It ended with the reason `normal`, as one does whose function returns.

@@ -8,7 +8,7 @@ use Rattle.pf_model.specs.Runs.{Actor, Passed, Passes, Transition, transition, e
 use Rattle.pf_priorities.specs.Priorities.{State}
 use Rattle.pf_strategy.specs.Runs.{GoesBy, stays, more, picked, later}
 
--- the transition of the actor that the priorities choose where the run stands
+-- the transition of the actor that the priorities choose where the run is
 pub goes_on : (m : Module) (s : State Lcg) (n : ℕ) (c : Configuration) (ts : List Transition) (d : Configuration) (k : ℕ) (s' : State Lcg) → GoesBy m s n c ts d k s'
     → (l : ℕ) (x : Actor) (p : Passed) → slice_get (enabled d) (picked s' d) ≡ Some x → n ≡ suc l + k → Passes m (suc l) d x p
     → GoesBy m s n c (ts ++ transition (picked s' d) (enabled d) x p ∷ []) p.after (k + p.used) (later s' d)

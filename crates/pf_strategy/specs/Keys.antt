@@ -3,7 +3,7 @@ use Rattle.std.specs.Prelude.{ℕ, List, map}
 use Rattle.pf_model.specs.Runs.{Actor, process, channel}
 use Rattle.pf_priorities.specs.Keys.{channel_key}
 
--- a process by its pid; behind all processes a channel, by its sender and then by its receiver
+-- a process by its pid; after all processes a channel, by its sender and then by its receiver
 abbrev pub key_of : Actor → ℕ
 key_of (process n) = n
 key_of (channel a b) = channel_key a b

@@ -124,7 +124,7 @@ module _ (m : Module) (own : ℕ) where
         let k : ks ≡ ls = cc in
         ap (λ g. fill g (receive ks)) f ∙ ap (λ l. fill gs (receive l)) k ∙ ap (fill gs) (sym (waits_at r ls p.redex)) ∙ p.filled
 
-    -- a process that waits stands at its `receive`
+    -- a process that waits is at its `receive`
     pub stays_at : Moves m own t (awaits fs ks) → fill fs (receive ks) ≡ t
     stays_at (at_value v e q) = absurd (cc)
     stays_at (at_index gs r x p q) = by_index gs r x p q

@@ -1,4 +1,4 @@
--- Who waits, and what the root came to.
+-- Who waits, and the outcome by the state of the root.
 use Rattle.std.proofs.Common.{◌≡◌, ℕ, zero, suc, ◌+◌, ◌<◌, Bool, true, false, List, [], ◌∷◌, ◌++◌, if◌then◌else◌, refl, sym, ap, ◌∙◌, subst, arith, length, map, take, get_or}
 use Rattle.std.proofs.lemmas.List.{take_more, length-take-le, length-map}
 use Rattle.pf_syntax.specs.Module.{Checked}

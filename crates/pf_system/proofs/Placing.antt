@@ -1,4 +1,4 @@
--- A message that comes to a process.
+-- A message that arrives at a process.
 use Rattle.std.proofs.Common.{◌≡◌, ℕ, zero, ◌+◌, ◌<◌, Bool, true, false, Some, if◌then◌else◌, refl, sym, ap, ◌∙◌, subst, arith, length, slice_set, slice_get}
 use Rattle.pf_terms.specs.Value.{Value}
 use Rattle.pf_syntax.specs.Module.{Checked}

@@ -1,4 +1,4 @@
--- The slot of a process, or none, where a process stands.
+-- The slot of a process, or none, where a process is.
 use Rattle.std.proofs.Common.{◌≡◌, ℕ, zero, suc, ◌≤◌, false, List, [], ◌∷◌, Some, refl, ap, arith, length}
 use Rattle.std.specs.Prelude.{slice_get}
 use Rattle.pf_model.specs.Configuration.{Process, is_alive, of, process_at}
@@ -8,7 +8,7 @@ use Rattle.pf_system.specs.declared.slot.Slot.{Slot}
 use Rattle.pf_system.specs.declared.processes.Processes.{Processes}
 use Rattle.pf_system.proofs.Changed.{body_at, slots_length}
 
--- nobody lives behind the last process
+-- nobody lives after the last process
 beyond : (n : ℕ) (ps : List Process) → length ps ≤ n → is_alive (process_at n ps).state ≡ false
 beyond n [] h = refl
 beyond zero (p ∷ ps) h = absurd (omega arith)

@@ -46,7 +46,7 @@ module _ (so : State → Bool) where
       by true h = (omega arith, h)
       by false h = lower (λ x. x) (suc n) n (numbers_in so (suc n) bs) (omega arith) h
 
-  -- a body that can go no more
+  -- a body that can no longer go
   pub gone_in : (n : ℕ) (bs : List Body) (a : ℕ) (b : Body) → a < length bs → so b.state ≡ false
       → numbers_in so n (slice_set bs a b) ≡ without_number (n + a) (numbers_in so n bs)
   gone_in n [] a b l e = absurd (omega arith)

@@ -220,7 +220,7 @@ module _ (w w' : Processes) (c : Core) (n : ℕ) (s' : Slot) (state : State) (ma
       (ties_alive (of c n) state mail (alive_going state g ∙ sym (alive_going (of c n).state can))) p.sound e.0 e.1 e.2
       (r ∙ h.ready ∙ sym (numbers_kept can_go zero c.processes n (record (of c n) { state = state; mailbox = mail }) (g ∙ sym can)))
 
-  -- it can go no more, but lives
+  -- it can no longer go, but lives
   pub waits_now : RepresentsBut w c n → n < length c.processes → is_alive state ≡ is_alive (of c n).state → can_go state ≡ false → PutsIn (checked_in w) n (body state mail) s'
       → Changes → w'.ready ≡ without_number n w.ready → Represents w' (in_state c n state mail)
   waits_now h l lives g p e r =
@@ -237,7 +237,7 @@ none_sent w w' c d n e h b =
 
 -- ---- an action and its answer
 
--- the machine stands as it did
+-- the machine has the status that it had
 left_still : (m : Checked) (own : ℕ) (x : Standing) (s s' : Slot) → KeepsLife s s' → SlotIsLeft m own x s → SlotIsLeft m own x s'
 left_still m own x s s' k h = subst (λ l. LifeIsLeft m own x l s'.mailbox) (sym k.life) (by s.life h)
   where

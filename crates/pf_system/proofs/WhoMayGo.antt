@@ -12,7 +12,7 @@ use Rattle.pf_system.specs.Steps.{IsAmong, MayGo, PassesTo, noted}
 use Rattle.pf_system.specs.View.{SystemView}
 use Rattle.pf_system.specs.declared.enabled.Enabled.{Enabled}
 
--- what stands at an index is among them
+-- what is at an index is among them
 among : (xs : List Actor) (k : ℕ) (x : Actor) → slice_get xs k ≡ Some x → IsAmong x xs
 among [] k x e = absurd (cc)
 among (y ∷ xs) zero x e = ([], xs, ap (λ z. z ∷ xs) (same_Some y x e))
@@ -35,7 +35,7 @@ delivers_within left a b s s' l h p =
     further : (q : Passed) → Passes (module_of s.checked) 1 p.before (channel a b) q → Passes (module_of s.checked) left p.before (channel a b) q
     further _ (delivery _ _ x cs e) = delivery a b x cs e
 
--- what stands among those that are noted may go
+-- what is among those that are noted may go
 pub may_go : (o : Option Configuration) (xs : List Actor) → ((c : Configuration) → o ≡ Some c → xs ≡ enabled c) → (k : ℕ) (x : Actor) → slice_get xs k ≡ Some x → MayGo x o
 may_go None xs h k x e = tt
 may_go (Some c) xs h k x e = among (enabled c) k x (ap (λ l. slice_get l k) (sym (h c refl)) ∙ e)

@@ -111,7 +111,7 @@ ShowsAct a act w l w' =
 
 -- ---- a flush
 
--- the oldest message that tells of a reference is taken out of a slot
+-- the oldest message about a reference is taken out of a slot
 pub record FlushesIn (reference : ℕ) (s s' : Slot) : Type 0 where
   pub keeps : KeepsLife s s'
   pub mail : s'.mailbox.messages ≡ flushed reference s.mailbox.messages
@@ -137,7 +137,7 @@ pub record Opens (ties : AllTies) (w : Processes) (l : Life) (w' : Processes) : 
   pub ready : w'.ready ≡ with_number (length w.slots.items) w.ready
   pub basis : w'.basis ≡ w.basis
 
--- the ties behind it, by the bond of the new process to another
+-- the ties after it, by the bond of the new process to another
 abbrev pub opened_by : Bond → (other : ℕ) → AllTies → AllTies
 opened_by unbound a t = opened t None
 opened_by linking a t = opened t (Some a)

@@ -11,7 +11,7 @@ use Rattle.pf_model.specs.declared.report.Suffix.{Suffix}
 use Rattle.pf_system.specs.Processes.{Represents, Done, Shown}
 use Rattle.pf_system.specs.declared.processes.Processes.{Processes}
 
--- a message came to a process that lives, and nothing else was changed
+-- a message arrived at a process that lives, and nothing else was changed
 pub record PlacesMessage (c : Core) (b : ℕ) (v : Value) (w w' : Processes) : Type 0 where
   pub stands : Represents w' (with_process c b (with_message (of c b) v))
   pub shared : w'.shared ≡ w.shared

@@ -49,7 +49,7 @@ pub record Represents (w : Processes) (c : Core) : Type 0 where
   pub slots : SlotsAreSound (checked_in w) zero w.slots.items
   pub room : IsRoomy w c
 
--- the same, but for the body of process a, which stands in a slot of its own
+-- the same, but for the body of process a, which is in a slot of its own
 pub record RepresentsBut (w : Processes) (c : Core) (a : ℕ) : Type 0 where
   pub there : a < length w.slots.items
   pub bodies : (b : Body) → slice_set (bodies_of c) a b ≡ slice_set (bodies_in w) a b
@@ -58,7 +58,7 @@ pub record RepresentsBut (w : Processes) (c : Core) (a : ℕ) : Type 0 where
   pub slots : (s : Slot) → SlotIsSound (checked_in w) a s → SlotsAreSound (checked_in w) zero (slice_set w.slots.items a s)
   pub room : IsRoomy w c
 
--- the machine of process a ran, and stands so over these messages
+-- the machine of process a ran, and has this status over these messages
 pub record IsLeftAt (w : Processes) (a : ℕ) (x : Standing) (s : Slot) : Type 0 where
   pub at : slice_get w.slots.items a ≡ Some s
   pub leaves : SlotIsLeft (checked_in w) a x s

@@ -44,7 +44,7 @@ Settles c a v.Pure x mail w l w' =
     (t : State) → x ≡ goes t → can_go t ≡ true → mail ≡ (of c a).mailbox → Shown a (cut_in c a t) w.shared.channels w l w'
 Settles c a move x mail w l w' = (y : State) → Moved (module_in w) a y (of c a).mailbox move x mail → LastStep y c a w l w'
 
--- a machine made this move, and stands so, over these messages
+-- a machine made this move, and has this status over these messages
 abbrev pub SettlesAs : ℕ → Move → Processes → Label → Processes → Type 0
 SettlesAs a move w l w' =
     (c : Core) (x : Standing) (s : Slot) → RepresentsBut w c a → can_go (of c a).state ≡ true → IsLeftAt w a x s → Settles c a move x s.mailbox.messages w l w'

@@ -78,9 +78,9 @@ abbrev pub SlotsAreSound : Checked → ℕ → List Slot → Type 0
 SlotsAreSound m n [] = Unit {0}
 SlotsAreSound m n (s ∷ ss) = SlotIsSound m n s × SlotsAreSound m (suc n) ss
 
--- ---- a slot in the midst of a turn
+-- ---- a slot in the middle of a turn
 
--- a machine ran and stands so; a process that had no machine is at its end
+-- a machine ran and has this status; a process that had no machine is at its end
 abbrev pub LifeIsLeft : Checked → ℕ → Standing → Life → MailView → Type 0
 LifeIsLeft m own x (life.Lives machine waits) mail = (machine.standing ≡ x) × IsOf m own machine × (waits ≡ false) × IsAheadOf machine mail
 LifeIsLeft m own x (life.Ends r) mail = x ≡ over

@@ -67,7 +67,7 @@ impl Processes {
         Ok(())
     }
 
-    /// A message comes to a process that lives, which goes on where it waited.
+    /// A message arrives at a process that lives, which goes on where it waited.
     fn index(&mut self, to: u32, message: Term) -> Result<(), NoMemory>
         requires { to < length self.old.slots.items }
         ensures { OnOk result (Places to (value_of message) self.old self.new) }
@@ -102,7 +102,7 @@ impl Processes {
         Ok(())
     }
 
-    /// What comes of a signal other than a message at a receiver that lives.
+    /// What a signal other than a message does at a receiver that lives.
     #[inline(never)]
     fn take(
         &mut self,

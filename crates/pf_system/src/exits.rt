@@ -38,7 +38,7 @@ impl Shared {
         Ok(giving_true(label, shown))
     }
 
-    /// `process_flag/2`, which gives what the flag was.
+    /// `process_flag/2`, which returns what the flag was.
     pub(crate) fn set_flag(
         &mut self,
         pid: u32,

@@ -29,7 +29,7 @@ fn are_flush(list: &List) -> bool
     true
 }
 
-/// Whether options ask for a flush: none of them doesn't, and any other than `flush` is wrong, as what is no list.
+/// Whether options ask for a flush: an empty list doesn't, any option other than `flush` is wrong, and so is what is no list.
 fn flushes(options: &Term) -> Option<bool>
     ensures { result ≡ flushes (value_of options.now) }
 {
@@ -43,7 +43,7 @@ fn flushes(options: &Term) -> Option<bool>
 }
 
 impl Slot {
-    /// Takes out the oldest message that tells of a reference, if there is one.
+    /// Takes out the oldest message about a reference, if there is one.
     fn flush(&mut self, pool: &mut Pool<Term>, reference: u64)
         ensures { FlushesIn reference self.old self.new }
     {

@@ -1,4 +1,4 @@
-//! How a run came out.
+//! The outcome of a run.
 
 ghost use Rattle.std.specs.Prelude.{◌≡◌, zero, IfOk};
 ghost use Rattle.pf_model.specs.Configuration.{of};
@@ -43,7 +43,7 @@ impl Processes {
         Ok(pids)
     }
 
-    /// What the root came to, where nothing may go.
+    /// The outcome of the run where nothing may go: how its root ended, or that it waits.
     pub(crate) fn outcome(&self, alloc: Global) -> Result<Outcome, NoMemory>
         requires { Represents self.now (core_of self.now) }
         ensures { IfOk result (λ o. outcome_of o ≡ outcome_of_root (of (core_of self.now) zero).state

@@ -1,4 +1,4 @@
-//! Where a process stands in the code of the module.
+//! Where a process is in the code of the module.
 
 ghost use Rattle.std.specs.Prelude.{◌≡◌, false, IfSome, MatchOption};
 ghost use Rattle.pf_model.specs.Configuration.{is_alive, of};
@@ -13,7 +13,7 @@ use pf_stepper::Point;
 use pf_syntax::Module;
 
 impl Slot {
-    /// Where the process stands, and the module that it runs, in whose code that is. None where it has ended.
+    /// Where the process is, and the module that it runs, in whose code that is. None where it has ended.
     fn point<'a>(&'a self, code: &'a Module) -> Option<(&'a Module, Point)>
         ensures own { (own : _) → SlotIsSound code.now own self.now → IfSome result (λ x. x.0.now ≡ code.now) }
         ensures point { (own : _) → SlotIsSound code.now own self.now
@@ -29,7 +29,7 @@ impl Slot {
 }
 
 impl Processes {
-    /// Where a process stands, and the module of all processes, in whose code that is; none where there is none of this pid, or it
+    /// Where a process is, and the module of all processes, in whose code that is; none where there is none of this pid, or it
     /// has ended.
     pub(crate) fn point(&self, pid: u32) -> Option<(&Module, Point)>
         requires { Represents self.now (core_of self.now) }

@@ -7,7 +7,7 @@ use pf_sorted::SortedSet;
 use pf_syntax::Module;
 use std::sync::Arc;
 
-/// What a run stands on: the module that its processes run, and how many of them there may be.
+/// What a run is based on: the module that its processes run, and how many of them there may be.
 #[derive(Drop)]
 pub(crate) struct Basis {
     pub(crate) module: Arc<Module>,

@@ -82,7 +82,7 @@ impl Slot {
         }
     }
 
-    /// A message comes, and the process goes on where it waited; it tells whether it did.
+    /// A message arrives, and the process goes on where it waited; returns whether it did.
     pub(crate) fn index(&mut self, pool: &mut Pool<Term>, message: Term) -> Result<bool, NoMemory>
         ensures woken { IfOk result (λ w. (m : _) (own : _) → SlotIsSound m own self.old
             → w ≡ is_waiting (state_of self.old.life)) }

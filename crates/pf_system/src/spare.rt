@@ -1,4 +1,4 @@
-//! What runs leave behind for the next.
+//! What runs leave for the next.
 
 ghost use Rattle.std.specs.Prelude.{◌≡◌, []};
 
@@ -17,7 +17,7 @@ const MOST_ROOMS: usize = 256;
 /// How many slots a vector may have room for that is kept, of 64 KiB in all.
 const MOST_SLOTS: usize = 64 * 1024 / size_of::<Slot>();
 
-/// What runs leave behind for the next: spare nodes of mailboxes, rooms of machines, and vectors for slots and for pids. What a run means
+/// What runs leave for the next: spare nodes of mailboxes, rooms of machines, and vectors for slots and for pids. What a run means
 /// depends on none of them.
 #[derive(Drop)]
 pub struct Spare {
@@ -47,7 +47,7 @@ impl Spare {
         }
     }
 
-    /// Keeps the room of a process that is no more, unless it is too large or there are enough.
+    /// Keeps the room of a process that is gone, unless it is too large or there are enough.
     #[inline(always)]
     pub(crate) fn keep(&mut self, slot: Slot) {
         if self.rooms.len() >= MOST_ROOMS {

@@ -148,7 +148,7 @@ impl Processes {
         self.enter(alloc, pid, life)
     }
 
-    /// One process more, which another watches from its begin; it gives its pid and the reference.
+    /// One process more, which another watches from its start; returns its pid and the reference.
     fn open_watched(
         &mut self,
         alloc: Global,

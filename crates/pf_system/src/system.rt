@@ -71,7 +71,7 @@ impl System {
         System::new_in(alloc, module, root, edition, Spare::new(alloc))
     }
 
-    /// The same, in what runs before left behind.
+    /// The same, in what runs before left.
     pub fn new_in(
         alloc: Global,
         module: &Arc<Module>,
@@ -134,7 +134,7 @@ impl System {
         }
     }
 
-    /// Where a process stands, and the module of the system, in whose code that is; none where there is none of this pid, it has
+    /// Where a process is, and the module of the system, in whose code that is; none where there is none of this pid, it has
     /// ended, or memory ran out.
     pub fn point(&self, pid: u32) -> Option<(&Module, Point)>
         ensures own { IfSome result (λ x. x.0.now ≡ self.now.checked) }
@@ -149,7 +149,7 @@ impl System {
         self.processes.point(pid)
     }
 
-    /// How a run comes out that stops here: at its limit where anybody may go, and else by what the root came to.
+    /// The outcome of a run that stops here: at its limit where anybody may go, and else by how the root ended, or that it waits.
     pub fn outcome(&self, alloc: Global) -> Result<Outcome, NoMemory>
         ensures outcome { IfOk result (λ o.
             (c : _) → self.now.standing ≡ Some c → outcome_of o ≡ outcome_where c) }
@@ -239,7 +239,7 @@ impl System {
         }
     }
 
-    /// Takes what runs before left behind, in place of what it had.
+    /// Takes what runs before left, in place of what it had.
     pub fn put_spare(&mut self, spare: Spare)
         ensures { self.new ≡ self.old }
     {
@@ -253,7 +253,7 @@ impl System {
         mem::replace(&mut self.processes.spare, Spare::new(alloc))
     }
 
-    /// What the run leaves behind for the next.
+    /// What the run leaves for the next.
     pub fn into_spare(self) -> Spare {
         let System {
             module: _,

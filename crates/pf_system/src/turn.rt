@@ -80,7 +80,7 @@ impl Processes {
         }
     }
 
-    /// A process comes to its end.
+    /// A process ends.
     #[inline(never)]
     fn finish(
         &mut self,

@@ -88,7 +88,7 @@ pub fn schedule_of(alloc: Global, text: &[u8]) -> Result<Option<Vec<u32>>, Alloc
     numbers_of(alloc, text)
 }
 
-/// Puts numbers behind another, each after a comma.
+/// Puts numbers after another, each after a comma.
 fn put_others(out: &mut Vec<u8>, others: &[u32]) -> Result<(), NoMemory>
     ensures { OnOk result (out.new.items ≡ out.old.items ++ flat_map (λ n. codes "," ++ digits_of n) others.now) }
 {

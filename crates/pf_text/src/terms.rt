@@ -59,7 +59,7 @@ fn put_tuple(out: &mut Vec<u8>, atoms: &AtomTable, elements: &Elements) -> Resul
     put(out, b"}")
 }
 
-/// Puts elements behind the first, each after a comma.
+/// Puts elements after the first, each after a comma.
 #[cycle(terms)]
 fn put_others(out: &mut Vec<u8>, atoms: &AtomTable, others: &[Term]) -> Result<(), NoMemory>
     ensures { OnOk result (out.new.items ≡ out.old.items ++ rest_text (name_of atoms.now) (values_of others.now)) }

@@ -20,7 +20,7 @@ fn put_each(out: &mut Vec<u8>, bytes: &[u8])
     }
 }
 
-/// Puts bytes at the end, or nothing if there is no room and a growth was refused.
+/// Puts bytes at the end, or nothing if there is no room and an allocation failed.
 #[inline(always)]
 pub fn put(out: &mut Vec<u8>, bytes: &[u8]) -> Result<(), NoMemory>
     ensures ok { OnOk result (out.new.items ≡ out.old.items ++ bytes.now) }
@@ -35,7 +35,7 @@ pub fn put(out: &mut Vec<u8>, bytes: &[u8]) -> Result<(), NoMemory>
     Ok(())
 }
 
-/// Puts one byte at the end, or nothing if there is no room and a growth was refused.
+/// Puts one byte at the end, or nothing if there is no room and an allocation failed.
 #[inline(always)]
 pub fn put_byte(out: &mut Vec<u8>, byte: u8) -> Result<(), NoMemory>
     ensures ok { OnOk result (out.new.items ≡ out.old.items ++ byte ∷ []) }
@@ -50,7 +50,7 @@ pub fn put_byte(out: &mut Vec<u8>, byte: u8) -> Result<(), NoMemory>
     Ok(())
 }
 
-/// Puts the digits of a number from 100 on, or nothing if a growth was refused.
+/// Puts the digits of a number from 100 on, or nothing if an allocation failed.
 #[inline(never)]
 fn put_long_number(out: &mut Vec<u8>, number: u64) -> Result<(), NoMemory>
     ensures ok { OnOk result (out.new.items ≡ out.old.items ++ decimal number) }
@@ -60,7 +60,7 @@ fn put_long_number(out: &mut Vec<u8>, number: u64) -> Result<(), NoMemory>
     put(out, digits.format(number).as_bytes())
 }
 
-/// Puts the digits of a number, or nothing if a growth was refused.
+/// Puts the digits of a number, or nothing if an allocation failed.
 #[inline(always)]
 pub fn put_number(out: &mut Vec<u8>, number: u64) -> Result<(), NoMemory>
     ensures ok { OnOk result (out.new.items ≡ out.old.items ++ decimal number) }
@@ -78,7 +78,7 @@ pub fn put_number(out: &mut Vec<u8>, number: u64) -> Result<(), NoMemory>
     put_long_number(out, number)
 }
 
-/// Puts a number below zero, or nothing if a growth was refused.
+/// Puts a number below zero, or nothing if an allocation failed.
 #[inline(never)]
 fn put_negative(out: &mut Vec<u8>, value: i64) -> Result<(), NoMemory>
     ensures ok { OnOk result (out.new.items ≡ out.old.items ++ signed_decimal value) }
@@ -88,7 +88,7 @@ fn put_negative(out: &mut Vec<u8>, value: i64) -> Result<(), NoMemory>
     put(out, digits.format(value).as_bytes())
 }
 
-/// Puts a number that may have a sign, or nothing if a growth was refused.
+/// Puts a number that may have a sign, or nothing if an allocation failed.
 pub(crate) fn put_signed(out: &mut Vec<u8>, value: i64) -> Result<(), NoMemory>
     ensures ok { OnOk result (out.new.items ≡ out.old.items ++ signed_decimal value) }
     ensures err { OnErr result (out.new.items ≡ out.old.items) }

@@ -30,7 +30,7 @@ without_none k (p ∷ ps) h = by (k == p.0) refl h (without_none k ps)
     by true q h r = none_some (Some p.1) p.1 h refl
     by false q h r = ap (λ z. p ∷ z) (r h)
 
--- what was put where nothing stood, and taken out again
+-- what was put where nothing was, and taken out again
 pub without_put : (k x : ℕ) (m : Entries) → got k m ≡ None → without k (put k x m) ≡ m
 without_put k x [] h = rw (eq_self k) refl
 without_put k x (p ∷ ps) h = by (k == p.0) (nat_lt k p.0) refl h (without_put k x ps) (without_none k ps)

@@ -15,7 +15,7 @@ use Rattle.pf_ties.proofs.LookUps.{Entries, eq_self, same_from, some_is, none_so
 eq_flip : (a b : ℕ) → (a == b) ≡ (b == a)
 eq_flip a b = grind (arith, nat_tests)
 
--- what stands in the one map stands in the other, the other way round
+-- what is in the one map is in the other, the other way round
 abbrev Leads : Entries → Entries → Type 0
 Leads a b = (n p : ℕ) → got n a ≡ Some p → got p b ≡ Some n
 
@@ -82,7 +82,7 @@ named_from p n (x ∷ xs) e = by (n == x.0) (p == x.1) refl e (named_from p n xs
     by true false k e r = absurd (false≢true (sym k ∙ eq_of x.1 p (some_is x.1 p e)))
     by false false k e r = r e
 
--- an entry of the rest stands in the whole
+-- an entry of the rest is in the whole
 got_more : (n p : ℕ) (x : ℕ × ℕ) (xs : Entries) → Rises (suc x.0) xs → got n xs ≡ Some p → got n (x ∷ xs) ≡ Some p
 got_more n p x xs h e = by (n == x.0) refl
   where

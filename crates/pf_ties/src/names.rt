@@ -69,7 +69,7 @@ impl Names {
         }
     }
 
-    /// Takes a name out, and gives its process.
+    /// Takes a name out, and returns its process.
     pub(crate) fn remove(&mut self, name: AtomId) -> Option<u32>
         ensures was { result ≡ got name.0 self.old }
         ensures removed { self.new ≡ without name.0 self.old }

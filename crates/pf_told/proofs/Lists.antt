@@ -71,7 +71,7 @@ module _ {T : Type 0} where
   get_before (x ∷ xs) zero o within = refl
   get_before (x ∷ xs) (suc i) o within = get_before xs i o (omega arith)
 
-  -- what is held stays where one thing more is held behind it
+  -- what is held stays where one thing more is held after it
   pub held_before : (xs : List (Option T)) (n : ℕ) (o : Option T) → n ≤ length xs → held_at (xs ++ o ∷ []) n ≡ held_at xs n
   held_before xs zero o within = refl
   held_before xs (suc i) o within = ap option_flatten (get_before xs i o within)

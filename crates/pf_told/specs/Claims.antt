@@ -38,6 +38,6 @@ is_stray (Some Filed) = false
 is_stray (Some HandedBack) = false
 is_stray (Some Stray) = true
 
--- how many claims of the trial of a project's ticket came to such an end
+-- how many claims of the trial of a project's ticket have such an end
 abbrev pub claims_that : (Option End → Bool) → (project ticket : ℕ) → List (Row Job) → ℕ
 claims_that f q t rows = tally (λ r. is_of q t r.claim && f r.end) rows

@@ -8,6 +8,6 @@ use Rattle.pf_told.specs.Notes.{IsDropped}
 abbrev pub IsGone : Desk → ℕ → Type 0
 IsGone d t = (1 ≤ t) × (t ≤ length d.trials) × (held_at d.trials t ≡ None)
 
--- a trial that is gone was dropped, behind all its claims
+-- a trial that is gone was dropped, after all its claims
 abbrev pub DropsAreNoted : Type 0
 DropsAreNoted = (p : Profile) (d : Desk) (t : ℕ) → IsLegalDesk p d → IsGone d t → IsDropped t d.history

@@ -11,7 +11,7 @@ is_claim t (claimed u) = u == t
 is_claim t (filed u m) = false
 is_claim t (handed_back u) = false
 
--- what came of the trial of a ticket was filed
+-- the result of the trial of a ticket was filed
 abbrev pub is_file : ℕ → Entry → Bool
 is_file t (called c r) = false
 is_file t (claimed u) = false
@@ -33,7 +33,7 @@ claims_noted (claimed t ∷ es) = t ∷ claims_noted es
 claims_noted (filed t m ∷ es) = claims_noted es
 claims_noted (handed_back t ∷ es) = claims_noted es
 
--- the trial of a ticket was dropped, behind all its claims
+-- the trial of a ticket was dropped, after all its claims
 abbrev pub IsDropped : ℕ → List Entry → Type 0
 IsDropped t es =
     (before : List Entry) × (after : List Entry)

@@ -44,7 +44,7 @@ module _ {C A : Type 0} (call : C → Call) (reply : A → Reply) where
   HasItsPoint p w r = WasGiven p (desk_at r.project w).history r.number (call r.call.value) (reply r.reply.value)
 
   -- where each history is legal and these are the receipts of the calls that they note, the reply of each was given at one point of the history of
-  -- its own project, in which no other project stands
+  -- its own project, in which no other project occurs
   abbrev pub RepliesHaveTheirPoints : Type 0
   RepliesHaveTheirPoints =
       (p : Profile) (rs : List (Receipt C A)) (w : World) → ((q : ℕ) → IsLegalDesk p (desk_at q w)) → AreTheCalls rs w → All (HasItsPoint p w) rs

@@ -1,4 +1,4 @@
-//! The ledger of claims beside the desks: what it tells of claims is what their histories tell.
+//! The ledger of claims beside the desks: what it says of claims is what their histories say.
 #![tactic(auto)]
 
 pub mod laws;

@@ -24,7 +24,7 @@ lines_text name es = flat_map (λ e. line (event_text name e)) es
 abbrev pub events_of : EventLines → List Event
 events_of l = map (λ s. event_of s.value) l.told.value.items
 
--- the events that were told so far
+-- the events that were put so far
 abbrev pub told_so_far : LinesSoFar → List Event
 told_so_far l = map (λ s. event_of s.value) l.told.items
 
@@ -40,7 +40,7 @@ AreWrittenSoFar name l = l.text.items ≡ lines_text name (told_so_far l)
 abbrev pub report_in : WrittenReport → Report
 report_in w = record { events = events_of w.lines; outcome = outcome_of w.outcome; steps = w.steps; verdict = w.verdict }
 
--- the lines behind those of the events: the outcome, the steps and the verdict
+-- the lines after those of the events: the outcome, the steps and the verdict
 abbrev pub last_lines : (name : ℕ → List ℕ) → Outcome → (steps : ℕ) → Option Bool → List ℕ
 last_lines name o steps v = line (outcome_text name o) ++ line (codes "steps " ++ decimal steps) ++ line (verdict_text v)
 
@@ -54,7 +54,7 @@ end_text name r = last_lines name r.outcome r.steps r.verdict
 abbrev pub gone_from : Pieces → List Event
 gone_from p = map (λ s. event_of s.value) p.gone.items
 
--- all events that were told
+-- all events that were put
 abbrev pub all_told : Pieces → List Event
 all_told p = gone_from p ++ told_so_far p.lines
 
@@ -71,7 +71,7 @@ abbrev pub GoesOut : (name : ℕ → List ℕ) → (old new : Pieces) → (writt
 GoesOut name p q w0 w1 =
     (out : List Event) × (gone_from q ≡ gone_from p ++ out) × (all_told q ≡ all_told p) × AreWrittenSoFar name q.lines × Appends w0 w1 (lines_text name out)
 
--- these events were told, and the lines of those that don't wait went out
+-- these events were put, and the lines of those that don't wait went out
 abbrev pub HasGoneOut : (name : ℕ → List ℕ) → List Event → Pieces → (written_old written_new : Option (List ℕ)) → Type 0
 HasGoneOut name es p w0 w1 = (es ≡ all_told p) × AreWrittenSoFar name p.lines × Appends w0 w1 (lines_text name (gone_from p))
 

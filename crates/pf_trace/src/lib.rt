@@ -1,4 +1,4 @@
-//! What is told of a run and of a shrinking, and its text.
+//! What is reported of a run and of a shrinking, and its text.
 #![tactic(auto)]
 
 mod event_lines;

@@ -98,7 +98,7 @@ impl Pieces {
         self.print(writer)
     }
 
-    /// Has the lines that wait go out, and behind them what follows the lines of a report's events.
+    /// Has the lines that wait go out, and after them what follows the lines of a report's events.
     pub fn print_end<W: Write, M: Ledger>(
         self,
         atoms: &AtomTable,

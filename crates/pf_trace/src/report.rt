@@ -74,7 +74,7 @@ fn put_pids(out: &mut Vec<u8>, pids: &[u32]) -> Result<(), NoMemory>
     Ok(())
 }
 
-/// Puts how a run came out, as a line.
+/// Puts the outcome of a run, as a line.
 pub fn put_outcome(out: &mut Vec<u8>, atoms: &AtomTable, outcome: &Outcome) -> Result<(), NoMemory>
     ensures { OnOk result (out.new.items ≡ out.old.items
         ++ line (outcome_text (name_of atoms.now) (outcome_of outcome.now))) }

@@ -61,7 +61,7 @@ same_both s w h h' rs rs' i j a b =
 pub seen : (s s0 s' : Workshop) (x : WorkshopStep) (r : Result Response NoMemory) → s ≡ s0 → Responds s x r s' → Responds s0 x r s'
 seen s s0 s' x r is h = subst (λ (k : Workshop). Responds k x r s') is h
 
--- ---- what tests of a worker's hand tell
+-- ---- what tests of a worker's hand show
 
 pub free_so : (o : Option Hand) → is_free o ≡ true → o ≡ Some None
 free_so None h = absurd (cc)
@@ -87,7 +87,7 @@ module _ (s : Workshop) (w q t : ℕ) (k : Chore) where
   pub responds_no_worker : slice_get s.hands w ≡ None → Responds s (worker_does w q t k) (Ok response.NotNow) s
   responds_no_worker h = responds_not_now (λ p. no_worker p s w q t k h)
 
-  -- a growth was refused in a claim or a parking, which changed nothing
+  -- an allocation failed in a claim or a parking, which changed nothing
   pub responds_refused : (e : NoMemory) → MayTakeMemory k → refused_in s (worker_does w q t k) ≡ s
       → ((p : RunProfile) → (x : Effect) × (effect_of p s w q t k ≡ Some x)) → Responds s (worker_does w q t k) (Err e) s
   responds_refused e may same some p right = ((may, subst IsSome (sym (some p).1) refl), sym same)
@@ -144,7 +144,7 @@ module _ (s : Workshop) (same : length s.hands ≡ length s.deques) (w q t : ℕ
       not_with s same w q t claiming refl refl (λ h. is_free (Some h) ≡ false) (λ p h rs is. claim_busy p q t (desk_at q s.desks) h rs is)
       (λ h i. sym (ap is_free i) ∙ missing)
 
--- ---- a run is sliced, or a growth was refused in it
+-- ---- a run is sliced, or an allocation failed in it
 
 pub slice_responds : (s : Workshop) (w q t n : ℕ) (h h' : Hand) (rs : Deque) (r : Result Response NoMemory) → slice_get s.hands w ≡ Some h
     → slice_get s.deques w ≡ Some rs → holds_going q t h ≡ true → nat_lt 0 n ≡ true → SlicesHand n h r h'

@@ -43,7 +43,7 @@ module _ (q t : ℕ) (j : Job) (k n : ℕ) where
           (λ x. run q t (same x) (going (is x)))
           ∙ sym (ap (λ (b : Bool). run q t j (if b then going (k + n) else over marked_whole)) more)
 
-  -- it is over, whole or for want of memory
+  -- it is over, whole or out of memory
   pub sliced_over : (f : FinishedView) → f.job ≡ j → EndsBy j (k + n) f.result ⊎ (f.result ≡ without_memory)
       → Slices (run q t j (going k)) n (run q t f.job (over (mark_of f.result)))
   sliced_over f same (inr out) =
@@ -80,9 +80,9 @@ module _ (r : Inside) (self : ClaimedRun) (n : ℕ) (g : code.Progress) (seen : 
   pub after_over : (f : FinishedView) → r.progress ≡ Over f → g ≡ Over f → Slices self n after
   after_over f was is = between (Over f) (Over f) was is (inl (λ p right. refl))
 
--- ---- what a hand is told of a slice
+-- ---- what is answered to a slice
 
--- a run that wasn't over isn't out of memory after a slice in which no growth was refused
+-- a run that wasn't over isn't out of memory after a slice in which no allocation failed
 sliced_whole : (p : RunProfile) (n : ℕ) (r : ClaimedRun) → is_going r.progress ≡ true → is_out_of_memory (sliced p n r).progress ≡ false
 sliced_whole p n r h = by r.progress h
   where

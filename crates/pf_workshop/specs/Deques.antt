@@ -4,12 +4,12 @@ use Rattle.pf_fault.specs.declared.memory.NoMemory.{NoMemory}
 use Rattle.pf_worlds.specs.Workshop.{ClaimedRun, Hand, Deque}
 use Rattle.pf_worlds.specs.Chores.{deque_effect, from_deque}
 
--- a deque with the run of a hand behind all others, if the hand holds one
+-- a deque with the run of a hand after all others, if the hand holds one
 abbrev pub with_parked : Deque → Hand → Deque
 with_parked rs None = rs
 with_parked rs (Some r) = rs ++ r ∷ []
 
--- Parks rs h x rs' h': the run of a hand is parked; or a growth was refused, and both are as they were
+-- Parks rs h x rs' h': the run of a hand is parked; or an allocation failed, and both are as they were
 abbrev pub Parks : Deque → Hand → Result Unit NoMemory → Deque → Hand → Type 0
 Parks rs h (Ok x) rs' h' = (rs' ≡ with_parked rs h) × (h' ≡ None)
 Parks rs h (Err e) rs' h' = (rs' ≡ rs) × (h' ≡ h)

@@ -40,20 +40,20 @@ HoldsSameTrial None h' = h' ≡ None
 HoldsSameTrial (Some r) None = ⊥
 HoldsSameTrial (Some r) (Some r') = IsOfSameTrial r r'
 
--- SlicesHand n h r h': the run of a hand is sliced, or a growth was refused in it; a hand that is empty stays so
+-- SlicesHand n h r h': the run of a hand is sliced, or an allocation failed in it; a hand that is empty stays so
 abbrev pub SlicesHand : (turns : ℕ) → Hand → Result Response NoMemory → Hand → Type 0
 SlicesHand n None (Ok r) h' = (view_of_response r ≡ answer not_now) × (h' ≡ None)
 SlicesHand n None (Err e) h' = ⊥
 SlicesHand n (Some x) (Ok r) h' = (view_of_response r ≡ answer work_done) × ForRight (λ p. h' ≡ Some (sliced p n x))
 SlicesHand n (Some x) (Err e) h' = ForRight (λ p. h' ≡ Some (out_of_memory x))
 
--- what a run of the trial of a ticket came to
+-- the result of a run of the trial of a ticket
 pub record CameTo (q t : ℕ) (x : ClaimedRun) (f : FinishedView) : Type 0 where
   pub run : is_run_of q t x ≡ true
   pub progress : x.progress ≡ over (mark_of f.result)
   pub job : x.job ≡ f.job
 
--- TakesFinished w q t hs f hs': what the run of a ticket came to is taken from a worker's hand, which is empty then; or the worker doesn't hold
+-- TakesFinished w q t hs f hs': the result of the run of a ticket is taken from a worker's hand, which is empty then; or the worker doesn't hold
 -- that run, or it isn't over, and all stays as it was
 abbrev pub TakesFinished : (worker project ticket : ℕ) → List Hand → Option FinishedView → List Hand → Type 0
 TakesFinished w q t hs (Some f) hs' = (x : ClaimedRun) × (slice_get hs w ≡ Some (Some x)) × CameTo q t x f × (hs' ≡ slice_set hs w None)

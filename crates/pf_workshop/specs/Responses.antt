@@ -20,7 +20,7 @@ view_of_response response.Done = answer work_done
 view_of_response response.Stray = stray
 view_of_response response.NotNow = answer not_now
 
--- nothing is answered to a step in which a growth was refused
+-- nothing is answered to a step in which an allocation failed
 abbrev pub response_in : Result Response NoMemory → Option chores.Response
 response_in (Ok r) = Some (view_of_response r)
 response_in (Err e) = None

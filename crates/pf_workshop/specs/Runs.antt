@@ -24,7 +24,7 @@ progress_in (Over f) = over (mark_of f.result)
 abbrev pub run_in : run.Inside → ClaimedRun
 run_in r = record { project = r.project; ticket = r.ticket; job = job_in r.progress; progress = progress_in r.progress }
 
--- a growth was refused in it
+-- an allocation failed in it
 abbrev pub is_memory : Mark → Bool
 is_memory marked_whole = false
 is_memory marked_memory = true
@@ -37,6 +37,6 @@ is_out_of_memory (over m) = is_memory m
 abbrev pub IsOfSameTrial : ClaimedRun → ClaimedRun → Type 0
 IsOfSameTrial r r' = r' ≡ record r { progress = r'.progress }
 
--- a run after a slice, or after one in which a growth was refused
+-- a run after a slice, or after one in which an allocation failed
 abbrev pub Slices : ClaimedRun → (turns : ℕ) → ClaimedRun → Type 0
 Slices r n r' = ForRight (λ p. r' ≡ sliced p n r) ⊎ (r' ≡ out_of_memory r)

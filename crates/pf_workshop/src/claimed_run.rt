@@ -70,7 +70,7 @@ impl ClaimedRun {
         matches!(&self.progress, Progress::Going(_))
     }
 
-    /// Whether a growth was refused in it.
+    /// Whether an allocation failed in it.
     pub fn is_out_of_memory(&self) -> bool
         ensures { result ≡ is_out_of_memory self.now.progress }
     {
@@ -80,7 +80,7 @@ impl ClaimedRun {
         }
     }
 
-    /// The run after a slice of this many turns, at least one; or, if a growth was refused in it, over. What stands in the scratch makes no
+    /// The run after a slice of this many turns, at least one; or, if an allocation failed in it, over. What is in the scratch makes no
     /// difference.
     pub fn sliced(self, alloc: Global, scratch: &mut Scratch, turns: u32) -> ClaimedRun
         requires { 0 < turns }

@@ -9,7 +9,7 @@ pub enum Response {
     Reply(Reply),
     /// The chore is done.
     Done,
-    /// The trial of what was filed or given back isn't running; the worker holds nothing now.
+    /// The trial of what was filed or handed back isn't running; the worker holds nothing now.
     Stray,
     /// The chore can't be done now, and changed nothing.
     NotNow,

@@ -26,7 +26,7 @@ use std::sync::Arc;
 pub const MOST_WORKERS: u32 = 64;
 
 /// The desks of all projects, and by worker what it holds and what it parked. The workers share one scratch, since only one step is done at a
-/// time; what stands in it makes no difference.
+/// time; what is in it makes no difference.
 #[derive(Drop)]
 pub struct Workshop {
     book: Book,
@@ -137,7 +137,7 @@ impl Workshop {
         Ok(Response::Done)
     }
 
-    /// A worker makes events of a run that it holds, as many as turns: the run goes on if it has more, and else it is over. If a growth is refused
+    /// A worker makes events of a run that it holds, as many as turns: the run goes on if it has more, and else it is over. If an allocation fails
     /// it is over too.
     pub fn slice(
         &mut self,
@@ -197,7 +197,7 @@ impl Workshop {
         emptied(self.book.file(project, ticket, finished))
     }
 
-    /// A worker gives back a run that it holds, however far it is; its trial is queued again. It takes no memory.
+    /// A worker hands back a run that it holds, however far it is; its trial is queued again. It takes no memory.
     pub fn give_back(&mut self, worker: u32, project: u32, ticket: u64) -> Response
         ensures { Responds self.old (worker_does worker project ticket giving_back) (Ok result) self.new }
     {
@@ -278,7 +278,7 @@ fn slice_hand(
     }
 }
 
-/// Takes what a run came to from a worker's hand, if it holds the run of a project's ticket and that is over.
+/// Takes the result of a run from a worker's hand, if it holds the run of a project's ticket and that is over.
 fn take_finished(
     hands: &mut Vec<Option<ClaimedRun>>,
     worker: u32,

@@ -1,4 +1,4 @@
--- Steps that are answered in turn, where no growth is refused.
+-- Steps that are answered in turn, where no allocation fails.
 use Rattle.std.proofs.Common.{◌≡◌, List, [], ◌∷◌, map, Some, refl, sym, ap, ◌∙◌, subst}
 use Rattle.pf_worlds.specs.Workshop.{RunProfile, Workshop, new_workshop}
 use Rattle.pf_worlds.specs.Chores.{Response}

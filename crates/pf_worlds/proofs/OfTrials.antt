@@ -132,7 +132,7 @@ module _ (p : RunProfile) where
       by None i = all
       by (Some e) i = of_effect s w (deque_owner w k) q e (keeps e i) (left e i) all
 
-  -- a run in which a growth was refused is of the same job
+  -- a run in which an allocation failed is of the same job
   pub of_refused : (s : Workshop) (x : WorkshopStep) → RunsAreOfTrials s → RunsAreOfTrials (refused_in s x)
   of_refused s (client_calls q c) all = all
   of_refused s (worker_does w q t claiming) all = all

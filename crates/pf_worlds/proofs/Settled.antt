@@ -1,4 +1,4 @@
--- What a project hears where it is settled comes of its own calls alone.
+-- What a project hears where it is settled depends on its own calls alone.
 use Rattle.std.proofs.Common.{◌≡◌, ℕ, ◌==◌, Bool, true, false, List, [], ◌∷◌, refl, sym, ◌∙◌, ap, subst}
 use Rattle.std.specs.Prelude.{if◌then◌else◌, filter_map}
 use Rattle.std.proofs.lemmas.List.Elements.{All-nil}

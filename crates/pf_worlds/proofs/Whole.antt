@@ -1,4 +1,4 @@
--- Where no growth is refused, each run that is over is whole.
+-- Where no allocation fails, each run that is over is whole.
 use Rattle.std.proofs.Common.{◌≡◌, ℕ, ◌+◌, Bool, true, false, ◌&&◌, List, [], ◌∷◌, Option, Some, None, refl, sym}
 use Rattle.std.specs.Prelude.{if◌then◌else◌, nat_lt, length, All}
 use Rattle.std.proofs.lemmas.List.Elements.{All-nil, All-head, All-tail, All-same, All-replicate, All-set, All-push}

@@ -41,7 +41,7 @@ abbrev pub heard : ℕ → List WorkshopStep → List Response → List Reply
 heard q (x ∷ xs) (a ∷ ans) = (if project_of x == q then replies_of a else []) ++ heard q xs ans
 heard q xs ans = []
 
--- what a step is at its project's desk, if no growth is refused: a call, a claim, a file of a whole run, or a hand-back; slicing, parking, taking
+-- what a step is at its project's desk, if no allocation fails: a call, a claim, a file of a whole run, or a hand-back; slicing, parking, taking
 -- up and stealing are nothing there
 abbrev pub at_desk : WorkshopStep → Option Step
 at_desk (client_calls q c) = Some (client q c)

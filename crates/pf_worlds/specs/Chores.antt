@@ -106,7 +106,7 @@ free_effect q t taking_up d rs = deque_effect q t rs
 free_effect q t (stealing v) d rs = deque_effect q t rs
 free_effect q t k d rs = None
 
--- a worker that holds the ticket's run slices and parks it while it is going, files it when it is over, and gives it back at any time
+-- a worker that holds the ticket's run slices and parks it while it is going, files it when it is over, and hands it back at any time
 abbrev pub busy_effect : RunProfile → (ticket : ℕ) → Chore → Desk → ClaimedRun → Deque → Option Effect
 busy_effect p t (slicing n) d r rs = if is_going r.progress && nat_lt 0 n then Some (in_hand (sliced p n r)) else None
 busy_effect p t parking d r rs = if is_going r.progress && nat_lt (length rs) MOST_PARKED then Some (onto_deque r rs) else None

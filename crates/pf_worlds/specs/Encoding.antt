@@ -7,7 +7,7 @@ use Rattle.pf_desks.specs.Desk.{marked_whole, marked_memory}
 use Rattle.pf_desks.specs.Encoding.{coded_world}
 use Rattle.pf_worlds.specs.Workshop.{Progress, going, over, ClaimedRun, Deque, Workshop}
 
--- a run that is over is 0 if it is whole, and 1 if a growth was refused in it
+-- a run that is over is 0 if it is whole, and 1 if an allocation failed in it
 abbrev pub parts_of_progress : Progress → ℕ ⊎ ℕ
 parts_of_progress (going n) = inl n
 parts_of_progress (over marked_whole) = inr 0

@@ -15,7 +15,7 @@ IsOfTrial w r = IsTicketOf (desk_at r.project w) r.ticket r.job
 abbrev pub RunsAreOfTrials : Workshop → Type 0
 RunsAreOfTrials s = All (λ h. IfSome h (IsOfTrial s.desks)) s.hands × All (All (IsOfTrial s.desks)) s.deques
 
--- whatever steps there are, and wherever growths are refused, the runs are of the jobs of their trials
+-- whatever steps there are, and wherever allocations fail, the runs are of the jobs of their trials
 abbrev pub JobsAmongWorkers : Type 0
 JobsAmongWorkers =
     (p : RunProfile) (n : ℕ) (xs : List WorkshopStep) (ans : List (Option Response)) (s : Workshop)

@@ -31,7 +31,7 @@ AgreeWhereSettled [] [] [] = Unit {0}
 AgreeWhereSettled (c ∷ cs) (r ∷ rs) (k ∷ ks) = (Settles c r → Settles c k → r ≡ k) × AgreeWhereSettled cs rs ks
 AgreeWhereSettled cs rs ks = ⊥
 
--- if no growth is refused, steps are answered in turn in one way alone
+-- if no allocation fails, steps are answered in turn in one way alone
 abbrev pub AnsweredInTurn : Type 0
 AnsweredInTurn =
     (p : RunProfile) (n : ℕ) (xs : List WorkshopStep) (ans : List Response)
@@ -55,19 +55,19 @@ SettledReplies =
     (p : RunProfile) (n m q : ℕ) (xs ys : List WorkshopStep) → calls_of q xs ≡ calls_of q ys
     → AgreeWhereSettled (calls_of q xs) (heard q xs (all_responses p n xs)) (heard q ys (all_responses p m ys))
 
--- whatever steps there are, and wherever growths are refused, the desk of each project is what its history makes of an empty one, and what
+-- whatever steps there are, and wherever allocations fail, the desk of each project is what its history makes of an empty one, and what
 -- is noted in it follows: a worker claims what is queued, and files or hands back what is running
 abbrev pub LegalityAmongWorkers : Type 0
 LegalityAmongWorkers =
     (p : RunProfile) (n q : ℕ) (xs : List WorkshopStep) (ans : List (Option Response)) (s : Workshop)
     → RespondsInTurn p (new_workshop n) xs ans s → IsLegalDesk p.profile (desk_at q s.desks)
 
--- whatever steps there are, and wherever growths are refused, the desk of each project is within its limits
+-- whatever steps there are, and wherever allocations fail, the desk of each project is within its limits
 abbrev pub LimitsAmongWorkers : Type 0
 LimitsAmongWorkers =
     (p : RunProfile) (n q : ℕ) (xs : List WorkshopStep) (ans : List (Option Response)) (s : Workshop)
     → RespondsInTurn p (new_workshop n) xs ans s → IsInLimits (desk_at q s.desks)
 
--- whatever steps there are, no number of a module is told to a project twice, and no ticket
+-- whatever steps there are, no number of a module is given to a project twice, and no ticket
 abbrev pub NumbersAmongWorkers : Type 0
 NumbersAmongWorkers = (p : RunProfile) (n q : ℕ) (xs : List WorkshopStep) → TellEachOnce (heard q xs (all_responses p n xs))

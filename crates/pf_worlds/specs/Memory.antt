@@ -1,4 +1,4 @@
--- Where growths are refused in a workshop.
+-- Where allocations fail in a workshop.
 use Rattle.std.specs.Prelude.{◌≡◌, IsSome, List, [], ◌∷◌, Option, Some, None, slice_get, slice_set}
 use Rattle.std.specs.Option.{option_flatten, option_map}
 use Rattle.pf_desks.specs.Desk.{marked_memory}
@@ -8,29 +8,29 @@ use Rattle.pf_worlds.specs.Workshop.{RunProfile, over, ClaimedRun, Workshop}
 use Rattle.pf_worlds.specs.Chores.{Chore, claiming, slicing, parking, Response}
 use Rattle.pf_worlds.specs.Steps.{WorkshopStep, client_calls, worker_does, effect_of, take_step}
 
--- claims, slices and parkings may take memory; all other chores look, move or give up what stands
+-- claims, slices and parkings may take memory; all other chores look, move or give up what is there
 abbrev pub MayTakeMemory : Chore → Type 0
 MayTakeMemory claiming = Unit {0}
 MayTakeMemory (slicing n) = Unit {0}
 MayTakeMemory parking = Unit {0}
 MayTakeMemory k = ⊥
 
--- a growth may be refused in a call for which the log has room, and in a chore that can be done and may take memory
+-- an allocation may fail in a call for which the log has room, and in a chore that can be done and may take memory
 abbrev pub MayBeRefused : RunProfile → Workshop → WorkshopStep → Type 0
 MayBeRefused p s (client_calls q c) = HasRoom (desk_at q s.desks)
 MayBeRefused p s (worker_does w q t k) = MayTakeMemory k × IsSome (effect_of p s w q t k)
 
--- a run in which a growth was refused is over
+-- a run in which an allocation failed is over
 abbrev pub out_of_memory : ClaimedRun → ClaimedRun
 out_of_memory r = record r { progress = over marked_memory }
 
--- the workshop after a step in which a growth was refused: a run that was sliced is over, and all else is as it was
+-- the workshop after a step in which an allocation failed: a run that was sliced is over, and all else is as it was
 abbrev pub refused_in : Workshop → WorkshopStep → Workshop
 refused_in s (worker_does w q t (slicing n)) =
     record s { hands = slice_set s.hands w (option_map out_of_memory (option_flatten (slice_get s.hands w))) }
 refused_in s x = s
 
--- RespondsTo p s x a s': in a workshop a step is answered so, and leads to a workshop; if a growth was refused, nothing is answered
+-- RespondsTo p s x a s': in a workshop a step is answered so, and leads to a workshop; if an allocation failed, nothing is answered
 abbrev pub RespondsTo : RunProfile → Workshop → WorkshopStep → Option Response → Workshop → Type 0
 RespondsTo p s x (Some a) s' = ◌≡◌ {A = Workshop × Response} (take_step p s x) (s', a)
 RespondsTo p s x None s' = MayBeRefused p s x × (s' ≡ refused_in s x)

@@ -9,7 +9,7 @@ use Rattle.pf_worlds.specs.Chores.{Response, answer}
 use Rattle.pf_worlds.specs.Steps.{WorkshopStep, client_calls}
 use Rattle.pf_worlds.specs.Memory.{RespondsInTurn}
 
--- a call of a project with the reply that it got; nothing of another step, nor where a growth was refused
+-- a call of a project with the reply that it got; nothing of another step, nor where an allocation failed
 abbrev pub call_answered : ℕ → WorkshopStep → Option Response → List Entry
 call_answered q (client_calls r c) (Some (answer (replied k))) = if r == q then called c k ∷ [] else []
 call_answered q x a = []
@@ -19,7 +19,7 @@ abbrev pub calls_answered : ℕ → List WorkshopStep → List (Option Response)
 calls_answered q (x ∷ xs) (a ∷ ans) = call_answered q x a ++ calls_answered q xs ans
 calls_answered q xs ans = []
 
--- whatever steps there are, and wherever growths are refused, the history of a project's desk notes its calls with the replies that they got, in their
+-- whatever steps there are, and wherever allocations fail, the history of a project's desk notes its calls with the replies that they got, in their
 -- order, as many as a log holds
 abbrev pub HistoriesNoteTheCalls : Type 0
 HistoriesNoteTheCalls =

@@ -47,7 +47,7 @@ with_effect s w v q None = (s, answer not_now)
 
 -- ---- steps
 
--- what desks alone come to, in a workshop whose workers do nothing
+-- the result by desks alone, in a workshop whose workers do nothing
 abbrev pub by_desks : Workshop → World × Answer → Workshop × Response
 by_desks s x = (record s { desks = x.0 }, answer x.1)
 

@@ -26,17 +26,17 @@ response_text x (answer work_done) = to_worker (worker_of x) (codes "done")
 response_text x (answer not_now) = to_worker (worker_of x) (codes "not now " ++ code_text code.NotNow)
 response_text x stray = to_worker (worker_of x) (codes "stray " ++ code_text code.Stray)
 
--- a growth was refused in a step
+-- an allocation failed in a step
 abbrev pub memory_text : WorkshopStep → List ℕ
 memory_text (client_calls q c) = to_project q (codes "refused " ++ no_memory_text)
 memory_text (worker_does w q t k) = to_worker w (codes "no memory")
 
--- what came of a step
+-- the answer to a step
 abbrev pub outcome_text : WorkshopStep → Option Response → List ℕ
 outcome_text x (Some a) = response_text x a
 outcome_text x None = memory_text x
 
--- what came of some steps, one after the other
+-- the answers to some steps, one after the other
 abbrev pub outcomes_text : List WorkshopStep → List (Option Response) → List ℕ
 outcomes_text (x ∷ xs) (a ∷ ans) = outcome_text x a ++ outcomes_text xs ans
 outcomes_text xs ans = []

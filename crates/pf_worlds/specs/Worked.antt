@@ -115,8 +115,8 @@ in_slices means =
     ∷ (client_calls 7 (fetch 1), its_result means)
     ∷ []
 
--- the oldest parked run is taken first; what can't be done is not done: a second claim, no turns, a theft from oneself, workers that aren't
--- there, a parking of what is over; what is given back is queued again, unless it was dropped
+-- the oldest parked run is taken first; what can't be done is not done: a second claim, no turns, a worker that steals from itself, workers that aren't
+-- there, a parking of what is over; what is handed back is queued again, unless it was dropped
 abbrev pub one_by_one : (model.Job → Result) → List (WorkshopStep × Response)
 one_by_one means =
     two_projects
@@ -144,7 +144,7 @@ one_by_one means =
     ∷ (worker_does 3 2 1 claiming, not_yet)
     ∷ []
 
--- a growth is refused in a claim, a parking and a slice; the first two leave all as it was, and the run that was sliced is filed as one for
+-- an allocation fails in a claim, a parking and a slice; the first two leave all as it was, and the run that was sliced is filed as one for
 -- which memory ran out
 abbrev pub growths_refused : List (WorkshopStep × Option Response)
 growths_refused =
@@ -177,11 +177,11 @@ WorkedSteps =
 
 -- ---- texts
 
--- this is written when a step came to this
+-- this is written when this was the answer to a step
 abbrev pub IsTold : WorkshopStep → Option Response → List ℕ → Type 0
 IsTold x a text = outcome_text x a ≡ text
 
--- a worker is told by its own number, and not by the project's, the ticket's or that of the worker from whom it steals
+-- a worker is named by its own number, and not by the project's, the ticket's or that of the worker from whom it steals
 abbrev pub WorkedTexts : Type 0
 WorkedTexts =
     IsTold (worker_does 3 7 1 (slicing 2)) (Some is_done) (codes "w3 done\n")

@@ -5,7 +5,7 @@ use Rattle.pf_request.specs.Job.{Job}
 use Rattle.pf_desks.specs.Desk.{Profile, Mark}
 use Rattle.pf_desks.specs.World.{World}
 
--- the profile of the language, as far as workshops ask for it: what desks ask for; and how many events the run of a job has, or of a job with
+-- the profile of the language, or what workshops ask of it: what desks ask; and how many events the run of a job has, or of a job with
 -- runs its whole shrinking
 pub record RunProfile : Type 0 where
   pub profile : Profile
@@ -13,8 +13,8 @@ pub record RunProfile : Type 0 where
 
 -- ---- what a workshop holds
 
--- how far a run is: it made n events and isn't over; or it is over, and a file of it bears a mark: it is whole, or a growth was
--- refused in it
+-- how far a run is: it made n events and isn't over; or it is over, and a file of it bears a mark: it is whole, or an allocation
+-- failed in it
 pub data Progress : Type 0 where
   going : (made : ℕ) → Progress
   over : Mark → Progress

@@ -1,4 +1,4 @@
-//! What each call to a desk comes to.
+//! The result of each call to a desk.
 
 ghost use Rattle.std.specs.Prelude.{◌≡◌, ◌≤◌, IfOk, IsSome, MatchResult, OnErr, OnOk, Ok};
 ghost use Rattle.pf_request.specs.Calls as calls;
@@ -235,7 +235,7 @@ impl Desk {
     }
 }
 
-/// What came of the trial of a ticket, if it is filed.
+/// The result of the trial of a ticket, if it is filed.
 fn filed_result(trials: &[Option<Trial>], ticket: u64) -> Result<Finished, OrNoMemory<Refusal>>
     ensures { MatchResult result
         (λ f. fetched (held_at trials.now ticket) ≡ desk.result f.job.asked.code.atoms f.result)

@@ -3,7 +3,7 @@ use Rattle.std.specs.Prelude.{drop, take}
 use Rattle.pf_priorities.specs.Priorities.{from_key}
 use Rattle.pf_priorities.proofs.priorities.drop_below.Given as goal
 
--- what is left behind comes to the same, and what stands before the index is as it was
+-- what is left from the index on gives the same, and what is before the index is as it was
 abbrev pub invariant-loop-holders : goal.invariant-loop-holders
 invariant-loop-holders l = record {
   within : l.at ≤ length l.holders.items;

@@ -4,7 +4,7 @@ use Rattle.pf_standings.specs.Followed.{AreByPid}
 use Rattle.pf_standings.specs.Put.{AreStanding}
 use Rattle.pf_standings.proofs.processes.standing_in.Given as goal
 
--- those so far stand
+-- those so far have their statuses
 abbrev pub invariant-loop-begun : goal.invariant-loop-begun
 invariant-loop-begun l =
     (c : Configuration) → l.followed.system.standing ≡ Some c → AreByPid l.followed.begun.items

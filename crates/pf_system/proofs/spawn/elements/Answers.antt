@@ -8,7 +8,7 @@ use Rattle.pf_ops.proofs.Joined.{before_push, before_none}
 use Rattle.pf_terms.proofs.Counts.{length_count}
 use Rattle.pf_system.proofs.spawn.elements.Goals as goal
 
--- the first of what is left, behind what was copied
+-- the first of what is left, after what was copied
 one_more : (ts us : List Term) (t : Term) (v : Value) (left whole : Values) → us ≡ ts ++ t ∷ [] → value_of t ≡ v → values_before (values_of ts) (more v left) ≡ whole → values_before (values_of us) left ≡ whole
 one_more ts us t v left whole e d h =
     ap (λ l. values_before (values_of l) left) e ∙ before_push ts t left ∙ ap (λ w. values_before (values_of ts) (more w left)) d ∙ h

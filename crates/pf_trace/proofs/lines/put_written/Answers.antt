@@ -2,7 +2,7 @@ use Rattle.std.proofs.Common.{◌≡◌, ◌++◌, ℕ, List, ap, append_assoc, 
 use Rattle.std.proofs.lemmas.Result.{on_ok_weaker}
 use Rattle.pf_trace.proofs.lines.put_written.Goals as goal
 
--- the lines of the events and the three behind them are one text behind what was there
+-- the lines of the events and the three after them are one text after what was there
 joined : (b0 b1 b2 t w o s v : List ℕ) → b1 ≡ b0 ++ t → t ≡ w → b2 ≡ b1 ++ (o ++ s ++ v) → b2 ≡ b0 ++ (w ++ o ++ s ++ v)
 joined b0 b1 b2 t w o s v h1 same h2 =
     let first : b1 ≡ b0 ++ w = h1 ∙ ap (λ (x : List ℕ). b0 ++ x) same in

@@ -12,12 +12,12 @@ use Rattle.pf_trace.specs.Written.{gone_from, lines_text, told_so_far}
 use Rattle.pf_trace.proofs.Fronts.{handed_on, lines_of_both, stops_among}
 use Rattle.pf_trace.proofs.printing.print_events.Goals as goal
 
--- the events behind those that were told
+-- the events after those that were put
 rest_of : (es : List code.Event) (i : ℕ) (told : List Event) → map event_of (take i es) ≡ told → map event_of es ≡ told ++ map event_of (drop i es)
 rest_of es i told e =
     ap (map event_of) (sym (take-append-drop i es)) ∙ map-append event_of (take i es) (drop i es) ∙ ap (λ (t : List Event). t ++ map event_of (drop i es)) e
 
--- one event more was told
+-- one event more was put
 one_more : (es : List code.Event) (i : ℕ) (x : code.Event) (gone waiting now : List Event) → i < length es → x ≡ get_or es i x
     → map event_of (take i es) ≡ gone ++ waiting → now ≡ waiting ++ event_of x ∷ [] → map event_of (take (i + 1) es) ≡ gone ++ now
 one_more es i x gone waiting now h is so_far e =

@@ -10,7 +10,7 @@ use Rattle.pf_model.specs.TermText.{line}
 use Rattle.pf_model.specs.declared.report.Event as code
 use Rattle.pf_trace.proofs.report.put_report.Goals as goal
 
--- two pieces in turn are one text behind what was there
+-- two pieces in turn are one text after what was there
 joined : (b0 b1 b2 e f o s v : List ℕ) → b1 ≡ b0 ++ e → e ≡ f → b2 ≡ b1 ++ (o ++ s ++ v) → b2 ≡ b0 ++ (f ++ o ++ s ++ v)
 joined b0 b1 b2 e f o s v h1 he h2 =
     let first : b1 ≡ b0 ++ f = h1 ∙ ap (λ (t : List ℕ). b0 ++ t) he in

@@ -4,7 +4,7 @@ use Rattle.pf_model.specs.Meaning.{Choices, Event}
 use Rattle.pf_sched.specs.Parts.{Executes}
 use Rattle.pf_sched.proofs.execution.Execution.advance.Given as goal
 
--- the run of the same job by the same choices, and its trace was told one event more for each turn that was made
+-- the run of the same job by the same choices, and its trace received one event more for each turn that was made
 abbrev pub invariant-loop : goal.invariant-loop
 invariant-loop g l =
     (j : Job) (cs : Choices) (es : List Event) → j.asked.limit ≡ l.limit → Executes j cs es l.fn.self → g.T.Trace.Told l.fn.trace j.asked es

@@ -4,7 +4,7 @@ use Rattle.pf_model.specs.Reports.{event_of}
 use Rattle.pf_trace.specs.Written.{told_so_far}
 use Rattle.pf_sched.proofs.printing.Printer.add.Goals as goal
 
--- an event more behind those that wait
+-- an event more after those that wait
 one_waits_more : (gone waiting now told : List Event) (e : Event) → now ≡ waiting ++ e ∷ [] → gone ++ waiting ≡ told → gone ++ now ≡ told ++ e ∷ []
 one_waits_more gone waiting now told e more so_far =
     ap (λ (t : List Event). gone ++ t) more ∙ sym (append_assoc gone waiting (e ∷ [])) ∙ ap (λ (t : List Event). t ++ e ∷ []) so_far

@@ -4,7 +4,7 @@ use Rattle.pf_seeds.specs.Rows.{counted, joined}
 use Rattle.pf_seeds.specs.Views.{rows_in, rows_of}
 use Rattle.pf_seeds.proofs.tally.Tally.join.Given as goal
 
--- with what is left, the rows come to those of both
+-- with what is left, the rows are those of both
 abbrev pub invariant-loop-row : goal.invariant-loop-row
 invariant-loop-row l = record {
   rows : joined (rows_of l.self) (rows_in (into_iter_items l.row-iterator)) ≡ joined (rows_of l.fn.self) (rows_of l.fn.behind);

@@ -21,7 +21,7 @@ use Rattle.pf_system.proofs.Shown.{ends_so}
 use Rattle.pf_system.proofs.processes.Processes.end.Goals.{in-Ok+in_ok-signals-in-Ok, in-Err+in_ok-signals-in-Err}
 use Rattle.pf_system.proofs.processes.Processes.end.Goals as goal
 
--- what stands before the slot is written
+-- what holds before the slot is written
 record Untied (w w1 : Processes) (a : ℕ) (e : Result Term Term) (ss : List (ℕ × Signal)) : Type 0 where
   rest : w1 ≡ record w { shared = record w.shared { ties = ties.ended w.shared.ties a } }
   last : ss ≡ ties.last_signals_of (ties.of w.shared.ties a) (reason_of (end_of e))
