@@ -34,7 +34,7 @@ lines() {
   }'
 }
 
-# Nanoseconds of the command that the function $1 runs with the words behind it.
+# Nanoseconds of the command that the function $1 runs with the words after it.
 taken() {
   start=$(date +%s%N)
   "$@"

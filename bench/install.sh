@@ -4,10 +4,10 @@
 # to three hours.
 #
 # Nothing that was proved before counts: both run by a copy of the kit, which keeps what it proves beside itself. What was kept of a crate of the chain is
-# laid aside, and it is proved anew over the libraries that the whole run left; what `rt` takes to find these is measured by a second call and left out.
+# laid aside, and it is proved again over the libraries that the whole run left; what `rt` takes to find these is measured by a second call and left out.
 #
-# Usage: install.sh [FOLDER]; the copies lie in FOLDER, which stays, or else in a folder of their own, which goes. They want some 10 GB, and
-# 18 more where the kit lies on another file system.
+# Usage: install.sh [FOLDER]; the copies are in FOLDER, which stays, or else in a folder of their own, which goes. They want some 10 GB, and
+# 18 more where the kit is on another file system.
 set -eu
 top=$(cd "$(dirname "$0")/.." && pwd)
 if [ $# = 0 ]; then
@@ -18,7 +18,7 @@ else
   room=$(cd "$1" && pwd)
 fi
 kit=$(dirname "$(dirname "$(realpath "$(command -v rt)")")")
-# (by links where both lie on one file system: the kit is large)
+# (by links where both are on one file system: the kit is large)
 [ -d "$room/kit" ] || cp -al "$kit" "$room/kit" 2> /dev/null || { rm -rf "$room/kit"; cp -a "$kit" "$room/kit"; }
 export PATH="$room/kit/bin:$PATH"
 if [ "$(realpath "$(command -v rt)")" != "$room/kit/bin/rt" ]; then
@@ -27,7 +27,7 @@ if [ "$(realpath "$(command -v rt)")" != "$room/kit/bin/rt" ]; then
 fi
 unset RT_JOBS
 rm -rf "$room/rattle-kept" "$room/tree"
-# (the tree as it stands, with what isn't committed)
+# (the tree as it is, with what isn't committed)
 git init -q "$room/tree"
 (cd "$top" && git ls-files -co --exclude-standard -z | tar --null --ignore-failed-read -T - -c 2> /dev/null) | tar -C "$room/tree" -x
 

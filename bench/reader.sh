@@ -54,7 +54,7 @@ source() {
     }' > "$room/source"
 }
 
-# The bytes that stand in blocks at most where a module is read and kept $1 times.
+# The bytes that are in blocks at most where a module is read and kept $1 times.
 most() {
   LD_PRELOAD="$room/blocks.so" BLOCKS_TOLD="$room/blocks" "$program" "$1" < "$room/source" > "$room/kept"
   [ "$(cat "$room/kept")" = "$1 kept" ] || { echo "a source isn't read" >&2; exit 1; }

@@ -1,10 +1,10 @@
 #!/bin/sh
 # Times `pulsefarm steps` on scripts of many projects, each with 16 modules, 64 orders, and for each order a worker's claim, slice and file, and a `fetch`, and
-# takes how many bytes stand in blocks at most. It prints tables for docs/SPEED.md, and fails where
+# takes how many bytes are in blocks at most. It prints tables for docs/SPEED.md, and fails where
 # - a command costs over 1.5 times as much in one script as in another,
 # - 100 projects that submit the same 16 modules take 3 bytes or more for each byte that is read and written: the sources, the calls and the replies
 #   with their reports,
-# - 100 projects that submit modules of their own take 3 bytes or more for each byte of their sources, reports and logs as these stand in memory,
+# - 100 projects that submit modules of their own take 3 bytes or more for each byte of their sources, reports and logs as these are in memory,
 # - one more fetch of a report takes as much as a note and a copy of the report,
 # - large sources take 2.5 bytes or more for each byte that is read: the input and the one copy that desk and log share are 2,
 # - a client's call costs over 1.5 times as much among 10,000 projects as among 10, with a full log as with an empty one, or at the 64th
@@ -67,20 +67,20 @@ for projects in 8 31 123; do
 done
 [ $((high * 10)) -le $((low * 15)) ] || bad=1
 
-# Sets `most` to the bytes that stand in blocks at most, and `text` to those that are read and written.
+# Sets `most` to the bytes that are in blocks at most, and `text` to those that are read and written.
 measure() {
   LD_PRELOAD="$room/blocks.so" BLOCKS_TOLD="$room/blocks" "$program" steps "$room/in" > "$room/out"
   most=$(sed -n 's/.*, \([0-9]*\) bytes at most$/\1/p' "$room/blocks")
   text=$(($(wc -c < "$room/in") + $(wc -c < "$room/out")))
 }
 
-# The bytes of what is noted, ordered and told, as the types had them when the bound was set and without what blocks have beside: a note (a call
+# The bytes of what is noted, ordered and answered, as the types had them when the bound was set and without what blocks have beside: a note (a call
 # with its reply, a claim or a file), an order with its two words, and a report with its one event.
 note=24
 order=96
 report=$((64 + 48))
 
-# Sets `things` to the bytes of the sources, reports and logs of 100 projects as they stand in memory, each once.
+# Sets `things` to the bytes of the sources, reports and logs of 100 projects as they are in memory, each once.
 count_things() {
   sources=$(awk '/^submit/ { n += $3 } END { print n }' "$room/in")
   things=$((sources + 100 * (16 + 4 * 64) * note + 100 * 64 * (order + report)))
@@ -121,7 +121,7 @@ measure
 echo "100 sources of 60,000 bytes: at most $most bytes in blocks, for $text bytes read and written"
 [ $((most * 10)) -lt $((text * 25)) ] || bad=1
 
-# ---- what a call costs: the calls of $room/calls, behind what stands in $room/before
+# ---- what a call costs: the calls of $room/calls, after what is in $room/before
 
 # Sets `each` to the nanoseconds that one of the calls takes.
 cost() {
@@ -162,7 +162,7 @@ questions() {
   }'
 }
 
-# Tells the costs $2 and $4 of a call in the cases $1 and $3, and marks a second one that is over 1.5 times the first.
+# Prints the costs $2 and $4 of a call in the cases $1 and $3, and marks a second one that is over 1.5 times the first.
 tell_costs() {
   echo "| $1 | $2 ns |"
   echo "| $3 | $4 ns |"

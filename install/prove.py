@@ -2,7 +2,7 @@
 """prove.py TREE: proves the program of TREE and the crates below it, side by side, and leaves the program in crates/pulsefarm/out.
 
 `rt ci` does the work, crate by crate, in a copy that has these crates alone. They go in the order of need, first those with the longest chain of others
-behind them, as many at once as processors and memory hold; the first has half of the processors, as all wait for that chain. `rt` keeps each as soon as it is proved, beside
+after them, as many at once as processors and memory hold; the first has half of the processors, as all wait for that chain. `rt` keeps each as soon as it is proved, beside
 the kit, where the gate finds it: so what the gate proved on this machine isn't proved again, and a run that was stopped goes on where it was.
 
 What it is at goes to standard error. Where a crate isn't proved the last 30 lines of its log do too, and the status is 1. Where it is stopped the status
@@ -44,7 +44,7 @@ class NotKept(Exception):
 
 
 class Progress:
-    """How far the proofs are: one line that is written anew on a terminal, else a line for each crate."""
+    """How far the proofs are: one line that is written over on a terminal, else a line for each crate."""
 
     def __init__(self, crates, lanes):
         self.below, self.seconds, self.left = order.below_of(crates), order.seconds_of(crates), set(crates)
@@ -128,13 +128,13 @@ class Run:
         )
 
     def goes_on(self, progress):
-        """Takes what it said since, and tells of the crates that are done. Returns whether it goes on."""
+        """Takes what it said since, and reports the crates that are done. Returns whether it goes on."""
         more = os.read(self.process.stdout.fileno(), 65536)
         *lines, self.text = (self.text + more).split(b"\n") if more else (self.text, b"")
         for line in lines:
             self.take(line.decode(errors="replace"), progress)
         if not more and self.process.wait():
-            # (what else can be wrong before the first crate, the run over all tells)
+            # (what else can be wrong before the first crate, the run over all says)
             raise NotKept if self.crate and not self.has_begun else Failed(self.log)
         return bool(more)
 

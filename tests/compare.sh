@@ -25,7 +25,7 @@ compare() {
   fi
 }
 
-# Counts the check $1, which came out well where its status $2 is 0; else what was told and said last is shown.
+# Counts the check $1, which passed where its status $2 is 0; else what was last printed on both streams is shown.
 note() {
   if [ "$2" = 0 ]; then
     passed=$((passed + 1))
@@ -36,7 +36,7 @@ note() {
   fi
 }
 
-# Tells the counts, and whether something ran and nothing failed.
+# Prints the counts, and says whether something ran and nothing failed.
 tell_counts() {
   echo "$passed passed, $failed failed"
   [ "$failed" = 0 ] && [ "$passed" != 0 ]

@@ -22,7 +22,7 @@ lines() {
 }
 
 seen=
-# What each says stands in the room, and its status with the seconds that it took.
+# What each says is in the room, and its status with the seconds that it took.
 # (the words of `sh -c` are its own)
 # shellcheck disable=SC2016
 lines | xargs -P "$(nproc)" -L 1 sh -c 'room=$0

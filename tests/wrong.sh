@@ -1,13 +1,13 @@
 #!/usr/bin/env bash
-# Tries wrong bodies: each edit of crates/NAME/wrong/ turns what a function means, and the prover has to refuse the crate with it.
+# Tries wrong bodies: each edit of crates/NAME/wrong/ changes what a function means, and the prover has to refuse the crate with it.
 # (One in crates/NAME/must-fail/ is tried by each `rt ci` too, which costs that crate a second proof.)
 #
-#   tests/wrong.sh apply        tells the edits that can't be applied, and fails where there are any
-#   tests/wrong.sh due          tells which wrong bodies are due, and why; tries nothing
+#   tests/wrong.sh apply        prints the edits that can't be applied, and fails where there are any
+#   tests/wrong.sh due          prints which wrong bodies are due, and why; tries nothing
 #   tests/wrong.sh              tries those that are due
 #   tests/wrong.sh all          tries those of every crate
 #   tests/wrong.sh NAME..       tries those of these crates
-#   tests/wrong.sh lay FOLDER   makes a clone in FOLDER in which those that are due stand in must-fail/, for `rt ci`
+#   tests/wrong.sh lay FOLDER   makes a clone in FOLDER in which those that are due are in must-fail/, for `rt ci`
 #   tests/wrong.sh read LOG [FOLDER]
 #                               takes from the output of `rt ci` in such a clone what was refused: of those that were laid in FOLDER, or
 #                               else of those that are due now
@@ -68,7 +68,7 @@ cited() {
   done
 }
 
-# Copies the files of the repository, as they stand here, into the folder $1.
+# Copies the files of the repository, as they are here, into the folder $1.
 clone() {
   git init -q "$1" || fail "no clone can be made in $1"
   git ls-files -co --exclude-standard -z | while IFS= read -r -d '' file; do
@@ -90,7 +90,7 @@ lay_out() {
   done
 }
 
-# Tries the wrong bodies of crate $1 in the clone; what is told goes to a file.
+# Tries the wrong bodies of crate $1 in the clone; the output goes to a file.
 try() {
   (cd "$room/clone" && rt must-fail "$1") > "$room/log.$1" 2>&1
   echo "$1: tried"
@@ -131,7 +131,7 @@ try_all() {
   says note "$1" "${chosen[@]/#/$room/log.}"
 }
 
-# Makes the plan for the crates $@, or for those that are due, and tells it.
+# Makes the plan for the crates $@, or for those that are due, and prints it.
 make_plan() {
   for name in "$@"; do is_crate "$name" || fail "crates.txt lists no crate $name"; done
   says plan "$room/plan" "$@" || fail "no plan was made"

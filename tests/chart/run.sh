@@ -1,5 +1,5 @@
 #!/bin/bash
-# Draws the race of each module of examples/ by the seed that the table there names, and holds the chart against the report of that run: heads for
+# Draws the race of each module of examples/ by the seed that the table there names, and compares the chart with the report of that run: heads for
 # each process, a row for each event, a star for each choice above 0, an arrow for each signal and each spawn; and the same run in a compact chart, and a long
 # run page by page. Where a browser is there, or can be installed from the system's packages,
 # the chart is opened in it, and what is checked is what the browser made of it; else it is the file. A source whose atoms have all that markup has stays text.
@@ -40,7 +40,7 @@ same() {
   fi
 }
 
-# How often the pattern $1 stands in what was opened.
+# How often the pattern $1 occurs in what was opened.
 times() { grep -oE "$1" "$room/opened" | wc -l; }
 
 # Draws the module $1 by the words from $2 on into `chart.svg`, opens it, and leaves its report in `report`; `manner` has words of the chart alone.
@@ -57,7 +57,7 @@ draw() {
   opened "$room/chart.svg" > "$room/opened"
 }
 
-# Holds the chart against the report, by counts; $1 names it.
+# Compares the chart with the report, by counts; $1 names it.
 matches() {
   events=$(grep -cE '^[0-9]+/[0-9]+ ' "$room/report")
   spawns=$(grep -cE '^[0-9]+/[0-9]+ <[0-9]+> spawn' "$room/report")
@@ -78,7 +78,7 @@ matches() {
   same "text of $1" yes "$([ "$(times '<text')" -ge "$events" ] && echo yes)"
 }
 
-# Holds a compact chart against the report, by counts; $1 names it. A message that some exit or monitor made has no send.
+# Compares a compact chart with the report, by counts; $1 names it. A message that some exit or monitor made has no send.
 matches_compact() {
   quiet=$(grep -cE '^[0-9]+/[0-9]+ (<[0-9]+> wait|<[0-9]+>-><[0-9]+> deliver message)$' "$room/report")
   received=$(grep -E '^[0-9]+/[0-9]+ <[0-9]+> receive ' "$room/report" | grep -cvE " receive \\{'(EXIT|DOWN)',")
@@ -110,7 +110,7 @@ draw "$room/markup.erl" --seed 0
 matches markup
 same 'scripts' 0 "$(times '<script')"
 
-# A run of 1,203 events stands on three pages; the first is drawn where none is named, and the last where there are fewer.
+# A run of 1,203 events is on three pages; the first is drawn where none is named, and the last where there are fewer.
 cat > "$room/long.erl" << 'SOURCE'
 -module(long).
 -export([main/0]).
@@ -137,7 +137,7 @@ for page in ' 500 1 500 1' '1 500 1 500 1' '2 500 501 1000 2' '3 203 1001 1203 3
   same "line of page ${words[1]:-}" 1 "$(times ">Page ${wanted[3]} of 3: rows ${wanted[1]} to ${wanted[2]} of 1203<")"
 done
 
-# What is refused is told in its words, and no document goes out.
+# What is refused is reported in its words, and no document goes out.
 printf '%s\n' B2 > "$room/wanted"
 compare 'a root that is none' 2 "$room/markup.erl" "$room/wanted" chart --root other --limit 5 --seed 0
 tell_counts

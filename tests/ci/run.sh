@@ -30,7 +30,7 @@ step() {
   note "$1 on $2" $?
 }
 
-# The step $1 finds the race of `wrong_reply`, and none in its mended form.
+# The step $1 finds the race of `wrong_reply`, and none in its fixed form.
 finds() {
   step "$1" wrong_reply 1
   "$program" hunt "$top/examples/wrong_reply.erl" --root main --limit 2000 --property true --seeds 0..1000 --shrink 300 > "$room/wanted"

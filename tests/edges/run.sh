@@ -83,7 +83,7 @@ files() {
 
 unread='those before it were answered, and nothing behind it was read\n'
 
-# A line that is no command, $1, is told by its number and this reason, $2.
+# A line that is no command, $1, is reported by its number and this reason, $2.
 no_command() {
   printf 'usage 0\n%b\nusage 0\n' "$1" > in
   run steps
@@ -109,7 +109,7 @@ lines_that_are_no_command() {
   no_command 'submit 0 99' 'the source of as many bytes, and a line end, don'\''t follow `submit`'
 }
 
-# As many bytes as are read, of one submission, and a line behind them.
+# As many bytes as are read, of one submission, and a line after them.
 more_than_is_read() {
   { printf 'submit 0 67108846\n'; head -c 67108846 /dev/zero; printf '\nusage 0\n'; } > in
   run steps
@@ -154,7 +154,7 @@ files_that_are_not_read() {
 
 more="\nFor more information, try '--help'.\n"
 
-# How words are refused stands in `tests/words`; here is a refusal without a usage, and what is no text.
+# How words are refused is in `tests/words`; here is a refusal without a usage, and what is no text.
 words() {
   : > in
   run run --root main --limit 5 --seed 7 --property
@@ -247,7 +247,7 @@ client_that_waits() {
   ended 'the last line, once the input has ended' 0 'p2 usage 0 0 0 0 1\n' ''
 }
 
-# How far a shrinking came is told on standard error where that is a terminal, and makes no difference to the output.
+# The progress of a shrinking is shown on standard error where that is a terminal, and makes no difference to the output.
 # shellcheck disable=SC2086
 progress() {
   : > in
@@ -270,7 +270,7 @@ progress() {
   done
 }
 
-# How far a hunt came is told there too, in numbers that no test knows.
+# The progress of a hunt is shown there too, in numbers that no test knows.
 # shellcheck disable=SC2086
 progress_of_a_hunt() {
   : > in
@@ -288,7 +288,7 @@ progress_of_a_hunt() {
   check 'hunt empties its line' test "$(tail -c 4 err)" = "$(printf '\r\033[K')"
 }
 
-# Schedules that stand in files, by themselves and in reports.
+# Schedules that are in files, by themselves and in reports.
 # shellcheck disable=SC2086
 schedules_in_files() {
   : > in
@@ -404,7 +404,7 @@ reasons() {
   check 'help' cmp -s out first
 }
 
-# What bash offers for the word $2 behind the words before it; $1 is the offer.
+# What bash offers for the word $2 after the words before it; $1 is the offer.
 offers() {
   offered=$1
   shift
@@ -484,7 +484,7 @@ deep_sources() {
 }
 
 # Checks, on 1 MiB of stack, a body that nests $1 and $4 around $3, $2 times: it is read, and with one level more it is refused at $7.
-# $5 and $6 stand before and behind the nesting.
+# $5 and $6 come before and after the nesting.
 deepest() {
   for more in 0 1; do
     {

@@ -130,7 +130,7 @@ note "a long report within 60 MB: status $status" $?
 [ "$("$program" run flood.erl --root main --limit 100000 --schedule none 2> err | head -n 1 | head -c 5)" = 0/1\ \< ]
 note 'the first line of a long report' $?
 
-# An input without an end is read as far as it is asked for.
+# An input without an end is read up to what is asked for.
 endless() {
   name=$1 wanted=$2
   shift 2

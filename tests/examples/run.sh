@@ -1,7 +1,7 @@
 #!/bin/sh
 # Hunts over each module of examples/, asked for its property: of a race the least seed that fails by the strategy `uniform` has to be that
 # which the table of examples/README.md names, below 1,000, some seed has to fail by priorities too, and the property has to hold by some seed;
-# of a mended form it has to hold by each seed below 10,000, by both.
+# of a fixed form it has to hold by each seed below 10,000, by both.
 #
 # Usage: run.sh [BINARY]; the program is that of the crate `pulsefarm` where none is named.
 set -u

@@ -1,6 +1,6 @@
 #!/bin/sh
-# Runs `farm`, whose clients and workers are threads, and compares what each client is told: with texts that follow from the rules (docs/LANGUAGE.md), and with what
-# `steps` tells the same project alone. A worker of `steps` claims, slices and files there where the client of the farm awaits its trial.
+# Runs `farm`, whose clients and workers are threads, and compares what each client is answered: with texts that follow from the rules (docs/LANGUAGE.md), and with what
+# `steps` answers the same project alone. A worker of `steps` claims, slices and files there where the client of the farm awaits its trial.
 #
 # Usage: run.sh [BINARY]; the program is that of the crate `pulsefarm` where none is named.
 set -u
@@ -23,14 +23,14 @@ begin() {
   { printf 'submit %s %s\n' "$1" "$(wc -c < "$2")"; cat "$2"; echo; } > "c$1"
 }
 
-# What `steps` tells of the lines of project $1 in its file, where each `await` is a worker's work on that trial.
+# What `steps` answers to the lines of project $1 in its file, where each `await` is a worker's work on that trial.
 alone() {
   awk -v p="$1" '
     /^await / { print "claim 0 " p " " $3; print "slice 0 " p " " $3 " 1000000"; print "file 0 " p " " $3; next }
     { print }' "c$1" | timeout 120 "$program" steps | grep -v '^w0 '
 }
 
-# Runs a farm of $2 workers over the files from $3 on, and counts whether it tells what is in `wanted` with status $1.
+# Runs a farm of $2 workers over the files from $3 on, and counts whether it writes what is in `wanted` with status $1.
 farm() {
   wanted_status=$1 workers=$2
   shift 2
@@ -119,7 +119,7 @@ files() {
   note 'an output that takes nothing' $?
 }
 
-# $1 clients, each with $2 trials of two senders by seeds, on 4 workers: each is told what it is told alone.
+# $1 clients, each with $2 trials of two senders by seeds, on 4 workers: each is answered what it is answered alone.
 many_trials() {
   names=''
   : > wanted
@@ -156,7 +156,7 @@ many_lines() {
   done
 }
 
-# Runs of more than a slice are parked, and go on: each ends as it does alone. What the workers did is told at the end: each run has two slices, so it is parked once, and
+# Runs of more than a slice are parked, and go on: each ends as it does alone. What the workers did is reported at the end: each run has two slices, so it is parked once, and
 # one worker has nobody to steal from.
 parked_runs() {
   names=''
@@ -183,7 +183,7 @@ parked_runs() {
   done
 }
 
-# How far the trials are is told on standard error where that is a terminal, in one line that is written over, and makes no difference to the output.
+# How far the trials are is shown on standard error where that is a terminal, in one line that is written over, and makes no difference to the output.
 on_a_terminal() {
   begin 1 spawning.erl
   awk 'BEGIN { for (t = 1; t <= 3000; t++) print "order 1 1 main true seed:" t " 2000\nawait 1 " t "\ndrop 1 " t }' >> c1

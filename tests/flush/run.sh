@@ -1,6 +1,6 @@
 #!/bin/sh
-# A flush takes out the message that tells of its reference, however the signals came: a run of three processes, in which a flush behind
-# the end of a watched process has to leave the message of the third for the receive behind it, by every schedule of up to six numbers
+# A flush takes out the message that names its reference, however the signals came: a run of three processes, in which a flush after
+# the end of a watched process has to leave the message of the third for the receive after it, by every schedule of up to six numbers
 # from 0 to 2.
 #
 # Usage: run.sh [BINARY]; the program is that of the crate `pulsefarm` where none is named.
@@ -22,7 +22,7 @@ flushed() {
   fi
 }
 
-# Every schedule of so many numbers more, behind those of $1.
+# Every schedule of so many numbers more, after those of $1.
 all_behind() {
   flushed "$1"
   [ "$2" != 0 ] || return 0

@@ -17,7 +17,7 @@ cc -O2 -shared -fPIC -o lessen.so "$top/tests/edges/lessen.c" -ldl || exit 1
 # The most KiB that a run may have resident which keeps no more than its module and its events: 16 MiB.
 few=16384
 
-# Runs the program on `in` under the words from $5 on; $1 names the run. It has to end with status $2 and with what stands in `wanted`, within $3 milliseconds of
+# Runs the program on `in` under the words from $5 on; $1 names the run. It has to end with status $2 and with what is in `wanted`, within $3 milliseconds of
 # processors and $4 KiB of memory.
 bounded() {
   name=$1 wanted_status=$2 most_time=$3 most_room=$4
@@ -62,7 +62,7 @@ spawn_bombs() {
     } > wanted
     bounded "spawn bomb of edition $edition" 1 1000 $few run --root main --limit 100000 --schedule none --edition $edition
   done
-  # No seed lets a bomb go further: within the limit it ends for want of processes.
+  # No seed lets a bomb go further: within the limit it ends since no more processes may be made.
   printf 'fails 200 seeds, least 0: ended {system_limit,[]}\n' > wanted
   bounded 'spawn bomb of 200 seeds' 1 20000 $few hunt --root main --limit 100000 --property returns --seeds 0..200 --all --strategy uniform
 }
@@ -108,7 +108,7 @@ long_lists() {
   run_within 'lists of 4,000 elements, in guards' 1 15000 $few 20000
 }
 
-# 121 processes that all link to one another, of which the youngest ends behind all these links: each ends once by its reason, and nobody waits.
+# 121 processes that all link to one another, of which the youngest ends after all these links: each ends once by its reason, and nobody waits.
 links_of_all_with_all() {
   module main/0,kid/0,last/0 \
     'main() -> K = kids(119, [self()]), L = [spawn(m, last, []) | K], tell(L, L), receive never -> ok end.' \
@@ -344,7 +344,7 @@ all_quotas() {
   }'
 }
 
-# The lines of the project beside it, which orders a run and a shrinking; those that fetch what came of them; and what it is told. A run is 2 steps, up to its wait.
+# The lines of the project beside it, which orders a run and a shrinking; those that fetch their results; and what it is answered. A run is 2 steps, up to its wait.
 small_project() {
   printf -- '-module(m).\n-export([main/0]).\nmain() -> receive x -> ok end.\n' > small
   echo "submit 2 $(($(wc -c < small)))"
@@ -361,7 +361,7 @@ small_told() {
 # The replies of project $1, out of those in the file $2.
 replies_of() { awk -v front="p$1" '/^[pw][0-9]+ / { own = $1 == front } own' "$2"; }
 
-# The project beside one that uses all its quotas must not notice: each byte that it is told is what the rules want of its own lines alone.
+# The project beside one that uses all its quotas must not notice: each byte that it is answered is what the rules want of its own lines alone.
 beside_all_quotas() {
   all_quotas > lines
   small_told > wanted
@@ -395,7 +395,7 @@ beside_all_quotas() {
 }
 
 # A list of 4,095 atoms of 255 bytes that print as two each, sent at each third step: 2 MB of text an event, 67 GB in 100,000 steps. `run` writes them as it goes, within little memory.
-# `steps` keeps them: where memory ends, the run ends with a report of `memory`, and what another project is told then is the same.
+# `steps` keeps them: where memory ends, the run ends with a report of `memory`, and what another project is answered then is the same.
 flood_of_text() {
   module main/0 "main() -> X = '$(repeated '\\n' 255)', f(self(), [$(repeated X, 4094)X])." 'f(P, L) -> P ! L, f(P, L).'
   printf 'limit\nsteps 4300\nproperty fails\n' > wanted
@@ -422,7 +422,7 @@ flood_of_text() {
   note 'a flood of text by steps' $?
 }
 
-# What a reader of reports is shown has no byte that a terminal acts on, whatever stands in a source, and no markup of a browser's in a chart.
+# What a reader of reports is shown has no byte that a terminal acts on, whatever is in a source, and no markup of a browser's in a chart.
 texts_for_readers() {
   markup="'<script>alert(1)</script>&\"]]>-->'"
   module main/0 "main() -> self() ! $markup, self() ! 'a\\n\\tb', receive X -> X end."

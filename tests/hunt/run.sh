@@ -1,5 +1,5 @@
 #!/bin/sh
-# Hunts over the modules of examples/ and holds what is told against `run` and `shrink` of the same seeds: the least seed that fails, its
+# Hunts over the modules of examples/ and compares what is reported with `run` and `shrink` of the same seeds: the least seed that fails, its
 # choices and its report; each outcome with its seeds; and that the number of workers makes no difference. All of it by both strategies; the
 # schedule of each seed that is found runs so again.
 #
@@ -38,7 +38,7 @@ least_by_runs() {
   done
 }
 
-# What a hunt tells of the seed $3, by which the property $2 of the module $1 fails; the report stays in `report`.
+# What a hunt reports of the seed $3, by which the property $2 of the module $1 fails; the report stays in `report`.
 failure() {
   told "$room/report" run "$examples/$1.erl" --root main --limit 2000 --property "$2" --seed "$3" --strategy "$strategy"
   printf 'seed %s\n' "$3"
@@ -68,7 +68,7 @@ first() {
   done
 }
 
-# The schedule of the least seed that fails, and what `shrink` tells of it.
+# The schedule of the least seed that fails, and what `shrink` reports of it.
 shrunk() {
   least=$(least_by_runs "$1" "$2" 0 200)
   failure "$1" "$2" "$least" > "$room/wanted"
@@ -107,7 +107,7 @@ outcomes() {
 # The number in the line that says that a hunt stopped; nothing where the first line of the output says something else.
 stopped_behind() { sed -n '1s/^stopped behind \([1-9][0-9]*\) seeds$/\1/p' "$room/out"; }
 
-# Hunts of the module $1 for a time: each stops soon, and tells of the seeds that it ran what a hunt over these seeds tells.
+# Hunts of the module $1 for a time: each stops soon, and reports of the seeds that it ran what a hunt over these seeds reports.
 for_a_time() {
   asked="$examples/$1.erl --root main --limit 2000"
   # The words in `$asked` have no blanks in them.
@@ -134,7 +134,7 @@ for_a_time() {
   }
 }
 
-# Words of a time that are none, and a hunt without seeds and a time, which is over the first 10,000.
+# Words that are no time, and a hunt without seeds and a time, which is over the first 10,000.
 times_refused() {
   : > "$room/wanted"
   asked="$examples/$1.erl --root main --limit 2000 --property true"
@@ -150,7 +150,7 @@ times_refused() {
   }
 }
 
-# Properties with an atom that stands nowhere in the module: the same goes out, and standard error says so. $1 is the module, $2 an atom that it has.
+# Properties with an atom that occurs nowhere in the module: the same goes out, and standard error says so. $1 is the module, $2 an atom that it has.
 lacking() {
   echo 'no failure in 5 seeds' > "$room/wanted"
   : > "$room/silent"

@@ -1,6 +1,6 @@
 #!/usr/bin/env python3
-"""The order of install/: that no crate begins before those that it needs, never more at once than there are lanes, first those with the longest chain of others behind
-them; how many lanes there are; what is reckoned; and what is told at a pace that isn't the table's. It prints what isn't so."""
+"""The order of install/: that no crate begins before those that it needs, never more at once than there are lanes, first those with the longest chain of others after
+them; how many lanes there are; what is reckoned; and what is printed at a pace that isn't the table's. It prints what isn't so."""
 import contextlib
 import io
 import os
@@ -28,7 +28,7 @@ def begun(count):
 
 
 def faults_of_pace():
-    """Yields what is told amiss of two crates of 100 seconds by the table, one after the other."""
+    """Yields what is said wrong of two crates of 100 seconds by the table, one after the other."""
     now = 0
     prove.time.monotonic = lambda: now
     # (at half of the table's pace the second takes 200 seconds; one that was kept says nothing of the pace)

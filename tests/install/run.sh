@@ -1,5 +1,5 @@
 #!/bin/sh
-# Installs from a small tree by a `rt` of its own (tests/install/rt): what is proved and in which copy, what is told, and that a run which was stopped
+# Installs from a small tree by a `rt` of its own (tests/install/rt): what is proved and in which copy, what is printed, and that a run which was stopped
 # goes on where it was, one that fails says why, and nothing is left behind. Then the order in which crates are proved (lanes.py). Where
 # no BINARY is named, as at the gate, the tree itself is installed too, from what the gate has proved, and previewed.
 #
@@ -116,7 +116,7 @@ side_by_side() {
   note "the longest chain has the wide lane ($lanes)" $?
 }
 
-# Where nothing is kept, as on a full disk, one run proves all, once the second run of a crate has told so.
+# Where nothing is kept, as on a full disk, one run proves all, once the second run of a crate has shown so.
 forgetful() {
   lay
   : > "$FAKE/forgets"
@@ -159,7 +159,7 @@ stopped() {
   note "and comes to its end (status $status)" $?
 }
 
-# The driver alone tells that it was stopped.
+# The driver alone says that it was stopped.
 told_to_stop() {
   lay
   PATH=$room/kit/bin:$PATH MOMENT=30 python3 "$room/tree/install/prove.py" "$room/tree" > "$room/out" 2> "$room/err" &
@@ -205,7 +205,7 @@ fails() {
   note "what rt refuses is told (status $status)" $?
 }
 
-# On a terminal one line is written anew.
+# On a terminal one line is written again and again.
 terminal() {
   lay
   PATH=$room/kit/bin:$PATH script -qec "python3 $room/tree/install/prove.py $room/tree" /dev/null > "$room/out" 2> "$room/err" < /dev/null
@@ -253,7 +253,7 @@ previews() {
   note "the preview says that it is unproved" $?
 }
 
-# Each crate of the program stands in the table, and each name in it is that of a crate.
+# Each crate of the program is in the table, and each name in it is that of a crate.
 table() {
   python3 -c 'import sys; sys.path.insert(0, sys.argv[1]); import order; print(*order.crates_of(sys.argv[2], ["pulsefarm"]), sep="\n")' "$top/install" "$top" | sort > "$room/sorted"
   sed -n 's/^\([a-z][a-z_]*\) [0-9][0-9]*$/\1/p' "$top/install/seconds.txt" | sort > "$room/table"

@@ -13,7 +13,7 @@ LIMIT = 9007199254740992
 
 
 def once(pairs):
-    """The object of these pairs, no key of which stands twice."""
+    """The object of these pairs, no key of which occurs twice."""
     keys = [key for key, _ in pairs]
     if len(set(keys)) != len(keys):
         raise ValueError(f"a key stands twice: {keys}")
@@ -93,7 +93,7 @@ def count(number, one, several):
 
 
 def end_of(value):
-    """What is told of a root or a file, by the keys behind its name."""
+    """What is reported of a root or a file, by the keys after its name."""
     if "stopped" in value:
         return f"stopped behind {value['seeds']} seeds, no failure"
     if "seed" in value:

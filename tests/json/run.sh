@@ -1,6 +1,6 @@
 #!/bin/sh
 # Answers as JSON: the object of each shape of line against one that was written by hand; and of whole answers that each object is valid by
-# docs/json.schema.json, that there are as many as lines of text, each of them its line put otherwise, and that status and standard error are the
+# docs/json.schema.json, that there are as many as lines of text, each of them its line in another form, and that status and standard error are the
 # same.
 #
 # Usage: run.sh [BINARY]; the program is that of the crate `pulsefarm` where none is named.
@@ -22,7 +22,7 @@ told() {
   cp said err
 }
 
-# The last output is what the words from $2 on tell as text, object by object; $1 names the check.
+# The last output is what the words from $2 on print as text, object by object; $1 names the check.
 agrees() {
   name=$1
   shift
@@ -154,7 +154,7 @@ hunts() {
   note 'a hunt for a time' $?
 }
 
-# Files whose names have what stands between the facts of a line, and roots in quotes.
+# Files whose names have what is between the facts of a line, and roots in quotes.
 suites() {
   mkdir folder
   cp e.erl folder/e.erl

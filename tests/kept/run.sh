@@ -1,7 +1,7 @@
 #!/bin/sh
 # What a worker keeps between runs is bounded: of a stack, a mailbox or a queue that grew large no more than some 64 KiB stay. For each source
 # below `steps` makes a run within 100,000 steps that takes megabytes, drops it, and then reads sources that take more than that run did. The
-# most bytes that stand in blocks may be 300,000 more than in the same script whose run is cut after 100 steps.
+# most bytes that are in blocks may be 300,000 more than in the same script whose run is cut after 100 steps.
 #
 # Usage: run.sh [BINARY]; the program is that of the crate `pulsefarm` where none is named.
 set -u
@@ -19,7 +19,7 @@ awk 'BEGIN {
   }
 }' > "$room/sources"
 
-# Sets `most` to the bytes that stand in blocks at most where project 1 has a run of the source $1 within $2 steps made and dropped, and
+# Sets `most` to the bytes that are in blocks at most where project 1 has a run of the source $1 within $2 steps made and dropped, and
 # then the script $3 goes on.
 measure() {
   {

@@ -58,7 +58,7 @@ ends() {
 # Each round is a clause, an operator and a call.
 loop='loop(N) -> case N of 0 -> done; _ -> loop(N - 1) end.'
 returns 'a loop' 'done' 40 'main() -> loop(12).' "$loop"
-# Each level is a clause, an operator, a call, and an operator behind it.
+# Each level is a clause, an operator, a call, and an operator after it.
 returns 'a sum' 15 24 'main() -> sum(5).' 'sum(N) -> case N of 0 -> 0; _ -> N + sum(N - 1) end.'
 returns 'a sum whose right side is short' 15 24 'main() -> sum(5).' 'sum(N) -> case N of 0 -> 0; _ -> sum(N - 1) + N end.'
 # fib(0) and fib(1) are a clause, fib(2) 8 steps, fib(3) 15, fib(4) 29, fib(5) 50.

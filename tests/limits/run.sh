@@ -84,7 +84,7 @@ lengths_of_atoms() {
   nesting a 256 ' +' '' 'E5 at 277'
 }
 
-# A leaf is 1 deep, and each level adds 1. A fault of syntax behind a part that is too deep goes first.
+# A leaf is 1 deep, and each level adds 1. A fault of syntax after a part that is too deep goes first.
 depths_of_expressions() {
   nesting '(' 255 1 ')' B2
   nesting '(' 256 1 ')' 'E5 at 19'
@@ -157,7 +157,7 @@ schedules() {
   expect 'schedules of 100,000 and 100,001 numbers' 2 steps
 }
 
-# Numbers from 1 to $1 behind the text $2, with commas between them.
+# Numbers from 1 to $1 after the text $2, with commas between them.
 numbered() { awk -v count="$1" -v text="$2" 'BEGIN { for (i = 1; i <= count; i++) printf "%s%s%d", (i > 1 ? ", " : ""), text, i }'; }
 
 sizes_of_modules() {
@@ -339,7 +339,7 @@ long_mailboxes() {
   run_within '1,000 messages from the last on' 0 100000
 }
 
-# Projects that submit, order, run, fetch and ask for their usage in turns, so many rounds of all of them: each is told what it is told
+# Projects that submit, order, run, fetch and ask for their usage in turns, so many rounds of all of them: each is answered what it is answered
 # alone. A project holds the modules and trials of its last 16 rounds, and gives up what is older.
 projects_in_turns() {
   awk -v rounds="$1" -v room="$room" 'BEGIN {
@@ -397,7 +397,7 @@ bytes_of_a_project() {
   expect '262,144 bytes of a project' 0 steps
 }
 
-# A call that is refused is logged too, but none behind the last of 10,000. A worker still runs what was ordered.
+# A call that is refused is logged too, but none after the last of 10,000. A worker still runs what was ordered.
 calls_of_a_project() {
   main_is '1 + 2 * 3'
   size=$(($(wc -c < "$room/in")))

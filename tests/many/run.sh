@@ -33,7 +33,7 @@ refused() {
   told "$script $*" 2 "$script" "$@"
 }
 
-# What one program tells of the seeds $1 by the words from $2 on, in `wanted` and $one.
+# What one program reports of the seeds $1 by the words from $2 on, in `wanted` and $one.
 one_tells() {
   seeds=$1
   shift
@@ -42,7 +42,7 @@ one_tells() {
   : > "$room/said"
 }
 
-# Tells which seeds the program is asked for, in `ran`, and runs it; the hunt of the seeds in `dying` dies with half its answer.
+# Notes which seeds the program is asked for, in `ran`, and runs it; the hunt of the seeds in `dying` dies with half its answer.
 watched() {
   cat > "$room/watched" << 'END'
 #!/bin/sh
@@ -59,7 +59,7 @@ END
   export NOTES="$room" PROGRAM="$program" PULSEFARM="$room/watched"
 }
 
-# By 1, 4 and 16 shards what one program tells of the seeds $1 by the words from $2 on.
+# By 1, 4 and 16 shards what one program reports of the seeds $1 by the words from $2 on.
 shards_tell() {
   all=$1
   shift
@@ -89,7 +89,7 @@ hunts() {
   }
 }
 
-# The parts $1 of a hunt in 4 are lost, cut or never came: told which seeds are to be run again, and only these are, by the words from $2 on.
+# The parts $1 of a hunt in 4 are lost, cut or never came: it is reported which seeds are to be run again, and only these are, by the words from $2 on.
 mended() {
   damage=$1
   shift
@@ -148,7 +148,7 @@ lacks_a_row() {
   told "a row that is lacking" 2 python3 "$many/merge.py" 0..2000 "$room/parts"
 }
 
-# What lies behind the least seed that fails may be missing.
+# What comes after the least seed that fails may be missing.
 behind() {
   one_tells 40000..50000 "$@"
   rm -rf "$room/parts"

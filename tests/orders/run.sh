@@ -7,7 +7,7 @@ orders=$(cd "$(dirname "$0")" && pwd)
 top=$orders/../..
 . "$top/tests/compare.sh"
 
-# Submits the module, gives the commands $1 behind it, and compares with the status $2 and the replies $3.
+# Submits the module, gives the commands $1 after it, and compares with the status $2 and the replies $3.
 answered() {
   printf 'submit 1 52\n-module(m).\n-export([main/0]).\nmain() -> 1 + 2 * 3.\n\n%b' "$1" > "$room/in"
   printf 'p1 module 1\n%b' "$3" > "$room/wanted"
@@ -17,13 +17,13 @@ answered() {
 # An order of `main` with the property and the choices $1 is taken.
 ticketed() { answered "order 1 1 main $1 100\n" 0 'p1 ticket 1\n'; }
 
-# An order with the words $1 behind its project is refused with $2.
+# An order with the words $1 after its project is refused with $2.
 refused() { answered "order 1 $1\n" 0 "p1 refused $2\n"; }
 
 # The command $1 is none.
 no_command() { answered "$1\n" 2 'command 2 refused C1\n'; }
 
-# The report of an order with the property and the choices $1 tells that the property $2.
+# The report of an order with the property and the choices $1 says that the property $2.
 verdict() {
   answered "order 1 1 main $1 100\nclaim 0 1 1\nslice 0 1 1 1\nfile 0 1 1\nfetch 1 1\n" 0 \
     "p1 ticket 1\nw0 done\nw0 done\nw0 done\np1 report 4\n0/1 <0> end normal\nfinished 7\nsteps 4\nproperty $2\n"

@@ -1,6 +1,6 @@
 #!/bin/sh
-# Makes the packages twice, in two places and under two settings, and compares their bytes; holds what is in them against the tree; installs the one
-# for Debian in a root with the C library alone, and runs it there. Holds the page for `man` and the completions against what the program's help says.
+# Makes the packages twice, in two places and under two settings, and compares their bytes; compares what is in them with the tree; installs the one
+# for Debian in a root with the C library alone, and runs it there. Compares the page for `man` and the completions with what the program's help says.
 #
 # Usage: run.sh [BINARY]; the program is that of the crate `pulsefarm` where none is named.
 set -u
@@ -118,7 +118,7 @@ unpacked() {
   note "no path of this machine is in it" $?
 }
 
-# `pulsefarm-erl` of the archive tells what that of the tree tells.
+# `pulsefarm-erl` of the archive prints what that of the tree prints.
 erlang() {
   if [ "$has_erlang" = 0 ]; then
     echo "there is no erl with its sources: pulsefarm-erl isn't tried"
@@ -136,7 +136,7 @@ erlang() {
   note "both pulsefarm-erl tell the same" $?
 }
 
-# A root that has the C library and the notes of it alone; $1 is the version that these tell.
+# A root that has the C library and the notes of it alone; $1 is the version that these name.
 lay_root() {
   root=$room/root
   rm -rf "$root"
@@ -212,7 +212,7 @@ offers() {
   (cd "$room" && timeout 60 zsh -f "$top/tests/package/offers.zsh" "$top/docs/pulsefarm.zsh" "$2") > "$room/out" 2> "$room/err"
   cmp -s "$room/out" "$room/wanted"
   note "zsh, $2" $?
-  # (fish shows folders with a slash, and options of one letter behind one dash only)
+  # (fish shows folders with a slash, and options of one letter after one dash only)
   # (the arguments are fish's)
   # shellcheck disable=SC2016
   (cd "$room" && fish --no-config -c 'source $argv[1]; complete -C $argv[2]' "$top/docs/pulsefarm.fish" "$2" | cut -f1 | sort) > "$room/out" 2> "$room/err"

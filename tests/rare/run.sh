@@ -1,6 +1,6 @@
 #!/bin/sh
 # Hunts by priorities over each module of examples/rare/: its property has to fail by a seed below ten times the number of runs that the
-# table of examples/rare/README.md tells; the choices of that run have to mean the same report; and by each of the first 10,000 seeds the property of its mended
+# table of examples/rare/README.md names; the choices of that run have to mean the same report; and by each of the first 10,000 seeds the property of its fixed
 # form has to hold. Of two modules the least seed has to be the same by 1, 3 and 64 workers.
 #
 # Usage: run.sh [BINARY]; the program is that of the crate `pulsefarm` where none is named.
@@ -18,7 +18,7 @@ hunts() {
   status=$?
 }
 
-# The report of the schedule that the hunt of the module $1 told, against the one that it told with it.
+# The report of the schedule that the hunt of the module $1 reported, against the one that it reported with it.
 replays() {
   sed -n 's/^schedule //p' "$room/out" | head -n 1 > "$room/schedule"
   sed -n '/^[0-9]*\/[0-9]* </,$p' "$room/out" > "$room/wanted"

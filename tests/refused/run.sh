@@ -1,17 +1,17 @@
 #!/bin/sh
-# Refuses each growth of two built programs in turn, until a run meets no refusal: of `pf_refused`, and
+# Fails each allocation of two built programs in turn, until a run meets no failure: of `pf_refused`, and
 # of `pulsefarm run` on its stored run and on rows with several processes: three that race by messages, three with links, monitors
 # and names, and one that is killed though it traps exits, and one that watches, stops watching and flushes; by schedules, and one of them by a seed with a property. Each run has to end
-# with the whole text and its status; or with `NoMemory` alone on a line and status 2; or, where the growth was refused within a run of
-# `pulsefarm run`, or of a shrinking behind a hunt, with the report of a run that memory stopped, and status 2 (`pulsefarm shrink` writes
-# `NoMemory` there too); a growth that is refused before `main` has begun may end the program with a message on standard error and
-# status 1 or 2. Anything else, a signal or a hang fails. Each run of the program itself, refused or not, has to give back each
+# with the whole text and its status; or with `NoMemory` alone on a line and status 2; or, where the allocation failed within a run of
+# `pulsefarm run`, or of a shrinking after a hunt, with the report of a run that memory stopped, and status 2 (`pulsefarm shrink` writes
+# `NoMemory` there too); an allocation that fails before `main` has begun may end the program with a message on standard error and
+# status 1 or 2. Anything else, a signal or a hang fails. Each run of the program itself, failing or not, has to give back each
 # block that it asked for.
 #
-# It does the same with `pulsefarm steps`, whose runs may go on after a refused growth and say so in a line; and with `pulsefarm farm` over two files with two workers.
-# There the growths of all threads are counted, in an order that differs from run to run. So which growth is refused isn't known, but each text that may follow is.
+# It does the same with `pulsefarm steps`, whose runs may go on after a failed allocation and say so in a line; and with `pulsefarm farm` over two files with two workers.
+# There the allocations of all threads are counted, in an order that differs from run to run. So which allocation fails isn't known, but each text that may follow is.
 #
-# It does so with a check of a module and of a refused one, and with hunts: once a run that fails was found its seed and its schedule are told.
+# It does so with a check of a module and of a refused one, and with hunts: once a run that fails was found its seed and its schedule are reported.
 #
 # Then it runs a loop by tail calls within 1,000 and within 100,000 steps: both have to take the same memory at most.
 set -u
@@ -44,7 +44,7 @@ built() {
   (cd "$crate" && rt run ${words:+-- $words} < "$room/in") > "$room/build.log" 2>&1 || { tail -n 20 "$room/build.log"; exit 1; }
 }
 
-# Runs the program with growth number $1 refused; none is where it is 0.
+# Runs the program with allocation number $1 failing; none does where it is 0.
 refusing() {
   rm -f "$room/told" "$room/blocks"
   # The words have no blanks in them.
@@ -67,7 +67,7 @@ run_ended_well() {
   ended_well
 }
 
-# Refuses each growth of a run of a module in turn, some of them within the run; $1 names it.
+# Fails each allocation of a run of a module in turn, some of them within the run; $1 names it.
 run_refused() {
   stopped=0
   all_refused "$1" run_ended_well
@@ -83,7 +83,7 @@ ended_well() {
 }
 
 # Whether a run of commands ended as it may: so too with a line that says where memory ran out; or with status 2 and a message on
-# standard error, behind which nothing more went out. Until then all answers are those of the run without it.
+# standard error, after which nothing more went out. Until then all answers are those of the run without it.
 commands_ended_well() {
   ended_well && return
   sed '/^p[0-9]* refused NoMemory$/,$d; /^w[0-3] no memory$/,$d' "$room/out" > "$room/before"
@@ -92,7 +92,7 @@ commands_ended_well() {
     || { [ "$status" = 2 ] && ! grep -q -x NoMemory "$room/out" && grep -q 'NoMemory$' "$room/err"; }
 }
 
-# Whether a hunt ended as it may: with its seed and schedule, too, and that memory ran out behind them; once a run was found these are told.
+# Whether a hunt ended as it may: with its seed and schedule, too, and that memory ran out after them; once a run was found these are reported.
 hunt_ended_well() {
   if [ "$status" = 2 ] && cmp -s "$room/out" "$room/stopped"; then
     stopped=$((stopped + 1))
@@ -102,7 +102,7 @@ hunt_ended_well() {
   ended_well
 }
 
-# Refuses each growth of the row $1 in turn, a hunt by one worker that finds a run.
+# Fails each allocation of the row $1 in turn, a hunt by one worker that finds a run.
 hunt_refused() {
   some_row "$1"
   stopped=0
@@ -111,7 +111,7 @@ hunt_refused() {
   [ "$stopped" != 0 ] || failure "$1: no growth was refused behind what was found"
 }
 
-# Refuses each growth of the program in turn: $1 names the run, and $2 tells whether it ended as it may.
+# Fails each allocation of the program in turn: $1 names the run, and $2 says whether it ended as it may.
 all_refused() {
   k=1
   while [ "$k" -le 10000 ]; do
@@ -147,7 +147,7 @@ some_row() {
   wanted=$(cat "$row/status" 2> /dev/null || echo 0)
 }
 
-# Refuses each growth of the row $1 in turn; $2 tells whether a run ended as it may.
+# Fails each allocation of the row $1 in turn; $2 says whether a run ended as it may.
 row_refused() {
   some_row "$1"
   all_refused "$1" "$2"
@@ -159,7 +159,7 @@ row_run_refused() {
   run_refused "$1"
 }
 
-# Refuses each growth of a chart in turn, of a race of two senders; the whole chart is the one that comes where none is refused.
+# Fails each allocation of a chart in turn, of a race of two senders; the whole chart is the one that comes where none fails.
 chart_refused() {
   some_row race_of_two_senders_right_first
   sed -i 's/^run /chart /' "$room/words"
@@ -181,7 +181,7 @@ some_commands() {
     'steps 4' 'property holds' 'p2 refused B5' 'p2 usage 1 52 1 100 3' > "$whole"
 }
 
-# What the client of project $1 is told where a growth was refused in the call $2, or in the run $2 of one of its trials; by any other word no growth was refused.
+# What the client of project $1 is answered where an allocation failed in the call $2, or in the run $2 of one of its trials; by any other word no allocation failed.
 # A call that is refused so isn't logged, and uses up no number. Then comes what follows from it: without its module there is no order, and the second order has the first ticket if the first was refused.
 told_where() {
   no="p$1 refused"
@@ -204,8 +204,8 @@ told_where() {
 # Says in `allowed` that a run may end with the status $1 and the output in the file $2.
 allow() { echo "$1 $(cksum < "$2")" >> "$room/allowed"; }
 
-# Sets the words and the files of `pulsefarm farm`, and says how a run may end: with what both clients are told where one growth at most was refused; or
-# with status 2 and what was told up to some reply, file by file. Each client orders a run of 601 events, which a worker parks twice, and a short one. The long
+# Sets the words and the files of `pulsefarm farm`, and says how a run may end: with what both clients are answered where one allocation at most failed; or
+# with status 2 and what was answered up to some reply, file by file. Each client orders a run of 601 events, which a worker parks twice, and a short one. The long
 # one takes 5 steps for each of 300 sends, 3 beside them, and one for each delivery, to who has ended.
 some_farm() {
   echo "farm --workers 2 $room/c1 $room/c2" > "$room/words"
@@ -248,7 +248,7 @@ farm_ended_well() {
   grep -q -x -e "$status $(cksum < "$room/out")" "$room/allowed" || ended_well
 }
 
-# Sets `most` to the bytes that stood in blocks at most, in a run within $1 steps.
+# Sets `most` to the bytes that were in blocks at most, in a run within $1 steps.
 most_within() {
   echo "run --root main --limit $1 --schedule none" > "$room/words"
   refusing 0

@@ -2,7 +2,7 @@
 # Runs the program on each row, a folder beside this script, and compares the whole standard output and the status.
 #
 #   words    the program's words, one on a line
-#   input    what stands on standard input; absent: nothing
+#   input    what is on standard input; absent: nothing
 #   output   what has to go out; absent: nothing
 #   status   the status that is wanted; absent: 0
 #   fronts   in place of `output`: a line `FIRST LAST TEXT` says that each front of the input with so many bytes is answered

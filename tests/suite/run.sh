@@ -8,7 +8,7 @@ top=$(cd "$(dirname "$0")/../.." && pwd)
 . "$top/tests/compare.sh"
 cd "$room" || exit 1
 
-# Holds what is told against the text $3: $1 names the hunt, $2 is its status, and the words stand behind; the input is the file `in`.
+# Compares what is reported with the text $3: $1 names the hunt, $2 is its status, and the words come after; the input is the file `in`.
 told() {
   name=$1 wanted=$2
   printf -- "$3" > text
@@ -16,7 +16,7 @@ told() {
   compare "$name" "$wanted" in text "$@"
 }
 
-# Holds what standard error says of the last run against the text $2; $1 names the check.
+# Compares what standard error says of the last run with the text $2; $1 names the check.
 said() {
   printf -- "$2" > text
   cmp -s err text

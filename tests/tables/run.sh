@@ -1,6 +1,6 @@
 #!/bin/sh
 # Runs a program for each row of the tables of contractions, actions and deliveries (docs/LANGUAGE.md), with all the memory that there is. Each ends as
-# its row says, with the labels that the row has, and none tells that memory ran out. (The limits stand in tests/limits, at their numbers.)
+# its row says, with the labels that the row has, and none says that memory ran out. (The limits are in tests/limits, at their numbers.)
 #
 # Usage: run.sh [BINARY]; the program is that of the crate `pulsefarm` where none is named.
 set -u

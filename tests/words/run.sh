@@ -47,7 +47,7 @@ unknown() {
   note "$name: status $status for 2" $?
 }
 
-# Checks each value of $2, as a shell reads them, of the option behind the words: it is refused or taken, as $1 says.
+# Checks each value of $2, as a shell reads them, of the option after the words: it is refused or taken, as $1 says.
 values() {
   key=$1
   eval "set -- $2"

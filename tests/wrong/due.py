@@ -1,13 +1,13 @@
-"""Says which wrong bodies are due, whether each can be applied, and notes what was refused; tests/wrong.sh tells how.
+"""Says which wrong bodies are due, whether each can be applied, and notes what was refused; tests/wrong.sh says how.
 
-    due.py TOP apply              tells the edits that can't be applied
-    due.py TOP plan PLAN [NAME..] tells what is due and why, or these crates, and writes a line for each of their edits to PLAN: its crate
+    due.py TOP apply              prints the edits that can't be applied
+    due.py TOP plan PLAN [NAME..] prints what is due and why, or these crates, and writes a line for each of their edits to PLAN: its crate
                                   and name, the crate's own sum and its sum below, the edit's sum, and why it is tried, or `seen`,
                                   `waits` or `later`
     due.py TOP note PLAN LOG..    notes by such a plan what the logs of `rt` say
 
 KIT is the kit's name, TURNS (2) how many crates are due in turn, and MOST_EDITS (30) how many edits are due at once of crates that are
-as they were. All edits of crates that changed themselves count among these; then come those that stand on names that changed below
+as they were. All edits of crates that changed themselves count among these; then come those that reach names that changed below
 them; and then crates in turn, each whole, until one has no room: the first has where nothing else is due. MOST_CHANGED (8 a
 processor) is how many edits of changed crates are due at once: crates go whole, new ones first and then those that were seen the
 longest ago, and those that would pass it wait for a later gate."""
@@ -85,7 +85,7 @@ def plan(tree, noted):
             break
         for it in by_crate[crate]:
             it.why = "turn"
-    # A crate whose sum below changed while no edit's did gets its line anew.
+    # A crate whose sum below changed while no edit's did gets its line again.
     told = [lines for crate, lines in by_crate.items() if any(it.why != "seen" for it in lines) or noted.crates[crate][1] != lines[0].below]
     return [it for lines in told for it in lines]
 
@@ -155,7 +155,7 @@ def note_crate(noted, crate, lines, log):
 
 
 def settle(noted, crate, lines, tried):
-    """Notes the edits that were tried and refused. The crate keeps its line until all stand on the names as they are."""
+    """Notes the edits that were tried and refused. The crate keeps its line until all are noted with the names as they are."""
     if len(tried) == len(lines):
         kept = noted.crates.get(crate)
         noted.drop(crate)

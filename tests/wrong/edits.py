@@ -8,7 +8,7 @@ import texts
 
 
 class Edit:
-    """A wrong body: its crate, its name, where it stands, and its triples of a file, an old text and a new one."""
+    """A wrong body: its crate, its name, where it is, and its triples of a file, an old text and a new one."""
 
     def __init__(self, crate, path):
         self.crate, self.path, self.name, self.changes = crate, path, os.path.basename(path), []
@@ -74,7 +74,7 @@ def faults(tree):
 
 
 class Wanted:
-    """What a crate's wrong bodies stand on below it."""
+    """What a crate's wrong bodies reach below it."""
 
     def __init__(self, tree, crate):
         self.tree, self.crate = tree, crate

@@ -24,7 +24,7 @@ def short(text):
 
 
 class Tree:
-    """A repository: its crates, its files, and where each name of a Rust file stands."""
+    """A repository: its crates, its files, and where each name of a Rust file is."""
 
     def __init__(self, top):
         self.top, self.flags, self.lines = top, {}, {}
@@ -69,7 +69,7 @@ class Tree:
         return self.cut[path]
 
     def index(self, crate, path):
-        """Notes what stands in a Rust file, by name."""
+        """Notes what is in a Rust file, by name."""
         file = self.file(path)
         for name, text in file.declared + file.told:
             self.types.setdefault((crate, name), []).append((path, text))
@@ -171,7 +171,7 @@ class Tree:
         return keys
 
     def qualified_keys(self, path, first, name):
-        """Returns the keys of the types, traits and constants that a name may mean behind a path that begins with this word."""
+        """Returns the keys of the types, traits and constants that a name may mean after a path that begins with this word."""
         crate = path.split("/")[1]
         words, other, _ = self.rust_uses(path)
         homes = {first} & self.lines.keys() | ({crate} if first in ("crate", "self", "super") else set())
@@ -181,7 +181,7 @@ class Tree:
         return found or {("type", it, name) for it in self.seen_from(crate) if (it, name) in self.types}
 
     def free_keys(self, path, word, module=None):
-        """Returns the keys of the functions outside `impl` that a word of a Rust file may mean, behind a module or by itself."""
+        """Returns the keys of the functions outside `impl` that a word of a Rust file may mean, after a module or by itself."""
         crate = path.split("/")[1]
         words, other, stars = self.rust_uses(path)
         homes = set(words.get(module or word, ()))
@@ -267,9 +267,9 @@ class Tree:
         return seen
 
     def home(self, key):
-        """Returns the crate that a key stands in."""
+        """Returns the crate that a key is in."""
         return key[1].split("/")[1] if key[0] == "antt" else key[1]
 
     def sum_below(self, crate, keys):
-        """Returns the sum of those keys that stand outside the crate."""
+        """Returns the sum of those keys that are outside the crate."""
         return short("\n".join(sorted(self.reaches(key)[1] for key in keys if self.home(key) != crate)))

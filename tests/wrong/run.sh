@@ -30,7 +30,7 @@ esac
 END
 chmod +x "$room/bin/rt"
 
-# Makes the crates: `top` stands on `mid`, and both on `low`.
+# Makes the crates: `top` needs `mid`, and both need `low`.
 make_low() {
   mkdir -p crates/low/src crates/low/specs crates/low/wrong
   cat > crates/low/specs/Numbers.antt << 'END'
@@ -173,7 +173,7 @@ END
   printf 'file: src/lib.rt\nold: same(n)\nnew: 0\n' > crates/top/wrong/itself_is_none.edit
 }
 
-# Makes all anew, as seen refused.
+# Makes all again, as seen refused.
 start_anew() {
   cd "$room/farm" || exit 2
   rm -rf crates tests/wrong.seen tests/wrong.edits

@@ -56,7 +56,7 @@ def closing(text, start):
 
 
 def first_of(text, start, marks):
-    """Returns where the first of these marks stands outside brackets, or the end."""
+    """Returns where the first of these marks occurs outside brackets, or the end."""
     at = start
     while at < len(text):
         if text[at] in marks:
@@ -74,7 +74,7 @@ class Function:
 
 
 def body_of(text, start):
-    """Returns where the body of the function stands that starts here, and where it ends, past the clauses of its contract."""
+    """Returns where the body of the function that starts here is, and where it ends, past the clauses of its contract."""
     at = start
     while True:
         at = first_of(text, at, "{;")
@@ -122,7 +122,7 @@ class RustFile:
                 self.blocks.append((it.start(), closing(self.blank, it.end()), owner_of(head), head))
 
     def cut_functions(self):
-        """Finds the functions, each with the block that it stands in."""
+        """Finds the functions, each with the block that it is in."""
         for it in FUNCTION.finditer(self.blank):
             body, end = body_of(self.blank, it.end())
             owner, head = "", ""
@@ -161,7 +161,7 @@ class RustFile:
                     self.models.append(text)
 
     def contract(self, function):
-        """Returns the contract of a function, with the head of the block that it stands in."""
+        """Returns the contract of a function, with the head of the block that it is in."""
         return f"{function.head} {plain_rust(self.text[function.start : function.body])}"
 
     def around(self, start, end):
@@ -217,7 +217,7 @@ class AnttFile:
                 self.part_of.setdefault(word, name)
 
     def note_parts(self, line, name):
-        """Notes the constructors, fields or names of a group that stand in a line within an item."""
+        """Notes the constructors, fields or names of a group that are on a line within an item."""
         it = WITHIN.match(line)
         for part in re.findall(r"[^\s,]+", it["names"]) if it else []:
             self.note_part(part, name)

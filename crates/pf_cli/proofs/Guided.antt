@@ -29,7 +29,7 @@ run_chosen text rows a e = by (choices_in text rows) refl e
     by (Some cs) chosen h = values_chosen text (first_of (codes "seed") rows) (first_of (codes "weights") rows) (first_of (codes "schedule") rows) cs chosen
     by None chosen h = absurd (unasked (root_named (first_of (codes "root") rows)) (bounds_in rows) (property_named (first_of (codes "property") rows)) a h)
 
--- nor is a chart whose page is none
+-- nor is a chart whose page is invalid
 pub unpaged : (r : Option RunArgs) (compact : Bool) → chart_asked r compact None ≡ None
 unpaged None compact = refl
 unpaged (Some a) compact = refl

@@ -1,4 +1,4 @@
--- What is said of the words of a hunt, which go together or don't.
+-- What is said of the words of a hunt, which go together or exclude each other.
 use Rattle.std.proofs.Common.{◌≡◌, Bool, true, false, List, Some, None, ap, sym, inl, inr, ◌∙◌}
 use Rattle.std.specs.Prelude.{◌⊎◌, Result, Ok, Err, IfOk, IfErr, if◌then◌else◌}
 use Rattle.clap.specs.Words.{Row, kind_of}

@@ -1,4 +1,4 @@
--- What is told of words that ask for no work.
+-- What is printed for words that ask for no work.
 use Rattle.std.proofs.Common.{◌≡◌, ◌≢◌, List, Option, Some, ap, sym, inl, inr, ◌∙◌}
 use Rattle.std.specs.Prelude.{◌⊎◌, Result, Ok, Err, IfOk}
 use Rattle.clap.specs.Words.{Text}
@@ -7,14 +7,14 @@ use Rattle.clap.specs.declared.error.kind.ErrorKind.TheVariants as kind
 use Rattle.pf_cli.specs.Args.{IsFaultBy, Reading, Wanted, reading_by, status_of_kind, told, wanted_by, words_status}
 use Rattle.pf_cli.proofs.Alike.{fault_status}
 
--- a fault of the words is told with their status
+-- a fault of the words is reported with their status
 fault_told : (text : Option Text) (words : List Text) (file schedule_file : Option Text) (k : ErrorKind) → (k ≡ kind.OutOfMemory) ⊎ IsFaultBy text k words → k ≢ kind.OutOfMemory
     → told (status_of_kind k) ≡ reading_by (wanted_by text words) file schedule_file (words_status words)
 fault_told text words file schedule_file k (inl e) n = absurd (n e)
 fault_told text words file schedule_file k (inr h) n =
     ap told (fault_status text words k h) ∙ sym (ap (λ (w : Option Wanted). reading_by w file schedule_file (words_status words)) h.0)
 
--- a text that is told of a fault is what the words come to
+-- a text that is printed for a fault is how the words are read
 pub text_told : {T E : Type 0} (r : Result T E) (view : T → Reading) (text known : Text) (words : List Text) (file schedule_file : Option Text) (k : ErrorKind) → text ≡ known
     → (k ≡ kind.OutOfMemory) ⊎ IsFaultBy (Some text) k words → IfOk r (λ v. view v ≡ told (status_of_kind k)) → IfOk r (λ v. k ≢ kind.OutOfMemory)
     → IfOk r (λ v. view v ≡ reading_by (wanted_by (Some known) words) file schedule_file (words_status words))

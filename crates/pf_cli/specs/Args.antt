@@ -114,7 +114,7 @@ abbrev pub working_app : App
 working_app =
     with_rule (with_rule (with_rule seeded_app (option_rule (codes "weights"))) (option_rule (codes "strategy"))) (option_rule (codes "workers"))
 
--- and what is told: [--all] [--shrink N]
+-- and what is reported: [--all] [--shrink N]
 abbrev pub telling_app : App
 telling_app = with_rule (with_rule working_app (flag_rule (codes "all"))) (option_rule (codes "shrink"))
 
@@ -187,7 +187,7 @@ pub record ChartArgs : Type 0 where
   pub compact : Bool
   pub page : ℕ
 
--- what is sought among seeds: the least that fails, whose schedule is shrunk within n runs where that is asked for; or each outcome
+-- what is sought among seeds: the least that fails, with its schedule shrunk within n runs where that is asked for; or each outcome
 pub data Sought : Type 0 where
   failure : (runs : Option ℕ) → Sought
   outcomes : Sought
@@ -207,7 +207,7 @@ pub record HuntArgs : Type 0 where
   pub workers : Option ℕ
   pub sought : Sought
 
--- a farm is asked for: of n workers, and of the clients whose files these are, that of project 1 first; and whether what each worker did is told
+-- a farm is asked for: of n workers, and of the clients whose files these are, that of project 1 first; and whether what each worker did is reported
 pub record FarmArgs : Type 0 where
   pub workers : ℕ
   pub files : List Text
@@ -221,7 +221,7 @@ abbrev pub args_by : (root property : Text) → Kind → (bounds : ℕ × ℕ) �
 args_by root property kind bounds priorities =
     record { request = request_by root property kind bounds.0; edition = bounds.1; priorities = priorities }
 
--- the number that the value of an option is
+-- the value of an option as a number
 abbrev pub number_in : Text → List Row → Option ℕ
 number_in name rows = option_and_then number_of (first_of name rows)
 
@@ -285,7 +285,7 @@ abbrev pub seeded_by : (weights : Option (Option (ℕ × ℕ))) → (number : Op
 seeded_by (Some weights) (Some n) = Some (seeded weights n)
 seeded_by _ _ = None
 
--- a schedule may stand in a file: `@FILE` names it
+-- a schedule may be in a file: `@FILE` names it
 abbrev pub file_at : Text → Option Text
 file_at [] = None
 file_at (c ∷ name) = if c == 64 then Some name else None
@@ -294,7 +294,7 @@ abbrev pub placed : (text word : Text) → (file : Option Text) → Text
 placed text word None = word
 placed text word (Some file) = text
 
--- where the text of the file is known, it stands in place of the word that names the file
+-- where the text of the file is known, it takes the place of the word that names the file
 abbrev pub in_place : (text : Option Text) → (word : Text) → Text
 in_place None word = word
 in_place (Some text) word = placed text word (file_at word)
@@ -372,7 +372,7 @@ shrinking_asked root (Some property) (Some bounds) (Some runs) (Some numbers) =
     Some (args_by root property (requests.shrink numbers runs) bounds None)
 shrinking_asked root _ _ _ _ = None
 
--- the numbers that the schedule is
+-- the numbers of the schedule
 abbrev pub schedule_in : (text : Option Text) → List Row → Option (List ℕ)
 schedule_in text rows = option_and_then (numbers_of text) (first_of (codes "schedule") rows)
 
@@ -454,7 +454,7 @@ reach_in rows =
     reach_asked (more_named (names_in rows)) (roots_named (is_given (first_of (codes "all-roots") rows)) (first_of (codes "root") rows))
     (is_given (first_of (codes "fail-fast") rows)) (is_given (first_of (codes "leaks") rows))
 
--- whether words stand there that don't go together
+-- whether there are words that exclude each other
 abbrev pub clashes_in : List Row → Bool
 clashes_in rows =
     clashes (is_given (first_of (codes "all-roots") rows)) (is_given (first_of (codes "leaks") rows)) (nat_lt 1 (length (names_in rows)))
@@ -516,7 +516,7 @@ abbrev pub work_of : (text : Option Text) → (name : Text) → List Row → Opt
 work_of text name rows =
     if bytes_eq name (codes "farm") then option_map farm (farm_of rows) else of_one_file text name rows
 
--- words ask for work that is told in a form, and maybe explained: the report of a run, or the refusal of a check
+-- words ask for work that is reported in a form, and maybe explained: the report of a run, or the refusal of a check
 pub record Wanted : Type 0 where
   pub work : Work
   pub format : Format
@@ -530,7 +530,7 @@ wanted_as (Some format) explain (Some work) = Some (record { work = work; format
 abbrev pub format_in : List Row → Option Format
 format_in rows = format_named (first_of (codes "format") rows)
 
--- what the command of this name asks for, and how it is told
+-- what the command of this name asks for, and the form of its report
 abbrev pub of_command : (text : Option Text) → (name : Text) → List Row → Option Wanted
 of_command text name rows = wanted_as (format_in rows) (explain_of rows) (work_of text name rows)
 
@@ -547,7 +547,7 @@ unless_refused (k ∷ ks) r = None
 unfoldable pub wanted_by : (text : Option Text) → List Text → Option Wanted
 wanted_by text words = unless_refused (fault_of pulsefarm words) (asked (of_command text) (subcommand_of pulsefarm words))
 
--- what the words ask for as they stand
+-- what the words ask for as they are given
 abbrev pub wanted_of : List Text → Option Wanted
 wanted_of words = wanted_by None words
 
@@ -641,7 +641,7 @@ is_shown _ = false
 abbrev pub status_of_kind : ErrorKind → ℕ
 status_of_kind k = if is_shown k then 0 else 2
 
--- a seed or weights beside a schedule, neither a seed nor a schedule, or else a value that is none
+-- a seed or weights beside a schedule, neither a seed nor a schedule, or else an invalid value
 abbrev pub values_fault : (seeded weighted scheduled : Option Text) → ErrorKind
 values_fault (Some _) _ (Some _) = kind.ArgumentConflict
 values_fault None (Some _) (Some _) = kind.ArgumentConflict
@@ -651,7 +651,7 @@ values_fault _ _ _ = kind.InvalidValue
 abbrev pub run_fault : List Row → ErrorKind
 run_fault rows = values_fault (first_of (codes "seed") rows) (first_of (codes "weights") rows) (first_of (codes "schedule") rows)
 
--- words that don't go together, or else a value that is none
+-- words that exclude each other, or else an invalid value
 abbrev pub hunt_fault : List Row → ErrorKind
 hunt_fault rows = if clashes_in rows then kind.ArgumentConflict else kind.InvalidValue
 
@@ -664,7 +664,7 @@ one_file_fault name rows =
 abbrev pub work_fault : Text → List Row → ErrorKind
 work_fault name rows = if bytes_eq name (codes "farm") then kind.InvalidValue else one_file_fault name rows
 
--- a form that is none comes first
+-- an invalid form comes first
 abbrev pub fault_under : Text → List Row → ErrorKind
 fault_under name rows = if is_some (format_in rows) then work_fault name rows else kind.InvalidValue
 
@@ -689,9 +689,9 @@ words_status words = if list_any is_shown (fault_of pulsefarm words) then 0 else
 abbrev pub StatusesAgree : Type 0
 StatusesAgree = (words : List Text) (k : ErrorKind) → IsFaultOf k words → status_of_kind k ≡ words_status words
 
--- ---- what words come to
+-- ---- how words are read
 
--- work, on this file; a schedule to be read first, from this file; or a text, with the status that the program ends with, which tells a fault or
+-- work, on this file; a schedule to be read first, from this file; or a text, with the status that the program ends with, which shows a fault or
 -- doesn't
 pub data Reading : Type 0 where
   works : Wanted → (file : Option Text) → Reading
@@ -705,12 +705,12 @@ abbrev pub works_by : Wanted → (file schedule_file : Option Text) → Reading
 works_by wanted file None = works wanted file
 works_by wanted file (Some schedule_file) = reads schedule_file
 
--- without work a text is told; with it the file of the schedule is read first, where there is one
+-- without work a text is printed; with it the file of the schedule is read first, where there is one
 abbrev pub reading_by : Option Wanted → (file schedule_file : Option Text) → (status : ℕ) → Reading
 reading_by None file schedule_file status = told status
 reading_by (Some wanted) file schedule_file status = works_by wanted file schedule_file
 
--- what the words come to, with a text in place of the file of the schedule; where the text isn't known yet, whether they ask for work is told by a
+-- how the words are read, with a text in place of the file of the schedule; where the text isn't known yet, whether they ask for work is decided by a
 -- schedule of no numbers
 abbrev pub reading_of : (text : Option Text) → List Text → Reading
 reading_of None words = reading_by (wanted_by (Some (codes "none")) words) (file_of words) (schedule_file_of words) (words_status words)

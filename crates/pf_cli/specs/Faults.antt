@@ -11,7 +11,7 @@ use Rattle.pf_cli.specs.declared.refusals.Valued.TheVariants.{Run, Hunt, Shrink,
 
 -- ---- texts
 
--- the value of an option is none
+-- the value of an option is invalid
 abbrev pub value_text : (option value wants : List ℕ) → List ℕ
 value_text option value wants =
     codes "invalid value '" ++ (value ++ (codes "' for '--" ++ (option ++ (codes "': it wants " ++ wants))))
@@ -24,17 +24,17 @@ number_option name = name ++ codes " <N>"
 abbrev pub file_text : (file wants : List ℕ) → List ℕ
 file_text file wants = codes "invalid value '" ++ (file ++ (codes "' for " ++ wants))
 
--- two words don't go together
+-- two words exclude each other
 abbrev pub clash_text : (first second : List ℕ) → List ℕ
 clash_text first second = codes "the argument '" ++ (first ++ (codes "' cannot be used with " ++ second))
 
--- what is told of words that ask for no work
+-- what is printed for words that ask for no work
 abbrev pub text_in : reading_code.Reading → Option (List ℕ)
 text_in (read.Asked asked) = None
 text_in (read.ScheduleIn file) = None
 text_in (read.Text text status is_fault) = Some (string_bytes text)
 
--- ---- which words don't go together
+-- ---- which words exclude each other
 
 -- each outcome or a shrinking with another word of a hunt
 abbrev pub clash_with : (told : List ℕ) → (leaks every several : Bool) → Option (List ℕ × List ℕ)

@@ -1,4 +1,4 @@
--- In what form a command tells what it finds.
+-- In what form a command reports what it finds.
 use Rattle.std.specs.Prelude.{ℕ, List, Option, Some, None, codes, if◌then◌else◌}
 use Rattle.std.specs.Str.{bytes_eq}
 use Rattle.pf_cli.specs.declared.args.Format.{Format}

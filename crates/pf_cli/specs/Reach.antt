@@ -1,23 +1,23 @@
--- Which sources the words of a hunt name, which of their roots are hunted, and which of these words don't go together.
+-- Which sources the words of a hunt name, which of their roots are hunted, and which of these words exclude each other.
 use Rattle.std.specs.Prelude.{ℕ, List, [], Option, Some, None, is_some, length, drop, map, Bool, true, false, ◌&&◌, ◌||◌, nat_le, if◌then◌else◌}
 use Rattle.pf_cli.specs.declared.args.Roots.{Roots}
 use Rattle.pf_cli.specs.declared.args.Roots.TheVariants.{Main, Named, Every}
 use Rattle.pf_cli.specs.declared.reach.Reach as reach_code
 
--- what a hunt goes over: the sources whose names stand behind the first, and which roots of each; whether it ends behind the first root that fails;
--- and whether a seed fails too whose root returned while processes still wait
+-- what a hunt goes over: the sources whose names come after the first, and which roots of each; whether it ends after the first root that fails;
+-- and whether a seed also fails if its root returned while processes still wait
 pub record Reach : Type 0 where
   pub more : List (List ℕ)
   pub roots : Roots
   pub fail_fast : Bool
   pub leaks : Bool
 
--- the names of the sources as they stand
+-- the names of the sources as they are given
 abbrev pub names_given : Option (List (List ℕ)) → List (List ℕ)
 names_given None = []
 names_given (Some names) = names
 
--- they are at most 4,096; the first is told by itself
+-- they are at most 4,096; the first is given by itself
 abbrev pub more_named : (names : List (List ℕ)) → Option (List (List ℕ))
 more_named names = if nat_le (length names) 4096 then Some (drop 1 names) else None
 

@@ -8,7 +8,7 @@ abbrev pub seeds_between : (first end : Option ℕ) → Option (ℕ × ℕ)
 seeds_between (Some a) (Some b) = if nat_lt a b then Some (a, b) else None
 seeds_between _ _ = None
 
--- what is written `B` ends before B, and `=B` behind it
+-- what is written `B` ends before B, and `=B` after it
 abbrev pub end_of : List ℕ → Option ℕ
 end_of [] = None
 end_of (c ∷ text) =
@@ -17,7 +17,7 @@ end_of (c ∷ text) =
 abbrev pub is_dot : ℕ → Bool
 is_dot c = c == 46
 
--- the end stands after one dot more
+-- the end is written after one dot more
 abbrev pub after_dot : List ℕ → Option ℕ
 after_dot [] = None
 after_dot (c ∷ text) = if is_dot c then end_of text else None

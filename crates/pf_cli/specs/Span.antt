@@ -11,7 +11,7 @@ abbrev pub seconds_of : (number unit : Option ℕ) → Option ℕ
 seconds_of (Some n) (Some u) = if nat_le 1 n then Some (n * u) else None
 seconds_of _ _ = None
 
--- a time is a number above 0 with its unit behind it, as 90s, 5m or 2h
+-- a time is a number above 0 with its unit after it, as 90s, 5m or 2h
 abbrev pub time_of : List ℕ → Option ℕ
 time_of text = seconds_of (number_of (take (length text - 1) text)) (unit_of (drop (length text - 1) text))
 

@@ -32,7 +32,7 @@ impl Edition {
     }
 }
 
-/// In what form a command tells what it finds.
+/// In what form a command reports what it finds.
 #[derive(Drop, Clone, Copy)]
 pub enum Format {
     /// Lines of text.
@@ -93,7 +93,7 @@ pub struct ChartArgs<'a> {
 /// What is sought among seeds.
 #[derive(Drop, Clone, Copy)]
 pub enum Sought {
-    /// The least seed whose run fails; with runs its schedule is shrunk too.
+    /// The least seed whose run fails; with a number of runs its schedule is shrunk too.
     Failure { runs: Option<u32> },
     /// Each outcome that is met.
     Outcomes,
@@ -116,12 +116,12 @@ pub enum Roots {
 pub struct HuntArgs<'a> {
     /// The file of the source, of several the first; the standard input where there is none.
     pub file: Option<&'a str>,
-    /// The names of the sources behind the first, at most 4,095, as they stand.
+    /// The names of the sources after the first, at most 4,095, as they are given.
     pub more: Vec<&'a str>,
     pub roots: Roots,
-    /// Whether nothing is hunted behind the first root that fails.
+    /// Whether nothing is hunted after the first root that fails.
     pub fail_fast: bool,
-    /// Whether a seed fails too whose root returned while processes still wait.
+    /// Whether a seed also fails if its root returned while processes still wait.
     pub leaks: bool,
     pub request: Request,
     /// The edition of each run.
@@ -163,7 +163,7 @@ pub struct FarmArgs<'a> {
     pub workers: u32,
     /// The files of the clients, from 1 to 64: that of project 1, that of project 2 and so on.
     pub files: Vec<&'a str>,
-    /// Whether what each worker did is told at the end.
+    /// Whether what each worker did is reported at the end.
     pub summary: bool,
     ghost some_workers: { (1 ≤ workers) × (workers ≤ 64) },
     ghost some_files: { (1 ≤ vec_len files) × (vec_len files ≤ 64) },
@@ -200,7 +200,7 @@ impl<'a> Args<'a> {
     }
 }
 
-/// What the words ask for, and how it is told.
+/// What the words ask for, and the form of its report.
 #[derive(Drop)]
 pub struct Asked<'a> {
     pub args: Args<'a>,

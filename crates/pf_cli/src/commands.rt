@@ -294,7 +294,7 @@ pub(crate) fn chart_command<'a>(alloc: Global) -> Result<Command<'a>, AllocError
     Ok(chart)
 }
 
-/// A hunt without the options of how far it goes, how it is done and what it tells.
+/// A hunt without the options of how far it goes, how it is done and what it reports.
 fn judged<'a>(alloc: Global, about: &'a str) -> Result<Command<'a>, AllocError>
     ensures app { IfOk result (λ c. app_of c ≡ judged_app) }
     ensures local { IfOk result (λ c. (out-Command c).has_globals ≡ false) }
@@ -305,7 +305,7 @@ fn judged<'a>(alloc: Global, about: &'a str) -> Result<Command<'a>, AllocError>
     Ok(judged)
 }
 
-/// A hunt without the options of how it is done and of what it tells.
+/// A hunt without the options of how it is done and of what it reports.
 fn seeded<'a>(alloc: Global, about: &'a str) -> Result<Command<'a>, AllocError>
     ensures app { IfOk result (λ c. app_of c ≡ seeded_app) }
     ensures local { IfOk result (λ c. (out-Command c).has_globals ≡ false) }
@@ -316,7 +316,7 @@ fn seeded<'a>(alloc: Global, about: &'a str) -> Result<Command<'a>, AllocError>
     Ok(seeded)
 }
 
-/// A hunt without the options of what it tells.
+/// A hunt without the options of what it reports.
 fn working<'a>(alloc: Global, about: &'a str) -> Result<Command<'a>, AllocError>
     ensures app { IfOk result (λ c. app_of c ≡ working_app) }
     ensures local { IfOk result (λ c. (out-Command c).has_globals ≡ false) }

@@ -11,7 +11,7 @@ use clap::error::ErrorKind;
 use clap::{ArgMatches, Error};
 use std::alloc::Global;
 
-/// What the files want.
+/// What is said of a file too many.
 const FILES: &str = "'<FILE>...': it wants at most 64 files, and this is the 65th";
 
 /// How many workers there are.

@@ -1,4 +1,4 @@
-//! In what form a command tells what it finds.
+//! In what form a command reports what it finds.
 
 ghost use Rattle.std.specs.Prelude.{◌≡◌, ◌⊎◌, IfOk, IfErr, Some, None};
 ghost use Rattle.clap.specs.Words.{kind_of, rows_of, found_of};
@@ -13,10 +13,10 @@ use clap::error::ErrorKind;
 use clap::{ArgMatches, Error};
 use std::alloc::Global;
 
-/// What a form wants.
+/// What a form has to be.
 const FORMS: &str = "`text` or `json`";
 
-/// The form that a word is.
+/// The form that a word names.
 fn format_of(word: &str) -> Option<Format>
     ensures { result ≡ format_of word.now }
 {
@@ -29,7 +29,7 @@ fn format_of(word: &str) -> Option<Format>
     }
 }
 
-/// The command of this name, if it is one that may tell in a form.
+/// The command of this name, if it is one that may report in a form.
 fn valued_of(name: &str) -> Valued
     ensures { result ≡ valued_named name.now }
 {
@@ -44,7 +44,7 @@ fn valued_of(name: &str) -> Valued
     }
 }
 
-/// The form in which the command of this name tells; text where none is named.
+/// The form in which the command of this name reports; text where none is named.
 pub(crate) fn format(alloc: Global, name: &str, rows: &ArgMatches) -> Result<Format, Error>
     ensures ok { IfOk result (λ f. format_in (rows_of (found_of rows.now)) ≡ Some f) }
     ensures err { IfErr result (λ e. (kind_of e ≡ ErrorKind.OutOfMemory)

@@ -366,7 +366,7 @@ fn work_args<'a>(
     one_file_args(alloc, name, rows, text)
 }
 
-/// What the command of this name asks for, and how it is told, by the values of its options, with a text in place of its schedule's file.
+/// What the command of this name asks for, and the form of its report, by the values of its options, with a text in place of its schedule's file.
 fn command_args<'a>(
     alloc: Global,
     name: &str,
@@ -431,7 +431,7 @@ pub(crate) fn read_by<'a>(
     }
 }
 
-/// What the words ask for as they stand, the first of which names the program. Words that are refused or ask for help or the version are an
+/// What the words ask for as they are given, the first of which names the program. Words that are refused or ask for help or the version are an
 /// error, which prints its text.
 pub fn read_args<'a>(alloc: Global, words: &'a [&'a str]) -> Result<Asked<'a>, Error>
     ensures ok { IfOk result (λ a. wanted_of (map (λ w. w.now) words.now) ≡ Some (view_of_asked a)) }

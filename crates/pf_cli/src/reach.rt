@@ -13,22 +13,22 @@ use clap::error::ErrorKind;
 use clap::{ArgMatches, Error};
 use std::alloc::Global;
 
-/// What the names of a hunt want.
+/// What is said of a name too many.
 const NAMES: &str = "'[FILE]...': it wants at most 4,096 files, and this is the 4,097th";
 
 /// What a hunt goes over.
 #[derive(Drop)]
 pub(crate) struct Reach<'a> {
-    /// The names of the sources behind the first.
+    /// The names of the sources after the first.
     pub more: Vec<&'a str>,
     pub roots: Roots,
-    /// Whether nothing is hunted behind the first root that fails.
+    /// Whether nothing is hunted after the first root that fails.
     pub fail_fast: bool,
-    /// Whether a seed fails too whose root returned while processes still wait.
+    /// Whether a seed also fails if its root returned while processes still wait.
     pub leaks: bool,
 }
 
-/// The names behind the first of these.
+/// The names after the first of these.
 fn behind_first<'a>(alloc: Global, names: &[&'a str]) -> Result<Vec<&'a str>, Error>
     ensures ok { IfOk result (λ v. more_named (map (λ s. s.now) names.now) ≡ Some (map (λ s. s.now) v.items)) }
     ensures err { IfErr result (λ e. (kind_of e ≡ ErrorKind.OutOfMemory)
@@ -46,7 +46,7 @@ fn behind_first<'a>(alloc: Global, names: &[&'a str]) -> Result<Vec<&'a str>, Er
     }
 }
 
-/// The names of the sources behind the first.
+/// The names of the sources after the first.
 fn more<'a>(alloc: Global, rows: &ArgMatches<'a>) -> Result<Vec<&'a str>, Error>
     ensures ok { IfOk result (λ v.
         more_named (names_in (rows_of (found_of rows.now))) ≡ Some (map (λ s. s.now) v.items)) }
@@ -99,7 +99,7 @@ pub(crate) fn reach_of<'a>(alloc: Global, rows: &ArgMatches<'a>) -> Result<Reach
     }
 }
 
-/// Two words that don't go together, if such stand there.
+/// Two words that exclude each other, if there are such.
 pub(crate) fn clash(rows: &ArgMatches) -> Option<(&'static str, &'static str)>
     ensures some { is_some result ≡ clashes_in (rows_of (found_of rows.now)) }
     ensures told { option_map (λ p. (p.0.now, p.1.now)) result ≡ clash_told_in (rows_of (found_of rows.now)) }

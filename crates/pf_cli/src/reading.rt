@@ -11,14 +11,14 @@ use pf_terms::NoMemory;
 use std::alloc::Global;
 use std::fmt::Display;
 
-/// What words come to.
+/// How words are read.
 #[derive(Drop)]
 pub enum Reading<'a> {
     /// They ask for this.
     Asked(Asked<'a>),
     /// They ask for work by the schedule in this file, `--schedule @FILE`: its text is read, and then the words once more with it.
     ScheduleIn(&'a str),
-    /// They ask for no work: this text is printed, on the standard error where it tells a fault, and the program ends with this status.
+    /// They ask for no work: this text is printed, on the standard error where it reports a fault, and the program ends with this status.
     Text {
         text: String,
         status: u8,
@@ -46,7 +46,7 @@ fn told<'a, E: Display>(alloc: Global, kind: ErrorKind, error: &E) -> Result<Rea
     }
 }
 
-/// What the words come to, the first of which names the program. Where they name a file for their schedule, `schedule` is the text that stands in
+/// How the words are read, the first of which names the program. Where they name a file for their schedule, `schedule` is the text that is in
 /// it, once that is read.
 pub fn read<'a>(
     alloc: Global,

@@ -1,4 +1,4 @@
-//! Errors of words whose values are none.
+//! Errors of words with invalid values.
 
 ghost use Rattle.std.specs.Prelude.{◌≡◌, ◌⊎◌, IfOk, IsSomeAnd};
 ghost use Rattle.std.specs.String.{string_bytes};
@@ -87,7 +87,7 @@ fn try_refuse(
     command.error(kind, text)
 }
 
-/// The same; or the error tells that memory ran out.
+/// The same; or the error says that memory ran out.
 pub(crate) fn refuse(alloc: Global, valued: Valued, kind: ErrorKind, text: &str) -> Error
     ensures { (kind_of result ≡ ErrorKind.OutOfMemory) ⊎ (kind_of result ≡ kind) }
 {
@@ -171,14 +171,14 @@ pub(crate) fn refuse_file(alloc: Global, valued: Valued, file: &str, wants: &str
     refuse_with(alloc, valued, ErrorKind::InvalidValue, text)
 }
 
-/// What is said of two words that don't go together.
+/// What is said of two words that exclude each other.
 fn wrong_pair(alloc: Global, first: &str, second: &str) -> Result<String, AllocError>
     ensures { IfOk result (λ t. string_bytes t ≡ clash_text first.now second.now) }
 {
     format!(in alloc; "the argument '{first}' cannot be used with {second}")
 }
 
-/// An error of two words that don't go together.
+/// An error of two words that exclude each other.
 pub(crate) fn refuse_both(alloc: Global, valued: Valued, first: &str, second: &str) -> Error
     ensures { (kind_of result ≡ ErrorKind.OutOfMemory) ⊎ (kind_of result ≡ ErrorKind.ArgumentConflict) }
 {

@@ -12,7 +12,7 @@ use clap::{ArgMatches, Error};
 use pf_text::long_number_of;
 use std::alloc::Global;
 
-/// What seeds want.
+/// What seeds have to be.
 const SEEDS: &str =
     "A..B, A..=B or N, numbers from 0 to 18446744073709551615 without leading zeros: the seeds from A to before B, up to B, or from 0 to before N";
 

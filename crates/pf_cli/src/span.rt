@@ -12,7 +12,7 @@ use clap::{ArgMatches, Error};
 use pf_text::number_of;
 use std::alloc::Global;
 
-/// What a time wants.
+/// What a time has to be.
 const TIMES: &str =
     "a number of seconds, minutes or hours above 0, without leading zeros, as 90s, 5m or 2h";
 
@@ -40,7 +40,7 @@ fn seconds_of(number: Option<u32>, unit: Option<u64>) -> Option<u64>
     }
 }
 
-/// The seconds of the time that a word is.
+/// The seconds of the time that a word names.
 fn time_of(word: &str) -> Option<u64>
     ensures { result ≡ time_of word.now }
 {

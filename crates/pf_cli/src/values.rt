@@ -26,7 +26,7 @@ pub(crate) fn value<'a>(rows: &ArgMatches<'a>, name: &str) -> Option<&'a str>
     rows.get_str(name)
 }
 
-/// The values of a word that may stand several times.
+/// The values of a word that may occur several times.
 pub(crate) fn values<'m, 'a>(rows: &'m ArgMatches<'a>, name: &str) -> Option<&'m [&'a str]>
     ensures { option_map (λ s. map (λ v. v.now) s.now) result ≡ all_of name.now (rows_of (found_of rows.now)) }
 {
@@ -54,28 +54,28 @@ pub(crate) fn named_file<'a>(rows: &ArgMatches<'a>) -> Option<&'a str>
     }
 }
 
-/// What a limit wants.
+/// What a limit has to be.
 const STEPS: &str = "a number of steps from 1 to 100000, without leading zeros";
 
-/// What the number of runs wants.
+/// What the number of runs has to be.
 pub(crate) const RUNS: &str = "a number of runs from 1 to 1000, without leading zeros";
 
-/// What weights want.
+/// What weights have to be.
 const WEIGHTS: &str = "two numbers R:D from 1 to 9, R of a process and D of a channel";
 
-/// What a strategy wants.
+/// What a strategy has to be.
 const STRATEGIES: &str = "`pos` or `uniform`; `pos` beside a seed without weights alone";
 
-/// What an edition wants.
+/// What an edition has to be.
 const EDITIONS: &str = "1 or 2";
 
-/// What a page wants.
+/// What a page has to be.
 const PAGES: &str = "a number from 1 to 4294967295, without leading zeros";
 
-/// What the number of workers wants.
+/// What the number of workers has to be.
 pub(crate) const WORKERS: &str = "a number of threads from 1 to 64, without leading zeros";
 
-/// The number that the value of an option is, which its command wants.
+/// The value, as a number, of an option that its command requires.
 pub(crate) fn number(
     alloc: Global,
     valued: Valued,
@@ -97,7 +97,7 @@ pub(crate) fn number(
     }
 }
 
-/// The edition that a word is.
+/// The edition that a word names.
 fn as_edition(word: &str) -> Option<Edition>
     ensures { option_map edition_number result ≡ option_and_then as_edition (number_of word.now) }
 {
@@ -162,7 +162,7 @@ pub(crate) fn bounds(
     }
 }
 
-/// The weight that a word is.
+/// The weight that a word names.
 fn weight_of(word: &str) -> Option<u32>
     ensures { result ≡ weight_of word.now }
 {
@@ -202,7 +202,7 @@ pub(crate) fn weights(
     }
 }
 
-/// The choices of the seed that a word is, by the weights that are named.
+/// The choices of the seed that a word names, by the weights that are named.
 fn choices_by_seed(
     alloc: Global,
     valued: Valued,
@@ -257,7 +257,7 @@ fn in_place<'a>(text: Option<&'a str>, word: &'a str) -> &'a str
     }
 }
 
-/// The numbers of the schedule that a word is, with a text in place of the file that it names.
+/// The numbers of the schedule that a word names, with a text in place of the file that it names.
 fn numbers(alloc: Global, valued: Valued, text: Option<&str>, word: &str) -> Result<Vec<u32>, Error>
     ensures ok { IfOk result (λ v. numbers_of (option_map (λ s. s.now) text.entry) word.now ≡ Some v.items) }
     ensures err { IfErr result (λ e. (kind_of e ≡ ErrorKind.OutOfMemory)
@@ -274,7 +274,7 @@ fn numbers(alloc: Global, valued: Valued, text: Option<&str>, word: &str) -> Res
     }
 }
 
-/// The choices of the schedule that a word is, with a text in place of the file that it names.
+/// The choices of the schedule that a word names, with a text in place of the file that it names.
 fn choices_by_schedule(
     alloc: Global,
     valued: Valued,
@@ -337,7 +337,7 @@ pub(crate) fn choices(
     }
 }
 
-/// The strategy that a word is.
+/// The strategy that a word names.
 fn strategy_of(word: &str) -> Option<Strategy>
     ensures { result ≡ strategy_of word.now }
 {
@@ -371,7 +371,7 @@ fn guided_by(strategy: Option<Strategy>, choices: &RunChoices) -> Option<Option<
     }
 }
 
-/// The seed by whose priorities a run goes that has these choices, if any.
+/// The seed by whose priorities a run with these choices goes, if any.
 pub(crate) fn guided(
     alloc: Global,
     valued: Valued,
@@ -500,7 +500,7 @@ pub(crate) fn page(alloc: Global, rows: &ArgMatches) -> Result<u32, Error>
     }
 }
 
-/// The number of workers that a word is.
+/// The number of workers that a word names.
 pub(crate) fn as_workers(word: &str) -> Option<u32>
     ensures number { result ≡ option_and_then as_workers (number_of word.now) }
     ensures within { IfSome result (λ n. (1 ≤ n) × (n ≤ 64)) }

@@ -1,4 +1,4 @@
--- Lines that are put one behind another, and runs that are known by their reports.
+-- Lines that are put one after another, and runs that are known by their reports.
 use Rattle.std.proofs.Common.{◌≡◌, ◌+◌, ◌<◌, ◌≤◌, ℕ, zero, suc, Bool, true, false, if◌then◌else◌, List, [], ◌∷◌, ◌++◌, Option, Some, None, Ok, Err, append_assoc, drop, get_or, length, refl, sym, ap, ◌∙◌, subst, arith}
 use Rattle.std.proofs.lemmas.List.{append-nil, at_drop_more}
 use Rattle.pf_fault.specs.declared.code.Code.TheVariants as code
@@ -79,7 +79,7 @@ module _ (j : meaning.Job) (r : Report) (k : KnownRun) (h : IsRunOf j r k) where
     },
   )
 
--- what its processes are told of is told of the job's
+-- what is said of a known run's processes is said of the job's
 pub tells_of : (j : meaning.Job) (r : Report) (by : Option ℕ) (source text : List ℕ) (k : KnownRun) → TellsRun k source text → MeansBy by j r → IsRunOf j r k
     → Tells j by source text
 tells_of j r by source text k tells means is_run =

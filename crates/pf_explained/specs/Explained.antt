@@ -39,7 +39,7 @@ AreLines k places [] text = text ≡ []
 AreLines k places (x ∷ xs) text =
     (line : List ℕ) × (rest : List ℕ) × IsLine k places x line × AreLines k places xs rest × (text ≡ line ++ (10 ∷ rest))
 
--- the lines of the processes of a run, as they stand where its events lead
+-- the lines of the processes of a run, as they are where its events lead
 pub record TellsRun (k : KnownRun) (source text : List ℕ) : Type 0 where
   pub places : List (Option Place)
   pub are_places : ArePlaces k.module.now.value source places
@@ -66,7 +66,7 @@ IsModuleOf bytes m = (m.source ≡ bytes) × IsReadAs bytes m
 abbrev pub AsksOf : RunArgs → ReadModule → Result Job Code → Type 0
 AsksOf a m = Asks m a.edition a.request
 
--- of the run that is asked for of a source its processes are told; nothing is said where the source is refused, or what is asked for of it,
+-- of the run that is asked for of a source its processes are reported; nothing is said where the source is refused, or what is asked for of it,
 -- or where that is a shrinking
 pub data Explains (a : RunArgs) (bytes : List ℕ) : List ℕ → Type 0 where
   source_refused : (code : Code) (offset : ℕ) → Reads bytes (refused code offset) → Explains a bytes []

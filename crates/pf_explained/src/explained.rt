@@ -108,8 +108,8 @@ fn explain_job(alloc: Global, args: &RunArgs, job: &Job, source: &[u8]) -> Resul
     explain_known(alloc, &run, source)
 }
 
-/// What is said of the processes of the run that is asked for of a source: of each, by pid, a line that tells in whose call it began, and how it
-/// stands when the run is over. Nothing is said where the source is refused, or what is asked for of it, or where that is a shrinking.
+/// What is said of the processes of the run that is asked for of a source: of each, by pid, a line that says in whose call it began, and how it
+/// ended or where it waits when the run is over. Nothing is said where the source is refused, or what is asked for of it, or where that is a shrinking.
 pub fn explain_run(alloc: Global, args: &RunArgs, source: &[u8]) -> Result<Vec<u8>, NoMemory>
     ensures { IfOk result (λ text. Explains (view_of_run_args args.now) source.now text.items) }
 {

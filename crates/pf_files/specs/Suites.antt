@@ -13,7 +13,7 @@ is_every Every = true
 is_every Main = false
 is_every Named = false
 
--- there are names behind the first, or every root is hunted
+-- there are names after the first, or every root is hunted
 abbrev pub goes_over_several : HuntArgs → Bool
 goes_over_several h = has_names h.more || is_every h.roots
 

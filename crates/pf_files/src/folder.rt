@@ -14,7 +14,7 @@ use std::io::{self, Read};
 /// In how many steps the names of a folder are read at most, each of so many bytes.
 const MOST_READS: u32 = 4_096;
 
-/// The bytes of a step; the longest name has room in them.
+/// The bytes of a step; the longest name fits in them.
 const CHUNK: usize = 4_096;
 
 /// Whether a name is that of a folder.
@@ -27,7 +27,7 @@ fn may_be_file(rt: &impl Files, name: &str) -> bool {
     name.contains('\0') || fs::metadata(rt, name).map_or(true, |found| found.is_file())
 }
 
-/// The bytes that a folder has for its names, each with a NUL behind it.
+/// The bytes that a folder has for its names, each with a NUL after it.
 fn names_in(
     alloc: Global,
     mut folder: impl Read + Drop,
@@ -60,7 +60,7 @@ fn sources_in(alloc: Global, names: &[u8]) -> Result<Vec<Vec<u8>>, NoMemory> {
     Ok(sources)
 }
 
-/// The name of a folder with a slash behind it.
+/// The name of a folder with a slash after it.
 fn with_slash(alloc: Global, folder: &str) -> Result<String, NoMemory>
     ensures { IfOk result (λ path. IsPathOf folder.now (string_bytes path)) }
 {
@@ -71,7 +71,7 @@ fn with_slash(alloc: Global, folder: &str) -> Result<String, NoMemory>
     Ok(path)
 }
 
-/// The files of a folder whose names end in `.erl`, in the order of their names, each with the folder's name in front.
+/// The files of a folder whose names end in `.erl`, in the order of their names, each after the folder's name.
 pub fn files_in<R: Files + AllocGlobal>(
     rt: &R,
     folder: &str,

@@ -52,7 +52,7 @@ pub fn is_suite(rt: &impl Files, args: &HuntArgs) -> bool
         || args.file.is_some_and(|name| is_folder(rt, name))
 }
 
-/// Whether a hunt goes on behind what it came to, or stops there.
+/// Whether a hunt goes on after a root's result, or stops there.
 #[derive(Clone, Copy, PartialEq, Eq)]
 enum Next {
     GoesOn,
@@ -62,21 +62,21 @@ enum Next {
 /// Whether a hunt goes on, or what ended it.
 type Step = Result<Next, OrNoMemory<StreamFault>>;
 
-/// A hunt over several sources, as far as it came.
+/// A hunt over several sources, so far.
 #[derive(Drop)]
 struct SuiteHunt<'a, R> {
     rt: &'a R,
     args: &'a HuntArgs<'a>,
     line: &'a Line,
     workers: u64,
-    /// When it began, if the clock tells.
+    /// When it began, if the clock can be read.
     start: Option<Instant>,
     suite: Suite,
     /// Whether the standard input was read.
     is_input_read: bool,
 }
 
-/// What a file holds, but no more than a byte above what a source may have.
+/// What a file holds, up to one byte more than a source may have.
 fn bytes_in<F: Read + Drop, L: Ledger>(
     alloc: Global,
     file: F,
@@ -235,7 +235,7 @@ where
         Ok(Next::GoesOn)
     }
 
-    /// Hunts what a source of these bytes has, or tells why it is none.
+    /// Hunts the roots of the source of these bytes, or says why it is refused.
     fn source<W: Write, M: Ledger>(
         &mut self,
         file: &str,

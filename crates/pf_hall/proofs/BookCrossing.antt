@@ -1,4 +1,4 @@
--- The book of all desks may go to another thread: a lemma a type, each from those of its parts.
+-- The book of all desks may go to another thread: a lemma for each type, from those of its parts.
 use denote.Param.Send.{IsSend, recorded_send, sendable}
 use Rattle.std.proofs.Crossing as heap
 use Rattle.std.proofs.hash.RandomState.TheSendSync as keys

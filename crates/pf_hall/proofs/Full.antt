@@ -10,7 +10,7 @@ use Rattle.pf_hall.specs.Clients.{Told}
 abbrev pub HasMost : ℕ → List Told → Type 0
 HasMost q log = MOST_CALLS ≤ length (of_project q log)
 
--- it has most still when more were logged
+-- it still has as many when more were logged
 pub still_most : (q : ℕ) (log seen : List Told) → StartsWith log seen → HasMost q seen → HasMost q log
 still_most q log seen starts most = omega (arith, most, no_fewer q log seen starts)
 

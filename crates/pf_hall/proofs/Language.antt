@@ -43,7 +43,7 @@ comes_to j (suc k) (schedule ns) = shrunk_so j (shrunk (fails_by j) (suc k) ns)
 comes_to j (suc k) (seed n) = nothing_fails
 comes_to j (suc k) (weighted_seed n process channel) = nothing_fails
 
--- a function that tells which schedules fail tells what the one report of each does
+-- a function that says which schedules fail says what the one report of each does
 same_failures : (j : Job) (fails : List ℕ → Bool) → TellsFailures j fails → fails_by j ≡ fails
 same_failures j fails tells = λ i ns. sym (tells ns (evaluated (by_schedule j ns)) (evaluation_is_the_meaning (by_schedule j ns) tt)) i
 

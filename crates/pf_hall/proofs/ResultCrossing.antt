@@ -1,4 +1,4 @@
--- What a job came to may go to another thread, and be shared by threads: a lemma a type, each from those of its parts.
+-- A job's result may go to another thread, and be shared by threads: a lemma for each type, from those of its parts.
 use denote.Param.Send.{IsSend, IsSync, recorded_send, recorded_sync, sendable}
 use Rattle.std.proofs.Crossing as heap
 use Rattle.pf_model.proofs.Crossing as model

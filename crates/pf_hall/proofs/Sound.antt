@@ -51,7 +51,7 @@ any_profile = record { reading = λ text. faulty code.NoModule; property = λ na
 
 -- ---- worlds
 
--- what is told of the desk that a step changed, and of all others, is told of the world
+-- what holds of the desk that a step changed, and of all others, holds of the world
 placed : (q : ℕ) (rows : List (Row Job)) (w : World) (d : Desk) → IsToldAt q rows d → ((r : ℕ) → (q == r) ≡ false → IsToldAt r rows (desk_at r w)) → IsTold rows (put_desk q d w)
 placed q rows w d mine others r = subst (IsToldAt r rows) (sym (desk_placed r q d w)) (by (q == r) refl)
   where

@@ -1,4 +1,4 @@
--- What clients were told, and the histories of the desks.
+-- What clients were answered, and the histories of the desks.
 use Rattle.std.specs.Prelude.{◌≡◌, ◌⊎◌, ℕ, Bool, true, false, List, [], ◌∷◌, ◌++◌, map, All, Result, Ok, Err}
 use Rattle.pf_fault.specs.declared.code.Code.TheVariants as code
 use Rattle.pf_fault.specs.declared.memory.NoMemory.{NoMemory}

@@ -1,4 +1,4 @@
--- The book of all desks and the ledger of all claims, which lie under one lock.
+-- The book of all desks and the ledger of all claims, which are under one lock.
 use Rattle.std.specs.Prelude.{◌≡◌, ℕ, zero, suc, Bool, false, if◌then◌else◌, List, [], refl}
 use Rattle.std.specs.Coded.{Coded, code_by, coded×, coded_ℕ, coded_list, coded_option}
 use Rattle.pf_request.specs.Encoding.{coded_job}
@@ -23,7 +23,7 @@ pub record Hall : Type 0 where
 abbrev pub no_hall : Hall
 no_hall = record { rows = []; desks = [] }
 
--- what the ledger and the receipts tell is what the histories of the desks tell, and each claim is of the job of its ticket
+-- what the ledger and the receipts say is what the histories of the desks say, and each claim is of the job of its ticket
 abbrev pub IsSound : List (Row Job) → List Told → World → Type 0
 IsSound rows log w = ForRight (λ p. IsTold rows w × IsLogged log w) × AreOfTheirJobs rows w
 

@@ -9,7 +9,7 @@ use pf_receipts::{Receipt, Seat, SeatReceipts};
 use pf_request::Call;
 use std::marker::Model;
 
-/// A client's seat: what it was told of its calls, and whether the log of its project is full. Contracts see its project, its receipts, and whether it is full: then
+/// A client's seat: what its calls were answered, and whether the log of its project is full. Contracts see its project, its receipts, and whether it is full: then
 /// it has seen as many calls of the project as a log holds.
 #[derive(Drop)]
 pub struct ClientSeat<N: FarmNames> {
@@ -56,7 +56,7 @@ impl<N: FarmNames> ClientSeat<N> {
         self.seat.project()
     }
 
-    /// What it was told, call by call: each receipt has the number that the call has in the log of its project.
+    /// What it was answered, call by call: each receipt has the number that the call has in the log of its project.
     pub fn receipts(&self) -> &[Receipt<Call, Reply>]
         ensures { result.now ≡ self.now.receipts }
     {

@@ -18,7 +18,7 @@ use pf_receipts::Gathering;
 use pf_request::Call;
 use pf_sched::Job;
 
-/// What is left of a farm that is closed: what each client was told, all claims with their ends, and the desks of all projects.
+/// What is left of a farm that is closed: what each client was answered, all claims with their ends, and the desks of all projects.
 #[derive(Drop)]
 pub struct Closing {
     pub seats: Vec<ClosedSeat>,

@@ -36,8 +36,8 @@ use std::snapshot::Snapshot;
 use std::sync::ledger;
 use std::sync::ledger::Share;
 
-/// The desks of all projects, the claims of all workers with their ends, and which calls of all clients were logged. What the ledger tells of claims and what receipts
-/// tell of calls is what the histories of the desks tell, at each moment. Contracts see the rows of the ledger, and the desks by project.
+/// The desks of all projects, the claims of all workers with their ends, and which calls of all clients were logged. What the ledger says of claims and what receipts
+/// say of calls is what the histories of the desks say, at each moment. Contracts see the rows of the ledger, and the desks by project.
 #[derive(Drop)]
 pub struct Hall<N: FarmNames> {
     pub(crate) book: Book,
@@ -192,7 +192,7 @@ impl<N: FarmNames> Hall<N> {
         }
     }
 
-    /// Ends a claim by filing what came of its trial; says false if the trial was dropped: then the claim is stray, and no desk has changed. It takes no
+    /// Ends a claim by filing its trial's result; says false if the trial was dropped: then the claim is stray, and no desk has changed. It takes no
     /// memory.
     pub fn file(
         &mut self,

@@ -1,4 +1,4 @@
-//! What lies under the lock of a running farm: the book of all desks, and beside it the ledger of all claims.
+//! What is under the lock of a running farm: the book of all desks, and beside it the ledger of all claims.
 #![tactic(auto)]
 
 mod claimed;

@@ -1,4 +1,4 @@
-//! The laws that the limits of sources, values and runs are the numbers that users are told: functions with empty bodies, whose contracts are
+//! The laws that the limits of sources, values and runs are the numbers that users are given: functions with empty bodies, whose contracts are
 //! the laws.
 #![tactic(auto)]
 

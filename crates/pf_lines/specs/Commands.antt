@@ -1,4 +1,4 @@
--- Commands: what the bytes that `steps` reads ask for. One command stands on a line, its words parted by single spaces.
+-- Commands: what the bytes that `steps` reads ask for. One command is on a line, its words parted by single spaces.
 use Rattle.std.specs.Prelude.{◌≡◌, ℕ, ◌==◌, Bool, true, false, ◌&&◌, ◌||◌, not, nat_le, nat_lt, if◌then◌else◌, List, [], ◌∷◌, length, take, drop, Option, Some, None, codes}
 use Rattle.std.specs.List.{list_any, slice_split}
 use Rattle.std.specs.Option.{option_map}
@@ -30,7 +30,7 @@ abbrev pub is_word : List ℕ → Bool
 is_word [] = false
 is_word (b ∷ bs) = not (list_any (λ c. (c == 9) || (c == 13)) (b ∷ bs))
 
--- what stands between such bytes, before the first and after the last
+-- what is between such bytes, before the first and after the last
 abbrev pub parts_at : ℕ → List ℕ → List (List ℕ)
 parts_at at text = slice_split (λ b. b == at) text
 
@@ -174,7 +174,7 @@ abbrev pub after_source : WorkshopStep → List ℕ → Option (WorkshopStep × 
 after_source s [] = Some (s, [])
 after_source s (b ∷ bs) = if b == 10 then Some (s, bs) else None
 
--- the source of n bytes stands in the lines that follow an ended line
+-- the source of n bytes is in the lines that follow an ended line
 abbrev pub with_source : Bool → (project size : ℕ) → List ℕ → Option (WorkshopStep × List ℕ)
 with_source ended project size rest =
     if ended && nat_le size (length rest)

@@ -13,11 +13,11 @@ abbrev pub has_source : Option ℕ → List ℕ → Bool
 has_source None rest = true
 has_source (Some size) rest = nat_lt size (length rest)
 
--- the command in front is complete, or its line is surely none: the line has its end, and a submission what follows it
+-- the first command is complete, or its line is surely no command: the line has its end, and a submission what follows it
 abbrev pub is_complete : List ℕ → Bool
 is_complete bytes = (first_line bytes).is_ended && has_source (size_in (asked_by (words_of (first_line bytes).text))) (first_line bytes).rest
 
--- what stands in front is answered: if it is complete, and at the end of the input if there is something
+-- the first command is answered: if it is complete, and at the end of the input if there is something
 abbrev pub is_due : Bool → List ℕ → Bool
 is_due over bytes = if over then not (length bytes == 0) else is_complete bytes
 

@@ -1,4 +1,4 @@
--- Where a byte stands in some bytes.
+-- Where a byte occurs in some bytes.
 use Rattle.std.specs.Prelude.{◌≡◌, ℕ, ◌==◌, false, List}
 use Rattle.std.specs.List.{All}
 

@@ -50,7 +50,7 @@ fn own_call(project: u32, step: Step, rest: &[u8]) -> Result<(ClientLine, &[u8])
     }
 }
 
-/// What the command asks for with which the bytes of a project's file begin, and what follows it. Only the
+/// What the first command in the bytes of a project's file asks for, and what follows it. Only the
 /// client's own calls are commands there, and `await P T`.
 pub fn read_client_line(
     alloc: Global,

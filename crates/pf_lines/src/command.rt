@@ -37,7 +37,7 @@ impl Error for NoCommand {}
 /// Why no command was read.
 pub type LineFault = OrNoMemory<NoCommand>;
 
-/// The source of n bytes that stands in front, and what follows the line end after it.
+/// The source of n bytes that comes first, and what follows the line end after it.
 fn split_source(bytes: &[u8], size: usize) -> Option<(&[u8], &[u8])>
     ensures { (project : _) → option_map (λ p. (client_calls project (submit p.0.now), p.1.now)) result
         ≡ with_source true project size bytes.now }
@@ -53,7 +53,7 @@ fn split_source(bytes: &[u8], size: usize) -> Option<(&[u8], &[u8])>
     }
 }
 
-/// The step that the command asks for with which some bytes begin, and what follows the command.
+/// The step that the first command in some bytes asks for, and what follows the command.
 pub fn read_command(alloc: Global, bytes: &[u8]) -> Result<(Step, &[u8]), LineFault>
     ensures command { IfOk result (λ r. command_at bytes.now ≡ Some (view_of_step r.0, r.1.now)) }
     ensures none { result ≡ Err no_command → command_at bytes.now ≡ None }

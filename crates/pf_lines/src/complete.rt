@@ -1,4 +1,4 @@
-//! Whether what stands in front may be answered, when more may follow it.
+//! Whether the first command may be answered, when more may follow it.
 
 ghost use Rattle.std.specs.Prelude.{◌≡◌};
 ghost use Rattle.pf_lines.specs.Commands.{asked_by, words_of};
@@ -19,7 +19,7 @@ fn source_size(line: &[u8]) -> Option<u32>
     Some(size)
 }
 
-/// Whether a source of n bytes stands in front, with one byte more.
+/// Whether a source of n bytes comes first, with one byte more.
 fn has_source(size: Option<u32>, bytes: &[u8]) -> bool
     ensures { result ≡ has_source size bytes.now }
 {
@@ -29,7 +29,7 @@ fn has_source(size: Option<u32>, bytes: &[u8]) -> bool
     }
 }
 
-/// Whether the command in front has all its bytes, so that it stays what it is.
+/// Whether the first command has all its bytes, so that it stays what it is.
 fn is_complete(bytes: &[u8]) -> bool
     ensures { result ≡ is_complete bytes.now }
 {
@@ -37,7 +37,7 @@ fn is_complete(bytes: &[u8]) -> bool
     line.is_ended && has_source(source_size(line.text), line.rest)
 }
 
-/// Whether what stands in front is answered now.
+/// Whether the first command is answered now.
 pub fn is_due(bytes: &[u8], is_over: bool) -> bool
     ensures { result ≡ is_due is_over bytes.now }
 {

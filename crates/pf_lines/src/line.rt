@@ -36,14 +36,14 @@ impl Asked {
     }
 }
 
-/// The number that the words are, if they are one.
+/// The number that the words are, if they are one number.
 fn one_number(words: &[u8]) -> Option<u32>
     ensures { (f : ℕ → commands.Asked) → option_map f result ≡ of_one f (words_of words.now) }
 {
     number_of(only_word(words)?)
 }
 
-/// The numbers that the words are, if they are two.
+/// The numbers that the words are, if they are two numbers.
 pub(crate) fn two_numbers(words: &[u8]) -> Option<(u32, u32)>
     ensures { (f : ℕ → ℕ → commands.Asked) → option_map (λ p. f p.0 p.1) result ≡ of_two f (words_of words.now) }
 {

@@ -13,7 +13,7 @@ pub struct Line<'a> {
     pub rest: &'a [u8],
 }
 
-/// What stands before the first of these bytes, and what stands after it.
+/// What is before the first of these bytes, and what is after it.
 fn split(bytes: &[u8], at: u8) -> Option<(&[u8], &[u8])>
     ensures { MatchOption result
         (Lacks at bytes.now)
@@ -41,7 +41,7 @@ pub fn first_line(bytes: &[u8]) -> Line<'_>
     }
 }
 
-/// What stands before the first of these bytes, and the text of the parts that follow, if some do.
+/// What is before the first of these bytes, and the text of the parts that follow, if some do.
 pub(crate) fn first_part(text: &[u8], at: u8) -> Option<(&[u8], &[u8])>
     ensures { MatchOption result
         (parts_at at text.now ≡ text.now ∷ [])

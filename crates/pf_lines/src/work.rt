@@ -12,7 +12,7 @@ use crate::split::{first_word, only_word};
 use pf_request::{Chore, Step};
 use pf_text::number_of;
 
-/// The numbers that the words are, if they are three.
+/// The numbers that the words are, if they are three numbers.
 fn three_numbers(words: &[u8]) -> Option<(u32, u32, u32)>
     ensures { (f : ℕ → ℕ → ℕ → commands.Asked)
         → option_map (λ p. f p.0 p.1 p.2) result ≡ of_three f (words_of words.now) }
@@ -23,7 +23,7 @@ fn three_numbers(words: &[u8]) -> Option<(u32, u32, u32)>
     Some((number_of(first)?, number_of(second)?, number_of(third)?))
 }
 
-/// The numbers that the words are, if they are four.
+/// The numbers that the words are, if they are four numbers.
 fn four_numbers(words: &[u8]) -> Option<(u32, u32, u32, u32)>
     ensures { (f : ℕ → ℕ → ℕ → ℕ → Option commands.Asked)
         → option_and_then (λ p. f p.0 p.1 p.2 p.3) result ≡ of_four f (words_of words.now) }
@@ -72,7 +72,7 @@ fn read_slice(words: &[u8]) -> Option<Asked>
     }))
 }
 
-/// A theft from another worker.
+/// A steal from another worker.
 fn read_steal(words: &[u8]) -> Option<Asked>
     ensures { option_map view_of_asked result ≡ of_four theft_of (words_of words.now) }
 {

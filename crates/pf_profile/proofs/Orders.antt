@@ -1,4 +1,4 @@
--- What is told of a ticket is the result, in the language, of the job that its order asked for.
+-- What is reported of a ticket is the result, in the language, of the job that its order asked for.
 use Rattle.std.proofs.Common.{◌≡◌, ℕ, zero, suc, ◌≤◌, Bool, true, false, ◌&&◌, List, Option, Some, None, refl, sym, ap, subst, arith}
 use Rattle.std.specs.Prelude.{Ok, Err, if◌then◌else◌, nat_le}
 use Rattle.std.proofs.lemmas.Bool.Decides.{nat_tests}
@@ -52,7 +52,7 @@ some_property m e None q j h = by (root_in m q.root) h
     by None h = absurd (cc)
     by (Some i) h = absurd (cc)
 
--- ---- the job of a request comes to the result that it has in the language
+-- ---- the result of a request's job is the one that it has in the language
 
 both_are : (a b : Bool) → (a && b) ≡ true → (a ≡ true) × (b ≡ true)
 both_are true b h = (refl, h)

@@ -39,7 +39,7 @@ property_is : (names : List (List ℕ)) (bytes : List ℕ) (o : Option Property)
 unfolding profile
 property_is names bytes o h = let any = any_property names bytes in same_property names bytes any.0 o any.1 h
 
--- a function that tells which schedules fail tells what the one report of each does
+-- a function that says which schedules fail says what the one report of each does
 same_failures : (j : Job) (fails : List ℕ → Bool) → TellsFailures j fails → fails_by j ≡ fails
 same_failures j fails tells = λ i ns. sym (tells ns (evaluated (by_schedule j ns)) (evaluation_is_the_meaning (by_schedule j ns) tt)) i
 

@@ -1,4 +1,4 @@
--- The profile of the language: what a source is read as, which property bytes are, what a job comes to, and how many events it has.
+-- The profile of the language: what a source is read as, which property bytes are, a job's result, and how many events it has.
 use Rattle.std.specs.Prelude.{ℕ, zero, suc, ◌+◌, Bool, List, [], ◌∷◌, length, Option, Some, None}
 use Rattle.pf_check.proofs.AnyOutcome.{any_outcome}
 use Rattle.pf_desks.specs.Desk.{Profile}
@@ -10,17 +10,17 @@ use Rattle.pf_shrink.specs.Tried.{tried}
 use Rattle.pf_worlds.specs.Workshop.{RunProfile}
 use Rattle.pf_book.specs.Profile.{reading_from}
 
--- whether a job fails by a schedule: by what its run comes to
+-- whether a job fails by a schedule: by the result of its run
 abbrev pub fails_by : Job → List ℕ → Bool
 fails_by j ns = is_failure (evaluated (by_schedule j ns)).verdict
 
--- what a shrinking comes to that ends so
+-- the result of a shrinking that ends so
 abbrev pub shrunk_so : Job → Option Found → Result
 shrunk_so j None = nothing_fails
 shrunk_so j (Some f) = shrunk_to f (evaluated (by_schedule j f.schedule))
 
--- what a job comes to: what its run comes to, worked out, which is its one report; or with runs the shrinking of its schedule. A seed isn't
--- shrunk, nor are there weights but from 1 to 9: no such job is made, and what it comes to is left open
+-- a job's result: that of its run, worked out, which is its one report; or with runs the shrinking of its schedule. A seed isn't
+-- shrunk, nor are there weights but from 1 to 9: no such job is made, and its result is left open
 abbrev pub comes_to : Job → (runs : ℕ) → Choices → Result
 comes_to j zero cs = report (evaluated j)
 comes_to j (suc k) (schedule ns) = shrunk_so j (shrunk (fails_by j) (suc k) ns)
@@ -43,7 +43,7 @@ events_of j (suc k) (weighted_seed n process channel) = zero
 
 -- ---- profiles
 
--- a source is read as the rules of reading say; bytes are the property that their text says, or none; a job comes to the one result that it
+-- a source is read as the rules of reading say; bytes are the property that their text says, or none; a job's result is the one that it
 -- has in the language
 unfoldable pub profile : Profile
 profile = record {

@@ -18,6 +18,6 @@ found_in (n ∷ ns) text zero e =
     ap (λ b. b || list_any (bytes_eq text) ns) ((bytes_eq-Decides text n).1 same)
 found_in (n ∷ ns) text (suc i) e = either (bytes_eq text n) (list_any (bytes_eq text) ns) (found_in ns text i e)
 
--- a name that stands in the table isn't lacked
+-- a name that is in the table isn't lacked
 pub not_lacked : (names : List (List ℕ)) (text : List ℕ) (i : ℕ) → slice_get names i ≡ Some text → None ≡ lacked_name names (atom text)
 not_lacked names text i e = sym (ap (λ (b : Bool). if b then None else Some text) (found_in names text i e))

@@ -25,7 +25,7 @@ pub enum Reason {
     OfSource(Refusal),
     /// What is asked for of this module is refused.
     OfRequest(ReadModule, JobRefusal),
-    /// Neither is refused: it shows later, in what was run.
+    /// Neither is refused: the reason shows later, in what was run.
     Later,
 }
 

@@ -1,4 +1,4 @@
-//! Atoms of a property that a module lacks: what has them is no value of a run.
+//! Atoms of a property that a module lacks: no value of a run has them.
 
 ghost use Rattle.std.specs.Prelude.{◌≡◌, List, IfOk, None, map, option_map};
 ghost use Rattle.pf_tokens.specs.Rules.{HasTokens};

@@ -1,4 +1,4 @@
-//! Why a source, or what is asked for of it, is refused: found once more, and told in one sentence.
+//! Why a source, or what is asked for of it, is refused: found once more, and said in one sentence.
 #![tactic(auto)]
 
 mod finding;

@@ -29,7 +29,7 @@ const FORMS: [(&str, &str); 17] = [
 /// The most words that follow the first one, and one more.
 const MOST_ROLES: usize = 8;
 
-/// What stands before the first of these bytes, and what behind it if there is one.
+/// What is before the first of these bytes, and what is after it if there is one.
 fn cut(text: &[u8], at: u8) -> (&[u8], Option<&[u8]>) {
     match text.iter().position(|byte| *byte == at) {
         Some(end) => (&text[..end], Some(&text[end + 1..])),
@@ -76,7 +76,7 @@ fn are_choices(alloc: Global, word: &[u8]) -> Result<bool, NoMemory> {
     }
 }
 
-/// What a word of this role wants to be, if it isn't.
+/// What a word of this role has to be, if it isn't.
 fn wanted(alloc: Global, role: &[u8], word: &[u8]) -> Result<Option<&'static str>, NoMemory> {
     let (is_right, wants) = if role == b"ROOT".as_slice() || role == b"PROPERTY".as_slice() {
         let is_word = !word.is_empty() && !word.contains(&b'\t') && !word.contains(&b'\r');
@@ -100,7 +100,7 @@ fn wanted(alloc: Global, role: &[u8], word: &[u8]) -> Result<Option<&'static str
     if is_right { Ok(None) } else { Ok(Some(wants)) }
 }
 
-/// Why what follows the name of a command isn't of its form.
+/// Why what follows the name of a command doesn't have its form.
 fn form_reason(
     alloc: Global,
     name: &str,

@@ -1,4 +1,4 @@
-//! Where a position stands, by the bytes in front of it.
+//! Where a position is, by the bytes before it.
 
 /// The bytes since the last line end.
 fn since_newline(front: &[u8]) -> &[u8] {

@@ -38,7 +38,7 @@ pub(crate) fn quoted(alloc: Global, bytes: &[u8]) -> Result<String, NoMemory> {
     Ok(text)
 }
 
-/// What is said of a source that is refused: where, and how to mend it.
+/// What is said of a source that is refused: where, and how to fix it.
 fn of_source(alloc: Global, source: &[u8], refusal: Refusal) -> Result<String, NoMemory> {
     let advice = advise(alloc, source, refusal)?;
     let front = source
@@ -141,7 +141,7 @@ fn of_request(
     }
 }
 
-/// The sentence of a reason, of a source and what is asked for of it: what is wrong, and how it is mended.
+/// The sentence of a reason, of a source and what is asked for of it: what is wrong, and how it is fixed.
 pub fn sentence(
     alloc: Global,
     source: &[u8],

@@ -5,7 +5,7 @@ use Rattle.pf_seeds.specs.Views.{leak_of}
 use Rattle.pf_seeds.specs.declared.leak.Leak.{Leak}
 use Rattle.pf_said.specs.declared.waiting.Waiting.{Waiting}
 
--- the last leak of which these notices tell; else this
+-- the last leak that these notices report; else this
 abbrev pub last_leak : (known : Option (ℕ × ℕ)) → List Notice → Option (ℕ × ℕ)
 last_leak known [] = known
 last_leak known (seeds_run done failures answer ∷ notices) = last_leak known notices

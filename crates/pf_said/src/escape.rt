@@ -25,7 +25,7 @@ impl fmt::Display for Shown<'_> {
     }
 }
 
-/// The two parts of what is said of refused words, without the tip between them if that tells to write `-- -1`, which is
+/// The two parts of what is said of refused words, without the tip between them if that says to write `-- -1`, which is
 /// of no use for the value of an option.
 pub fn without_tip(text: &str) -> (&str, &str) {
     let Some((front, tip)) = text.split_once("  tip: to pass '-") else {

@@ -1,4 +1,4 @@
-//! What the program says on standard error, and how far a hunt or a shrinking came.
+//! What the program says on standard error, and the progress of a hunt or a shrinking.
 #![tactic(auto)]
 
 mod escape;

@@ -16,7 +16,7 @@ pub const REFUSED: u8 = 2;
 /// Exit status on a broken pipe: 128 + SIGPIPE.
 const BROKEN_PIPE: u8 = 128 + 13;
 
-/// Says this on standard error, with the name of the program in front.
+/// Says this on standard error, after the name of the program.
 pub fn say(rt: &impl Eprint, text: &str) {
     let shown = Shown {
         text,
@@ -54,7 +54,7 @@ fn no_more_memory(rt: &impl Eprint) -> u8
     REFUSED
 }
 
-/// Says what failed, and why; a file by its name. If nobody reads the output any more, that is no fault to speak of.
+/// Says what failed, and why; a file by its name. If nobody reads the output any more, nothing is said.
 pub fn failed(rt: &(impl Print + Eprint), file: Option<&str>, fault: &StreamFault) -> u8
     ensures { IsFailure result }
 {

@@ -1,4 +1,4 @@
-//! How far a hunt or a shrinking came, in a line of the terminal that standard error is.
+//! The progress of a hunt or a shrinking, in a line of the terminal that standard error is.
 
 ghost use Rattle.std.specs.Prelude.{◌≡◌, [], option_map};
 ghost use Rattle.pf_said.specs.Notices.{HasHeard, waiting_by, waiting_view};
@@ -11,7 +11,7 @@ use std::io::{IsTerminal, Stderr, Write};
 use std::time::{Clock, Duration, Instant};
 use std::{fmt, io};
 
-/// A line of the terminal that standard error is, written over again and again; none if that is no terminal. Faults of its writing are ignored.
+/// A line of the terminal that standard error is, written over again and again; none if that is no terminal. Errors in writing it are ignored.
 #[derive(Drop)]
 pub struct Line {
     terminal: Option<Stderr>,
@@ -32,7 +32,7 @@ impl Line {
         }
     }
 
-    /// Tells this in place of what it told before.
+    /// Shows this in place of what it showed before.
     fn show(&self, told: &impl fmt::Display) {
         let Some(terminal) = self.terminal else {
             return;
@@ -52,7 +52,7 @@ impl Line {
     }
 }
 
-/// How far a shrinking of at most n runs came.
+/// The progress of a shrinking of at most n runs.
 #[derive(Drop)]
 struct RunsDone {
     progress: Progress,
@@ -71,7 +71,7 @@ impl fmt::Display for RunsDone {
 pub struct Runs<'a> {
     line: &'a Line,
     most: u32,
-    /// The runs that it told last.
+    /// The runs that it showed last.
     told: Option<u32>,
 }
 
@@ -92,7 +92,7 @@ impl Observer for Runs<'_> {
     }
 }
 
-/// How far a hunt over n seeds came, and in what time if that is known; and for how many seconds it goes on at most, where that is asked for.
+/// The progress of a hunt over n seeds, and in what time if that is known; and for how many seconds it goes on at most, where that is asked for.
 #[derive(Drop)]
 struct SeedsDone {
     done: u64,
@@ -131,7 +131,7 @@ impl fmt::Display for SeedsDone {
     }
 }
 
-/// How many milliseconds what a hunt told stands there at least.
+/// The least time, in milliseconds, for which what a hunt showed stays there.
 const PAUSE: u128 = 100;
 
 /// How many milliseconds a block of seeds takes at least before blocks grow no more.
@@ -145,11 +145,11 @@ pub struct Seeds<'a, C> {
     seeds: u64,
     /// For how many seconds it goes on at most, where that is asked for.
     limit: Option<u64>,
-    /// When it began, if the clock tells.
+    /// When it began, if the clock can be read.
     start: Option<Instant>,
-    /// When it told last, from its start on.
+    /// When it last showed its progress, counted from its start.
     told: Option<Duration>,
-    /// When its last block was over, from its start on.
+    /// When its last block was over, counted from its start.
     over: Duration,
     /// The least seed whose root returned while processes still waited, once it is known.
     leak: Option<Leak>,
@@ -182,12 +182,12 @@ impl<'a, C: Clock> Seeds<'a, C> {
         })
     }
 
-    /// The time since its start, if the clock tells.
+    /// The time since its start, if the clock can be read.
     fn time(&self) -> Option<Duration> {
         self.start?.elapsed(self.clock).ok()
     }
 
-    /// Tells how far it came, unless it did so just now.
+    /// Shows its progress, unless it did so just now.
     fn tell(&mut self, time: Option<Duration>, done: u64, failures: u64)
         ensures { self.new.leak ≡ self.old.leak }
     {
@@ -207,7 +207,7 @@ impl<'a, C: Clock> Seeds<'a, C> {
         });
     }
 
-    /// How it goes on after this time. If the clock doesn't tell, a hunt for a time ends.
+    /// How it goes on after this time. If the clock can't be read, a hunt for a time ends.
     fn pace(&mut self, time: Option<Duration>) -> Pace
         ensures { self.new.leak ≡ self.old.leak }
     {

@@ -1,4 +1,4 @@
--- What the hunt of a root comes to.
+-- The result of the hunt of a root.
 use Rattle.std.specs.Prelude.{◌≡◌, ◌<◌, ℕ, ◌-◌, true, is_some, List, [], Option, Some, None, Ok, Err}
 use Rattle.pf_fault.specs.declared.code.Code.{Code}
 use Rattle.pf_model.specs.Meaning.{Report}

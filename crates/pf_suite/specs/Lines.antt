@@ -1,4 +1,4 @@
--- What is told of hunts over several sources and roots: a line for each, and a summary.
+-- What is reported of hunts over several sources and roots: a line for each, and a summary.
 use Rattle.std.specs.Prelude.{ℕ, ◌==◌, nat_lt, Bool, true, false, if◌then◌else◌, List, [], ◌++◌, codes}
 use Rattle.std.specs.List.{count_by}
 use Rattle.std.specs.Fmt.{decimal}
@@ -17,11 +17,11 @@ end_text (NoFailure n) = codes "no failure in " ++ decimal n ++ codes " seeds"
 end_text (Stopped n) = codes "stopped behind " ++ decimal n ++ codes " seeds, no failure"
 end_text (Refused code) = code_text code
 
--- a root is named behind its file
+-- a root is named after its file
 abbrev pub root_name : (file root : List ℕ) → List ℕ
 root_name file root = file ++ codes " " ++ atom_text root
 
--- what is told stands behind a name
+-- what is reported comes after a name
 abbrev pub told_line : (name told : List ℕ) → List ℕ
 told_line name told = name ++ codes ": " ++ line told
 

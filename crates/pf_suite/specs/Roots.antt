@@ -18,7 +18,7 @@ is_new_root atoms e = (e.arity == 0) && not (list_any (λ a. nat_eq a e.name) at
 abbrev pub with_root : (atoms : List ℕ) → Export → List ℕ
 with_root atoms e = if is_new_root atoms e then atoms ++ e.name ∷ [] else atoms
 
--- the names of the entries without arguments, in the order of the export list, each where it stands first
+-- the names of the entries without arguments, in the order of the export list, each where it occurs first
 abbrev pub roots_of : List Export → List ℕ
 roots_of exports = fold with_root [] exports
 

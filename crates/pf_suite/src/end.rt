@@ -3,14 +3,14 @@
 use pf_fault::Code;
 use std::fmt;
 
-/// How the hunt of a root ended. It prints as its line has it.
+/// How the hunt of a root ended. It prints as it appears in the root's line.
 #[derive(Clone, Copy, Debug, PartialEq, Eq)]
 pub enum RootEnd {
     /// This is the least seed whose run fails.
     Fails { seed: u64 },
     /// No run of so many seeds fails.
     NoFailure { seeds: u64 },
-    /// Its time was over behind so many seeds, and no run of these fails.
+    /// Its time was over after so many seeds, and no run of these fails.
     Stopped { seeds: u64 },
     /// What is asked for of it is refused.
     Refused(Code),

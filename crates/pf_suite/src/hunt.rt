@@ -50,7 +50,7 @@ fn job_for(
     Job::new(alloc, module.share()?, &request, args.edition.number())
 }
 
-/// How the hunt of a job ended, of whose seeds this is known.
+/// How the hunt of a job ended, given what is known of its seeds.
 fn end_of(args: &HuntArgs, searched: &Searched) -> RootEnd
     ensures { (j : jobs.Job) (ns : List Notice)
         → IsLeast (view_of_hunt_args args.now) j searched.now.end (option_map failure_of searched.now.failure)
@@ -102,7 +102,7 @@ fn hunt_job<T: Threads + Sync, O: HuntObserver>(
 }
 
 /// How the hunt of a root of a module ends, by the given number of workers, and what is reported to the observer on the way. If the hunt is
-/// one for a time, it ends once the observer says it, and never before a first block of seeds.
+/// one for a time, it ends once the observer says so, and never before a first block of seeds.
 pub fn hunt_root<T: Threads + Sync, O: HuntObserver>(
     rt: &T,
     alloc: Global,

@@ -1,4 +1,4 @@
-//! Hunts over several sources and roots: which roots a source has, what the hunt of each comes to, and what is told of them.
+//! Hunts over several sources and roots: which roots a source has, the result of each one's hunt, and what is reported of them.
 #![tactic(auto)]
 
 mod end;

@@ -9,7 +9,7 @@ use pf_fault::{NoMemory, Refusal};
 use pf_text::{put, put_atom, put_byte};
 use std::alloc::Global;
 
-/// The name of a root, behind that of its file.
+/// The name of a root, after that of its file.
 pub fn root_name(alloc: Global, file: &str, root: &[u8]) -> Result<Vec<u8>, NoMemory>
     ensures { IfOk result (λ v. v.items ≡ root_name file.now root.now) }
 {
@@ -20,7 +20,7 @@ pub fn root_name(alloc: Global, file: &str, root: &[u8]) -> Result<Vec<u8>, NoMe
     Ok(name)
 }
 
-/// A line: what is told stands behind a name.
+/// A line: what is reported comes after a name.
 fn told_line(mut name: Vec<u8>, told: &str) -> Result<Vec<u8>, NoMemory>
     ensures { IfOk result (λ v. v.items ≡ told_line name.items told.now) }
 {

@@ -44,7 +44,7 @@ fn hunted_roots(
     }
 }
 
-/// The source that these bytes are with the roots that a hunt goes over, or why they are none.
+/// The source of these bytes with the roots that a hunt goes over, or why it is refused.
 pub fn read_hunted(
     alloc: Global,
     args: &HuntArgs,

@@ -1,4 +1,4 @@
-//! What hunts over several sources come to together.
+//! The results of hunts over several sources together.
 
 ghost use Rattle.std.specs.Prelude.{◌≡◌, ◌++◌, OnOk};
 ghost use Rattle.std.specs.List.{count_by};
@@ -80,7 +80,7 @@ fn put_counted(out: &mut Vec<u8>, number: u64, one: &str, several: &str) -> Resu
     put(out, word.as_bytes())
 }
 
-/// What hunts over several sources came to: how many files there were, and what is counted.
+/// The results of hunts over several sources: how many files there were, and what is counted.
 #[derive(Drop)]
 pub struct Suite {
     pub files: u64,
@@ -91,7 +91,7 @@ impl Suite {
     ghost use Rattle.std.specs.Prelude.{◌≡◌, [], IfOk};
     ghost use Rattle.pf_suite.specs.Lines.{suite_status, summary_text};
 
-    /// Of no file.
+    /// Those of no file yet.
     pub fn new(alloc: Global) -> Suite
         ensures files { result.files ≡ 0 }
         ensures ends { result.ends.items ≡ [] }

@@ -231,7 +231,7 @@ pub whole : {own ls : List (List ℕ)} (width height : ℕ) {x y z w : List ℕ}
     → IsDocument own ls x w
 whole {own} {ls} width height {x} {y} {z} e d f = document width height z (subst (λ (t : List ℕ). Draws own ls t z) e d) f
 
--- the same, behind more text
+-- the same, after more text
 moved_from : {own ls : List (List ℕ)} {p q : Place} {x y : List ℕ} (before : List ℕ) → DrawsFrom own p ls q x y → DrawsFrom own p ls q (before ++ x) (before ++ y)
 moved_from {own} {ls} {p} {q} {x} {y} before (drawn ps e f l w) =
     drawn ps (ap (λ (t : List ℕ). before ++ t) e ∙ sym (append_assoc before x (flat_map part_text ps))) f l w
@@ -239,7 +239,7 @@ moved_from {own} {ls} {p} {q} {x} {y} before (drawn ps e f l w) =
 pub moved : {own ls : List (List ℕ)} {x y : List ℕ} (before : List ℕ) → Draws own ls x y → Draws own ls (before ++ x) (before ++ y)
 moved before d = λ os. moved_from before (d os)
 
--- a document that was made by itself, after what stands elsewhere
+-- a document that was made by itself, after text from elsewhere
 pub elsewhere : {own ls : List (List ℕ)} {x y : List ℕ} (before after : List ℕ) → x ≡ [] → after ≡ before ++ y → IsDocument own ls x y → IsDocument own ls before after
 elsewhere {own} {ls} {x} {y} before after none e (document width height middle d f) =
     let alone : Draws own ls (start_text width height) middle = subst (λ (t : List ℕ). Draws own ls (t ++ start_text width height) middle) none d in

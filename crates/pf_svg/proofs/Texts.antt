@@ -93,7 +93,7 @@ short_stays most xs h =
     elim (nat_lt most (length xs - 3)) as (λ v. is_text false (if v then escaped (take most xs) ++ codes "..." else escaped xs) ≡ true)
     [ true ↦ escaped_stays (take most xs) (codes "...") (all_of_front most xs h) | false ↦ whole_stays xs h ]
 
--- five texts one behind another
+-- five texts one after another
 pub five : (o a b c d e : List ℕ) {x y z v w : List ℕ} → x ≡ o ++ a → y ≡ x ++ b → z ≡ y ++ c → v ≡ z ++ d → w ≡ v ++ e → w ≡ o ++ (a ++ (b ++ (c ++ (d ++ e))))
 five o a b c d e h i j k l =
     l ∙ ap (λ (t : List ℕ). t ++ e) (k ∙ ap (λ (t : List ℕ). t ++ d) (j ∙ ap (λ (t : List ℕ). t ++ c) (i ∙ ap (λ (t : List ℕ). t ++ b) h)))

@@ -1,4 +1,4 @@
--- A document in parts. The bytes of a label stand in it only escaped, and only outside tags.
+-- A document in parts. The bytes of a label occur in it only escaped, and only outside tags.
 use Rattle.std.specs.Prelude.{◌≡◌, ℕ, Bool, true, false, ◌&&◌, IsTrue, List, [], ◌∷◌, ◌++◌, flat_map, codes}
 use Rattle.std.specs.List.{list_all}
 use Rattle.std.specs.Fmt.{decimal}
@@ -74,7 +74,7 @@ is_fixed own (Attribute name n) = is_word own name.now && is_name name.now
 is_fixed own (Class w) = is_phrase own w.now
 is_fixed own p = true
 
--- what may stand outside tags
+-- what may occur outside tags
 abbrev pub is_said : (own : List (List ℕ)) → Part → Bool
 is_said own (Phrase w) = is_phrase own w.now
 is_said own (Number n) = true
@@ -84,12 +84,12 @@ is_said own (Label l) = true
 is_said own (Short l most) = true
 is_said own p = false
 
--- what may stand in the value of an attribute
+-- what may occur in the value of an attribute
 abbrev pub is_value : (own : List (List ℕ)) → Part → Bool
 is_value own (Phrase w) = is_phrase own w.now
 is_value own p = false
 
--- what may stand in a tag
+-- what may occur in a tag
 abbrev pub is_attribute : (own : List (List ℕ)) → Part → Bool
 is_attribute own (Attribute name n) = is_word own name.now && is_name name.now
 is_attribute own (Class w) = is_phrase own w.now
@@ -101,9 +101,9 @@ labels_of_part (Label l) = l.now ∷ []
 labels_of_part (Short l most) = l.now ∷ []
 labels_of_part p = []
 
--- ---- where parts stand
+-- ---- where parts are
 
--- the place behind a part: markup is read byte by byte
+-- the place after a part: markup is read byte by byte
 abbrev pub behind : Place → Part → Place
 behind p (Markup w) = read p w.now
 behind p (Attribute name n) = behind_attribute p
@@ -117,24 +117,24 @@ abbrev pub behind_all : Place → List Part → Place
 behind_all p [] = p
 behind_all p (part ∷ parts) = behind_all (behind p part) parts
 
--- after what stood there, which led to this place, come parts that have these labels in their order, each escaped, and words and numbers for the
+-- after what was there, which led to this place, come parts that have these labels in their order, each escaped, and words and numbers for the
 -- rest; they lead to that place
 pub data DrawsFrom (own : List (List ℕ)) (from : Place) (labels : List (List ℕ)) (to : Place) (before after : List ℕ) : Type 0 where
   drawn : (parts : List Part) → after ≡ before ++ flat_map part_text parts → IsTrue (list_all (is_fixed own) parts)
       → flat_map labels_of_part parts ≡ labels → behind_all from parts ≡ to → DrawsFrom own from labels to before after
 
--- wherever it stands outside tags, it is there again behind what is drawn, in the same elements
+-- wherever it is outside tags, it is there again after what is drawn, in the same elements
 abbrev pub Draws : (own : List (List ℕ)) (labels : List (List ℕ)) (before after : List ℕ) → Type 0
 Draws own labels before after = (opened : List (List ℕ)) → DrawsFrom own (outside opened) labels (outside opened) before after
 
--- behind it one element more is open, or the innermost, of this name, is closed
+-- after it one element more is open, or the innermost, of this name, is closed
 abbrev pub Opens : (own : List (List ℕ)) (name : List ℕ) (labels : List (List ℕ)) (before after : List ℕ) → Type 0
 Opens own name labels before after = (opened : List (List ℕ)) → DrawsFrom own (outside opened) labels (outside (name ∷ opened)) before after
 
 abbrev pub Closes : (own : List (List ℕ)) (name : List ℕ) (labels : List (List ℕ)) (before after : List ℕ) → Type 0
 Closes own name labels before after = (opened : List (List ℕ)) → DrawsFrom own (outside (name ∷ opened)) labels (outside opened) before after
 
--- after what stood there comes a whole document: its beginning, what is drawn between them with these labels, and its end
+-- after what was there comes a whole document: its beginning, what is drawn between them with these labels, and its end
 pub data IsDocument (own : List (List ℕ)) (labels : List (List ℕ)) (before after : List ℕ) : Type 0 where
   document : (width height : ℕ) (middle : List ℕ) → Draws own labels (before ++ start_text width height) middle → after ≡ middle ++ end_text
       → IsDocument own labels before after

@@ -1,8 +1,8 @@
--- Text that may stand in a document.
+-- Text that may be in a document.
 use Rattle.std.specs.Prelude.{ℕ, ◌-◌, Bool, true, false, ◌&&◌, ◌||◌, not, ◌==◌, nat_lt, if◌then◌else◌, List, [], ◌∷◌, ◌++◌, length, take, flat_map, codes}
 use Rattle.std.specs.Fmt.{decimal}
 
--- the character that a byte is told as if it can't stand as it is: a blank of lines or a byte of Latin-1 is itself
+-- the character that stands for a byte that can't be written as it is: a blank of lines or a byte of Latin-1 is itself
 abbrev pub code_of : ℕ → ℕ
 code_of b = if nat_lt 126 b || (b == 9 || (b == 10 || b == 13)) then b else 65533
 
@@ -26,11 +26,11 @@ escaped bs = flat_map escaped_byte bs
 abbrev pub short : (most : ℕ) → List ℕ → List ℕ
 short most bs = if nat_lt most (length bs - 3) then escaped (take most bs) ++ codes "..." else escaped bs
 
--- a byte of what stands between `&` and `;`
+-- a byte of what is between `&` and `;`
 abbrev pub names : ℕ → Bool
 names b = (b == 35) || ((nat_lt 47 b && nat_lt b 58) || (nat_lt 96 b && nat_lt b 123))
 
--- whether bytes are text, within a reference or not: no `<` stands there, and after each `&` a name and a `;`
+-- whether bytes are text, within a reference or not: no `<` occurs there, and after each `&` a name and a `;`
 abbrev pub is_text : (within : Bool) → List ℕ → Bool
 is_text within [] = not within
 is_text true (b ∷ bs) = if b == 59 then is_text false bs else names b && is_text true bs

@@ -1,4 +1,4 @@
--- Where a byte of a document stands: within which elements, and whether in a tag or in the value of an attribute.
+-- Where a byte of a document is: within which elements, and whether in a tag or in the value of an attribute.
 use Rattle.std.specs.Prelude.{ℕ, Bool, true, false, ◌&&◌, ◌||◌, not, ◌==◌, if◌then◌else◌, List, [], ◌∷◌, ◌++◌, codes}
 use Rattle.std.specs.List.{list_all}
 use Rattle.std.specs.Str.{bytes_eq}
@@ -9,30 +9,30 @@ pub data Place : Type 0 where
   outside : (opened : List (List ℕ)) → Place
   -- in the name with which a tag begins
   naming : (opened : List (List ℕ)) (name : List ℕ) → Place
-  -- in a tag behind its name, outside values
+  -- in a tag after its name, outside values
   inside : (opened : List (List ℕ)) (name : List ℕ) → Place
-  -- behind the equals sign of an attribute
+  -- after the equals sign of an attribute
   assigned : (opened : List (List ℕ)) (name : List ℕ) → Place
   -- in the quotes of an attribute's value
   quoted : (opened : List (List ℕ)) (name : List ℕ) → Place
-  -- behind the slash of a tag without content
+  -- after the slash of a tag without content
   slashed : (opened : List (List ℕ)) → Place
   -- in the name of a tag that ends an element
   ending : (opened : List (List ℕ)) (name : List ℕ) → Place
-  -- where no document goes on
+  -- where no document can go on
   nowhere : Place
 
--- behind a slash: at the front of a tag it ends an element, behind its name the tag has no content
+-- after a slash: at the front of a tag it ends an element, after its name the tag has no content
 abbrev pub behind_slash : (opened : List (List ℕ)) (name : List ℕ) → Place
 behind_slash os [] = ending os []
 behind_slash os (b ∷ bs) = slashed os
 
--- behind a tag that ends an element: the innermost that is open has this name
+-- after a tag that ends an element: the innermost that is open has this name
 abbrev pub closed : (name : List ℕ) (opened : List (List ℕ)) → Place
 closed name [] = nowhere
 closed name (o ∷ os) = if bytes_eq name o then outside os else nowhere
 
--- behind one byte more; the values of attributes have double quotes
+-- after one byte more; the values of attributes have double quotes
 abbrev pub read_byte : Place → ℕ → Place
 read_byte (outside os) b = if b == 60 then naming os [] else outside os
 read_byte (naming os name) b =
@@ -52,29 +52,29 @@ read_byte (slashed os) b = if b == 62 then outside os else nowhere
 read_byte (ending os name) b = if b == 62 then closed name os else ending os (name ++ b ∷ [])
 read_byte nowhere b = nowhere
 
--- behind these bytes
+-- after these bytes
 abbrev pub read : Place → List ℕ → Place
 read p [] = p
 read p (b ∷ bs) = read (read_byte p b) bs
 
--- a word or a number stands outside tags or in quotes
+-- a word or a number is outside tags or in quotes
 abbrev pub behind_said : Place → Place
 behind_said (outside os) = outside os
 behind_said (quoted os name) = quoted os name
 behind_said p = nowhere
 
--- a label stands outside tags alone
+-- a label is outside tags alone
 abbrev pub behind_label : Place → Place
 behind_label (outside os) = outside os
 behind_label p = nowhere
 
--- an attribute stands in a tag, behind its name
+-- an attribute is in a tag, after its name
 abbrev pub behind_attribute : Place → Place
 behind_attribute (naming os name) = inside os name
 behind_attribute (inside os name) = inside os name
 behind_attribute p = nowhere
 
--- a byte that ends neither a text nor what stands in quotes
+-- a byte that ends neither a text nor what is in quotes
 abbrev pub is_plain_byte : ℕ → Bool
 is_plain_byte b = not (b == 60 || b == 34)
 

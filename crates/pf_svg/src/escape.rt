@@ -1,4 +1,4 @@
-//! Text that may stand in a document.
+//! Text that may be in a document.
 
 ghost use Rattle.std.specs.Prelude.{◌≡◌, ◌++◌, OnOk};
 ghost use Rattle.pf_svg.specs.Escaped.{code_of, escaped, escaped_byte, reference, short};
@@ -6,7 +6,7 @@ ghost use Rattle.pf_svg.specs.Escaped.{code_of, escaped, escaped_byte, reference
 use pf_terms::NoMemory;
 use pf_text::{put, put_byte, put_number};
 
-/// The character that a byte is told as if it can't stand as it is: a blank of lines or a byte of Latin-1 is itself.
+/// The character that stands for a byte that can't be written as it is: a blank of lines or a byte of Latin-1 is itself.
 fn code_of(byte: u8) -> u64
     ensures { result ≡ code_of byte }
 {
@@ -44,7 +44,7 @@ fn put_escaped_byte(out: &mut Vec<u8>, byte: u8) -> Result<(), NoMemory>
     }
 }
 
-/// Puts a text so that it may stand in a document, byte by byte.
+/// Puts a text so that it may be in a document, byte by byte.
 pub fn put_escaped(out: &mut Vec<u8>, text: &[u8]) -> Result<(), NoMemory>
     ensures { OnOk result (out.new.items ≡ out.old.items ++ escaped text.now) }
 {

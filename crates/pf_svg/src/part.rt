@@ -13,7 +13,7 @@ use pf_text::{put, put_number};
 pub enum Part<'a> {
     /// Tags, or beginnings and ends of tags.
     Markup(&'static str),
-    /// A word that stands as text, or in the quotes of an attribute.
+    /// A word that is text, or in the quotes of an attribute.
     Phrase(&'static str),
     Number(u64),
     /// A pid, as `<0>`.

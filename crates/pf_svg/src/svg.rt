@@ -29,7 +29,7 @@ use pf_terms::NoMemory;
 use std::alloc::Global;
 use std::marker::{Model, PhantomData};
 
-/// The words that stand in documents of a kind beside the tags and attributes that all of them have.
+/// The words that occur in documents of a kind beside the tags and attributes that all of them have.
 pub trait Vocabulary {
     ghost words: { List (List ℕ) };
 }
@@ -73,7 +73,7 @@ impl<W: Vocabulary> Svg<W> {
         put_parts(&mut self.bytes, parts)
     }
 
-    /// Puts parts that are whole elements, or stand outside tags.
+    /// Puts parts that are whole elements, or are outside tags.
     pub fn put(&mut self, parts: &[Part]) -> Result<(), NoMemory>
         requires fixed { IsTrue (list_all (is_fixed W.words) parts.now) }
         requires whole { (opened : List (List ℕ)) → behind_all (outside opened) parts.now ≡ outside opened }

@@ -80,7 +80,7 @@ pub(crate) fn status<N: FarmNames, R: Wait>(
     }
 }
 
-/// Fetches the report of a ticket; how many steps it tells.
+/// Fetches the report of a ticket; how many steps it says.
 pub(crate) fn fetch<N: FarmNames, R: Wait>(
     alloc: Global,
     rt: &R,

@@ -50,7 +50,7 @@ fn has_all_receipts(alloc: Global, closing: &Closing, project: u32) -> Result<bo
     Ok(counted && numbers.len() as u64 == closing.call_count(project))
 }
 
-/// What stands at the gate.
+/// What is at the gate.
 #[derive(Clone, Copy, PartialEq, Eq)]
 enum Play {
     /// Each client orders 50 trials and fetches all.

@@ -1,9 +1,9 @@
-//! What went otherwise than it had to.
+//! What went wrong.
 
 use pf_fault::NoMemory;
 use std::alloc::{AllocError, AllocFailed};
 
-/// What went otherwise than it had to.
+/// What went wrong.
 #[derive(Drop, Clone, Copy)]
 pub struct Missed {
     pub what: &'static str,

@@ -12,7 +12,7 @@ use std::hash::RandomState;
 use std::marker::Brand;
 use std::test::Fail;
 
-/// Whether a farm that gave 4,096 seats refuses one more, for want of a seat and not of memory.
+/// Whether a farm that gave 4,096 seats refuses one more, since no seat is left and not since memory ran out.
 fn refuses_one_more<N: FarmNames>(
     alloc: Global,
     keys: RandomState,

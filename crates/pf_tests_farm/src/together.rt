@@ -74,7 +74,7 @@ impl Gate for TwoTrials {
 }
 
 impl Scene for TwoTrials {
-    /// Its trial is running when it is asked for first, and done some time.
+    /// Its trial is running when it is first asked for, and done later.
     fn client<N: FarmNames, R: Wait>(
         &self,
         alloc: Global,

@@ -1,4 +1,4 @@
-//! Marks that one thread sets and another waits for, so long and no longer.
+//! Marks that one thread sets and another waits for, up to some number of turns.
 
 use crate::missed::Missed;
 use std::sync::atomic::{AtomicU64, Ordering};

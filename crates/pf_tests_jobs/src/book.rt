@@ -49,7 +49,7 @@ fn is_claimed(book: &mut Book) -> Result<bool, Fail> {
     Ok(claimed && book.claim_at(3, 1)?.is_some())
 }
 
-/// Whether a client is told what it has to be of its submission, its order and the status of its trial.
+/// Whether a client is answered as it has to be on its submission, its order and the status of its trial.
 fn begins(alloc: Global, book: &mut Book) -> Result<bool, Fail> {
     Ok(
         is(submitted(alloc, book, 3, SUM)?, "module")

@@ -1,4 +1,4 @@
-//! Hunts by workers in threads, over modules of their own, and what their observer is told.
+//! Hunts by workers in threads, over modules of their own, and what their observer is notified of.
 
 use pf_module::ReadModule;
 use pf_request::{Kind, Request, RunChoices, ShortBytes, Source};
@@ -72,7 +72,7 @@ fn hunt_of(
     hunt_in(alloc, &module, &request, strategy, leaks)
 }
 
-/// How many seeds a hunt told of at last; the leak that it told, by its seed and its processes, and how often. It is to stop behind twenty seeds.
+/// How many seeds a hunt reported at last; the leak that it reported, by its seed and its processes, and how often. It is to stop after twenty seeds.
 #[derive(Drop)]
 struct Told {
     done: u64,
@@ -80,7 +80,7 @@ struct Told {
     leaks: u64,
 }
 
-/// Nothing is told yet.
+/// Nothing is reported yet.
 const NOTHING: Told = Told {
     done: 0,
     leak: (0, 0),
@@ -134,7 +134,7 @@ fn three_workers_find_the_least_seed_that_fails(rt: HostRuntime) -> Result<(), F
     Ok(())
 }
 
-/// Up to where a hunt over the seeds from 10 to before 60 came by two workers, where none fails; and what it told.
+/// How far a hunt over the seeds from 10 to before 60 gets by two workers, where none fails; and what it reported.
 fn searched<R: Threads + Sync>(
     rt: &R,
     alloc: Global,
@@ -149,7 +149,7 @@ fn searched<R: Threads + Sync>(
     Ok((searched.end, watch.done, watch.leak, watch.leaks))
 }
 
-/// The same of each outcome, of which there is one, with as many seeds as it told of.
+/// The same of each outcome, of which there is one, with as many seeds as it reported.
 fn tallied<R: Threads + Sync>(
     rt: &R,
     alloc: Global,

@@ -19,7 +19,7 @@ kid() -> receive From -> From ! done end.\n";
 /// The choices of the talk.
 const CHOICES: [u32; 11] = [0, 0, 1, 1, 0, 0, 0, 1, 0, 0, 0];
 
-/// What is told of it.
+/// What is reported of it.
 const TOLD: &str = "0/1 <0> spawn <1>\n0/2 <0> send <1> <0>\n1/3 <1> wait\n\
 1/2 <0>-><1> deliver message\n0/2 <0> wait\n0/1 <1> receive <0>\n0/1 <1> send <0> done\n\
 1/2 <1>-><0> deliver message\n0/2 <0> receive done\n0/2 <0> end normal\n0/1 <1> end normal\n\
@@ -72,7 +72,7 @@ fn is_told(alloc: Global, finished: &Finished) -> Result<bool, Fail> {
     Ok(text.as_slice() == TOLD.as_bytes())
 }
 
-/// Whether the run of the talk comes to it whole, shared, and by slices.
+/// Whether the run of the talk gives that report whole, shared, and by slices.
 fn talks(alloc: Global) -> Result<bool, Fail> {
     let numbers = Vec::from_slice(alloc, &CHOICES)?;
     let kind = Kind::Run(RunChoices::schedule(alloc, numbers)?);
@@ -96,7 +96,7 @@ fn text_by(alloc: Global, job: &Job, schedule: &[u32]) -> Result<Vec<u8>, Fail> 
     Ok(text)
 }
 
-/// Whether the talk comes to its text by a schedule in place of a seed, and its property holds by the schedule that priorities choose.
+/// Whether the talk gives its text by a schedule in place of a seed, and its property holds by the schedule that priorities choose.
 fn goes_by_schedules(alloc: Global) -> Result<bool, Fail> {
     let job = job_of(alloc, TALK, "returns", Kind::Run(RunChoices::Seed(7)))?;
     let given = text_by(alloc, &job, CHOICES.as_slice())?;

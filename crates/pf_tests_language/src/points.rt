@@ -1,4 +1,4 @@
-//! Where a machine stands in the code of a module that was read.
+//! Where a machine is in the code of a module that was read.
 
 ghost use Rattle.std.specs.Prelude.{IfOk};
 ghost use Rattle.pf_stepper.specs.Turns.{CanMove};
@@ -30,7 +30,7 @@ fn form(code: &Module, id: NodeId) -> &'static str {
     }
 }
 
-/// The form of the node where a machine stands, with the number of the part that has its value.
+/// The form of the node where a machine is, with the number of the part that has its value.
 fn place(machine: &Machine) -> (&'static str, Option<u32>) {
     match machine.point() {
         (code, Point::Within(id, part)) => (form(code, id), Some(part)),
@@ -50,7 +50,7 @@ pub(crate) fn begun(alloc: Global, source: &str) -> Result<Machine, Fail>
     Ok(Machine::new(0, module, FunctionId(1), args, Room::new(alloc))?)
 }
 
-/// Where a process that has the message 3 stands after so many steps, or at the move that stops it before.
+/// Where a process that has the message 3 is after so many steps, or at the move that stops it before.
 fn place_after(
     alloc: Global,
     source: &str,
@@ -65,7 +65,7 @@ fn place_after(
     Ok(place(&machine))
 }
 
-/// A source, a number of steps, and the node and the part at which a process stands then: each kind of frame, in the lane and out of it; and
+/// A source, a number of steps, and the node and the part at which a process is then: each kind of frame, in the lane and out of it; and
 /// where it begins, waits, took its message, asked for an action, and ended.
 const STOPS: [(&str, u32, &str, Option<u32>); 20] = [
     ("g(N) -> N + 1. f() -> 1 * g(2).", 3, "*", Some(1)),

@@ -1,4 +1,4 @@
-//! Charts of the reports, and the pieces that they have to have.
+//! Charts of the reports, and the pieces that they must have.
 
 use crate::reports::report;
 use crate::scenes::{NAME, SCENES, Scene};
@@ -26,7 +26,7 @@ fn put(alloc: Global, text: &mut Vec<u8>, atoms: &AtomTable, scene: &Scene) -> R
     Ok(put_chart(alloc, text, atoms, b"main", &names, &report, manner)?)
 }
 
-/// That a text has each of these pieces, or has none of them.
+/// Checks that a text has each of these pieces, or has none of them.
 fn holds(text: &str, has: bool, pieces: &[&str]) -> Result<(), Fail> {
     for piece in pieces {
         if text.contains(*piece) != has {
@@ -36,7 +36,7 @@ fn holds(text: &str, has: bool, pieces: &[&str]) -> Result<(), Fail> {
     Ok(())
 }
 
-/// That the chart of a scene is as it has to be.
+/// Checks that the chart of a scene is as it has to be.
 fn look(alloc: Global, atoms: &AtomTable, scene: &Scene) -> Result<(), Fail> {
     let mut text = Vec::new(alloc);
     put(alloc, &mut text, atoms, scene)?;

@@ -32,7 +32,7 @@ fn add<'a>(
     Ok(())
 }
 
-/// Passes over the first item and takes the second one. It tells the mark and the length before the mark goes back to the front.
+/// Passes over the first item and takes the second one. It gives the mark and the length before the mark goes back to the front.
 fn take_second<'a>(
     list: &mut MailList<Counted<'a>>,
     pool: &mut Pool<Counted<'a>>,

@@ -6,7 +6,7 @@ use pf_trace::{Actor, Event, Label, Outcome, Report, Suffix};
 use std::alloc::Global;
 use std::test::Fail;
 
-/// What a process does, or what comes of a signal.
+/// What a process does, or what a signal does.
 pub(crate) enum Did {
     Spawns(u32),
     SpawnsLinked(u32),
@@ -21,7 +21,7 @@ pub(crate) enum Did {
     Ends(AtomId),
     Delivers(i64),
     Drops(i64),
-    /// The link comes to who has ended.
+    /// The link arrives at a process that has ended.
     MissesLink,
     LinkComes,
     /// An exit by link becomes a message.
@@ -38,7 +38,7 @@ pub(crate) enum Ends {
     InDeadlock(&'static [u32]),
 }
 
-/// A report: of each event its choice, who acts and what is told, and behind these so many references that the root makes.
+/// A report: of each event its choice, who acts and what is reported, and after these so many references that the root makes.
 pub(crate) struct Told {
     pub(crate) events: &'static [(u32, Actor, Did)],
     pub(crate) references: u64,
@@ -76,7 +76,7 @@ fn label(did: &Did) -> Label {
     }
 }
 
-/// What comes of a signal.
+/// What a signal does.
 fn comes(did: &Did) -> Label {
     let (signal, suffix) = match did {
         Did::Delivers(number) => (Signal::Message(Term::Int(*number)), Suffix::TookEffect),

@@ -1,4 +1,4 @@
-//! What stands around a run: tokens of its source, quotas of its project, and the search for a small schedule.
+//! What is around a run: tokens of its source, quotas of its project, and the search for a small schedule.
 
 use pf_quota::{Charge, Held, Refusal, Usage, trial_steps};
 use pf_shrink::Hunt;
@@ -6,7 +6,7 @@ use pf_tokens::tokens;
 use std::alloc::Global;
 use std::test::Fail;
 
-/// How many tokens a source has, and where the last of them stands.
+/// How many tokens a source has, and where the last of them is.
 fn last_of(alloc: Global, source: &[u8]) -> Result<(usize, usize, usize), Fail> {
     let found = tokens(alloc, source)?;
     match found.last() {

@@ -216,7 +216,7 @@ const NAMES: Scene = Scene {
     others: &[">main</text>", ">by &lt;1&gt;</text>"],
 };
 
-/// Heads stand again after 40 rows and at the foot. What is long is shortened, and whole in its tooltip; labels are escaped.
+/// Heads are repeated after 40 rows and at the foot. What is long is shortened, and whole in its tooltip; labels are escaped.
 const LONG_RUN: Scene = Scene {
     told: Told {
         events: &[(0, ROOT, Did::TakesAtom(ATOM))],

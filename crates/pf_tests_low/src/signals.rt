@@ -76,7 +76,7 @@ enum Call {
     End,
 }
 
-/// Whether a call comes to what is wanted: to yes, to this process and to this reference.
+/// Whether a call gives what is wanted: yes, this process and this reference.
 fn ask(
     ties: &mut Ties,
     alloc: Global,
@@ -135,7 +135,7 @@ fn meet(
     Ok(true)
 }
 
-/// Calls among two processes and those that they open, with what each comes to.
+/// Calls among two processes and those that they open, with what each gives.
 const CALLS: [(Call, (u32, u32), u64); 24] = [
     (Call::Open, (0, 2), 0),
     (Call::OpenWatched, (1, 3), 0),
@@ -165,7 +165,7 @@ const CALLS: [(Call, (u32, u32), u64); 24] = [
     (Call::End, (3, 3), 1),
 ];
 
-/// The first of the calls that comes to something else.
+/// The first of the calls that gives something else.
 fn first_other(ties: &mut Ties, alloc: Global) -> Result<Option<usize>, Fail> {
     for (at, (call, ends, number)) in CALLS.iter().enumerate() {
         if !ask(ties, alloc, *call, *ends, *number)? {

@@ -34,7 +34,7 @@ impl Write for Narrow {
 
 const TEXT: &[u8] = b"0/1 <0> wait";
 
-/// How many bytes of the text go out, and of which kind the fault is, if there is one.
+/// How many bytes of the text go out, and of which kind the error is, if there is one.
 fn put_by<L: Ledger>(narrow: Narrow, at: u64, blank: Blank) -> (usize, Option<ErrorKind>)
     requires name { blank.name ≡ L.name }
     requires parts { blank.parts ≡ L.parts }
@@ -77,7 +77,7 @@ fn what_goes_out_is_a_beginning(rt: HostRuntime) {
     }
 }
 
-/// How many bytes are read of an input, n at the most, where this call of the reader fails; none where it comes to that.
+/// How many bytes are read of an input, n at the most, where this call of the reader fails; none if that call is reached.
 fn take_by<L: Ledger>(
     alloc: Global,
     input: &[u8],

@@ -22,7 +22,7 @@ fn behind_nine(alloc: Global, list: &List) -> Result<List, Fail> {
     }
 }
 
-/// The nodes and the depth of that list, whether it is equal to its copy, and how it stands to the list with 9 in front.
+/// The nodes and the depth of that list, whether it is equal to its copy, and how it compares with the list that has 9 before it.
 fn told(alloc: Global, atoms: &AtomTable, m: AtomId) -> Result<(u32, u32, bool, Ordering), Fail> {
     let list = each_kind(alloc, m)?;
     let other = Term::List(behind_nine(alloc, &list)?);
@@ -43,7 +43,7 @@ fn values_are_made_and_taken_apart(rt: HostRuntime) -> Result<(), Fail> {
     assert!(rt;
         atoms.find(b"m") == Some(m) && atoms.name(m) == b"m".as_slice() && atoms.len() == 21
     );
-    // A tuple comes behind a number.
+    // A tuple comes after a number.
     assert!(rt; told(rt.alloc(), &atoms, m)? == (6, 3, true, Ordering::Greater));
     Ok(())
 }

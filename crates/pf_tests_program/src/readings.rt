@@ -1,4 +1,4 @@
-//! What words come to.
+//! How words are read.
 
 use crate::defaults::is_plain;
 use crate::hunts::{Named, hunts};
@@ -7,7 +7,7 @@ use pf_cli::{Args, Asked, Reading, read, read_args, status_of_kind};
 use pf_request::{Kind, RunChoices};
 use std::alloc::Global;
 
-/// What words are to come to.
+/// How words are to be read.
 #[derive(Clone, Copy)]
 pub enum Wanted<'a> {
     /// The values that the words of each command name.
@@ -20,7 +20,7 @@ pub enum Wanted<'a> {
     Scheduled,
     /// The schedule in this file.
     ScheduleIn(&'a str),
-    /// This text, and a status that tells of a fault unless it is 0.
+    /// This text, and a status that says that there is a fault unless it is 0.
     Text(&'a str, u8),
 }
 
@@ -67,7 +67,7 @@ fn is_so(reading: &Reading, wanted: Wanted) -> bool {
     }
 }
 
-/// Whether these words, with this text for the schedule in a file if any is known, come to what is wanted.
+/// Whether these words, with this text for the schedule in a file if any is known, are read as is wanted.
 fn come_with(alloc: Global, words: &[&str], schedule: Option<&str>, wanted: Wanted) -> bool {
     match read(alloc, words, schedule) {
         Ok(reading) => is_so(&reading, wanted),
@@ -75,12 +75,12 @@ fn come_with(alloc: Global, words: &[&str], schedule: Option<&str>, wanted: Want
     }
 }
 
-/// Whether these words come to what is wanted.
+/// Whether these words are read as is wanted.
 pub fn come_to(alloc: Global, words: &[&str], wanted: Wanted) -> bool {
     come_with(alloc, words, None, wanted)
 }
 
-/// The words of a run whose schedule stands in a file.
+/// The words of a run whose schedule is in a file.
 const SCHEDULED: [&str; 5] = [
     "pulsefarm",
     "run",

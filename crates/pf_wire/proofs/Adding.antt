@@ -75,9 +75,9 @@ rest_told atoms r text none end n e =
     let all : end ≡ result_end atoms r = e ∙ ap (λ (t : List ℕ). t ++ result_end atoms r) n in
     ap (λ (t : List ℕ). text ++ (result_events atoms r ++ t)) all ∙ ap (λ (t : List ℕ). text ++ t) (result_in_two atoms r)
 
--- ---- what is told
+-- ---- what is answered
 
--- a text is behind what was put
+-- a text comes after what was put
 pub told_with : (put : List ℕ) (t : Told) (r : ToldReport) → put ≡ t.text.items → t.report ≡ Some r → put ++ report_lines r ≡ whole_text t
 told_with put t r p e = ap (λ (s : List ℕ). s ++ report_lines r) p ∙ ap (with_report t.text.items) (sym e)
 

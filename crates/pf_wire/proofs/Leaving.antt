@@ -117,7 +117,7 @@ module _ (p : RunProfile) (right : IsRight p) where
     subst (AppendsFront w0 w2) (sym (append_assoc h.0 g text)) (front_of_both w0 w1 w2 h.0 (g ++ text) h.1 f),
   )
 
-  -- that the line is no command went out
+  -- the answer that the line is no command went out
   pub ends_ill : (over : Bool) (bytes g g' rest : List ℕ) (v w w' : Workshop) (j k : ℕ) (w0 w1 w2 w3 : Option (List ℕ)) (text : List ℕ) → AtHand p over bytes v j g rest w k w0 w1
       → is_due over rest ≡ true → AnswersOne rest k w text None w' → IsAdded g text g' w1 w2 → Appends w2 w3 g' → TellsAll p over bytes v j w0 w3
   ends_ill over bytes g g' rest v w w' j k w0 w1 w2 w3 text h due a added sent = (

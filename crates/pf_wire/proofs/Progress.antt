@@ -21,12 +21,12 @@ use Rattle.pf_lines.proofs.Completed.{with_more, command_stays, complete_stays}
 
 -- ---- workshops
 
--- all steps are answered in turn where no growth is refused
+-- all steps are answered in turn where no allocation fails
 all_answered : (p : RunProfile) (w : Workshop) (ss : List WorkshopStep) → (last : Workshop) × RespondsInTurn p w ss (map Some (responses p w ss)) last
 all_answered p w [] = (w, refl)
 all_answered p w (s ∷ ss) = let rest = all_answered p (take_step p w s).0 ss in (rest.0, ((take_step p w s).0, refl, rest.1))
 
--- so are those before the first step in which a growth was refused
+-- so are those before the first step in which an allocation failed
 first_answered : (p : RunProfile) (w last : Workshop) (ss : List WorkshopStep) (xs others : List (Option Response)) (as' : List Response) → RespondsInTurn p w ss xs last
     → xs ≡ map Some as' ++ others → (middle : Workshop) × RespondsInTurn p w (take (length as') ss) (map Some as') middle
 first_answered p w last [] xs others [] c e = (w, refl)
@@ -41,7 +41,7 @@ first_answered p w last (s ∷ ss) (x ∷ xs) others (a ∷ as') c e =
     let more = first_answered p c.0 last ss xs others as' c.2 rest in
     (more.0, (c.0, here, more.1))
 
--- up to there each project hears what it hears alone
+-- up to there each project is answered as if it were alone
 heard_as_alone : (p : RunProfile) (ss : List WorkshopStep) (xs : List (Option Response)) (last : Workshop) → RespondsInTurn p (new_workshop WORKERS) ss xs last
     → (as' : List Response) (others : List (Option Response)) → xs ≡ map Some as' ++ others
     → (q : ℕ) → heard q (take (length as') ss) as' ≡ heard_alone p WORKERS q (take (length as') ss)

@@ -55,7 +55,7 @@ leads_later over bytes rest piece j k a = (
       ∙ ap (λ (t : List ℕ). Some t) (sym (append_assoc rest piece more)),
 )
 
--- ---- the text of the line in front
+-- ---- the text of the first line
 
 abbrev line_of : Bool → ℕ → List ℕ → Line → Line
 line_of ends b bs l = if◌then◌else◌ {A = Line} ends (record { text = []; is_ended = true; rest = bs }) (with_byte b l)
@@ -69,7 +69,7 @@ text_stays : (bs more : List ℕ) → (first_line bs).is_ended ≡ true → (fir
 text_stays [] more h = absurd cc
 text_stays (b ∷ bs) more h = same_text (b == 10) b bs (bs ++ more) (first_line bs) (first_line (bs ++ more)) (text_stays bs more) h
 
--- what is due has the same line in front, whatever may follow
+-- what is due has the same first line, whatever may follow
 due_text : (over : Bool) (rest more : List ℕ) → is_due over rest ≡ true → Follows over more → (first_line (rest ++ more)).text ≡ (first_line rest).text
 due_text false rest more due f =
     text_stays rest more (both (first_line rest).is_ended (has_source (size_in (asked_by (words_of (first_line rest).text))) (first_line rest).rest) due).0

@@ -1,4 +1,4 @@
--- Who did a step, and so is told what came of it.
+-- Who did a step, and so is sent its answer.
 use Rattle.std.specs.Prelude.{ℕ, zero}
 use Rattle.pf_worlds.specs.Steps.{WorkshopStep, client_calls, worker_does}
 use Rattle.pf_wire.specs.declared.outcome.Requester.{Requester}

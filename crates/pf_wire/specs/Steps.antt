@@ -21,22 +21,22 @@ use Rattle.pf_lines.specs.Commands.{Commands, command_at}
 use Rattle.pf_lines.specs.Complete.{CompleteCommands}
 use Rattle.pf_wire.specs.declared.steps.TheConstants.{MOST_BYTES, WORKERS}
 
--- command number k, counted from 1, is none
+-- the line that would be command number k, counted from 1, is no command
 abbrev pub last_text : Bool → ℕ → List ℕ
 last_text good k = if good then [] else line (codes "command " ++ decimal k ++ codes " refused " ++ code_text code.NoCommand)
 
 abbrev pub steps_status : Bool → ℕ
 steps_status good = if good then 0 else 2
 
--- the text that the command in front, number k, is answered with in a workshop, where these bytes follow it and that workshop; nothing
+-- the text that the first command, number k, is answered with in a workshop, where these bytes follow it and that workshop; nothing
 -- follows if it is no command
 abbrev pub AnswersOne : List ℕ → ℕ → Workshop → List ℕ → Option (List ℕ) → Workshop → Type 0
 AnswersOne bytes k w text (Some rest) w' =
     (s : WorkshopStep) × (a : Option Response) × (command_at bytes ≡ Some (s, rest)) × (text ≡ outcome_text s a) × ForRight (λ p. RespondsTo p w s a w')
 AnswersOne bytes k w text None w' = (command_at bytes ≡ None) × (text ≡ last_text false k)
 
--- the text and the status that some bytes are answered with: what came of the steps of their commands, and if a line is no command
--- that it is none. Up to the first step in which a growth was refused, each project hears what it hears alone
+-- the text and the status that some bytes are answered with: the answers to the steps of their commands, and if a line is no command
+-- that it is none. Up to the first step in which an allocation failed, each project is answered as if it were alone
 pub record StepsText (p : RunProfile) (bytes text : List ℕ) (status : ℕ) : Type 0 where
   pub steps : List WorkshopStep
   pub good : Bool

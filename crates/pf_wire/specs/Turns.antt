@@ -21,7 +21,7 @@ abbrev pub Follows : Bool → List ℕ → Type 0
 Follows over more = over ≡ true → more ≡ []
 
 -- Turns p over bytes v j text rest w k: whatever follows, the bytes are some commands and then the rest, which are complete commands unless the
--- input is over; their steps lead from the workshop v to w, the text is what came of them, and they are numbered from j up to k
+-- input is over; their steps lead from the workshop v to w, the text is their answers, and they are numbered from j up to k
 pub record Turns (p : RunProfile) (over : Bool) (bytes : List ℕ) (v : Workshop) (j : ℕ) (text rest : List ℕ) (w : Workshop) (k : ℕ) : Type 0 where
   pub steps : List WorkshopStep
   pub outcomes : List (Option Response)
@@ -35,7 +35,7 @@ pub record Turns (p : RunProfile) (over : Bool) (bytes : List ℕ) (v : Workshop
   pub writes : text ≡ outcomes_text steps outcomes
   pub counts : k ≡ j + length steps
 
--- whatever follows, the line in front is no command
+-- whatever follows, the first line is no command
 abbrev pub IsNoCommand : Bool → List ℕ → Type 0
 IsNoCommand over rest = (more : List ℕ) → Follows over more → Commands (rest ++ more) [] false
 

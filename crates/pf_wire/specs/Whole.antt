@@ -1,4 +1,4 @@
--- The whole text of what is told, of which the lines of a report's events stand elsewhere.
+-- The whole text of an answer, of which the lines of a report's events are elsewhere.
 use Rattle.std.specs.Prelude.{ℕ, List, [], ◌++◌, Option, Some, None, flat_map}
 use Rattle.pf_terms.specs.Atoms.{name_of}
 use Rattle.pf_model.specs.Meaning.{Report}
@@ -13,7 +13,7 @@ use Rattle.pf_wire.specs.declared.told.ToldReport.{ToldReport}
 abbrev pub events_text : (name : ℕ → List ℕ) → Report → List ℕ
 events_text name r = flat_map (λ e. line (event_text name e)) r.events
 
--- the lines of what a job came to that are those of the events of its report
+-- the lines of a job's result that are those of the events of its report
 abbrev pub result_events : List (List ℕ) → Result → List ℕ
 result_events atoms (report r) = events_text (name_of atoms) r
 result_events atoms (shrunk_to f r) = events_text (name_of atoms) r
@@ -25,7 +25,7 @@ result_end atoms (report r) = end_text (name_of atoms) r
 result_end atoms (shrunk_to f r) = end_text (name_of atoms) r
 result_end atoms nothing_fails = []
 
--- the lines of a report that is told
+-- the lines of a report in an answer
 abbrev pub report_lines : ToldReport → List ℕ
 report_lines t = result_events t.finished.job.asked.code.atoms t.finished.result ++ t.end.items
 
@@ -34,6 +34,6 @@ abbrev pub with_report : List ℕ → Option ToldReport → List ℕ
 with_report text None = text
 with_report text (Some r) = text ++ report_lines r
 
--- all that is told
+-- the whole answer
 abbrev pub whole_text : Told → List ℕ
 whole_text t = with_report t.text.items t.report

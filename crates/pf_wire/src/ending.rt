@@ -53,7 +53,7 @@ impl Ending {
         }
     }
 
-    /// The command of this number, which stands in front of some bytes, is none.
+    /// Notes that the first line of some bytes, which would be the command of this number, is no command.
     pub(crate) fn refuse(&mut self, alloc: Global, number: u64, bytes: &[u8])
         ensures line { ReportsLine self.new.refused number (first_line bytes.now).text }
         ensures full { self.new.is_full ≡ self.old.is_full }

@@ -1,4 +1,4 @@
-//! The text of what comes of a step.
+//! The text of the answer to a step.
 
 ghost use Rattle.std.specs.Prelude.{◌≡◌, ◌++◌, None, OnOk, codes};
 ghost use Rattle.std.specs.Fmt.{decimal};
@@ -21,7 +21,7 @@ use pf_text::{put, put_byte, put_number};
 use pf_workshop::Response;
 use std::alloc::Global;
 
-/// Who did a step, and so is told what came of it: a client of a project, or a worker about a trial of a project.
+/// Who did a step, and so is sent its answer: a client of a project, or a worker about a trial of a project.
 #[derive(Clone, Copy, Debug, PartialEq, Eq)]
 pub enum Requester {
     Client { project: u32 },
@@ -106,7 +106,7 @@ fn put_not_now(alloc: Global, out: &mut Vec<u8>, worker: u32) -> Result<(), NoMe
     put_byte(out, b'\n')
 }
 
-/// Puts that a growth was refused in a client's call.
+/// Puts that an allocation failed in a client's call.
 fn put_call_memory(out: &mut Vec<u8>, project: u32) -> Result<(), NoMemory>
     ensures { OnOk result (out.new.items ≡ out.old.items
         ++ to_project project (codes "refused " ++ no_memory_text)) }
@@ -117,7 +117,7 @@ fn put_call_memory(out: &mut Vec<u8>, project: u32) -> Result<(), NoMemory>
     put_byte(out, b'\n')
 }
 
-/// Puts that a growth was refused in a worker's chore.
+/// Puts that an allocation failed in a worker's chore.
 fn put_chore_memory(out: &mut Vec<u8>, worker: u32) -> Result<(), NoMemory>
     ensures { OnOk result (out.new.items ≡ out.old.items ++ to_worker worker (codes "no memory")) }
 {
@@ -126,7 +126,7 @@ fn put_chore_memory(out: &mut Vec<u8>, worker: u32) -> Result<(), NoMemory>
     put_byte(out, b'\n')
 }
 
-/// Puts that a growth was refused.
+/// Puts that an allocation failed.
 fn put_memory(out: &mut Vec<u8>, requester: Requester) -> Result<(), NoMemory>
     ensures { (s : WorkshopStep) → requester ≡ requester_of s
         → OnOk result (out.new.items ≡ out.old.items ++ memory_text s) }
@@ -137,7 +137,7 @@ fn put_memory(out: &mut Vec<u8>, requester: Requester) -> Result<(), NoMemory>
     }
 }
 
-/// Puts the text of what came of a step. The lines of a report's events stay where they were written.
+/// Puts the text of the answer to a step. The lines of a report's events stay where they were written.
 pub fn put_outcome(
     alloc: Global,
     told: &mut Told,

@@ -69,7 +69,7 @@ fn put_complete(out: &mut Vec<u8>, complete: bool) -> Result<(), NoMemory>
     }
 }
 
-/// Puts what the first line says of what a job came to.
+/// Puts what the first line says of a job's result.
 fn put_result_head(alloc: Global, out: &mut Vec<u8>, finished: &Finished) -> Result<(), NoMemory>
     ensures { OnOk result (out.new.items ≡ out.old.items ++ result_head finished.now.result) }
 {

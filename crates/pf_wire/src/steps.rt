@@ -37,7 +37,7 @@ pub const MOST_BYTES: usize = 67_108_864;
 /// How many workers the workshop of `steps` has.
 pub const WORKERS: u32 = 4;
 
-/// Empties a text, and gives its block back where it is larger than what is gathered may be.
+/// Empties a text, and frees its block where it is larger than the gathered text may be.
 fn empty(alloc: Global, text: &mut Vec<u8>)
     ensures items { text.new.items ≡ [] }
     ensures room { vec_capacity text.new ≤ ROOM }
@@ -49,7 +49,7 @@ fn empty(alloc: Global, text: &mut Vec<u8>)
     }
 }
 
-/// Does a step, and puts the text of what came of it.
+/// Does a step, and puts the text of its answer.
 fn answer(
     alloc: Global,
     workshop: &mut Workshop,
@@ -67,7 +67,7 @@ fn answer(
     Ok(())
 }
 
-/// Puts the line that says that the command of this number, counted from 1, is none.
+/// Puts the line that says that what would be the command of this number, counted from 1, is no command.
 pub fn put_no_command(alloc: Global, out: &mut Vec<u8>, number: u64) -> Result<(), NoMemory>
     ensures { OnOk result (out.new.items ≡ out.old.items ++ last_text false number) }
 {
@@ -78,7 +78,7 @@ pub fn put_no_command(alloc: Global, out: &mut Vec<u8>, number: u64) -> Result<(
     put_byte(out, b'\n')
 }
 
-/// Answers the command of this number, which stands in front: what it is answered with takes the place of what was told.
+/// Answers the command of this number, with which the bytes begin: its answer takes the place of the one before.
 /// What follows the command; nothing does if the line is none.
 fn answer_front<'a>(
     alloc: Global,
@@ -112,7 +112,7 @@ struct Left<'a> {
     number: u64,
 }
 
-/// Answers the commands that are due, the first of which has this number, up to a line that is none; after that there is
+/// Answers the commands that are due, the first of which has this number, up to a line that is no command; after that there is
 /// nothing left, and the ending has that line.
 fn answer_due<'a, W: Write, M: Ledger>(
     alloc: Global,
@@ -167,7 +167,7 @@ fn answer_due<'a, W: Write, M: Ledger>(
     Ok(Some(Left { rest, number }))
 }
 
-/// Reads and answers by a workshop to which nothing was told yet, a piece at a time.
+/// Reads and answers by a new workshop, a piece at a time.
 fn answer_pieces<R: Read, W: Write, L: Ledger, M: Ledger>(
     alloc: Global,
     workshop: &mut Workshop,

@@ -44,7 +44,7 @@ impl Input {
         }
     }
 
-    /// Takes what the reader has at hand, as far as there is room in the piece and no more than may be read; whether the
+    /// Takes what the reader has at hand, up to the room in the piece and no more than may be read; whether the
     /// input is over.
     pub fn take_piece<R: Read, L: Ledger>(
         &mut self,
@@ -74,7 +74,7 @@ impl Input {
         Ok(n == 0 || self.taken == MOST_BYTES)
     }
 
-    /// Whether what stands in front is answered now.
+    /// Whether the first command is answered now.
     pub fn is_due(&self, is_over: bool) -> bool
         ensures { result ≡ is_due is_over self.now.bytes.items }
     {
@@ -171,7 +171,7 @@ impl Gathered {
         }
     }
 
-    /// Adds the lines of a report. Those of its events are written from where they stand if there is no room for them.
+    /// Adds the lines of a report. Those of its events are written from where they are if there is no room for them.
     fn add_report<W: Write, M: Ledger>(
         &mut self,
         writer: &mut Counted<W, M>,

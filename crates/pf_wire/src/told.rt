@@ -8,21 +8,21 @@ use pf_sched::{Finished, JobResult, memory_report};
 use pf_terms::NoMemory;
 use std::alloc::Global;
 
-/// A report that is told: the lines of its events, which what the job came to holds, and the lines that follow them.
+/// A report in an answer: the lines of its events, which the job's result holds, and the lines that follow them.
 #[derive(Drop)]
 pub struct ToldReport {
     finished: Finished,
     end: Vec<u8>,
 }
 
-/// What a command is answered with: the text that was put, and after it the lines of a report if one is told.
+/// What a command is answered with: the text that was put, and after it the lines of a report if there is one.
 #[derive(Drop)]
 pub struct Told {
     pub text: Vec<u8>,
     pub report: Option<ToldReport>,
 }
 
-/// Puts the lines of what a job came to that follow those of its events.
+/// Puts the lines of a job's result that follow those of its events.
 fn put_result_end(alloc: Global, out: &mut Vec<u8>, finished: &Finished) -> Result<(), NoMemory>
     ensures { OnOk result (out.new.items ≡ out.old.items
         ++ result_end finished.now.job.asked.code.atoms finished.now.result) }
@@ -59,7 +59,7 @@ impl ToldReport {
 }
 
 impl Told {
-    /// Puts the lines of what a job came to, in place of those of another.
+    /// Puts the lines of a job's result, in place of those of another.
     pub(crate) fn put_report(&mut self, alloc: Global, finished: Finished) -> Result<(), NoMemory>
         ensures { OnOk result (whole_text self.new ≡ self.old.text.items
             ++ result_rest finished.job.asked.code.atoms finished.result) }

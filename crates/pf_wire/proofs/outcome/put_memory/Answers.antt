@@ -9,7 +9,7 @@ use Rattle.pf_wire.specs.Outcomes.{requester_of}
 use Rattle.pf_wire.specs.declared.outcome.Requester.TheVariants.{Client, Worker}
 use Rattle.pf_wire.proofs.outcome.put_memory.Goals as goal
 
--- a client's step is refused for want of memory, and a worker has none
+-- a client's step is refused as out of memory, and a worker has none
 to_client : (q : ℕ) (s : WorkshopStep) → Client q ≡ requester_of s → to_project q (codes "refused " ++ no_memory_text) ≡ memory_text s
 to_client q (client_calls r c) e = let same : q ≡ r = cc in ap (λ (n : ℕ). to_project n (codes "refused " ++ no_memory_text)) same
 to_client q (worker_does w r t k) e = absurd cc

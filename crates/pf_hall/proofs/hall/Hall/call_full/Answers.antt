@@ -16,7 +16,7 @@ use Rattle.pf_hall.proofs.hall.Hall.call_full.Goals as goal
 abbrev IsPast : ClientView → Hall → Type 0
 IsPast s h = (s.is_full ≡ true) ⊎ (MOST_CALLS ≤ calls_in (desk_at s.project h.desks).history)
 
--- the log has most then
+-- then the log has as many calls as it may hold
 most_logged : (rows : List (Row Job)) (log seen : List Told) (w : World) (q : ℕ) (b : Bool) → IsSound rows log w → StartsWith log seen → (b ≡ true → HasMost q seen)
     → (b ≡ true) ⊎ (MOST_CALLS ≤ calls_in (desk_at q w).history) → HasMost q log
 most_logged rows log seen w q b s starts known (inl full) = still_most q log seen starts (known full)
