@@ -53,7 +53,7 @@ pub(crate) fn seated<N: FarmNames>(
     Ok(seats)
 }
 
-/// Has one client do its part.
+/// Has one client do its part. If it fails, the farm stops, so that nobody waits for what won't come.
 fn client_plays<N: FarmNames, R: Wait, S: Scene>(
     alloc: Global,
     rt: &R,
@@ -64,6 +64,7 @@ fn client_plays<N: FarmNames, R: Wait, S: Scene>(
 ) {
     if scene.client(alloc, rt, floor, seat).is_err() {
         failed.set();
+        floor.stop(rt);
     }
 }
 

@@ -24,6 +24,8 @@ struct OneIsStolen {
     second_begun: Mark,
     first_fetched: Mark,
     out_of_order: Mark,
+    /// Waits at the gate that lasted too long.
+    late: Mark,
 }
 
 impl Gate for OneIsStolen {
@@ -40,18 +42,18 @@ impl Gate for OneIsStolen {
         match project {
             1 => {
                 if self.first_slices.set() == 0 {
-                    self.second_ordered.wait(1);
+                    self.second_ordered.hold(&self.late);
                 } else if self.second_begun.count() == 0 {
                     self.out_of_order.set();
                 }
             }
             2 => {
                 self.second_begun.set();
-                self.first_fetched.wait(1);
+                self.first_fetched.hold(&self.late);
             }
             _ => {
                 self.third_begun.set();
-                self.second_begun.wait(1);
+                self.second_begun.hold(&self.late);
             }
         }
         run_slice(alloc, parked, scratch, turns)
@@ -113,6 +115,7 @@ fn gate_steal(rt: HostRuntime) -> Result<(), Fail> {
         second_begun: Mark::new(),
         first_fetched: Mark::new(),
         out_of_order: Mark::new(),
+        late: Mark::new(),
     };
     let keys = RandomState::new(&rt)?;
     let closing = play(rt.alloc(), &rt, keys, 2, &[1, 2, 3], &scene)?;
@@ -122,5 +125,6 @@ fn gate_steal(rt: HostRuntime) -> Result<(), Fail> {
         "the long trial has several slices"
     );
     assert_eq!(rt; scene.out_of_order.count(), 0);
+    assert_eq!(rt; scene.late.count(), 0);
     Ok(())
 }

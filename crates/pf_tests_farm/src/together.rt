@@ -38,6 +38,8 @@ struct TwoTrials {
     begun: Mark,
     first: Side,
     second: Side,
+    /// Waits at the gate that lasted too long.
+    late: Mark,
 }
 
 impl TwoTrials {
@@ -65,9 +67,9 @@ impl Gate for TwoTrials {
         let (own, other) = self.sides(project);
         let is_first = self.begun.set() == 0;
         own.begun.set();
-        own.answered.wait(1);
+        own.answered.hold(&self.late);
         if is_first {
-            other.fetched.wait(1);
+            other.fetched.hold(&self.late);
         }
         run_slice(alloc, parked, scratch, turns)
     }
@@ -103,9 +105,11 @@ fn gate_two_trials(rt: HostRuntime) -> Result<(), Fail> {
         begun: Mark::new(),
         first: Side::new(),
         second: Side::new(),
+        late: Mark::new(),
     };
     let keys = RandomState::new(&rt)?;
     let closing = play(rt.alloc(), &rt, keys, 2, &[1, 2], &scene)?;
     assert_eq!(rt; closing.rows.len(), 2);
+    assert_eq!(rt; scene.late.count(), 0);
     Ok(())
 }

@@ -7,6 +7,9 @@ use std::thread;
 /// How many turns a wait has at most.
 const MOST_TURNS: u64 = 100_000_000;
 
+/// How many turns of a rest have one yield.
+const TURNS_A_YIELD: u64 = 100;
+
 /// A mark.
 #[derive(Drop)]
 pub struct Mark {
@@ -41,7 +44,14 @@ impl Mark {
         false
     }
 
-    /// The same, where it has to be.
+    /// Waits at the gate until it was set. A slice goes on all the same where that lasts too long, so the wait is noted as late.
+    pub fn hold(&self, late: &Mark) {
+        if !self.wait(1) {
+            late.set();
+        }
+    }
+
+    /// Waits until it was set, where it has to be.
     pub fn wait_for(&self, what: &'static str) -> Result<(), Missed> {
         if self.wait(1) {
             Ok(())
@@ -51,9 +61,12 @@ impl Mark {
     }
 }
 
-/// Lets other threads go on for so many turns.
+/// Lets other threads go on for so many turns. Where the processor has other work, a yield takes milliseconds, so few of the turns yield.
 pub fn rest(turns: u32) {
+    let turn = Mark::new();
     for _ in 0..turns {
-        thread::yield_now();
+        if turn.set() % TURNS_A_YIELD == 0 {
+            thread::yield_now();
+        }
     }
 }

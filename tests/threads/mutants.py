@@ -1,6 +1,6 @@
-"""mutants.py TREE: puts the mutants of the running farm into TREE, a copy of the repository, each as a crate of its own beside `pf_farm`, and has `pf_tests_farm` try each of them by the
-tests that hold two runs at the gate, under modules that have the names of the mutants. It shortens the waits of these tests, so that one that waits in vain fails soon.
-mutants.py names: lists the tests, with `ok` for those that have to pass, of the farm as it is, and `fails` for those that have to fail, of a mutant."""
+"""mutants.py TREE: puts the mutants of the running farm into TREE, which has the sources of this repository, each as a crate of its own beside `pf_farm`; and has `pf_tests_farm` hold each
+of them to the tests that keep runs at the gate, in modules that have the names of the mutants. It shortens the waits of these tests, so that one that waits in vain fails soon.
+mutants.py names: lists the tests of the farm as it is and of each mutant, with what has to become of each: `ok` or `FAILED`."""
 import os
 import shutil
 import sys
@@ -42,14 +42,12 @@ MUTANTS = {
         ("gate_steal",),
     ),
 }
-# The modules of the tests that use the farm, and in which of them each test stands.
+# The modules of the tests that use the farm, in which of them each test stands, and modules of other tests.
 MODULES = ("calls", "scene", "stolen", "together")
 TESTS = {"gate_steal": "stolen", "gate_two_trials": "together"}
-# How long the tests wait, shorter by as much as lets the real farm pass still.
-WAITS = (
-    ("waiting.rt", "MOST_TURNS: u64 = 100_000_000;", "MOST_TURNS: u64 = 3_000_000;"),
-    ("calls.rt", "for _ in 0..5_000u32 {", "for _ in 0..150u32 {"),
-)
+OTHERS = ("closed", "seats")
+# How many turns a wait has at most, fewer by as much as lets the real farm pass still: more than a second of a processor that has no other work.
+WAITS = ("waiting.rt", "MOST_TURNS: u64 = 100_000_000;", "MOST_TURNS: u64 = 3_000_000;")
 
 
 def text_of(path):
@@ -79,15 +77,13 @@ def of_mutant(text, name):
 
 
 def add_crate(tree, name):
-    """A copy of the farm's crate that is the mutant."""
+    """A copy of the farm's sources that is the mutant."""
     _, old, new, _ = MUTANTS[name]
-    farm = f"{tree}/crates/pf_farm_{name}"
-    shutil.copytree(f"{tree}/crates/pf_farm", farm)
-    for base, _, files in os.walk(farm):
-        for file in files:
-            path = f"{base}/{file}"
-            put(path, text_of(path).replace("Rattle.pf_farm.", f"Rattle.pf_farm_{name}."))
-    change(f"{farm}/src/{WORKERS}", old, new)
+    src = f"{tree}/crates/pf_farm_{name}/src"
+    shutil.copytree(f"{tree}/crates/pf_farm/src", src)
+    for file in os.listdir(src):
+        put(f"{src}/{file}", of_mutant(text_of(f"{src}/{file}"), name))
+    change(f"{src}/{WORKERS}", old, new)
 
 
 def add_tests(tree, name):
@@ -117,13 +113,16 @@ def main(words):
     if words == ["names"]:
         for test, module in TESTS.items():
             print(f"{module}::{test} ok")
-        for name, (_, _, _, fail) in MUTANTS.items():
-            for test in fail:
-                print(f"{name}::{TESTS[test]}::{test} fails")
+            for name, (_, _, _, fail) in MUTANTS.items():
+                print(f"{name}::{module}::{test} {'FAILED' if test in fail else 'ok'}")
         return
     (tree,) = words
-    for file, old, new in WAITS:
-        change(f"{tree}/crates/pf_tests_farm/src/{file}", old, new)
+    tests = f"{tree}/crates/pf_tests_farm/src"
+    file, old, new = WAITS
+    change(f"{tests}/{file}", old, new)
+    for module in OTHERS:
+        change(f"{tests}/lib.rt", f"#[cfg(test)]\nmod {module};\n", "")
+        os.remove(f"{tests}/{module}.rt")
     for name in MUTANTS:
         add_crate(tree, name)
         add_tests(tree, name)
